@@ -1,0 +1,5 @@
+pub mod Added
+pub mod Parts
+pub mod Inserted
+pub mod Digits
+pub mod Forms

@@ -1,0 +1,26 @@
+//! Numbers, texts, words and the counter of steps.
+#![tactic(auto)]
+
+mod decimal;
+mod memory;
+mod moments;
+mod names;
+mod numbers;
+mod rows;
+mod steps;
+mod text;
+mod texts;
+mod word_set;
+mod words;
+
+pub use decimal::put_decimal;
+pub use memory::Memory;
+pub use moments::{LAST_MOMENT, read_moment, read_number, read_signed};
+pub use names::is_name;
+pub use numbers::{DocNum, MomentFault, NoteNum, Op, QueryNum};
+pub use rows::Rows;
+pub use steps::Steps;
+pub use text::Text;
+pub use texts::Texts;
+pub use word_set::WordSet;
+pub use words::{lower, words_of};

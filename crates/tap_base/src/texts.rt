@@ -1,0 +1,74 @@
+ghost use Rattle.std.specs.Prelude.{◌≡◌, ◌++◌, ◌∷◌, ◌<◌, ◌^◌, List, [], ℕ, OnOk, OnErr, length, slice_get, take};
+ghost use Rattle.tap_base.specs.Words.{holds};
+ghost use Rattle.std.specs.Option.{option_copied};
+
+use crate::{Memory, Text};
+use std::alloc::Global;
+use std::marker::Model;
+
+/// A list of texts.
+#[derive(Drop)]
+pub struct Texts {
+    items: Vec<Text>,
+}
+
+impl Model for Texts {
+    ghost Value = { List (List ℕ) };
+
+    ghost view = { λ t. t.items.items };
+}
+
+impl Texts {
+    /// The empty list.
+    pub fn new(alloc: Global) -> Texts
+        ensures { result ≡ [] }
+    {
+        Texts {
+            items: Vec::new(alloc),
+        }
+    }
+
+    /// Appends a text.
+    pub fn push(&mut self, text: Text) -> Result<(), Memory>
+        ensures ok { OnOk result (self.new ≡ self.old ++ text ∷ []) }
+        ensures err { OnErr result (self.new ≡ self.old) }
+    {
+        self.items.push(text)?;
+        Ok(())
+    }
+
+    /// How many texts there are.
+    pub fn len(&self) -> usize
+        ensures { result ≡ length self.now }
+    {
+        self.items.len()
+    }
+
+    /// The text at this place.
+    pub fn get(&self, i: usize) -> Option<&Text>
+        ensures { option_copied result ≡ slice_get self.now i }
+    {
+        self.items.get(i)
+    }
+
+    /// All texts.
+    pub fn as_slice(&self) -> &[Text]
+        ensures { result.now ≡ self.now }
+    {
+        &self.items
+    }
+
+    /// Is this text one of them?
+    pub fn holds(&self, text: &[u8]) -> bool
+        ensures { result ≡ holds self.now text.now }
+    {
+        self.items.iter().any(|other| text == other.as_slice())
+    }
+
+    /// Keeps the first `len` texts.
+    pub fn cut(&mut self, len: usize)
+        ensures { self.new ≡ take len self.old }
+    {
+        self.items.truncate(len);
+    }
+}

@@ -1,0 +1,18 @@
+//! The rows that are kept, how they change, and what a query gives of them.
+#![tactic(auto)]
+
+mod change;
+mod fields;
+mod header_field;
+mod kept_doc;
+mod results;
+mod rows;
+mod tables;
+
+pub use change::Change;
+pub use fields::Fields;
+pub use header_field::HeaderField;
+pub use kept_doc::KeptDoc;
+pub use results::{Entry, Hit, Listed};
+pub use rows::{Doc, FilterRow, Note, Pick, QueryRow, RunRow};
+pub use tables::Tables;
