@@ -6,3 +6,4 @@ pub mod Dates
 pub mod Fields
 pub mod Seconds
 pub mod Results
+pub mod Deliveries

@@ -68,9 +68,13 @@ fresh_in truth tables start tau t = hits_by (λ doc. at_least tau (first_second 
 abbrev pub union_until : Truth → Tables → ℤ → ℤ → List Hit
 union_until truth tables start t = fresh_in truth tables start start t
 
+-- the runs of a query, in order
+abbrev pub runs_of : ℕ → List RunRow → List RunRow
+runs_of query runs = filter (λ run. run.query.0 == query) runs
+
 -- the moments of a query's runs, in order
 abbrev pub run_moments : ℕ → List RunRow → List ℤ
-run_moments query runs = map (λ run. run.moment) (filter (λ run. run.query.0 == query) runs)
+run_moments query runs = map (λ run. run.moment) (runs_of query runs)
 
 -- the last of some moments, or this second where there is none
 abbrev pub last_or : ℤ → List ℤ → ℤ

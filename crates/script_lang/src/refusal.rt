@@ -1,0 +1,46 @@
+use crate::faults::{LexFault, ParseFault, TypeFault};
+
+/// A limit that would be passed.
+#[derive(Clone, Copy, Debug, PartialEq, Eq)]
+pub enum LimitName {
+    Line,
+    Message,
+    Block,
+    Note,
+    Documents,
+    Notes,
+    Queries,
+    AllQueries,
+    Users,
+    Filters,
+    Runs,
+    Picks,
+    Store,
+}
+
+/// Why a command is refused.
+#[derive(Clone, Copy, Debug, PartialEq, Eq)]
+pub enum Refusal {
+    Unknown,
+    Form,
+    Cut,
+    /// The command, or the form of it, isn't built.
+    NotBuilt,
+    BadMoment,
+    Backwards { last: i64 },
+    NoMoment,
+    NoUser,
+    BadName,
+    Taken,
+    NoQuery,
+    NoDoc,
+    Lex(LexFault),
+    Parse(ParseFault),
+    Types(TypeFault),
+    NotOver { now: i64 },
+    Limit(LimitName),
+    Rule { line: u32, place: u32 },
+    ManyRules,
+    Memory,
+    NoRun { runs: u32 },
+}
