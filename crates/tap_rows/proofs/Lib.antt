@@ -1,1 +1,3 @@
 mod Worked
+pub mod SecondsLaws
+pub mod FreshLaws

@@ -7,3 +7,5 @@ pub mod Fields
 pub mod Seconds
 pub mod Results
 pub mod Deliveries
+pub mod Kept
+pub mod Constant
