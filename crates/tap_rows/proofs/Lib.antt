@@ -1,3 +1,6 @@
 mod Worked
 pub mod SecondsLaws
 pub mod FreshLaws
+pub mod OrderLaws
+pub mod UnionLaws
+pub mod RunLaws
