@@ -4,3 +4,6 @@ pub mod FreshLaws
 pub mod OrderLaws
 pub mod UnionLaws
 pub mod RunLaws
+pub mod LaterLaws
+pub mod PlaceLaws
+pub mod KeptLaws

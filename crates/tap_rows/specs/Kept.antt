@@ -16,6 +16,11 @@ abbrev pub Each : {A : Type 0} → (A → Type 0) → List A → Type 0
 Each holds [] = Unit {0}
 Each holds (x ∷ xs) = holds x × Each holds xs
 
+-- is x one of these?
+abbrev pub In : {A : Type 0} → A → List A → Type 0
+In x [] = ⊥
+In x (y ∷ ys) = (x ≡ y) ⊎ In x ys
+
 -- a truth that looks at no row which arrives after the second that is asked for, nor at any row but documents and notes
 abbrev pub IsOfTheSecond : Truth → Type 0
 IsOfTheSecond truth =
