@@ -9,3 +9,5 @@ pub mod Results
 pub mod Deliveries
 pub mod Kept
 pub mod Constant
+pub mod WellFormed
+pub mod Fits

@@ -3,6 +3,7 @@
 
 mod change;
 mod fields;
+mod fits;
 mod header_field;
 mod kept_doc;
 mod results;
@@ -15,4 +16,4 @@ pub use header_field::HeaderField;
 pub use kept_doc::KeptDoc;
 pub use results::{Entry, Hit, Listed};
 pub use rows::{Doc, FilterRow, Note, Pick, QueryRow, RunRow};
-pub use tables::Tables;
+pub use tables::{MESSAGE_LIMIT, Tables};
