@@ -20,7 +20,8 @@ use Rattle.tap_rows.specs.Arrivals.{Arrived}
 use Rattle.tap_rows.specs.Results.{Truth, runs_of, run_moments, last_or, covered, entries_from, entry_at, union_until, fresh_in, box_of}
 use Rattle.tap_rows.specs.Deliveries.{delivered, picked, picks_of, pick_rows, next_run, run_hits, run_change, run_ordinal}
 use Rattle.tap_rows.specs.Kept.{Each, In, IsOfTheSecond, QueriesFrom, RunsFrom, Rising, HasRun, KeptQuery, IsKept, IsBy}
-use Rattle.tap_rows.proofs.LaterLaws.{Grown, grown-same, fresh-later, filter-none, each-map, each-append}
+use Rattle.tap_rows.specs.Grown.{Grown}
+use Rattle.tap_rows.proofs.LaterLaws.{grown-same, fresh-later, filter-none, each-map, each-append}
 use Rattle.tap_rows.proofs.PlaceLaws.{ordinal-new, moments-new, moments-other, old-picks, picks-all, picks-none, new-picks, picks-have-run, run-stays, run-last, runs-more, queries-more, query-bounds, runs-none, no-picks}
 use Rattle.tap_rows.proofs.RunLaws.{rising-le, box-after-run}
 

@@ -12,6 +12,7 @@ use Rattle.tap_rows.specs.declared.rows.Note.{Note}
 use Rattle.tap_rows.specs.declared.results.Hit.{Hit}
 use Rattle.tap_rows.specs.Results.{Truth, visible, is_given, first_second, hit_of, at_least, in_order, fresh_in, union_until}
 use Rattle.tap_rows.specs.Kept.{Each, IsOfTheSecond}
+use Rattle.tap_rows.specs.Grown.{Grown}
 use Rattle.tap_rows.proofs.SecondsLaws.{least_second-same, least_second-never}
 
 -- what fails a test adds nothing to what passes
@@ -34,15 +35,6 @@ each-append P (x ∷ xs) ys each more = (each.0, each-append P xs ys each.1 more
 
 hidden : (a s t : ℤ) → t ≤ℤ a → s <ℤ t → int_le a s ≡ false
 hidden a s t h k = grind (arith, ints)
-
--- documents and notes that arrived at t or later were added
-pub record Grown (t : ℤ) (tables later : Tables) : Type 0 where
-  pub new_docs : List Doc
-  pub new_notes : List Note
-  pub docs : later.docs ≡ tables.docs ++ new_docs
-  pub notes : later.notes ≡ tables.notes ++ new_notes
-  pub late_docs : Each (λ doc. t ≤ℤ doc.arrival) new_docs
-  pub late_notes : Each (λ note. t ≤ℤ note.arrival) new_notes
 
 -- nothing was added
 pub grown-same : (t : ℤ) (tables later : Tables) → later.docs ≡ tables.docs → later.notes ≡ tables.notes → Grown t tables later

@@ -7,3 +7,4 @@ pub mod RunLaws
 pub mod LaterLaws
 pub mod PlaceLaws
 pub mod KeptLaws
+pub mod FitsLaws

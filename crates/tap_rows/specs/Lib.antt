@@ -11,3 +11,5 @@ pub mod Kept
 pub mod Constant
 pub mod WellFormed
 pub mod Fits
+pub mod Grown
+pub mod Laws

@@ -1,7 +1,8 @@
-ghost use Rattle.std.specs.Prelude.{◌≡◌, ◌≤◌, ◌<◌, ◌+◌, ◌^◌, ◌++◌, ◌∷◌, ◌&&◌, ◌||◌, ◌==◌, int_lt, int_le, nat_lt, take, [], List, ℕ, length, Option};
+ghost use Rattle.std.specs.Prelude.{◌≡◌, ◌≤◌, ◌<◌, ◌+◌, ◌^◌, ◌++◌, ◌∷◌, ◌&&◌, ◌||◌, ◌==◌, true, int_lt, int_le, nat_lt, take, [], List, ℕ, length, Option};
 ghost use Rattle.std.specs.List.{list_any};
 ghost use Rattle.std.specs.Option.{option_copied};
-ghost use Rattle.tap_rows.specs.WellFormed.{row_at, may_follow, doc_stands, docs_stand, has_arrived, note_stands, is_query_of, query_stands, was_defined, run_stands, is_picked, comes_after, pick_stands, picks_stand, filter_stands};
+ghost use Rattle.tap_rows.specs.WellFormed.{row_at, may_follow, doc_stands, docs_stand, has_arrived, note_stands, is_query_of, query_stands, was_defined, run_stands, is_picked, comes_after, pick_stands, picks_stand, filter_stands, is_well_formed};
+ghost use Rattle.tap_rows.specs.Tables.{after};
 ghost use Rattle.tap_rows.specs.Fits.{low_of, last_row, fits};
 
 use crate::{Change, Doc, FilterRow, MESSAGE_LIMIT, Note, Pick, QueryRow, RunRow, Tables};
@@ -277,10 +278,8 @@ fn last_filter(filters: &[FilterRow]) -> i64
 }
 
 impl Tables {
-    /// Do the rows of the change stand in order behind those of the tables: each with its place as its number, a moment
-    /// from 0 to 250,000,000,000 that is not below the last one's, names that are names, and references to rows that are
-    /// there? The texts of queries and filters are not looked at. A run's picks are each compared with all picks before.
-    pub fn fits(&self, change: &Change) -> bool
+    // Do the rows of the change stand in order behind those of the tables?
+    fn rows_fit(&self, change: &Change) -> bool
         ensures { result ≡ fits self.now change.now }
     {
         match change {
@@ -321,5 +320,15 @@ impl Tables {
                 filter,
             ),
         }
+    }
+
+    /// Do the rows of the change stand in order behind those of the tables: each with its place as its number, a moment
+    /// from 0 to 250,000,000,000 that is not below the last one's, names that are names, and references to rows that are
+    /// there? The texts of queries and filters are not looked at. A run's picks are each compared with all picks before.
+    pub fn fits(&self, change: &Change) -> bool
+        ensures rows { result ≡ fits self.now change.now }
+        ensures order { is_well_formed self.now ≡ true → result ≡ is_well_formed (after self.now change.now) }
+    {
+        self.rows_fit(change)
     }
 }

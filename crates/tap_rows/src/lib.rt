@@ -6,6 +6,7 @@ mod fields;
 mod fits;
 mod header_field;
 mod kept_doc;
+pub mod laws;
 mod results;
 mod rows;
 mod tables;
