@@ -2,6 +2,7 @@
 #![tactic(auto)]
 
 mod change;
+mod copies;
 mod fields;
 mod header_field;
 mod kept_doc;
