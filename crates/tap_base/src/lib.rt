@@ -1,6 +1,7 @@
 //! Numbers, texts, words and the counter of steps.
 #![tactic(auto)]
 
+mod copied;
 mod decimal;
 mod memory;
 mod moments;
@@ -13,6 +14,7 @@ mod texts;
 mod word_set;
 mod words;
 
+pub use copied::Copied;
 pub use decimal::put_decimal;
 pub use memory::Memory;
 pub use moments::{LAST_MOMENT, read_moment, read_number, read_signed};

@@ -1,4 +1,4 @@
-ghost use Rattle.std.specs.Prelude.{◌≡◌, ◌++◌, ◌∷◌, ◌<◌, ◌^◌, List, [], ℕ, OnOk, OnErr, length, slice_get, take};
+ghost use Rattle.std.specs.Prelude.{◌≡◌, ◌++◌, ◌∷◌, ◌<◌, ◌^◌, List, [], ℕ, OnOk, OnErr, IfOk, length, slice_get, take};
 ghost use Rattle.tap_base.specs.Words.{holds};
 ghost use Rattle.std.specs.Option.{option_copied};
 
@@ -37,6 +37,16 @@ impl Texts {
         Ok(())
     }
 
+    /// Appends these texts.
+    pub fn append(&mut self, texts: Texts) -> Result<(), Memory>
+        ensures ok { OnOk result (self.new ≡ self.old ++ texts) }
+        ensures err { OnErr result (self.new ≡ self.old) }
+    {
+        let Texts { mut items } = texts;
+        self.items.append(&mut items)?;
+        Ok(())
+    }
+
     /// How many texts there are.
     pub fn len(&self) -> usize
         ensures { result ≡ length self.now }
@@ -70,5 +80,16 @@ impl Texts {
         ensures { self.new ≡ take len self.old }
     {
         self.items.truncate(len);
+    }
+
+    /// The same texts once more.
+    pub fn copy(&self) -> Result<Texts, Memory>
+        ensures { IfOk result (λ texts. texts ≡ self.now) }
+    {
+        let mut texts = Texts::new(*self.items.allocator());
+        for text in &self.items {
+            texts.push(text.copy()?)?;
+        }
+        Ok(texts)
     }
 }

@@ -2,6 +2,7 @@
 #![tactic(auto)]
 
 mod change;
+mod copies;
 mod fields;
 mod fits;
 mod header_field;

@@ -1,0 +1,75 @@
+ghost use Rattle.std.specs.Prelude.{◌≡◌, ◌≤◌, ◌<◌, ◌++◌, ◌∷◌, List, [], ℕ, false, length, drop, take, OnOk, OnErr, IfOk};
+ghost use Rattle.std.specs.List.{list_any, slice_split};
+ghost use Rattle.tap_base.specs.Bytes.{is_blank};
+ghost use Rattle.tap_rows.specs.Entries.{address_of, entries_of, listed, referred};
+ghost use Rattle.mail_fields.specs.Rests.{comma_place};
+
+use crate::bytes::{after, blank_place, place_of, trim};
+use std::alloc::Global;
+use tap_base::{Memory, Texts, lower};
+
+// The address of an entry: what stands between `<` and `>`, or else what comes before a comment.
+fn address(part: &[u8]) -> &[u8]
+    ensures { result.now ≡ address_of part.now }
+{
+    let inner = after(part, place_of(b'<', part));
+    let end = place_of(b'>', inner);
+    if end < inner.len() {
+        &inner[..end]
+    } else {
+        trim(&part[..place_of(b'(', part)])
+    }
+}
+
+/// Appends the entry of this part, where it isn't empty.
+pub(crate) fn push_entry(alloc: Global, part: &[u8], into: &mut Texts) -> Result<(), Memory>
+    ensures { OnOk result (into.new ≡ into.old ++ entries_of (part.now ∷ [])) }
+{
+    let entry = lower(alloc, address(part))?;
+    if entry.len() == 0 {
+        return Ok(());
+    }
+    into.push(entry)
+}
+
+// How many bytes come before the first comma outside quotes.
+fn comma_len(value: &[u8]) -> usize
+    ensures value { result ≡ comma_place false value.now }
+    ensures within { result ≤ length value.now }
+{
+    let mut quoted = false;
+    for (i, b) in value.iter().enumerate() {
+        if *b == b'"' {
+            quoted = !quoted;
+        } else if *b == b',' && !quoted {
+            return i;
+        }
+    }
+    value.len()
+}
+
+/// Appends the entries of a list of addresses.
+pub(crate) fn push_listed(alloc: Global, value: &[u8], into: &mut Texts) -> Result<(), Memory>
+    ensures { OnOk result (into.new ≡ into.old ++ listed value.now) }
+{
+    let mut rest = value;
+    'parts: while !rest.is_empty() {
+        let len = comma_len(rest);
+        push_entry(alloc, &rest[..len], into)?;
+        rest = after(rest, len);
+    }
+    Ok(())
+}
+
+/// Appends the entries of a list of references.
+pub(crate) fn push_referred(alloc: Global, value: &[u8], into: &mut Texts) -> Result<(), Memory>
+    ensures { OnOk result (into.new ≡ into.old ++ referred value.now) }
+{
+    let mut rest = value;
+    'parts: while !rest.is_empty() {
+        let len = blank_place(rest);
+        push_entry(alloc, &rest[..len], into)?;
+        rest = after(rest, len);
+    }
+    Ok(())
+}

@@ -1,0 +1,92 @@
+ghost use Rattle.std.specs.Prelude.{◌≡◌, ◌≤◌, ◌<◌, ◌+◌, ◌==◌, ◌∷◌, ℕ, length, take, drop, IfSome, IfNone, OnSome, slice_index, if◌then◌else◌};
+ghost use Rattle.std.specs.List.{position_or_len, slice_range};
+ghost use Rattle.std.specs.Str.Lines.{lines, strip_carriage_return};
+ghost use Rattle.mail_lines.specs.Lines.{is_end};
+
+use memchr::memchr;
+
+/// Where a line stands in its text, and where the next one begins.
+#[derive(Clone, Copy, Debug, PartialEq, Eq)]
+pub struct LineAt {
+    pub start: usize,
+    pub end: usize,
+    pub next: usize,
+}
+
+/// A line, and the text after its LF.
+#[derive(Clone, Copy)]
+pub struct FirstLine<'a> {
+    pub line: &'a [u8],
+    pub rest: &'a [u8],
+}
+
+// How many bytes come before the first LF.
+pub(crate) fn end_of_line(text: &[u8]) -> usize
+    ensures value { result ≡ position_or_len is_end text.now }
+    ensures within { result ≤ length text.now }
+{
+    match memchr(b'\n', text) {
+        Some(end) => end,
+        None => text.len(),
+    }
+}
+
+// How many bytes of a line there are without one CR at its end.
+fn without_carriage_return(line: &[u8]) -> usize
+    ensures value { take result line.now ≡ strip_carriage_return line.now }
+    ensures within { result ≤ length line.now }
+{
+    if line.last() == Some(&b'\r') {
+        line.len() - 1
+    } else {
+        line.len()
+    }
+}
+
+/// The line from `at` on, without its LF and without a CR directly before that LF. A last line without an LF
+/// keeps all its bytes. `None` comes exactly at the end of the text.
+pub fn next_line(text: &[u8], at: usize) -> Option<LineAt>
+    requires { at ≤ length text.now }
+    ensures some { IfSome result (λ l. lines (drop at text.now) ≡ slice_range text.now l.start l.end ∷ lines (drop l.next text.now)) }
+    ensures within { IfSome result (λ l. (l.start ≡ at) × (l.start ≤ l.end) × (l.end ≤ l.next) × (l.next ≤ length text.now) × (at < l.next)) }
+    ensures none { IfNone result (at ≡ length text.now) }
+{
+    if at == text.len() {
+        return None;
+    }
+    let rest = &text[at..];
+    let len = end_of_line(rest);
+    if len == rest.len() {
+        return Some(LineAt {
+            start: at,
+            end: text.len(),
+            next: text.len(),
+        });
+    }
+    Some(LineAt {
+        start: at,
+        end: at + without_carriage_return(&rest[..len]),
+        next: at + len + 1,
+    })
+}
+
+/// The first line of a text that isn't empty, without its LF and without a CR directly before that LF.
+pub fn first_line(text: &[u8]) -> FirstLine<'_>
+    requires { 0 < length text.now }
+    ensures lines { lines text.now ≡ result.line.now ∷ lines result.rest.now }
+    ensures shorter { length result.rest.now < length text.now }
+{
+    let len = end_of_line(text);
+    if len == text.len() {
+        return FirstLine {
+            line: text,
+            rest: &[],
+        };
+    }
+    let line = &text[..len];
+    let end = without_carriage_return(line);
+    FirstLine {
+        line: &line[..end],
+        rest: &text[len + 1..],
+    }
+}
