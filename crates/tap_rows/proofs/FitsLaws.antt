@@ -1,5 +1,5 @@
 -- The rows of a change stand in order behind those of well formed tables just where the tables are well formed afterwards.
-use Rattle.std.proofs.Common.{◌≡◌, ◌∙◌, sym, ap, refl, subst, arith, ℕ, zero, suc, ◌+◌, ◌-◌, ℤ, pos, Bool, true, false, Option, Some, None, List, [], ◌∷◌, ◌++◌, length, if◌then◌else◌, inl, inr}
+use Rattle.std.proofs.Common.{◌≡◌, ◌∙◌, sym, refl, subst, arith, ℕ, zero, suc, ◌+◌, ◌-◌, ℤ, pos, Bool, true, false, Option, Some, None, List, [], ◌∷◌, ◌++◌, length}
 use Rattle.std.specs.Prelude.{◌&&◌, ◌==◌, slice_get, int_le}
 use Rattle.std.proofs.lemmas.Bool.{and_parts, and_from, false≢true}
 use Rattle.std.proofs.lemmas.List.{append_assoc, append-nil}
@@ -13,7 +13,7 @@ use Rattle.tap_rows.specs.declared.rows.FilterRow.{FilterRow}
 use Rattle.tap_rows.specs.declared.change.Change.{Change}
 use Rattle.tap_rows.specs.declared.change.Change.TheVariants.{Docs, OneNote, OneQuery, RunDone, OneFilter}
 use Rattle.tap_rows.specs.Tables.{after}
-use Rattle.tap_rows.specs.WellFormed.{row_at, is_row, doc_stands, docs_stand, has_arrived, note_stands, notes_stand, query_stands, queries_stand, was_defined, run_stands, runs_stand, is_picked, pick_stands, picks_stand, filter_stands, filters_stand, is_well_formed}
+use Rattle.tap_rows.specs.WellFormed.{row_at, is_row, doc_stands, docs_stand, note_stands, notes_stand, query_stands, queries_stand, run_stands, runs_stand, is_picked, pick_stands, picks_stand, filter_stands, filters_stand, is_well_formed}
 use Rattle.tap_rows.specs.Fits.{last_row, moment_or_start, low_of, fits}
 
 -- what the last of some elements hands on, or the state before where there is none
@@ -122,7 +122,7 @@ picks-more runs more docs new earlier place before (pick ∷ picks) holds =
     let once = and_parts _ _ orders.0 in
     let this = and_parts _ _ once.0 in
     and_from _ _ (and_from _ _ (and_from _ _ (and_from _ _ this.0 (picked-more pick (row_at pick.run runs) (row_at pick.run (runs ++ more)) (row_at pick.doc.0 docs) (row_at pick.doc.0 (docs ++ new)) (λ r. row-more pick.run runs more r) (λ d. row-more pick.doc.0 docs new d) this.1)) once.1) orders.1)
-      (picks-more runs more docs new (earlier ++ pick ∷ []) (place + 1) (Some pick) picks parts.1)
+    (picks-more runs more docs new (earlier ++ pick ∷ []) (place + 1) (Some pick) picks parts.1)
 
 -- the parts of what is well formed
 record Formed (tables : Tables) : Type 0 where

@@ -1,10 +1,9 @@
 -- Each change keeps what holds of the stored tables: above all, that a query's deliveries are its box.
-use Rattle.std.proofs.Common.{◌≡◌, ◌∙◌, sym, ap, refl, subst, arith, ℕ, suc, ◌+◌, ◌≤◌, ◌<◌, ℤ, pos, Bool, true, false, List, [], ◌∷◌, ◌++◌, length, map, if◌then◌else◌, inl, inr}
-use Rattle.std.specs.Prelude.{◌⊎◌, ◌==◌, ◌≤ℤ◌, ◌<ℤ◌, filter, int_le}
+use Rattle.std.proofs.Common.{◌≡◌, ◌∙◌, sym, ap, refl, subst, arith, ℕ, suc, ◌+◌, ◌≤◌, ◌<◌, ℤ, pos, true, false, List, [], ◌∷◌, ◌++◌, length, map, if◌then◌else◌, inl, inr}
+use Rattle.std.specs.Prelude.{◌==◌, ◌≤ℤ◌, filter}
 use Rattle.std.proofs.lemmas.Int.{ints}
 use Rattle.std.proofs.lemmas.List.{map-append, append-nil, length-append}
 use Rattle.std.proofs.lemmas.List.Elements.{filter-append}
-use Rattle.tap_base.specs.declared.numbers.QueryNum.{QueryNum}
 use Rattle.tap_rows.specs.declared.tables.Tables.{Tables}
 use Rattle.tap_rows.specs.declared.rows.Doc.{Doc}
 use Rattle.tap_rows.specs.declared.rows.Note.{Note}
@@ -12,18 +11,18 @@ use Rattle.tap_rows.specs.declared.rows.QueryRow.{QueryRow}
 use Rattle.tap_rows.specs.declared.rows.RunRow.{RunRow}
 use Rattle.tap_rows.specs.declared.rows.Pick.{Pick}
 use Rattle.tap_rows.specs.declared.rows.FilterRow.{FilterRow}
-use Rattle.tap_rows.specs.declared.change.Change.TheVariants.{Docs, OneNote, OneQuery, RunDone, OneFilter}
+use Rattle.tap_rows.specs.declared.change.Change.TheVariants.{Docs, OneNote, OneQuery, OneFilter}
 use Rattle.tap_rows.specs.declared.results.Hit.{Hit}
 use Rattle.tap_rows.specs.declared.results.Entry.{Entry}
 use Rattle.tap_rows.specs.Tables.{no_rows, after}
 use Rattle.tap_rows.specs.Arrivals.{Arrived}
-use Rattle.tap_rows.specs.Results.{Truth, runs_of, run_moments, last_or, covered, entries_from, entry_at, union_until, fresh_in, box_of}
+use Rattle.tap_rows.specs.Results.{Truth, runs_of, run_moments, last_or, covered, entries_from, entry_at, union_until, box_of}
 use Rattle.tap_rows.specs.Deliveries.{delivered, picked, picks_of, pick_rows, next_run, run_hits, run_change, run_ordinal}
-use Rattle.tap_rows.specs.Kept.{Each, In, IsOfTheSecond, QueriesFrom, RunsFrom, Rising, HasRun, KeptQuery, IsKept, IsBy}
+use Rattle.tap_rows.specs.Kept.{Each, In, IsOfTheSecond, QueriesFrom, Rising, HasRun, KeptQuery, IsKept, IsBy}
 use Rattle.tap_rows.specs.Grown.{Grown}
 use Rattle.tap_rows.proofs.LaterLaws.{grown-same, fresh-later, filter-none, each-map, each-append}
 use Rattle.tap_rows.proofs.PlaceLaws.{ordinal-new, moments-new, moments-other, old-picks, picks-all, picks-none, new-picks, picks-have-run, run-stays, run-last, runs-more, queries-more, query-bounds, runs-none, no-picks}
-use Rattle.tap_rows.proofs.RunLaws.{rising-le, box-after-run}
+use Rattle.tap_rows.proofs.RunLaws.{box-after-run}
 
 -- entries by moments and hits that are the same
 entries-same : (ms ms' : List ℤ) (hits hits' : List Hit) → ms ≡ ms' → hits ≡ hits' → entries_from ms hits 1 ms ≡ entries_from ms' hits' 1 ms'
@@ -133,8 +132,8 @@ module _ (truth : QueryRow → Truth) (start : QueryRow → ℤ) (causal : (quer
     owned = each-map (λ run. run.query.0 ≤ length tables.queries) (λ run. run.query.0 ≤ length (tables.queries ++ query ∷ [])) tables.runs (λ run le. longer run.query.0 tables.queries query le) kept.owned;
     picks = kept.picks;
     each = each-append (KeptQuery truth start (after tables (OneQuery query))) tables.queries (query ∷ [])
-      (queries-later t tables (after tables (OneQuery query)) tables.queries refl refl (grown-same t tables (after tables (OneQuery query)) refl refl) by.runs by.queries kept.each)
-      (query-new tables query kept is, tt);
+        (queries-later t tables (after tables (OneQuery query)) tables.queries refl refl (grown-same t tables (after tables (OneQuery query)) refl refl) by.runs by.queries kept.each)
+        (query-new tables query kept is, tt);
   } where
     longer : (n : ℕ) (queries : List QueryRow) (query : QueryRow) → n ≤ length queries → n ≤ length (queries ++ query ∷ [])
     longer n queries query le = omega (arith, le, length-append queries (query ∷ []))
@@ -152,7 +151,7 @@ module _ (truth : QueryRow → Truth) (start : QueryRow → ℤ) (causal : (quer
       let old : map (picked (tables.runs ++ run ∷ [])) (picks_of query.num.0 tables.picks) ≡ box_of (truth query) tables (start query) query.num.0 = old-picks query.num.0 tables.runs run tables.picks kept.picks ∙ this.box in
       let new : map (picked (tables.runs ++ run ∷ [])) picks ≡ map (entry_at (length (run_moments query.num.0 tables.runs) + 1)) hits = new-picks (tables.runs ++ run ∷ []) (length tables.picks + 1) query.num (length tables.runs + 1) (length (run_moments query.num.0 tables.runs) + 1) hits place in
       let given : delivered query.num.0 later ≡ box_of (truth query) tables (start query) query.num.0 ++ map (entry_at (length (run_moments query.num.0 tables.runs) + 1)) hits =
-        ap (map (picked (tables.runs ++ run ∷ []))) both ∙ map-append (picked (tables.runs ++ run ∷ [])) (picks_of query.num.0 tables.picks) picks ∙ parts _ _ _ _ old new in
+      ap (map (picked (tables.runs ++ run ∷ []))) both ∙ map-append (picked (tables.runs ++ run ∷ [])) (picks_of query.num.0 tables.picks) picks ∙ parts _ _ _ _ old new in
       let box = box-after-run (truth query) tables (tables.runs ++ run ∷ []) (start query) query.num.0 t moments this.rising le in
       let union : union_until (truth query) later (start query) (covered (start query) query.num.0 (tables.runs ++ run ∷ [])) ≡ union_until (truth query) tables (start query) (covered (start query) query.num.0 (tables.runs ++ run ∷ [])) = fresh-later (truth query) (covered (start query) query.num.0 (tables.runs ++ run ∷ [])) tables later (start query) (start query) (covered (start query) query.num.0 (tables.runs ++ run ∷ [])) (causal query) (grown-same (covered (start query) query.num.0 (tables.runs ++ run ∷ [])) tables later refl refl) (omega (arith, ints)) in
       record {
@@ -188,9 +187,10 @@ module _ (truth : QueryRow → Truth) (start : QueryRow → ℤ) (causal : (quer
 
   queries-run : (t : ℤ) (tables : Tables) (query : QueryRow) (k : ℕ) (queries : List QueryRow) → IsKept truth start tables → covered (start query) query.num.0 tables.runs ≤ℤ t → QueriesFrom k queries → In query queries → Each (KeptQuery truth start tables) queries → Each (KeptQuery truth start (after tables (run_change (truth query) (start query) tables query.num t))) queries
   queries-run t tables query k [] kept le from has each = tt
-  queries-run t tables query k (other ∷ queries) kept le from (inl e) each =
-      (subst (λ row. KeptQuery truth start (after tables (run_change (truth query) (start query) tables query.num t)) row) e (query-run t tables query kept le (subst (λ row. KeptQuery truth start tables row) (sym e) each.0)),
-       queries-above t tables query (suc k) queries kept from.1 (let is : query.num.0 ≡ k = ap (λ row. row.num.0) e ∙ from.0 in omega (arith, is)) each.1)
+  queries-run t tables query k (other ∷ queries) kept le from (inl e) each = (
+    subst (λ row. KeptQuery truth start (after tables (run_change (truth query) (start query) tables query.num t)) row) e (query-run t tables query kept le (subst (λ row. KeptQuery truth start tables row) (sym e) each.0)),
+    queries-above t tables query (suc k) queries kept from.1 (let is : query.num.0 ≡ k = ap (λ row. row.num.0) e ∙ from.0 in omega (arith, is)) each.1,
+  )
   queries-run t tables query k (other ∷ queries) kept le from (inr h) each =
       let bounds = query-bounds (suc k) queries query from.1 h in
       (query-other t tables query other kept (λ e. absurd (omega (arith, e, from.0, bounds.0))) each.0, queries-run t tables query (suc k) queries kept le from.1 h each.1)
@@ -211,8 +211,8 @@ module _ (truth : QueryRow → Truth) (start : QueryRow → ℤ) (causal : (quer
         runs = runs-more 1 tables.runs run kept.runs (omega arith);
         owned = each-append (λ run. run.query.0 ≤ length tables.queries) tables.runs (run ∷ []) kept.owned (omega (arith, bounds.1), tt);
         picks = each-append (λ pick. HasRun pick.run pick.query.0 (tables.runs ++ run ∷ [])) tables.picks (pick_rows (length tables.picks + 1) query.num (length tables.runs + 1) (run_hits (truth query) (start query) tables query.num.0 t))
-          (each-map (λ pick. HasRun pick.run pick.query.0 tables.runs) (λ pick. HasRun pick.run pick.query.0 (tables.runs ++ run ∷ [])) tables.picks (λ pick h. run-stays pick.run pick.query.0 tables.runs (run ∷ []) h) kept.picks)
-          (picks-have-run (tables.runs ++ run ∷ []) (length tables.picks + 1) query.num (length tables.runs + 1) (run_hits (truth query) (start query) tables query.num.0 t) (run-last tables.runs run));
+            (each-map (λ pick. HasRun pick.run pick.query.0 tables.runs) (λ pick. HasRun pick.run pick.query.0 (tables.runs ++ run ∷ [])) tables.picks (λ pick h. run-stays pick.run pick.query.0 tables.runs (run ∷ []) h) kept.picks)
+            (picks-have-run (tables.runs ++ run ∷ []) (length tables.picks + 1) query.num (length tables.runs + 1) (run_hits (truth query) (start query) tables query.num.0 t) (run-last tables.runs run));
         each = queries-run t tables query 1 tables.queries kept (covered-by t query tables.runs (start-by t query tables.queries has by.queries) by.runs) kept.queries has kept.each;
       }
 

@@ -1,5 +1,5 @@
 -- Rows that arrive later leave every first second as it was, for every condition.
-use Rattle.std.proofs.Common.{◌≡◌, ◌∙◌, sym, ap, refl, arith, ℤ, Bool, true, false, Option, Some, None, List, [], ◌∷◌, ◌++◌, inl, inr}
+use Rattle.std.proofs.Common.{◌≡◌, ◌∙◌, sym, ap, refl, arith, ℤ, Bool, false, Option, None, List, [], ◌∷◌, ◌++◌, inl, inr}
 use Rattle.std.specs.Prelude.{◌&&◌, ◌≤ℤ◌, ◌<ℤ◌, int_le, filter}
 use Rattle.std.specs.List.{filter_map}
 use Rattle.std.proofs.lemmas.Bool.{cases_Bool}
@@ -8,9 +8,8 @@ use Rattle.std.proofs.lemmas.List.{append-nil}
 use Rattle.std.proofs.lemmas.List.Elements.{filter_map-append}
 use Rattle.tap_rows.specs.declared.tables.Tables.{Tables}
 use Rattle.tap_rows.specs.declared.rows.Doc.{Doc}
-use Rattle.tap_rows.specs.declared.rows.Note.{Note}
 use Rattle.tap_rows.specs.declared.results.Hit.{Hit}
-use Rattle.tap_rows.specs.Results.{Truth, visible, is_given, first_second, hit_of, at_least, in_order, fresh_in, union_until}
+use Rattle.tap_rows.specs.Results.{Truth, visible, is_given, first_second, hit_of, at_least, in_order, fresh_in}
 use Rattle.tap_rows.specs.Kept.{Each, IsOfTheSecond}
 use Rattle.tap_rows.specs.Grown.{Grown}
 use Rattle.tap_rows.proofs.SecondsLaws.{least_second-same, least_second-never}
@@ -50,19 +49,19 @@ grown-same t tables later docs notes = record {
 docs-kept : (t s : ℤ) (tables later : Tables) → Grown t tables later → s <ℤ t → (visible later s).docs ≡ (visible tables s).docs
 docs-kept t s tables later grown lt =
     rw grown.docs (filter-none (λ doc. int_le doc.arrival s) tables.docs grown.new_docs
-      (each-map (λ doc. t ≤ℤ doc.arrival) (λ doc. int_le doc.arrival s ≡ false) grown.new_docs (λ doc h. hidden doc.arrival s t h lt) grown.late_docs))
+    (each-map (λ doc. t ≤ℤ doc.arrival) (λ doc. int_le doc.arrival s ≡ false) grown.new_docs (λ doc h. hidden doc.arrival s t h lt) grown.late_docs))
 
 notes-kept : (t s : ℤ) (tables later : Tables) → Grown t tables later → s <ℤ t → (visible later s).notes ≡ (visible tables s).notes
 notes-kept t s tables later grown lt =
     rw grown.notes (filter-none (λ note. int_le note.arrival s) tables.notes grown.new_notes
-      (each-map (λ note. t ≤ℤ note.arrival) (λ note. int_le note.arrival s ≡ false) grown.new_notes (λ note h. hidden note.arrival s t h lt) grown.late_notes))
+    (each-map (λ note. t ≤ℤ note.arrival) (λ note. int_le note.arrival s ≡ false) grown.new_notes (λ note h. hidden note.arrival s t h lt) grown.late_notes))
 
 -- a document that was there keeps its first second below t
 pub first-later : (truth : Truth) (t : ℤ) (tables later : Tables) (doc : Doc) (start until : ℤ) → IsOfTheSecond truth → Grown t tables later → until ≤ℤ t → first_second truth later doc start until ≡ first_second truth tables doc start until
 first-later truth t tables later doc start until causal grown le =
     least_second-same (is_given truth later doc) (is_given truth tables doc) start until (λ x lo hi.
-      let before : x <ℤ t = omega (arith, ints) in
-      ap (λ b. int_le doc.arrival x && b) (causal tables later doc x (docs-kept t x tables later grown before) (notes-kept t x tables later grown before)))
+    let before : x <ℤ t = omega (arith, ints) in
+    ap (λ b. int_le doc.arrival x && b) (causal tables later doc x (docs-kept t x tables later grown before) (notes-kept t x tables later grown before)))
 
 -- a document that came later has none
 pub first-new : (truth : Truth) (tables : Tables) (doc : Doc) (start until : ℤ) → until ≤ℤ doc.arrival → first_second truth tables doc start until ≡ None
@@ -85,7 +84,7 @@ no-more hit all docs new is none = rw (is, filter_map-append hit docs new, none)
 pub fresh-later : (truth : Truth) (t : ℤ) (tables later : Tables) (start tau until : ℤ) → IsOfTheSecond truth → Grown t tables later → until ≤ℤ t → fresh_in truth later start tau until ≡ fresh_in truth tables start tau until
 fresh-later truth t tables later start tau until causal grown le =
     let none : filter_map (λ doc. hit_of doc (at_least tau (first_second truth later doc start until))) grown.new_docs ≡ [] =
-      hits-new truth later start tau until grown.new_docs (each-map (λ doc. t ≤ℤ doc.arrival) (λ doc. until ≤ℤ doc.arrival) grown.new_docs (λ doc h. omega (arith, ints)) grown.late_docs) in
+    hits-new truth later start tau until grown.new_docs (each-map (λ doc. t ≤ℤ doc.arrival) (λ doc. until ≤ℤ doc.arrival) grown.new_docs (λ doc h. omega (arith, ints)) grown.late_docs) in
     let same : filter_map (λ doc. hit_of doc (at_least tau (first_second truth later doc start until))) later.docs ≡ filter_map (λ doc. hit_of doc (at_least tau (first_second truth tables doc start until))) tables.docs =
-      no-more (λ doc. hit_of doc (at_least tau (first_second truth later doc start until))) later.docs tables.docs grown.new_docs grown.docs none ∙ hits-later truth t tables later start tau until tables.docs causal grown le in
+    no-more (λ doc. hit_of doc (at_least tau (first_second truth later doc start until))) later.docs tables.docs grown.new_docs grown.docs none ∙ hits-later truth t tables later start tau until tables.docs causal grown le in
     ap in_order same

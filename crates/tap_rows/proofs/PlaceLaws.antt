@@ -1,6 +1,6 @@
 -- Where the runs and picks of a query stand once a run was added.
-use Rattle.std.proofs.Common.{◌≡◌, ◌∙◌, sym, ap, refl, arith, ℕ, suc, ◌+◌, ◌≤◌, ◌<◌, ℤ, Bool, true, false, List, [], ◌∷◌, ◌++◌, length, map, inl, inr}
-use Rattle.std.specs.Prelude.{◌⊎◌, ◌==◌, filter}
+use Rattle.std.proofs.Common.{◌≡◌, ◌∙◌, sym, ap, refl, arith, ℕ, suc, ◌+◌, ◌≤◌, ◌<◌, true, false, List, [], ◌∷◌, ◌++◌, length, map, inl, inr}
+use Rattle.std.specs.Prelude.{◌==◌}
 use Rattle.std.specs.List.{position_or_len}
 use Rattle.std.proofs.lemmas.Bool.{cases_Bool, both_ways}
 use Rattle.std.proofs.lemmas.List.{map-append, length-map}
@@ -27,9 +27,9 @@ place-stays num query [] new has = absurd has
 place-stays num query (run ∷ runs) new has =
     elim (cases_Bool (run.query.0 == query)) [
       | inl y ↦ elim (cases_Bool (run.num == num)) [
-          | inl yes' ↦ rw (y, yes') refl
-          | inr no' ↦ rw (y, no') (ap (λ n. 1 + n) (place-stays num query runs new (elim has [ inl e ↦ absurd (both_ways (run.num == num) no' (same-yes run.num num e.0)) | inr h ↦ h ])))
-        ]
+        | inl yes' ↦ rw (y, yes') refl
+        | inr no' ↦ rw (y, no') (ap (λ n. 1 + n) (place-stays num query runs new (elim has [ inl e ↦ absurd (both_ways (run.num == num) no' (same-yes run.num num e.0)) | inr h ↦ h ])))
+      ]
       | inr n ↦ rw n (place-stays num query runs new (elim has [ inl e ↦ absurd (both_ways (run.query.0 == query) n (same-yes run.query.0 query e.1)) | inr h ↦ h ]))
     ]
 

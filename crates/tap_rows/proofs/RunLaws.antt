@@ -1,5 +1,5 @@
 -- A box after one more run: what it held, and what the run delivers.
-use Rattle.std.proofs.Common.{◌≡◌, ◌∙◌, sym, ap, refl, arith, ℕ, suc, ◌+◌, ◌≤◌, ◌<◌, ℤ, true, false, Option, Some, None, List, [], ◌∷◌, ◌++◌, length, map, if◌then◌else◌, inl, inr}
+use Rattle.std.proofs.Common.{◌≡◌, ◌∙◌, sym, ap, refl, arith, ℕ, suc, ◌+◌, ◌≤◌, ◌<◌, ℤ, true, false, Option, Some, None, List, [], ◌∷◌, ◌++◌, length, map, if◌then◌else◌}
 use Rattle.std.specs.Prelude.{◌==◌, ◌≤ℤ◌, ◌<ℤ◌, int_le, int_lt, filter}
 use Rattle.std.specs.List.{filter_map, cons_option}
 use Rattle.std.proofs.lemmas.Int.{ints, by_lt_z}
@@ -58,9 +58,9 @@ old-hits ms low t run [] rising le within = refl
 old-hits ms low t run (hit ∷ hits) rising le within =
     by_lt_z hit.first (last_or low ms)
     (λ lt. let early = run-early low hit.first t ms rising within.0 lt in
-        rw (above hit.first (last_or low ms) lt, early.0, old-hits ms low t run hits rising le within.2) refl)
+    rw (above hit.first (last_or low ms) lt, early.0, old-hits ms low t run hits rising le within.2) refl)
     (λ ge. let late = run-late low hit.first t ms rising ge within.1 in
-        rw (not-above hit.first (last_or low ms) ge, late, less run (length ms + 1) (omega arith), old-hits ms low t run hits rising le within.2) refl)
+    rw (not-above hit.first (last_or low ms) ge, late, less run (length ms + 1) (omega arith), old-hits ms low t run hits rising le within.2) refl)
 
 le-yes : (a s : ℤ) → a ≤ℤ s → int_le a s ≡ true
 le-yes a s h = grind (arith, ints)
@@ -74,9 +74,9 @@ new-hits ms low t [] rising within = refl
 new-hits ms low t (hit ∷ hits) rising within =
     by_lt_z hit.first (last_or low ms)
     (λ lt. let early = run-early low hit.first t ms rising within.0 lt in
-        rw (le-not (last_or low ms) hit.first lt, early.0, more (run_of hit.first ms) (length ms + 1) (omega (arith, early.1)), new-hits ms low t hits rising within.2) refl)
+    rw (le-not (last_or low ms) hit.first lt, early.0, more (run_of hit.first ms) (length ms + 1) (omega (arith, early.1)), new-hits ms low t hits rising within.2) refl)
     (λ ge. let late = run-late low hit.first t ms rising ge within.1 in
-        rw (le-yes (last_or low ms) hit.first ge, late, same (length ms + 1), new-hits ms low t hits rising within.2) refl)
+    rw (le-yes (last_or low ms) hit.first ge, late, same (length ms + 1), new-hits ms low t hits rising within.2) refl)
 
 entries_from-append : (mm : List ℤ) (hits : List Hit) (k : ℕ) (ms : List ℤ) (m : ℤ) → entries_from mm hits k (ms ++ m ∷ []) ≡ entries_from mm hits k ms ++ entries_of mm hits (k + length ms)
 entries_from-append mm hits k [] m = rw (zero_more k) (append-nil (entries_of mm hits k)) where

@@ -1,5 +1,5 @@
 -- What is fresh, and what was given up to an earlier second, as parts of the union, for every condition.
-use Rattle.std.proofs.Common.{◌≡◌, ◌∙◌, sym, ap, refl, arith, ℤ, Bool, true, false, Option, Some, None, List, [], ◌∷◌, if◌then◌else◌, inl, inr}
+use Rattle.std.proofs.Common.{◌≡◌, sym, refl, arith, ℤ, Bool, true, false, Option, Some, None, List, [], ◌∷◌, inl, inr}
 use Rattle.std.specs.Prelude.{◌≤ℤ◌, ◌<ℤ◌, int_le, int_lt, filter}
 use Rattle.std.specs.List.{filter_map, cons_option}
 use Rattle.std.specs.Option.{option_or}
@@ -9,7 +9,7 @@ use Rattle.tap_rows.specs.declared.tables.Tables.{Tables}
 use Rattle.tap_rows.specs.declared.rows.Doc.{Doc}
 use Rattle.tap_rows.specs.declared.results.Hit.{Hit}
 use Rattle.tap_rows.specs.Seconds.{least_second}
-use Rattle.tap_rows.specs.Results.{Truth, is_given, first_second, hit_of, at_least, in_order, fresh_in, union_until}
+use Rattle.tap_rows.specs.Results.{Truth, is_given, first_second, hit_of, at_least, fresh_in, union_until}
 use Rattle.tap_rows.proofs.SecondsLaws.{least_second-within, least_second-more}
 use Rattle.tap_rows.proofs.OrderLaws.{in_order-filter}
 
@@ -63,8 +63,8 @@ hit-earlier : (truth : Truth) (tables : Tables) (start last t : ℤ) (doc : Doc)
 hit-earlier truth tables start last t doc hits from le =
     rw (least_second-more (is_given truth tables doc) start last t from le)
     (earlier-found start last doc (least_second (is_given truth tables doc) start last) (least_second (is_given truth tables doc) last t) hits
-      (λ f e. least_second-within (is_given truth tables doc) start last f e)
-      (λ f e. let w = least_second-within (is_given truth tables doc) last t f e in (omega (arith, ints, w.0), w.0)))
+    (λ f e. least_second-within (is_given truth tables doc) start last f e)
+    (λ f e. let w = least_second-within (is_given truth tables doc) last t f e in (omega (arith, ints, w.0), w.0)))
 
 hits-earlier : (truth : Truth) (tables : Tables) (start last t : ℤ) (docs : List Doc) → start ≤ℤ last → last ≤ℤ t → filter_map (λ doc. hit_of doc (at_least start (first_second truth tables doc start last))) docs ≡ filter (is_earlier last) (filter_map (λ doc. hit_of doc (at_least start (first_second truth tables doc start t))) docs)
 hits-earlier truth tables start last t [] from le = refl

@@ -1,5 +1,5 @@
 -- The changes whose rows stand in order behind the rows that are there.
-use Rattle.std.specs.Prelude.{ℕ, ◌+◌, ℤ, pos, List, [], ◌∷◌, ◌++◌, length, Bool, ◌&&◌, Option, Some, None}
+use Rattle.std.specs.Prelude.{◌+◌, ℤ, pos, List, [], ◌∷◌, ◌++◌, length, Bool, ◌&&◌, Option, Some, None}
 use Rattle.tap_rows.specs.declared.tables.Tables.{Tables}
 use Rattle.tap_rows.specs.declared.change.Change.{Change}
 use Rattle.tap_rows.specs.declared.change.Change.TheVariants.{Docs, OneNote, OneQuery, RunDone, OneFilter}

@@ -1,5 +1,5 @@
 -- Laws that hold for every condition.
-use Rattle.std.specs.Prelude.{◌≡◌, ◌+◌, ℤ, pos, ◌≤ℤ◌, List, ◌++◌, length, Option, None}
+use Rattle.std.specs.Prelude.{◌≡◌, ◌+◌, ℤ, pos, ◌≤ℤ◌, List, ◌++◌, length, None}
 use Rattle.tap_rows.specs.declared.tables.Tables.{Tables}
 use Rattle.tap_rows.specs.declared.rows.Doc.{Doc}
 use Rattle.tap_rows.specs.declared.rows.Note.{Note}

@@ -13,8 +13,6 @@ use Rattle.tap_rows.specs.declared.rows.QueryRow.{QueryRow}
 use Rattle.tap_rows.specs.declared.rows.RunRow.{RunRow}
 use Rattle.tap_rows.specs.declared.rows.Pick.{Pick}
 use Rattle.tap_rows.specs.declared.rows.FilterRow.{FilterRow}
-use Rattle.tap_rows.specs.declared.change.Change.{Change}
-use Rattle.tap_rows.specs.declared.change.Change.TheVariants.{Docs, OneNote, OneQuery, RunDone, OneFilter}
 
 -- may a row of this moment follow one of the moment `low`?
 abbrev pub may_follow : ℤ → ℤ → Bool

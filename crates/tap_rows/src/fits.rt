@@ -113,9 +113,7 @@ fn run_fits(queries: &[QueryRow], place: usize, low: i64, run: &RunRow) -> bool
 fn filter_fits(place: usize, low: i64, filter: &FilterRow) -> bool
     ensures { result ≡ filter_stands place low filter.now }
 {
-    filter.num as usize == place
-        && follows(low, filter.arrival)
-        && is_name(filter.owner.as_slice())
+    filter.num as usize == place && follows(low, filter.arrival) && is_name(filter.owner.as_slice())
 }
 
 // The run of a number, where this one follows those stored.
@@ -199,13 +197,7 @@ fn pick_fits(
 }
 
 // Do the picks stand behind those stored? Each is compared with all before it.
-fn picks_fit(
-    runs: &[RunRow],
-    run: &RunRow,
-    docs: &[Doc],
-    stored: &[Pick],
-    picks: &[Pick],
-) -> bool
+fn picks_fit(runs: &[RunRow], run: &RunRow, docs: &[Doc], stored: &[Pick], picks: &[Pick]) -> bool
     ensures { result ≡ picks_stand (runs.now ++ run.now ∷ []) docs.now stored.now (length stored.now + 1) (last_row stored.now) picks.now }
 {
     let mut before = row(stored, stored.len());

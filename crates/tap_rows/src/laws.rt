@@ -5,12 +5,10 @@ ghost use Rattle.tap_rows.specs.Laws.{LaterRowsKeepFirstSeconds, DeliveriesStayT
 /// nothing but the documents and notes of the second that it is asked for.
 pub fn later_rows_keep_first_seconds()
     ensures { LaterRowsKeepFirstSeconds }
-{
-}
+{}
 
 /// What each query has delivered, run by run, is its box as it is computed from the rows and the moments of its runs alone:
 /// each change keeps it so.
 pub fn deliveries_stay_the_box()
     ensures { DeliveriesStayTheBox }
-{
-}
+{}

@@ -1,4 +1,4 @@
-use Rattle.tap_rows.proofs.KeptLaws.{kept-empty, kept-docs, kept-note, kept-query, kept-filter, kept-run}
+use Rattle.tap_rows.proofs.KeptLaws.{kept-docs, kept-note, kept-query, kept-filter, kept-run}
 use Rattle.tap_rows.proofs.laws.deliveries_stay_the_box.Goals as goal
 
 pub returns : goal.returns
