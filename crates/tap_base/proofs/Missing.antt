@@ -1,13 +1,12 @@
 -- What is missing in a list of texts depends on what it holds alone, not on how often or in which order.
-use Rattle.std.proofs.Common.{◌≡◌, ◌∙◌, sym, ap, subst, refl, arith, ℕ, List, [], ◌∷◌, ◌++◌, drop, length, Bool, true, false, if◌then◌else◌, ◌≤◌}
+use Rattle.std.proofs.Common.{◌≡◌, ◌∙◌, sym, ap, refl, arith, ℕ, List, [], ◌∷◌, ◌++◌, drop, length, Bool, true, false, if◌then◌else◌, ◌≤◌}
 use Rattle.std.specs.Prelude.{◌||◌, ◌==◌}
-use Rattle.std.specs.List.{list_any}
 use Rattle.std.specs.Str.{bytes_eq, str_to_ascii_lowercase}
 use Rattle.std.proofs.lemmas.List.{append_assoc, append-nil, length-append}
 use Rattle.std.proofs.lemmas.List.Folds.{list_any-append}
 use Rattle.std.proofs.lemmas.Slice.Eq.{bytes_eq-Decides}
 use Rattle.std.proofs.Math.Seq.{drop-append_seam}
-use Rattle.tap_base.specs.Words.{with_new, holds, lowered_words, words}
+use Rattle.tap_base.specs.Words.{with_new, holds, lowered_words}
 
 -- the texts that are not in the list yet, in order of first appearance
 abbrev missing : List (List ℕ) → List (List ℕ) → List (List ℕ)

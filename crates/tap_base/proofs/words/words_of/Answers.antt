@@ -1,4 +1,4 @@
-use Rattle.std.proofs.Common.{◌≡◌, ◌≤◌, ◌∙◌, sym, ap, subst, length, drop}
+use Rattle.std.proofs.Common.{◌∙◌, ap, drop}
 use Rattle.tap_base.proofs.Missing.{appended, none_lost}
 use Rattle.tap_base.specs.Words.{words}
 use Rattle.tap_base.proofs.words.words_of.Goals as goal

@@ -1,4 +1,4 @@
-use Rattle.std.proofs.Common.{◌≡◌, ◌∙◌, ap, map, ◌∷◌, []}
+use Rattle.std.proofs.Common.{◌∙◌, ap, map, ◌∷◌, []}
 use Rattle.tap_base.specs.Words.{with_new}
 use Rattle.tap_base.proofs.Inserted.{inserted, bytes_of}
 use Rattle.tap_base.proofs.word_set.WordSet.add_word.Goals as goal
