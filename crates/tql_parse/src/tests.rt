@@ -1,8 +1,9 @@
+use crate::key::key_of;
 use crate::{ParseFault, parse};
 use std::alloc::Global;
 use std::test::*;
 use tql_lex::{LexFault, Token, lex};
-use tql_tree::print;
+use tql_tree::{Tree, print};
 
 /// What reading a text comes to.
 #[derive(Debug, PartialEq, Eq, Clone, Copy)]
@@ -39,14 +40,44 @@ fn read(alloc: Global, text: &[u8]) -> Outcome {
     }
 }
 
+fn tree_of(alloc: Global, text: &[u8]) -> Option<Tree> {
+    let tokens = lex(alloc, text).ok()?;
+    parse(alloc, &tokens).ok()
+}
+
 fn canonical(alloc: Global, text: &[u8], wanted: &[u8]) -> bool {
-    match lex(alloc, text) {
-        Ok(tokens) => match parse(alloc, &tokens) {
+    match tree_of(alloc, text) {
+        Some(tree) => match print(alloc, &tree) {
+            Ok(printed) => printed.as_slice() == wanted,
+            Err(_) => false,
+        },
+        None => false,
+    }
+}
+
+/// Is a copy of the tree printed so?
+fn canonical_copy(alloc: Global, text: &[u8], wanted: &[u8]) -> bool {
+    match tree_of(alloc, text) {
+        Some(tree) => match tree.copy(alloc) {
             Ok(tree) => match print(alloc, &tree) {
                 Ok(printed) => printed.as_slice() == wanted,
                 Err(_) => false,
             },
             Err(_) => false,
+        },
+        None => false,
+    }
+}
+
+/// Has the copy of a token the same kind as this text's first token?
+fn copied_token(alloc: Global, text: &[u8]) -> bool {
+    match lex(alloc, text) {
+        Ok(tokens) => match tokens.first() {
+            Some(token) => match token.copy() {
+                Ok(copy) => key_of(&copy) == key_of(token) && copy.end == token.end,
+                Err(_) => false,
+            },
+            None => false,
         },
         Err(_) => false,
     }
@@ -124,4 +155,18 @@ fn levels(rt: HostRuntime) -> Result<(), Fail> {
     long.push(b' ')?;
     assert_eq!(rt; read(alloc, &long), Outcome::Long(4097));
     Ok(())
+}
+
+#[test]
+fn copies(rt: HostRuntime) {
+    let alloc = rt.alloc();
+    assert!(rt; copied_token(alloc, b"m.size"));
+    assert!(rt; copied_token(alloc, b"'it''s' = m.kind"));
+    assert!(rt;
+        canonical_copy(
+            alloc,
+            b"not(m.size>=3 or m.words has 'a') and exists(r:note where time'5'-1 day<today or -1=now)",
+            b"NOT (m.size >= 3 OR m.words HAS 'a') AND EXISTS (r: NOTE WHERE TIME '5' - 1 DAYS < TODAY OR -1 = NOW)"
+        )
+    );
 }
