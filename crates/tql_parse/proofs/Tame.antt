@@ -56,7 +56,7 @@ pub data Out (A : Type 0) (t : Token) : Read A → Read A → Read A → Type 0 
   early : (e : ParseFault) → NotEnd e → Out A t (Err e) (Err e) (Err e)
   stuck : (x : Read A) (e : ParseFault) → IsAt t e → Out A t x (Err e) (Err e)
 
-spent_bind : (A B : Type 0) (y : Read A) (h : A × List Token → Read B) → Spent y → ((a : A) → Spent (h (a, []))) → Spent (y >>= h)
+pub spent_bind : (A B : Type 0) (y : Read A) (h : A × List Token → Read B) → Spent y → ((a : A) → Spent (h (a, []))) → Spent (y >>= h)
 spent_bind A B (Ok x) h q k = subst (λ (rest : List Token). Spent (h (x.0, rest))) (sym q) (k x.0)
 spent_bind A B (Err e) h q k = q
 
@@ -71,10 +71,10 @@ pub record Tame (A : Type 0) (f : List Token → Read A) : Type 0 where
   pub spent : Spent (f [])
   pub out : (t : Token) (b r s : List Token) → Sim t b r s → Out A t (f b) (f r) (f s)
 
-tame_ok : (A : Type 0) (a : A) → Tame A (λ ts. Ok (a, ts))
+pub tame_ok : (A : Type 0) (a : A) → Tame A (λ ts. Ok (a, ts))
 tame_ok A a = record { spent = refl; out = λ t b r s m. go a b r s m }
 
-tame_bind : (A B : Type 0) (g : List Token → Read A) (h : A × List Token → Read B) → Tame A g → ((a : A) → Tame B (λ ts. h (a, ts))) → Tame B (λ ts. g ts >>= h)
+pub tame_bind : (A B : Type 0) (g : List Token → Read A) (h : A × List Token → Read B) → Tame A g → ((a : A) → Tame B (λ ts. h (a, ts))) → Tame B (λ ts. g ts >>= h)
 tame_bind A B g h tg k = record { spent = spent_bind A B (g []) h tg.spent (λ a. (k a).spent); out = λ t b r s m. out_bind A B t h (g b) (g r) (g s) (tg.out t b r s m) (λ a b' r' s' n. (k a).out t b' r' s' n) (λ a. (k a).spent) }
 
 -- what is done at a token: it is taken, refused, or left to another reading
@@ -104,7 +104,7 @@ module _ (A : Type 0) (f : List Token → Read A) where
   tame_choice : Spent (f []) → ((t : Token) → Choice A f t) → Tame A f
   tame_choice q c = record { spent = q; out = out_of c }
 
-tame_one : (test : Kind → Bool) → Tame Token (one test)
+pub tame_one : (test : Kind → Bool) → Tame Token (one test)
 tame_one test = tame_choice Token (one test) refl (λ t.
     elim (test t.kind) as (λ b. test t.kind ≡ b → Choice Token (one test) t) [
       | true ↦ λ e. taken (λ rest. Ok (t, rest)) (tame_ok Token t) (λ rest. rw e refl)
@@ -177,7 +177,7 @@ right_choice _ left t e = refused (Unexpected t.place) refl (λ rest. rw e refl)
 tame_right : (left : Expr) → Tame Syntax (right_at left)
 tame_right left = tame_choice Syntax (right_at left) refl (λ t. right_choice (key t.kind) left t refl)
 
-tame_compare : Tame Syntax compare_at
+pub tame_compare : Tame Syntax compare_at
 tame_compare = tame_bind Expr Syntax expr_at _ tame_expr (λ left. tame_right left)
 
 module _ (sep : Key → Bool) (join : Syntax → Syntax → Syntax) (part : List Token → Read Syntax) (tame_part : Tame Syntax part) where
@@ -207,7 +207,7 @@ module _ (n : ℕ) (tame_unit : Tame Syntax (unit_at n)) where
   tame_group : Tame Syntax (group_with (unit_at n))
   tame_group = tame_bind Syntax Syntax (cond_with (unit_at n)) _ tame_cond (λ x. tame_bind Token Syntax (one (λ k. is_close (key k))) _ (tame_one (λ k. is_close (key k))) (λ c. tame_ok Syntax x))
 
-  tame_head : Tame (Token × Table) head_at
+  pub tame_head : Tame (Token × Table) head_at
   tame_head = tame_bind Token (Token × Table) (one (λ k. is_open (key k))) _ (tame_one (λ k. is_open (key k))) (λ o. tame_bind Token (Token × Table) (one (λ k. is_name (key k))) _ (tame_one (λ k. is_name (key k))) (λ v. tame_bind Token (Token × Table) (one (λ k. is_colon (key k))) _ (tame_one (λ k. is_colon (key k))) (λ c. tame_bind Table (Token × Table) table_at _ tame_table (λ w. tame_bind Token (Token × Table) (one (λ k. is_where (key k))) _ (tame_one (λ k. is_where (key k))) (λ z. tame_ok (Token × Table) _)))))
 
   tame_exists : Tame Syntax (exists_with (unit_at n))

@@ -79,8 +79,8 @@ pub record Begins (n : ℕ) (ts : List Token) : Type 0 where
   pub tree : Syntax
   pub is_query : IsQuery n (ts ++ more) tree
 
--- the tokens before this one begin a query, and with it they begin none: it is the first such token
-pub record FirstAt (n : ℕ) (ts : List Token) (place : ℕ) : Type 0 where
+-- The tokens before this one begin a query, and with it they begin one only where more levels are allowed: it is the first such token.
+pub record DeepAt (n : ℕ) (ts : List Token) (place : ℕ) : Type 0 where
   pub before : List Token
   pub at : Token
   pub behind : List Token
@@ -88,9 +88,11 @@ pub record FirstAt (n : ℕ) (ts : List Token) (place : ℕ) : Type 0 where
   pub place_is : place ≡ at.place
   pub begins : Begins n before
   pub stops : Begins n (before ++ at ∷ []) → ⊥
+  pub levels : ℕ
+  pub begins_deeper : Begins levels (before ++ at ∷ [])
 
--- the tokens before this one begin a query, and with it they begin none, however many levels are allowed
-pub record NoneAt (n : ℕ) (ts : List Token) (place : ℕ) : Type 0 where
+-- The tokens before this one begin a query, and with it they begin none, however many levels are allowed.
+pub record UnexpectedAt (n : ℕ) (ts : List Token) (place : ℕ) : Type 0 where
   pub before : List Token
   pub at : Token
   pub behind : List Token

@@ -1,7 +1,7 @@
 ghost use Rattle.std.specs.Prelude.{◌≡◌, ◌≤◌, drop, IfOk, Ok, Err, ℕ, List};
 ghost use Rattle.tql_tree.specs.Syntax.{Syntax, syntax};
 ghost use Rattle.tql_parse.specs.declared.fault.ParseFault.{ParseFault};
-ghost use Rattle.tql_parse.specs.Grammar.{IsQuery, Begins, FirstAt, NoneAt};
+ghost use Rattle.tql_parse.specs.Grammar.{IsQuery, Begins, DeepAt, UnexpectedAt};
 ghost use Rattle.tql_parse.specs.Reading.{Gives, unit_at, conj_at, cond_at, group_with, exists_with, not_with, query_at, next_is, deep_at};
 ghost use Rattle.tql_parse.specs.Keys.{is_and, is_or};
 
@@ -164,9 +164,9 @@ pub fn parse(alloc: Global, tokens: &[Token]) -> Result<Tree, ParseFault>
     // What is in the grammar is given, unless memory runs out.
     ensures only { (x : Syntax) → IsQuery 32 tokens.now x → Gives syntax result (Ok x) }
     // A fault is at the first token with which the tokens begin no query of at most 32 levels.
-    // At an unexpected one they begin none of more levels either.
-    ensures unexpected { (p : ℕ) → result ≡ Err (ParseFault.Unexpected p) → NoneAt 32 tokens.now p }
-    ensures deep { (p : ℕ) → result ≡ Err (ParseFault.Deep p) → FirstAt 32 tokens.now p }
+    // At an unexpected one they begin none of more levels either, and at one that is too deep they do.
+    ensures unexpected { (p : ℕ) → result ≡ Err (ParseFault.Unexpected p) → UnexpectedAt 32 tokens.now p }
+    ensures deep { (p : ℕ) → result ≡ Err (ParseFault.Deep p) → DeepAt 32 tokens.now p }
     // The tokens end where all of them begin a query, and are none.
     ensures ended { result ≡ Err ParseFault.Ended → Begins 32 tokens.now × ((x : Syntax) → IsQuery 32 tokens.now x → ⊥) }
     // Which fault it is.
