@@ -1,7 +1,7 @@
 -- A token is read from its spelling.
-use Rattle.std.proofs.Common.{◌≡◌, ◌∙◌, sym, ap, refl, subst, arith, ℕ, zero, suc, ℤ, pos, List, [], ◌∷◌, ◌++◌, ◌+◌, ◌-◌, ◌≤◌, ◌<◌, take, drop, length, get_or, append_assoc, Bool, true, false, if◌then◌else◌, Option, Some, None, Result, Ok, Err, length-append}
-use Rattle.std.specs.Prelude.{cond, not, ◌||◌, ◌&&◌, ◌==◌, nat_lt, nat_le}
-use Rattle.std.specs.List.{list_all, flat_map}
+use Rattle.std.proofs.Common.{◌≡◌, ◌∙◌, sym, ap, refl, subst, arith, ℕ, ℤ, pos, List, [], ◌∷◌, ◌++◌, ◌+◌, ◌-◌, ◌≤◌, take, drop, length, append_assoc, Bool, true, false, if◌then◌else◌, Some, None, Result, Ok, Err, length-append}
+use Rattle.std.specs.Prelude.{not, ◌==◌, nat_lt}
+use Rattle.std.specs.List.{list_all}
 use Rattle.std.specs.Str.{str_to_ascii_lowercase}
 use Rattle.std.specs.Str.Parse.{digits_value}
 use Rattle.std.proofs.lemmas.Bool.Decides.{nat_tests}
@@ -15,8 +15,8 @@ use Rattle.tql_lex.specs.declared.kind.Kind.TheVariants.{Word, Number, Str, Mark
 use Rattle.tql_lex.specs.declared.token.Token.{Token}
 use Rattle.tql_lex.specs.declared.fault.LexFault.{LexFault}
 use Rattle.tql_lex.specs.declared.fault.LexFault.TheVariants as F
-use Rattle.tql_lex.specs.Tokens.{is_blank, begins_word, is_digit, is_of_word, run, quoted, with_content, short_sign, long_sign, most, token, word_token, number_token, text_token, short_token, sign_token, token_at, tokens_from, onto, with_front, lexed}
-use Rattle.tql_lex.specs.Spelling.{doubled, between_quotes, Spells, word_is, number_is, text_is, short_is, long_is, goes_on, ends_before, AreTokens, none, blank, one}
+use Rattle.tql_lex.specs.Tokens.{is_blank, begins_word, is_digit, is_of_word, run, quoted, with_content, short_sign, long_sign, most, token, word_token, number_token, text_token, token_at, tokens_from, onto, with_front, lexed}
+use Rattle.tql_lex.specs.Spelling.{between_quotes, Spells, word_is, number_is, text_is, short_is, long_is, goes_on, ends_before, AreTokens, none, blank, one}
 use Rattle.tql_lex.proofs.Runs.{tokens_skip, lexed-short}
 
 -- the rest does not go on with the test
@@ -24,7 +24,7 @@ abbrev pub Stops : (ℕ → Bool) → List ℕ → Type 0
 Stops test [] = Unit {0}
 Stops test (b ∷ rest) = test b ≡ false
 
-not_true : (b : Bool) → not b ≡ true → b ≡ false
+pub not_true : (b : Bool) → not b ≡ true → b ≡ false
 not_true true e = absurd (true≢false (sym e))
 not_true false e = refl
 
@@ -34,7 +34,7 @@ run_over test [] (b ∷ rest) all stops = rw stops refl
 run_over test (b ∷ s) rest all stops = let p = and_parts (test b) (list_all test s) all in let i = run_over test s rest p.1 stops in rw (p.0, i) (omega arith)
 
 -- what a byte is, it is alone
-digit_begins_no_word : (b : ℕ) → is_digit b ≡ true → begins_word b ≡ false
+pub digit_begins_no_word : (b : ℕ) → is_digit b ≡ true → begins_word b ≡ false
 digit_begins_no_word b e = grind (arith, nat_tests)
 
 word_is_not_blank : (b : ℕ) → begins_word b ≡ true → is_blank b ≡ false
@@ -44,20 +44,20 @@ digit_is_not_blank : (b : ℕ) → is_digit b ≡ true → is_blank b ≡ false
 digit_is_not_blank b e = grind (arith, nat_tests)
 
 -- no word, number, text or blank begins with a byte of a sign
-abbrev IsSignByte : ℕ → Type 0
+abbrev pub IsSignByte : ℕ → Type 0
 IsSignByte b = (begins_word b ≡ false) × (is_digit b ≡ false) × ((b == 39) ≡ false) × (is_blank b ≡ false)
 
 by_value : (b k : ℕ) → (b == k) ≡ true → IsSignByte k → IsSignByte b
 by_value b k e h = let q : b ≡ k = grind (arith, nat_tests) in rw q h
 
-short_byte : (b : ℕ) (sign : Sign) → short_sign b ≡ Some sign → IsSignByte b
+pub short_byte : (b : ℕ) (sign : Sign) → short_sign b ≡ Some sign → IsSignByte b
 short_byte b sign e = grind (arith, nat_tests)
 
 pub ends_word : (w : List ℕ) (rest : List ℕ) → ends_before (Word w) rest ≡ true → Stops is_of_word rest
 ends_word w [] e = tt
 ends_word w (b ∷ rest) e = not_true (is_of_word b) e
 
-ends_number : (n : ℤ) (rest : List ℕ) → ends_before (Number n) rest ≡ true → Stops is_digit rest
+pub ends_number : (n : ℤ) (rest : List ℕ) → ends_before (Number n) rest ≡ true → Stops is_digit rest
 ends_number n [] e = tt
 ends_number n (b ∷ rest) e = not_true (is_digit b) e
 
@@ -99,7 +99,7 @@ quoted_over (c ∷ content) rest stops = go (c == 39) refl (quoted_over content 
         quoted_plain c (between_quotes content ++ 39 ∷ rest) e ∙ ap (with_content (c ∷ []) 1) ih ∙ rw n refl
 
 -- where a sign of one byte ends, no sign of two begins
-no_long : (b c : ℕ) (sign : Sign) → short_sign b ≡ Some sign → goes_on (Mark sign) c ≡ false → long_sign b c ≡ None
+pub no_long : (b c : ℕ) (sign : Sign) → short_sign b ≡ Some sign → goes_on (Mark sign) c ≡ false → long_sign b c ≡ None
 no_long b c S.Open e n = grind (arith, nat_tests)
 no_long b c S.Close e n = grind (arith, nat_tests)
 no_long b c S.Dot e n = grind (arith, nat_tests)
@@ -120,7 +120,7 @@ short_read : (place b : ℕ) (rest : List ℕ) (sign : Sign) → short_sign b �
 short_read place b [] sign e n = let h = short_byte b sign e in rw (h.0, h.1, h.2, no_long_end b, e) refl
 short_read place b (c ∷ rest) sign e n = let h = short_byte b sign e in rw (h.0, h.1, h.2, no_long b c sign e (not_true (goes_on (Mark sign) c) n), e) refl
 
-long_byte : (b c : ℕ) (sign : Sign) → long_sign b c ≡ Some sign → IsSignByte b
+pub long_byte : (b c : ℕ) (sign : Sign) → long_sign b c ≡ Some sign → IsSignByte b
 long_byte b c sign e = grind (arith, nat_tests)
 
 long_read : (place b c : ℕ) (rest : List ℕ) (sign : Sign) → long_sign b c ≡ Some sign → token_at place (b ∷ c ∷ rest) ≡ Ok (token (Mark sign) place 2)
@@ -131,7 +131,7 @@ text_read place content rest stops =
     let n : 1 + (length (between_quotes content) + 1) ≡ length (39 ∷ (between_quotes content ++ 39 ∷ [])) = omega (arith, length-append (between_quotes content) (39 ∷ [])) in
     ap (λ (x : List ℕ). text_token place (quoted x)) (append_assoc (between_quotes content) (39 ∷ []) rest) ∙ ap (text_token place) (quoted_over content rest stops) ∙ rw n refl
 
-ends_text : (content rest : List ℕ) → ends_before (Str content) rest ≡ true → Stops (λ b. b == 39) rest
+pub ends_text : (content rest : List ℕ) → ends_before (Str content) rest ≡ true → Stops (λ b. b == 39) rest
 ends_text content [] e = tt
 ends_text content (b ∷ rest) e = not_true (b == 39) e
 
@@ -144,13 +144,13 @@ spelling_read place s rest kind (short_is b sign e) n = short_read place b rest 
 spelling_read place s rest kind (long_is b c sign e) n = long_read place b c rest sign e
 
 -- the first byte of a spelling
-record First (s : List ℕ) : Type 0 where
-  byte : ℕ
-  others : List ℕ
-  is : s ≡ byte ∷ others
-  not_blank : is_blank byte ≡ false
+pub record First (s : List ℕ) : Type 0 where
+  pub byte : ℕ
+  pub others : List ℕ
+  pub is : s ≡ byte ∷ others
+  pub not_blank : is_blank byte ≡ false
 
-first_of : (s : List ℕ) (kind : Kind) → Spells s kind → First s
+pub first_of : (s : List ℕ) (kind : Kind) → Spells s kind → First s
 first_of s kind (word_is b r e all) = record { byte = b; others = r; is = refl; not_blank = word_is_not_blank b e }
 first_of s kind (number_is b r e all fits) = record { byte = b; others = r; is = refl; not_blank = digit_is_not_blank b e }
 first_of s kind (text_is content) = record { byte = 39; others = between_quotes content ++ 39 ∷ []; is = refl; not_blank = refl }

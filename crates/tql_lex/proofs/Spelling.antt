@@ -1,22 +1,21 @@
 -- Each token that is read has a spelling.
-use Rattle.std.proofs.Common.{◌≡◌, ◌∙◌, sym, ap, refl, subst, arith, ℕ, zero, suc, ℤ, pos, List, [], ◌∷◌, ◌++◌, ◌+◌, ◌-◌, ◌≤◌, ◌<◌, take, drop, length, get_or, append_assoc, Bool, true, false, if◌then◌else◌, Option, Some, None, Result, Ok, Err}
-use Rattle.std.specs.Prelude.{cond, not, ◌||◌, ◌&&◌, ◌==◌, nat_lt, nat_le}
+use Rattle.std.proofs.Common.{◌≡◌, ◌∙◌, sym, ap, refl, subst, arith, ℕ, zero, suc, ℤ, pos, List, [], ◌∷◌, ◌++◌, ◌+◌, ◌-◌, ◌≤◌, ◌<◌, take, drop, length, get_or, Bool, true, false, if◌then◌else◌, Option, Some, None, Result, Ok, Err}
+use Rattle.std.specs.Prelude.{cond, not, ◌||◌, ◌==◌, nat_lt}
 use Rattle.std.specs.Str.{str_to_ascii_lowercase}
 use Rattle.std.specs.Str.Parse.{digits_value}
 use Rattle.std.proofs.lemmas.Bool.Decides.{nat_tests}
-use Rattle.std.proofs.lemmas.Bool.{true≢false, ltb-false}
+use Rattle.std.proofs.lemmas.Bool.{ltb-false}
 use Rattle.std.proofs.lemmas.List.{take-append-drop, length-take-le}
 use Rattle.tap_base.specs.declared.numbers.Op.TheVariants as P
 use Rattle.tql_lex.specs.declared.sign.Sign.{Sign}
 use Rattle.tql_lex.specs.declared.sign.Sign.TheVariants as S
-use Rattle.tql_lex.specs.declared.kind.Kind.{Kind}
 use Rattle.tql_lex.specs.declared.kind.Kind.TheVariants.{Word, Number, Str, Mark}
 use Rattle.tql_lex.specs.declared.token.Token.{Token}
 use Rattle.tql_lex.specs.declared.fault.LexFault.{LexFault}
 use Rattle.tql_lex.specs.declared.fault.LexFault.TheVariants as F
 use Rattle.tql_lex.specs.Tokens.{is_blank, begins_word, is_digit, is_of_word, run, quoted, with_content, short_sign, long_sign, most, token, word_token, number_token, text_token, short_token, sign_token, token_at, tokens_from, onto, with_front, lexed}
-use Rattle.tql_lex.specs.Spelling.{doubled, between_quotes, Spells, word_is, number_is, text_is, short_is, long_is, goes_on, ends_before, AreTokens, none, blank, one}
-use Rattle.tql_lex.proofs.Runs.{run_all, lexed-short}
+use Rattle.tql_lex.specs.Spelling.{between_quotes, Spells, word_is, number_is, text_is, short_is, long_is, ends_before, AreTokens, none, blank, one}
+use Rattle.tql_lex.proofs.Runs.{run_all}
 use Rattle.tql_lex.proofs.Spelled.{Stops, no_long_end}
 
 -- what is read at a place, with its spelling at the front

@@ -1,6 +1,6 @@
 use Rattle.std.proofs.Common.{◌≡◌, ◌≤◌, ◌<◌, ◌-◌, drop, length, false, get_or}
 use Rattle.tql_lex.specs.Tokens.{tokens_from, with_front, is_blank}
-use Rattle.tql_lex.proofs.lexer.lex.Given as goal
+use Rattle.tql_lex.proofs.lexer.read.Given as goal
 
 -- the tokens that are left follow those so far
 abbrev pub invariant-loop-at : goal.invariant-loop-at
