@@ -7,3 +7,9 @@ pub mod Fields
 pub mod Seconds
 pub mod Results
 pub mod Deliveries
+pub mod Kept
+pub mod Constant
+pub mod WellFormed
+pub mod Fits
+pub mod Grown
+pub mod Laws

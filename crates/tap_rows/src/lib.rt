@@ -4,8 +4,10 @@
 mod change;
 mod copies;
 mod fields;
+mod fits;
 mod header_field;
 mod kept_doc;
+pub mod laws;
 mod results;
 mod rows;
 mod tables;
@@ -16,4 +18,4 @@ pub use header_field::HeaderField;
 pub use kept_doc::KeptDoc;
 pub use results::{Entry, Hit, Listed};
 pub use rows::{Doc, FilterRow, Note, Pick, QueryRow, RunRow};
-pub use tables::Tables;
+pub use tables::{MESSAGE_LIMIT, Tables};
