@@ -26,3 +26,6 @@ pub use text::Text;
 pub use texts::Texts;
 pub use word_set::WordSet;
 pub use words::{lower, words_of};
+
+#[cfg(test)]
+mod word_tests;

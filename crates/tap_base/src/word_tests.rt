@@ -1,0 +1,31 @@
+use crate::{Memory, Rows, Text, Texts, lower, words_of};
+
+#[test]
+fn words_come_once_after_those_that_are_held(rt: HostRuntime) -> Result<(), Memory> {
+    let alloc = rt.alloc();
+    let mut words = Texts::new(alloc);
+    words.push(Text::from_slice(alloc, b"Held")?)?;
+    words.push(Text::from_slice(alloc, b"b")?)?;
+    words.push(Text::from_slice(alloc, b"b")?)?;
+    words_of(alloc, b"a B-c_a, \xC3\x89A 12", &mut words)?;
+    let words = words.copy()?;
+    let mut line = Text::new(alloc);
+    for word in words.as_slice() {
+        line.push_slice(word.as_slice())?;
+        line.push_slice(b" ")?;
+    }
+    assert_eq!(rt; line.as_slice(), b"Held b b a c \xC3\x89a 12 ".as_slice());
+    Ok(())
+}
+
+#[test]
+fn a_copy_has_the_same_rows(rt: HostRuntime) -> Result<(), Memory> {
+    let alloc = rt.alloc();
+    let mut rows = Rows::new(alloc);
+    rows.push(lower(alloc, b"One")?)?;
+    rows.push(lower(alloc, b"TWO")?)?;
+    let rows = rows.copy()?;
+    assert_eq!(rt; rows.len(), 2);
+    assert_eq!(rt; rows.as_slice()[1].as_slice(), b"two".as_slice());
+    Ok(())
+}

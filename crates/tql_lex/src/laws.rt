@@ -1,0 +1,23 @@
+//! Laws of the tokens of a text.
+
+ghost use Rattle.std.specs.Prelude.{◌≡◌, ◌≤◌, ℕ, List, ◌++◌, length, true, Ok};
+ghost use Rattle.tql_lex.specs.declared.kind.Kind.{Kind as TheKind};
+ghost use Rattle.tql_lex.specs.declared.token.Token.{Token as TheToken};
+ghost use Rattle.tql_lex.specs.Tokens.{lexed};
+ghost use Rattle.tql_lex.specs.Spelling.{Spells, ends_before, AreTokens, in_order, no_number_below};
+
+/// A text of at most 4,096 bytes has these tokens exactly where it is their spellings one behind another, each ending
+/// before what stands behind it, and only blanks and line feeds between them.
+pub fn tokens_are_spelled()
+    ensures { (text : List ℕ) (tokens : List TheToken) → (lexed text ≡ Ok tokens → (length text ≤ 4096) × AreTokens 0 text tokens) × (length text ≤ 4096 → AreTokens 0 text tokens → lexed text ≡ Ok tokens) }
+{}
+
+/// Where a token ends before what stands behind it, no longer token stands at its place.
+pub fn tokens_are_the_longest()
+    ensures { (spelling rest : List ℕ) (kind : TheKind) → Spells spelling kind → ends_before kind rest ≡ true → (other more : List ℕ) (k : TheKind) → spelling ++ rest ≡ other ++ more → Spells other k → length other ≤ length spelling }
+{}
+
+/// The tokens of a text stand in order and within it, and no number is below 0.
+pub fn tokens_are_in_order()
+    ensures { (text : List ℕ) (tokens : List TheToken) → lexed text ≡ Ok tokens → in_order 0 tokens (length text) × no_number_below tokens }
+{}

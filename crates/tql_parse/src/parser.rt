@@ -1,0 +1,176 @@
+ghost use Rattle.std.specs.Prelude.{◌≡◌, ◌≤◌, drop, IfOk, Ok, Err, ℕ, List};
+ghost use Rattle.tql_tree.specs.Syntax.{Syntax, syntax};
+ghost use Rattle.tql_parse.specs.declared.fault.ParseFault.{ParseFault};
+ghost use Rattle.tql_parse.specs.Grammar.{IsQuery, Begins, DeepAt, UnexpectedAt};
+ghost use Rattle.tql_parse.specs.Reading.{Gives, unit_at, conj_at, cond_at, group_with, exists_with, not_with, query_at, next_is, deep_at};
+ghost use Rattle.tql_parse.specs.Keys.{is_and, is_or};
+
+use crate::comparisons::{close_sign, compare, head};
+use crate::key::{Opening, bytes_of, key_of, opening_at};
+use crate::{Key, ParseFault};
+use std::alloc::Global;
+use tql_lex::Token;
+use tql_tree::Tree;
+
+/// Is the next token an AND?
+fn is_and_next(tokens: &[Token]) -> bool
+    ensures { result ≡ next_is is_and tokens.now }
+{
+    match tokens {
+        [] => false,
+        [token, ..] => matches!(key_of(token), Key::And),
+    }
+}
+
+/// Is the next token an OR?
+fn is_or_next(tokens: &[Token]) -> bool
+    ensures { result ≡ next_is is_or tokens.now }
+{
+    match tokens {
+        [] => false,
+        [token, ..] => matches!(key_of(token), Key::Or),
+    }
+}
+
+/// What follows the next token.
+fn behind(tokens: &[Token]) -> &[Token]
+    ensures { result.now ≡ drop 1 tokens.now }
+{
+    match tokens {
+        [] => tokens,
+        [_, rest @ ..] => rest,
+    }
+}
+
+/// The next token opens too many levels.
+fn deep(tokens: &[Token]) -> ParseFault
+    ensures { result ≡ deep_at tokens.now }
+{
+    match tokens {
+        [] => ParseFault::Ended,
+        [token, ..] => ParseFault::Deep { place: token.place },
+    }
+}
+
+/// What follows a NOT.
+#[cycle(parser)]
+fn negated(alloc: Global, levels: u32, tokens: &[Token]) -> Result<(Tree, &[Token]), ParseFault>
+    ensures { Gives (λ x. (syntax x.0, x.1.now)) result (not_with (unit_at levels) tokens.now) }
+{
+    let (tree, rest) = unit(alloc, levels, tokens)?;
+    Ok((Tree::Not(Box::new(alloc, tree)?), rest))
+}
+
+/// What follows the `(` of a group.
+#[cycle(parser)]
+fn group(alloc: Global, levels: u32, tokens: &[Token]) -> Result<(Tree, &[Token]), ParseFault>
+    ensures { Gives (λ x. (syntax x.0, x.1.now)) result (group_with (unit_at levels) tokens.now) }
+{
+    let (tree, rest) = cond(alloc, levels, tokens)?;
+    let (_, rest) = close_sign(rest)?;
+    Ok((tree, rest))
+}
+
+/// What follows an EXISTS.
+#[cycle(parser)]
+fn exists(alloc: Global, levels: u32, tokens: &[Token]) -> Result<(Tree, &[Token]), ParseFault>
+    ensures { Gives (λ x. (syntax x.0, x.1.now)) result (exists_with (unit_at levels) tokens.now) }
+{
+    let ((var, table), rest) = head(tokens)?;
+    let (tree, rest) = group(alloc, levels, rest)?;
+    let tree = Tree::Exists {
+        var: bytes_of(alloc, var)?,
+        var_place: var.place,
+        table,
+        body: Box::new(alloc, tree)?,
+    };
+    Ok((tree, rest))
+}
+
+/// The unit at the front, with so many levels left.
+#[cycle(parser)]
+fn unit(alloc: Global, levels: u32, tokens: &[Token]) -> Result<(Tree, &[Token]), ParseFault>
+    ensures { Gives (λ x. (syntax x.0, x.1.now)) result (unit_at levels tokens.now) }
+{
+    match opening_at(tokens) {
+        Opening::End => Err(ParseFault::Ended),
+        Opening::Truth => Ok((Tree::True, behind(tokens))),
+        Opening::Falsity => Ok((Tree::False, behind(tokens))),
+        Opening::Negation => {
+            if levels == 0 {
+                return Err(deep(tokens));
+            }
+            negated(alloc, levels - 1, behind(tokens))
+        }
+        Opening::Group => {
+            if levels == 0 {
+                return Err(deep(tokens));
+            }
+            group(alloc, levels - 1, behind(tokens))
+        }
+        Opening::Quantifier => {
+            if levels == 0 {
+                return Err(deep(tokens));
+            }
+            exists(alloc, levels - 1, behind(tokens))
+        }
+        Opening::Comparison => compare(alloc, tokens),
+    }
+}
+
+/// The units at the front that AND joins.
+#[cycle(parser)]
+fn conj(alloc: Global, levels: u32, tokens: &[Token]) -> Result<(Tree, &[Token]), ParseFault>
+    ensures { Gives (λ x. (syntax x.0, x.1.now)) result (conj_at levels tokens.now) }
+{
+    let (mut left, mut rest) = unit(alloc, levels, tokens)?;
+    while is_and_next(rest) {
+        let (right, after) = unit(alloc, levels, behind(rest))?;
+        left = Tree::And(Box::new(alloc, left)?, Box::new(alloc, right)?);
+        rest = after;
+    }
+    Ok((left, rest))
+}
+
+/// The conjunctions at the front that OR joins.
+#[cycle(parser)]
+fn cond(alloc: Global, levels: u32, tokens: &[Token]) -> Result<(Tree, &[Token]), ParseFault>
+    ensures { Gives (λ x. (syntax x.0, x.1.now)) result (cond_at levels tokens.now) }
+{
+    let (mut left, mut rest) = conj(alloc, levels, tokens)?;
+    while is_or_next(rest) {
+        let (right, after) = conj(alloc, levels, behind(rest))?;
+        left = Tree::Or(Box::new(alloc, left)?, Box::new(alloc, right)?);
+        rest = after;
+    }
+    Ok((left, rest))
+}
+
+/// The query that all tokens are, by reading from left to right.
+fn query(alloc: Global, tokens: &[Token]) -> Result<Tree, ParseFault>
+    ensures { Gives syntax result (query_at 32 tokens.now) }
+{
+    let (tree, rest) = cond(alloc, 32, tokens)?;
+    match rest {
+        [] => Ok(tree),
+        [token, ..] => Err(ParseFault::Unexpected { place: token.place }),
+    }
+}
+
+/// The tree of the query that all tokens are, of at most 32 levels.
+pub fn parse(alloc: Global, tokens: &[Token]) -> Result<Tree, ParseFault>
+    // What is given is in the grammar.
+    ensures found { IfOk result (λ tree. IsQuery 32 tokens.now (syntax tree)) }
+    // What is in the grammar is given, unless memory runs out.
+    ensures only { (x : Syntax) → IsQuery 32 tokens.now x → Gives syntax result (Ok x) }
+    // A fault is at the first token with which the tokens begin no query of at most 32 levels.
+    // At an unexpected one they begin none of more levels either, and at one that is too deep they do.
+    ensures unexpected { (p : ℕ) → result ≡ Err (ParseFault.Unexpected p) → UnexpectedAt 32 tokens.now p }
+    ensures deep { (p : ℕ) → result ≡ Err (ParseFault.Deep p) → DeepAt 32 tokens.now p }
+    // The tokens end where all of them begin a query, and are none.
+    ensures ended { result ≡ Err ParseFault.Ended → Begins 32 tokens.now × ((x : Syntax) → IsQuery 32 tokens.now x → ⊥) }
+    // Which fault it is.
+    ensures exact { Gives syntax result (query_at 32 tokens.now) }
+{
+    query(alloc, tokens)
+}
