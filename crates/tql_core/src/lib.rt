@@ -5,6 +5,7 @@ mod atom;
 mod atoms;
 mod cond;
 mod env;
+pub mod laws;
 mod row_ref;
 mod term;
 mod timeless;
