@@ -1,0 +1,79 @@
+ghost use Rattle.std.specs.Prelude.{◌≡◌, IfOk};
+
+use crate::{Term, Var};
+use tap_base::{Copied, Memory, Op, Text};
+
+/// A field that is a number: a row's number, a document's size in bytes, the document that a note is on, a note's value.
+#[derive(Clone, Copy, Debug, PartialEq, Eq, Hash)]
+pub enum NumField {
+    Id,
+    Size,
+    DocOf,
+    Value,
+}
+
+/// A field that is a text: four of documents, three of notes.
+#[derive(Clone, Copy, Debug, PartialEq, Eq, Hash)]
+pub enum TextField {
+    From,
+    Subject,
+    MsgId,
+    InReplyTo,
+    Author,
+    NoteKind,
+    NoteText,
+}
+
+/// A field of a document that is a list of texts.
+#[derive(Clone, Copy, Debug, PartialEq, Eq, Hash)]
+pub enum ListField {
+    To,
+    Cc,
+    Newsgroups,
+    References,
+    Words,
+}
+
+/// A number, or a field of a variable's row.
+#[derive(Clone, Copy, Debug, PartialEq, Eq, Hash)]
+pub enum NumExpr {
+    Literal(i64),
+    Field(Var, NumField),
+}
+
+/// A text, or a field of a variable's row.
+#[derive(Drop)]
+pub enum TextExpr {
+    Literal(Text),
+    Field(Var, TextField),
+}
+
+/// A condition on rows that does not speak of now: a comparison of two numbers, texts or times, or whether a list
+/// holds a text.
+#[derive(Drop)]
+pub enum Atom {
+    Numbers(NumExpr, Op, NumExpr),
+    Texts(TextExpr, Op, TextExpr),
+    Times(Term, Op, Term),
+    Has(Var, ListField, TextExpr),
+}
+
+impl Copied for TextExpr {
+    fn copied(&self) -> Result<TextExpr, Memory> {
+        match self {
+            TextExpr::Literal(text) => Ok(TextExpr::Literal(text.copy()?)),
+            TextExpr::Field(var, field) => Ok(TextExpr::Field(*var, *field)),
+        }
+    }
+}
+
+impl Copied for Atom {
+    fn copied(&self) -> Result<Atom, Memory> {
+        match self {
+            Atom::Numbers(x, op, y) => Ok(Atom::Numbers(*x, *op, *y)),
+            Atom::Texts(x, op, y) => Ok(Atom::Texts(x.copied()?, *op, y.copied()?)),
+            Atom::Times(x, op, y) => Ok(Atom::Times(*x, *op, *y)),
+            Atom::Has(var, field, y) => Ok(Atom::Has(*var, *field, y.copied()?)),
+        }
+    }
+}

@@ -1,0 +1,192 @@
+ghost use Rattle.std.specs.Prelude.{◌≡◌, ℤ, Option, option_copied, List, ℕ};
+ghost use Rattle.std.specs.List.{list_any};
+ghost use Rattle.std.specs.declared.cmp.Ordering.{Ordering};
+ghost use Rattle.std.specs.Ordering.{is_eq};
+ghost use Rattle.tql_core.specs.Values.{lookup, on_row, field, number, text_field, text, list_field, compare, both, answers, text_cmp, both_texts, has, true_atom};
+ghost use Rattle.tql_core.specs.Bindings.{row_of, option_row};
+
+use crate::row_ref::fields;
+use crate::values::value;
+use crate::{Atom, Env, ListField, NumExpr, NumField, RowRef, TextExpr, TextField, Var};
+use std::cmp::Ordering;
+use tap_base::{Op, Text, Texts};
+
+// Does the comparison hold?
+fn compares(op: Op, x: i128, y: i128) -> bool
+    ensures { result ≡ compare op x y }
+{
+    match op {
+        Op::Eq => x == y,
+        Op::Ne => x != y,
+        Op::Lt => x < y,
+        Op::Le => x <= y,
+        Op::Gt => x > y,
+        Op::Ge => x >= y,
+    }
+}
+
+// A comparison, false where a side is absent.
+fn both(op: Op, x: Option<i128>, y: Option<i128>) -> bool
+    ensures { result ≡ both op x y }
+{
+    match (x, y) {
+        (Some(x), Some(y)) => compares(op, x, y),
+        _ => false,
+    }
+}
+
+// A number of a row, where its table has this field.
+fn field(which: NumField, row: RowRef) -> Option<i128>
+    ensures { result ≡ field which (row_of row.entry) }
+{
+    match (which, row) {
+        (NumField::Id, RowRef::OfDoc(doc)) => Some(i128::from(doc.doc().num.0)),
+        (NumField::Id, RowRef::OfNote(note)) => Some(i128::from(note.num.0)),
+        (NumField::Size, RowRef::OfDoc(doc)) => Some(i128::from(fields(doc).size)),
+        (NumField::DocOf, RowRef::OfNote(note)) => Some(i128::from(note.doc.0)),
+        (NumField::Value, RowRef::OfNote(note)) => Some(i128::from(note.value)),
+        _ => None,
+    }
+}
+
+/// The number that the expression stands for. `None` comes exactly where its variable is unbound or its row has no such
+/// field.
+pub fn number(of: NumExpr, env: &Env) -> Option<i128>
+    ensures { result ≡ number of env.now }
+{
+    match of {
+        NumExpr::Literal(n) => Some(i128::from(n)),
+        NumExpr::Field(v, f) => match env.get(v) {
+            None => None,
+            Some(row) => field(f, row),
+        },
+    }
+}
+
+// The bytes of a text, where there is one.
+fn bytes_of(text: &Option<Text>) -> Option<&[u8]>
+    ensures { option_copied result ≡ text.now }
+{
+    match text {
+        None => None,
+        Some(text) => Some(text.as_slice()),
+    }
+}
+
+// A text of a row, where its table has this field and the row has it.
+fn text_field(field: TextField, row: RowRef<'_>) -> Option<&[u8]>
+    ensures { option_copied result ≡ text_field field (row_of row.entry) }
+{
+    match row {
+        RowRef::OfDoc(doc) => match field {
+            TextField::From => bytes_of(&fields(doc).from),
+            TextField::Subject => bytes_of(&fields(doc).subject),
+            TextField::MsgId => bytes_of(&fields(doc).msgid),
+            TextField::InReplyTo => bytes_of(&fields(doc).inreplyto),
+            _ => None,
+        },
+        RowRef::OfNote(note) => match field {
+            TextField::Author => Some(note.author.as_slice()),
+            TextField::NoteKind => Some(note.kind.as_slice()),
+            TextField::NoteText => Some(note.text.as_slice()),
+            _ => None,
+        },
+    }
+}
+
+/// The text that the expression stands for. `None` comes exactly where its variable is unbound or the field is absent.
+pub fn text<'a>(of: &'a TextExpr, env: &Env<'a>) -> Option<&'a [u8]>
+    ensures { option_copied result ≡ text of.now env.now }
+{
+    match of {
+        TextExpr::Literal(text) => Some(text.as_slice()),
+        TextExpr::Field(v, f) => match env.get(*v) {
+            None => None,
+            Some(row) => text_field(*f, row),
+        },
+    }
+}
+
+// Does an order answer a comparison?
+fn answers(op: Op, order: Ordering) -> bool
+    ensures { result ≡ answers op order }
+{
+    match op {
+        Op::Eq => order.is_eq(),
+        Op::Ne => !order.is_eq(),
+        Op::Lt => order.is_lt(),
+        Op::Le => !order.is_gt(),
+        Op::Gt => order.is_gt(),
+        Op::Ge => !order.is_lt(),
+    }
+}
+
+// A comparison of texts by bytes, false where a side is absent.
+fn both_texts(op: Op, x: Option<&[u8]>, y: Option<&[u8]>) -> bool
+    ensures { result ≡ both_texts op (option_copied x.entry) (option_copied y.entry) }
+{
+    match (x, y) {
+        (Some(x), Some(y)) => answers(op, x.cmp(y)),
+        _ => false,
+    }
+}
+
+// A list of a row, where its table has this field.
+fn list_field(field: ListField, row: RowRef<'_>) -> Option<&Texts>
+    ensures { option_copied result ≡ list_field field (row_of row.entry) }
+{
+    match row {
+        RowRef::OfDoc(doc) => match field {
+            ListField::To => Some(&fields(doc).to),
+            ListField::Cc => Some(&fields(doc).cc),
+            ListField::Newsgroups => Some(&fields(doc).newsgroups),
+            ListField::References => Some(&fields(doc).references),
+            ListField::Words => Some(&fields(doc).words),
+        },
+        RowRef::OfNote(_) => None,
+    }
+}
+
+// Is the text one of these?
+fn holds_text(texts: &[Text], text: &[u8]) -> bool
+    ensures { result ≡ list_any (λ x. is_eq (text_cmp x text.now)) texts.now }
+{
+    for held in texts {
+        if held.as_slice().cmp(text).is_eq() {
+            return true;
+        }
+    }
+    false
+}
+
+// Does the list hold the text? False where a side is absent.
+fn has(texts: Option<&Texts>, text: Option<&[u8]>) -> bool
+    ensures { result ≡ has (option_copied texts.entry) (option_copied text.entry) }
+{
+    match (texts, text) {
+        (Some(texts), Some(text)) => holds_text(texts.as_slice(), text),
+        _ => false,
+    }
+}
+
+// A list of a variable's row.
+fn list_of<'a>(v: Var, f: ListField, env: &Env<'a>) -> Option<&'a Texts>
+    ensures { option_copied result ≡ on_row (lookup v.0 env.now) (list_field f) }
+{
+    match env.get(v) {
+        None => None,
+        Some(row) => list_field(f, row),
+    }
+}
+
+/// The truth of an atom, false where a side is absent.
+pub fn true_atom<'a>(atom: &'a Atom, env: &Env<'a>) -> bool
+    ensures { result ≡ true_atom atom.now env.now }
+{
+    match atom {
+        Atom::Numbers(x, op, y) => both(*op, number(*x, env), number(*y, env)),
+        Atom::Texts(x, op, y) => both_texts(*op, text(x, env), text(y, env)),
+        Atom::Times(x, op, y) => both(*op, value(*x, env), value(*y, env)),
+        Atom::Has(v, f, y) => has(list_of(*v, *f, env), text(y, env)),
+    }
+}

@@ -1,0 +1,21 @@
+//! Conditions on messages and notes, and what they mean.
+#![tactic(auto)]
+
+mod atom;
+mod atoms;
+mod cond;
+mod env;
+pub mod laws;
+mod row_ref;
+mod term;
+mod timeless;
+mod values;
+
+pub use atom::{Atom, ListField, NumExpr, NumField, TextExpr, TextField};
+pub use atoms::{number, text, true_atom};
+pub use cond::Cond;
+pub use env::Env;
+pub use row_ref::RowRef;
+pub use term::{Base, Term, Var};
+pub use timeless::Timeless;
+pub use values::value;
