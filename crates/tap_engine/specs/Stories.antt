@@ -1,12 +1,13 @@
 -- What a list of commands does, one after another.
-use Rattle.std.specs.Prelude.{ℕ, ◌≡◌, ◌⊎◌, List, [], ◌∷◌, false}
+use Rattle.std.specs.Prelude.{ℕ, ◌≡◌, ◌⊎◌, List, [], ◌∷◌, false, Option, Some}
 use Rattle.tap_rows.specs.declared.tables.Tables.{Tables}
 use Rattle.script_lang.specs.declared.command.Command.{Command}
 use Rattle.script_lang.specs.declared.reply.Reply.{Reply}
 use Rattle.script_lang.specs.declared.reply.Reply.TheVariants.{No}
+use Rattle.script_lang.specs.declared.refusal.Refusal.{Refusal}
 use Rattle.script_lang.specs.declared.refusal.Refusal.TheVariants.{Memory}
 use Rattle.tap_engine.specs.declared.session.Session.{Session}
-use Rattle.tap_engine.specs.Verdicts.{is_spared}
+use Rattle.tap_engine.specs.Verdicts.{verdict, is_spared}
 use Rattle.tap_engine.specs.Replies.{answer_of, tables_after}
 
 -- the command is answered, and moves the tables and the session, as its answer says
@@ -33,3 +34,7 @@ Story tables session (command ∷ commands) (reply ∷ replies) tables' session'
     (mid : Tables) × (then : Session) × Step tables session command reply mid then × Story mid then commands replies tables' session'
 Story tables session [] (reply ∷ replies) tables' session' = ⊥
 Story tables session (command ∷ commands) [] tables' session' = ⊥
+
+-- the command is refused so: by its verdict, or for want of memory where it isn't one that takes none
+abbrev pub Refuses : Refusal → Command → Session → Tables → Type 0
+Refuses refusal command session tables = (verdict command session tables ≡ Some refusal) ⊎ ((refusal ≡ Memory) × (is_spared command session tables ≡ false))

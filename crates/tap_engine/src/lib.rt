@@ -4,8 +4,10 @@
 mod engine;
 mod kept_query;
 mod limits;
+mod mail;
 mod query;
 mod session;
+mod sessions;
 
 pub use engine::Engine;
 pub use kept_query::KeptQuery;
