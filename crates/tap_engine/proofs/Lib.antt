@@ -1,1 +1,5 @@
 mod Moments
+mod OwnerLaws
+mod CheckLaws
+mod StandingLaws
+mod DueLaws

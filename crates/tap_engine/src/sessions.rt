@@ -31,6 +31,7 @@ fn refuse_back(last: Option<i64>, second: i64) -> Result<(), Refusal>
 }
 
 // Refuses a text that is no name.
+#[tactic(auto, unfolding(crate::specs::Verdicts::bad_name))]
 pub(crate) fn refuse_name(name: &[u8]) -> Result<(), Refusal>
     ensures value { result_err result ≡ bad_name name.now }
     ensures name { OnOk result (is_name name.now ≡ true) }
