@@ -159,7 +159,7 @@ follows-accepted t s c none =
       session_is = sym (ap (λ a. a.session) is);
     }
 
-second-none : (x y : Option Refusal) (rest : List (Option Refusal)) → first_refusal (x ∷ y ∷ rest) ≡ None → y ≡ None
+pub second-none : (x y : Option Refusal) (rest : List (Option Refusal)) → first_refusal (x ∷ y ∷ rest) ≡ None → y ≡ None
 second-none None None rest e = refl
 second-none None (Some y) rest e = e
 second-none (Some x) None rest e = refl

@@ -3,3 +3,4 @@ mod OwnerLaws
 mod CheckLaws
 mod StandingLaws
 mod DueLaws
+pub mod SoundLaws

@@ -1,6 +1,6 @@
 ghost use Rattle.std.specs.Prelude.{◌≡◌, None, Some, true, OnOk, IfOk, IfErr};
 ghost use Rattle.script_lang.specs.declared.command.Command.{Command};
-ghost use Rattle.script_lang.specs.Replies.{HasShortNames};
+ghost use Rattle.script_lang.specs.Replies.{HasShortNames, is_accepted};
 ghost use Rattle.tap_base.specs.Names.{is_name};
 ghost use Rattle.tap_engine.specs.Sound.{Sound};
 ghost use Rattle.tap_engine.specs.Stories.{Follows, Refuses};
@@ -44,6 +44,7 @@ impl Engine {
         ensures ok { IfOk result (λ reply. Follows tables.now self.now.session (Command.BoxOf name) reply tables.now self.now.session) }
         ensures refusal { IfErr result (λ refusal. Refuses refusal (Command.BoxOf name) self.now.session tables.now) }
         ensures short { IfOk result (λ reply. HasShortNames reply) }
+        ensures accepted { IfOk result (λ reply. is_accepted reply ≡ true) }
     {
         let entries = self.entries_named(alloc, name.as_slice())?;
         Ok(Reply::BoxOf { name, entries })

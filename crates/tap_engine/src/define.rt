@@ -4,7 +4,7 @@ ghost use Rattle.tap_base.specs.Words.{holds};
 ghost use Rattle.tap_rows.specs.declared.change.Change.{Change};
 ghost use Rattle.tap_rows.specs.Tables.{after};
 ghost use Rattle.script_lang.specs.declared.command.Command.{Command};
-ghost use Rattle.script_lang.specs.Replies.{HasShortNames};
+ghost use Rattle.script_lang.specs.Replies.{HasShortNames, is_accepted};
 ghost use Rattle.tap_engine.specs.Verdicts.{not_built, unless, first_refusal};
 ghost use Rattle.script_lang.specs.declared.refusal.Refusal.{Refusal};
 ghost use Rattle.tap_engine.specs.Keeping.{new_kept, with_owner, named_in};
@@ -218,6 +218,7 @@ impl Engine {
         ensures refusal { IfErr result (λ refusal. Refuses refusal (Command.Define name source) self.old.session tables.old) }
         ensures err { OnErr result ((self.new ≡ self.old) × (tables.new ≡ tables.old)) }
         ensures short { IfOk result (λ reply. HasShortNames reply) }
+        ensures accepted { IfOk result (λ reply. is_accepted reply ≡ true) }
     {
         let row = self.new_query(name, source)?;
         let shown = row.name.copy()?;

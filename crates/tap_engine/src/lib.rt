@@ -6,6 +6,7 @@ mod define;
 mod engine;
 mod kept_queries;
 mod kept_query;
+pub mod laws;
 mod limits;
 mod look;
 mod mail;

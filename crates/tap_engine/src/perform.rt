@@ -1,5 +1,5 @@
-ghost use Rattle.std.specs.Prelude.{◌≡◌, OnOk, OnErr, IfOk, IfErr};
-ghost use Rattle.script_lang.specs.Replies.{HasShortNames};
+ghost use Rattle.std.specs.Prelude.{◌≡◌, true, false, OnOk, OnErr, IfOk, IfErr};
+ghost use Rattle.script_lang.specs.Replies.{HasShortNames, is_accepted};
 ghost use Rattle.tap_engine.specs.Sound.{Sound};
 ghost use Rattle.tap_engine.specs.Stories.{Follows, Refuses, Step};
 
@@ -27,6 +27,7 @@ impl Engine {
         ensures refusal { IfErr result (λ refusal. Refuses refusal command self.old.session tables.old) }
         ensures err { OnErr result ((self.new ≡ self.old) × (tables.new ≡ tables.old)) }
         ensures short { IfOk result (λ reply. HasShortNames reply) }
+        ensures accepted { IfOk result (λ reply. is_accepted reply ≡ true) }
     {
         match command {
             Command::At(text) => self.at(text.as_slice()),
@@ -55,6 +56,7 @@ impl Engine {
         ensures step { Step tables.old self.old.session command result tables.new self.new.session }
         ensures stands { StandsFor self.new tables.new }
         ensures short { HasShortNames result }
+        ensures refused { is_accepted result ≡ false → (self.new ≡ self.old) × (tables.new ≡ tables.old) }
         ensures steps { _steps.new ≡ _steps.old }
     {
         match self.accept(alloc, tables, command) {

@@ -1,4 +1,4 @@
-ghost use Rattle.std.specs.Prelude.{◌≡◌, ◌≤◌, ◌<◌, ◌+◌, ◌-◌, ◌^◌, ◌++◌, [], ◌∷◌, length, map, max, Some, None, ◌&&◌, int_le, int_lt, slice_index_or, slice_set, OnOk, OnErr, IfOk, IfErr};
+ghost use Rattle.std.specs.Prelude.{◌≡◌, true, ◌≤◌, ◌<◌, ◌+◌, ◌-◌, ◌^◌, ◌++◌, [], ◌∷◌, length, map, max, Some, None, ◌&&◌, int_le, int_lt, slice_index_or, slice_set, OnOk, OnErr, IfOk, IfErr};
 ghost use Rattle.std.specs.List.{filter_map};
 ghost use Rattle.tap_rows.specs.declared.tables.Tables.{Tables};
 ghost use Rattle.tap_rows.specs.declared.rows.RunRow.{RunRow};
@@ -9,7 +9,7 @@ ghost use Rattle.tap_rows.specs.Constant.{arrival_hit};
 ghost use Rattle.tap_rows.specs.Deliveries.{pick_rows};
 ghost use Rattle.tap_rows.specs.Results.{entry_at};
 ghost use Rattle.script_lang.specs.declared.command.Command.{Command};
-ghost use Rattle.script_lang.specs.Replies.{HasShortNames};
+ghost use Rattle.script_lang.specs.Replies.{HasShortNames, is_accepted};
 ghost use Rattle.tap_engine.specs.Queries.{has_word, source_word};
 ghost use Rattle.tap_engine.specs.declared.kept_query.KeptQuery.{KeptQuery};
 ghost use Rattle.tap_engine.specs.Keeping.{after_run};
@@ -183,6 +183,7 @@ impl Engine {
         ensures refusal { IfErr result (λ refusal. Refuses refusal (Command.Run name.now) self.old.session tables.old) }
         ensures err { OnErr result ((self.new ≡ self.old) × (tables.new ≡ tables.old)) }
         ensures short { IfOk result (λ reply. HasShortNames reply) }
+        ensures accepted { IfOk result (λ reply. is_accepted reply ≡ true) }
     {
         let due = self.due_run(alloc, tables.runs.len(), tables.picks.len(), name)?;
         let ordinal = due.runs as u32 + 1;
