@@ -1,0 +1,5 @@
+pub mod Scope
+pub mod Marks
+pub mod Probes
+pub mod Windows
+pub mod Laws
