@@ -1,46 +1,23 @@
--- Tables that come later, and the union as the least growing family.
+-- Rows that come later, and the union as the least growing family.
 use Rattle.std.proofs.Common.{◌≡◌, ℕ, zero, suc, ◌+◌, ◌≤◌, ◌<◌, ℤ, pos, negsuc, Bool, true, false, not, Option, Some, None, List, [], ◌∷◌, ◌++◌, refl, sym, ap, ◌∙◌, subst, inl, inr, arith, cond}
 use Rattle.std.specs.Prelude.{◌⊎◌, ◌&&◌, ◌||◌, ◌+ℤ◌, ◌≤ℤ◌, ◌<ℤ◌, map, int_le, int_lt, nat_eq}
 use Rattle.std.specs.List.{list_any, filter, filter_map, cons_option}
 use Rattle.std.proofs.lemmas.Bool.{cases_Bool, both_ways, and_parts, and_from, true≢false, false≢true, eqb-true, eq-eqb}
 use Rattle.std.proofs.lemmas.Int.{ints, by_lt_z}
 use Rattle.tap_rows.specs.declared.rows.Doc.{Doc}
-use Rattle.tap_rows.specs.declared.rows.Note.{Note}
 use Rattle.tql_core.specs.Condition.{Condition}
 use Rattle.tap_rows.specs.declared.tables.Tables.{Tables}
 use Rattle.tap_rows.specs.Results.{visible, is_before, put_in, hit_of, in_order, at_least}
-use Rattle.tql_core.specs.Holds.{holds, truth, asked_of}
+use Rattle.tql_core.specs.Holds.{truth_of}
 use Rattle.time_marks.proofs.Asked.{given, gives, first, count_between, hits, fresh, union}
 use Rattle.tap_rows.specs.Seconds.{first_from}
 use Rattle.time_marks.specs.Scope.{In}
 use Rattle.tap_rows.specs.declared.results.Hit.{Hit}
-use Rattle.monotone_rewrite.specs.Laws.{with_more, IsKeptByLater, LaterKeepsFirst, union_docs, in_union, IsGrowingOver, IsLeastGrowing, UnionIsLeast}
+use Rattle.monotone_rewrite.specs.Laws.{LaterRowsKeepFirst, union_docs, in_union, IsGrowingOver, IsLeastGrowing, UnionIsLeast}
+use Rattle.tap_rows.proofs.LaterLaws.{first-later}
+use Rattle.tql_core.proofs.OfTheSecond.{of-the-second}
 use Rattle.time_marks.proofs.Lists.{any_in, in_any, in_map, map_in}
 use Rattle.monotone_rewrite.proofs.Union.{first_none, first_bounds, count_is, keep_all}
-
-filter_later : {A : Type 0} (p : A → Bool) (xs ys : List A) → ((y : A) → In y ys → p y ≡ false) → filter p (xs ++ ys) ≡ filter p xs
-filter_later p [] [] h = refl
-filter_later p [] (y ∷ ys) h = rw (h y (inl refl)) (filter_later p [] ys (λ z i. h z (inr i)))
-filter_later p (x ∷ xs) ys h =
-    elim (cases_Bool (p x)) [
-      | inl y ↦ rw y (ap (λ zs. x ∷ zs) (filter_later p xs ys h))
-      | inr n ↦ rw n (filter_later p xs ys h)
-    ]
-
-hidden : (a s t : ℤ) → t ≤ℤ a → s <ℤ t → int_le a s ≡ false
-hidden a s t h k = grind (arith, ints)
-
-visible_kept : (T : Tables) (ds : List Doc) (ns : List Note) (s t : ℤ) → ((d : Doc) → In d ds → t ≤ℤ d.arrival) → ((n : Note) → In n ns → t ≤ℤ n.arrival) → s <ℤ t → visible (with_more T ds ns) s ≡ visible T s
-visible_kept T ds ns s t h k l =
-    let a = filter_later (λ (d : Doc). int_le d.arrival s) T.docs ds (λ d i. hidden d.arrival s t (h d i) l) in
-    let b = filter_later (λ (n : Note). int_le n.arrival s) T.notes ns (λ n i. hidden n.arrival s t (k n i) l) in
-    rw (a, b)
-
--- tests that agree on the numbers tried
-first_within : (p q : ℤ → Bool) (n : ℕ) (a : ℤ) → ((x : ℤ) → a ≤ℤ x → x <ℤ (a +ℤ pos n) → p x ≡ q x) → first_from p n a ≡ first_from q n a
-first_within p q zero a h = refl
-first_within p q (suc n) a h =
-    rw (h a (omega (arith, ints)) (omega (arith, ints)), first_within p q n (a +ℤ pos 1) (λ x lo hi. h x (omega (arith, ints)) (omega (arith, ints))))
 
 count_end : (a t x : ℤ) → a ≤ℤ x → x <ℤ (a +ℤ pos (count_between a t)) → x <ℤ t
 count_end a t x lo hi =
@@ -54,17 +31,8 @@ count_end a t x lo hi =
     count_none (negsuc a) (pos t) h = absurd (omega (arith, ints))
     count_none (negsuc a) (negsuc t) h = omega (arith, ints)
 
-first_never : (p : ℤ → Bool) (n : ℕ) (a : ℤ) → ((x : ℤ) → a ≤ℤ x → x <ℤ (a +ℤ pos n) → p x ≡ false) → first_from p n a ≡ None
-first_never p zero a h = refl
-first_never p (suc n) a h =
-    rw (h a (omega (arith, ints)) (omega (arith, ints))) (first_never p n (a +ℤ pos 1) (λ x lo hi. h x (omega (arith, ints)) (omega (arith, ints))))
-
-pub later_keeps_first : LaterKeepsFirst
-later_keeps_first c = record {
-  kept = λ T ds ns a t h k d. first_within (given c (with_more T ds ns) d) (given c T d) (count_between a t) a (λ x lo hi.
-      ap (λ V. int_le d.arrival x && truth V x c (asked_of d)) (visible_kept T ds ns x t h k (count_end a t x lo hi)));
-  new = λ T d a t h. first_never (given c T d) (count_between a t) a (λ x lo hi. rw (hidden d.arrival x t h (count_end a t x lo hi)));
-}
+pub later_keeps_first : LaterRowsKeepFirst
+later_keeps_first c t tables later doc start until grown le = first-later (truth_of c) t tables later doc start until (of-the-second c) grown le
 
 -- the first of the numbers tried is found where one of them passes
 first_there : (p : ℤ → Bool) (n : ℕ) (a x : ℤ) → a ≤ℤ x → x <ℤ (a +ℤ pos n) → p x ≡ true → (f : ℤ) × (first_from p n a ≡ Some f)
@@ -165,33 +133,28 @@ module _ (c : Condition) (T : Tables) (a : ℤ) where
   zero_on t d = keep_all a (first c T d a t) (λ f y. (first_bounds (given c T d) (count_between a t) a f y).0)
 
   -- a document that was given at a second below t is in the union
-  given_in : (s t : ℤ) (d : Doc) → a ≤ℤ s → s <ℤ t → In d T.docs → given c T d s ≡ true → in_union c T a t d.num ≡ true
+  given_in : (s t : ℤ) (d : Doc) → a ≤ℤ s → s <ℤ t → In d T.docs → given c T d s ≡ true → in_union c T a t d.num.0 ≡ true
   given_in s t d lo hi i y =
       let z = count_is a t (omega (arith, ints)) in
       let f = first_there (given c T d) (count_between a t) a s lo (omega (arith, ints, z)) y in
       let hit = in_ordered _ _ (in_hits (λ d. at_least a (first c T d a t)) T.docs d f.0 i (zero_on t d ∙ f.1)) in
-      in_any (λ k. nat_eq k d.num) (union_docs c T a t) d.num (in_map (λ (h : Hit). h.doc) (union c T a t) _ hit) (eq-eqb d.num d.num refl)
+      in_any (λ k. nat_eq k d.num.0) (union_docs c T a t) d.num.0 (in_map (λ (h : Hit). h.doc.0) (union c T a t) _ hit) (eq-eqb d.num.0 d.num.0 refl)
 
   -- and the other way round
-  in_given : (t : ℤ) (n : ℕ) → in_union c T a t n ≡ true → (d : Doc) × (s : ℤ) × In d T.docs × (n ≡ d.num) × (a ≤ℤ s) × (s <ℤ t) × (given c T d s ≡ true)
+  in_given : (t : ℤ) (n : ℕ) → in_union c T a t n ≡ true → (d : Doc) × (s : ℤ) × In d T.docs × (n ≡ d.num.0) × (a ≤ℤ s) × (s <ℤ t) × (given c T d s ≡ true)
   in_given t n y =
       let k = any_in (λ k. nat_eq k n) (union_docs c T a t) y in
-      let l = map_in (λ (h : Hit). h.doc) (union c T a t) k.0 k.1 in
+      let l = map_in (λ (h : Hit). h.doc.0) (union c T a t) k.0 k.1 in
       let r = hits_in (λ d. at_least a (first c T d a t)) T.docs l.0 (ordered_in _ l.0 l.1) in
       let e : first c T r.0 a t ≡ Some l.0.first = sym (zero_on t r.0) ∙ r.2 in
       let b = first_bounds (given c T r.0) (count_between a t) a l.0.first e in
-      (r.0, l.0.first, r.1, sym (eqb-true k.0 n k.2) ∙ l.2 ∙ r.3, b.0, count_end a t l.0.first b.0 b.1, first_passes (given c T r.0) (count_between a t) a l.0.first e)
+      (r.0, l.0.first, r.1, sym (eqb-true k.0 n k.2) ∙ l.2 ∙ ap (λ z. z.0) r.3, b.0, count_end a t l.0.first b.0 b.1, first_passes (given c T r.0) (count_between a t) a l.0.first e)
 
   gives_in : (d : Doc) (s : ℤ) → In d (gives c T s) → In d T.docs × (given c T d s ≡ true)
-  gives_in d s i =
-      let w = filter_in (λ d. holds c (asked_of d) T s) (visible T s).docs d i in
-      let b = filter_in (λ (d : Doc). int_le d.arrival s) T.docs d w.0 in
-      (b.0, and_from _ _ b.1 w.1)
+  gives_in d s i = filter_in (λ d. given c T d s) T.docs d i
 
   in_gives : (d : Doc) (s : ℤ) → In d T.docs → given c T d s ≡ true → In d (gives c T s)
-  in_gives d s i y =
-      let p = and_parts (int_le d.arrival s) (holds c (asked_of d) T s) y in
-      in_filter (λ d. holds c (asked_of d) T s) (visible T s).docs d (in_filter (λ (d : Doc). int_le d.arrival s) T.docs d i p.0) p.1
+  in_gives d s i y = in_filter (λ d. given c T d s) T.docs d i y
 
   pub union_is_least_at : IsLeastGrowing c T a
   union_is_least_at = record {

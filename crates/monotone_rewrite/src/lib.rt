@@ -1,0 +1,4 @@
+//! The window query of a condition, and its laws.
+#![tactic(auto)]
+
+pub mod laws;
