@@ -1,7 +1,6 @@
 -- The bytes of each reply.
-use Rattle.std.specs.Prelude.{ℕ, ℤ, ◌≡◌, ◌≤◌, ◌-◌, ◌+◌, ◌^◌, min, List, [], ◌∷◌, ◌++◌, length, take, Option, Some, None, codes}
+use Rattle.std.specs.Prelude.{ℕ, ℤ, ◌≡◌, ◌≤◌, ◌-◌, ◌+◌, ◌^◌, min, List, [], ◌∷◌, ◌++◌, length, take, Bool, true, false, Option, Some, None, codes}
 use Rattle.std.specs.List.{flat_map, All}
-
 use Rattle.std.specs.Fmt.{decimal, signed_decimal}
 use Rattle.std.specs.Io.KnownBytes.{Appends}
 use Rattle.tap_base.specs.declared.numbers.DocNum.{DocNum}
@@ -156,6 +155,11 @@ rest_lines (Defined name) = []
 rest_lines (Filter rules) = []
 rest_lines (Wake name moment) = []
 rest_lines (No refusal) = []
+
+-- does the reply begin `ok`?
+abbrev pub is_accepted : Reply → Bool
+is_accepted (No refusal) = false
+is_accepted reply = true
 
 -- the bytes of a reply
 abbrev pub reply_bytes : Reply → List ℕ

@@ -1,4 +1,7 @@
+ghost use Rattle.std.specs.Prelude.{◌≡◌};
+
 use crate::faults::{LexFault, ParseFault, TypeFault};
+use tap_base::Memory;
 
 /// A limit that would be passed.
 #[derive(Clone, Copy, Debug, PartialEq, Eq)]
@@ -43,4 +46,14 @@ pub enum Refusal {
     ManyRules,
     Memory,
     NoRun { runs: u32 },
+}
+
+impl From<Memory> for Refusal {
+    ghost use Rattle.script_lang.specs.declared.refusal.Refusal.{Refusal};
+
+    ghost from_gives = { λ _ refusal. refusal ≡ Refusal.Memory };
+
+    fn from(_memory: Memory) -> Refusal {
+        Refusal::Memory
+    }
 }

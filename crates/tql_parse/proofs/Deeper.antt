@@ -1,5 +1,5 @@
 -- Where a level is missing, one level more goes on with that token.
-use Rattle.std.proofs.Common.{◌≡◌, ◌∙◌, sym, ap, refl, subst, arith, ℕ, zero, suc, ◌+◌, List, [], ◌∷◌, ◌++◌, length, Bool, true, false, Result, Ok, Err, ◌≤◌, if◌then◌else◌}
+use Rattle.std.proofs.Common.{◌≡◌, ◌∙◌, sym, ap, refl, subst, arith, ℕ, zero, suc, ◌+◌, List, [], ◌∷◌, ◌++◌, length, Bool, true, false, Ok, Err, if◌then◌else◌}
 use Rattle.std.proofs.lemmas.Bool.{true≢false}
 use Rattle.tql_lex.specs.declared.token.Token.{Token}
 use Rattle.tql_tree.specs.declared.table.Table.{Table}
@@ -101,8 +101,8 @@ module _ (u v : List Token → Read Syntax) (d : Digs Syntax u v) (su : Shrinks 
   dig_chained x = record {
     spent = refl;
     out = λ t b r m.
-      let k = length b + length r in
-      three Syntax t _ _ _ (chain sep join u k x b) (chain sep join u k x r) (chain sep join v k x r) (same sep join u su (length b) k x b (omega arith) (omega arith)) (same sep join u su (length r) k x r (omega arith) (omega arith)) (same sep join v sv (length r) k x r (omega arith) (omega arith)) ((dig_chain k x).out t b r m);
+        let k = length b + length r in
+        three Syntax t _ _ _ (chain sep join u k x b) (chain sep join u k x r) (chain sep join v k x r) (same sep join u su (length b) k x b (omega arith) (omega arith)) (same sep join u su (length r) k x r (omega arith) (omega arith)) (same sep join v sv (length r) k x r (omega arith) (omega arith)) ((dig_chain k x).out t b r m);
   }
 
 module _ (n m : ℕ) (d : Digs Syntax (unit_at n) (unit_at m)) where

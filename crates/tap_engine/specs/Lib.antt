@@ -1,0 +1,9 @@
+pub mod Sessions
+pub mod Queries
+pub mod Limits
+pub mod Verdicts
+pub mod Replies
+pub mod Stories
+pub mod Sound
+pub mod Standing
+pub mod Laws

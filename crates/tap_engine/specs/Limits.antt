@@ -1,0 +1,35 @@
+-- How much is stored, and which limit would be passed.
+use Rattle.std.specs.Prelude.{ℕ, ◌+◌, List, [], ◌∷◌, ◌++◌, length, map, filter, Bool, ◌==◌, ◌||◌, nat_le, Option, Some, None, sum_by, if◌then◌else◌}
+use Rattle.std.specs.Str.{bytes_eq}
+use Rattle.tap_base.specs.Words.{holds}
+use Rattle.tap_rows.specs.declared.tables.Tables.{Tables}
+use Rattle.script_lang.specs.declared.refusal.Refusal.{Refusal}
+use Rattle.script_lang.specs.declared.refusal.Refusal.TheVariants.{Limit}
+use Rattle.script_lang.specs.declared.refusal.LimitName.{LimitName}
+
+-- the bytes of the texts of documents, notes, queries and filters
+abbrev pub stored_bytes : Tables → ℕ
+stored_bytes tables =
+    sum_by (λ doc. length doc.text) tables.docs + sum_by (λ note. length note.text) tables.notes
+    + sum_by (λ query. length query.source) tables.queries + sum_by (λ filter. length filter.source) tables.filters
+
+-- the owners of queries and filters, one for each of these rows
+abbrev pub owners_in : Tables → List (List ℕ)
+owners_in tables = map (λ query. query.owner) tables.queries ++ map (λ filter. filter.owner) tables.filters
+
+-- how many different texts these are
+abbrev pub different : List (List ℕ) → ℕ
+different [] = 0
+different (text ∷ texts) = if holds texts text then different texts else different texts + 1
+
+-- how many queries the user has
+abbrev pub queries_of : List ℕ → Tables → ℕ
+queries_of user tables = length (filter (λ query. bytes_eq query.owner user) tables.queries)
+
+-- how many users more own a query or a filter when this one does
+abbrev pub new_users : List ℕ → Tables → ℕ
+new_users user tables = if holds (owners_in tables) user then 0 else 1
+
+-- the limit, if it would be passed by so many more; a count that stays passes none
+abbrev pub passes : LimitName → ℕ → ℕ → ℕ → Option Refusal
+passes name limit count more = if (more == 0) || nat_le (count + more) limit then None else Some (Limit name)

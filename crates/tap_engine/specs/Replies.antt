@@ -1,0 +1,112 @@
+-- What a command does: its reply, the session after it, and the rows that it adds.
+use Rattle.std.specs.Prelude.{ℕ, ◌+◌, ℤ, List, [], ◌∷◌, length, Option, Some, None}
+use Rattle.tap_base.specs.Numbers.{moment_of}
+use Rattle.tap_rows.specs.declared.change.Change.{Change}
+use Rattle.tap_rows.specs.declared.change.Change.TheVariants.{Docs, OneQuery}
+use Rattle.tap_rows.specs.declared.rows.Doc.{Doc}
+use Rattle.tap_rows.specs.declared.rows.QueryRow.{QueryRow}
+use Rattle.tap_rows.specs.declared.tables.Tables.{Tables}
+use Rattle.tap_rows.specs.Tables.{after}
+use Rattle.tap_rows.specs.Results.{run_moments}
+use Rattle.tap_rows.specs.Deliveries.{run_change}
+use Rattle.script_lang.specs.declared.command.Command.{Command}
+use Rattle.script_lang.specs.declared.command.Command.TheVariants.{At, AsUser, Mail, Mbox, AddNote, Define, Run, BoxOf, ListOf, Filter, Explain, Ask, Wake, ScoresOf, DigestOf, Bad}
+use Rattle.script_lang.specs.declared.refusal.Refusal.{Refusal}
+use Rattle.script_lang.specs.declared.refusal.Refusal.TheVariants.{NotBuilt, BadMoment, NoQuery}
+use Rattle.script_lang.specs.declared.reply.Reply.{Reply}
+use Rattle.script_lang.specs.declared.reply.Reply.TheVariants.{At as SetAt, AsUser as SetUser, OneDoc, Defined, Ran, BoxOf as Boxed, No}
+use Rattle.tap_engine.specs.declared.session.Session.{Session}
+use Rattle.tap_engine.specs.Sessions.{present, user_of}
+use Rattle.tap_engine.specs.Queries.{truth_of, start_of, query_named, hits_of, box_in}
+use Rattle.tap_engine.specs.Verdicts.{text_of, verdict}
+
+-- a command's reply, the session after it, and the rows that it adds
+pub record Answer : Type 0 where
+  pub reply : Reply
+  pub session : Session
+  pub change : Option Change
+
+-- a refusal, by which nothing moves
+abbrev pub refused : Refusal → Session → Answer
+refused refusal session = record { reply = No refusal; session = session; change = None }
+
+-- the session's moment is this second
+abbrev pub set_moment : Option ℤ → Session → Answer
+set_moment None session = refused BadMoment session
+set_moment (Some second) session = record { reply = SetAt second; session = record session { moment = Some second }; change = None }
+
+-- the session's user is this one
+abbrev pub set_user : List ℕ → Session → Answer
+set_user name session = record { reply = SetUser name; session = record session { user = Some name }; change = None }
+
+-- the next document
+abbrev pub next_doc : Tables → ℤ → List ℕ → Doc
+next_doc tables moment text = record { num = record { 0 = length tables.docs + 1 }; arrival = moment; text = text }
+
+-- a document with this text
+abbrev pub add_mail : List ℕ → Session → Tables → Answer
+add_mail text session tables = record {
+  reply = OneDoc (record { 0 = length tables.docs + 1 });
+  session = session;
+  change = Some (Docs (next_doc tables (present session) text ∷ []));
+}
+
+-- the next query
+abbrev pub next_query : Tables → Session → List ℕ → List ℕ → QueryRow
+next_query tables session name source =
+    record { num = record { 0 = length tables.queries + 1 }; owner = user_of session; name = name; source = source; arrival = present session }
+
+-- a query of the user
+abbrev pub add_query : List ℕ → List ℕ → Session → Tables → Answer
+add_query name source session tables = record {
+  reply = Defined name;
+  session = session;
+  change = Some (OneQuery (next_query tables session name source));
+}
+
+-- a run of this query: its ordinal, the moment, and what it delivers
+abbrev pub run_query : Option QueryRow → Session → Tables → Answer
+run_query None session tables = refused NoQuery session
+run_query (Some query) session tables = record {
+  reply = Ran (length (run_moments query.num.0 tables.runs) + 1) (present session) (hits_of query tables (present session));
+  session = session;
+  change = Some (run_change (truth_of query) (start_of query) tables query.num (present session));
+}
+
+-- the box of this query
+abbrev pub show_box : Option QueryRow → List ℕ → Session → Tables → Answer
+show_box None name session tables = refused NoQuery session
+show_box (Some query) name session tables = record { reply = Boxed name (box_in query tables); session = session; change = None }
+
+-- the answer to a command that isn't refused
+abbrev pub accepted : Command → Session → Tables → Answer
+accepted (At text) session tables = set_moment (moment_of text) session
+accepted (AsUser name) session tables = set_user name session
+accepted (Mail block) session tables = add_mail (text_of block) session tables
+accepted (Define name source) session tables = add_query name source session tables
+accepted (Run name) session tables = run_query (query_named (user_of session) name tables) session tables
+accepted (BoxOf name) session tables = show_box (query_named (user_of session) name tables) name session tables
+accepted (Bad refusal) session tables = refused refusal session
+accepted (Mbox block) session tables = refused NotBuilt session
+accepted (AddNote doc kind value text) session tables = refused NotBuilt session
+accepted (ListOf name) session tables = refused NotBuilt session
+accepted (Filter block) session tables = refused NotBuilt session
+accepted (Explain name) session tables = refused NotBuilt session
+accepted (Ask moment source) session tables = refused NotBuilt session
+accepted (Wake name) session tables = refused NotBuilt session
+accepted (ScoresOf kind) session tables = refused NotBuilt session
+accepted (DigestOf name ordinal) session tables = refused NotBuilt session
+
+-- the answer by a verdict
+abbrev pub answer_by : Option Refusal → Command → Session → Tables → Answer
+answer_by (Some refusal) command session tables = refused refusal session
+answer_by None command session tables = accepted command session tables
+
+-- the answer to a command
+abbrev pub answer_of : Command → Session → Tables → Answer
+answer_of command session tables = answer_by (verdict command session tables) command session tables
+
+-- the tables after a change, if there is one
+abbrev pub tables_after : Option Change → Tables → Tables
+tables_after None tables = tables
+tables_after (Some change) tables = after tables change

@@ -1,0 +1,51 @@
+-- The moment and the user that commands are performed at and by.
+use Rattle.std.specs.Prelude.{ℕ, ℤ, pos, List, [], ◌∷◌, ◌++◌, map, Option, Some, None, int_le, if◌then◌else◌}
+use Rattle.std.specs.Option.{option_or}
+use Rattle.tap_rows.specs.declared.tables.Tables.{Tables}
+use Rattle.tap_engine.specs.declared.session.Session.{Session}
+
+-- a session begins without a moment and without a user
+abbrev pub no_session : Session
+no_session = record { moment = None; user = None }
+
+-- a number, or 0 where there is none
+abbrev pub or_zero : Option ℤ → ℤ
+or_zero None = pos 0
+or_zero (Some n) = n
+
+-- a text, or the empty one where there is none
+abbrev pub or_empty : Option (List ℕ) → List ℕ
+or_empty None = []
+or_empty (Some text) = text
+
+-- the session's moment
+abbrev pub present : Session → ℤ
+present session = or_zero session.moment
+
+-- the session's user
+abbrev pub user_of : Session → List ℕ
+user_of session = or_empty session.user
+
+-- the later of a moment and one that may be absent
+abbrev pub later_of : ℤ → Option ℤ → ℤ
+later_of m None = m
+later_of m (Some n) = if int_le n m then m else n
+
+-- the greatest of some moments
+abbrev pub greatest_of : List ℤ → Option ℤ
+greatest_of [] = None
+greatest_of (m ∷ ms) = Some (later_of m (greatest_of ms))
+
+-- the moments at which rows arrived and runs were made
+abbrev pub moments_in : Tables → List ℤ
+moments_in tables =
+    map (λ doc. doc.arrival) tables.docs ++ map (λ note. note.arrival) tables.notes ++ map (λ query. query.arrival) tables.queries
+    ++ map (λ run. run.moment) tables.runs ++ map (λ filter. filter.arrival) tables.filters
+
+-- the greatest moment that the tables hold
+abbrev pub greatest_moment : Tables → Option ℤ
+greatest_moment tables = greatest_of (moments_in tables)
+
+-- the moment that the next one may not be below: the session's, or the greatest of the tables where the session has none
+abbrev pub last_moment : Session → Tables → Option ℤ
+last_moment session tables = option_or session.moment (greatest_moment tables)

@@ -1,0 +1,142 @@
+-- Why a command is refused: the first of its checks that refuses, in the order of the refusals' numbers, limits in the
+-- order of the table of limits.
+use Rattle.std.specs.Prelude.{ℕ, ℤ, List, [], ◌∷◌, length, Bool, true, false, ◌||◌, nat_le, int_le, Option, Some, None, is_none, if◌then◌else◌}
+use Rattle.std.specs.Str.{all_ascii_digits}
+use Rattle.tap_base.specs.Numbers.{moment_of}
+use Rattle.tap_base.specs.Names.{is_name}
+use Rattle.tap_rows.specs.declared.tables.Tables.{Tables}
+use Rattle.tap_rows.specs.declared.rows.QueryRow.{QueryRow}
+use Rattle.tap_rows.specs.declared.results.Hit.{Hit}
+use Rattle.mail_lines.specs.declared.block.Block.{Block}
+use Rattle.mail_lines.specs.declared.block.Block.TheVariants.{Whole, Long}
+use Rattle.script_lang.specs.declared.state.TheConstants.{MESSAGE_LIMIT}
+use Rattle.script_lang.specs.declared.command.Command.{Command}
+use Rattle.script_lang.specs.declared.command.Command.TheVariants.{At, AsUser, Mail, Mbox, AddNote, Define, Run, BoxOf, ListOf, Filter, Explain, Ask, Wake, ScoresOf, DigestOf, Bad}
+use Rattle.script_lang.specs.declared.refusal.Refusal.{Refusal}
+use Rattle.script_lang.specs.declared.refusal.Refusal.TheVariants.{NotBuilt, BadMoment, Backwards, NoMoment, NoUser, BadName, Taken, NoQuery, Limit}
+use Rattle.script_lang.specs.declared.refusal.LimitName.TheVariants.{Message, Documents, Queries, AllQueries, Users, Runs, Picks, Store}
+use Rattle.tap_engine.specs.declared.session.Session.{Session}
+use Rattle.tap_engine.specs.declared.limits.TheConstants.{DOCUMENT_LIMIT, USER_QUERY_LIMIT, QUERY_LIMIT, USER_LIMIT, RUN_LIMIT, PICK_LIMIT, STORE_LIMIT}
+use Rattle.tap_engine.specs.Sessions.{present, user_of, last_moment}
+use Rattle.tap_engine.specs.Queries.{is_built, query_named, hits_of}
+use Rattle.tap_engine.specs.Limits.{stored_bytes, owners_in, different, queries_of, new_users, passes}
+
+-- the first refusal of some checks
+abbrev pub first_refusal : List (Option Refusal) → Option Refusal
+first_refusal [] = None
+first_refusal (None ∷ checks) = first_refusal checks
+first_refusal (Some refusal ∷ checks) = Some refusal
+
+-- refused where there is none
+abbrev pub missing : {A : Type 0} → Refusal → Option A → Option Refusal
+missing refusal None = Some refusal
+missing refusal (Some x) = None
+
+-- refused unless this holds
+abbrev pub unless : Bool → Refusal → Option Refusal
+unless holds refusal = if holds then None else Some refusal
+
+abbrev pub no_moment : Session → Option Refusal
+no_moment session = missing NoMoment session.moment
+
+abbrev pub no_user : Session → Option Refusal
+no_user session = missing NoUser session.user
+
+abbrev pub bad_name : List ℕ → Option Refusal
+bad_name name = unless (is_name name) BadName
+
+-- a text of another form than the one that is built
+abbrev pub not_built : List ℕ → Option Refusal
+not_built source = unless (is_built source) NotBuilt
+
+-- a second below the last moment
+abbrev pub is_back : Option ℤ → Option ℤ → Option Refusal
+is_back None second = None
+is_back (Some last) None = None
+is_back (Some last) (Some second) = unless (int_le last second) (Backwards last)
+
+-- the user has a query of this name
+abbrev pub taken : Session → List ℕ → Tables → Option Refusal
+taken session name tables = unless (is_none (query_named (user_of session) name tables)) Taken
+
+-- the user has no query of this name
+abbrev pub no_query : Session → List ℕ → Tables → Option Refusal
+no_query session name tables = missing NoQuery (query_named (user_of session) name tables)
+
+-- a message that is too long
+abbrev pub too_long : Block → Option Refusal
+too_long Long = Some (Limit Message)
+too_long (Whole text) = unless (nat_le (length text) MESSAGE_LIMIT) (Limit Message)
+
+-- the text of a block; one that is too long has none
+abbrev pub text_of : Block → List ℕ
+text_of Long = []
+text_of (Whole text) = text
+
+-- what a run of this query delivers, if there is one
+abbrev pub hits_found : Option QueryRow → Tables → ℤ → List Hit
+hits_found None tables moment = []
+hits_found (Some query) tables moment = hits_of query tables moment
+
+-- how many documents a run of the user's query of this name delivers now
+abbrev pub delivers : Session → List ℕ → Tables → ℕ
+delivers session name tables = length (hits_found (query_named (user_of session) name tables) tables (present session))
+
+-- the checks of a command, in their order
+abbrev pub checks : Command → Session → Tables → List (Option Refusal)
+checks (Bad refusal) session tables = Some refusal ∷ []
+checks (At text) session tables = missing BadMoment (moment_of text) ∷ is_back (last_moment session tables) (moment_of text) ∷ []
+checks (AsUser name) session tables = bad_name name ∷ []
+checks (Mail block) session tables =
+    no_moment session
+    ∷ too_long block
+    ∷ passes Documents DOCUMENT_LIMIT (length tables.docs) 1
+    ∷ passes Store STORE_LIMIT (stored_bytes tables) (length (text_of block))
+    ∷ []
+checks (Define name source) session tables =
+    not_built source
+    ∷ no_moment session
+    ∷ no_user session
+    ∷ bad_name name
+    ∷ taken session name tables
+    ∷ passes Queries USER_QUERY_LIMIT (queries_of (user_of session) tables) 1
+    ∷ passes AllQueries QUERY_LIMIT (length tables.queries) 1
+    ∷ passes Users USER_LIMIT (different (owners_in tables)) (new_users (user_of session) tables)
+    ∷ passes Store STORE_LIMIT (stored_bytes tables) (length source)
+    ∷ []
+checks (Run name) session tables =
+    no_moment session
+    ∷ no_user session
+    ∷ bad_name name
+    ∷ no_query session name tables
+    ∷ passes Runs RUN_LIMIT (length tables.runs) 1
+    ∷ passes Picks PICK_LIMIT (length tables.picks) (delivers session name tables)
+    ∷ []
+checks (BoxOf name) session tables = no_user session ∷ bad_name name ∷ no_query session name tables ∷ []
+checks (Mbox block) session tables = Some NotBuilt ∷ []
+checks (AddNote doc kind value text) session tables = Some NotBuilt ∷ []
+checks (ListOf name) session tables = Some NotBuilt ∷ []
+checks (Filter block) session tables = Some NotBuilt ∷ []
+checks (Explain name) session tables = Some NotBuilt ∷ []
+checks (Ask moment source) session tables = Some NotBuilt ∷ []
+checks (Wake name) session tables = Some NotBuilt ∷ []
+checks (ScoresOf kind) session tables = Some NotBuilt ∷ []
+checks (DigestOf name ordinal) session tables = Some NotBuilt ∷ []
+
+-- why the command is refused, if it is
+abbrev pub verdict : Command → Session → Tables → Option Refusal
+verdict command session tables = first_refusal (checks command session tables)
+
+-- refused for want of a moment, of a user or of a name
+abbrev pub is_early : Option Refusal → Bool
+is_early (Some NoMoment) = true
+is_early (Some NoUser) = true
+is_early (Some BadName) = true
+is_early refusal = false
+
+-- a command that is answered without memory
+abbrev pub is_spared : Command → Session → Tables → Bool
+is_spared (Bad refusal) session tables = true
+is_spared (At text) session tables = all_ascii_digits text || is_early (verdict (At text) session tables)
+is_spared (Ask moment source) session tables = false
+is_spared command session tables = is_early (verdict command session tables)

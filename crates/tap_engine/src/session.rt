@@ -1,0 +1,24 @@
+ghost use Rattle.std.specs.Prelude.{◌≡◌};
+
+use tap_base::Text;
+
+/// The moment and the user that commands are performed at and by. A moment is a second since 1970-01-01T00:00:00Z.
+#[derive(Drop)]
+pub struct Session {
+    pub moment: Option<i64>,
+    pub user: Option<Text>,
+}
+
+impl Session {
+    ghost use Rattle.tap_engine.specs.Sessions.{no_session};
+
+    /// A session without a moment and without a user.
+    pub fn new() -> Session
+        ensures { result ≡ no_session }
+    {
+        Session {
+            moment: None,
+            user: None,
+        }
+    }
+}

@@ -1,0 +1,3 @@
+mod Stories
+mod Steps
+mod Runs
