@@ -6,3 +6,4 @@ pub mod Crossing
 pub mod Bodies
 pub mod Fits
 pub mod WindowLaws
+pub mod Paths

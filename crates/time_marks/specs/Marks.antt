@@ -66,6 +66,10 @@ step_of v t x = record { var = copy v; table = t; guards = map copy_atom (guards
 abbrev pub after : Step → Mark → Mark
 after step mark = record { path = step ∷ mark.path; at = mark.at }
 
+-- the mark, with more steps before its path
+abbrev pub below : List Step → Mark → Mark
+below path mark = record { path = path ++ mark.path; at = mark.at }
+
 -- the term as a mark with no path, where the flag is set
 abbrev pub mark_if : Bool → Term → List Mark
 mark_if true e = record { path = []; at = e } ∷ []

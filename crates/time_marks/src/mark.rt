@@ -1,4 +1,6 @@
-use tap_base::Rows;
+ghost use Rattle.std.specs.Prelude.{◌≡◌, IfOk};
+
+use tap_base::{Copied, Memory, Rows};
 use tql_core::{Atom, Term, Var};
 use tql_tree::Table;
 
@@ -15,4 +17,22 @@ pub struct Step {
 pub struct Mark {
     pub path: Rows<Step>,
     pub at: Term,
+}
+
+impl Copied for Step {
+    fn copied(&self) -> Result<Step, Memory> {
+        let guards = self.guards.copy()?;
+        Ok(Step {
+            var: self.var,
+            table: self.table,
+            guards,
+        })
+    }
+}
+
+impl Copied for Mark {
+    fn copied(&self) -> Result<Mark, Memory> {
+        let path = self.path.copy()?;
+        Ok(Mark { path, at: self.at })
+    }
 }
