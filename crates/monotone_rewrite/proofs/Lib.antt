@@ -5,3 +5,4 @@ pub mod Windows
 pub mod Growing
 pub mod Scopes
 pub mod Orders
+pub mod ProbeLists

@@ -4,9 +4,14 @@
 mod copies;
 pub mod laws;
 mod mark;
+mod probe;
 mod rising_marks;
 mod window;
 
 pub use mark::{Mark, Step};
+pub use probe::Probe;
 pub use rising_marks::{rising, rising_from};
 pub use window::Window;
+
+#[cfg(test)]
+mod tests;
