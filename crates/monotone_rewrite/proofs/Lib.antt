@@ -6,3 +6,4 @@ pub mod Growing
 pub mod Scopes
 pub mod Orders
 pub mod ProbeLists
+pub mod Worked

@@ -6,3 +6,6 @@ pub mod laws;
 mod window_query;
 
 pub use window_query::{monotone, monotone_from};
+
+#[cfg(test)]
+mod tests;

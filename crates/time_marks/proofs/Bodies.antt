@@ -1,8 +1,6 @@
 -- A body at a mark is true just where its condition holds at the mark's value.
-use Rattle.std.proofs.Common.{◌≡◌, ℕ, zero, suc, ◌+◌, ◌≤◌, ℤ, pos, Bool, true, false, not, Option, Some, None, List, [], ◌∷◌, refl, sym, ap, ◌∙◌, subst, inl, inr, arith, cond}
-use Rattle.std.specs.Prelude.{◌⊎◌, ◌&&◌, ◌||◌, ◌+ℤ◌, int_le, int_lt, nat_eq}
-use Rattle.std.specs.List.{list_any}
-use Rattle.tql_tree.specs.declared.table.Table.{Table}
+use Rattle.std.proofs.Common.{◌≡◌, ℕ, ℤ, pos, not, Option, Some, None, List, ◌∷◌, refl, sym, ap, ◌∙◌}
+use Rattle.std.specs.Prelude.{◌&&◌, int_le}
 use Rattle.tql_core.specs.declared.term.Var.{Var}
 use Rattle.tql_core.specs.declared.term.Term.{Term}
 use Rattle.tap_base.specs.declared.numbers.Op.TheVariants.{Lt, Le, Gt, Ge}
@@ -10,9 +8,9 @@ use Rattle.tql_core.specs.Condition.{Condition, Always, Never, Plain, NowAtLeast
 use Rattle.tql_core.specs.Row.{Row, arrival, rows_of}
 use Rattle.tap_rows.specs.declared.tables.Tables.{Tables}
 use Rattle.tap_rows.specs.Results.{visible}
-use Rattle.tql_core.specs.Values.{Env, bind, lookup, on_row, plus_to, value, both, compare}
+use Rattle.tql_core.specs.Values.{Env, bind, on_row, plus_to, value, both}
 use Rattle.tql_core.specs.Holds.{truth}
-use Rattle.time_marks.specs.Scope.{In, Scoped}
+use Rattle.time_marks.specs.Scope.{Scoped}
 use Rattle.time_marks.specs.Marks.{copy_term, arrival_term, body}
 use Rattle.time_marks.specs.Laws.{Same}
 use Rattle.time_marks.proofs.Lists.{any_same, any_visible}

@@ -1,26 +1,22 @@
 -- Where the truth of a condition changes from one second to the next.
-use Rattle.std.proofs.Common.{◌≡◌, ℕ, zero, suc, ◌+◌, ◌≤◌, ℤ, pos, Bool, true, false, not, Option, Some, None, List, [], ◌∷◌, ◌++◌, refl, sym, ap, ◌∙◌, subst, inl, inr, arith, cond}
-use Rattle.std.specs.Prelude.{◌⊎◌, ◌&&◌, ◌||◌, ◌+ℤ◌, map, int_le, int_lt, nat_eq}
-use Rattle.std.specs.List.{list_all, list_any}
+use Rattle.std.proofs.Common.{◌≡◌, ℕ, ℤ, pos, Bool, true, false, not, Option, Some, None, List, [], ◌∷◌, ◌++◌, refl, ap, ◌∙◌, inl, inr, arith}
+use Rattle.std.specs.Prelude.{◌⊎◌, ◌&&◌, ◌||◌, ◌+ℤ◌, map, int_le}
 use Rattle.std.proofs.lemmas.Bool.{cases_Bool, both_ways, and_parts, and_from, true≢false, false≢true}
 use Rattle.std.proofs.lemmas.Int.{ints}
 use Rattle.tql_tree.specs.declared.table.Table.{Table}
 use Rattle.tql_core.specs.declared.term.Var.{Var}
 use Rattle.tql_core.specs.declared.term.Term.{Term}
 use Rattle.tap_base.specs.declared.numbers.Op.TheVariants.{Le, Gt}
-use Rattle.tql_core.specs.declared.atom.Atom.{Atom}
 use Rattle.tql_core.specs.Condition.{Condition, Always, Never, Plain, NowAtLeast, NowBefore, All, Either, Not, Exists}
-use Rattle.tql_core.specs.Row.{Row, arrival, date, rows_of}
+use Rattle.tql_core.specs.Row.{Row, arrival, rows_of}
 use Rattle.tap_rows.specs.declared.tables.Tables.{Tables}
 use Rattle.tap_rows.specs.Results.{visible}
-use Rattle.tql_core.specs.Values.{Bound, Env, bind, lookup, on_row, base_value, plus_to, value, both, compare, true_atom}
+use Rattle.tql_core.specs.Values.{Env, bind, on_row, plus_to, value, both, true_atom}
 use Rattle.tql_core.specs.Holds.{truth}
 use Rattle.time_marks.specs.Scope.{In, Scoped}
-use Rattle.time_marks.specs.declared.mark.Step.{Step}
 use Rattle.time_marks.specs.declared.mark.Mark.{Mark}
-use Rattle.time_marks.specs.Marks.{copied, copy, copy_term, copy_atom, guards_of, arrival_term, step_of, after, mark_if, marks}
-use Rattle.time_marks.specs.Probes.{guards_true}
-use Rattle.time_marks.specs.Laws.{Keeps, Along, Crossed}
+use Rattle.time_marks.specs.Marks.{copy, copy_term, arrival_term, step_of, after, mark_if, marks}
+use Rattle.time_marks.specs.Laws.{Keeps, Crossed}
 use Rattle.time_marks.proofs.Lists.{in_map, in_left, in_right, visible_in, visible_none}
 use Rattle.time_marks.proofs.Seconds.{reached, still, passed, not_back}
 use Rattle.time_marks.proofs.Envs.{keeps_bind, keeps_unbind, bind_same, value_copy, guards_hold}

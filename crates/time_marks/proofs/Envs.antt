@@ -1,8 +1,8 @@
 -- Environments that agree on the variables in scope, and those of path copies.
-use Rattle.std.proofs.Common.{◌≡◌, ℕ, zero, suc, ◌+◌, ◌≤◌, ℤ, pos, Bool, true, false, not, Option, Some, None, List, [], ◌∷◌, ◌++◌, refl, sym, ap, ◌∙◌, subst, inl, inr, arith, cond}
-use Rattle.std.specs.Prelude.{◌⊎◌, ◌&&◌, ◌+ℤ◌, map, int_le, nat_eq}
+use Rattle.std.proofs.Common.{◌≡◌, ℕ, zero, suc, ◌≤◌, ℤ, true, Some, List, [], ◌∷◌, ◌++◌, refl, sym, ap, ◌∙◌, subst, inl, inr, arith}
+use Rattle.std.specs.Prelude.{◌+ℤ◌, map}
 use Rattle.std.specs.List.{list_all}
-use Rattle.std.proofs.lemmas.Bool.{cases_eq, eq-eqb, ne_eqb, and_parts, and_from}
+use Rattle.std.proofs.lemmas.Bool.{cases_eq, eq-eqb, ne_eqb, and_parts}
 use Rattle.tql_core.specs.declared.term.Var.{Var}
 use Rattle.tql_core.specs.declared.term.Base.{Base}
 use Rattle.tql_core.specs.declared.term.Base.TheVariants.{Arrival, Date, Fixed, ArrivalDay, DateDay}
@@ -13,10 +13,10 @@ use Rattle.tql_core.specs.declared.atom.Atom.{Atom}
 use Rattle.tql_core.specs.declared.atom.Atom.TheVariants.{Numbers, Texts, Times, Has}
 use Rattle.tql_core.specs.declared.atom.TextExpr.{TextExpr}
 use Rattle.tql_core.specs.declared.atom.TextExpr.TheVariants as X
-use Rattle.tql_core.specs.Condition.{Condition, Always, Never, Plain, NowAtLeast, NowBefore, All, Either, Not, Exists}
+use Rattle.tql_core.specs.Condition.{Condition, Plain, All}
 use Rattle.tql_core.specs.Row.{Row, arrival, date}
 use Rattle.tap_rows.specs.declared.tables.Tables.{Tables}
-use Rattle.tql_core.specs.Values.{Bound, Env, bind, lookup, on_row, up, day_of, base_value, plus_to, value, field, number, text_field, text, list_field, has, both, both_texts, true_atom}
+use Rattle.tql_core.specs.Values.{Env, bind, lookup, on_row, up, day_of, base_value, plus_to, value, field, number, text_field, text, true_atom}
 use Rattle.tql_core.specs.Holds.{truth}
 use Rattle.time_marks.specs.Scope.{In, BaseIn, NumIn, TextIn, AtomIn, Scoped}
 use Rattle.time_marks.specs.Marks.{copied, copy, copy_base, copy_term, copy_number, copy_text, copy_atom, guards_of}

@@ -1,6 +1,5 @@
 -- A condition in scope names variables up to 5.
-use Rattle.std.proofs.Common.{◌≡◌, ℕ, ◌≤◌, List, [], ◌∷◌, inl, inr, arith}
-use Rattle.tql_core.specs.declared.term.Var.{Var}
+use Rattle.std.proofs.Common.{ℕ, ◌≤◌, List, [], ◌∷◌, inl, inr, arith}
 use Rattle.tql_core.specs.declared.term.Base.{Base}
 use Rattle.tql_core.specs.declared.term.Base.TheVariants.{Arrival, Date, Fixed, ArrivalDay, DateDay}
 use Rattle.tql_core.specs.declared.atom.NumExpr.{NumExpr}

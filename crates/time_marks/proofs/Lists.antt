@@ -1,10 +1,8 @@
 -- Lists, tests over them, and the visible rows.
-use Rattle.std.proofs.Common.{◌≡◌, ℤ, Bool, true, false, not, List, [], ◌∷◌, ◌++◌, refl, sym, ap, ◌∙◌, subst, inl, inr, arith}
-use Rattle.std.specs.Prelude.{◌⊎◌, ◌&&◌, ◌||◌, map, int_le, cond}
+use Rattle.std.proofs.Common.{◌≡◌, ℤ, Bool, true, false, List, [], ◌∷◌, ◌++◌, refl, sym, ap, ◌∙◌, inl, inr}
+use Rattle.std.specs.Prelude.{◌⊎◌, ◌&&◌, ◌||◌, map, int_le}
 use Rattle.std.specs.List.{list_any, list_all, filter}
-use Rattle.std.proofs.lemmas.Bool.{or_cases, cases_Bool, true≢false, false≢true, and_parts, both_ways}
-use Rattle.tap_rows.specs.declared.rows.Doc.{Doc}
-use Rattle.tap_rows.specs.declared.rows.Note.{Note}
+use Rattle.std.proofs.lemmas.Bool.{or_cases, cases_Bool, false≢true, and_parts, both_ways}
 use Rattle.tql_tree.specs.declared.table.Table.{Table}
 use Rattle.tql_tree.specs.declared.table.Table.TheVariants.{Docs, Notes}
 use Rattle.tql_core.specs.Row.{Row, OfDoc, OfNote, arrival, rows_of}

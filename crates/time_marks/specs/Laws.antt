@@ -1,12 +1,11 @@
 -- What is proved of marks and bodies.
 use Rattle.std.specs.Prelude.{◌≡◌, ℕ, ℤ, pos, ◌+ℤ◌, Bool, true, not, Some, List, [], ◌∷◌, int_le}
-use Rattle.std.specs.List.{list_all}
 use Rattle.tap_rows.specs.declared.tables.Tables.{Tables}
 use Rattle.tap_rows.specs.Results.{visible}
 use Rattle.tql_core.specs.declared.term.Term.{Term}
 use Rattle.tql_core.specs.Condition.{Condition}
 use Rattle.tql_core.specs.Row.{Row, arrival, rows_of}
-use Rattle.tql_core.specs.Values.{Env, bind, lookup, value, true_atom}
+use Rattle.tql_core.specs.Values.{Env, bind, lookup, value}
 use Rattle.tql_core.specs.Holds.{truth}
 use Rattle.time_marks.specs.declared.mark.Step.{Step}
 use Rattle.time_marks.specs.declared.mark.Mark.{Mark}

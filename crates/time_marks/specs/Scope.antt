@@ -1,9 +1,7 @@
 -- Which variables a condition may name, and where.
 use Rattle.std.specs.Prelude.{◌≡◌, ℕ, ◌≤◌, ◌⊎◌, List, [], ◌∷◌}
-use Rattle.tql_core.specs.declared.term.Var.{Var}
 use Rattle.tql_core.specs.declared.term.Base.{Base}
 use Rattle.tql_core.specs.declared.term.Base.TheVariants.{Arrival, Date, Fixed, ArrivalDay, DateDay}
-use Rattle.tql_core.specs.declared.term.Term.{Term}
 use Rattle.tql_core.specs.declared.atom.NumExpr.{NumExpr}
 use Rattle.tql_core.specs.declared.atom.NumExpr.TheVariants.{Literal, Field}
 use Rattle.tql_core.specs.declared.atom.Atom.{Atom}
