@@ -1,6 +1,6 @@
 -- A condition looks at documents and notes alone.
 use Rattle.std.proofs.Common.{◌≡◌, ap, refl, ℤ, Bool, List, [], ◌∷◌}
-use Rattle.std.specs.Prelude.{not, ◌&&◌, ◌||◌, map}
+use Rattle.std.specs.Prelude.{not, map}
 use Rattle.std.specs.List.{list_any}
 use Rattle.tap_rows.specs.declared.tables.Tables.{Tables}
 use Rattle.tap_rows.specs.Results.{visible}

@@ -3,7 +3,7 @@ use Rattle.std.specs.Prelude.{ℕ, Option, Some, None, List, [], ◌∷◌}
 use Rattle.tql_core.specs.declared.row_ref.RowRef.{RowRef}
 use Rattle.tql_core.specs.declared.row_ref.RowRef.TheVariants as R
 use Rattle.tql_core.specs.declared.env.Slot.{Slot}
-use Rattle.tql_core.specs.Values.{Bound, Env}
+use Rattle.tql_core.specs.Values.{Env}
 use Rattle.tql_core.specs.Row.{Row, OfDoc, OfNote}
 
 abbrev pub row_of : RowRef → Row

@@ -1,5 +1,4 @@
 -- Conditions without the places in memory of their parts, as every definition and law reads them.
-use Rattle.std.specs.Prelude.{ℕ}
 use Rattle.tql_tree.specs.declared.table.Table.{Table}
 use Rattle.tql_core.specs.declared.term.Var.{Var}
 use Rattle.tql_core.specs.declared.term.Term.{Term}

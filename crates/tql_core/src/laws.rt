@@ -6,5 +6,4 @@ ghost use Rattle.tql_core.specs.Holds.{truth_of};
 /// The truth of a condition at a second looks at nothing but the documents and notes that arrived by then.
 pub fn a_condition_is_of_its_second()
     ensures { (c : Condition) → IsOfTheSecond (truth_of c) }
-{
-}
+{}

@@ -19,3 +19,6 @@ pub use row_ref::RowRef;
 pub use term::{Base, Term, Var};
 pub use timeless::Timeless;
 pub use values::value;
+
+#[cfg(test)]
+mod tests;

@@ -1,0 +1,13 @@
+-- The probes of a list of marks, one mark after another.
+use Rattle.std.proofs.Common.{◌≡◌, ℕ, ◌<◌, ◌+◌, length, take, get_or, List, [], ◌∷◌, ◌++◌, refl, sym, ap, ◌∙◌}
+use Rattle.std.specs.Prelude.{map}
+use Rattle.std.specs.List.{filter}
+use Rattle.std.proofs.lemmas.List.{map-append, append_assoc}
+use Rattle.std.proofs.lemmas.List.Elements.{filter-append}
+use Rattle.tql_core.specs.Condition.{Condition}
+use Rattle.time_marks.specs.declared.mark.Mark.{Mark}
+use Rattle.time_marks.specs.Probes.{Probe}
+use Rattle.monotone_rewrite.specs.Query.{probe_of, fold_probe, can_find}
+
+abbrev pub probes_for : Condition → List Mark → List Probe
+probes_for c ms = filter can_find (map fold_probe (map (probe_of c) ms))

@@ -1,0 +1,201 @@
+-- The folded window query, and its distinct probes, find the same.
+use Rattle.std.proofs.Common.{◌≡◌, ℕ, zero, suc, ◌+◌, ◌≤◌, ℤ, pos, negsuc, Bool, true, false, not, Option, Some, None, List, [], ◌∷◌, ◌++◌, refl, sym, ap, ◌∙◌, subst, inl, inr, arith, cond}
+use Rattle.std.specs.Prelude.{◌⊎◌, ◌&&◌, ◌||◌, ◌+ℤ◌, ◌≤ℤ◌, ◌<ℤ◌, map, int_le, int_lt, nat_eq, is_some}
+use Rattle.std.specs.List.{list_any, list_all, filter, filter_map}
+use Rattle.std.specs.Ordering.{int_eq}
+use Rattle.std.proofs.lemmas.Bool.{not-false, cases_Bool, cases_eq, both_ways, and_parts, and_from, or_cases, true≢false, false≢true, eqb-true}
+use Rattle.std.proofs.lemmas.Bool.Decides.{Decides-int_eq}
+use Rattle.std.proofs.lemmas.Int.{ints}
+use Rattle.tap_rows.specs.declared.rows.Doc.{Doc}
+use Rattle.tql_tree.specs.declared.table.Table.{Table}
+use Rattle.tql_tree.specs.declared.table.Table.TheVariants.{Docs}
+use Rattle.tql_core.specs.declared.term.Var.{Var}
+use Rattle.tql_core.specs.declared.term.Base.{Base}
+use Rattle.tql_core.specs.declared.term.Base.TheVariants.{Arrival, Date, Fixed, ArrivalDay, DateDay}
+use Rattle.tql_core.specs.declared.term.Term.{Term}
+use Rattle.tap_base.specs.declared.numbers.Op.{Op}
+use Rattle.tap_base.specs.declared.numbers.Op.TheVariants.{Eq, Ne, Lt, Le, Gt, Ge}
+use Rattle.tql_core.specs.declared.atom.NumExpr.{NumExpr}
+use Rattle.tql_core.specs.declared.atom.NumExpr.TheVariants.{Literal, Field}
+use Rattle.tql_core.specs.declared.atom.Atom.{Atom}
+use Rattle.tql_core.specs.declared.atom.Atom.TheVariants.{Numbers, Times}
+use Rattle.tql_core.specs.Condition.{Condition, Always, Never, Plain, NowAtLeast, NowBefore, All, Either, Not, Exists}
+use Rattle.tql_core.specs.Row.{Row, OfDoc, arrival, date, rows_of}
+use Rattle.tap_rows.specs.declared.tables.Tables.{Tables}
+use Rattle.tap_rows.specs.Results.{visible, hit_of, in_order}
+use Rattle.tql_core.specs.Values.{Env, bind, lookup, on_row, up, day_of, base_value, plus_to, value, both, compare, true_atom}
+use Rattle.tql_core.specs.Holds.{truth, asked_of}
+use Rattle.time_marks.specs.Scope.{In, BaseIn, NumIn, AtomIn, Scoped, IsQuery}
+use Rattle.time_marks.specs.declared.mark.Step.{Step}
+use Rattle.time_marks.specs.declared.mark.Mark.{Mark}
+use Rattle.time_marks.specs.Marks.{copied, copy, copy_base, copy_term, arrival_term, step_of, after, mark_if, marks, m, marks_from, rising_from, body}
+use Rattle.monotone_rewrite.specs.Folding.{Known, Yes, No, Open, known, is_no, constant, same_base, is_there, fold_atom, fold_all, fold_either, fold_not, fold_exists, fold}
+use Rattle.time_marks.specs.Probes.{Probe, least, choices, some_rows, is_value, guards_true, come_by, fits, finds, found}
+use Rattle.time_marks.specs.declared.window.Window.{Window}
+use Rattle.monotone_rewrite.specs.Query.{distinct, distinct_onto, fold_probe, can_find, probe_of, unfolded, window}
+use Rattle.time_marks.proofs.Lists.{any_same, any_in, in_any, map_in, append_in}
+use Rattle.time_marks.proofs.Envs.{bind_same, bind_other, base_stays}
+use Rattle.monotone_rewrite.proofs.Finding.{Apart, Fine, fine, fine_from, is_value_of}
+use Rattle.monotone_rewrite.proofs.Folds.{Bounds, body_named, fold_truth, no_is, is_no_is, same_base_is}
+use Rattle.monotone_rewrite.specs.Laws.{IsUnionOf, WindowIsUnion, DistinctIsUnion}
+use Rattle.time_marks.proofs.Asked.{hits, first, count_between}
+use Rattle.monotone_rewrite.proofs.Union.{unfolded_is_union, hits_same}
+use Rattle.tap_rows.specs.Seconds.{first_from}
+use Rattle.std.proofs.lemmas.List.Folds.{list_any-append}
+
+and_last : (g v c t t' : Bool) → (v ≡ true → t ≡ t') → (g && v && c && t) ≡ (g && v && c && t')
+and_last true true true t t' h = h refl
+and_last true true false t t' h = refl
+and_last true false c t t' h = refl
+and_last false v c t t' h = refl
+
+and_never : (x t : Bool) → t ≡ false → (x && t) ≡ false
+and_never true t h = h
+and_never false t h = refl
+
+-- m, and the variable of the base
+abbrev at_scope : Base → List ℕ
+at_scope (Arrival v) = v.0 ∷ 0 ∷ []
+at_scope (Date v) = v.0 ∷ 0 ∷ []
+at_scope Fixed = 0 ∷ []
+at_scope (ArrivalDay v n) = v.0 ∷ 0 ∷ []
+at_scope (DateDay v n) = v.0 ∷ 0 ∷ []
+
+at_in : (b : Base) → BaseIn (at_scope b) b
+at_in (Arrival v) = inl refl
+at_in (Date v) = inl refl
+at_in Fixed = tt
+at_in (ArrivalDay v n) = inl refl
+at_in (DateDay v n) = inl refl
+
+m_in : (b : Base) (k : ℕ) → In k (0 ∷ []) → In k (at_scope b)
+m_in (Arrival v) k i = inr i
+m_in (Date v) k i = inr i
+m_in Fixed k i = i
+m_in (ArrivalDay v n) k i = inr i
+m_in (DateDay v n) k i = inr i
+
+row_there : (o : Option Row) (f : Row → Option ℤ) (z : ℤ) → on_row o f ≡ Some z → (r : Row) × (o ≡ Some r)
+row_there None f z e = absurd cc
+row_there (Some r) f z e = (r, refl)
+
+m_bound : (env : Env) (d : Doc) → lookup 0 env ≡ Some (OfDoc d) → Bounds (0 ∷ []) env
+m_bound env d h k (inl e) = (OfDoc d, subst (λ j. lookup j env ≡ Some (OfDoc d)) (sym e) h)
+m_bound env d h k (inr i) = absurd i
+
+at_bound : (b : Base) (env : Env) (z : ℤ) → base_value b env ≡ Some z → Bounds (0 ∷ []) env → Bounds (at_scope b) env
+at_bound (Arrival v) env z e h k (inl i) = let r = row_there (lookup v.0 env) (λ r. Some (arrival r)) z e in (r.0, subst (λ j. lookup j env ≡ Some r.0) (sym i) r.1)
+at_bound (Arrival v) env z e h k (inr i) = h k i
+at_bound (Date v) env z e h k (inl i) = let r = row_there (lookup v.0 env) date z e in (r.0, subst (λ j. lookup j env ≡ Some r.0) (sym i) r.1)
+at_bound (Date v) env z e h k (inr i) = h k i
+at_bound Fixed env z e h k i = h k i
+at_bound (ArrivalDay v n) env z e h k (inl i) = let r = row_there (lookup v.0 env) (λ r. Some (up (arrival r +ℤ n))) z e in (r.0, subst (λ j. lookup j env ≡ Some r.0) (sym i) r.1)
+at_bound (ArrivalDay v n) env z e h k (inr i) = h k i
+at_bound (DateDay v n) env z e h k (inl i) = let r = row_there (lookup v.0 env) (λ r. day_of n (date r)) z e in (r.0, subst (λ j. lookup j env ≡ Some r.0) (sym i) r.1)
+at_bound (DateDay v n) env z e h k (inr i) = h k i
+
+base_there : (o : Option ℤ) (n b : ℤ) → plus_to o n ≡ Some b → (z : ℤ) × (o ≡ Some z)
+base_there None n b e = absurd cc
+base_there (Some z) n b e = (z, refl)
+
+module _ (T : Tables) (d : Doc) where
+  -- two tests that agree wherever m is the document
+  some_same : (path : List Step) (env : Env) (test test' : Env → Bool) → Apart path → ((final : Env) → lookup 0 final ≡ lookup 0 env → test final ≡ test' final) → some_rows T d path env test ≡ some_rows T d path env test'
+  some_same [] env test test' a h = h env refl
+  some_same (step ∷ path) env test test' a h =
+      any_same _ _ (choices T d step) (λ r. some_same path (bind step.var r env) test test' a.1 (λ final e. h final (e ∙ bind_other 0 step.var r env (λ z. a.0 (sym z)))))
+
+  some_never : (path : List Step) (env : Env) (test : Env → Bool) → ((final : Env) → test final ≡ false) → some_rows T d path env test ≡ false
+  some_never [] env test h = h env
+  some_never (step ∷ path) env test h = any_never _ (choices T d step) (λ r. some_never path (bind step.var r env) test h)
+    where
+      any_never : (p : Row → Bool) (rs : List Row) → ((r : Row) → p r ≡ false) → list_any p rs ≡ false
+      any_never p [] h = refl
+      any_never p (r ∷ rs) h = rw (h r) (any_never p rs h)
+
+-- the probe of a mark below the first step
+abbrev probe_at : Condition → Mark → Probe
+probe_at c mark = probe_of c (after (step_of m Docs c) mark)
+
+filter_found : (test keep : Probe → Bool) → (X : List Probe) → ((p : Probe) → keep p ≡ false → test p ≡ false) → list_any test (filter keep X) ≡ list_any test X
+filter_found test keep [] h = refl
+filter_found test keep (p ∷ ps) h =
+    elim (cases_Bool (keep p)) [
+      | inl y ↦ rw y (ap (λ z. test p || z) (filter_found test keep ps h))
+      | inr n ↦ rw (n, h p n) (filter_found test keep ps h)
+    ]
+
+map_found : (test : Probe → Bool) (f : Probe → Probe) (X : List Probe) → ((p : Probe) → In p X → test (f p) ≡ test p) → list_any test (map f X) ≡ list_any test X
+map_found test f [] h = refl
+map_found test f (p ∷ ps) h = rw (h p (inl refl), map_found test f ps (λ p i. h p (inr i)))
+
+module _ (c : Condition) (a : ℤ) (q : IsQuery c) (T : Tables) (d : Doc) (b : ℤ) where
+  -- a probe finds the same after folding
+  fold_finds : (mark : Mark) → Fine mark → finds T d b (fold_probe (probe_at c mark)) ≡ finds T d b (probe_at c mark)
+  fold_finds mark f =
+      ap (λ y. y || false) (some_same T d mark.path (asked_of d) (fits (fold_probe (probe_at c mark)) T b) (fits (probe_at c mark) T b) f.apart (λ final e.
+      and_last (guards_true (probe_at c mark).path final) (is_value (value mark.at final) b) (come_by b final) _ _ (λ y.
+      let v = subst (λ t. value t final ≡ Some b) f.is_copy (is_value_of (value mark.at final) b y) in
+      let z = base_there (base_value (copy_base f.term.base) final) f.term.plus b v in
+      subst (λ t. truth T (pos 0) (fold t (body c t)) final ≡ truth T (pos 0) (body c t) final) (sym f.is_copy)
+      (fold_truth T (pos 0) f.term (body c (copy_term f.term)) (at_scope (copy_base f.term.base)) final
+      (body_named (copy_term f.term) c (0 ∷ []) (at_scope (copy_base f.term.base)) q (m_in (copy_base f.term.base)) (at_in (copy_base f.term.base)))
+      (at_bound (copy_base f.term.base) final z.0 z.1 (m_bound final d e)) z))))
+
+  -- a probe whose body is False finds nothing
+  never_finds : (p : Probe) → can_find p ≡ false → finds T d b p ≡ false
+  never_finds p h =
+      let never : p.body ≡ Never = no_is p.body (is_no_is (known p.body) (not-false (is_no (known p.body)) h)) in
+      some_never T d p.path [] (fits p T b) (λ final. and_never _ _ (ap (λ x. truth T (pos 0) x final) never))
+
+  pub window_found : found (window c a) T d b ≡ found (unfolded c a) T d b
+  window_found =
+      filter_found (finds T d b) can_find (map fold_probe (unfolded c a)) never_finds
+      ∙ map_found (finds T d b) fold_probe (unfolded c a) (λ p i.
+      let k = map_in (probe_of c) (rising_from c a) p i in
+      let l = map_in (after (step_of m Docs c)) (marks_from c a) k.0 k.1 in
+      let f = fine_from c a q l.0 l.1 in
+      subst (λ r. finds T d b (fold_probe r) ≡ finds T d b r) (sym (k.2 ∙ ap (probe_of c) l.2)) (fold_finds l.0 f))
+
+first_from_same : (p q : ℤ → Bool) (n : ℕ) (a : ℤ) → ((x : ℤ) → p x ≡ q x) → first_from p n a ≡ first_from q n a
+first_from_same p q zero a h = refl
+first_from_same p q (suc n) a h = rw (h a, first_from_same p q n (a +ℤ pos 1) h)
+
+-- queries that find the same have the same meaning
+pub same_union : (c : Condition) (a : ℤ) (X Y : List Probe) → ((T : Tables) (d : Doc) (b : ℤ) → found X T d b ≡ found Y T d b) → IsUnionOf c a Y → IsUnionOf c a X
+same_union c a X Y h u = record {
+  whole = λ T t from. ap in_order (hits_same (λ d. least X T d (record { low = a; high = t })) (λ d. least Y T d (record { low = a; high = t })) T.docs (λ d i. first_from_same (found X T d) (found Y T d) (count_between a t) a (h T d))) ∙ u.whole T t from;
+  since = λ T tau t from g b. ap in_order (hits_same (λ d. least X T d (record { low = tau; high = t })) (λ d. least Y T d (record { low = tau; high = t })) (filter (λ d. not (is_some (first c T d a tau))) T.docs) (λ d i. first_from_same (found X T d) (found Y T d) (count_between tau t) tau (h T d))) ∙ u.since T tau t from g b;
+}
+
+pub window_is_union : WindowIsUnion
+window_is_union c a q st = same_union c a (window c a) (unfolded c a) (window_found c a q) (unfolded_is_union c a q st)
+
+module _ (same : Probe → Probe → Bool) (sound : (p q : Probe) → same p q ≡ true → p ≡ q) (test : Probe → Bool) where
+  seen_found : (p : Probe) (seen : List Probe) → list_any (same p) seen ≡ true → test p ≡ true → list_any test seen ≡ true
+  seen_found p seen h y = let k = any_in (same p) seen h in in_any test seen k.0 k.1 (ap test (sym (sound p k.0 k.2)) ∙ y)
+
+  pub distinct_found : (kept X : List Probe) → list_any test (distinct_onto same kept X) ≡ (list_any test kept || list_any test X)
+  distinct_found kept [] = sym (or_false (list_any test kept))
+    where
+      or_false : (x : Bool) → (x || false) ≡ x
+      or_false true = refl
+      or_false false = refl
+  distinct_found kept (p ∷ ps) =
+      elim (cases_Bool (list_any (same p) kept)) [
+        | inl y ↦ rw y (distinct_found kept ps ∙ dropped (list_any test kept) (test p) (list_any test ps) (seen_found p kept y))
+        | inr n ↦ rw n (distinct_found (kept ++ p ∷ []) ps ∙ ap (λ z. z || list_any test ps) (list_any-append test kept (p ∷ [])) ∙ grouped (list_any test kept) (test p) (list_any test ps))
+      ]
+    where
+      dropped : (s t x : Bool) → (t ≡ true → s ≡ true) → (s || x) ≡ (s || (t || x))
+      dropped true t x h = refl
+      dropped false true x h = absurd (false≢true (h refl))
+      dropped false false x h = refl
+
+      grouped : (s t x : Bool) → ((s || (t || false)) || x) ≡ (s || (t || x))
+      grouped true t x = refl
+      grouped false true x = refl
+      grouped false false x = refl
+
+pub distinct_is_union : DistinctIsUnion
+distinct_is_union same sound c a q st = same_union c a (distinct same (window c a)) (window c a) (λ T d b. distinct_found same sound (finds T d b) [] (window c a)) (window_is_union c a q st)

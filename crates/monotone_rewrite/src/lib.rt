@@ -1,0 +1,11 @@
+//! The window query of a condition, and its laws.
+#![tactic(auto)]
+
+mod folded;
+pub mod laws;
+mod window_query;
+
+pub use window_query::{monotone, monotone_from};
+
+#[cfg(test)]
+mod tests;

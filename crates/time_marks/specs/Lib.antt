@@ -1,0 +1,6 @@
+pub mod Scope
+pub mod Marks
+pub mod Probes
+pub mod Windows
+pub mod Laws
+pub mod Views

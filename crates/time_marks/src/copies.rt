@@ -1,0 +1,84 @@
+ghost use Rattle.std.specs.Prelude.{◌≡◌, ◌≤◌, IfOk};
+ghost use Rattle.time_marks.specs.Marks.{copy, copy_base, copy_term, copy_number, copy_text, copy_atom, arrival_term};
+ghost use Rattle.time_marks.specs.Scope.{BaseFits, NumFits, TextFits, AtomFits};
+
+use tap_base::Memory;
+use tql_core::{Atom, Base, NumExpr, Term, TextExpr, Var};
+
+// The variable's copy in a path.
+pub(crate) fn copy(var: Var) -> Var
+    requires { var.0 ≤ 5 }
+    ensures { result ≡ copy var }
+{
+    if var.0 == 0 { Var(0) } else { Var(var.0 + 8) }
+}
+
+// The arrival of a variable's row.
+pub(crate) fn arrival_term(var: Var) -> Term
+    ensures { result ≡ arrival_term var }
+{
+    Term {
+        base: Base::Arrival(var),
+        plus: 0,
+    }
+}
+
+// The base, of the path copies.
+fn copy_base(base: Base) -> Base
+    requires { BaseFits base }
+    ensures { result ≡ copy_base base }
+{
+    match base {
+        Base::Arrival(v) => Base::Arrival(copy(v)),
+        Base::Date(v) => Base::Date(copy(v)),
+        Base::Fixed => Base::Fixed,
+        Base::ArrivalDay(v, n) => Base::ArrivalDay(copy(v), n),
+        Base::DateDay(v, n) => Base::DateDay(copy(v), n),
+    }
+}
+
+// The term, of the path copies.
+pub(crate) fn copy_term(term: &Term) -> Term
+    requires { BaseFits term.now.base }
+    ensures { result ≡ copy_term term.now }
+{
+    Term {
+        base: copy_base(term.base),
+        plus: term.plus,
+    }
+}
+
+// The number, of the path copies.
+fn copy_number(x: NumExpr) -> NumExpr
+    requires { NumFits x }
+    ensures { result ≡ copy_number x }
+{
+    match x {
+        NumExpr::Literal(n) => NumExpr::Literal(n),
+        NumExpr::Field(v, f) => NumExpr::Field(copy(v), f),
+    }
+}
+
+// The text, of the path copies.
+fn copy_text(x: &TextExpr) -> Result<TextExpr, Memory>
+    requires { TextFits x.now }
+    ensures { IfOk result (λ r. r ≡ copy_text x.now) }
+{
+    match x {
+        TextExpr::Literal(t) => Ok(TextExpr::Literal(t.copy()?)),
+        TextExpr::Field(v, f) => Ok(TextExpr::Field(copy(*v), *f)),
+    }
+}
+
+// The atom, of the path copies.
+pub(crate) fn copy_atom(atom: &Atom) -> Result<Atom, Memory>
+    requires { AtomFits atom.now }
+    ensures { IfOk result (λ r. r ≡ copy_atom atom.now) }
+{
+    match atom {
+        Atom::Numbers(x, op, y) => Ok(Atom::Numbers(copy_number(*x), *op, copy_number(*y))),
+        Atom::Texts(x, op, y) => Ok(Atom::Texts(copy_text(x)?, *op, copy_text(y)?)),
+        Atom::Times(x, op, y) => Ok(Atom::Times(copy_term(x), *op, copy_term(y))),
+        Atom::Has(v, f, y) => Ok(Atom::Has(copy(*v), *f, copy_text(y)?)),
+    }
+}

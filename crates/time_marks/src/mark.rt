@@ -1,0 +1,38 @@
+ghost use Rattle.std.specs.Prelude.{◌≡◌, IfOk};
+
+use tap_base::{Copied, Memory, Rows};
+use tql_core::{Atom, Term, Var};
+use tql_tree::Table;
+
+/// A row to be found: its variable, its table, and atoms that it makes true.
+#[derive(Drop)]
+pub struct Step {
+    pub var: Var,
+    pub table: Table,
+    pub guards: Rows<Atom>,
+}
+
+/// A second at which a condition may change, for each choice of rows for the path.
+#[derive(Drop)]
+pub struct Mark {
+    pub path: Rows<Step>,
+    pub at: Term,
+}
+
+impl Copied for Step {
+    fn copied(&self) -> Result<Step, Memory> {
+        let guards = self.guards.copy()?;
+        Ok(Step {
+            var: self.var,
+            table: self.table,
+            guards,
+        })
+    }
+}
+
+impl Copied for Mark {
+    fn copied(&self) -> Result<Mark, Memory> {
+        let path = self.path.copy()?;
+        Ok(Mark { path, at: self.at })
+    }
+}
