@@ -125,7 +125,7 @@ decimal_spelled m fits = let lt : m < 2 ^ 64 = omega arith in number_spelled (de
 number_key : (m : ℕ) → key (W.Number (pos m)) ≡ K.Number
 number_key m = let e : int_lt (pos m) (pos 0) ≡ false = grind (arith, ints) in rw e refl
 
-is_key : (t : Token) (k : Kind) (u : Key) → t.kind ≡ k → key k ≡ u → key t.kind ≡ u
+pub is_key : (t : Token) (k : Kind) (u : Key) → t.kind ≡ k → key k ≡ u → key t.kind ≡ u
 is_key t k u e f = ap key e ∙ f
 
 abbrev word_of_unit : TimeUnit → List ℕ
@@ -246,7 +246,7 @@ module _ (Q : List Token → Type 0) where
     after = b.after;
   }
 
-name_key : (k : Key) → is_name k ≡ true → k ≡ K.Name
+pub name_key : (k : Key) → is_name k ≡ true → k ≡ K.Name
 name_key K.Name e = refl
 name_key _ e = absurd (false≢true e)
 
@@ -258,14 +258,14 @@ pub expr_back : (e : Expr) → GoodExpr e → (rest : List ℕ) (Q : List Token 
 expr_back (E.Number p (pos m)) g rest Q c l = turn _ _ _ (made_number Q p m) (put (decimal m) rest (W.Number (pos m)) Q (decimal_spelled m g) (closes_ends (W.Number (pos m)) rest c) l)
 expr_back (E.Number p (negsuc m)) g rest Q c l = turn _ _ _ (made_negative Q p m) (put (45 ∷ []) (decimal (suc m) ++ rest) (W.Mark S.Minus) (Next (W.Number (pos (suc m))) Q) (short_is 45 S.Minus refl) (minus_ends _) (put (decimal (suc m)) rest (W.Number (pos (suc m))) Q (decimal_spelled (suc m) g) (closes_ends (W.Number (pos (suc m))) rest c) l))
 expr_back (E.Str p content) g rest Q c l = turn _ _ _ (made_text Q p content) (put (text_of_bytes content) rest (W.Str content) Q (text_spelled content) (closes_ends (W.Str content) rest c) l)
-expr_back (E.Now p s) g rest Q c l = turn _ _ _ (made_now Q p s) (put (codes "NOW") (text_of_shift s ++ rest) (W.Word (codes "now")) (ShiftBack s Q) (word_is 78 (codes "OW") refl refl) (closes_ends (W.Word (codes "now")) _ (shift_closes s rest c)) (shift_back s g rest Q c l))
-expr_back (E.Today p s) g rest Q c l = turn _ _ _ (made_today Q p s) (put (codes "TODAY") (text_of_shift s ++ rest) (W.Word (codes "today")) (ShiftBack s Q) (word_is 84 (codes "ODAY") refl refl) (closes_ends (W.Word (codes "today")) _ (shift_closes s rest c)) (shift_back s g rest Q c l))
+expr_back (E.Now p s) g rest Q c l = turn _ _ _ (made_now Q p s) (put (codes "NOW") (text_of_shift s ++ rest) (W.Word (codes "now")) (ShiftBack s Q) (word_is 78 (codes "OW") refl refl) (closes_ends (W.Word (codes "now")) (text_of_shift s ++ rest) (shift_closes s rest c)) (shift_back s g rest Q c l))
+expr_back (E.Today p s) g rest Q c l = turn _ _ _ (made_today Q p s) (put (codes "TODAY") (text_of_shift s ++ rest) (W.Word (codes "today")) (ShiftBack s Q) (word_is 84 (codes "ODAY") refl refl) (closes_ends (W.Word (codes "today")) (text_of_shift s ++ rest) (shift_closes s rest c)) (shift_back s g rest Q c l))
 expr_back (E.Moment p content s) g rest Q c l =
     same_text _ (codes "TIME " ++ (text_of_bytes content ++ (text_of_shift s ++ rest))) _ (ap (λ x. codes "TIME " ++ x) (append_assoc (text_of_bytes content) (text_of_shift s) rest))
       (turn _ _ _ (made_moment Q p content s) (put (codes "TIME") (32 ∷ (text_of_bytes content ++ (text_of_shift s ++ rest))) (W.Word (codes "time")) (Next (W.Str content) (ShiftBack s Q)) (word_is 84 (codes "IME") refl refl) refl
-        (skip 32 _ _ refl (put (text_of_bytes content) (text_of_shift s ++ rest) (W.Str content) (ShiftBack s Q) (text_spelled content) (closes_ends (W.Str content) _ (shift_closes s rest c)) (shift_back s g rest Q c l)))))
+        (skip 32 _ _ refl (put (text_of_bytes content) (text_of_shift s ++ rest) (W.Str content) (ShiftBack s Q) (text_spelled content) (closes_ends (W.Str content) (text_of_shift s ++ rest) (shift_closes s rest c)) (shift_back s g rest Q c l)))))
 expr_back (E.Field var p name q s) g rest Q c l =
     let x = text_of_shift s ++ rest in
     nest ((var ++ (46 ∷ [])) ++ name) (text_of_shift s) rest _ (nest (var ++ (46 ∷ [])) name x _ (nest var (46 ∷ []) (name ++ x) _
       (turn _ _ _ (made_field Q var p name q s (name_key (word_key var) g.0.1)) (put var (46 ∷ (name ++ x)) (W.Word var) (Next (W.Mark S.Dot) (Next (W.Word name) (ShiftBack s Q))) g.0.0 refl
-        (put (46 ∷ []) (name ++ x) (W.Mark S.Dot) (Next (W.Word name) (ShiftBack s Q)) (short_is 46 S.Dot refl) (dot_ends _) (put name x (W.Word name) (ShiftBack s Q) g.1 (closes_ends (W.Word name) _ (shift_closes s rest c)) (shift_back s g.2 rest Q c l)))))))
+        (put (46 ∷ []) (name ++ x) (W.Mark S.Dot) (Next (W.Word name) (ShiftBack s Q)) (short_is 46 S.Dot refl) (dot_ends _) (put name x (W.Word name) (ShiftBack s Q) g.1 (closes_ends (W.Word name) (text_of_shift s ++ rest) (shift_closes s rest c)) (shift_back s g.2 rest Q c l)))))))
