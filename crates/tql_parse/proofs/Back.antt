@@ -1,12 +1,12 @@
 -- The canonical text of an expression reads back.
-use Rattle.std.proofs.Common.{◌≡◌, ◌∙◌, sym, ap, refl, subst, arith, ℕ, zero, suc, ℤ, pos, negsuc, List, [], ◌∷◌, ◌++◌, ◌+◌, ◌≤◌, ◌<◌, ◌-ℤ◌, ◌^◌, ◌%◌, ◌/◌, length, codes, append_assoc, Bool, true, false, Option, Some, None, if◌then◌else◌}
-use Rattle.std.specs.Prelude.{int_lt, ◌||◌, ◌==◌, not}
-use Rattle.std.specs.List.{list_all, flat_map}
+use Rattle.std.proofs.Common.{◌≡◌, ◌∙◌, ap, refl, subst, arith, ℕ, suc, ℤ, pos, negsuc, List, [], ◌∷◌, ◌++◌, ◌+◌, ◌≤◌, ◌<◌, ◌-ℤ◌, ◌^◌, ◌%◌, length, codes, append_assoc, Bool, true, false, Option, Some, None}
+use Rattle.std.specs.Prelude.{int_lt, ◌||◌, ◌==◌}
+use Rattle.std.specs.List.{list_all}
 use Rattle.std.specs.Fmt.{decimal, signed_decimal}
 use Rattle.std.specs.Str.Parse.{digits_value}
 use Rattle.std.proofs.lemmas.Fmt.{decimal_by_steps, decimal_is_IsNumeral, decimal_nonempty}
 use Rattle.std.proofs.lemmas.Int.{ints}
-use Rattle.std.proofs.lemmas.Bool.{true≢false, false≢true, and_parts}
+use Rattle.std.proofs.lemmas.Bool.{false≢true, and_parts}
 use Rattle.std.proofs.lemmas.Bool.Decides.{nat_tests}
 use Rattle.tql_lex.specs.declared.sign.Sign.TheVariants as S
 use Rattle.tql_lex.specs.declared.kind.Kind.{Kind}
@@ -14,7 +14,7 @@ use Rattle.tql_lex.specs.declared.kind.Kind.TheVariants as W
 use Rattle.tql_lex.specs.declared.token.Token.{Token}
 use Rattle.tap_base.specs.declared.numbers.Op.TheVariants as P
 use Rattle.tql_lex.specs.Tokens.{is_blank, is_digit, is_of_word, most, token}
-use Rattle.tql_lex.specs.Spelling.{between_quotes, Spells, word_is, number_is, text_is, short_is, long_is, goes_on, ends_before, AreTokens, none as no_token, blank, one}
+use Rattle.tql_lex.specs.Spelling.{Spells, word_is, number_is, text_is, short_is, ends_before, AreTokens, blank, one}
 use Rattle.tql_tree.specs.declared.shift.Unit.{Unit as TimeUnit}
 use Rattle.tql_tree.specs.declared.shift.Unit.TheVariants.{Seconds, Minutes, Hours, Days}
 use Rattle.tql_tree.specs.declared.shift.Shift.{Shift}
@@ -24,9 +24,10 @@ use Rattle.tql_tree.specs.Canonical.{text_of_bytes, text_of_unit, text_of_direct
 use Rattle.tql_tree.specs.Places.{plain_shift, plain_expr}
 use Rattle.tql_parse.specs.declared.key.Key.{Key}
 use Rattle.tql_parse.specs.declared.key.Key.TheVariants as K
-use Rattle.tql_parse.specs.Keys.{key, word_key, number, bytes, is_word, is_name, is_number, is_text, is_dot, is_plain}
-use Rattle.tql_parse.specs.Grammar.{IsShift, forward, back, MayShift, none, some, IsExpr, number_is as the_number, negative, text_is as the_text, now, today, moment, field}
-use Rattle.tql_parse.proofs.Good.{IsWord, IsCount, IsLiteral, IsVar, GoodShift, GoodExpr, minus_is}
+use Rattle.tql_parse.specs.Keys.{key, word_key, number, bytes, is_word, is_name, is_number, is_text, is_dot}
+use Rattle.tql_tree.specs.Proper.{is_plain}
+use Rattle.tql_parse.specs.Grammar.{forward, back, MayShift, none, some, IsExpr, number_is as the_number, negative, text_is as the_text, now, today, moment, field}
+use Rattle.tql_parse.proofs.Good.{IsCount, GoodShift, GoodExpr, minus_is}
 
 -- wherever the text stands, it has tokens with this property
 abbrev pub Lexes : List ℕ → (List Token → Type 0) → Type 0
@@ -262,10 +263,10 @@ expr_back (E.Now p s) g rest Q c l = turn _ _ _ (made_now Q p s) (put (codes "NO
 expr_back (E.Today p s) g rest Q c l = turn _ _ _ (made_today Q p s) (put (codes "TODAY") (text_of_shift s ++ rest) (W.Word (codes "today")) (ShiftBack s Q) (word_is 84 (codes "ODAY") refl refl) (closes_ends (W.Word (codes "today")) (text_of_shift s ++ rest) (shift_closes s rest c)) (shift_back s g rest Q c l))
 expr_back (E.Moment p content s) g rest Q c l =
     same_text _ (codes "TIME " ++ (text_of_bytes content ++ (text_of_shift s ++ rest))) _ (ap (λ x. codes "TIME " ++ x) (append_assoc (text_of_bytes content) (text_of_shift s) rest))
-      (turn _ _ _ (made_moment Q p content s) (put (codes "TIME") (32 ∷ (text_of_bytes content ++ (text_of_shift s ++ rest))) (W.Word (codes "time")) (Next (W.Str content) (ShiftBack s Q)) (word_is 84 (codes "IME") refl refl) refl
-        (skip 32 _ _ refl (put (text_of_bytes content) (text_of_shift s ++ rest) (W.Str content) (ShiftBack s Q) (text_spelled content) (closes_ends (W.Str content) (text_of_shift s ++ rest) (shift_closes s rest c)) (shift_back s g rest Q c l)))))
+    (turn _ _ _ (made_moment Q p content s) (put (codes "TIME") (32 ∷ (text_of_bytes content ++ (text_of_shift s ++ rest))) (W.Word (codes "time")) (Next (W.Str content) (ShiftBack s Q)) (word_is 84 (codes "IME") refl refl) refl
+    (skip 32 _ _ refl (put (text_of_bytes content) (text_of_shift s ++ rest) (W.Str content) (ShiftBack s Q) (text_spelled content) (closes_ends (W.Str content) (text_of_shift s ++ rest) (shift_closes s rest c)) (shift_back s g rest Q c l)))))
 expr_back (E.Field var p name q s) g rest Q c l =
     let x = text_of_shift s ++ rest in
     nest ((var ++ (46 ∷ [])) ++ name) (text_of_shift s) rest _ (nest (var ++ (46 ∷ [])) name x _ (nest var (46 ∷ []) (name ++ x) _
-      (turn _ _ _ (made_field Q var p name q s (name_key (word_key var) g.0.1)) (put var (46 ∷ (name ++ x)) (W.Word var) (Next (W.Mark S.Dot) (Next (W.Word name) (ShiftBack s Q))) g.0.0 refl
-        (put (46 ∷ []) (name ++ x) (W.Mark S.Dot) (Next (W.Word name) (ShiftBack s Q)) (short_is 46 S.Dot refl) (dot_ends _) (put name x (W.Word name) (ShiftBack s Q) g.1 (closes_ends (W.Word name) (text_of_shift s ++ rest) (shift_closes s rest c)) (shift_back s g.2 rest Q c l)))))))
+    (turn _ _ _ (made_field Q var p name q s (name_key (word_key var) g.0.1)) (put var (46 ∷ (name ++ x)) (W.Word var) (Next (W.Mark S.Dot) (Next (W.Word name) (ShiftBack s Q))) g.0.0 refl
+    (put (46 ∷ []) (name ++ x) (W.Mark S.Dot) (Next (W.Word name) (ShiftBack s Q)) (short_is 46 S.Dot refl) (dot_ends _) (put name x (W.Word name) (ShiftBack s Q) g.1 (closes_ends (W.Word name) (text_of_shift s ++ rest) (shift_closes s rest c)) (shift_back s g.2 rest Q c l)))))))

@@ -1,12 +1,11 @@
 -- The canonical text of a query reads back.
-use Rattle.std.proofs.Common.{◌≡◌, ◌∙◌, sym, ap, refl, subst, arith, ℕ, zero, suc, pos, List, [], ◌∷◌, ◌++◌, ◌≤◌, ◌<◌, length, codes, append_assoc, Bool, true, false, Ok, if◌then◌else◌}
+use Rattle.std.proofs.Common.{◌≡◌, ◌∙◌, ap, refl, subst, arith, ℕ, zero, suc, List, [], ◌∷◌, ◌++◌, ◌≤◌, length, codes, Bool, true, false, Ok, if◌then◌else◌}
 use Rattle.std.specs.Prelude.{nat_lt, nat_le}
 use Rattle.std.proofs.lemmas.List.{append-nil}
 use Rattle.std.proofs.lemmas.Bool.Decides.{nat_tests}
 use Rattle.tap_base.specs.declared.numbers.Op.{Op}
 use Rattle.tap_base.specs.declared.numbers.Op.TheVariants as P
 use Rattle.tql_lex.specs.declared.sign.Sign.TheVariants as S
-use Rattle.tql_lex.specs.declared.kind.Kind.{Kind}
 use Rattle.tql_lex.specs.declared.kind.Kind.TheVariants as W
 use Rattle.tql_lex.specs.declared.token.Token.{Token}
 use Rattle.tql_lex.specs.Tokens.{lexed}
@@ -19,13 +18,13 @@ use Rattle.tql_tree.specs.declared.expr.Expr.{Expr}
 use Rattle.tql_tree.specs.Syntax.{Syntax, True, False, Or, And, Not, Exists, Compare, Has}
 use Rattle.tql_tree.specs.Canonical.{text_of_table, text_of_op, text_of_expr, strength, within, canonical}
 use Rattle.tql_tree.specs.Places.{plain_expr, plain}
-use Rattle.tql_parse.specs.declared.key.Key.{Key}
 use Rattle.tql_parse.specs.declared.key.Key.TheVariants as K
-use Rattle.tql_parse.specs.Keys.{key, word_key, bytes, is_name, is_and, is_or, is_where, is_open, is_close, is_colon, is_plain}
+use Rattle.tql_parse.specs.Keys.{word_key, bytes, is_name, is_and, is_or, is_where, is_open, is_close, is_colon}
+use Rattle.tql_tree.specs.Proper.{is_plain}
 use Rattle.tql_parse.specs.Grammar.{IsExpr, IsTable, docs, notes, IsCompare, compare, has, Part, Cond, Conj, One, Reads, conj_alone, or_conj, unit_alone, and_unit, not_unit, group, true_is, false_is, exists_is, compare_is, IsQuery}
 use Rattle.tql_parse.specs.RoundTrip.{ReadsAs}
-use Rattle.tql_parse.proofs.Good.{IsWord, IsVar, GoodExpr, Good, AllOfText, are_of_text, reads_good}
-use Rattle.tql_parse.proofs.Back.{Lexes, Next, next, Back, put, skip, turn, same_text, nest, closes, closes_ends, open_ends, is_key, ExprBack, expr_back, name_key}
+use Rattle.tql_parse.proofs.Good.{IsVar, GoodExpr, Good, are_of_text, reads_good}
+use Rattle.tql_parse.proofs.Back.{Lexes, Next, next, Back, put, skip, turn, nest, closes, closes_ends, open_ends, is_key, ExprBack, expr_back, name_key}
 
 -- the part of the grammar that a query is without parentheses
 abbrev part_of : Syntax → Part
@@ -270,7 +269,7 @@ exists_reader n var p table x g h rest Q c l =
     let from_open = put (40 ∷ []) (var ++ (58 ∷ 32 ∷ (t ++ (where_is ++ tail)))) (W.Mark S.Open) _ (short_is 40 S.Open refl) (open_ends (var ++ (58 ∷ 32 ∷ (t ++ (where_is ++ tail))))) from_var in
     let whole = put (codes "EXISTS") (32 ∷ 40 ∷ (var ++ (58 ∷ 32 ∷ (t ++ (where_is ++ tail))))) (W.Word (codes "exists")) _ (word_is 69 (codes "XISTS") refl refl) refl (skip 32 _ _ refl from_open) in
     nest (((((head ++ var) ++ (58 ∷ 32 ∷ [])) ++ t) ++ where_is) ++ b) (41 ∷ []) rest _ (nest ((((head ++ var) ++ (58 ∷ 32 ∷ [])) ++ t) ++ where_is) b (41 ∷ rest) _ (nest (((head ++ var) ++ (58 ∷ 32 ∷ [])) ++ t) where_is tail _ (nest ((head ++ var) ++ (58 ∷ 32 ∷ [])) t (where_is ++ tail) _ (nest (head ++ var) (58 ∷ 32 ∷ []) (t ++ (where_is ++ tail)) _
-      (turn _ _ _ (made_exists n var p table x Q (name_key (word_key var) g.1)) whole)))))
+    (turn _ _ _ (made_exists n var p table x Q (name_key (word_key var) g.1)) whole)))))
 
 or_reader : (n : ℕ) (l r : Syntax) → Reader Cond n l (canonical l) → Reader Conj n r (within (weaker r 1) (canonical r)) → Reader Cond n (Or l r) (canonical (Or l r))
 or_reader n l r h k rest Q c a =
@@ -295,7 +294,7 @@ compare_reader n l r op p g h rest Q c a =
     let right = expr_back r h rest Q c a in
     let from_op = put o (32 ∷ (s ++ rest)) (W.Mark (S.Compare op)) (ExprBack r Q) (op_spelled op) (closes_ends (W.Mark (S.Compare op)) (32 ∷ (s ++ rest)) refl) (skip 32 _ _ refl right) in
     nest (((f ++ (32 ∷ [])) ++ o) ++ (32 ∷ [])) s rest _ (nest ((f ++ (32 ∷ [])) ++ o) (32 ∷ []) (s ++ rest) _ (nest (f ++ (32 ∷ [])) o (32 ∷ (s ++ rest)) _ (nest f (32 ∷ []) (o ++ (32 ∷ (s ++ rest))) _
-      (turn _ _ _ (made_compare n Q l r op p) (expr_back l g (32 ∷ (o ++ (32 ∷ (s ++ rest)))) (Next (W.Mark (S.Compare op)) (ExprBack r Q)) refl (skip 32 _ _ refl from_op))))))
+    (turn _ _ _ (made_compare n Q l r op p) (expr_back l g (32 ∷ (o ++ (32 ∷ (s ++ rest)))) (Next (W.Mark (S.Compare op)) (ExprBack r Q)) refl (skip 32 _ _ refl from_op))))))
 
 has_reader : (n : ℕ) (l r : Expr) (p : ℕ) → GoodExpr l → is_plain l ≡ true → GoodExpr r → Reader One n (Has l p r) (canonical (Has l p r))
 has_reader n l r p g i h rest Q c a =

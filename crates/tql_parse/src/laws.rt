@@ -15,5 +15,4 @@ pub fn one_tree()
 /// again, places aside.
 pub fn canonical_text_reads_back()
     ensures { ReadsBack }
-{
-}
+{}
