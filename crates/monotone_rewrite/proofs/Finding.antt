@@ -20,7 +20,7 @@ use Rattle.tql_core.specs.Values.{Bound, Env, bind, lookup, on_row, plus_to, val
 use Rattle.tql_core.specs.Holds.{truth, asked_of}
 use Rattle.time_marks.proofs.Asked.{given}
 use Rattle.tap_rows.specs.Seconds.{first_from}
-use Rattle.time_marks.specs.Scope.{In, Scoped, IsQuery}
+use Rattle.tql_core.specs.Scope.{In, Scoped, IsQuery}
 use Rattle.time_marks.specs.declared.mark.Step.{Step}
 use Rattle.time_marks.specs.declared.mark.Mark.{Mark}
 use Rattle.time_marks.specs.Marks.{copied, copy, copy_term, guards_of, arrival_term, step_of, after, mark_if, marks, m, fixed_term, marks_from, rising_from, body}

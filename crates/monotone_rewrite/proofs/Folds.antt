@@ -27,7 +27,7 @@ use Rattle.tap_rows.specs.declared.tables.Tables.{Tables}
 use Rattle.tap_rows.specs.Results.{visible}
 use Rattle.tql_core.specs.Values.{Env, bind, lookup, on_row, base_value, plus_to, value, both, compare, true_atom}
 use Rattle.tql_core.specs.Holds.{truth, asked_of}
-use Rattle.time_marks.specs.Scope.{In, BaseIn, NumIn, TextIn, AtomIn, Scoped, IsQuery}
+use Rattle.tql_core.specs.Scope.{In, BaseIn, NumIn, TextIn, AtomIn, Scoped, IsQuery}
 use Rattle.time_marks.specs.declared.mark.Step.{Step}
 use Rattle.time_marks.specs.declared.mark.Mark.{Mark}
 use Rattle.time_marks.specs.Marks.{copied, copy, copy_base, copy_term, arrival_term, step_of, after, mark_if, marks, m, rising, body}

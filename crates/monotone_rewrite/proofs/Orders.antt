@@ -10,7 +10,7 @@ use Rattle.tql_core.specs.Row.{Row, arrival, rows_of}
 use Rattle.tap_rows.specs.declared.tables.Tables.{Tables}
 use Rattle.tql_core.specs.Values.{Bound, Env, bind, lookup, value, true_atom}
 use Rattle.tql_core.specs.Holds.{truth}
-use Rattle.time_marks.specs.Scope.{In, BaseIn, AtomIn}
+use Rattle.tql_core.specs.Scope.{In, BaseIn, AtomIn}
 use Rattle.time_marks.specs.declared.mark.Step.{Step}
 use Rattle.time_marks.specs.Probes.{Probe, choices, some_rows, is_value, guards_true, come_by, fits, finds}
 use Rattle.monotone_rewrite.specs.Found.{vars_of, Distinct, Named, IsProbe, Finds, FoundInAnyOrder}

@@ -10,7 +10,7 @@ use Rattle.tql_core.specs.Condition.{Condition}
 use Rattle.tap_rows.specs.declared.tables.Tables.{Tables}
 use Rattle.time_marks.proofs.Asked.{given, first, count_between, hits, fresh, union}
 use Rattle.tap_rows.specs.Seconds.{first_from}
-use Rattle.time_marks.specs.Scope.{In, IsQuery}
+use Rattle.tql_core.specs.Scope.{In, IsQuery}
 use Rattle.time_marks.specs.Probes.{Probe, found, least, window_meaning, meaning_without}
 use Rattle.time_marks.specs.declared.window.Window.{Window}
 use Rattle.monotone_rewrite.specs.Query.{unfolded}

@@ -7,3 +7,4 @@ pub mod Clocks
 pub mod Bounds
 pub mod Core
 pub mod Answers
+pub mod Laws

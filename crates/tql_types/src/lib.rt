@@ -6,6 +6,7 @@ mod clock;
 mod conditions;
 mod fault;
 mod field;
+pub mod laws;
 mod scope;
 mod sort;
 mod spans;
