@@ -1,0 +1,9 @@
+//! What a condition gives at a second, asked from scratch.
+#![tactic(auto)]
+
+mod snapshot;
+
+pub use snapshot::{gives, holds_at};
+
+#[cfg(test)]
+mod tests;
