@@ -1,6 +1,6 @@
 -- What the engine finds of a command's checks is what its verdict says.
-use Rattle.std.proofs.Common.{◌≡◌, ◌∙◌, sym, refl, ap, subst, arith, ℕ, suc, ℤ, pos, List, [], ◌∷◌, ◌++◌, ◌+◌, length, map, Option, Some, None, Bool, true, false, inl, inr, if◌then◌else◌}
-use Rattle.std.specs.Prelude.{is_none, find, filter, ◌≤ℤ◌}
+use Rattle.std.proofs.Common.{◌≡◌, ◌∙◌, sym, refl, ap, subst, arith, ℕ, suc, pos, List, [], ◌∷◌, ◌+◌, length, map, Option, Some, None, Bool, true, false, inl, inr, if◌then◌else◌}
+use Rattle.std.specs.Prelude.{is_none, find, filter}
 use Rattle.std.specs.Option.{option_map, option_or}
 use Rattle.std.specs.Str.{bytes_eq}
 use Rattle.std.proofs.lemmas.Bool.{cases_Bool}
@@ -8,7 +8,6 @@ use Rattle.std.proofs.lemmas.Int.{ints}
 use Rattle.std.proofs.lemmas.List.{length-map}
 use Rattle.tap_rows.specs.declared.tables.Tables.{Tables}
 use Rattle.tap_rows.specs.declared.rows.QueryRow.{QueryRow}
-use Rattle.tap_rows.specs.declared.results.Hit.{Hit}
 use Rattle.tap_rows.proofs.FreshLaws.{fresh-is}
 use Rattle.script_lang.specs.declared.refusal.Refusal.{Refusal}
 use Rattle.script_lang.specs.declared.refusal.Refusal.TheVariants.{NoQuery, NoMoment}
@@ -17,10 +16,9 @@ use Rattle.script_lang.specs.declared.command.Command.{Command}
 use Rattle.script_lang.specs.declared.command.Command.TheVariants.{Define, Run, BoxOf}
 use Rattle.tap_engine.specs.declared.limits.TheConstants.{RUN_LIMIT, PICK_LIMIT}
 use Rattle.tap_engine.specs.declared.session.Session.{Session}
-use Rattle.tap_engine.specs.declared.kept_query.KeptQuery.{KeptQuery}
 use Rattle.tap_engine.specs.declared.engine.Engine.{Engine}
 use Rattle.tap_engine.specs.Sessions.{user_of, present}
-use Rattle.tap_engine.specs.Queries.{is_named, query_named, hits_of, truth_of, start_of, has_word, source_word}
+use Rattle.tap_engine.specs.Queries.{is_named, query_named, truth_of, start_of, has_word, source_word}
 use Rattle.tap_rows.specs.Results.{covered}
 use Rattle.tap_engine.specs.Limits.{passes}
 use Rattle.tap_engine.specs.Verdicts.{first_refusal, verdict, missing, no_moment, no_user, bad_name, not_built, hits_found}
@@ -29,7 +27,7 @@ use Rattle.tap_engine.specs.Standing.{StandsFor, query_checks, define_checks, lo
 use Rattle.tap_engine.specs.Sound.{Sound}
 use Rattle.tap_engine.specs.Stories.{Refuses, Follows}
 use Rattle.tap_engine.specs.Replies.{answer_of, accepted, answer_by, tables_after, next_query, show_box}
-use Rattle.tap_rows.specs.Kept.{In, Each, IsOfTheSecond}
+use Rattle.tap_rows.specs.Kept.{In, IsOfTheSecond}
 use Rattle.tap_rows.specs.Deliveries.{delivered}
 use Rattle.tap_rows.specs.declared.results.Entry.{Entry}
 use Rattle.tap_rows.proofs.KeptLaws.{box-is}

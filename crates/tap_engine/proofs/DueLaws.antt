@@ -1,14 +1,13 @@
 -- What a run delivers, and what the engine keeps after it.
-use Rattle.std.proofs.Common.{◌≡◌, ◌∙◌, sym, refl, ap, subst, arith, ℕ, zero, suc, ◌+◌, ◌-◌, ◌≤◌, ◌<◌, ℤ, List, [], ◌∷◌, ◌++◌, length, map, Option, Some, None, Bool, true, false, inl, inr, if◌then◌else◌}
-use Rattle.std.specs.Prelude.{◌==◌, filter, slice_index_or, slice_set}
+use Rattle.std.proofs.Common.{◌≡◌, ◌∙◌, sym, refl, ap, arith, ℕ, zero, suc, ◌+◌, ◌-◌, ◌≤◌, ◌<◌, ℤ, List, [], ◌∷◌, ◌++◌, length, map, Option, Some, None, true, false, inl, inr, if◌then◌else◌}
+use Rattle.std.specs.Prelude.{◌==◌, slice_index_or, slice_set}
 use Rattle.std.specs.Option.{option_map}
-use Rattle.std.proofs.lemmas.List.{length-map, length-append, map-append}
+use Rattle.std.proofs.lemmas.List.{length-append, map-append}
 use Rattle.std.proofs.lemmas.List.Elements.{filter-append}
 use Rattle.tap_rows.specs.declared.tables.Tables.{Tables}
 use Rattle.tap_rows.specs.declared.rows.QueryRow.{QueryRow}
 use Rattle.tap_rows.specs.declared.rows.RunRow.{RunRow}
 use Rattle.tap_rows.specs.declared.results.Entry.{Entry}
-use Rattle.tap_rows.specs.declared.results.Hit.{Hit}
 use Rattle.tap_rows.specs.declared.change.Change.TheVariants.{RunDone}
 use Rattle.tap_rows.specs.Tables.{after}
 use Rattle.tap_rows.specs.Results.{runs_of, run_moments, covered, last_or, entry_at}
@@ -25,8 +24,8 @@ use Rattle.tap_engine.specs.declared.engine.Engine.{Engine}
 use Rattle.tap_engine.specs.declared.run.Due.{Due}
 use Rattle.tap_engine.specs.Sessions.{user_of, present}
 use Rattle.tap_engine.specs.Queries.{is_named, query_named, hits_of, truth_of, start_of}
-use Rattle.tap_engine.specs.Verdicts.{verdict, hits_found}
-use Rattle.tap_engine.specs.Keeping.{kept_query, new_kept, after_run}
+use Rattle.tap_engine.specs.Verdicts.{verdict}
+use Rattle.tap_engine.specs.Keeping.{kept_query, after_run}
 use Rattle.tap_engine.specs.Standing.{StandsFor, kept_named, hits_kept, due_of}
 use Rattle.tap_engine.specs.Sound.{Sound}
 use Rattle.tap_engine.specs.Stories.{Follows}
@@ -112,7 +111,7 @@ own-after t q m kept =
     (ap (last_or (start_of q)) moments ∙ last-more (start_of q) m (run_moments q.num.0 t.runs))
     (ap length moments ∙ length-append (run_moments q.num.0 t.runs) (m ∷ []))
     (ap (map (picked (t.runs ++ run ∷ []))) both ∙ map-append (picked (t.runs ++ run ∷ [])) (picks_of q.num.0 t.picks) picks
-      ∙ both-parts _ _ _ _ (old-picks q.num.0 t.runs run t.picks kept.picks) (new-picks (t.runs ++ run ∷ []) (length t.picks + 1) q.num (length t.runs + 1) (length (run_moments q.num.0 t.runs) + 1) hits place))
+    ∙ both-parts _ _ _ _ (old-picks q.num.0 t.runs run t.picks kept.picks) (new-picks (t.runs ++ run ∷ []) (length t.picks + 1) q.num (length t.runs + 1) (length (run_moments q.num.0 t.runs) + 1) hits place))
 
 -- another query after that run
 other-after : (t : Tables) (q other : QueryRow) (m : ℤ) → IsKept truth_of start_of t → (q.num.0 ≡ other.num.0 → ⊥) → kept_query (after t (run_change (truth_of q) (start_of q) t q.num m)) other ≡ kept_query t other
@@ -160,9 +159,9 @@ stands-run e t name due e' t' stands kept d there is-e is-t =
     let i : ℕ = due.query.0 - 1 in
     let bounds = query-bounds 1 t.queries q kept.queries d.has in
     let engine : e' ≡ record e { queries = slice_set e.queries i (after_run (present e.session) (map (entry_at (length (run_moments q.num.0 t.runs) + 1)) (hits_of q t (present e.session))) (slice_index_or e.queries i x)) } =
-        is-e x ∙ ap (λ y. record e { queries = slice_set e.queries i (after_run y.moment (map (entry_at (y.runs + 1)) y.hits) (slice_index_or e.queries i x)) }) d.is in
+    is-e x ∙ ap (λ y. record e { queries = slice_set e.queries i (after_run y.moment (map (entry_at (y.runs + 1)) y.hits) (slice_index_or e.queries i x)) }) d.is in
     let tables : t' ≡ after t (run_change (truth_of q) (start_of q) t q.num (present e.session)) =
-        is-t ∙ ap (λ y. after t (RunDone (record { num = length t.runs + 1; query = y.query; moment = y.moment }) (pick_rows (length t.picks + 1) y.query (length t.runs + 1) y.hits))) d.is in
+    is-t ∙ ap (λ y. after t (RunDone (record { num = length t.runs + 1; query = y.query; moment = y.moment }) (pick_rows (length t.picks + 1) y.query (length t.runs + 1) y.hits))) d.is in
     rw (engine, tables) (stands-placed e t q i (present e.session) (slice_index_or e.queries i x) stands kept d.has (omega (arith, num, bounds.0)) there (due-kept e t due q x stands kept d.has num))
 
 -- a run that isn't refused

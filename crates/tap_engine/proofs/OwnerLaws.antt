@@ -1,9 +1,7 @@
 -- How many different owners there are once there is one more row.
-use Rattle.std.proofs.Common.{◌≡◌, ◌∙◌, sym, refl, ap, subst, rules, ℕ, suc, List, [], ◌∷◌, ◌++◌, ◌+◌, length, Bool, true, false, if◌then◌else◌, inl, inr}
+use Rattle.std.proofs.Common.{◌≡◌, ◌∙◌, sym, refl, ap, subst, rules, ℕ, List, [], ◌∷◌, ◌++◌, ◌+◌, length, Bool, true, false, if◌then◌else◌}
 use Rattle.std.specs.Prelude.{◌||◌}
-use Rattle.std.specs.List.{list_any}
 use Rattle.std.specs.Str.{bytes_eq}
-use Rattle.std.proofs.lemmas.Bool.{cases_Bool}
 use Rattle.std.proofs.lemmas.List.{length-append}
 use Rattle.std.proofs.lemmas.List.Folds.{list_any-append}
 use Rattle.std.proofs.lemmas.Slice.Eq.{bytes_eq-Decides}

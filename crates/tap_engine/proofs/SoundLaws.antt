@@ -14,7 +14,7 @@ use Rattle.tap_rows.specs.declared.change.Change.TheVariants.{Docs, OneQuery}
 use Rattle.tap_rows.specs.Tables.{no_rows, after}
 use Rattle.tap_rows.specs.Arrivals.{Arrived}
 use Rattle.tap_rows.specs.Deliveries.{next_run, run_change}
-use Rattle.tap_rows.specs.Kept.{Each, In, IsKept, IsBy}
+use Rattle.tap_rows.specs.Kept.{Each, In, IsBy}
 use Rattle.tap_rows.proofs.LaterLaws.{each-map, each-append}
 use Rattle.tap_rows.proofs.KeptLaws.{kept-empty, kept-docs, kept-query, kept-run}
 use Rattle.mail_lines.specs.declared.block.Block.{Block}
@@ -28,7 +28,7 @@ use Rattle.tap_engine.specs.Sessions.{no_session, present, or_zero, user_of, lat
 use Rattle.tap_engine.specs.Queries.{truth_of, start_of, is_named, query_named}
 use Rattle.tap_engine.specs.Verdicts.{verdict, first_refusal, missing, unless, is_back, not_built, text_of}
 use Rattle.tap_engine.specs.Replies.{Answer, answer_of, answer_by, accepted, tables_after, set_moment, next_doc, next_query, run_query, show_box}
-use Rattle.tap_engine.specs.Stories.{Step, Follows, GivesUp}
+use Rattle.tap_engine.specs.Stories.{Step}
 use Rattle.tap_engine.specs.Sound.{Sound, IsNow}
 use Rattle.tap_engine.proofs.CheckLaws.{truth-of-second, find-in, second-none}
 
@@ -145,7 +145,6 @@ moment-positive text m e = go (all_ascii_digits text) refl (is_date_form text) r
   go false y true z = read-positive (parse_timestamp text) m (sym (ap (λ a. if a then positive (number_of 12 LAST_MOMENT text) else if is_date_form text then moment_read (parse_timestamp text) else None) y ∙ ap (λ b. if b then moment_read (parse_timestamp text) else None) z) ∙ e)
   go false y false z = absurd (none-moment m (sym (ap (λ a. if a then positive (number_of 12 LAST_MOMENT text) else if is_date_form text then moment_read (parse_timestamp text) else None) y ∙ ap (λ b. if b then moment_read (parse_timestamp text) else None) z) ∙ e))
 
-
 -- a second that is not refused is not below the last one
 not-back : (last second : ℤ) → is_back (Some last) (Some second) ≡ None → last ≤ℤ second
 not-back last second none = go (int_le last second) refl where
@@ -188,13 +187,16 @@ mail-sound block session tables sound there =
     let ge : m ≤ℤ doc.arrival = subst (λ z. m ≤ℤ z) (sym at) (omega (arith, ints)) in
     record {
       kept = kept-docs truth_of start_of truth-of-second m tables (doc ∷ []) sound.kept now.1 (ge, tt) (arrived-more 1 (pos 0) m tables.docs doc sound.kept.docs now.1.docs now.0 at (omega arith));
-      now = subst (λ moment. IsNow moment (after tables (Docs (doc ∷ [])))) (sym there.is) (now.0, record {
-        docs = each-append (λ doc. doc.arrival ≤ℤ m) tables.docs (doc ∷ []) now.1.docs (le, tt);
-        notes = now.1.notes;
-        queries = now.1.queries;
-        runs = now.1.runs;
-        filters = now.1.filters;
-      });
+      now = subst (λ moment. IsNow moment (after tables (Docs (doc ∷ [])))) (sym there.is) (
+        now.0,
+        record {
+          docs = each-append (λ doc. doc.arrival ≤ℤ m) tables.docs (doc ∷ []) now.1.docs (le, tt);
+          notes = now.1.notes;
+          queries = now.1.queries;
+          runs = now.1.runs;
+          filters = now.1.filters;
+        },
+      );
     }
 
 define-sound : (name source : List ℕ) (session : Session) (tables : Tables) → Sound tables session → Present session → Leaves tables (accepted (Define name source) session tables)
@@ -206,13 +208,16 @@ define-sound name source session tables sound there =
     let le : query.arrival ≤ℤ m = subst (λ z. z ≤ℤ m) (sym at) (omega (arith, ints)) in
     record {
       kept = kept-query truth_of start_of truth-of-second m tables query sound.kept now.1 refl;
-      now = subst (λ moment. IsNow moment (after tables (OneQuery query))) (sym there.is) (now.0, record {
-        docs = now.1.docs;
-        notes = now.1.notes;
-        queries = each-append (λ query. (query.arrival ≤ℤ m) × (start_of query ≤ℤ m)) tables.queries (query ∷ []) now.1.queries ((le, now.0), tt);
-        runs = now.1.runs;
-        filters = now.1.filters;
-      });
+      now = subst (λ moment. IsNow moment (after tables (OneQuery query))) (sym there.is) (
+        now.0,
+        record {
+          docs = now.1.docs;
+          notes = now.1.notes;
+          queries = each-append (λ query. (query.arrival ≤ℤ m) × (start_of query ≤ℤ m)) tables.queries (query ∷ []) now.1.queries ((le, now.0), tt);
+          runs = now.1.runs;
+          filters = now.1.filters;
+        },
+      );
     }
 
 run-sound : (session : Session) (tables : Tables) (query : Option QueryRow) → ((q : QueryRow) → query ≡ Some q → In q tables.queries) → Sound tables session → Present session → Leaves tables (run_query query session tables)
@@ -223,13 +228,16 @@ run-sound session tables (Some q) has sound there =
     let at : present session ≡ m = ap or_zero there.is in
     subst (λ z. Leaves tables (record { reply = (run_query (Some q) session tables).reply; session = session; change = Some (run_change (truth_of q) (start_of q) tables q.num z) })) (sym at) (record {
       kept = kept-run truth_of start_of truth-of-second m tables q sound.kept now.1 (has q refl);
-      now = subst (λ moment. IsNow moment (after tables (run_change (truth_of q) (start_of q) tables q.num m))) (sym there.is) (now.0, record {
-        docs = now.1.docs;
-        notes = now.1.notes;
-        queries = now.1.queries;
-        runs = each-append (λ run. run.moment ≤ℤ m) tables.runs (next_run tables q.num m ∷ []) now.1.runs (omega (arith, ints), tt);
-        filters = now.1.filters;
-      });
+      now = subst (λ moment. IsNow moment (after tables (run_change (truth_of q) (start_of q) tables q.num m))) (sym there.is) (
+        now.0,
+        record {
+          docs = now.1.docs;
+          notes = now.1.notes;
+          queries = now.1.queries;
+          runs = each-append (λ run. run.moment ≤ℤ m) tables.runs (next_run tables q.num m ∷ []) now.1.runs (omega (arith, ints), tt);
+          filters = now.1.filters;
+        },
+      );
     })
 
 box-sound : (session : Session) (tables : Tables) (query : Option QueryRow) (name : List ℕ) → Sound tables session → Leaves tables (show_box query name session tables)

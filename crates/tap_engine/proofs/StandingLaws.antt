@@ -1,13 +1,13 @@
 -- The engine stands for the tables after a change.
-use Rattle.std.proofs.Common.{◌≡◌, ◌∙◌, sym, refl, ap, subst, arith, ℕ, suc, ◌+◌, ◌-◌, ◌≤◌, ◌<◌, ℤ, List, [], ◌∷◌, ◌++◌, length, map, Option, Some, None, Bool, true, false, inl, inr}
-use Rattle.std.specs.Prelude.{find, sum_by}
+use Rattle.std.proofs.Common.{◌≡◌, ◌∙◌, sym, refl, ap, arith, ℕ, ◌+◌, ◌≤◌, ◌<◌, List, [], ◌∷◌, ◌++◌, length, map, None}
+use Rattle.std.specs.Prelude.{sum_by}
 use Rattle.std.proofs.lemmas.List.{append_assoc, map-append}
 use Rattle.std.proofs.lemmas.List.Sums.{sum_by-append}
 use Rattle.tap_rows.specs.declared.tables.Tables.{Tables}
 use Rattle.tap_rows.specs.declared.rows.QueryRow.{QueryRow}
 use Rattle.tap_rows.specs.declared.change.Change.TheVariants.{OneQuery}
 use Rattle.tap_rows.specs.Tables.{after}
-use Rattle.tap_rows.specs.Kept.{Each, In, IsKept}
+use Rattle.tap_rows.specs.Kept.{IsKept}
 use Rattle.tap_rows.proofs.LaterLaws.{each-map}
 use Rattle.tap_rows.proofs.PlaceLaws.{runs-none, no-picks}
 use Rattle.tap_engine.specs.declared.engine.Engine.{Engine}

@@ -17,7 +17,7 @@ use Rattle.tap_engine.specs.declared.run.Due.{Due}
 use Rattle.tap_engine.specs.Sessions.{present, user_of, greatest_moment}
 use Rattle.tap_engine.specs.Queries.{has_word, source_word}
 use Rattle.tap_engine.specs.Limits.{stored_bytes, owners_in, different, passes}
-use Rattle.tap_engine.specs.Verdicts.{first_refusal, missing, unless, no_moment, no_user, bad_name, not_built, is_early}
+use Rattle.tap_engine.specs.Verdicts.{missing, unless, no_moment, no_user, bad_name, not_built, is_early}
 use Rattle.tap_engine.specs.Keeping.{kept_query, named_in, owned_in}
 
 -- the engine stands for the tables: it keeps their documents and queries, how many bytes they store, and who owns a

@@ -108,12 +108,7 @@ impl Engine {
     ghost use Rattle.tap_engine.specs.Standing.{StandsFor, query_checks, define_checks, RefusedBy};
 
     // Adds a query.
-    fn add_query(
-        &mut self,
-        alloc: Global,
-        tables: &mut Tables,
-        row: QueryRow,
-    ) -> Result<(), Memory>
+    fn add_query(&mut self, alloc: Global, tables: &mut Tables, row: QueryRow) -> Result<(), Memory>
         requires { self.old.bytes + length row.source < 2 ^ 64 }
         ensures tables { OnOk result (tables.new ≡ after tables.old (Change.OneQuery row)) }
         ensures engine { OnOk result (self.new ≡ record self.old { queries = self.old.queries ++ new_kept row ∷ []; owners = with_owner self.old.owners row.owner; bytes = self.old.bytes + length row.source }) }

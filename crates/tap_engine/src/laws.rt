@@ -5,5 +5,4 @@ ghost use Rattle.tap_engine.specs.Laws.{StepsAreSound};
 /// has delivered is its box.
 pub fn every_step_is_sound()
     ensures { StepsAreSound }
-{
-}
+{}

@@ -110,13 +110,7 @@ impl Engine {
     ghost use Rattle.tap_engine.specs.Standing.{StandsFor, run_refusal, kept_named, hits_kept, due_of, RefusedBy};
 
     // What a run of the user's query of this name delivers, where there are so many runs and deliveries.
-    fn due_run(
-        &self,
-        alloc: Global,
-        runs: usize,
-        picks: usize,
-        name: &[u8],
-    ) -> Result<Due, Refusal>
+    fn due_run(&self, alloc: Global, runs: usize, picks: usize, name: &[u8]) -> Result<Due, Refusal>
         ensures verdict { OnOk result (run_refusal self.now runs picks name.now ≡ None) }
         ensures due { IfOk result (λ due. Some due ≡ due_of self.now (kept_named self.now name.now)) }
         ensures refusal { IfErr result (λ refusal. RefusedBy (run_refusal self.now runs picks name.now) refusal) }

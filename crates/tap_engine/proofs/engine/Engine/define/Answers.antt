@@ -1,4 +1,4 @@
-use Rattle.std.proofs.Common.{rules, ◌≡◌, ◌∙◌, sym, ap, refl, None, Some, subst, length, ◌+◌}
+use Rattle.std.proofs.Common.{rules, ◌∙◌, sym, ap, length, ◌+◌}
 use Rattle.std.proofs.lemmas.List.{length-map}
 use Rattle.tap_engine.specs.Keeping.{kept_query}
 use Rattle.tap_engine.proofs.CheckLaws.{define-verdict, define-refuses, follows-define, define-moment}

@@ -1,8 +1,8 @@
-use Rattle.std.proofs.Common.{rules, arith, ◌≡◌, ◌∙◌, sym, ap, refl, subst, ◌+◌, ◌-◌, length, None, Some}
+use Rattle.std.proofs.Common.{rules, arith, ◌∙◌, sym, ap, length}
 use Rattle.std.proofs.lemmas.List.{length-map}
 use Rattle.tap_engine.specs.Keeping.{kept_query, new_kept}
 use Rattle.tap_engine.proofs.CheckLaws.{run-refuses, run-none, run-moment}
-use Rattle.tap_engine.proofs.DueLaws.{IsDue, due-is, due-place, due-kept, runs-few, stands-run, follows-run}
+use Rattle.tap_engine.proofs.DueLaws.{due-is, due-place, due-kept, runs-few, stands-run, follows-run}
 use Rattle.tap_engine.proofs.engine.Engine.run.Goals as goal
 
 pub returns-in_err-due-clause-refusal : goal.returns-in_err-due-clause-refusal

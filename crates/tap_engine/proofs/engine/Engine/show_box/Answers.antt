@@ -1,4 +1,4 @@
-use Rattle.std.proofs.Common.{rules, ◌≡◌, ◌∙◌, sym, ap, refl, subst}
+use Rattle.std.proofs.Common.{rules, ◌∙◌, sym, ap, subst}
 use Rattle.tap_engine.specs.Standing.{look_refusal, kept_named, entries_kept, RefusedBy}
 use Rattle.tap_engine.proofs.CheckLaws.{box-refuses, follows-box}
 use Rattle.tap_engine.proofs.engine.Engine.show_box.Goals as goal
