@@ -90,11 +90,9 @@ some-at (p ∷ parts) n = go (is_some p) refl n (some-at parts) where
   go true passes zero rest = passes ∙ first (length (filter is_some parts)) where
     first : (m : ℕ) → true ≡ nat_lt 0 (suc m)
     first m = grind arith
-
   go true passes (suc n) rest = rest n ∙ next n (length (filter is_some parts)) where
     next : (n m : ℕ) → nat_lt n m ≡ nat_lt (suc n) (suc m)
     next n m = grind arith
-
   go false none n rest = rest n
 
 pub has_words-is : (n : ℕ) (line : List ℕ) → 0 < n → has_words n line ≡ (length (line_words line) == n)
