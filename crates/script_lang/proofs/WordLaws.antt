@@ -1,5 +1,5 @@
 -- Words by their places are the runs of bytes that aren't blanks.
-use Rattle.std.proofs.Common.{◌≡◌, ◌∙◌, sym, ap, refl, subst, arith, ℕ, zero, suc, List, [], ◌∷◌, ◌+◌, ◌-◌, get_or, take, drop, length, Bool, true, false, if◌then◌else◌, ◌≤◌, ◌<◌, ◌⊎◌, inl, inr}
+use Rattle.std.proofs.Common.{◌≡◌, ◌∙◌, sym, ap, refl, subst, arith, ℕ, zero, suc, List, [], ◌∷◌, ◌+◌, ◌-◌, get_or, drop, length, Bool, true, false, if◌then◌else◌, ◌≤◌, ◌<◌, ◌⊎◌, inl, inr}
 use Rattle.std.specs.Prelude.{◌==◌, ◌&&◌, not, nat_lt, filter}
 use Rattle.std.specs.List.{slice_split, position_or_len, onto_first}
 use Rattle.std.proofs.lemmas.Bool.{cases_lt}
