@@ -2,5 +2,6 @@ mod Moments
 mod OwnerLaws
 mod CheckLaws
 mod StandingLaws
+mod ArrivalLaws
 mod DueLaws
 pub mod SoundLaws

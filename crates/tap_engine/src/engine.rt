@@ -38,4 +38,18 @@ impl Engine {
             greatest: None,
         }
     }
+
+    /// How many documents there are.
+    pub fn docs(&self) -> usize
+        ensures { result ≡ length self.now.docs }
+    {
+        self.docs.len()
+    }
+
+    /// How many notes there are.
+    pub fn notes(&self) -> usize
+        ensures { result ≡ self.now.notes }
+    {
+        self.notes
+    }
 }

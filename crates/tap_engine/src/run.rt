@@ -1,4 +1,4 @@
-ghost use Rattle.std.specs.Prelude.{◌≡◌, true, ◌≤◌, ◌<◌, ◌+◌, ◌-◌, ◌^◌, ◌++◌, [], ◌∷◌, length, map, max, Some, None, ◌&&◌, int_le, int_lt, slice_index_or, slice_set, OnOk, OnErr, IfOk, IfErr};
+ghost use Rattle.std.specs.Prelude.{◌≡◌, ℤ, pos, ◌<ℤ◌, drop, Bool, true, ◌≤◌, ◌<◌, ◌+◌, ◌-◌, ◌^◌, ◌++◌, [], ◌∷◌, length, map, max, Some, None, ◌&&◌, int_le, int_lt, slice_index_or, slice_set, OnOk, OnErr, IfOk, IfErr};
 ghost use Rattle.std.specs.List.{filter_map};
 ghost use Rattle.tap_rows.specs.declared.tables.Tables.{Tables};
 ghost use Rattle.tap_rows.specs.declared.rows.RunRow.{RunRow};
@@ -6,6 +6,7 @@ ghost use Rattle.tap_rows.specs.declared.rows.Doc.{Doc};
 ghost use Rattle.tap_rows.specs.declared.change.Change.{Change};
 ghost use Rattle.tap_rows.specs.Tables.{after};
 ghost use Rattle.tap_rows.specs.Constant.{arrival_hit};
+ghost use Rattle.tap_rows.specs.Arrivals.{Arrived};
 ghost use Rattle.tap_rows.specs.Deliveries.{pick_rows};
 ghost use Rattle.tap_rows.specs.Results.{entry_at};
 ghost use Rattle.script_lang.specs.declared.command.Command.{Command};
@@ -42,6 +43,34 @@ fn is_hit(kept: &KeptDoc, word: &[u8], from: i64, to: i64) -> bool
     kept.fields().words.holds(word) && from <= arrival && arrival < to
 }
 
+// Where the documents begin that arrived at this second or later, which are looked for from the last one backward.
+fn place_from(docs: &[KeptDoc], from: i64) -> usize
+    ensures within { result ≤ length docs.now }
+    ensures before { (d : Doc) → 0 < result → (slice_index_or docs.now (result - 1) d).arrival <ℤ from }
+{
+    let mut place = docs.len();
+    while place > 0 && from <= docs[place - 1].doc().arrival {
+        place -= 1;
+    }
+    place
+}
+
+// The documents from this place on.
+fn docs_after(docs: &[KeptDoc], place: usize) -> &[KeptDoc]
+    requires { place ≤ length docs.now }
+    ensures { result.now ≡ drop place docs.now }
+{
+    &docs[place..]
+}
+
+// The documents from the first on that arrived at this second or later.
+fn docs_from(docs: &[KeptDoc], from: i64) -> &[KeptDoc]
+    requires { Arrived 1 (pos 0) docs.now }
+    ensures { (holds : Doc → Bool) (to : ℤ) → filter_map (arrival_hit holds from to) docs.now ≡ filter_map (arrival_hit holds from to) result.now }
+{
+    docs_after(docs, place_from(docs, from))
+}
+
 // The documents that have the word and arrived from the one second on and before the other, each with its arrival.
 fn arrived_with(
     alloc: Global,
@@ -63,6 +92,20 @@ fn arrived_with(
         }
     }
     Ok(hits)
+}
+
+// The same, of documents that arrived one after another: only those that may be hits are looked at.
+fn late_with(
+    alloc: Global,
+    docs: &[KeptDoc],
+    word: &[u8],
+    from: i64,
+    to: i64,
+) -> Result<Rows<Hit>, Memory>
+    requires { Arrived 1 (pos 0) docs.now }
+    ensures { IfOk result (λ hits. hits ≡ filter_map (arrival_hit (has_word word.now) from to) docs.now) }
+{
+    arrived_with(alloc, docs_from(docs, from), word, from, to)
 }
 
 // One pick for each hit, where there were so many before.
@@ -111,6 +154,7 @@ impl Engine {
 
     // What a run of the user's query of this name delivers, where there are so many runs and deliveries.
     fn due_run(&self, alloc: Global, runs: usize, picks: usize, name: &[u8]) -> Result<Due, Refusal>
+        requires arrived { Arrived 1 (pos 0) self.now.docs }
         ensures verdict { OnOk result (run_refusal self.now runs picks name.now ≡ None) }
         ensures due { IfOk result (λ due. Some due ≡ due_of self.now (kept_named self.now name.now)) }
         ensures refusal { IfErr result (λ refusal. RefusedBy (run_refusal self.now runs picks name.now) refusal) }
@@ -123,7 +167,7 @@ impl Engine {
         let kept = self.look(name)?;
         refuse_more(LimitName::Runs, RUN_LIMIT, runs, 1)?;
         let word = word_of(kept.row.source.as_slice());
-        let hits = arrived_with(alloc, self.docs.as_slice(), word, kept.covered, moment)?;
+        let hits = late_with(alloc, self.docs.as_slice(), word, kept.covered, moment)?;
         refuse_more(LimitName::Picks, PICK_LIMIT, picks, hits.len())?;
         Ok(Due {
             query: kept.row.num,
