@@ -52,9 +52,9 @@ moment-range text =
     elim (all_ascii_digits text) as (λ b. InRange (if b then positive (number_of 12 LAST_MOMENT text) else (if is_date_form text then moment_read (parse_timestamp text) else None))) [
       | true ↦ number-range text
       | false ↦ elim (is_date_form text) as (λ b. InRange (if b then moment_read (parse_timestamp text) else None)) [
-          | true ↦ read-range (parse_timestamp text)
-          | false ↦ tt
-        ]
+        | true ↦ read-range (parse_timestamp text)
+        | false ↦ tt
+      ]
     ]
 
 pub kept-range : (found : Option ℤ) → InRange found → IsMoment (unwrap_or found (pos 0))

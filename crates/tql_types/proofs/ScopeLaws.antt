@@ -217,9 +217,9 @@ binder-fine scope count name place e =
     elim (cases_Bool (is_some (variable_named name scope))) [
       | inl y ↦ absurd (some-none (rw y at e))
       | inr n ↦ elim (cases_Bool (nat_lt count 6)) [
-          | inl y ↦ y
-          | inr m ↦ absurd (some-none (rw (n, m) at e))
-        ]
+        | inl y ↦ y
+        | inr m ↦ absurd (some-none (rw (n, m) at e))
+      ]
     ]
   where
     some-none : {f : TypeFault} → Some f ≡ None → ⊥
@@ -243,13 +243,16 @@ scoped scope count (Exists name place table body) names knows below low high fin
     let inner : inner_scope scope count name place table ≡ entered scope count name table = inside scope count name place table parts.0 in
     let next : next_variable count ≡ count + 1 = up count room in
     let less : count < 6 = lower count room in
-    let body-fine : first_fault (entered scope count name table) (count + 1) body ≡ None = moved (inner_scope scope count name place table) (entered scope count name table) (next_variable count) (count + 1) inner next parts.1 in
-    (low, omega (arith, less), (λ i. absurd (omega (arith, below count i))),
+    let body-fine : first_fault (entered scope count name table) (count + 1) body ≡ None = moved (inner_scope scope count name place table) (entered scope count name table) (next_variable count) (count + 1) inner next parts.1 in (
+      low,
+      omega (arith, less),
+      (λ i. absurd (omega (arith, below count i))),
       back (entered scope count name table) (inner_scope scope count name place table) (count + 1) (next_variable count) (sym inner) (sym next)
-        (scoped (entered scope count name table) (count + 1) body (count ∷ names)
+          (scoped (entered scope count name table) (count + 1) body (count ∷ names)
           (λ variable i. elim (in-last variable _ scope i) [ inl j ↦ inr (knows variable j) | inr e ↦ inl (ap (λ v. v.var.0) e) ])
           (λ k i. elim i [ inl e ↦ omega (arith, e) | inr j ↦ omega (arith, below k j) ])
-          (omega arith) (omega (arith, less)) body-fine))
+          (omega arith) (omega (arith, less)) body-fine),
+    )
   where
     inside : (scope : List Variable) (count : ℕ) (name : List ℕ) (place : ℕ) (table : Table) → binder_fault scope count name place ≡ None → inner_scope scope count name place table ≡ entered scope count name table
     inside scope count name place table e = picked (binder_fault scope count name place) e where

@@ -47,7 +47,10 @@ fn find_fault(
             Ok((sooner_of(fault, other), after))
         }
         Tree::Compare {
-            left, place, right, ..
+            left,
+            place,
+            right,
+            ..
         } => {
             let scope = scope.as_slice();
             let fits = can_compare(expr_sort(scope, left), expr_sort(scope, right));

@@ -81,7 +81,10 @@ pub fn read_clock(scope: &[Variable], expr: &Expr) -> Clock
             plus: shifted(second_of(text.as_slice()), shift_amount(*shift)),
         }),
         Expr::Field {
-            var, field, shift, ..
+            var,
+            field,
+            shift,
+            ..
         } => Clock::At(Term {
             base: base_of_variable(find_variable(var.as_slice(), scope), field.as_slice()),
             plus: shift_amount(*shift),

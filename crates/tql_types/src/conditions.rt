@@ -17,12 +17,7 @@ use tql_core::{Atom, Cond, NumExpr, TextExpr, Var};
 use tql_tree::{Expr, Table, Tree};
 
 /// The fault of the variable of an EXISTS, where there are so many variables.
-pub fn fault_of_binder(
-    scope: &[Variable],
-    count: u8,
-    name: &[u8],
-    place: u32,
-) -> Option<TypeFault>
+pub fn fault_of_binder(scope: &[Variable], count: u8, name: &[u8], place: u32) -> Option<TypeFault>
     ensures { result ≡ binder_fault scope.now count name.now place }
 {
     if find_variable(name, scope).is_some() {
@@ -95,11 +90,7 @@ fn text_side(alloc: Global, scope: &[Variable], expr: &Expr) -> Result<TextExpr,
         Expr::Str { bytes, .. } => Ok(TextExpr::Literal(bytes.copy()?)),
         Expr::Field { var, field, .. } => {
             let variable = find_variable(var.as_slice(), scope);
-            Ok(variable_text(
-                alloc,
-                variable,
-                variable_field(variable, field.as_slice()),
-            ))
+            Ok(variable_text(alloc, variable, variable_field(variable, field.as_slice())))
         }
         Expr::Number { .. } | Expr::Now { .. } | Expr::Today { .. } | Expr::Moment { .. } => {
             Ok(TextExpr::Literal(Text::new(alloc)))
@@ -164,12 +155,7 @@ fn comparison(
             op,
             text_side(alloc, scope, right)?,
         ))),
-        _ => compare_times(
-            alloc,
-            op,
-            read_clock(scope, left),
-            read_clock(scope, right),
-        ),
+        _ => compare_times(alloc, op, read_clock(scope, left), read_clock(scope, right)),
     }
 }
 
@@ -220,7 +206,10 @@ pub fn build(
             ))
         }
         Tree::Compare {
-            left, op, right, ..
+            left,
+            op,
+            right,
+            ..
         } => {
             let sort = expr_sort(scope.as_slice(), left);
             Ok((

@@ -5,5 +5,4 @@ ghost use Rattle.tql_types.specs.Laws.{TypedConditionsAreQueries};
 /// variable from 1 to 5 that isn't in scope there.
 pub fn typed_conditions_are_queries()
     ensures { TypedConditionsAreQueries }
-{
-}
+{}
