@@ -15,7 +15,7 @@ use Rattle.tql_core.specs.declared.atom.Atom.TheVariants.{Numbers, Texts, Times,
 use Rattle.tql_core.specs.declared.atom.TextExpr.{TextExpr}
 use Rattle.tql_core.specs.declared.atom.TextExpr.TheVariants as X
 use Rattle.tql_core.specs.Condition.{Condition, Always, Never, Plain, NowAtLeast, NowBefore, All, Either, Not, Exists}
-use Rattle.time_marks.specs.Scope.{In, BaseIn, NumIn, TextIn, AtomIn, Scoped, IsQuery}
+use Rattle.tql_core.specs.Scope.{In, BaseIn, NumIn, TextIn, AtomIn, Scoped, IsQuery}
 use Rattle.time_marks.specs.declared.mark.Step.{Step}
 use Rattle.time_marks.specs.declared.mark.Mark.{Mark}
 use Rattle.time_marks.specs.Marks.{copied, copy, copy_base, copy_term, copy_number, copy_text, copy_atom, guards_of, arrival_term, fixed_term, step_of, after, mark_if, marks, m, marks_from, rising_from}

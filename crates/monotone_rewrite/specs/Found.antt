@@ -7,7 +7,7 @@ use Rattle.tql_core.specs.Row.{Row, arrival}
 use Rattle.tap_rows.specs.declared.tables.Tables.{Tables}
 use Rattle.tql_core.specs.Values.{Env, lookup, value, true_atom}
 use Rattle.tql_core.specs.Holds.{truth}
-use Rattle.time_marks.specs.Scope.{In, BaseIn, AtomIn, IsQuery}
+use Rattle.tql_core.specs.Scope.{In, BaseIn, AtomIn, IsQuery}
 use Rattle.time_marks.specs.declared.mark.Step.{Step}
 use Rattle.time_marks.specs.Probes.{Probe, choices, finds}
 use Rattle.monotone_rewrite.specs.Query.{window}

@@ -1,7 +1,7 @@
 ghost use Rattle.std.specs.Prelude.{◌≡◌, pos, ◌≤ℤ◌, [], ◌∷◌, ◌++◌, IfOk, OnOk, not};
 ghost use Rattle.std.specs.List.{filter};
 ghost use Rattle.tql_core.specs.Condition.{condition, timeless};
-ghost use Rattle.time_marks.specs.Scope.{IsQuery};
+ghost use Rattle.tql_core.specs.Scope.{IsQuery};
 ghost use Rattle.time_marks.specs.Views.{probe_view, probes_view};
 ghost use Rattle.monotone_rewrite.specs.Folding.{known, is_no};
 ghost use Rattle.monotone_rewrite.specs.Query.{can_find, fold_probe, probe_of, window};

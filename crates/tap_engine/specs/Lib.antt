@@ -5,5 +5,6 @@ pub mod Verdicts
 pub mod Replies
 pub mod Stories
 pub mod Sound
+pub mod Keeping
 pub mod Standing
 pub mod Laws

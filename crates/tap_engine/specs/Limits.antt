@@ -1,5 +1,5 @@
 -- How much is stored, and which limit would be passed.
-use Rattle.std.specs.Prelude.{ℕ, ◌+◌, List, [], ◌∷◌, ◌++◌, length, map, filter, Bool, ◌==◌, ◌||◌, nat_le, Option, Some, None, sum_by, if◌then◌else◌}
+use Rattle.std.specs.Prelude.{ℕ, ◌+◌, List, [], ◌∷◌, ◌++◌, length, map, filter, ◌==◌, ◌||◌, nat_le, Option, Some, None, sum_by, if◌then◌else◌}
 use Rattle.std.specs.Str.{bytes_eq}
 use Rattle.tap_base.specs.Words.{holds}
 use Rattle.tap_rows.specs.declared.tables.Tables.{Tables}

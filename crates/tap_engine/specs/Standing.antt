@@ -1,32 +1,86 @@
 -- What the engine keeps of the tables.
-use Rattle.std.specs.Prelude.{ℕ, ◌≡◌, List, length, map, None}
+use Rattle.std.specs.Prelude.{ℕ, ◌≡◌, ◌⊎◌, List, [], ◌∷◌, length, map, Option, Some, None, is_none, false, if◌then◌else◌}
+use Rattle.std.specs.List.{filter_map}
+use Rattle.std.specs.Option.{option_or}
 use Rattle.tap_base.specs.Words.{holds}
 use Rattle.tap_rows.specs.declared.tables.Tables.{Tables}
-use Rattle.tap_rows.specs.declared.rows.QueryRow.{QueryRow}
-use Rattle.tap_rows.specs.Results.{run_moments, covered}
-use Rattle.tap_rows.specs.Deliveries.{delivered}
+use Rattle.tap_rows.specs.declared.results.Hit.{Hit}
+use Rattle.tap_rows.specs.declared.results.Entry.{Entry}
+use Rattle.tap_rows.specs.Constant.{arrival_hit}
+use Rattle.script_lang.specs.declared.refusal.Refusal.{Refusal}
+use Rattle.script_lang.specs.declared.refusal.Refusal.TheVariants.{Taken, NoQuery, Memory}
+use Rattle.script_lang.specs.declared.refusal.LimitName.TheVariants.{Queries, AllQueries, Users, Runs, Picks, Store}
+use Rattle.tap_engine.specs.declared.limits.TheConstants.{USER_QUERY_LIMIT, QUERY_LIMIT, USER_LIMIT, RUN_LIMIT, PICK_LIMIT, STORE_LIMIT}
 use Rattle.tap_engine.specs.declared.kept_query.KeptQuery.{KeptQuery}
 use Rattle.tap_engine.specs.declared.engine.Engine.{Engine}
-use Rattle.tap_engine.specs.Sessions.{greatest_moment}
-use Rattle.tap_engine.specs.Queries.{start_of}
-use Rattle.tap_engine.specs.Limits.{stored_bytes, owners_in, different}
-
--- what is kept of a query: its row, the second that it has covered up to, how many runs it had, and what it has delivered
-abbrev pub kept_query : Tables → QueryRow → KeptQuery
-kept_query tables query = record {
-  row = query;
-  covered = covered (start_of query) query.num.0 tables.runs;
-  runs = length (run_moments query.num.0 tables.runs);
-  entries = delivered query.num.0 tables;
-}
+use Rattle.tap_engine.specs.declared.run.Due.{Due}
+use Rattle.tap_engine.specs.Sessions.{present, user_of, greatest_moment}
+use Rattle.tap_engine.specs.Queries.{has_word, source_word}
+use Rattle.tap_engine.specs.Limits.{stored_bytes, owners_in, different, passes}
+use Rattle.tap_engine.specs.Verdicts.{missing, unless, no_moment, no_user, bad_name, not_built, is_early}
+use Rattle.tap_engine.specs.Keeping.{kept_query, named_in, owned_in}
 
 -- the engine stands for the tables: it keeps their documents and queries, how many bytes they store, and who owns a
 -- query or a filter; before the session has a moment it also keeps the greatest moment of the tables
 pub record StandsFor (engine : Engine) (tables : Tables) : Type 0 where
   pub docs : engine.docs ≡ tables.docs
-  pub queries : engine.queries.items ≡ map (kept_query tables) tables.queries
+  pub queries : engine.queries ≡ map (kept_query tables) tables.queries
   pub notes : engine.notes ≡ length tables.notes
   pub bytes : engine.bytes ≡ stored_bytes tables
   pub users : length engine.owners ≡ different (owners_in tables)
   pub owners : (user : List ℕ) → holds engine.owners user ≡ holds (owners_in tables) user
   pub greatest : engine.session.moment ≡ None → engine.greatest ≡ greatest_moment tables
+
+-- what is kept of the user's query of this name
+abbrev pub kept_named : Engine → List ℕ → Option KeptQuery
+kept_named engine name = named_in (user_of engine.session) name engine.queries
+
+-- the checks of a query of this user, name and length, by what is kept
+unfoldable pub query_checks : Engine → List ℕ → List ℕ → ℕ → List (Option Refusal)
+query_checks engine user name len =
+    bad_name name
+    ∷ unless (is_none (named_in user name engine.queries)) Taken
+    ∷ passes Queries USER_QUERY_LIMIT (owned_in user engine.queries) 1
+    ∷ passes AllQueries QUERY_LIMIT (length engine.queries) 1
+    ∷ passes Users USER_LIMIT (length engine.owners) (if holds engine.owners user then 0 else 1)
+    ∷ passes Store STORE_LIMIT engine.bytes len
+    ∷ []
+
+-- the checks of a new query, by what is kept
+abbrev pub define_checks : Engine → List ℕ → List ℕ → List (Option Refusal)
+define_checks engine name source =
+    not_built source
+    ∷ no_moment engine.session
+    ∷ no_user engine.session
+    ∷ query_checks engine (user_of engine.session) name (length source)
+
+-- why a look for the user's query of this name is refused, by what is kept
+unfoldable pub look_refusal : Engine → List ℕ → Option Refusal
+look_refusal engine name = option_or (no_user engine.session) (option_or (bad_name name) (missing NoQuery (kept_named engine name)))
+
+-- what a run of this query delivers, by what is kept
+abbrev pub hits_kept : Engine → Option KeptQuery → List Hit
+hits_kept engine None = []
+hits_kept engine (Some kept) = filter_map (arrival_hit (has_word (source_word kept.row.source)) kept.covered (present engine.session)) engine.docs
+
+-- what a query has delivered, by what is kept of it
+abbrev pub entries_kept : Option KeptQuery → Option (List Entry)
+entries_kept None = None
+entries_kept (Some kept) = Some kept.entries
+
+-- what a run of this query is about to deliver
+abbrev pub due_of : Engine → Option KeptQuery → Option Due
+due_of engine None = None
+due_of engine (Some kept) = Some (record { query = kept.row.num; moment = present engine.session; runs = kept.runs; hits = hits_kept engine (Some kept) })
+
+-- why a run is refused, by what is kept and by how many runs and deliveries there are
+abbrev pub run_refusal : Engine → ℕ → ℕ → List ℕ → Option Refusal
+run_refusal engine runs picks name =
+    option_or (no_moment engine.session)
+    (option_or (look_refusal engine name)
+    (option_or (passes Runs RUN_LIMIT runs 1)
+    (passes Picks PICK_LIMIT picks (length (hits_kept engine (kept_named engine name))))))
+
+-- refused so, or for want of memory where it isn't refused for want of a moment, of a user or of a name
+abbrev pub RefusedBy : Option Refusal → Refusal → Type 0
+RefusedBy verdict refusal = (verdict ≡ Some refusal) ⊎ ((refusal ≡ Memory) × (is_early verdict ≡ false))

@@ -42,11 +42,11 @@ no_moment session = missing NoMoment session.moment
 abbrev pub no_user : Session → Option Refusal
 no_user session = missing NoUser session.user
 
-abbrev pub bad_name : List ℕ → Option Refusal
+unfoldable pub bad_name : List ℕ → Option Refusal
 bad_name name = unless (is_name name) BadName
 
 -- a text of another form than the one that is built
-abbrev pub not_built : List ℕ → Option Refusal
+unfoldable pub not_built : List ℕ → Option Refusal
 not_built source = unless (is_built source) NotBuilt
 
 -- a second below the last moment

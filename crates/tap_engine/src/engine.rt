@@ -1,7 +1,7 @@
 ghost use Rattle.std.specs.Prelude.{◌≡◌, length};
 ghost use Rattle.tap_rows.specs.Tables.{no_rows};
 
-use crate::kept_query::KeptQuery;
+use crate::kept_queries::KeptQueries;
 use crate::session::Session;
 use std::alloc::Global;
 use tap_base::{Rows, Texts};
@@ -13,7 +13,7 @@ pub struct Engine {
     pub session: Session,
     pub(crate) docs: Rows<KeptDoc>,
     pub(crate) notes: usize,
-    pub(crate) queries: Vec<KeptQuery>,
+    pub(crate) queries: KeptQueries,
     pub(crate) bytes: usize,
     pub(crate) owners: Texts,
     pub(crate) greatest: Option<i64>,
@@ -32,7 +32,7 @@ impl Engine {
             session: Session::new(),
             docs: Rows::new(alloc),
             notes: 0,
-            queries: Vec::new(alloc),
+            queries: KeptQueries::new(alloc),
             bytes: 0,
             owners: Texts::new(alloc),
             greatest: None,

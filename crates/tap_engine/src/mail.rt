@@ -1,9 +1,9 @@
-ghost use Rattle.std.specs.Prelude.{◌≡◌, ◌≤◌, ◌<◌, ◌+◌, ◌^◌, ◌++◌, [], ◌∷◌, length, Some, OnOk, OnErr, IfOk, IfErr};
+ghost use Rattle.std.specs.Prelude.{◌≡◌, true, ◌≤◌, ◌<◌, ◌+◌, ◌^◌, ◌++◌, [], ◌∷◌, length, Some, OnOk, OnErr, IfOk, IfErr};
 ghost use Rattle.std.specs.Result.{result_err, result_ok};
 ghost use Rattle.tap_rows.specs.declared.change.Change.{Change};
 ghost use Rattle.tap_rows.specs.Tables.{after};
 ghost use Rattle.script_lang.specs.declared.command.Command.{Command};
-ghost use Rattle.script_lang.specs.Replies.{HasShortNames};
+ghost use Rattle.script_lang.specs.Replies.{HasShortNames, is_accepted};
 ghost use Rattle.tap_engine.specs.Verdicts.{too_long, text_of};
 ghost use Rattle.tap_engine.specs.Replies.{next_doc};
 ghost use Rattle.tap_engine.specs.Stories.{Follows, Refuses};
@@ -119,6 +119,7 @@ impl Engine {
         ensures refusal { IfErr result (λ refusal. Refuses refusal (Command.Mail block) self.old.session tables.old) }
         ensures err { OnErr result ((self.new ≡ self.old) × (tables.new ≡ tables.old)) }
         ensures short { IfOk result (λ reply. HasShortNames reply) }
+        ensures accepted { IfOk result (λ reply. is_accepted reply ≡ true) }
     {
         let Some(moment) = self.session.moment else {
             return Err(Refusal::NoMoment);

@@ -5,7 +5,7 @@ ghost use Rattle.tap_base.specs.Numbers.{moment_of};
 ghost use Rattle.tap_base.specs.Names.{is_name};
 ghost use Rattle.tap_rows.specs.declared.tables.Tables.{Tables};
 ghost use Rattle.script_lang.specs.declared.command.Command.{Command};
-ghost use Rattle.script_lang.specs.Replies.{HasShortNames};
+ghost use Rattle.script_lang.specs.Replies.{HasShortNames, is_accepted};
 ghost use Rattle.tap_engine.specs.Verdicts.{is_back, bad_name, verdict};
 ghost use Rattle.tap_engine.specs.Stories.{Follows, Refuses};
 
@@ -31,6 +31,7 @@ fn refuse_back(last: Option<i64>, second: i64) -> Result<(), Refusal>
 }
 
 // Refuses a text that is no name.
+#[tactic(auto, unfolding(crate::specs::Verdicts::bad_name))]
 pub(crate) fn refuse_name(name: &[u8]) -> Result<(), Refusal>
     ensures value { result_err result ≡ bad_name name.now }
     ensures name { OnOk result (is_name name.now ≡ true) }
@@ -52,6 +53,7 @@ impl Engine {
         ensures refusal { IfErr result (λ refusal. (tables : Tables) → StandsFor self.old tables → verdict (Command.At text.now) self.old.session tables ≡ Some refusal) }
         ensures err { OnErr result (self.new ≡ self.old) }
         ensures short { IfOk result (λ reply. HasShortNames reply) }
+        ensures accepted { IfOk result (λ reply. is_accepted reply ≡ true) }
     {
         let Some(second) = second_of(text) else {
             return Err(Refusal::BadMoment);
@@ -68,6 +70,7 @@ impl Engine {
         ensures refusal { IfErr result (λ refusal. (tables : Tables) → Refuses refusal (Command.AsUser name) self.old.session tables) }
         ensures err { OnErr result (self.new ≡ self.old) }
         ensures short { IfOk result (λ reply. HasShortNames reply) }
+        ensures accepted { IfOk result (λ reply. is_accepted reply ≡ true) }
     {
         refuse_name(name.as_slice())?;
         let shown = name.copy()?;

@@ -10,7 +10,7 @@ use Rattle.tap_rows.specs.declared.tables.Tables.{Tables}
 use Rattle.tap_rows.specs.Results.{visible}
 use Rattle.tql_core.specs.Values.{Env, bind, on_row, plus_to, value, both}
 use Rattle.tql_core.specs.Holds.{truth}
-use Rattle.time_marks.specs.Scope.{Scoped}
+use Rattle.tql_core.specs.Scope.{Scoped}
 use Rattle.time_marks.specs.Marks.{copy_term, arrival_term, body}
 use Rattle.time_marks.specs.Laws.{Same}
 use Rattle.time_marks.proofs.Lists.{any_same, any_visible}

@@ -13,7 +13,7 @@ use Rattle.tap_rows.specs.declared.tables.Tables.{Tables}
 use Rattle.tap_rows.specs.Results.{visible}
 use Rattle.tql_core.specs.Values.{Env, bind, on_row, plus_to, value, both, true_atom}
 use Rattle.tql_core.specs.Holds.{truth}
-use Rattle.time_marks.specs.Scope.{In, Scoped}
+use Rattle.tql_core.specs.Scope.{In, Scoped}
 use Rattle.time_marks.specs.declared.mark.Mark.{Mark}
 use Rattle.time_marks.specs.Marks.{copy, copy_term, arrival_term, step_of, after, mark_if, marks}
 use Rattle.time_marks.specs.Laws.{Keeps, Crossed}

@@ -18,7 +18,7 @@ use Rattle.tql_core.specs.Row.{Row, arrival, date}
 use Rattle.tap_rows.specs.declared.tables.Tables.{Tables}
 use Rattle.tql_core.specs.Values.{Env, bind, lookup, on_row, up, day_of, base_value, plus_to, value, field, number, text_field, text, true_atom}
 use Rattle.tql_core.specs.Holds.{truth}
-use Rattle.time_marks.specs.Scope.{In, BaseIn, NumIn, TextIn, AtomIn, Scoped}
+use Rattle.tql_core.specs.Scope.{In, BaseIn, NumIn, TextIn, AtomIn, Scoped}
 use Rattle.time_marks.specs.Marks.{copied, copy, copy_base, copy_term, copy_number, copy_text, copy_atom, guards_of}
 use Rattle.time_marks.specs.Laws.{Keeps, Same}
 use Rattle.time_marks.proofs.Lists.{all_append}

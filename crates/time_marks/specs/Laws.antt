@@ -9,7 +9,7 @@ use Rattle.tql_core.specs.Values.{Env, bind, lookup, value}
 use Rattle.tql_core.specs.Holds.{truth}
 use Rattle.time_marks.specs.declared.mark.Step.{Step}
 use Rattle.time_marks.specs.declared.mark.Mark.{Mark}
-use Rattle.time_marks.specs.Scope.{In, Scoped}
+use Rattle.tql_core.specs.Scope.{In, Scoped}
 use Rattle.time_marks.specs.Marks.{copied, copy_term, marks, body}
 use Rattle.time_marks.specs.Probes.{guards_true}
 

@@ -1,4 +1,3 @@
-pub mod Scope
 pub mod Marks
 pub mod Probes
 pub mod Windows

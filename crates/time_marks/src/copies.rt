@@ -1,6 +1,6 @@
 ghost use Rattle.std.specs.Prelude.{◌≡◌, ◌≤◌, IfOk};
 ghost use Rattle.time_marks.specs.Marks.{copy, copy_base, copy_term, copy_number, copy_text, copy_atom, arrival_term};
-ghost use Rattle.time_marks.specs.Scope.{BaseFits, NumFits, TextFits, AtomFits};
+ghost use Rattle.tql_core.specs.Scope.{BaseFits, NumFits, TextFits, AtomFits};
 
 use tap_base::Memory;
 use tql_core::{Atom, Base, NumExpr, Term, TextExpr, Var};

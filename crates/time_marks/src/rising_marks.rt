@@ -1,7 +1,7 @@
 ghost use Rattle.std.specs.Prelude.{◌≡◌, ◌≤◌, List, [], ◌∷◌, ◌++◌, pos, map, IfOk, OnOk};
 ghost use Rattle.tql_core.specs.Condition.{condition};
 ghost use Rattle.time_marks.specs.Marks.{copied, copy, copy_atom, guards_of, arrival_term, step_of, mark_if, marks, fixed_term, rising, rising_from, below};
-ghost use Rattle.time_marks.specs.Scope.{CondFits, IsQuery};
+ghost use Rattle.tql_core.specs.Scope.{CondFits, IsQuery};
 
 use crate::copies::{arrival_term, copy, copy_atom, copy_term};
 use crate::{Mark, Step};

@@ -4,3 +4,4 @@ pub mod Values
 pub mod Holds
 pub mod Bindings
 pub mod Bounds
+pub mod Scope

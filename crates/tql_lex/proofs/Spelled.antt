@@ -167,7 +167,7 @@ front_read place b tail rest kind calm is =
     let skip : others end ≡ tokens_from 0 end rest = ap (λ k. tokens_from k (place + 1) (tail ++ rest)) k ∙ tokens_skip (length tail) (place + 1) (tail ++ rest) ∙ ap (λ q. tokens_from 0 q (drop (length tail) (tail ++ rest))) q ∙ ap (tokens_from 0 end) (drop-append_seam tail rest) in
     front ∙ ap (λ r. onto r others) is ∙ ap (with_front (token kind place (length (b ∷ tail)) ∷ [])) skip
 
-spelling_step : (place : ℕ) (s rest : List ℕ) (kind : Kind) → Spells s kind → ends_before kind rest ≡ true → tokens_from 0 place (s ++ rest) ≡ with_front (token kind place (length s) ∷ []) (tokens_from 0 (place + length s) rest)
+pub spelling_step : (place : ℕ) (s rest : List ℕ) (kind : Kind) → Spells s kind → ends_before kind rest ≡ true → tokens_from 0 place (s ++ rest) ≡ with_front (token kind place (length s) ∷ []) (tokens_from 0 (place + length s) rest)
 spelling_step place s rest kind h n =
     let f = first_of s kind h in
     let F : List ℕ → Type 0 = λ s. token_at place (s ++ rest) ≡ Ok (token kind place (length s)) in

@@ -27,7 +27,7 @@ pub record Spelled (place : ℕ) (text : List ℕ) (t : Token) : Type 0 where
   pub spells : Spells (take len text) t.kind
   pub ends : ends_before t.kind (drop len text) ≡ true
 
-abbrev OnToken : ℕ → List ℕ → Result Token LexFault → Type 0
+abbrev pub OnToken : ℕ → List ℕ → Result Token LexFault → Type 0
 OnToken place text (Ok t) = Spelled place text t
 OnToken place text (Err fault) = Unit {0}
 
@@ -35,7 +35,7 @@ behind_one : (n b : ℕ) (rest : List ℕ) → drop (1 + n) (b ∷ rest) ≡ dro
 behind_one n b rest = let e : 1 + n ≡ suc n = omega arith in rw e refl
 
 -- behind a run stands nothing of it
-run_ends : (test : ℕ → Bool) (text : List ℕ) → Stops test (drop (run test text) text)
+pub run_ends : (test : ℕ → Bool) (text : List ℕ) → Stops test (drop (run test text) text)
 run_ends test [] = tt
 run_ends test (b ∷ rest) =
     elim (test b) as (λ t. test b ≡ t → Stops test (drop (cond (not (not t)) (1 + run test rest) 0) (b ∷ rest))) [
@@ -52,7 +52,7 @@ run_within test (b ∷ rest) =
       | false ↦ omega arith
     ]
 
-run_of : (test : ℕ → Bool) (b : ℕ) (rest : List ℕ) → test b ≡ true → run test (b ∷ rest) ≡ suc (run test rest)
+pub run_of : (test : ℕ → Bool) (b : ℕ) (rest : List ℕ) → test b ≡ true → run test (b ∷ rest) ≡ suc (run test rest)
 run_of test b rest e = rw e (omega arith)
 
 word_ends : (w : List ℕ) (rest : List ℕ) → Stops is_of_word rest → ends_before (Word w) rest ≡ true
@@ -63,7 +63,7 @@ number_ends : (n : ℤ) (rest : List ℕ) → Stops is_digit rest → ends_befor
 number_ends n [] s = refl
 number_ends n (b ∷ rest) s = rw s refl
 
-text_ends : (content rest : List ℕ) → Stops (λ b. b == 39) rest → ends_before (Str content) rest ≡ true
+pub text_ends : (content rest : List ℕ) → Stops (λ b. b == 39) rest → ends_before (Str content) rest ≡ true
 text_ends content [] s = refl
 text_ends content (b ∷ rest) s = rw s refl
 
@@ -90,7 +90,7 @@ module _ (place b : ℕ) (rest : List ℕ) where
       let G : ℕ → Type 0 = λ n. OnToken place (b ∷ rest) (of n) in
       subst G (sym n) (number_by m (nat_lt most (digits_value 10 (b ∷ take m rest))) refl refl e)
 
-abbrev OnQuoted : List ℕ → Option (List ℕ × ℕ) → Type 0
+abbrev pub OnQuoted : List ℕ → Option (List ℕ × ℕ) → Type 0
 OnQuoted text None = Unit {0}
 OnQuoted text (Some x) = (take x.1 text ≡ between_quotes x.0 ++ 39 ∷ []) × Stops (λ b. b == 39) (drop x.1 text) × (x.1 ≤ length text)
 
@@ -116,7 +116,7 @@ with_byte b rest (Some x) e h =
     let G : ℕ → Type 0 = λ n. (take n (b ∷ rest) ≡ between_quotes (b ∷ x.0) ++ 39 ∷ []) × Stops (λ b. b == 39) (drop n (b ∷ rest)) × (n ≤ length (b ∷ rest)) in
     subst G (sym n) (rw (e, h.0) refl, h.1, omega (arith, h.2))
 
-on_quoted : (text : List ℕ) → OnQuoted text (quoted text)
+pub on_quoted : (text : List ℕ) → OnQuoted text (quoted text)
 on_quoted [] = tt
 on_quoted (b ∷ []) =
     elim (b == 39) as (λ t. (b == 39) ≡ t → OnQuoted (b ∷ []) (if t then Some ([], 1) else None)) [
@@ -188,7 +188,7 @@ on_sign : (place b : ℕ) (rest : List ℕ) → OnToken place (b ∷ rest) (sign
 on_sign place b [] = rw (no_long_end b) (of_short place b [] (short_sign b) refl (λ sign h. refl))
 on_sign place b (c ∷ rest) = of_sign place b c rest (long_sign b c) refl
 
-on_token : (place b : ℕ) (rest : List ℕ) → OnToken place (b ∷ rest) (token_at place (b ∷ rest))
+pub on_token : (place b : ℕ) (rest : List ℕ) → OnToken place (b ∷ rest) (token_at place (b ∷ rest))
 on_token place b rest = go (begins_word b) (is_digit b) (b == 39) refl refl refl
   where
     go : (w d q : Bool) → begins_word b ≡ w → is_digit b ≡ d → (b == 39) ≡ q → OnToken place (b ∷ rest) (if w then word_token place (b ∷ rest) else if d then number_token place (b ∷ rest) else if q then text_token place (quoted (drop 1 (b ∷ rest))) else sign_token place (long_sign b (get_or (b ∷ rest) 1 0)) (short_sign b))

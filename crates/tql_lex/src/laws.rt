@@ -1,9 +1,12 @@
 //! Laws of the tokens of a text.
 
-ghost use Rattle.std.specs.Prelude.{◌≡◌, ◌≤◌, ℕ, List, ◌++◌, length, true, Ok};
+ghost use Rattle.std.specs.Prelude.{◌≡◌, ◌≤◌, ◌<◌, ℕ, List, ◌++◌, length, true, Ok, Err};
 ghost use Rattle.tql_lex.specs.declared.kind.Kind.{Kind as TheKind};
+ghost use Rattle.tql_lex.specs.declared.fault.LexFault.{LexFault as TheFault};
+ghost use Rattle.tql_lex.specs.declared.fault.LexFault.TheVariants.{TooLong};
 ghost use Rattle.tql_lex.specs.declared.token.Token.{Token as TheToken};
 ghost use Rattle.tql_lex.specs.Tokens.{lexed};
+ghost use Rattle.tql_lex.specs.Faults.{FaultIn};
 ghost use Rattle.tql_lex.specs.Spelling.{Spells, ends_before, AreTokens, in_order, no_number_below};
 
 /// A text of at most 4,096 bytes has these tokens exactly where it is their spellings one behind another, each ending
@@ -20,4 +23,10 @@ pub fn tokens_are_the_longest()
 /// The tokens of a text stand in order and within it, and no number is below 0.
 pub fn tokens_are_in_order()
     ensures { (text : List ℕ) (tokens : List TheToken) → lexed text ≡ Ok tokens → in_order 0 tokens (length text) × no_number_below tokens }
+{}
+
+/// A text of more than 4,096 bytes is too long. Another has a fault exactly where its cause stands behind blanks and
+/// whole tokens: a byte with which no token begins, a text without an end, all digits of a number that is too great.
+pub fn faults_have_causes()
+    ensures { (text : List ℕ) → (4096 < length text → lexed text ≡ Err (TooLong (length text))) × ((fault : TheFault) → length text ≤ 4096 → (lexed text ≡ Err fault → FaultIn 0 text fault) × (FaultIn 0 text fault → lexed text ≡ Err fault)) }
 {}

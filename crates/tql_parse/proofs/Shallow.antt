@@ -12,7 +12,8 @@ use Rattle.tql_parse.specs.declared.key.Key.{Key}
 use Rattle.tql_parse.specs.declared.key.Key.TheVariants as K
 use Rattle.tql_parse.specs.declared.fault.ParseFault.{ParseFault}
 use Rattle.tql_parse.specs.declared.fault.ParseFault.TheVariants.{Unexpected, Deep}
-use Rattle.tql_parse.specs.Keys.{key, is_word, is_number, is_text, is_name, is_where, is_open, is_dot, is_colon, is_plain}
+use Rattle.tql_parse.specs.Keys.{key, is_word, is_number, is_text, is_name, is_where, is_open, is_dot, is_colon}
+use Rattle.tql_tree.specs.Proper.{is_plain}
 use Rattle.tql_parse.specs.Reading.{Read, ◌>>=◌, one, unit_by, unit_name, table_by, table_at, shift_after, shift_by, shift_at, negative_at, now_at, today_at, moment_at, field_at, expr_by, expr_at, has_at, right_by, right_at, compare_at, head_at}
 
 -- no level is missed

@@ -8,7 +8,8 @@ use Rattle.tql_tree.specs.declared.expr.Expr.{Expr}
 use Rattle.tql_tree.specs.Syntax.{Syntax, Or, And}
 use Rattle.tql_parse.specs.declared.key.Key.{Key}
 use Rattle.tql_parse.specs.declared.key.Key.TheVariants as K
-use Rattle.tql_parse.specs.Keys.{key, is_word, is_number, is_text, is_name, is_and, is_or, is_where, is_open, is_close, is_dot, is_colon, is_plain}
+use Rattle.tql_parse.specs.Keys.{key, is_word, is_number, is_text, is_name, is_and, is_or, is_where, is_open, is_close, is_dot, is_colon}
+use Rattle.tql_tree.specs.Proper.{is_plain}
 use Rattle.tql_parse.specs.Grammar.{forward, back, MayShift, none, some, IsExpr, number_is, negative, text_is, now, today, moment, field, IsTable, docs, notes, IsCompare, compare, has, Cond, Conj, One, Reads, conj_alone, or_conj, unit_alone, and_unit, not_unit, group, true_is, false_is, exists_is, compare_is}
 use Rattle.tql_parse.specs.Reading.{Read, ◌>>=◌, one, unit_by, unit_name, table_by, table_at, shift_after, shift_by, shift_at, negative_at, moment_at, field_at, expr_by, expr_at, has_at, right_by, right_at, compare_at, chain, conj_with, cond_with, group_with, head_at, exists_with, deeper, flat, unit_at}
 use Rattle.tql_parse.proofs.Steps.{On, on_bind, on_map, on_one, Next}

@@ -16,7 +16,8 @@ use Rattle.tql_parse.specs.declared.key.Opening.{Opening}
 use Rattle.tql_parse.specs.declared.key.Opening.TheVariants as O
 use Rattle.tql_parse.specs.declared.fault.ParseFault.{ParseFault}
 use Rattle.tql_parse.specs.declared.fault.ParseFault.TheVariants.{Unexpected, Ended, Deep, Memory}
-use Rattle.tql_parse.specs.Keys.{key, number, bytes, is_word, is_number, is_text, is_name, is_and, is_or, is_where, is_open, is_close, is_dot, is_colon, is_plain, opening}
+use Rattle.tql_parse.specs.Keys.{key, number, bytes, is_word, is_number, is_text, is_name, is_and, is_or, is_where, is_open, is_close, is_dot, is_colon, opening}
+use Rattle.tql_tree.specs.Proper.{is_plain}
 use Rattle.tql_parse.specs.Reading.{Read, ◌>>=◌, one, unit_name, table_at, shift_after, shift_at, negative_at, now_at, today_at, moment_at, field_at, expr_at, right_at, compare_at, chain, chained, conj_with, cond_with, group_with, head_at, exists_with, not_with, unit_at, cond_at}
 use Rattle.tql_parse.proofs.Chains.{Shrinks, same}
 use Rattle.tql_parse.proofs.Lengths.{unit_shrinks, conj_shrinks}

@@ -12,7 +12,8 @@ use Rattle.tql_tree.specs.declared.expr.Expr.TheVariants as E
 use Rattle.tql_tree.specs.Syntax.{Syntax, True, False, Or, And, Not, Exists, Compare, Has}
 use Rattle.tql_parse.specs.declared.key.Key.{Key}
 use Rattle.tql_parse.specs.declared.key.Key.TheVariants as K
-use Rattle.tql_parse.specs.Keys.{key, number, bytes, is_word, is_number, is_text, is_name, is_and, is_or, is_where, is_open, is_close, is_dot, is_colon, is_plain}
+use Rattle.tql_parse.specs.Keys.{key, number, bytes, is_word, is_number, is_text, is_name, is_and, is_or, is_where, is_open, is_close, is_dot, is_colon}
+use Rattle.tql_tree.specs.Proper.{is_plain}
 
 -- what a token is
 abbrev pub is : (Key → Bool) → Token → Type 0

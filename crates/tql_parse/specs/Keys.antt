@@ -5,8 +5,6 @@ use Rattle.tql_lex.specs.declared.sign.Sign.TheVariants as S
 use Rattle.tql_lex.specs.declared.kind.Kind.{Kind}
 use Rattle.tql_lex.specs.declared.kind.Kind.TheVariants as K
 use Rattle.tql_tree.specs.declared.shift.Unit.TheVariants.{Seconds, Minutes, Hours, Days}
-use Rattle.tql_tree.specs.declared.expr.Expr.{Expr}
-use Rattle.tql_tree.specs.declared.expr.Expr.TheVariants as E
 use Rattle.tql_lex.specs.declared.token.Token.{Token}
 use Rattle.tql_parse.specs.declared.key.Opening.{Opening}
 use Rattle.tql_parse.specs.declared.key.Opening.TheVariants as O
@@ -96,11 +94,6 @@ is_dot _ = false
 abbrev pub is_colon : Key → Bool
 is_colon (Mark S.Colon) = true
 is_colon _ = false
-
--- a field without a shift
-abbrev pub is_plain : Expr → Bool
-is_plain (E.Field var var_place field field_place None) = true
-is_plain _ = false
 
 -- what a unit with this token at its front is
 abbrev pub opening : Key → Opening

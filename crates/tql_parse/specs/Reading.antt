@@ -14,7 +14,8 @@ use Rattle.tql_parse.specs.declared.key.Key.{Key}
 use Rattle.tql_parse.specs.declared.key.Key.TheVariants as K
 use Rattle.tql_parse.specs.declared.fault.ParseFault.{ParseFault}
 use Rattle.tql_parse.specs.declared.fault.ParseFault.TheVariants.{Unexpected, Ended, Deep, Memory}
-use Rattle.tql_parse.specs.Keys.{key, number, bytes, is_word, is_number, is_text, is_name, is_and, is_or, is_where, is_open, is_close, is_dot, is_colon, is_plain}
+use Rattle.tql_parse.specs.Keys.{key, number, bytes, is_word, is_number, is_text, is_name, is_and, is_or, is_where, is_open, is_close, is_dot, is_colon}
+use Rattle.tql_tree.specs.Proper.{is_plain}
 
 abbrev pub Read : Type 0 → Type 0
 Read A = Result (A × List Token) ParseFault

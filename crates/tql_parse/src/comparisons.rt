@@ -1,5 +1,6 @@
 ghost use Rattle.std.specs.Prelude.{◌≡◌, IfOk, ◌≤ℤ◌, ◌-ℤ◌, pos, length, List};
-ghost use Rattle.tql_parse.specs.Keys.{key, number, bytes, is_word, is_number, is_text, is_name, is_where, is_open, is_close, is_dot, is_colon, is_plain};
+ghost use Rattle.tql_parse.specs.Keys.{key, number, bytes, is_word, is_number, is_text, is_name, is_where, is_open, is_close, is_dot, is_colon};
+ghost use Rattle.tql_tree.specs.Proper.{is_plain};
 ghost use Rattle.tql_parse.specs.Reading.{Gives, one, unit_name, table_at, shift_after, shift_at, negative_at, now_at, today_at, moment_at, field_at, expr_at, head_at, right_at, compare_at};
 ghost use Rattle.tql_tree.specs.Syntax.{syntax};
 

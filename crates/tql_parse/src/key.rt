@@ -1,5 +1,6 @@
 ghost use Rattle.std.specs.Prelude.{◌≡◌, IfOk};
-ghost use Rattle.tql_parse.specs.Keys.{condition_word, value_word, unit_word, word_key, key, number, bytes, is_word, is_plain, opening_of};
+ghost use Rattle.tql_parse.specs.Keys.{condition_word, value_word, unit_word, word_key, key, number, bytes, is_word, opening_of};
+ghost use Rattle.tql_tree.specs.Proper.{is_plain};
 
 use std::alloc::Global;
 use tap_base::{Memory, Text};

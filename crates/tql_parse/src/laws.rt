@@ -4,8 +4,15 @@ ghost use Rattle.std.specs.Prelude.{◌≡◌, ℕ, List};
 ghost use Rattle.tql_tree.specs.Syntax.{Syntax};
 ghost use Rattle.tql_lex.specs.declared.token.Token.{Token as TheToken};
 ghost use Rattle.tql_parse.specs.Grammar.{IsQuery};
+ghost use Rattle.tql_parse.specs.RoundTrip.{ReadsBack};
 
 /// Tokens are at most one query, however many levels it has.
 pub fn one_tree()
     ensures { (n m : ℕ) (ts : List TheToken) (x y : Syntax) → IsQuery n ts x → IsQuery m ts y → x ≡ y }
+{}
+
+/// Where the canonical text of a query that was read from a text has at most 4,096 bytes, its tokens are the same query
+/// again, places aside.
+pub fn canonical_text_reads_back()
+    ensures { ReadsBack }
 {}

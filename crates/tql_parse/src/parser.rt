@@ -1,5 +1,6 @@
 ghost use Rattle.std.specs.Prelude.{◌≡◌, ◌≤◌, drop, IfOk, Ok, Err, ℕ, List};
 ghost use Rattle.tql_tree.specs.Syntax.{Syntax, syntax};
+ghost use Rattle.tql_tree.specs.Proper.{IsProper};
 ghost use Rattle.tql_parse.specs.declared.fault.ParseFault.{ParseFault};
 ghost use Rattle.tql_parse.specs.Grammar.{IsQuery, Begins, DeepAt, UnexpectedAt};
 ghost use Rattle.tql_parse.specs.Reading.{Gives, unit_at, conj_at, cond_at, group_with, exists_with, not_with, query_at, next_is, deep_at};
@@ -157,10 +158,18 @@ fn query(alloc: Global, tokens: &[Token]) -> Result<Tree, ParseFault>
     }
 }
 
-/// The tree of the query that all tokens are, of at most 32 levels.
+/// The tree of the query that all tokens are. NOT, the `(` of a group and EXISTS each open a level, and at most 32
+/// are open at a place. Chains of AND and OR are nested on the left and open none: they are read by loops, so that
+/// only the levels make calls deeper. Tokens with a number below 0, which `tql_lex::lex` never gives, are no query.
+///
+/// Faults: take the first token with which the tokens so far begin no query of at most 32 levels. It is `Deep` where
+/// they begin one of more levels, and `Unexpected` where they begin none. Where there is no such token, and the
+/// tokens are no query, they have `Ended` too early.
 pub fn parse(alloc: Global, tokens: &[Token]) -> Result<Tree, ParseFault>
     // What is given is in the grammar.
     ensures found { IfOk result (λ tree. IsQuery 32 tokens.now (syntax tree)) }
+    // Counts of shifts are at least 0, and the left side of a `Has` is a field without a shift.
+    ensures proper { IfOk result (λ tree. IsProper (syntax tree)) }
     // What is in the grammar is given, unless memory runs out.
     ensures only { (x : Syntax) → IsQuery 32 tokens.now x → Gives syntax result (Ok x) }
     // A fault is at the first token with which the tokens begin no query of at most 32 levels.

@@ -86,7 +86,7 @@ fn copied_token(alloc: Global, text: &[u8]) -> bool {
 #[test]
 fn faults(rt: HostRuntime) {
     let alloc = rt.alloc();
-    let table: [(&[u8], Outcome); 15] = [
+    let table: [(&[u8], Outcome); 19] = [
         (b"m.size = ;", Outcome::Byte(9)),
         (b"m.words HAS 'a", Outcome::Open(12)),
         (b"m.size = 9223372036854775808", Outcome::Big(9)),
@@ -102,6 +102,10 @@ fn faults(rt: HostRuntime) {
         (b"(TRUE OR FALSE", Outcome::Ended),
         (b"EXISTS (a: DOC WHERE TRUE))", Outcome::Unexpected(26)),
         (b"", Outcome::Ended),
+        (b"'a''b", Outcome::Open(0)),
+        (b"m.size\r= 1", Outcome::Byte(6)),
+        (b"= ;", Outcome::Byte(2)),
+        (b"m.size =< 1", Outcome::Unexpected(8)),
     ];
     for (text, wanted) in &table {
         assert_eq!(rt; read(alloc, text), *wanted);

@@ -1,5 +1,5 @@
 use Rattle.std.proofs.Common.{sym, subst, refl, arith, inl, inr}
-use Rattle.time_marks.specs.Scope.{IsQuery}
+use Rattle.tql_core.specs.Scope.{IsQuery}
 use Rattle.monotone_rewrite.proofs.tests.a_condition_has_its_probes.Goals as goal
 
 pub monotone-requires : goal.monotone-requires

@@ -1,5 +1,5 @@
 use Rattle.std.proofs.Common.{sym, subst, refl, arith, inl, inr}
-use Rattle.time_marks.specs.Scope.{IsQuery}
+use Rattle.tql_core.specs.Scope.{IsQuery}
 use Rattle.time_marks.proofs.tests.a_note_that_grows_old_is_a_mark.Goals as goal
 
 pub rising-requires : goal.rising-requires

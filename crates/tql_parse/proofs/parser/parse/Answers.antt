@@ -4,11 +4,15 @@ use Rattle.tql_tree.specs.Syntax.{syntax}
 use Rattle.tql_parse.specs.Reading.{Gives}
 use Rattle.tql_parse.proofs.Complete.{query_is}
 use Rattle.tql_parse.proofs.Queries.{query_found}
+use Rattle.tql_parse.proofs.Proper.{found_proper}
 use Rattle.tql_parse.proofs.Faults.{gives_unexpected, gives_deep, gives_ended}
 use Rattle.tql_parse.proofs.parser.parse.Goals as goal
 
 pub returns-clause-found : goal.returns-clause-found
 returns-clause-found c = query_found 32 c.args.tokens.now syntax c.query.result c.query.ensures
+
+pub returns-clause-proper : goal.returns-clause-proper
+returns-clause-proper c = found_proper 32 c.args.tokens.now syntax c.query.result (query_found 32 c.args.tokens.now syntax c.query.result c.query.ensures)
 
 pub returns-clause-only : goal.returns-clause-only
 returns-clause-only c = λ x h. subst (λ f. Gives syntax c.query.result f) (query_is 32 c.args.tokens.now x h) c.query.ensures

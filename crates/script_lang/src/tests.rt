@@ -1,0 +1,290 @@
+ghost use Rattle.std.specs.Prelude.{◌≡◌, ◌≤◌, ◌<◌, length};
+ghost use Rattle.script_lang.specs.Replies.{HasShortNames};
+
+use crate::{
+    Command, LexFault, LimitName, ParseFault, Refusal, Reply, ScriptReader, TypeFault, put_reply,
+};
+use mail_lines::Block;
+use std::alloc::Global;
+use std::test::Fail;
+use tap_base::{DocNum, Memory, Rows, Text, Texts, put_decimal};
+use tap_edges::{MemSink, PutPlan};
+use tap_rows::Entry;
+
+// The bytes of a reply that are taken where these puts fail.
+fn shown(alloc: Global, reply: &Reply, fails: Vec<PutPlan>) -> Result<Text, Memory>
+    requires { HasShortNames reply.now }
+{
+    let mut sink = MemSink::new(alloc, 256, fails)?;
+    let _ = put_reply(reply, &mut sink);
+    Text::from_slice(alloc, sink.written())
+}
+
+#[test]
+fn refusals_have_their_lines(rt: HostRuntime) -> Result<(), Fail> {
+    let alloc = rt.alloc();
+    let rows: [(Refusal, &[u8]); 26] = [
+        (Refusal::NotBuilt, b"no 0\n"),
+        (Refusal::Unknown, b"no 1\n"),
+        (Refusal::Form, b"no 2\n"),
+        (Refusal::Cut, b"no 3\n"),
+        (Refusal::BadMoment, b"no 4\n"),
+        (
+            Refusal::Backwards { last: 250000000000 },
+            b"no 5 250000000000\n",
+        ),
+        (Refusal::NoMoment, b"no 6\n"),
+        (Refusal::NoUser, b"no 7\n"),
+        (Refusal::BadName, b"no 8\n"),
+        (Refusal::Taken, b"no 9\n"),
+        (Refusal::NoQuery, b"no 10\n"),
+        (Refusal::NoDoc, b"no 11\n"),
+        (
+            Refusal::Lex(LexFault::BadByte { place: 9 }),
+            b"no 12 byte 9\n",
+        ),
+        (
+            Refusal::Lex(LexFault::TooLong { len: 4097 }),
+            b"no 12 long 4097\n",
+        ),
+        (
+            Refusal::Parse(ParseFault::Unexpected { place: 11 }),
+            b"no 13 token 11\n",
+        ),
+        (Refusal::Parse(ParseFault::Ended), b"no 13 ended\n"),
+        (
+            Refusal::Types(TypeFault::NoVar { place: 0 }),
+            b"no 14 variable 0\n",
+        ),
+        (
+            Refusal::Types(TypeFault::ManyVars { place: 113 }),
+            b"no 14 variables 113\n",
+        ),
+        (Refusal::Types(TypeFault::ManyNodes), b"no 14 nodes\n"),
+        (Refusal::NotOver { now: 1 }, b"no 15 1\n"),
+        (Refusal::Limit(LimitName::Message), b"no 16 message\n"),
+        (Refusal::Limit(LimitName::AllQueries), b"no 16 allqueries\n"),
+        (Refusal::Rule { line: 1, place: 5 }, b"no 17 1 5\n"),
+        (Refusal::ManyRules, b"no 17 many\n"),
+        (Refusal::Memory, b"no 18\n"),
+        (Refusal::NoRun { runs: 2 }, b"no 19 2\n"),
+    ];
+    for (refusal, want) in rows {
+        let line = shown(alloc, &Reply::No(refusal), Vec::new(alloc))?;
+        assert_eq!(rt; line.as_slice(), want);
+    }
+    Ok(())
+}
+
+// A reply with two deliveries, where this put fails.
+fn box_until(alloc: Global, call: u64) -> Result<Text, Memory> {
+    let mut entries = Rows::new(alloc);
+    entries.push(Entry {
+        doc: DocNum(1),
+        first: 100,
+        run: 1,
+    })?;
+    entries.push(Entry {
+        doc: DocNum(20),
+        first: 110,
+        run: 2,
+    })?;
+    let reply = Reply::BoxOf {
+        name: Text::new(alloc),
+        entries,
+    };
+    shown(alloc, &reply, vec![in alloc; PutPlan { call, out: 0 }]?)
+}
+
+// A reply with two texts, where this put fails.
+fn texts_until(alloc: Global, call: u64) -> Result<Text, Memory> {
+    let mut lines = Texts::new(alloc);
+    lines.push(Text::from_slice(alloc, b"one")?)?;
+    lines.push(Text::new(alloc))?;
+    let reply = Reply::Explain {
+        name: Text::new(alloc),
+        lines,
+    };
+    shown(alloc, &reply, vec![in alloc; PutPlan { call, out: 0 }]?)
+}
+
+#[test]
+fn a_line_is_one_put(rt: HostRuntime) -> Result<(), Fail> {
+    let rows: [(u64, &[u8]); 3] = [
+        (1, b"ok 2 box \n"),
+        (2, b"ok 2 box \ndoc 1 first 100 run 1\n"),
+        (
+            9,
+            b"ok 2 box \ndoc 1 first 100 run 1\ndoc 20 first 110 run 2\n",
+        ),
+    ];
+    for (call, want) in rows {
+        let bytes = box_until(rt.alloc(), call)?;
+        assert_eq!(rt; bytes.as_slice(), want);
+    }
+    Ok(())
+}
+
+#[test]
+fn a_text_is_two_puts(rt: HostRuntime) -> Result<(), Fail> {
+    let rows: [(u64, &[u8]); 4] = [
+        (1, b"ok 2 explain \n"),
+        (2, b"ok 2 explain \none"),
+        (3, b"ok 2 explain \none\n"),
+        (9, b"ok 2 explain \none\n\n"),
+    ];
+    for (call, want) in rows {
+        let bytes = texts_until(rt.alloc(), call)?;
+        assert_eq!(rt; bytes.as_slice(), want);
+    }
+    Ok(())
+}
+
+// Shows a name and a text.
+fn show_one(into: &mut Text, name: &[u8], text: &[u8]) -> Result<(), Memory> {
+    into.push_slice(name)?;
+    into.push_slice(text)?;
+    into.push_slice(b";")
+}
+
+// Shows a name and a block.
+fn show_block(into: &mut Text, name: &[u8], block: &Block) -> Result<(), Memory> {
+    match block {
+        Block::Whole(text) => show_one(into, name, text.as_slice()),
+        Block::Long => show_one(into, name, b"(long)"),
+    }
+}
+
+// Shows a name and two texts.
+fn show_two(into: &mut Text, name: &[u8], one: &[u8], two: &[u8]) -> Result<(), Memory> {
+    into.push_slice(name)?;
+    into.push_slice(one)?;
+    show_one(into, b",", two)
+}
+
+// Shows why a line is no command.
+fn show_bad(into: &mut Text, refusal: Refusal) -> Result<(), Memory> {
+    match refusal {
+        Refusal::Unknown => show_one(into, b"bad ", b"word"),
+        Refusal::Form => show_one(into, b"bad ", b"form"),
+        Refusal::Cut => show_one(into, b"bad ", b"cut"),
+        _ => show_one(into, b"bad ", b"limit"),
+    }
+}
+
+// Shows a note.
+fn show_note(
+    alloc: Global,
+    into: &mut Text,
+    doc: u32,
+    kind: &[u8],
+    value: i64,
+    text: &[u8],
+) -> Result<(), Memory> {
+    into.push_slice(b"note ")?;
+    put_decimal(alloc, doc as i64, into)?;
+    into.push_slice(b",")?;
+    put_decimal(alloc, value, into)?;
+    show_two(into, b",", kind, text)
+}
+
+// Shows a command.
+fn show(alloc: Global, into: &mut Text, command: &Command) -> Result<(), Memory> {
+    match command {
+        Command::At(text) => show_one(into, b"at ", text.as_slice()),
+        Command::AsUser(name) => show_one(into, b"as ", name.as_slice()),
+        Command::Mail(block) => show_block(into, b"mail ", block),
+        Command::Mbox(block) => show_block(into, b"mbox ", block),
+        Command::AddNote {
+            doc,
+            kind,
+            value,
+            text,
+        } => show_note(alloc, into, *doc, kind.as_slice(), *value, text.as_slice()),
+        Command::Define { name, source } => {
+            show_two(into, b"query ", name.as_slice(), source.as_slice())
+        }
+        Command::Run(name) => show_one(into, b"run ", name.as_slice()),
+        Command::BoxOf(name) => show_one(into, b"box ", name.as_slice()),
+        Command::ListOf(name) => show_one(into, b"list ", name.as_slice()),
+        Command::Filter(block) => show_block(into, b"filter ", block),
+        Command::Explain(name) => show_one(into, b"explain ", name.as_slice()),
+        Command::Ask { moment, source } => {
+            show_two(into, b"ask ", moment.as_slice(), source.as_slice())
+        }
+        Command::Wake(name) => show_one(into, b"wake ", name.as_slice()),
+        Command::ScoresOf(kind) => show_one(into, b"scores ", kind.as_slice()),
+        Command::DigestOf { name, ordinal } => {
+            into.push_slice(b"digest ")?;
+            put_decimal(alloc, *ordinal as i64, into)?;
+            show_one(into, b",", name.as_slice())
+        }
+        Command::Bad(refusal) => show_bad(into, *refusal),
+    }
+}
+
+// Shows the commands of a script that comes in pieces of `size` bytes.
+fn read(alloc: Global, script: &[u8], size: usize) -> Result<Text, Memory>
+    requires { 0 < size }
+{
+    let mut reader = ScriptReader::new(alloc);
+    let mut out = Text::new(alloc);
+    let mut at = 0;
+    while at < script.len() {
+        let end = if script.len() - at < size {
+            script.len()
+        } else {
+            at + size
+        };
+        let got = reader.take(&script[at..end])?;
+        if let Some(command) = &got.command {
+            show(alloc, &mut out, command)?;
+        }
+        at += got.used;
+    }
+    if let Some(command) = &reader.finish()? {
+        show(alloc, &mut out, command)?;
+    }
+    Ok(out)
+}
+
+// Shows the commands of a script that comes whole; shows nothing where they are others in pieces of one byte or two.
+fn read_all(alloc: Global, script: &[u8]) -> Result<Text, Memory> {
+    let whole = read(alloc, script, 1000)?;
+    let ones = read(alloc, script, 1)?;
+    let twos = read(alloc, script, 2)?;
+    if ones.as_slice() == whole.as_slice() && twos.as_slice() == whole.as_slice() {
+        Ok(whole)
+    } else {
+        Ok(Text::new(alloc))
+    }
+}
+
+#[test]
+fn commands_are_read_in_any_pieces(rt: HostRuntime) -> Result<(), Fail> {
+    let alloc = rt.alloc();
+    let rows: [(&[u8], &[u8]); 5] = [
+        (
+            b"at 9\r\n\t as  ann \n# at 1\n \n#\nrun q\nbox q\nlist q\nexplain q\nwake q\nscores k\ndigest q 01\n",
+            b"at 9;as ann;run q;box q;list q;explain q;wake q;scores k;digest 1,q;",
+        ),
+        (
+            b"note 4294967295 k -9223372036854775808  a b \nnote 4294967296 k 1 t\nnote 1 k +1 t\nquery q\nquery q  a  b\nask 1\tx\r\r\nask",
+            b"note 4294967295,-9223372036854775808,k,a b ;bad form;bad form;query q,;query q,a  b;ask 1,x\r;bad form;",
+        ),
+        (
+            b"mail\r\nSubject: x\r\n\r\n..\n.x\n\n.\r\nmbox\n.\nfilter\n# no\n.",
+            b"mail Subject: x\n\n.\nx\n\n;mbox ;filter # no\n;",
+        ),
+        (
+            b"mail x\nat 1\n.\nfly\nat\nat 1 2\nmail",
+            b"bad form;bad word;bad form;bad form;bad cut;",
+        ),
+        (b"mbox y\nat 1", b"bad form;"),
+    ];
+    for (script, want) in rows {
+        let shown = read_all(alloc, script)?;
+        assert_eq!(rt; shown.as_slice(), want);
+    }
+    Ok(())
+}

@@ -1,0 +1,179 @@
+-- What a run delivers, and what the engine keeps after it.
+use Rattle.std.proofs.Common.{◌≡◌, ◌∙◌, sym, refl, ap, arith, ℕ, zero, suc, ◌+◌, ◌-◌, ◌≤◌, ◌<◌, ℤ, List, [], ◌∷◌, ◌++◌, length, map, Option, Some, None, true, false, inl, inr, if◌then◌else◌}
+use Rattle.std.specs.Prelude.{◌==◌, slice_index_or, slice_set}
+use Rattle.std.specs.Option.{option_map}
+use Rattle.std.proofs.lemmas.List.{length-append, map-append}
+use Rattle.std.proofs.lemmas.List.Elements.{filter-append}
+use Rattle.tap_rows.specs.declared.tables.Tables.{Tables}
+use Rattle.tap_rows.specs.declared.rows.QueryRow.{QueryRow}
+use Rattle.tap_rows.specs.declared.rows.RunRow.{RunRow}
+use Rattle.tap_rows.specs.declared.results.Entry.{Entry}
+use Rattle.tap_rows.specs.declared.change.Change.TheVariants.{RunDone}
+use Rattle.tap_rows.specs.Tables.{after}
+use Rattle.tap_rows.specs.Results.{runs_of, run_moments, covered, last_or, entry_at}
+use Rattle.tap_rows.specs.Deliveries.{delivered, picked, picks_of, pick_rows, next_run, run_change}
+use Rattle.tap_rows.specs.Kept.{In, IsKept, QueriesFrom}
+use Rattle.tap_rows.proofs.LaterLaws.{filter-none}
+use Rattle.tap_rows.proofs.PlaceLaws.{ordinal-new, moments-new, moments-other, old-picks, picks-all, picks-none, new-picks, query-bounds}
+use Rattle.tap_rows.proofs.RunLaws.{last-more}
+use Rattle.script_lang.specs.declared.command.Command.TheVariants.{Run}
+use Rattle.script_lang.specs.declared.reply.Reply.TheVariants.{Ran}
+use Rattle.tap_engine.specs.declared.session.Session.{Session}
+use Rattle.tap_engine.specs.declared.kept_query.KeptQuery.{KeptQuery}
+use Rattle.tap_engine.specs.declared.engine.Engine.{Engine}
+use Rattle.tap_engine.specs.declared.run.Due.{Due}
+use Rattle.tap_engine.specs.Sessions.{user_of, present}
+use Rattle.tap_engine.specs.Queries.{is_named, query_named, hits_of, truth_of, start_of}
+use Rattle.tap_engine.specs.Verdicts.{verdict}
+use Rattle.tap_engine.specs.Keeping.{kept_query, after_run}
+use Rattle.tap_engine.specs.Standing.{StandsFor, kept_named, hits_kept, due_of}
+use Rattle.tap_engine.specs.Sound.{Sound}
+use Rattle.tap_engine.specs.Stories.{Follows}
+use Rattle.tap_engine.specs.Replies.{run_query, tables_after}
+use Rattle.tap_engine.proofs.CheckLaws.{named-is, hits-is, find-in, follows-accepted}
+
+-- what is due is due to a query that there is
+pub record IsDue (e : Engine) (t : Tables) (name : List ℕ) (due : Due) : Type 0 where
+  pub q : QueryRow
+  pub some : query_named (user_of e.session) name t ≡ Some q
+  pub has : In q t.queries
+  pub is : due ≡ record { query = q.num; moment = present e.session; runs = length (run_moments q.num.0 t.runs); hits = hits_of q t (present e.session) }
+
+no-due : (due : Due) → Some due ≡ None → ⊥
+no-due due e = cc
+
+same-due : (x y : Due) → Some x ≡ Some y → x ≡ y
+same-due x y e = cc
+
+pub due-is : (e : Engine) (t : Tables) (name : List ℕ) (due : Due) → StandsFor e t → Sound t e.session → Some due ≡ due_of e (kept_named e name) → IsDue e t name due
+due-is e t name due stands sound is = go (query_named (user_of e.session) name t) refl where
+  kept : Some due ≡ due_of e (option_map (kept_query t) (query_named (user_of e.session) name t))
+  kept = is ∙ ap (due_of e) (named-is e t name stands)
+
+  go : (o : Option QueryRow) → query_named (user_of e.session) name t ≡ o → IsDue e t name due
+  go None none = absurd (no-due due (kept ∙ ap (λ o. due_of e (option_map (kept_query t) o)) none))
+  go (Some q) some = record {
+    q = q;
+    some = some;
+    has = find-in (is_named (user_of e.session) name) t.queries q some;
+    is = same-due due (record { query = q.num; moment = present e.session; runs = length (run_moments q.num.0 t.runs); hits = hits_kept e (Some (kept_query t q)) }) (kept ∙ ap (λ o. due_of e (option_map (kept_query t) o)) some)
+        ∙ ap (λ hits. record { query = q.num; moment = present e.session; runs = length (run_moments q.num.0 t.runs); hits = hits }) (hits-is e t (Some q) stands sound);
+  }
+
+-- a query has no more runs than there are
+pub runs-few : (query : ℕ) (runs : List RunRow) → length (run_moments query runs) ≤ length runs
+runs-few query [] = omega arith
+runs-few query (run ∷ runs) =
+    let rest = runs-few query runs in
+    elim (run.query.0 == query) as (λ b. length (map (λ run. run.moment) (if b then run ∷ runs_of query runs else runs_of query runs)) ≤ suc (length runs)) [ true ↦ omega (arith, rest) | false ↦ omega (arith, rest) ]
+
+-- what is kept of a query stands at the place of its number
+pub placed : (f : QueryRow → KeptQuery) (k i : ℕ) (qs : List QueryRow) (q : QueryRow) (d : KeptQuery) → QueriesFrom k qs → In q qs → q.num.0 ≡ k + i → slice_index_or (map f qs) i d ≡ f q
+placed f k i [] q d from has at = absurd has
+placed f k zero (x ∷ qs) q d from (inl e) at = ap f (sym e)
+placed f k (suc i) (x ∷ qs) q d from (inl e) at = absurd (let is : q.num.0 ≡ k = ap (λ row. row.num.0) e ∙ from.0 in omega (arith, is, at))
+placed f k zero (x ∷ qs) q d from (inr h) at = absurd (let bounds = query-bounds (suc k) qs q from.1 h in omega (arith, bounds.0, at))
+placed f k (suc i) (x ∷ qs) q d from (inr h) at = placed f (suc k) i qs q d from.1 h (omega (arith, at))
+
+others-same : (f g : QueryRow → KeptQuery) (k : ℕ) (qs : List QueryRow) (q : QueryRow) → QueriesFrom k qs → q.num.0 < k → ((other : QueryRow) → (q.num.0 ≡ other.num.0 → ⊥) → g other ≡ f other) → map f qs ≡ map g qs
+others-same f g k [] q from lt same = refl
+others-same f g k (x ∷ qs) q from lt same = rw (same x (λ e. absurd (omega (arith, e, from.0, lt))), others-same f g (suc k) qs q from.1 (omega (arith, lt)) same) refl
+
+-- where one query changes, it alone is written
+pub placed-set : (f g : QueryRow → KeptQuery) (k i : ℕ) (qs : List QueryRow) (q : QueryRow) → QueriesFrom k qs → In q qs → q.num.0 ≡ k + i → ((other : QueryRow) → (q.num.0 ≡ other.num.0 → ⊥) → g other ≡ f other) → slice_set (map f qs) i (g q) ≡ map g qs
+placed-set f g k i [] q from has at same = absurd has
+placed-set f g k zero (x ∷ qs) q from (inl e) at same = rw (ap g e, others-same f g (suc k) qs q from.1 (omega (arith, at)) same) refl
+placed-set f g k (suc i) (x ∷ qs) q from (inl e) at same = absurd (let is : q.num.0 ≡ k = ap (λ row. row.num.0) e ∙ from.0 in omega (arith, is, at))
+placed-set f g k zero (x ∷ qs) q from (inr h) at same = absurd (let bounds = query-bounds (suc k) qs q from.1 h in omega (arith, bounds.0, at))
+placed-set f g k (suc i) (x ∷ qs) q from (inr h) at same =
+    rw (same x (λ e. absurd (omega (arith, e, from.0, at)))) (ap (λ rest. f x ∷ rest) (placed-set f g (suc k) i qs q from.1 h (omega (arith, at)) same))
+
+abbrev kept_as : QueryRow → ℤ → ℕ → List Entry → KeptQuery
+kept_as row covered runs entries = record { row = row; covered = covered; runs = runs; entries = entries }
+
+same-kept : (row : QueryRow) (a a' : ℤ) (b b' : ℕ) (c c' : List Entry) → a ≡ a' → b ≡ b' → c ≡ c' → kept_as row a b c ≡ kept_as row a' b' c'
+same-kept row a a' b b' c c' e f g = rw (e, f, g) refl
+
+both-parts : (a a' b b' : List Entry) → a ≡ a' → b ≡ b' → a ++ b ≡ a' ++ b'
+both-parts a a' b b' e f = rw (e, f) refl
+
+-- a query after its run
+own-after : (t : Tables) (q : QueryRow) (m : ℤ) → IsKept truth_of start_of t → kept_query (after t (run_change (truth_of q) (start_of q) t q.num m)) q ≡ after_run m (map (entry_at (length (run_moments q.num.0 t.runs) + 1)) (hits_of q t m)) (kept_query t q)
+own-after t q m kept =
+    let run = next_run t q.num m in
+    let hits = hits_of q t m in
+    let picks = pick_rows (length t.picks + 1) q.num (length t.runs + 1) hits in
+    let moments : run_moments q.num.0 (t.runs ++ run ∷ []) ≡ run_moments q.num.0 t.runs ++ m ∷ [] = moments-new q.num.0 t.runs run refl in
+    let both : picks_of q.num.0 (t.picks ++ picks) ≡ picks_of q.num.0 t.picks ++ picks = filter-append (λ pick. pick.query.0 == q.num.0) t.picks picks ∙ ap (λ more. picks_of q.num.0 t.picks ++ more) (picks-all (length t.picks + 1) q.num (length t.runs + 1) hits) in
+    let place = ordinal-new q.num.0 t.runs run kept.runs refl refl in
+    same-kept q (covered (start_of q) q.num.0 (t.runs ++ run ∷ [])) m (length (run_moments q.num.0 (t.runs ++ run ∷ []))) (length (run_moments q.num.0 t.runs) + 1)
+    (map (picked (t.runs ++ run ∷ [])) (picks_of q.num.0 (t.picks ++ picks))) (delivered q.num.0 t ++ map (entry_at (length (run_moments q.num.0 t.runs) + 1)) hits)
+    (ap (last_or (start_of q)) moments ∙ last-more (start_of q) m (run_moments q.num.0 t.runs))
+    (ap length moments ∙ length-append (run_moments q.num.0 t.runs) (m ∷ []))
+    (ap (map (picked (t.runs ++ run ∷ []))) both ∙ map-append (picked (t.runs ++ run ∷ [])) (picks_of q.num.0 t.picks) picks
+    ∙ both-parts _ _ _ _ (old-picks q.num.0 t.runs run t.picks kept.picks) (new-picks (t.runs ++ run ∷ []) (length t.picks + 1) q.num (length t.runs + 1) (length (run_moments q.num.0 t.runs) + 1) hits place))
+
+-- another query after that run
+other-after : (t : Tables) (q other : QueryRow) (m : ℤ) → IsKept truth_of start_of t → (q.num.0 ≡ other.num.0 → ⊥) → kept_query (after t (run_change (truth_of q) (start_of q) t q.num m)) other ≡ kept_query t other
+other-after t q other m kept differs =
+    let run = next_run t q.num m in
+    let hits = hits_of q t m in
+    let picks = pick_rows (length t.picks + 1) q.num (length t.runs + 1) hits in
+    let moments : run_moments other.num.0 (t.runs ++ run ∷ []) ≡ run_moments other.num.0 t.runs = moments-other other.num.0 t.runs run differs in
+    let own : picks_of other.num.0 (t.picks ++ picks) ≡ picks_of other.num.0 t.picks = filter-none (λ pick. pick.query.0 == other.num.0) t.picks picks (picks-none other.num.0 (length t.picks + 1) q.num (length t.runs + 1) hits differs) in
+    same-kept other (covered (start_of other) other.num.0 (t.runs ++ run ∷ [])) (covered (start_of other) other.num.0 t.runs) (length (run_moments other.num.0 (t.runs ++ run ∷ []))) (length (run_moments other.num.0 t.runs))
+    (map (picked (t.runs ++ run ∷ [])) (picks_of other.num.0 (t.picks ++ picks))) (delivered other.num.0 t)
+    (ap (last_or (start_of other)) moments) (ap length moments) (ap (map (picked (t.runs ++ run ∷ []))) own ∙ old-picks other.num.0 t.runs run t.picks kept.picks)
+
+-- the place of the query that is due
+pub due-place : (t : Tables) (due : Due) (q : QueryRow) → IsKept truth_of start_of t → In q t.queries → due.query.0 ≡ q.num.0 → (0 < due.query.0) × (due.query.0 ≤ length t.queries)
+due-place t due q kept has is = let bounds = query-bounds 1 t.queries q kept.queries has in (omega (arith, is, bounds.0), omega (arith, is, bounds.1))
+
+-- what is kept there
+pub due-kept : (e : Engine) (t : Tables) (due : Due) (q : QueryRow) (x : KeptQuery) → StandsFor e t → IsKept truth_of start_of t → In q t.queries → due.query.0 ≡ q.num.0 → slice_index_or e.queries (due.query.0 - 1) x ≡ kept_query t q
+due-kept e t due q x stands kept has is =
+    let bounds = query-bounds 1 t.queries q kept.queries has in
+    rw stands.queries (placed (kept_query t) 1 (due.query.0 - 1) t.queries q x kept.queries has (omega (arith, is, bounds.0)))
+
+-- a run more
+stands-placed : (e : Engine) (t : Tables) (q : QueryRow) (i : ℕ) (m : ℤ) (kept : KeptQuery) → StandsFor e t → IsKept truth_of start_of t → In q t.queries → q.num.0 ≡ 1 + i → (e.session.moment ≡ None → ⊥) → kept ≡ kept_query t q
+    → StandsFor (record e { queries = slice_set e.queries i (after_run m (map (entry_at (length (run_moments q.num.0 t.runs) + 1)) (hits_of q t m)) kept) }) (after t (run_change (truth_of q) (start_of q) t q.num m))
+stands-placed e t q i m kept stands is-kept has at there is = record {
+  docs = stands.docs;
+  queries = rw (stands.queries, is, sym (own-after t q m is-kept)) (placed-set (kept_query t) (kept_query (after t (run_change (truth_of q) (start_of q) t q.num m))) 1 i t.queries q is-kept.queries has at (λ other differs. other-after t q other m is-kept differs));
+  notes = stands.notes;
+  bytes = stands.bytes;
+  users = stands.users;
+  owners = stands.owners;
+  greatest = λ none. absurd (there none);
+}
+
+pub stands-run : (e : Engine) (t : Tables) (name : List ℕ) (due : Due) (e' : Engine) (t' : Tables) → StandsFor e t → IsKept truth_of start_of t → (d : IsDue e t name due) → (e.session.moment ≡ None → ⊥)
+    → ((x : KeptQuery) → e' ≡ record e { queries = slice_set e.queries (due.query.0 - 1) (after_run due.moment (map (entry_at (due.runs + 1)) due.hits) (slice_index_or e.queries (due.query.0 - 1) x)) })
+    → t' ≡ after t (RunDone (record { num = length t.runs + 1; query = due.query; moment = due.moment }) (pick_rows (length t.picks + 1) due.query (length t.runs + 1) due.hits))
+    → StandsFor e' t'
+stands-run e t name due e' t' stands kept d there is-e is-t =
+    let q = d.q in
+    let num : due.query.0 ≡ q.num.0 = ap (λ x. x.query.0) d.is in
+    let x : KeptQuery = kept_query t q in
+    let i : ℕ = due.query.0 - 1 in
+    let bounds = query-bounds 1 t.queries q kept.queries d.has in
+    let engine : e' ≡ record e { queries = slice_set e.queries i (after_run (present e.session) (map (entry_at (length (run_moments q.num.0 t.runs) + 1)) (hits_of q t (present e.session))) (slice_index_or e.queries i x)) } =
+    is-e x ∙ ap (λ y. record e { queries = slice_set e.queries i (after_run y.moment (map (entry_at (y.runs + 1)) y.hits) (slice_index_or e.queries i x)) }) d.is in
+    let tables : t' ≡ after t (run_change (truth_of q) (start_of q) t q.num (present e.session)) =
+    is-t ∙ ap (λ y. after t (RunDone (record { num = length t.runs + 1; query = y.query; moment = y.moment }) (pick_rows (length t.picks + 1) y.query (length t.runs + 1) y.hits))) d.is in
+    rw (engine, tables) (stands-placed e t q i (present e.session) (slice_index_or e.queries i x) stands kept d.has (omega (arith, num, bounds.0)) there (due-kept e t due q x stands kept d.has num))
+
+-- a run that isn't refused
+pub follows-run : (e : Engine) (t : Tables) (name : List ℕ) (due : Due) (t' : Tables) (s' : Session) → verdict (Run name) e.session t ≡ None → (d : IsDue e t name due)
+    → t' ≡ after t (RunDone (record { num = length t.runs + 1; query = due.query; moment = due.moment }) (pick_rows (length t.picks + 1) due.query (length t.runs + 1) due.hits)) → s' ≡ e.session
+    → Follows t e.session (Run name) (Ran (due.runs + 1) due.moment due.hits) t' s'
+follows-run e t name due t' s' none d is-t is-s =
+    let follows = follows-accepted t e.session (Run name) none in
+    let q = d.q in
+    record {
+      reply_is = ap (λ due. Ran (due.runs + 1) due.moment due.hits) d.is ∙ sym (ap (λ o. (run_query o e.session t).reply) d.some) ∙ follows.reply_is;
+      tables_are = is-t ∙ ap (λ due. after t (RunDone (record { num = length t.runs + 1; query = due.query; moment = due.moment }) (pick_rows (length t.picks + 1) due.query (length t.runs + 1) due.hits))) d.is
+          ∙ sym (ap (λ o. tables_after (run_query o e.session t).change t) d.some) ∙ follows.tables_are;
+      session_is = is-s ∙ sym (ap (λ o. (run_query o e.session t).session) d.some) ∙ follows.session_is;
+    }

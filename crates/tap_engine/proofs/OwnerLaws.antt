@@ -1,0 +1,77 @@
+-- How many different owners there are once there is one more row.
+use Rattle.std.proofs.Common.{◌≡◌, ◌∙◌, sym, refl, ap, subst, rules, ℕ, List, [], ◌∷◌, ◌++◌, ◌+◌, length, Bool, true, false, if◌then◌else◌}
+use Rattle.std.specs.Prelude.{◌||◌}
+use Rattle.std.specs.Str.{bytes_eq}
+use Rattle.std.proofs.lemmas.List.{length-append}
+use Rattle.std.proofs.lemmas.List.Folds.{list_any-append}
+use Rattle.std.proofs.lemmas.Slice.Eq.{bytes_eq-Decides}
+use Rattle.tap_base.specs.Words.{holds}
+use Rattle.tap_engine.specs.Limits.{different}
+use Rattle.tap_engine.specs.Keeping.{with_owner}
+
+same-text : (x y : List ℕ) → bytes_eq x y ≡ true → x ≡ y
+same-text x y e = search (rules, bytes_eq-Decides)
+
+self-text : (x : List ℕ) → bytes_eq x x ≡ true
+self-text x = search (rules, bytes_eq-Decides)
+
+or-middle : (a b c : Bool) → (a || (b || c)) ≡ (b || (a || c))
+or-middle true true c = refl
+or-middle true false c = refl
+or-middle false true c = refl
+or-middle false false c = refl
+
+-- one more text is one more that may be looked for
+pub holds-in : (a b : List (List ℕ)) (u v : List ℕ) → holds (a ++ u ∷ b) v ≡ (bytes_eq v u || holds (a ++ b) v)
+holds-in a b u v =
+    list_any-append (λ other. bytes_eq v other) a (u ∷ b) ∙ or-middle (holds a v) (bytes_eq v u) (holds b v) ∙ ap (λ x. bytes_eq v u || x) (sym (list_any-append (λ other. bytes_eq v other) a b))
+
+same-both : (x y : List ℕ) → bytes_eq x y ≡ bytes_eq y x
+same-both x y = go (bytes_eq x y) refl (bytes_eq y x) refl where
+  go : (a : Bool) → bytes_eq x y ≡ a → (b : Bool) → bytes_eq y x ≡ b → bytes_eq x y ≡ bytes_eq y x
+  go true e true f = e ∙ sym f
+  go false e false f = e ∙ sym f
+  go true e false f = subst (λ z. bytes_eq x z ≡ bytes_eq z x) (same-text x y e) refl
+  go false e true f = subst (λ z. bytes_eq z y ≡ bytes_eq y z) (same-text y x f) refl
+
+-- two texts that count or don't, in either order
+either-first : (x u : Bool) (d : ℕ) → (if x then (if u then d else d + 1) else (if u then d else d + 1) + 1) ≡ (if u then (if x then d else d + 1) else (if x then d else d + 1) + 1)
+either-first true true d = refl
+either-first true false d = refl
+either-first false true d = refl
+either-first false false d = refl
+
+different-step : (x u : List ℕ) (a b : List (List ℕ)) → different (a ++ u ∷ b) ≡ (if holds (a ++ b) u then different (a ++ b) else different (a ++ b) + 1) → (s : Bool) → bytes_eq x u ≡ s
+    → (if bytes_eq x u || holds (a ++ b) x then different (a ++ u ∷ b) else different (a ++ u ∷ b) + 1) ≡ (if bytes_eq u x || holds (a ++ b) u then (if holds (a ++ b) x then different (a ++ b) else different (a ++ b) + 1) else (if holds (a ++ b) x then different (a ++ b) else different (a ++ b) + 1) + 1)
+different-step x u a b rest true e =
+    rw (e, same-both u x ∙ e, rest) (ap (λ z. if holds (a ++ b) z then different (a ++ b) else different (a ++ b) + 1) (sym (same-text x u e)))
+different-step x u a b rest false e = rw (e, same-both u x ∙ e, rest) (either-first (holds (a ++ b) x) (holds (a ++ b) u) (different (a ++ b)))
+
+-- one more text counts unless it is there
+pub different-in : (a b : List (List ℕ)) (u : List ℕ) → different (a ++ u ∷ b) ≡ (if holds (a ++ b) u then different (a ++ b) else different (a ++ b) + 1)
+different-in [] b u = refl
+different-in (x ∷ a) b u = ap (λ h. if h then different (a ++ u ∷ b) else different (a ++ u ∷ b) + 1) (holds-in a b u x) ∙ different-step x u a b (different-in a b u) (bytes_eq x u) refl
+
+length-with : (h : Bool) (owners : List (List ℕ)) (u : List ℕ) → length (if h then owners else owners ++ u ∷ []) ≡ (if h then length owners else length owners + 1)
+length-with true owners u = refl
+length-with false owners u = length-append owners (u ∷ [])
+
+-- the owners that are kept count as the different ones of the rows
+pub users-more : (owners : List (List ℕ)) (a b : List (List ℕ)) (u : List ℕ) → length owners ≡ different (a ++ b) → holds owners u ≡ holds (a ++ b) u → length (with_owner owners u) ≡ different (a ++ u ∷ b)
+users-more owners a b u count has = length-with (holds owners u) owners u ∙ rw (has, count) (sym (different-in a b u))
+
+holds-with : (owners : List (List ℕ)) (u v : List ℕ) (h : Bool) → holds owners u ≡ h → holds (if h then owners else owners ++ u ∷ []) v ≡ (bytes_eq v u || holds owners v)
+holds-with owners u v false e = list_any-append (λ other. bytes_eq v other) owners (u ∷ []) ∙ swapped (holds owners v) (bytes_eq v u) where
+  swapped : (a b : Bool) → (a || (b || false)) ≡ (b || a)
+  swapped true true = refl
+  swapped true false = refl
+  swapped false true = refl
+  swapped false false = refl
+holds-with owners u v true e = go (bytes_eq v u) refl where
+  go : (s : Bool) → bytes_eq v u ≡ s → holds owners v ≡ (bytes_eq v u || holds owners v)
+  go true f = rw f (subst (λ z. holds owners z ≡ true) (sym (same-text v u f)) e)
+  go false f = rw f refl
+
+-- and they are the same
+pub owners-more : (owners : List (List ℕ)) (a b : List (List ℕ)) (u v : List ℕ) → ((w : List ℕ) → holds owners w ≡ holds (a ++ b) w) → holds (with_owner owners u) v ≡ holds (a ++ u ∷ b) v
+owners-more owners a b u v same = holds-with owners u v (holds owners u) refl ∙ ap (λ x. bytes_eq v u || x) (same v) ∙ sym (holds-in a b u v)

@@ -1,0 +1,279 @@
+-- Each step keeps what holds of the tables and the session: above all, that a query's deliveries are its box.
+use Rattle.std.proofs.Common.{◌≡◌, ◌∙◌, sym, ap, refl, subst, arith, ℕ, suc, ◌+◌, ℤ, pos, List, [], ◌∷◌, ◌++◌, length, map, Bool, true, false, Option, Some, None, inl, inr, if◌then◌else◌}
+use Rattle.std.specs.Prelude.{◌≤ℤ◌, int_le, int_div, Result, Ok, Err}
+use Rattle.std.specs.Str.{all_ascii_digits}
+use Rattle.std.specs.Option.{option_or}
+use Rattle.std.proofs.lemmas.Int.{ints}
+use Rattle.jiff.specs.Words.{parse_timestamp, Error}
+use Rattle.tap_base.specs.declared.moments.TheConstants.{LAST_MOMENT}
+use Rattle.tap_base.specs.Numbers.{moment_of, moment_read, moment_at, positive, number_of, is_date_form}
+use Rattle.tap_rows.specs.declared.tables.Tables.{Tables}
+use Rattle.tap_rows.specs.declared.rows.Doc.{Doc}
+use Rattle.tap_rows.specs.declared.rows.QueryRow.{QueryRow}
+use Rattle.tap_rows.specs.declared.change.Change.TheVariants.{Docs, OneQuery}
+use Rattle.tap_rows.specs.Tables.{no_rows, after}
+use Rattle.tap_rows.specs.Arrivals.{Arrived}
+use Rattle.tap_rows.specs.Deliveries.{next_run, run_change}
+use Rattle.tap_rows.specs.Kept.{Each, In, IsBy}
+use Rattle.tap_rows.proofs.LaterLaws.{each-map, each-append}
+use Rattle.tap_rows.proofs.KeptLaws.{kept-empty, kept-docs, kept-query, kept-run}
+use Rattle.mail_lines.specs.declared.block.Block.{Block}
+use Rattle.script_lang.specs.declared.command.Command.{Command}
+use Rattle.script_lang.specs.declared.command.Command.TheVariants.{At, AsUser, Mail, Mbox, AddNote, Define, Run, BoxOf, ListOf, Filter, Explain, Ask, Wake, ScoresOf, DigestOf, Bad}
+use Rattle.script_lang.specs.declared.refusal.Refusal.{Refusal}
+use Rattle.script_lang.specs.declared.refusal.Refusal.TheVariants.{BadMoment, Backwards, NoMoment}
+use Rattle.script_lang.specs.declared.reply.Reply.{Reply}
+use Rattle.tap_engine.specs.declared.session.Session.{Session}
+use Rattle.tap_engine.specs.Sessions.{no_session, present, or_zero, user_of, later_of, greatest_of, moments_in, greatest_moment, last_moment}
+use Rattle.tap_engine.specs.Queries.{truth_of, start_of, is_named, query_named}
+use Rattle.tap_engine.specs.Verdicts.{verdict, first_refusal, missing, unless, is_back, not_built, text_of}
+use Rattle.tap_engine.specs.Replies.{Answer, answer_of, answer_by, accepted, tables_after, set_moment, next_doc, next_query, run_query, show_box}
+use Rattle.tap_engine.specs.Stories.{Step}
+use Rattle.tap_engine.specs.Sound.{Sound, IsNow}
+use Rattle.tap_engine.proofs.CheckLaws.{truth-of-second, find-in, second-none}
+
+-- what an answer leaves is sound
+abbrev Leaves : Tables → Answer → Type 0
+Leaves tables answer = Sound (tables_after answer.change tables) answer.session
+
+-- a moment that is there, and is the session's
+pub record Present (session : Session) : Type 0 where
+  pub m : ℤ
+  pub is : session.moment ≡ Some m
+
+some-refusal : (x : Refusal) → Some x ≡ None → ⊥
+some-refusal x e = cc
+
+first-none : (x : Option Refusal) (rest : List (Option Refusal)) → first_refusal (x ∷ rest) ≡ None → x ≡ None
+first-none None rest e = refl
+first-none (Some x) rest e = absurd (some-refusal x e)
+
+present-by : (session : Session) → missing NoMoment session.moment ≡ None → Present session
+present-by session none = go session.moment refl where
+  go : (moment : Option ℤ) → session.moment ≡ moment → Present session
+  go (Some m) is = record { m = m; is = is }
+  go None is = absurd (some-refusal NoMoment (sym (ap (missing NoMoment) is) ∙ none))
+
+-- what is known of the session's moment
+now-at : (tables : Tables) (session : Session) (m : ℤ) → session.moment ≡ Some m → Sound tables session → (pos 0 ≤ℤ m) × IsBy start_of m tables
+now-at tables session m is sound = subst (λ moment. IsNow moment tables) is sound.now
+
+-- rows that are by a moment are by a later one
+by-later : (m n : ℤ) (tables : Tables) → m ≤ℤ n → IsBy start_of m tables → IsBy start_of n tables
+by-later m n tables le by = record {
+  docs = each-map (λ doc. doc.arrival ≤ℤ m) (λ doc. doc.arrival ≤ℤ n) tables.docs (λ doc l. omega (arith, ints, l, le)) by.docs;
+  notes = each-map (λ note. note.arrival ≤ℤ m) (λ note. note.arrival ≤ℤ n) tables.notes (λ note l. omega (arith, ints, l, le)) by.notes;
+  queries = each-map (λ query. (query.arrival ≤ℤ m) × (start_of query ≤ℤ m)) (λ query. (query.arrival ≤ℤ n) × (start_of query ≤ℤ n)) tables.queries (λ query l. (omega (arith, ints, l.0, le), omega (arith, ints, l.1, le))) by.queries;
+  runs = each-map (λ run. run.moment ≤ℤ m) (λ run. run.moment ≤ℤ n) tables.runs (λ run l. omega (arith, ints, l, le)) by.runs;
+  filters = each-map (λ filter. filter.arrival ≤ℤ m) (λ filter. filter.arrival ≤ℤ n) tables.filters (λ filter l. omega (arith, ints, l, le)) by.filters;
+}
+
+-- the greatest moment, where there is one, is at most this one
+abbrev AtMost : ℤ → Option ℤ → Type 0
+AtMost m None = Unit {0}
+AtMost m (Some g) = g ≤ℤ m
+
+later-both : (x m : ℤ) (o : Option ℤ) → later_of x o ≤ℤ m → (x ≤ℤ m) × AtMost m o
+later-both x m None le = (le, tt)
+later-both x m (Some g) le = go (int_le g x) refl where
+  go : (b : Bool) → int_le g x ≡ b → (x ≤ℤ m) × (g ≤ℤ m)
+  go true y = let l : x ≤ℤ m = subst (λ b. (if b then x else g) ≤ℤ m) y le in (l, grind (arith, ints))
+  go false n = let l : g ≤ℤ m = subst (λ b. (if b then x else g) ≤ℤ m) n le in (grind (arith, ints), l)
+
+all-by : (m : ℤ) (ms : List ℤ) → AtMost m (greatest_of ms) → Each (λ x. x ≤ℤ m) ms
+all-by m [] most = tt
+all-by m (x ∷ ms) most = let both = later-both x m (greatest_of ms) most in (both.0, all-by m ms both.1)
+
+each-left : {A : Type 0} (P : A → Type 0) (xs ys : List A) → Each P (xs ++ ys) → Each P xs
+each-left P [] ys each = tt
+each-left P (x ∷ xs) ys each = (each.0, each-left P xs ys each.1)
+
+each-right : {A : Type 0} (P : A → Type 0) (xs ys : List A) → Each P (xs ++ ys) → Each P ys
+each-right P [] ys each = each
+each-right P (x ∷ xs) ys each = each-right P xs ys each.1
+
+each-of-map : {A : Type 0} (f : A → ℤ) (m : ℤ) (xs : List A) → Each (λ z. z ≤ℤ m) (map f xs) → Each (λ x. f x ≤ℤ m) xs
+each-of-map f m [] each = tt
+each-of-map f m (x ∷ xs) each = (each.0, each-of-map f m xs each.1)
+
+-- all rows are by a moment that the greatest of them is not above
+greatest-by : (m : ℤ) (tables : Tables) → pos 0 ≤ℤ m → AtMost m (greatest_moment tables) → IsBy start_of m tables
+greatest-by m tables positive most =
+    let all = all-by m (moments_in tables) most in
+    let docs = map (λ doc. doc.arrival) tables.docs in
+    let notes = map (λ note. note.arrival) tables.notes in
+    let queries = map (λ query. query.arrival) tables.queries in
+    let runs = map (λ run. run.moment) tables.runs in
+    let filters = map (λ filter. filter.arrival) tables.filters in
+    let four = each-left (λ z. z ≤ℤ m) (docs ++ notes ++ queries ++ runs) filters all in
+    let three = each-left (λ z. z ≤ℤ m) (docs ++ notes ++ queries) runs four in
+    let two = each-left (λ z. z ≤ℤ m) (docs ++ notes) queries three in
+    record {
+      docs = each-of-map (λ doc. doc.arrival) m tables.docs (each-left (λ z. z ≤ℤ m) docs notes two);
+      notes = each-of-map (λ note. note.arrival) m tables.notes (each-right (λ z. z ≤ℤ m) docs notes two);
+      queries = each-map (λ query. query.arrival ≤ℤ m) (λ query. (query.arrival ≤ℤ m) × (start_of query ≤ℤ m)) tables.queries (λ query le. (le, positive)) (each-of-map (λ query. query.arrival) m tables.queries (each-right (λ z. z ≤ℤ m) (docs ++ notes) queries three));
+      runs = each-of-map (λ run. run.moment) m tables.runs (each-right (λ z. z ≤ℤ m) (docs ++ notes ++ queries) runs four);
+      filters = each-of-map (λ filter. filter.arrival) m tables.filters (each-right (λ z. z ≤ℤ m) (docs ++ notes ++ queries ++ runs) filters all);
+    }
+
+some-moment : (x y : ℤ) → Some x ≡ Some y → x ≡ y
+some-moment x y e = cc
+
+none-moment : (x : ℤ) → None ≡ Some x → ⊥
+none-moment x e = cc
+
+-- a moment is not below 0
+at-positive : (second m : ℤ) → moment_at second ≡ Some m → pos 0 ≤ℤ m
+at-positive second m e = go (int_le (pos 0) second) refl (int_le second (pos LAST_MOMENT)) refl where
+  go : (a : Bool) → int_le (pos 0) second ≡ a → (b : Bool) → int_le second (pos LAST_MOMENT) ≡ b → pos 0 ≤ℤ m
+  go true y true z = let is : second ≡ m = some-moment second m (sym (rw (y, z) refl) ∙ e) in grind (arith, ints)
+  go true y false z = absurd (none-moment m (sym (rw (y, z) refl) ∙ e))
+  go false y b z = absurd (none-moment m (sym (rw y refl) ∙ e))
+
+read-positive : (read : Result ℤ Error) (m : ℤ) → moment_read read ≡ Some m → pos 0 ≤ℤ m
+read-positive (Ok nanosecond) m e = at-positive (int_div nanosecond (pos 1_000_000_000)) m e
+read-positive (Err fault) m e = absurd (none-moment m e)
+
+number-positive : (n : Option ℕ) (m : ℤ) → positive n ≡ Some m → pos 0 ≤ℤ m
+number-positive (Some n) m e = let is : pos n ≡ m = some-moment (pos n) m e in subst (λ z. pos 0 ≤ℤ z) is (omega (arith, ints))
+number-positive None m e = absurd (none-moment m e)
+
+moment-positive : (text : List ℕ) (m : ℤ) → moment_of text ≡ Some m → pos 0 ≤ℤ m
+moment-positive text m e = go (all_ascii_digits text) refl (is_date_form text) refl where
+  go : (a : Bool) → all_ascii_digits text ≡ a → (b : Bool) → is_date_form text ≡ b → pos 0 ≤ℤ m
+  go true y b z = number-positive (number_of 12 LAST_MOMENT text) m (sym (ap (λ a. if a then positive (number_of 12 LAST_MOMENT text) else if is_date_form text then moment_read (parse_timestamp text) else None) y) ∙ e)
+  go false y true z = read-positive (parse_timestamp text) m (sym (ap (λ a. if a then positive (number_of 12 LAST_MOMENT text) else if is_date_form text then moment_read (parse_timestamp text) else None) y ∙ ap (λ b. if b then moment_read (parse_timestamp text) else None) z) ∙ e)
+  go false y false z = absurd (none-moment m (sym (ap (λ a. if a then positive (number_of 12 LAST_MOMENT text) else if is_date_form text then moment_read (parse_timestamp text) else None) y ∙ ap (λ b. if b then moment_read (parse_timestamp text) else None) z) ∙ e))
+
+-- a second that is not refused is not below the last one
+not-back : (last second : ℤ) → is_back (Some last) (Some second) ≡ None → last ≤ℤ second
+not-back last second none = go (int_le last second) refl where
+  go : (b : Bool) → int_le last second ≡ b → last ≤ℤ second
+  go true y = grind (arith, ints)
+  go false n = absurd (some-refusal (Backwards last) (sym (ap (λ b. unless b (Backwards last)) n) ∙ none))
+
+-- the rows are by a moment that is not below the last one
+at-by : (tables : Tables) (session : Session) (m : ℤ) → Sound tables session → pos 0 ≤ℤ m → is_back (last_moment session tables) (Some m) ≡ None → IsBy start_of m tables
+at-by tables session m sound positive none = go session.moment refl where
+  at-greatest : (o : Option ℤ) → is_back o (Some m) ≡ None → AtMost m o
+  at-greatest None e = tt
+  at-greatest (Some g) e = not-back g m e
+
+  go : (moment : Option ℤ) → session.moment ≡ moment → IsBy start_of m tables
+  go (Some last) is = by-later last m tables (not-back last m (sym (ap (λ o. is_back (option_or o (greatest_moment tables)) (Some m)) is) ∙ none)) (now-at tables session last is sound).1
+  go None is = greatest-by m tables positive (at-greatest (greatest_moment tables) (sym (ap (λ o. is_back (option_or o (greatest_moment tables)) (Some m)) is) ∙ none))
+
+at-sound : (text : List ℕ) (session : Session) (tables : Tables) → Sound tables session → verdict (At text) session tables ≡ None → Leaves tables (accepted (At text) session tables)
+at-sound text session tables sound none = go (moment_of text) refl where
+  go : (moment : Option ℤ) → moment_of text ≡ moment → Leaves tables (set_moment moment session)
+  go None is = sound
+  go (Some m) is =
+      let positive = moment-positive text m is in
+      let back = second-none (missing BadMoment (moment_of text)) (is_back (last_moment session tables) (moment_of text)) [] none in
+      record { kept = sound.kept; now = (positive, at-by tables session m sound positive (sym (ap (is_back (last_moment session tables)) is) ∙ back)) }
+
+-- one more document at the end
+arrived-more : (num : ℕ) (low m : ℤ) (docs : List Doc) (doc : Doc) → Arrived num low docs → Each (λ doc. doc.arrival ≤ℤ m) docs → low ≤ℤ m → doc.arrival ≡ m → doc.num.0 ≡ num + length docs → Arrived num low (docs ++ doc ∷ [])
+arrived-more num low m [] doc arrived each le is at = (subst (λ z. low ≤ℤ z) (sym is) le, omega (arith, at), tt)
+arrived-more num low m (other ∷ docs) doc arrived each le is at = (arrived.0, arrived.1, arrived-more (suc num) other.arrival m docs doc arrived.2 each.1 each.0 is (omega (arith, at)))
+
+mail-sound : (block : Block) (session : Session) (tables : Tables) → Sound tables session → Present session → Leaves tables (accepted (Mail block) session tables)
+mail-sound block session tables sound there =
+    let m = there.m in
+    let now = now-at tables session m there.is sound in
+    let doc : Doc = next_doc tables (present session) (text_of block) in
+    let at : doc.arrival ≡ m = ap or_zero there.is in
+    let le : doc.arrival ≤ℤ m = subst (λ z. z ≤ℤ m) (sym at) (omega (arith, ints)) in
+    let ge : m ≤ℤ doc.arrival = subst (λ z. m ≤ℤ z) (sym at) (omega (arith, ints)) in
+    record {
+      kept = kept-docs truth_of start_of truth-of-second m tables (doc ∷ []) sound.kept now.1 (ge, tt) (arrived-more 1 (pos 0) m tables.docs doc sound.kept.docs now.1.docs now.0 at (omega arith));
+      now = subst (λ moment. IsNow moment (after tables (Docs (doc ∷ [])))) (sym there.is) (
+        now.0,
+        record {
+          docs = each-append (λ doc. doc.arrival ≤ℤ m) tables.docs (doc ∷ []) now.1.docs (le, tt);
+          notes = now.1.notes;
+          queries = now.1.queries;
+          runs = now.1.runs;
+          filters = now.1.filters;
+        },
+      );
+    }
+
+define-sound : (name source : List ℕ) (session : Session) (tables : Tables) → Sound tables session → Present session → Leaves tables (accepted (Define name source) session tables)
+define-sound name source session tables sound there =
+    let m = there.m in
+    let now = now-at tables session m there.is sound in
+    let query : QueryRow = next_query tables session name source in
+    let at : query.arrival ≡ m = ap or_zero there.is in
+    let le : query.arrival ≤ℤ m = subst (λ z. z ≤ℤ m) (sym at) (omega (arith, ints)) in
+    record {
+      kept = kept-query truth_of start_of truth-of-second m tables query sound.kept now.1 refl;
+      now = subst (λ moment. IsNow moment (after tables (OneQuery query))) (sym there.is) (
+        now.0,
+        record {
+          docs = now.1.docs;
+          notes = now.1.notes;
+          queries = each-append (λ query. (query.arrival ≤ℤ m) × (start_of query ≤ℤ m)) tables.queries (query ∷ []) now.1.queries ((le, now.0), tt);
+          runs = now.1.runs;
+          filters = now.1.filters;
+        },
+      );
+    }
+
+run-sound : (session : Session) (tables : Tables) (query : Option QueryRow) → ((q : QueryRow) → query ≡ Some q → In q tables.queries) → Sound tables session → Present session → Leaves tables (run_query query session tables)
+run-sound session tables None has sound there = sound
+run-sound session tables (Some q) has sound there =
+    let m = there.m in
+    let now = now-at tables session m there.is sound in
+    let at : present session ≡ m = ap or_zero there.is in
+    subst (λ z. Leaves tables (record { reply = (run_query (Some q) session tables).reply; session = session; change = Some (run_change (truth_of q) (start_of q) tables q.num z) })) (sym at) (record {
+      kept = kept-run truth_of start_of truth-of-second m tables q sound.kept now.1 (has q refl);
+      now = subst (λ moment. IsNow moment (after tables (run_change (truth_of q) (start_of q) tables q.num m))) (sym there.is) (
+        now.0,
+        record {
+          docs = now.1.docs;
+          notes = now.1.notes;
+          queries = now.1.queries;
+          runs = each-append (λ run. run.moment ≤ℤ m) tables.runs (next_run tables q.num m ∷ []) now.1.runs (omega (arith, ints), tt);
+          filters = now.1.filters;
+        },
+      );
+    })
+
+box-sound : (session : Session) (tables : Tables) (query : Option QueryRow) (name : List ℕ) → Sound tables session → Leaves tables (show_box query name session tables)
+box-sound session tables None name sound = sound
+box-sound session tables (Some q) name sound = sound
+
+-- a command that isn't refused keeps it
+accepted-sound : (command : Command) (session : Session) (tables : Tables) → Sound tables session → verdict command session tables ≡ None → Leaves tables (accepted command session tables)
+accepted-sound (At text) session tables sound none = at-sound text session tables sound none
+accepted-sound (AsUser name) session tables sound none = record { kept = sound.kept; now = sound.now }
+accepted-sound (Mail block) session tables sound none = mail-sound block session tables sound (present-by session (first-none (missing NoMoment session.moment) _ none))
+accepted-sound (Define name source) session tables sound none = define-sound name source session tables sound (present-by session (second-none (not_built source) (missing NoMoment session.moment) _ none))
+accepted-sound (Run name) session tables sound none = run-sound session tables (query_named (user_of session) name tables) (find-in (is_named (user_of session) name) tables.queries) sound (present-by session (first-none (missing NoMoment session.moment) _ none))
+accepted-sound (BoxOf name) session tables sound none = box-sound session tables (query_named (user_of session) name tables) name sound
+accepted-sound (Bad refusal) session tables sound none = sound
+accepted-sound (Mbox block) session tables sound none = sound
+accepted-sound (AddNote doc kind value text) session tables sound none = sound
+accepted-sound (ListOf name) session tables sound none = sound
+accepted-sound (Filter block) session tables sound none = sound
+accepted-sound (Explain name) session tables sound none = sound
+accepted-sound (Ask moment source) session tables sound none = sound
+accepted-sound (Wake name) session tables sound none = sound
+accepted-sound (ScoresOf kind) session tables sound none = sound
+accepted-sound (DigestOf name ordinal) session tables sound none = sound
+
+answer-sound : (command : Command) (session : Session) (tables : Tables) → Sound tables session → Leaves tables (answer_of command session tables)
+answer-sound command session tables sound = go (verdict command session tables) refl where
+  go : (v : Option Refusal) → verdict command session tables ≡ v → Leaves tables (answer_by v command session tables)
+  go None none = accepted-sound command session tables sound none
+  go (Some refusal) is = sound
+
+-- so does each step of a story
+pub step-sound : (tables : Tables) (session : Session) (command : Command) (reply : Reply) (tables' : Tables) (session' : Session) → Step tables session command reply tables' session' → Sound tables session → Sound tables' session'
+step-sound tables session command reply tables' session' (inl follows) sound = rw (follows.tables_are, follows.session_is) (answer-sound command session tables sound)
+step-sound tables session command reply tables' session' (inr stays) sound = rw (stays.tables_are, stays.session_is) sound
+
+-- a new session over no rows begins so
+pub sound-start : Sound no_rows no_session
+sound-start = record { kept = kept-empty truth_of start_of truth-of-second; now = tt }

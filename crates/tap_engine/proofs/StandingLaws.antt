@@ -1,0 +1,45 @@
+-- The engine stands for the tables after a change.
+use Rattle.std.proofs.Common.{◌≡◌, ◌∙◌, sym, refl, ap, arith, ℕ, ◌+◌, ◌≤◌, ◌<◌, List, [], ◌∷◌, ◌++◌, length, map, None}
+use Rattle.std.specs.Prelude.{sum_by}
+use Rattle.std.proofs.lemmas.List.{append_assoc, map-append}
+use Rattle.std.proofs.lemmas.List.Sums.{sum_by-append}
+use Rattle.tap_rows.specs.declared.tables.Tables.{Tables}
+use Rattle.tap_rows.specs.declared.rows.QueryRow.{QueryRow}
+use Rattle.tap_rows.specs.declared.change.Change.TheVariants.{OneQuery}
+use Rattle.tap_rows.specs.Tables.{after}
+use Rattle.tap_rows.specs.Kept.{IsKept}
+use Rattle.tap_rows.proofs.LaterLaws.{each-map}
+use Rattle.tap_rows.proofs.PlaceLaws.{runs-none, no-picks}
+use Rattle.tap_engine.specs.declared.engine.Engine.{Engine}
+use Rattle.tap_base.specs.Words.{holds}
+use Rattle.tap_engine.specs.Limits.{different}
+use Rattle.tap_engine.specs.Queries.{truth_of, start_of}
+use Rattle.tap_engine.specs.Keeping.{kept_query, new_kept, with_owner}
+use Rattle.tap_engine.specs.Standing.{StandsFor}
+use Rattle.tap_engine.proofs.OwnerLaws.{users-more, owners-more}
+
+-- a query that is new was never run
+new-is : (t : Tables) (row : QueryRow) → IsKept truth_of start_of t → row.num.0 ≡ length t.queries + 1 → kept_query t row ≡ new_kept row
+new-is t row kept num =
+    rw (runs-none row.num.0 t.runs (each-map (λ run. run.query.0 ≤ length t.queries) (λ run. run.query.0 < row.num.0) t.runs (λ run le. omega (arith, le, num)) kept.owned), no-picks row.num.0 (length t.queries) t.runs t.picks (omega (arith, num)) kept.owned kept.picks) refl
+
+-- a query more
+pub stands-query : (e : Engine) (t : Tables) (row : QueryRow) → StandsFor e t → IsKept truth_of start_of t → row.num.0 ≡ length t.queries + 1 → (e.session.moment ≡ None → ⊥)
+    → StandsFor (record e { queries = e.queries ++ new_kept row ∷ []; owners = with_owner e.owners row.owner; bytes = e.bytes + length row.source }) (after t (OneQuery row))
+stands-query e t row stands kept num there = record {
+  docs = stands.docs;
+  queries = rw stands.queries (ap (λ k. map (kept_query t) t.queries ++ k ∷ []) (sym (new-is t row kept num)) ∙ sym (map-append (kept_query t) t.queries (row ∷ [])));
+  notes = stands.notes;
+  bytes = more (sum_by (λ doc. length doc.text) t.docs) (sum_by (λ note. length note.text) t.notes) (sum_by (λ query. length query.source) t.queries) (sum_by (λ filter. length filter.source) t.filters) _ _ (length row.source) stands.bytes (sum_by-append (λ query. length query.source) t.queries (row ∷ []));
+  users = users-more e.owners names (map (λ filter. filter.owner) t.filters) row.owner stands.users (stands.owners row.owner) ∙ ap different (sym all);
+  owners = λ user. owners-more e.owners names (map (λ filter. filter.owner) t.filters) row.owner user stands.owners ∙ ap (λ texts. holds texts user) (sym all);
+  greatest = λ none. absurd (there none);
+} where
+  names : List (List ℕ)
+  names = map (λ query. query.owner) t.queries
+
+  all : map (λ query. query.owner) (t.queries ++ row ∷ []) ++ map (λ filter. filter.owner) t.filters ≡ names ++ row.owner ∷ map (λ filter. filter.owner) t.filters
+  all = ap (λ xs. xs ++ map (λ filter. filter.owner) t.filters) (map-append (λ query. query.owner) t.queries (row ∷ [])) ∙ append_assoc names (row.owner ∷ []) (map (λ filter. filter.owner) t.filters)
+
+  more : (a b c d c' n k : ℕ) → n ≡ a + b + c + d → c' ≡ c + (0 + k) → n + k ≡ a + b + c' + d
+  more a b c d c' n k is e = omega (arith, is, e)

@@ -1,0 +1,40 @@
+-- What is kept of queries and their owners.
+use Rattle.std.specs.Prelude.{ℕ, ℤ, ◌+◌, List, [], ◌∷◌, ◌++◌, length, filter, find, Option, if◌then◌else◌}
+use Rattle.std.specs.Str.{bytes_eq}
+use Rattle.tap_base.specs.Words.{holds}
+use Rattle.tap_rows.specs.declared.tables.Tables.{Tables}
+use Rattle.tap_rows.specs.declared.rows.QueryRow.{QueryRow}
+use Rattle.tap_rows.specs.declared.results.Entry.{Entry}
+use Rattle.tap_rows.specs.Results.{run_moments, covered}
+use Rattle.tap_rows.specs.Deliveries.{delivered}
+use Rattle.tap_engine.specs.declared.kept_query.KeptQuery.{KeptQuery}
+use Rattle.tap_engine.specs.Queries.{start_of, is_named}
+
+-- what is kept of a query: its row, the second that it has covered up to, how many runs it had, and what it has delivered
+abbrev pub kept_query : Tables → QueryRow → KeptQuery
+kept_query tables query = record {
+  row = query;
+  covered = covered (start_of query) query.num.0 tables.runs;
+  runs = length (run_moments query.num.0 tables.runs);
+  entries = delivered query.num.0 tables;
+}
+
+-- what is kept of a user's query of a name
+unfoldable pub named_in : List ℕ → List ℕ → List KeptQuery → Option KeptQuery
+named_in owner name queries = find (λ kept. is_named owner name kept.row) queries
+
+-- how many of the queries are a user's
+unfoldable pub owned_in : List ℕ → List KeptQuery → ℕ
+owned_in owner queries = length (filter (λ kept. bytes_eq kept.row.owner owner) queries)
+
+-- a query that was never run
+abbrev pub new_kept : QueryRow → KeptQuery
+new_kept query = record { row = query; covered = start_of query; runs = 0; entries = [] }
+
+-- a query after one more run at this moment, which delivered these
+abbrev pub after_run : ℤ → List Entry → KeptQuery → KeptQuery
+after_run moment entries kept = record { row = kept.row; covered = moment; runs = kept.runs + 1; entries = kept.entries ++ entries }
+
+-- the owners, with one that may be among them
+abbrev pub with_owner : List (List ℕ) → List ℕ → List (List ℕ)
+with_owner owners owner = if holds owners owner then owners else owners ++ owner ∷ []

@@ -1,0 +1,52 @@
+ghost use Rattle.std.specs.Prelude.{◌≡◌, None, Some, true, OnOk, IfOk, IfErr};
+ghost use Rattle.script_lang.specs.declared.command.Command.{Command};
+ghost use Rattle.script_lang.specs.Replies.{HasShortNames, is_accepted};
+ghost use Rattle.tap_base.specs.Names.{is_name};
+ghost use Rattle.tap_engine.specs.Sound.{Sound};
+ghost use Rattle.tap_engine.specs.Stories.{Follows, Refuses};
+
+use crate::engine::Engine;
+use script_lang::{Refusal, Reply};
+use std::alloc::Global;
+use tap_base::{Memory, Rows, Text};
+use tap_rows::{Entry, Tables};
+
+// These entries once more.
+fn copy_entries(alloc: Global, entries: &[Entry]) -> Result<Rows<Entry>, Memory>
+    ensures { IfOk result (λ copy. copy ≡ entries.now) }
+{
+    Ok(Rows::from_vec(Vec::from_slice(alloc, entries)?))
+}
+
+impl Engine {
+    ghost use Rattle.tap_engine.specs.Standing.{StandsFor, look_refusal, kept_named, entries_kept, RefusedBy};
+
+    // The deliveries of the user's query of this name.
+    fn entries_named(&self, alloc: Global, name: &[u8]) -> Result<Rows<Entry>, Refusal>
+        ensures look { OnOk result (look_refusal self.now name.now ≡ None) }
+        ensures entries { IfOk result (λ entries. Some entries ≡ entries_kept (kept_named self.now name.now)) }
+        ensures refusal { IfErr result (λ refusal. RefusedBy (look_refusal self.now name.now) refusal) }
+        ensures name { OnOk result (is_name name.now ≡ true) }
+    {
+        let kept = self.look(name)?;
+        Ok(copy_entries(alloc, kept.entries.as_slice())?)
+    }
+
+    // Lists the deliveries of the user's query of this name.
+    pub(crate) fn show_box(
+        &self,
+        alloc: Global,
+        tables: &Tables,
+        name: Text,
+    ) -> Result<Reply, Refusal>
+        requires stands { StandsFor self.now tables.now }
+        requires sound { Sound tables.now self.now.session }
+        ensures ok { IfOk result (λ reply. Follows tables.now self.now.session (Command.BoxOf name) reply tables.now self.now.session) }
+        ensures refusal { IfErr result (λ refusal. Refuses refusal (Command.BoxOf name) self.now.session tables.now) }
+        ensures short { IfOk result (λ reply. HasShortNames reply) }
+        ensures accepted { IfOk result (λ reply. is_accepted reply ≡ true) }
+    {
+        let entries = self.entries_named(alloc, name.as_slice())?;
+        Ok(Reply::BoxOf { name, entries })
+    }
+}

@@ -1,0 +1,223 @@
+ghost use Rattle.std.specs.Prelude.{◌≡◌, ◌<◌, ◌+◌, ◌^◌, ◌++◌, [], ◌∷◌, length, Some, None, true, is_none, if◌then◌else◌, OnOk, OnErr, IfOk, IfErr};
+ghost use Rattle.std.specs.Result.{result_err};
+ghost use Rattle.tap_base.specs.Words.{holds};
+ghost use Rattle.tap_rows.specs.declared.change.Change.{Change};
+ghost use Rattle.tap_rows.specs.Tables.{after};
+ghost use Rattle.script_lang.specs.declared.command.Command.{Command};
+ghost use Rattle.script_lang.specs.Replies.{HasShortNames, is_accepted};
+ghost use Rattle.tap_engine.specs.Verdicts.{not_built, unless, first_refusal};
+ghost use Rattle.script_lang.specs.declared.refusal.Refusal.{Refusal};
+ghost use Rattle.tap_engine.specs.Keeping.{new_kept, with_owner, named_in};
+ghost use Rattle.tap_engine.specs.Sessions.{present, user_of};
+ghost use Rattle.tap_engine.specs.Sound.{Sound};
+ghost use Rattle.tap_base.specs.Names.{is_name};
+ghost use Rattle.tap_engine.specs.Stories.{Follows, Refuses};
+
+use crate::engine::Engine;
+use crate::kept_queries::KeptQueries;
+use crate::kept_query::KeptQuery;
+use crate::limits::{QUERY_LIMIT, STORE_LIMIT, USER_LIMIT, USER_QUERY_LIMIT, refuse_more};
+use crate::query::is_built;
+use crate::sessions::refuse_name;
+use script_lang::{LimitName, Refusal, Reply};
+use std::alloc::Global;
+use tap_base::{Memory, QueryNum, Rows, Text, Texts};
+use tap_rows::{Change, QueryRow, Tables};
+
+// Refuses a query of another form than the one that is built.
+#[tactic(auto, unfolding(crate::specs::Verdicts::not_built))]
+fn refuse_form(source: &[u8]) -> Result<(), Refusal>
+    ensures { result_err result ≡ not_built source.now }
+{
+    if is_built(source) {
+        Ok(())
+    } else {
+        Err(Refusal::NotBuilt)
+    }
+}
+
+// Adds an owner that may be there.
+fn push_owner(owners: &mut Texts, owner: Text) -> Result<(), Memory>
+    ensures ok { OnOk result (owners.new ≡ with_owner owners.old owner) }
+    ensures err { OnErr result (owners.new ≡ owners.old) }
+{
+    if owners.holds(owner.as_slice()) {
+        Ok(())
+    } else {
+        owners.push(owner)
+    }
+}
+
+// Adds a query to the tables and to those that are kept, and its owner.
+fn push_query(
+    queries: &mut KeptQueries,
+    owners: &mut Texts,
+    tables: &mut Tables,
+    kept: KeptQuery,
+    owner: Text,
+    row: QueryRow,
+) -> Result<(), Memory>
+    ensures queries { OnOk result (queries.new ≡ queries.old ++ kept ∷ []) }
+    ensures owners { OnOk result (owners.new ≡ with_owner owners.old owner) }
+    ensures tables { OnOk result (tables.new ≡ after tables.old (Change.OneQuery row)) }
+    ensures err { OnErr result ((queries.new ≡ queries.old) × ((owners.new ≡ owners.old) × (tables.new ≡ tables.old))) }
+{
+    let len = owners.len();
+    push_owner(owners, owner)?;
+    let done = push_kept(queries, tables, kept, row);
+    if done.is_err() {
+        owners.cut(len);
+    }
+    done
+}
+
+// Adds a query to the tables and to those that are kept.
+fn push_kept(
+    queries: &mut KeptQueries,
+    tables: &mut Tables,
+    kept: KeptQuery,
+    row: QueryRow,
+) -> Result<(), Memory>
+    ensures queries { OnOk result (queries.new ≡ queries.old ++ kept ∷ []) }
+    ensures tables { OnOk result (tables.new ≡ after tables.old (Change.OneQuery row)) }
+    ensures err { OnErr result ((queries.new ≡ queries.old) × (tables.new ≡ tables.old)) }
+{
+    let len = queries.len();
+    queries.push(kept)?;
+    let done = tables.apply(Change::OneQuery(row));
+    if done.is_err() {
+        queries.cut(len);
+    }
+    done
+}
+
+// The same row once more.
+fn copy_query(row: &QueryRow) -> Result<QueryRow, Memory>
+    ensures { IfOk result (λ copy. copy ≡ row.now) }
+{
+    Ok(QueryRow {
+        num: row.num,
+        owner: row.owner.copy()?,
+        name: row.name.copy()?,
+        source: row.source.copy()?,
+        arrival: row.arrival,
+    })
+}
+
+impl Engine {
+    ghost use Rattle.tap_engine.specs.Standing.{StandsFor, query_checks, define_checks, RefusedBy};
+
+    // Adds a query.
+    fn add_query(&mut self, alloc: Global, tables: &mut Tables, row: QueryRow) -> Result<(), Memory>
+        requires { self.old.bytes + length row.source < 2 ^ 64 }
+        ensures tables { OnOk result (tables.new ≡ after tables.old (Change.OneQuery row)) }
+        ensures engine { OnOk result (self.new ≡ record self.old { queries = self.old.queries ++ new_kept row ∷ []; owners = with_owner self.old.owners row.owner; bytes = self.old.bytes + length row.source }) }
+        ensures err { OnErr result ((self.new ≡ self.old) × (tables.new ≡ tables.old)) }
+    {
+        let len = row.source.len();
+        let owner = row.owner.copy()?;
+        let kept = KeptQuery::new(copy_query(&row)?, Rows::new(alloc));
+        push_query(
+            &mut self.queries,
+            &mut self.owners,
+            tables,
+            kept,
+            owner,
+            row,
+        )?;
+        self.bytes += len;
+        Ok(())
+    }
+
+    // Refuses a name that the user has used.
+    fn refuse_taken(&self, user: &[u8], name: &[u8]) -> Result<(), Refusal>
+        ensures { result_err result ≡ unless (is_none (named_in user.now name.now self.now.queries)) Refusal.Taken }
+    {
+        if self.queries.named(user, name).is_some() {
+            Err(Refusal::Taken)
+        } else {
+            Ok(())
+        }
+    }
+
+    // How many users more own a query or a filter when this one does.
+    fn new_users(&self, user: &[u8]) -> usize
+        ensures { result ≡ if holds self.now.owners user.now then 0 else 1 }
+    {
+        if self.owners.holds(user) { 0 } else { 1 }
+    }
+
+    // Refuses a query of this user, name and length.
+    #[tactic(auto, unfolding(crate::specs::Standing::query_checks))]
+    fn refuse_query(&self, user: &[u8], name: &[u8], len: usize) -> Result<(), Refusal>
+        ensures value { result_err result ≡ first_refusal (query_checks self.now user.now name.now len) }
+        ensures few { OnOk result (length self.now.queries < QUERY_LIMIT) }
+        ensures bytes { OnOk result (self.now.bytes + len < 2 ^ 64) }
+        ensures name { OnOk result (is_name name.now ≡ true) }
+    {
+        refuse_name(name)?;
+        self.refuse_taken(user, name)?;
+        refuse_more(
+            LimitName::Queries,
+            USER_QUERY_LIMIT,
+            self.queries.count(user),
+            1,
+        )?;
+        refuse_more(LimitName::AllQueries, QUERY_LIMIT, self.queries.len(), 1)?;
+        refuse_more(
+            LimitName::Users,
+            USER_LIMIT,
+            self.owners.len(),
+            self.new_users(user),
+        )?;
+        refuse_more(LimitName::Store, STORE_LIMIT, self.bytes, len)
+    }
+
+    // The row of a query that isn't refused.
+    fn new_query(&self, name: Text, source: Text) -> Result<QueryRow, Refusal>
+        ensures checks { OnOk result (first_refusal (define_checks self.now name source) ≡ None) }
+        ensures row { IfOk result (λ row. row ≡ record { num = record { 0 = length self.now.queries + 1 }; owner = user_of self.now.session; name = name; source = source; arrival = present self.now.session }) }
+        ensures refusal { IfErr result (λ refusal. RefusedBy (first_refusal (define_checks self.now name source)) refusal) }
+        ensures bytes { OnOk result (self.now.bytes + length source < 2 ^ 64) }
+        ensures name { OnOk result (is_name name ≡ true) }
+    {
+        refuse_form(source.as_slice())?;
+        let Some(moment) = self.session.moment else {
+            return Err(Refusal::NoMoment);
+        };
+        let Some(user) = &self.session.user else {
+            return Err(Refusal::NoUser);
+        };
+        self.refuse_query(user.as_slice(), name.as_slice(), source.len())?;
+        Ok(QueryRow {
+            num: QueryNum(self.queries.len() as u32 + 1),
+            owner: user.copy()?,
+            name,
+            source,
+            arrival: moment,
+        })
+    }
+
+    // Defines a query.
+    pub(crate) fn define(
+        &mut self,
+        alloc: Global,
+        tables: &mut Tables,
+        name: Text,
+        source: Text,
+    ) -> Result<Reply, Refusal>
+        requires stands { StandsFor self.old tables.old }
+        requires sound { Sound tables.old self.old.session }
+        ensures ok { IfOk result (λ reply. Follows tables.old self.old.session (Command.Define name source) reply tables.new self.new.session) }
+        ensures stands { OnOk result (StandsFor self.new tables.new) }
+        ensures refusal { IfErr result (λ refusal. Refuses refusal (Command.Define name source) self.old.session tables.old) }
+        ensures err { OnErr result ((self.new ≡ self.old) × (tables.new ≡ tables.old)) }
+        ensures short { IfOk result (λ reply. HasShortNames reply) }
+        ensures accepted { IfOk result (λ reply. is_accepted reply ≡ true) }
+    {
+        let row = self.new_query(name, source)?;
+        let shown = row.name.copy()?;
+        self.add_query(alloc, tables, row)?;
+        Ok(Reply::Defined(shown))
+    }
+}

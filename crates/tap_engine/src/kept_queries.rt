@@ -1,0 +1,109 @@
+ghost use Rattle.std.specs.Prelude.{◌≡◌, ◌<◌, ◌+◌, ◌^◌, ◌++◌, [], ◌∷◌, List, length, take, filter, find, slice_index_or, slice_set, OnOk, OnErr};
+ghost use Rattle.std.specs.Option.{option_copied};
+ghost use Rattle.std.specs.Str.{bytes_eq};
+ghost use Rattle.tap_rows.specs.Tables.{after};
+ghost use Rattle.tap_rows.specs.declared.change.Change.{Change};
+ghost use Rattle.tap_engine.specs.Queries.{is_named};
+ghost use Rattle.tap_engine.specs.declared.kept_query.KeptQuery.{KeptQuery};
+ghost use Rattle.tap_engine.specs.Keeping.{after_run, named_in, owned_in};
+
+use crate::kept_query::KeptQuery;
+use std::alloc::Global;
+use std::marker::Model;
+use tap_base::{Memory, Rows};
+use tap_rows::{Entry, Pick, QueryRow, RunRow, Tables};
+
+/// The queries that are kept, in order of their numbers. It is seen as a list.
+#[derive(Drop)]
+pub struct KeptQueries {
+    items: Vec<KeptQuery>,
+}
+
+impl Model for KeptQueries {
+    ghost Value = { List KeptQuery };
+
+    ghost view = { λ queries. queries.items.items };
+}
+
+// Is it this user's query of this name?
+fn is_named(query: &QueryRow, owner: &[u8], name: &[u8]) -> bool
+    ensures { result ≡ is_named owner.now name.now query.now }
+{
+    query.owner.as_slice() == owner && query.name.as_slice() == name
+}
+
+impl KeptQueries {
+    // No queries.
+    pub(crate) fn new(alloc: Global) -> KeptQueries
+        ensures { result ≡ [] }
+    {
+        KeptQueries {
+            items: Vec::new(alloc),
+        }
+    }
+
+    // How many queries there are.
+    pub(crate) fn len(&self) -> usize
+        ensures { result ≡ length self.now }
+    {
+        self.items.len()
+    }
+
+    // The user's query of this name.
+    #[tactic(auto, unfolding(crate::specs::Keeping::named_in))]
+    pub(crate) fn named(&self, owner: &[u8], name: &[u8]) -> Option<&KeptQuery>
+        ensures { option_copied result ≡ named_in owner.now name.now self.now }
+    {
+        for kept in &self.items {
+            if is_named(&kept.row, owner, name) {
+                return Some(kept);
+            }
+        }
+        None
+    }
+
+    // How many queries the user has.
+    #[tactic(auto, unfolding(crate::specs::Keeping::owned_in))]
+    pub(crate) fn count(&self, owner: &[u8]) -> usize
+        ensures { result ≡ owned_in owner.now self.now }
+    {
+        self.items
+            .iter()
+            .filter(|kept| kept.row.owner.as_slice() == owner)
+            .count()
+    }
+
+    // Appends a query.
+    pub(crate) fn push(&mut self, kept: KeptQuery) -> Result<(), Memory>
+        ensures ok { OnOk result (self.new ≡ self.old ++ kept ∷ []) }
+        ensures err { OnErr result (self.new ≡ self.old) }
+    {
+        self.items.push(kept)?;
+        Ok(())
+    }
+
+    // Keeps the first `len` queries.
+    pub(crate) fn cut(&mut self, len: usize)
+        ensures { self.new ≡ take len self.old }
+    {
+        self.items.truncate(len);
+    }
+
+    // Adds a run of the query at this place, with its picks, to the tables, and here the entries that they are.
+    pub(crate) fn add_run(
+        &mut self,
+        place: usize,
+        tables: &mut Tables,
+        run: RunRow,
+        picks: Rows<Pick>,
+        entries: Rows<Entry>,
+    ) -> Result<(), Memory>
+        requires place { place < length self.old }
+        requires runs { (d : KeptQuery) → (slice_index_or self.old place d).runs + 1 < 2 ^ 64 }
+        ensures kept { OnOk result ((d : KeptQuery) → self.new ≡ slice_set self.old place (after_run run.moment entries (slice_index_or self.old place d))) }
+        ensures tables { OnOk result (tables.new ≡ after tables.old (Change.RunDone run picks)) }
+        ensures err { OnErr result ((self.new ≡ self.old) × (tables.new ≡ tables.old)) }
+    {
+        self.items[place].add_run(tables, run, picks, entries)
+    }
+}

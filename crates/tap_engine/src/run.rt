@@ -1,0 +1,198 @@
+ghost use Rattle.std.specs.Prelude.{◌≡◌, true, ◌≤◌, ◌<◌, ◌+◌, ◌-◌, ◌^◌, ◌++◌, [], ◌∷◌, length, map, max, Some, None, ◌&&◌, int_le, int_lt, slice_index_or, slice_set, OnOk, OnErr, IfOk, IfErr};
+ghost use Rattle.std.specs.List.{filter_map};
+ghost use Rattle.tap_rows.specs.declared.tables.Tables.{Tables};
+ghost use Rattle.tap_rows.specs.declared.rows.RunRow.{RunRow};
+ghost use Rattle.tap_rows.specs.declared.rows.Doc.{Doc};
+ghost use Rattle.tap_rows.specs.declared.change.Change.{Change};
+ghost use Rattle.tap_rows.specs.Tables.{after};
+ghost use Rattle.tap_rows.specs.Constant.{arrival_hit};
+ghost use Rattle.tap_rows.specs.Deliveries.{pick_rows};
+ghost use Rattle.tap_rows.specs.Results.{entry_at};
+ghost use Rattle.script_lang.specs.declared.command.Command.{Command};
+ghost use Rattle.script_lang.specs.Replies.{HasShortNames, is_accepted};
+ghost use Rattle.tap_engine.specs.Queries.{has_word, source_word};
+ghost use Rattle.tap_engine.specs.declared.kept_query.KeptQuery.{KeptQuery};
+ghost use Rattle.tap_engine.specs.Keeping.{after_run};
+ghost use Rattle.tap_engine.specs.Sessions.{present};
+ghost use Rattle.tap_engine.specs.Sound.{Sound};
+ghost use Rattle.tap_engine.specs.Stories.{Follows, Refuses};
+
+use crate::engine::Engine;
+use crate::limits::{PICK_LIMIT, RUN_LIMIT, refuse_more};
+use crate::query::word_of;
+use script_lang::{LimitName, Refusal, Reply};
+use std::alloc::Global;
+use tap_base::{Memory, QueryNum, Rows};
+use tap_rows::{Change, Entry, Hit, KeptDoc, Pick, RunRow, Tables};
+
+/// What a run is about to deliver.
+#[derive(Drop)]
+pub struct Due {
+    pub query: QueryNum,
+    pub moment: i64,
+    pub runs: usize,
+    pub hits: Rows<Hit>,
+}
+
+// Has the document the word, and did it arrive in the window?
+fn is_hit(kept: &KeptDoc, word: &[u8], from: i64, to: i64) -> bool
+    ensures { result ≡ (has_word word.now kept.now && int_le from kept.now.arrival && int_lt kept.now.arrival to) }
+{
+    let arrival = kept.doc().arrival;
+    kept.fields().words.holds(word) && from <= arrival && arrival < to
+}
+
+// The documents that have the word and arrived from the one second on and before the other, each with its arrival.
+fn arrived_with(
+    alloc: Global,
+    docs: &[KeptDoc],
+    word: &[u8],
+    from: i64,
+    to: i64,
+) -> Result<Rows<Hit>, Memory>
+    ensures { IfOk result (λ hits. hits ≡ filter_map (arrival_hit (has_word word.now) from to) docs.now) }
+{
+    let mut hits = Rows::new(alloc);
+    for kept in docs {
+        if is_hit(kept, word, from, to) {
+            let doc = kept.doc();
+            hits.push(Hit {
+                doc: doc.num,
+                first: doc.arrival,
+            })?;
+        }
+    }
+    Ok(hits)
+}
+
+// One pick for each hit, where there were so many before.
+fn picks_after(
+    alloc: Global,
+    before: usize,
+    query: QueryNum,
+    run: u32,
+    hits: &[Hit],
+) -> Result<Rows<Pick>, Memory>
+    requires { before + length hits.now ≤ max before PICK_LIMIT }
+    ensures { IfOk result (λ picks. picks ≡ pick_rows (before + 1) query run hits.now) }
+{
+    let mut picks = Rows::new(alloc);
+    let mut count = before;
+    for hit in hits {
+        count += 1;
+        picks.push(Pick {
+            num: count as u32,
+            query,
+            run,
+            doc: hit.doc,
+            first: hit.first,
+        })?;
+    }
+    Ok(picks)
+}
+
+// The hits as entries of a run.
+fn entries_at(alloc: Global, run: u32, hits: &[Hit]) -> Result<Rows<Entry>, Memory>
+    ensures { IfOk result (λ entries. entries ≡ map (entry_at run) hits.now) }
+{
+    let mut entries = Rows::new(alloc);
+    for hit in hits {
+        entries.push(Entry {
+            doc: hit.doc,
+            first: hit.first,
+            run,
+        })?;
+    }
+    Ok(entries)
+}
+
+impl Engine {
+    ghost use Rattle.tap_engine.specs.Standing.{StandsFor, run_refusal, kept_named, hits_kept, due_of, RefusedBy};
+
+    // What a run of the user's query of this name delivers, where there are so many runs and deliveries.
+    fn due_run(&self, alloc: Global, runs: usize, picks: usize, name: &[u8]) -> Result<Due, Refusal>
+        ensures verdict { OnOk result (run_refusal self.now runs picks name.now ≡ None) }
+        ensures due { IfOk result (λ due. Some due ≡ due_of self.now (kept_named self.now name.now)) }
+        ensures refusal { IfErr result (λ refusal. RefusedBy (run_refusal self.now runs picks name.now) refusal) }
+        ensures few { OnOk result (runs < RUN_LIMIT) }
+        ensures room { IfOk result (λ due. picks + length due.hits ≤ max picks PICK_LIMIT) }
+    {
+        let Some(moment) = self.session.moment else {
+            return Err(Refusal::NoMoment);
+        };
+        let kept = self.look(name)?;
+        refuse_more(LimitName::Runs, RUN_LIMIT, runs, 1)?;
+        let word = word_of(kept.row.source.as_slice());
+        let hits = arrived_with(alloc, self.docs.as_slice(), word, kept.covered, moment)?;
+        refuse_more(LimitName::Picks, PICK_LIMIT, picks, hits.len())?;
+        Ok(Due {
+            query: kept.row.num,
+            moment,
+            runs: kept.runs,
+            hits,
+        })
+    }
+
+    // Adds a run with what it delivers.
+    fn deliver(
+        &mut self,
+        alloc: Global,
+        tables: &mut Tables,
+        query: QueryNum,
+        moment: i64,
+        ordinal: u32,
+        hits: &[Hit],
+    ) -> Result<(), Memory>
+        requires first { 0 < query.0 }
+        requires place { query.0 ≤ length self.old.queries }
+        requires runs { (d : KeptQuery) → (slice_index_or self.old.queries (query.0 - 1) d).runs + 1 < 2 ^ 64 }
+        requires few { length tables.old.runs < RUN_LIMIT }
+        requires room { length tables.old.picks + length hits.now ≤ max (length tables.old.picks) PICK_LIMIT }
+        ensures tables { OnOk result (tables.new ≡ after tables.old (Change.RunDone (record { num = length tables.old.runs + 1; query = query; moment = moment }) (pick_rows (length tables.old.picks + 1) query (length tables.old.runs + 1) hits.now))) }
+        ensures engine { OnOk result ((d : KeptQuery) → self.new ≡ record self.old { queries = slice_set self.old.queries (query.0 - 1) (after_run moment (map (entry_at ordinal) hits.now) (slice_index_or self.old.queries (query.0 - 1) d)) }) }
+        ensures err { OnErr result ((self.new ≡ self.old) × (tables.new ≡ tables.old)) }
+    {
+        let run = RunRow {
+            num: tables.runs.len() as u32 + 1,
+            query,
+            moment,
+        };
+        let picks = picks_after(alloc, tables.picks.len(), query, run.num, hits)?;
+        let entries = entries_at(alloc, ordinal, hits)?;
+        self.queries
+            .add_run(query.0 as usize - 1, tables, run, picks, entries)
+    }
+
+    // Runs the user's query of this name.
+    pub(crate) fn run(
+        &mut self,
+        alloc: Global,
+        tables: &mut Tables,
+        name: &[u8],
+    ) -> Result<Reply, Refusal>
+        requires stands { StandsFor self.old tables.old }
+        requires sound { Sound tables.old self.old.session }
+        ensures ok { IfOk result (λ reply. Follows tables.old self.old.session (Command.Run name.now) reply tables.new self.new.session) }
+        ensures stands { OnOk result (StandsFor self.new tables.new) }
+        ensures refusal { IfErr result (λ refusal. Refuses refusal (Command.Run name.now) self.old.session tables.old) }
+        ensures err { OnErr result ((self.new ≡ self.old) × (tables.new ≡ tables.old)) }
+        ensures short { IfOk result (λ reply. HasShortNames reply) }
+        ensures accepted { IfOk result (λ reply. is_accepted reply ≡ true) }
+    {
+        let due = self.due_run(alloc, tables.runs.len(), tables.picks.len(), name)?;
+        let ordinal = due.runs as u32 + 1;
+        self.deliver(
+            alloc,
+            tables,
+            due.query,
+            due.moment,
+            ordinal,
+            due.hits.as_slice(),
+        )?;
+        Ok(Reply::Ran {
+            ordinal,
+            moment: due.moment,
+            hits: due.hits,
+        })
+    }
+}

@@ -1,0 +1,10 @@
+pub mod Scopes
+pub mod Fields
+pub mod Faults
+pub mod Spans
+pub mod Sorts
+pub mod Clocks
+pub mod Bounds
+pub mod Core
+pub mod Answers
+pub mod Laws
