@@ -1,19 +1,19 @@
 -- Rows that come later, and the union as the least growing family.
-use Rattle.std.proofs.Common.{◌≡◌, ℕ, zero, suc, ◌+◌, ◌≤◌, ◌<◌, ℤ, pos, negsuc, Bool, true, false, not, Option, Some, None, List, [], ◌∷◌, ◌++◌, refl, sym, ap, ◌∙◌, subst, inl, inr, arith, cond}
-use Rattle.std.specs.Prelude.{◌⊎◌, ◌&&◌, ◌||◌, ◌+ℤ◌, ◌≤ℤ◌, ◌<ℤ◌, map, int_le, int_lt, nat_eq}
-use Rattle.std.specs.List.{list_any, filter, filter_map, cons_option}
-use Rattle.std.proofs.lemmas.Bool.{cases_Bool, both_ways, and_parts, and_from, true≢false, false≢true, eqb-true, eq-eqb}
+use Rattle.std.proofs.Common.{◌≡◌, ℕ, zero, suc, ℤ, pos, negsuc, Bool, true, Option, Some, None, List, [], ◌∷◌, refl, sym, ap, ◌∙◌, subst, inl, inr, arith}
+use Rattle.std.specs.Prelude.{◌⊎◌, ◌+ℤ◌, ◌≤ℤ◌, ◌<ℤ◌, nat_eq}
+use Rattle.std.specs.List.{filter, filter_map, cons_option}
+use Rattle.std.proofs.lemmas.Bool.{cases_Bool, both_ways, eqb-true, eq-eqb}
 use Rattle.std.proofs.lemmas.Int.{ints, by_lt_z}
 use Rattle.tap_rows.specs.declared.rows.Doc.{Doc}
 use Rattle.tql_core.specs.Condition.{Condition}
 use Rattle.tap_rows.specs.declared.tables.Tables.{Tables}
-use Rattle.tap_rows.specs.Results.{visible, is_before, put_in, hit_of, in_order, at_least}
+use Rattle.tap_rows.specs.Results.{is_before, put_in, hit_of, in_order, at_least}
 use Rattle.tql_core.specs.Holds.{truth_of}
-use Rattle.time_marks.proofs.Asked.{given, gives, first, count_between, hits, fresh, union}
+use Rattle.time_marks.proofs.Asked.{given, gives, first, count_between, union}
 use Rattle.tap_rows.specs.Seconds.{first_from}
 use Rattle.tql_core.specs.Scope.{In}
 use Rattle.tap_rows.specs.declared.results.Hit.{Hit}
-use Rattle.monotone_rewrite.specs.Laws.{LaterRowsKeepFirst, union_docs, in_union, IsGrowingOver, IsLeastGrowing, UnionIsLeast}
+use Rattle.monotone_rewrite.specs.Laws.{LaterRowsKeepFirst, union_docs, in_union, IsLeastGrowing, UnionIsLeast}
 use Rattle.tap_rows.proofs.LaterLaws.{first-later}
 use Rattle.tql_core.proofs.OfTheSecond.{of-the-second}
 use Rattle.time_marks.proofs.Lists.{any_in, in_any, in_map, map_in}

@@ -1,5 +1,5 @@
 -- The probes of a window query keep their scopes.
-use Rattle.std.proofs.Common.{◌≡◌, ℕ, zero, suc, ◌+◌, ◌≤◌, ◌<◌, ℤ, pos, Bool, true, false, not, List, [], ◌∷◌, ◌++◌, refl, sym, ap, ◌∙◌, subst, inl, inr, arith}
+use Rattle.std.proofs.Common.{◌≡◌, ℕ, zero, suc, ◌≤◌, ◌<◌, ℤ, pos, Bool, true, false, not, List, [], ◌∷◌, ◌++◌, refl, sym, ap, ◌∙◌, subst, inl, inr, arith}
 use Rattle.std.specs.Prelude.{◌⊎◌, ◌&&◌, map, int_lt}
 use Rattle.tql_core.specs.Values.{compare}
 use Rattle.tql_tree.specs.declared.table.Table.{Table}
@@ -18,9 +18,8 @@ use Rattle.tql_core.specs.Condition.{Condition, Always, Never, Plain, NowAtLeast
 use Rattle.tql_core.specs.Scope.{In, BaseIn, NumIn, TextIn, AtomIn, Scoped, IsQuery}
 use Rattle.time_marks.specs.declared.mark.Step.{Step}
 use Rattle.time_marks.specs.declared.mark.Mark.{Mark}
-use Rattle.time_marks.specs.Marks.{copied, copy, copy_base, copy_term, copy_number, copy_text, copy_atom, guards_of, arrival_term, fixed_term, step_of, after, mark_if, marks, m, marks_from, rising_from, body}
-use Rattle.std.specs.List.{filter}
-use Rattle.monotone_rewrite.specs.Folding.{Known, Yes, No, Open, known, constant, same_base, is_there, fold_atom, fold_all, fold_either, fold_not, fold_exists, fold}
+use Rattle.time_marks.specs.Marks.{copied, copy, copy_base, copy_term, copy_number, copy_text, copy_atom, guards_of, arrival_term, fixed_term, step_of, after, mark_if, marks, m, marks_from, rising_from}
+use Rattle.monotone_rewrite.specs.Folding.{Known, Yes, No, Open, constant, same_base, is_there, fold_all, fold_either, fold_not, fold_exists, fold}
 use Rattle.time_marks.specs.Probes.{Probe}
 use Rattle.monotone_rewrite.specs.Query.{fold_probe, can_find, probe_of, unfolded, window}
 use Rattle.std.proofs.lemmas.Bool.{cases_Bool}

@@ -1,5 +1,5 @@
 -- What every probe of a window query keeps, and what it is to find a document, in any order of its rows.
-use Rattle.std.specs.Prelude.{◌≡◌, ℕ, ◌+◌, ◌<◌, ◌≤◌, ℤ, pos, true, ◌⊎◌, ◌↔◌, Option, Some, List, [], ◌∷◌, map, int_le}
+use Rattle.std.specs.Prelude.{◌≡◌, ℕ, ◌<◌, ◌≤◌, ℤ, pos, true, ◌⊎◌, ◌↔◌, Some, List, [], ◌∷◌, map, int_le}
 use Rattle.tap_rows.specs.declared.rows.Doc.{Doc}
 use Rattle.tql_core.specs.declared.atom.Atom.{Atom}
 use Rattle.tql_core.specs.Condition.{Condition, Always, Never, Plain, NowAtLeast, NowBefore, All, Either, Not, Exists}
