@@ -1,5 +1,6 @@
 mod Moments
 mod OwnerLaws
+mod TextLaws
 mod CheckLaws
 mod StandingLaws
 mod ArrivalLaws
