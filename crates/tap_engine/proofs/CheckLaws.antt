@@ -93,7 +93,7 @@ missing-map : (t : Tables) (o : Option QueryRow) → missing NoQuery (option_map
 missing-map t None = refl
 missing-map t (Some q) = refl
 
-some-none : (x : Refusal) → Some x ≡ None → ⊥
+pub some-none : (x : Refusal) → Some x ≡ None → ⊥
 some-none x e = cc
 
 some-entries : (xs : List Entry) → Some xs ≡ None → ⊥

@@ -5,4 +5,6 @@ mod CheckLaws
 mod StandingLaws
 mod ArrivalLaws
 mod DueLaws
+mod NoteLaws
+mod VariableLaws
 pub mod SoundLaws

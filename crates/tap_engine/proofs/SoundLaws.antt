@@ -9,14 +9,15 @@ use Rattle.tap_base.specs.declared.moments.TheConstants.{LAST_MOMENT}
 use Rattle.tap_base.specs.Numbers.{moment_of, moment_read, moment_at, positive, number_of, is_date_form}
 use Rattle.tap_rows.specs.declared.tables.Tables.{Tables}
 use Rattle.tap_rows.specs.declared.rows.Doc.{Doc}
+use Rattle.tap_rows.specs.declared.rows.Note.{Note}
 use Rattle.tap_rows.specs.declared.rows.QueryRow.{QueryRow}
-use Rattle.tap_rows.specs.declared.change.Change.TheVariants.{Docs, OneQuery}
+use Rattle.tap_rows.specs.declared.change.Change.TheVariants.{Docs, OneNote, OneQuery}
 use Rattle.tap_rows.specs.Tables.{no_rows, after}
 use Rattle.tap_rows.specs.Arrivals.{Arrived}
 use Rattle.tap_rows.specs.Deliveries.{next_run, run_change}
 use Rattle.tap_rows.specs.Kept.{Each, In, IsBy}
 use Rattle.tap_rows.proofs.LaterLaws.{each-map, each-append}
-use Rattle.tap_rows.proofs.KeptLaws.{kept-empty, kept-docs, kept-query, kept-run}
+use Rattle.tap_rows.proofs.KeptLaws.{kept-empty, kept-docs, kept-note, kept-query, kept-run}
 use Rattle.mail_lines.specs.declared.block.Block.{Block}
 use Rattle.script_lang.specs.declared.command.Command.{Command}
 use Rattle.script_lang.specs.declared.command.Command.TheVariants.{At, AsUser, Mail, Mbox, AddNote, Define, Run, BoxOf, ListOf, Filter, Explain, Ask, Wake, ScoresOf, DigestOf, Bad}
@@ -28,7 +29,7 @@ use Rattle.tap_engine.specs.Sessions.{no_session, present, or_zero, user_of, lat
 use Rattle.tap_engine.specs.Local.{is_local}
 use Rattle.tap_engine.specs.Queries.{condition_in, truth_of, start_of, is_named, query_named}
 use Rattle.tap_engine.specs.Verdicts.{verdict, first_refusal, missing, unless, is_back, no_moment, no_user, bad_name, taken, text_fault, not_built, text_of}
-use Rattle.tap_engine.specs.Replies.{Answer, answer_of, answer_by, accepted, tables_after, set_moment, next_doc, next_query, run_query, show_box}
+use Rattle.tap_engine.specs.Replies.{Answer, answer_of, answer_by, accepted, tables_after, set_moment, next_doc, next_note, next_query, run_query, show_box}
 use Rattle.tap_engine.specs.Stories.{Step}
 use Rattle.tap_engine.specs.Sound.{Sound, IsNow}
 use Rattle.tap_engine.proofs.TextLaws.{built-local}
@@ -202,6 +203,29 @@ mail-sound block session tables sound there =
       );
     }
 
+note-sound : (doc : ℕ) (kind : List ℕ) (value : ℤ) (text : List ℕ) (session : Session) (tables : Tables) → Sound tables session → Present session → Leaves tables (accepted (AddNote doc kind value text) session tables)
+note-sound doc kind value text session tables sound there =
+    let m = there.m in
+    let now = now-at tables session m there.is sound in
+    let note : Note = next_note tables session doc kind value text in
+    let at : note.arrival ≡ m = ap or_zero there.is in
+    let le : note.arrival ≤ℤ m = subst (λ z. z ≤ℤ m) (sym at) (omega (arith, ints)) in
+    let ge : m ≤ℤ note.arrival = subst (λ z. m ≤ℤ z) (sym at) (omega (arith, ints)) in
+    record {
+      kept = kept-note truth_of start_of truth-of-second m tables note sound.kept now.1 ge;
+      local = sound.local;
+      now = subst (λ moment. IsNow moment (after tables (OneNote note))) (sym there.is) (
+        now.0,
+        record {
+          docs = now.1.docs;
+          notes = each-append (λ note. note.arrival ≤ℤ m) tables.notes (note ∷ []) now.1.notes (le, tt);
+          queries = now.1.queries;
+          runs = now.1.runs;
+          filters = now.1.filters;
+        },
+      );
+    }
+
 define-sound : (name source : List ℕ) (session : Session) (tables : Tables) → Sound tables session → Present session → is_local (condition_in source) ≡ true → Leaves tables (accepted (Define name source) session tables)
 define-sound name source session tables sound there local =
     let m = there.m in
@@ -268,7 +292,7 @@ accepted-sound (Run name) session tables sound none = run-sound session tables (
 accepted-sound (BoxOf name) session tables sound none = box-sound session tables (query_named (user_of session) name tables) name sound
 accepted-sound (Bad refusal) session tables sound none = sound
 accepted-sound (Mbox block) session tables sound none = sound
-accepted-sound (AddNote doc kind value text) session tables sound none = sound
+accepted-sound (AddNote doc kind value text) session tables sound none = note-sound doc kind value text session tables sound (present-by session (first-none (missing NoMoment session.moment) _ none))
 accepted-sound (ListOf name) session tables sound none = sound
 accepted-sound (Filter block) session tables sound none = sound
 accepted-sound (Explain name) session tables sound none = sound

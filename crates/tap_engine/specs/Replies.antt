@@ -2,8 +2,9 @@
 use Rattle.std.specs.Prelude.{ℕ, ◌+◌, ℤ, List, [], ◌∷◌, length, Option, Some, None}
 use Rattle.tap_base.specs.Numbers.{moment_of}
 use Rattle.tap_rows.specs.declared.change.Change.{Change}
-use Rattle.tap_rows.specs.declared.change.Change.TheVariants.{Docs, OneQuery}
+use Rattle.tap_rows.specs.declared.change.Change.TheVariants.{Docs, OneNote, OneQuery}
 use Rattle.tap_rows.specs.declared.rows.Doc.{Doc}
+use Rattle.tap_rows.specs.declared.rows.Note.{Note}
 use Rattle.tap_rows.specs.declared.rows.QueryRow.{QueryRow}
 use Rattle.tap_rows.specs.declared.tables.Tables.{Tables}
 use Rattle.tap_rows.specs.Tables.{after}
@@ -14,7 +15,7 @@ use Rattle.script_lang.specs.declared.command.Command.TheVariants.{At, AsUser, M
 use Rattle.script_lang.specs.declared.refusal.Refusal.{Refusal}
 use Rattle.script_lang.specs.declared.refusal.Refusal.TheVariants.{NotBuilt, BadMoment, NoQuery}
 use Rattle.script_lang.specs.declared.reply.Reply.{Reply}
-use Rattle.script_lang.specs.declared.reply.Reply.TheVariants.{At as SetAt, AsUser as SetUser, OneDoc, Defined, Ran, BoxOf as Boxed, No}
+use Rattle.script_lang.specs.declared.reply.Reply.TheVariants.{At as SetAt, AsUser as SetUser, OneDoc, OneNote as NoteAdded, Defined, Ran, BoxOf as Boxed, No}
 use Rattle.tap_engine.specs.declared.session.Session.{Session}
 use Rattle.tap_engine.specs.Sessions.{present, user_of}
 use Rattle.tap_engine.specs.Queries.{truth_of, start_of, query_named, hits_of, box_in}
@@ -64,6 +65,26 @@ add_query name source session tables = record {
   change = Some (OneQuery (next_query tables session name source));
 }
 
+-- the next note
+abbrev pub next_note : Tables → Session → ℕ → List ℕ → ℤ → List ℕ → Note
+next_note tables session doc kind value text = record {
+  num = record { 0 = length tables.notes + 1 };
+  doc = record { 0 = doc };
+  author = user_of session;
+  kind = kind;
+  value = value;
+  arrival = present session;
+  text = text;
+}
+
+-- a note of the user on this document
+abbrev pub add_note : ℕ → List ℕ → ℤ → List ℕ → Session → Tables → Answer
+add_note doc kind value text session tables = record {
+  reply = NoteAdded (record { 0 = length tables.notes + 1 });
+  session = session;
+  change = Some (OneNote (next_note tables session doc kind value text));
+}
+
 -- a run of this query: its ordinal, the moment, and what it delivers
 abbrev pub run_query : Option QueryRow → Session → Tables → Answer
 run_query None session tables = refused NoQuery session
@@ -88,7 +109,7 @@ accepted (Run name) session tables = run_query (query_named (user_of session) na
 accepted (BoxOf name) session tables = show_box (query_named (user_of session) name tables) name session tables
 accepted (Bad refusal) session tables = refused refusal session
 accepted (Mbox block) session tables = refused NotBuilt session
-accepted (AddNote doc kind value text) session tables = refused NotBuilt session
+accepted (AddNote doc kind value text) session tables = add_note doc kind value text session tables
 accepted (ListOf name) session tables = refused NotBuilt session
 accepted (Filter block) session tables = refused NotBuilt session
 accepted (Explain name) session tables = refused NotBuilt session

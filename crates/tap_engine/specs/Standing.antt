@@ -9,8 +9,8 @@ use Rattle.tap_rows.specs.declared.results.Entry.{Entry}
 use Rattle.tap_rows.specs.Constant.{arrival_hit}
 use Rattle.script_lang.specs.declared.refusal.Refusal.{Refusal}
 use Rattle.script_lang.specs.declared.refusal.Refusal.TheVariants.{Taken, NoQuery, Memory}
-use Rattle.script_lang.specs.declared.refusal.LimitName.TheVariants.{Queries, AllQueries, Users, Runs, Picks, Store}
-use Rattle.tap_engine.specs.declared.limits.TheConstants.{USER_QUERY_LIMIT, QUERY_LIMIT, USER_LIMIT, RUN_LIMIT, PICK_LIMIT, STORE_LIMIT}
+use Rattle.script_lang.specs.declared.refusal.LimitName.TheVariants.{Notes, Queries, AllQueries, Users, Runs, Picks, Store}
+use Rattle.tap_engine.specs.declared.limits.TheConstants.{NOTE_LIMIT, USER_QUERY_LIMIT, QUERY_LIMIT, USER_LIMIT, RUN_LIMIT, PICK_LIMIT, STORE_LIMIT}
 use Rattle.tap_engine.specs.declared.kept_query.KeptQuery.{KeptQuery}
 use Rattle.tap_engine.specs.declared.engine.Engine.{Engine}
 use Rattle.tap_engine.specs.declared.run.Due.{Due}
@@ -18,7 +18,7 @@ use Rattle.tap_engine.specs.Sessions.{present, user_of, greatest_moment}
 use Rattle.tap_engine.specs.Local.{local_truth}
 use Rattle.tap_engine.specs.Queries.{condition_in}
 use Rattle.tap_engine.specs.Limits.{stored_bytes, owners_in, different, passes}
-use Rattle.tap_engine.specs.Verdicts.{missing, unless, first_refusal, no_moment, no_user, bad_name, text_refusal, is_early}
+use Rattle.tap_engine.specs.Verdicts.{missing, unless, first_refusal, no_moment, no_user, bad_name, text_refusal, no_doc, long_note, is_early}
 use Rattle.tap_engine.specs.Keeping.{kept_query, named_in, owned_in}
 
 -- the engine stands for the tables: it keeps their documents and queries, how many bytes they store, and who owns a
@@ -57,6 +57,16 @@ define_refusal engine name source =
     (option_or (name_refusal engine (user_of engine.session) name)
     (option_or (text_refusal source)
     (first_refusal (query_limits engine (user_of engine.session) (length source))))))
+
+-- the bounds of a note on this document and of so many bytes, by what is kept
+unfoldable pub note_bounds : Engine → ℕ → ℕ → Option Refusal
+note_bounds engine doc len =
+    first_refusal (no_doc doc (length engine.docs) ∷ long_note len ∷ passes Notes NOTE_LIMIT engine.notes 1 ∷ passes Store STORE_LIMIT engine.bytes len ∷ [])
+
+-- why a note is refused, by what is kept
+abbrev pub note_refusal : Engine → ℕ → List ℕ → List ℕ → Option Refusal
+note_refusal engine doc kind text =
+    option_or (no_moment engine.session) (option_or (no_user engine.session) (option_or (bad_name kind) (note_bounds engine doc (length text))))
 
 -- why a look for the user's query of this name is refused, by what is kept
 unfoldable pub look_refusal : Engine → List ℕ → Option Refusal

@@ -1,6 +1,6 @@
 -- Why a command is refused: the first of its checks that refuses, in the order of the refusals' numbers, limits in the
 -- order of the table of limits.
-use Rattle.std.specs.Prelude.{ℕ, ℤ, List, [], ◌∷◌, length, Bool, true, false, ◌||◌, nat_le, int_le, Option, Some, None, is_none, Result, Ok, Err, if◌then◌else◌}
+use Rattle.std.specs.Prelude.{ℕ, ℤ, List, [], ◌∷◌, length, Bool, true, false, ◌&&◌, ◌||◌, nat_le, int_le, Option, Some, None, is_none, Result, Ok, Err, if◌then◌else◌}
 use Rattle.std.specs.Option.{option_or}
 use Rattle.std.specs.Str.{all_ascii_digits}
 use Rattle.tap_base.specs.Numbers.{moment_of}
@@ -14,14 +14,14 @@ use Rattle.script_lang.specs.declared.state.TheConstants.{MESSAGE_LIMIT}
 use Rattle.script_lang.specs.declared.command.Command.{Command}
 use Rattle.script_lang.specs.declared.command.Command.TheVariants.{At, AsUser, Mail, Mbox, AddNote, Define, Run, BoxOf, ListOf, Filter, Explain, Ask, Wake, ScoresOf, DigestOf, Bad}
 use Rattle.script_lang.specs.declared.refusal.Refusal.{Refusal}
-use Rattle.script_lang.specs.declared.refusal.Refusal.TheVariants.{NotBuilt, BadMoment, Backwards, NoMoment, NoUser, BadName, Taken, NoQuery, Lex, Parse, Types, Limit}
-use Rattle.script_lang.specs.declared.refusal.LimitName.TheVariants.{Message, Documents, Queries, AllQueries, Users, Runs, Picks, Store}
+use Rattle.script_lang.specs.declared.refusal.Refusal.TheVariants.{NotBuilt, BadMoment, Backwards, NoMoment, NoUser, BadName, Taken, NoQuery, NoDoc, Lex, Parse, Types, Limit}
+use Rattle.script_lang.specs.declared.refusal.LimitName.TheVariants.{Message, Note, Documents, Notes, Queries, AllQueries, Users, Runs, Picks, Store}
 use Rattle.tql_core.specs.Condition.{Condition}
 use Rattle.tql_text.specs.declared.fault.TextFault.{TextFault}
 use Rattle.tql_text.specs.declared.fault.TextFault.TheVariants as T
 use Rattle.tql_text.specs.Texts.{condition_of}
 use Rattle.tap_engine.specs.declared.session.Session.{Session}
-use Rattle.tap_engine.specs.declared.limits.TheConstants.{DOCUMENT_LIMIT, USER_QUERY_LIMIT, QUERY_LIMIT, USER_LIMIT, RUN_LIMIT, PICK_LIMIT, STORE_LIMIT}
+use Rattle.tap_engine.specs.declared.limits.TheConstants.{DOCUMENT_LIMIT, NOTE_TEXT_LIMIT, NOTE_LIMIT, USER_QUERY_LIMIT, QUERY_LIMIT, USER_LIMIT, RUN_LIMIT, PICK_LIMIT, STORE_LIMIT}
 use Rattle.tap_engine.specs.Sessions.{present, user_of, last_moment}
 use Rattle.tap_engine.specs.Local.{is_local}
 use Rattle.tap_engine.specs.Queries.{condition_in, query_named, hits_of}
@@ -94,6 +94,14 @@ abbrev pub too_long : Block → Option Refusal
 too_long Long = Some (Limit Message)
 too_long (Whole text) = unless (nat_le (length text) MESSAGE_LIMIT) (Limit Message)
 
+-- a number that is no document's, where there are so many
+unfoldable pub no_doc : ℕ → ℕ → Option Refusal
+no_doc doc count = unless (nat_le 1 doc && nat_le doc count) NoDoc
+
+-- a note of so many bytes that is too long
+unfoldable pub long_note : ℕ → Option Refusal
+long_note len = unless (nat_le len NOTE_TEXT_LIMIT) (Limit Note)
+
 -- the text of a block; one that is too long has none
 abbrev pub text_of : Block → List ℕ
 text_of Long = []
@@ -141,7 +149,15 @@ checks (Run name) session tables =
     ∷ []
 checks (BoxOf name) session tables = no_user session ∷ bad_name name ∷ no_query session name tables ∷ []
 checks (Mbox block) session tables = Some NotBuilt ∷ []
-checks (AddNote doc kind value text) session tables = Some NotBuilt ∷ []
+checks (AddNote doc kind value text) session tables =
+    no_moment session
+    ∷ no_user session
+    ∷ bad_name kind
+    ∷ no_doc doc (length tables.docs)
+    ∷ long_note (length text)
+    ∷ passes Notes NOTE_LIMIT (length tables.notes) 1
+    ∷ passes Store STORE_LIMIT (stored_bytes tables) (length text)
+    ∷ []
 checks (ListOf name) session tables = Some NotBuilt ∷ []
 checks (Filter block) session tables = Some NotBuilt ∷ []
 checks (Explain name) session tables = Some NotBuilt ∷ []

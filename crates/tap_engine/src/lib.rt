@@ -11,6 +11,7 @@ pub mod laws;
 mod limits;
 mod look;
 mod mail;
+mod note;
 mod perform;
 mod run;
 mod session;
@@ -22,6 +23,6 @@ pub use kept_queries::KeptQueries;
 pub use kept_query::KeptQuery;
 pub use kept_row::KeptRow;
 pub use limits::{
-    DOCUMENT_LIMIT, PICK_LIMIT, QUERY_LIMIT, RUN_LIMIT, STORE_LIMIT, USER_LIMIT, USER_QUERY_LIMIT,
+    DOCUMENT_LIMIT, NOTE_LIMIT, NOTE_TEXT_LIMIT, PICK_LIMIT, QUERY_LIMIT, RUN_LIMIT, STORE_LIMIT, USER_LIMIT, USER_QUERY_LIMIT,
 };
 pub use session::Session;
