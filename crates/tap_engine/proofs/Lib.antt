@@ -4,6 +4,7 @@ mod TextLaws
 mod CheckLaws
 mod StandingLaws
 mod ArrivalLaws
+mod AskLaws
 mod DueLaws
 mod NoteLaws
 mod VariableLaws

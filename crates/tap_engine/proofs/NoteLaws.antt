@@ -1,5 +1,5 @@
 -- Notes: why one is refused, and what the engine keeps after one.
-use Rattle.std.proofs.Common.{◌≡◌, ◌∙◌, sym, refl, ap, subst, arith, ℕ, ℤ, List, [], ◌∷◌, ◌++◌, ◌+◌, length, Option, Some, None}
+use Rattle.std.proofs.Common.{◌≡◌, ◌∙◌, sym, refl, ap, subst, arith, ℕ, ℤ, List, [], ◌∷◌, ◌+◌, length, Option, Some, None}
 use Rattle.std.specs.Prelude.{sum_by}
 use Rattle.std.specs.Option.{option_or}
 use Rattle.std.proofs.lemmas.List.{length-append}

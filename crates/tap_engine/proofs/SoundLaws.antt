@@ -29,7 +29,7 @@ use Rattle.tap_engine.specs.Sessions.{no_session, present, or_zero, user_of, lat
 use Rattle.tap_engine.specs.Local.{is_local}
 use Rattle.tap_engine.specs.Queries.{condition_in, truth_of, start_of, is_named, query_named}
 use Rattle.tap_engine.specs.Verdicts.{verdict, first_refusal, missing, unless, is_back, no_moment, no_user, bad_name, taken, text_fault, not_built, text_of}
-use Rattle.tap_engine.specs.Replies.{Answer, answer_of, answer_by, accepted, tables_after, set_moment, next_doc, next_note, next_query, run_query, show_box}
+use Rattle.tap_engine.specs.Replies.{Answer, answer_of, answer_by, accepted, tables_after, set_moment, next_doc, next_note, next_query, run_query, show_box, ask_at}
 use Rattle.tap_engine.specs.Stories.{Step}
 use Rattle.tap_engine.specs.Sound.{Sound, IsNow}
 use Rattle.tap_engine.proofs.TextLaws.{built-local}
@@ -273,6 +273,10 @@ box-sound : (session : Session) (tables : Tables) (query : Option QueryRow) (nam
 box-sound session tables None name sound = sound
 box-sound session tables (Some q) name sound = sound
 
+ask-sound : (second : Option ℤ) (source : List ℕ) (session : Session) (tables : Tables) → Sound tables session → Leaves tables (ask_at second source session tables)
+ask-sound None source session tables sound = sound
+ask-sound (Some second) source session tables sound = sound
+
 rest-none : (x : Option Refusal) (rest : List (Option Refusal)) → first_refusal (x ∷ rest) ≡ None → first_refusal rest ≡ None
 rest-none None rest e = e
 rest-none (Some x) rest e = absurd (some-refusal x e)
@@ -296,7 +300,7 @@ accepted-sound (AddNote doc kind value text) session tables sound none = note-so
 accepted-sound (ListOf name) session tables sound none = sound
 accepted-sound (Filter block) session tables sound none = sound
 accepted-sound (Explain name) session tables sound none = sound
-accepted-sound (Ask moment source) session tables sound none = sound
+accepted-sound (Ask moment source) session tables sound none = ask-sound (moment_of moment) source session tables sound
 accepted-sound (Wake name) session tables sound none = sound
 accepted-sound (ScoresOf kind) session tables sound none = sound
 accepted-sound (DigestOf name ordinal) session tables sound none = sound

@@ -1,5 +1,5 @@
 -- The EXISTS of a condition that is read bind at most five variables.
-use Rattle.std.proofs.Common.{◌≡◌, ◌∙◌, sym, ap, refl, arith, ℕ, ◌+◌, ◌≤◌, ◌<◌, ℤ, Bool, true, false, Option, Some, None, List, [], ◌∷◌, inl, inr, if◌then◌else◌}
+use Rattle.std.proofs.Common.{◌≡◌, ap, refl, arith, ℕ, ◌+◌, ◌≤◌, Bool, true, false, Option, Some, None, List, inl, inr, if◌then◌else◌}
 use Rattle.std.specs.Prelude.{nat_lt, nat_le, is_some, Result, Ok, Err}
 use Rattle.std.proofs.lemmas.Bool.{cases_Bool}
 use Rattle.tap_base.specs.declared.numbers.Op.{Op}
@@ -27,9 +27,8 @@ use Rattle.tql_types.specs.declared.checker.TheConstants.{NODE_LIMIT}
 use Rattle.tql_types.specs.Scopes.{variable_named, first_scope, next_variable, variables_after}
 use Rattle.tql_types.specs.Faults.{sooner, place_of}
 use Rattle.tql_types.specs.Sorts.{field_in, sort_of}
-use Rattle.tql_types.specs.Clocks.{clock_of, turned, half_line, constant, times_core}
-use Rattle.tql_types.specs.Core.{binder_fault, inner_scope, first_fault, text_of, lowered, has_field, has_core, compare_core, core, nodes, sized, unless_fault, typed}
-use Rattle.tql_text.specs.declared.fault.TextFault.{TextFault}
+use Rattle.tql_types.specs.Clocks.{clock_of, turned, half_line, times_core}
+use Rattle.tql_types.specs.Core.{binder_fault, inner_scope, first_fault, text_of, lowered, has_field, has_core, compare_core, core, nodes, unless_fault, typed}
 use Rattle.tql_text.specs.Texts.{of_typing, of_tree, of_tokens, condition_of}
 use Rattle.snapshot_meaning.specs.Seen.{exists_in}
 

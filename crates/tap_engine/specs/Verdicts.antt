@@ -1,6 +1,6 @@
 -- Why a command is refused: the first of its checks that refuses, in the order of the refusals' numbers, limits in the
 -- order of the table of limits.
-use Rattle.std.specs.Prelude.{ℕ, ℤ, List, [], ◌∷◌, length, Bool, true, false, ◌&&◌, ◌||◌, nat_le, int_le, Option, Some, None, is_none, Result, Ok, Err, if◌then◌else◌}
+use Rattle.std.specs.Prelude.{ℕ, ℤ, List, [], ◌∷◌, length, Bool, true, false, ◌&&◌, ◌||◌, nat_le, int_le, int_lt, Option, Some, None, is_none, Result, Ok, Err, if◌then◌else◌}
 use Rattle.std.specs.Option.{option_or}
 use Rattle.std.specs.Str.{all_ascii_digits}
 use Rattle.tap_base.specs.Numbers.{moment_of}
@@ -14,7 +14,7 @@ use Rattle.script_lang.specs.declared.state.TheConstants.{MESSAGE_LIMIT}
 use Rattle.script_lang.specs.declared.command.Command.{Command}
 use Rattle.script_lang.specs.declared.command.Command.TheVariants.{At, AsUser, Mail, Mbox, AddNote, Define, Run, BoxOf, ListOf, Filter, Explain, Ask, Wake, ScoresOf, DigestOf, Bad}
 use Rattle.script_lang.specs.declared.refusal.Refusal.{Refusal}
-use Rattle.script_lang.specs.declared.refusal.Refusal.TheVariants.{NotBuilt, BadMoment, Backwards, NoMoment, NoUser, BadName, Taken, NoQuery, NoDoc, Lex, Parse, Types, Limit}
+use Rattle.script_lang.specs.declared.refusal.Refusal.TheVariants.{NotBuilt, BadMoment, Backwards, NoMoment, NoUser, BadName, Taken, NoQuery, NoDoc, Lex, Parse, Types, NotOver, Limit}
 use Rattle.script_lang.specs.declared.refusal.LimitName.TheVariants.{Message, Note, Documents, Notes, Queries, AllQueries, Users, Runs, Picks, Store}
 use Rattle.tql_core.specs.Condition.{Condition}
 use Rattle.tql_text.specs.declared.fault.TextFault.{TextFault}
@@ -80,6 +80,12 @@ abbrev pub is_back : Option ℤ → Option ℤ → Option Refusal
 is_back None second = None
 is_back (Some last) None = None
 is_back (Some last) (Some second) = unless (int_le last second) (Backwards last)
+
+-- a second that isn't below the present one
+abbrev pub not_over : Option ℤ → Option ℤ → Option Refusal
+not_over None now = None
+not_over (Some second) None = None
+not_over (Some second) (Some now) = unless (int_lt second now) (NotOver now)
 
 -- the user has a query of this name
 abbrev pub taken : Session → List ℕ → Tables → Option Refusal
@@ -161,7 +167,8 @@ checks (AddNote doc kind value text) session tables =
 checks (ListOf name) session tables = Some NotBuilt ∷ []
 checks (Filter block) session tables = Some NotBuilt ∷ []
 checks (Explain name) session tables = Some NotBuilt ∷ []
-checks (Ask moment source) session tables = Some NotBuilt ∷ []
+checks (Ask moment source) session tables =
+    missing BadMoment (moment_of moment) ∷ no_moment session ∷ text_fault source ∷ not_over (moment_of moment) session.moment ∷ []
 checks (Wake name) session tables = Some NotBuilt ∷ []
 checks (ScoresOf kind) session tables = Some NotBuilt ∷ []
 checks (DigestOf name ordinal) session tables = Some NotBuilt ∷ []

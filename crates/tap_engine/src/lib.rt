@@ -1,6 +1,7 @@
 //! One command, one step: the reply to it, and what it changes.
 #![tactic(auto)]
 
+mod ask;
 mod boxes;
 mod define;
 mod engine;
@@ -23,6 +24,7 @@ pub use kept_queries::KeptQueries;
 pub use kept_query::KeptQuery;
 pub use kept_row::KeptRow;
 pub use limits::{
-    DOCUMENT_LIMIT, NOTE_LIMIT, NOTE_TEXT_LIMIT, PICK_LIMIT, QUERY_LIMIT, RUN_LIMIT, STORE_LIMIT, USER_LIMIT, USER_QUERY_LIMIT,
+    DOCUMENT_LIMIT, NOTE_LIMIT, NOTE_TEXT_LIMIT, PICK_LIMIT, QUERY_LIMIT, RUN_LIMIT, STORE_LIMIT,
+    USER_LIMIT, USER_QUERY_LIMIT,
 };
 pub use session::Session;

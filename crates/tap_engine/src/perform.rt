@@ -42,6 +42,9 @@ impl Engine {
             } => self.note(tables, doc, kind, value, text),
             Command::Run(name) => self.run(alloc, tables, name.as_slice()),
             Command::BoxOf(name) => self.show_box(alloc, tables, name),
+            Command::Ask { moment, source } => {
+                self.ask(alloc, tables, moment.as_slice(), source.as_slice())
+            }
             Command::Bad(refusal) => Err(refusal),
             _ => Err(Refusal::NotBuilt),
         }

@@ -28,6 +28,7 @@ fn refusal_of(fault: TextFault) -> Refusal
 // The condition of a query's text.
 pub(crate) fn read_text(alloc: Global, source: &[u8]) -> Result<Cond, Refusal>
     ensures cond { IfOk result (λ cond. condition_of source.now ≡ Ok (condition cond)) }
+    ensures vars { IfOk result (λ cond. exists_in (condition cond) ≤ 15) }
     ensures refusal { IfErr result (λ refusal. (text_fault source.now ≡ Some refusal) ⊎ (refusal ≡ Refusal.Memory)) }
 {
     match read_condition(alloc, source) {
