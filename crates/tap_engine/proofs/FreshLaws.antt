@@ -15,7 +15,7 @@ use Rattle.tap_rows.specs.Results.{is_given, first_second, hit_of, at_least, in_
 use Rattle.tap_rows.specs.Seconds.{least_second}
 use Rattle.tap_rows.proofs.FreshLaws.{fresh-is}
 use Rattle.tap_rows.proofs.SecondsLaws.{least_second-same}
-use Rattle.tap_rows.proofs.SlowLaws.{first-from-arrival, least-here, least-next}
+use Rattle.tap_engine.proofs.SlowLaws.{first-from-arrival, least-here, least-next}
 use Rattle.tql_core.proofs.OfTheSecond.{of-the-second}
 use Rattle.snapshot_meaning.specs.Seen.{seen}
 use Rattle.tap_engine.specs.Local.{is_local, local_truth}

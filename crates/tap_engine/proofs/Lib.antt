@@ -1,6 +1,7 @@
 mod Moments
 mod OwnerLaws
 mod TextLaws
+mod SlowLaws
 mod FreshLaws
 mod CheckLaws
 mod StandingLaws

@@ -1,6 +1,5 @@
 mod Worked
 pub mod SecondsLaws
-pub mod SlowLaws
 pub mod FreshLaws
 pub mod OrderLaws
 pub mod UnionLaws

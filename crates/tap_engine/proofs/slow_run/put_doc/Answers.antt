@@ -1,4 +1,4 @@
-use Rattle.std.proofs.Common.{rules, w64, to_z, of_z}
+use Rattle.std.proofs.Common.{w64, to_z, of_z}
 use Rattle.std.proofs.lemmas.Int.{to_z-of_z}
 use Rattle.tap_engine.proofs.FreshLaws.{arrived-at, more-at}
 use Rattle.tap_engine.proofs.slow_run.put_doc.Goals as goal

@@ -1,5 +1,5 @@
 use Rattle.std.proofs.Common.{rules}
-use Rattle.tap_rows.proofs.SlowLaws.{put_in-at}
+use Rattle.tap_engine.proofs.SlowLaws.{put_in-at}
 use Rattle.tap_engine.proofs.slow_run.put_hit.Goals as goal
 
 pub returns : goal.returns
