@@ -8,13 +8,13 @@ use Rattle.tap_edges.specs.declared.edges.PutFailed.{PutFailed}
 use Rattle.tap_rows.specs.declared.results.Hit.{Hit}
 use Rattle.tap_rows.specs.declared.results.Entry.{Entry}
 use Rattle.tap_rows.specs.declared.results.Listed.{Listed}
-use Rattle.script_lang.specs.declared.faults.Score.{Score}
-use Rattle.script_lang.specs.declared.faults.LexFault.{LexFault}
-use Rattle.script_lang.specs.declared.faults.LexFault.TheVariants.{BadByte, OpenString, BigNumber, TooLong, Memory as LexMemory}
-use Rattle.script_lang.specs.declared.faults.ParseFault.{ParseFault}
-use Rattle.script_lang.specs.declared.faults.ParseFault.TheVariants.{Unexpected, Ended, Deep, Memory as ParseMemory}
-use Rattle.script_lang.specs.declared.faults.TypeFault.{TypeFault}
-use Rattle.script_lang.specs.declared.faults.TypeFault.TheVariants.{NoVar, NoField, Clash, Shadow, BadTime, BigSpan, ManyVars, ManyNodes, Memory as TypeMemory}
+use Rattle.script_lang.specs.declared.score.Score.{Score}
+use Rattle.tql_lex.specs.declared.fault.LexFault.{LexFault}
+use Rattle.tql_lex.specs.declared.fault.LexFault.TheVariants.{BadByte, OpenString, BigNumber, TooLong, Memory as LexMemory}
+use Rattle.tql_parse.specs.declared.fault.ParseFault.{ParseFault}
+use Rattle.tql_parse.specs.declared.fault.ParseFault.TheVariants.{Unexpected, Ended, Deep, Memory as ParseMemory}
+use Rattle.tql_types.specs.declared.fault.TypeFault.{TypeFault}
+use Rattle.tql_types.specs.declared.fault.TypeFault.TheVariants.{NoVar, NoField, Clash, Shadow, BadTime, BigSpan, ManyVars, ManyNodes, Memory as TypeMemory}
 use Rattle.script_lang.specs.declared.refusal.LimitName.{LimitName}
 use Rattle.script_lang.specs.declared.refusal.LimitName.TheVariants.{Line, Message, Block, Note, Documents, Notes, Queries, AllQueries, Users, Filters, Runs, Picks, Store}
 use Rattle.script_lang.specs.declared.refusal.Refusal.{Refusal}

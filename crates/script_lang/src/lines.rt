@@ -5,11 +5,14 @@ ghost use Rattle.script_lang.specs.Replies.{head, line, hit_line, entry_text, en
 ghost use Rattle.script_lang.specs.declared.reply.Reply.{Reply};
 
 use crate::buffer::{head_line, head_name, head_number, number_line, push, push_number, text_line};
-use crate::faults::{LexFault, ParseFault, Score, TypeFault};
 use crate::refusal::{LimitName, Refusal};
+use crate::score::Score;
 use arrayvec::ArrayVec;
 use tap_base::DocNum;
 use tap_rows::{Entry, Hit, Listed};
+use tql_lex::LexFault;
+use tql_parse::ParseFault;
+use tql_types::TypeFault;
 
 /// A row that is shown by one line.
 pub trait RowLine {

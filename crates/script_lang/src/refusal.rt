@@ -1,7 +1,9 @@
 ghost use Rattle.std.specs.Prelude.{◌≡◌};
 
-use crate::faults::{LexFault, ParseFault, TypeFault};
 use tap_base::Memory;
+use tql_lex::LexFault;
+use tql_parse::ParseFault;
+use tql_types::TypeFault;
 
 /// A limit that would be passed.
 #[derive(Clone, Copy, Debug, PartialEq, Eq)]

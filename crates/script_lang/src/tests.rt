@@ -1,15 +1,16 @@
 ghost use Rattle.std.specs.Prelude.{◌≡◌, ◌≤◌, ◌<◌, length};
 ghost use Rattle.script_lang.specs.Replies.{HasShortNames};
 
-use crate::{
-    Command, LexFault, LimitName, ParseFault, Refusal, Reply, ScriptReader, TypeFault, put_reply,
-};
+use crate::{Command, LimitName, Refusal, Reply, ScriptReader, put_reply};
 use mail_lines::Block;
 use std::alloc::Global;
 use std::test::Fail;
 use tap_base::{DocNum, Memory, Rows, Text, Texts, put_decimal};
 use tap_edges::{MemSink, PutPlan};
 use tap_rows::Entry;
+use tql_lex::LexFault;
+use tql_parse::ParseFault;
+use tql_types::TypeFault;
 
 // The bytes of a reply that are taken where these puts fail.
 fn shown(alloc: Global, reply: &Reply, fails: Vec<PutPlan>) -> Result<Text, Memory>

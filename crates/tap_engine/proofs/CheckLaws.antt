@@ -1,6 +1,6 @@
 -- What the engine finds of a command's checks is what its verdict says.
 use Rattle.std.proofs.Common.{◌≡◌, ◌∙◌, sym, refl, ap, subst, arith, ℕ, suc, pos, List, [], ◌∷◌, ◌+◌, length, map, Option, Some, None, Bool, true, false, inl, inr, if◌then◌else◌}
-use Rattle.std.specs.Prelude.{is_none, find, filter}
+use Rattle.std.specs.Prelude.{◌⊎◌, ◌==◌, ◌||◌, nat_le, is_none, find, filter, Result, Ok, Err}
 use Rattle.std.specs.Option.{option_map, option_or}
 use Rattle.std.specs.Str.{bytes_eq}
 use Rattle.std.proofs.lemmas.Bool.{cases_Bool}
@@ -9,25 +9,34 @@ use Rattle.std.proofs.lemmas.List.{length-map}
 use Rattle.tap_rows.specs.declared.tables.Tables.{Tables}
 use Rattle.tap_rows.specs.declared.rows.QueryRow.{QueryRow}
 use Rattle.tap_rows.proofs.FreshLaws.{fresh-is}
+use Rattle.tap_base.specs.Words.{holds}
+use Rattle.tql_core.specs.Condition.{Condition}
+use Rattle.tql_core.proofs.OfTheSecond.{of-the-second}
+use Rattle.tql_text.specs.declared.fault.TextFault.{TextFault}
+use Rattle.tql_text.specs.declared.fault.TextFault.TheVariants as T
+use Rattle.tql_text.specs.Texts.{condition_of}
+use Rattle.tap_engine.proofs.TextLaws.{truth-local}
 use Rattle.script_lang.specs.declared.refusal.Refusal.{Refusal}
-use Rattle.script_lang.specs.declared.refusal.Refusal.TheVariants.{NoQuery, NoMoment}
-use Rattle.script_lang.specs.declared.refusal.LimitName.TheVariants.{Runs, Picks}
+use Rattle.script_lang.specs.declared.refusal.Refusal.TheVariants.{NoQuery, NoMoment, NotBuilt, Taken, Memory, Limit}
+use Rattle.script_lang.specs.declared.refusal.LimitName.{LimitName}
+use Rattle.script_lang.specs.declared.refusal.LimitName.TheVariants.{Queries, AllQueries, Users, Store, Runs, Picks}
 use Rattle.script_lang.specs.declared.command.Command.{Command}
 use Rattle.script_lang.specs.declared.command.Command.TheVariants.{Define, Run, BoxOf}
-use Rattle.tap_engine.specs.declared.limits.TheConstants.{RUN_LIMIT, PICK_LIMIT}
+use Rattle.tap_engine.specs.declared.limits.TheConstants.{USER_QUERY_LIMIT, QUERY_LIMIT, USER_LIMIT, STORE_LIMIT, RUN_LIMIT, PICK_LIMIT}
 use Rattle.tap_engine.specs.declared.session.Session.{Session}
 use Rattle.tap_engine.specs.declared.engine.Engine.{Engine}
 use Rattle.tap_engine.specs.Sessions.{user_of, present}
-use Rattle.tap_engine.specs.Queries.{is_named, query_named, truth_of, start_of, has_word, source_word}
+use Rattle.tap_engine.specs.Local.{is_local, local_truth}
+use Rattle.tap_engine.specs.Queries.{is_named, query_named, condition_in, truth_of, start_of}
 use Rattle.tap_rows.specs.Results.{covered}
 use Rattle.tap_engine.specs.Limits.{passes}
-use Rattle.tap_engine.specs.Verdicts.{first_refusal, verdict, missing, no_moment, no_user, bad_name, not_built, hits_found}
+use Rattle.tap_engine.specs.Verdicts.{first_refusal, verdict, missing, unless, no_moment, no_user, bad_name, reading_refusal, text_fault, not_built, text_refusal, is_early, hits_found}
 use Rattle.tap_engine.specs.Keeping.{kept_query, named_in, owned_in}
-use Rattle.tap_engine.specs.Standing.{StandsFor, query_checks, define_checks, look_refusal, run_refusal, kept_named, hits_kept, entries_kept, RefusedBy}
+use Rattle.tap_engine.specs.Standing.{StandsFor, name_refusal, query_limits, define_refusal, look_refusal, run_refusal, kept_named, hits_kept, entries_kept, RefusedBy}
 use Rattle.tap_engine.specs.Sound.{Sound}
 use Rattle.tap_engine.specs.Stories.{Refuses, Follows}
 use Rattle.tap_engine.specs.Replies.{answer_of, accepted, answer_by, tables_after, next_query, show_box}
-use Rattle.tap_rows.specs.Kept.{In, IsOfTheSecond}
+use Rattle.tap_rows.specs.Kept.{Each, In, IsOfTheSecond}
 use Rattle.tap_rows.specs.Deliveries.{delivered}
 use Rattle.tap_rows.specs.declared.results.Entry.{Entry}
 use Rattle.tap_rows.proofs.KeptLaws.{box-is}
@@ -56,14 +65,24 @@ none-map : (t : Tables) (o : Option QueryRow) → is_none (option_map (kept_quer
 none-map t None = refl
 none-map t (Some q) = refl
 
+seven : (a b c d e f : Option Refusal) (rest : List (Option Refusal)) → option_or a (option_or b (option_or (option_or c d) (option_or (option_or e f) (first_refusal rest)))) ≡ first_refusal (a ∷ b ∷ c ∷ d ∷ e ∷ f ∷ rest)
+seven (Some x) b c d e f rest = refl
+seven None (Some x) c d e f rest = refl
+seven None None (Some x) d e f rest = refl
+seven None None None (Some x) e f rest = refl
+seven None None None None (Some x) f rest = refl
+seven None None None None None (Some x) rest = refl
+seven None None None None None None rest = refl
+
 -- a new query is refused as its verdict says
-pub define-verdict : (e : Engine) (t : Tables) (name source : List ℕ) → StandsFor e t → first_refusal (define_checks e name source) ≡ verdict (Define name source) e.session t
-unfolding query_checks
+pub define-verdict : (e : Engine) (t : Tables) (name source : List ℕ) → StandsFor e t → define_refusal e name source ≡ verdict (Define name source) e.session t
+unfolding name_refusal query_limits text_refusal
 define-verdict e t name source stands =
-    rw (stands.queries, named-kept t (user_of e.session) name t.queries, none-map t (find (is_named (user_of e.session) name) t.queries), owned-kept t (user_of e.session) t.queries, length-map t.queries (kept_query t), stands.users, stands.owners (user_of e.session), stands.bytes) refl
+    seven (no_moment e.session) (no_user e.session) (bad_name name) (unless (is_none (named_in (user_of e.session) name e.queries)) Taken) (text_fault source) (not_built source) (query_limits e (user_of e.session) (length source))
+    ∙ rw (stands.queries, named-kept t (user_of e.session) name t.queries, none-map t (find (is_named (user_of e.session) name) t.queries), owned-kept t (user_of e.session) t.queries, length-map t.queries (kept_query t), stands.users, stands.owners (user_of e.session), stands.bytes) refl
 
 -- a command that is refused by its verdict, or for want of memory
-pub define-refuses : (e : Engine) (t : Tables) (name source : List ℕ) (refusal : Refusal) → StandsFor e t → RefusedBy (first_refusal (define_checks e name source)) refusal → Refuses refusal (Define name source) e.session t
+pub define-refuses : (e : Engine) (t : Tables) (name source : List ℕ) (refusal : Refusal) → StandsFor e t → RefusedBy (define_refusal e name source) refusal → Refuses refusal (Define name source) e.session t
 define-refuses e t name source refusal stands by = subst (λ v. RefusedBy v refusal) (define-verdict e t name source stands) by
 
 -- what is kept of the user's query of this name
@@ -74,7 +93,7 @@ missing-map : (t : Tables) (o : Option QueryRow) → missing NoQuery (option_map
 missing-map t None = refl
 missing-map t (Some q) = refl
 
-some-none : (x : Refusal) → Some x ≡ None → ⊥
+pub some-none : (x : Refusal) → Some x ≡ None → ⊥
 some-none x e = cc
 
 some-entries : (xs : List Entry) → Some xs ≡ None → ⊥
@@ -123,11 +142,17 @@ box-verdict e t name stands =
 pub box-refuses : (e : Engine) (t : Tables) (name : List ℕ) (refusal : Refusal) → StandsFor e t → RefusedBy (look_refusal e name) refusal → Refuses refusal (BoxOf name) e.session t
 box-refuses e t name refusal stands by = subst (λ v. RefusedBy v refusal) (box-verdict e t name stands) by
 
--- what a run of a query delivers, from the documents that have its word and arrived since its last run
-pub hits-is : (e : Engine) (t : Tables) (o : Option QueryRow) → StandsFor e t → Sound t e.session → hits_kept e (option_map (kept_query t) o) ≡ hits_found o t (present e.session)
-hits-is e t None stands sound = refl
-hits-is e t (Some q) stands sound =
-    rw stands.docs (sym (fresh-is (truth_of q) t (has_word (source_word q.source)) (start_of q) (pos 0) (covered (start_of q) q.num.0 t.runs) (present e.session) (λ d s. refl) (omega (arith, ints)) sound.kept.docs))
+-- each query that there is speaks of neither now nor other rows
+local-of : (q : QueryRow) (qs : List QueryRow) → In q qs → Each (λ q. is_local (condition_in q.source) ≡ true) qs → is_local (condition_in q.source) ≡ true
+local-of q [] has each = absurd has
+local-of q (x ∷ qs) (inl e) each = ap (λ q. is_local (condition_in q.source)) e ∙ each.0
+local-of q (x ∷ qs) (inr h) each = local-of q qs h each.1
+
+-- what a run of a query delivers, from the documents of which its condition is true and that arrived since its last run
+pub hits-is : (e : Engine) (t : Tables) (o : Option QueryRow) → ((q : QueryRow) → o ≡ Some q → In q t.queries) → StandsFor e t → Sound t e.session → hits_kept e (option_map (kept_query t) o) ≡ hits_found o t (present e.session)
+hits-is e t None has stands sound = refl
+hits-is e t (Some q) has stands sound =
+    rw stands.docs (sym (fresh-is (truth_of q) t (local_truth (condition_in q.source)) (start_of q) (pos 0) (covered (start_of q) q.num.0 t.runs) (present e.session) (λ d s. truth-local (condition_in q.source) t d s (local-of q t.queries (has q refl) sound.local)) (omega (arith, ints)) sound.kept.docs))
 
 -- a run is refused as its verdict says
 pub run-verdict : (e : Engine) (t : Tables) (name : List ℕ) → StandsFor e t → Sound t e.session → run_refusal e (length t.runs) (length t.picks) name ≡ verdict (Run name) e.session t
@@ -136,7 +161,7 @@ run-verdict e t name stands sound =
     let o = query_named (user_of e.session) name t in
     ap (λ k. option_or (no_moment e.session) (option_or (option_or (no_user e.session) (option_or (bad_name name) (missing NoQuery k))) (option_or (passes Runs RUN_LIMIT (length t.runs) 1) (passes Picks PICK_LIMIT (length t.picks) (length (hits_kept e k)))))) (named-is e t name stands)
     ∙ ap (λ m. option_or (no_moment e.session) (option_or (option_or (no_user e.session) (option_or (bad_name name) m)) (option_or (passes Runs RUN_LIMIT (length t.runs) 1) (passes Picks PICK_LIMIT (length t.picks) (length (hits_kept e (option_map (kept_query t) o))))))) (missing-map t o)
-    ∙ ap (λ hits. option_or (no_moment e.session) (option_or (option_or (no_user e.session) (option_or (bad_name name) (missing NoQuery o))) (option_or (passes Runs RUN_LIMIT (length t.runs) 1) (passes Picks PICK_LIMIT (length t.picks) (length hits))))) (hits-is e t o stands sound)
+    ∙ ap (λ hits. option_or (no_moment e.session) (option_or (option_or (no_user e.session) (option_or (bad_name name) (missing NoQuery o))) (option_or (passes Runs RUN_LIMIT (length t.runs) 1) (passes Picks PICK_LIMIT (length t.picks) (length hits))))) (hits-is e t o (find-in (is_named (user_of e.session) name) t.queries) stands sound)
     ∙ six (no_moment e.session) (no_user e.session) (bad_name name) (missing NoQuery o) (passes Runs RUN_LIMIT (length t.runs) 1) (passes Picks PICK_LIMIT (length t.picks) (length (hits_found o t (present e.session))))
 
 pub run-refuses : (e : Engine) (t : Tables) (name : List ℕ) (runs picks : ℕ) (refusal : Refusal) → StandsFor e t → Sound t e.session → runs ≡ length t.runs → picks ≡ length t.picks → RefusedBy (run_refusal e runs picks name) refusal → Refuses refusal (Run name) e.session t
@@ -164,8 +189,8 @@ second-none (Some x) None rest e = refl
 second-none (Some x) (Some y) rest e = absurd (some-none x e)
 
 -- a query isn't defined without a moment
-pub define-moment : (e : Engine) (name source : List ℕ) → first_refusal (define_checks e name source) ≡ None → e.session.moment ≡ None → ⊥
-define-moment e name source none no_m = some-none NoMoment (sym (ap (missing NoMoment) no_m) ∙ second-none (not_built source) (missing NoMoment e.session.moment) _ none)
+pub define-moment : (e : Engine) (name source : List ℕ) → define_refusal e name source ≡ None → e.session.moment ≡ None → ⊥
+define-moment e name source none no_m = some-none NoMoment (sym (ap (λ m. option_or (missing NoMoment m) (option_or (no_user e.session) (option_or (name_refusal e (user_of e.session) name) (option_or (text_refusal source) (first_refusal (query_limits e (user_of e.session) (length source))))))) no_m) ∙ none)
 
 -- a query is defined
 pub follows-define : (t : Tables) (s : Session) (name source shown : List ℕ) (n : ℕ) (row : QueryRow) (t' : Tables) (s' : Session) → verdict (Define name source) s t ≡ None → n ≡ length t.queries
@@ -180,9 +205,51 @@ follows-define t s name source shown n row t' s' none count is-row is-shown is-t
       session_is = is-s ∙ follows.session_is;
     }
 
--- a query's truth looks at nothing but its document
+-- a query's truth looks at nothing but the documents and notes that arrived by its second
 pub truth-of-second : (q : QueryRow) → IsOfTheSecond (truth_of q)
-truth-of-second q tables later doc s docs notes = refl
+truth-of-second q = of-the-second (condition_in q.source)
+
+text-late : (source : List ℕ) (rest : List (Option Refusal)) → is_early (first_refusal rest) ≡ false → is_early (option_or (text_refusal source) (first_refusal rest)) ≡ false
+unfolding text_refusal text_fault not_built
+text-late source rest late = go (condition_of source) (is_local (condition_in source)) where
+  go : (r : Result Condition TextFault) (b : Bool) → is_early (option_or (option_or (reading_refusal r) (unless b NotBuilt)) (first_refusal rest)) ≡ false
+  go (Err (T.Lex fault)) b = refl
+  go (Err (T.Parse fault)) b = refl
+  go (Err (T.Types fault)) b = refl
+  go (Err T.Memory) true = late
+  go (Err T.Memory) false = refl
+  go (Ok c) true = late
+  go (Ok c) false = refl
+
+passes-late : (name : LimitName) (limit count more : ℕ) → is_early (passes name limit count more) ≡ false
+passes-late name limit count more = elim ((more == 0) || nat_le (count + more) limit) as (λ b. is_early (if b then None else Some (Limit name)) ≡ false) [ true ↦ refl | false ↦ refl ]
+
+late-first : (x : Option Refusal) (rest : List (Option Refusal)) → is_early x ≡ false → is_early (first_refusal rest) ≡ false → is_early (first_refusal (x ∷ rest)) ≡ false
+late-first None rest x-late rest-late = rest-late
+late-first (Some x) rest x-late rest-late = x-late
+
+limits-late : (engine : Engine) (user : List ℕ) (len : ℕ) → is_early (first_refusal (query_limits engine user len)) ≡ false
+unfolding query_limits
+limits-late engine user len =
+    late-first _ _ (passes-late Queries USER_QUERY_LIMIT (owned_in user engine.queries) 1)
+    (late-first _ _ (passes-late AllQueries QUERY_LIMIT (length engine.queries) 1)
+    (late-first _ _ (passes-late Users USER_LIMIT (length engine.owners) (if holds engine.owners user then 0 else 1))
+    (late-first _ [] (passes-late Store STORE_LIMIT engine.bytes len) refl)))
+
+-- a query is refused for its text, or for want of memory to read it, once it isn't for want of a moment, of a user or of a name
+pub text-refused : (e : Engine) (name source : List ℕ) (refusal : Refusal) → no_moment e.session ≡ None → no_user e.session ≡ None → None ≡ name_refusal e (user_of e.session) name
+    → (text_refusal source ≡ Some refusal) ⊎ (refusal ≡ Memory) → RefusedBy (define_refusal e name source) refusal
+text-refused e name source refusal moment user named by =
+    let user-is = user_of e.session in
+    let rest = option_or (text_refusal source) (first_refusal (query_limits e user-is (length source))) in
+    let is : define_refusal e name source ≡ rest =
+    ap (λ x. option_or x (option_or (no_user e.session) (option_or (name_refusal e user-is name) rest))) moment
+    ∙ ap (λ x. option_or x (option_or (name_refusal e user-is name) rest)) user
+    ∙ ap (λ x. option_or x rest) (sym named) in
+    elim by [
+      | inl refused ↦ inl (is ∙ ap (λ x. option_or x (first_refusal (query_limits e user-is (length source)))) refused)
+      | inr memory ↦ inr (memory, ap is_early is ∙ text-late source (query_limits e user-is (length source)) (limits-late e user-is (length source)))
+    ]
 
 -- a box that isn't refused is of a query that there is
 pub follows-box : (e : Engine) (t : Tables) (name : List ℕ) (entries : List Entry) → StandsFor e t → Sound t e.session → look_refusal e name ≡ None → Some entries ≡ entries_kept (kept_named e name) → Follows t e.session (BoxOf name) (Boxed name entries) t e.session

@@ -1,5 +1,5 @@
 -- What a run delivers, and what the engine keeps after it.
-use Rattle.std.proofs.Common.{◌≡◌, ◌∙◌, sym, refl, ap, arith, ℕ, zero, suc, ◌+◌, ◌-◌, ◌≤◌, ◌<◌, ℤ, List, [], ◌∷◌, ◌++◌, length, map, Option, Some, None, true, false, inl, inr, if◌then◌else◌}
+use Rattle.std.proofs.Common.{◌≡◌, ◌∙◌, sym, refl, ap, subst, arith, ℕ, zero, suc, ◌+◌, ◌-◌, ◌≤◌, ◌<◌, ℤ, List, [], ◌∷◌, ◌++◌, length, map, Option, Some, None, true, false, inl, inr, if◌then◌else◌}
 use Rattle.std.specs.Prelude.{◌==◌, slice_index_or, slice_set}
 use Rattle.std.specs.Option.{option_map}
 use Rattle.std.proofs.lemmas.List.{length-append, map-append}
@@ -42,6 +42,9 @@ pub record IsDue (e : Engine) (t : Tables) (name : List ℕ) (due : Due) : Type 
 no-due : (due : Due) → Some due ≡ None → ⊥
 no-due due e = cc
 
+some-row : (x y : QueryRow) → Some x ≡ Some y → x ≡ y
+some-row x y e = cc
+
 same-due : (x y : Due) → Some x ≡ Some y → x ≡ y
 same-due x y e = cc
 
@@ -57,7 +60,7 @@ due-is e t name due stands sound is = go (query_named (user_of e.session) name t
     some = some;
     has = find-in (is_named (user_of e.session) name) t.queries q some;
     is = same-due due (record { query = q.num; moment = present e.session; runs = length (run_moments q.num.0 t.runs); hits = hits_kept e (Some (kept_query t q)) }) (kept ∙ ap (λ o. due_of e (option_map (kept_query t) o)) some)
-        ∙ ap (λ hits. record { query = q.num; moment = present e.session; runs = length (run_moments q.num.0 t.runs); hits = hits }) (hits-is e t (Some q) stands sound);
+        ∙ ap (λ hits. record { query = q.num; moment = present e.session; runs = length (run_moments q.num.0 t.runs); hits = hits }) (hits-is e t (Some q) (λ r same. subst (λ r. In r t.queries) (some-row q r same) (find-in (is_named (user_of e.session) name) t.queries q some)) stands sound);
   }
 
 -- a query has no more runs than there are

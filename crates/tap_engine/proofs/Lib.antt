@@ -1,7 +1,11 @@
 mod Moments
 mod OwnerLaws
+mod TextLaws
 mod CheckLaws
 mod StandingLaws
 mod ArrivalLaws
+mod AskLaws
 mod DueLaws
+mod NoteLaws
+mod VariableLaws
 pub mod SoundLaws

@@ -1,4 +1,5 @@
 pub mod Sessions
+pub mod Local
 pub mod Queries
 pub mod Limits
 pub mod Verdicts

@@ -1,38 +1,29 @@
--- Queries of the form that is built, `m.words HAS 'w'`, and a user's query of a name.
-use Rattle.std.specs.Prelude.{ℕ, ◌-◌, List, length, take, drop, Bool, ◌==◌, ◌&&◌, ◌||◌, nat_le, nat_eq, Option, ℤ, pos, codes, find, slice_index}
-use Rattle.std.specs.List.{starts_with, list_all}
+-- Queries, and a user's query of a name.
+use Rattle.std.specs.Prelude.{ℕ, List, Bool, ◌&&◌, Option, ℤ, pos, find, Result, Ok, Err}
 use Rattle.std.specs.Str.{bytes_eq}
-use Rattle.tap_base.specs.Words.{holds}
 use Rattle.tap_rows.specs.declared.tables.Tables.{Tables}
-use Rattle.tap_rows.specs.declared.rows.Doc.{Doc}
 use Rattle.tap_rows.specs.declared.rows.QueryRow.{QueryRow}
 use Rattle.tap_rows.specs.declared.results.Hit.{Hit}
 use Rattle.tap_rows.specs.declared.results.Entry.{Entry}
-use Rattle.tap_rows.specs.Fields.{fields_of}
 use Rattle.tap_rows.specs.Results.{Truth, box_of}
 use Rattle.tap_rows.specs.Deliveries.{run_hits}
+use Rattle.tql_core.specs.Condition.{Condition, Never}
+use Rattle.tql_core.specs.Holds as Holds
+use Rattle.tql_text.specs.declared.fault.TextFault.{TextFault}
+use Rattle.tql_text.specs.Texts.{condition_of}
 
--- the text between the quotes of a query of that form
-abbrev pub source_word : List ℕ → List ℕ
-source_word source = take (length source - 14) (drop 13 source)
+-- the condition of a reading; one with a fault is never true
+abbrev pub or_never : Result Condition TextFault → Condition
+or_never (Err fault) = Never
+or_never (Ok condition) = condition
 
--- a byte of its word: a lower-case letter or a digit
-abbrev pub is_query_byte : ℕ → Bool
-is_query_byte b = (nat_le 97 b && nat_le b 122) || (nat_le 48 b && nat_le b 57)
+-- the condition of a query's text
+unfoldable pub condition_in : List ℕ → Condition
+condition_in source = or_never (condition_of source)
 
--- is the text a query of that form?
-abbrev pub is_built : List ℕ → Bool
-is_built source =
-    nat_le 15 (length source) && starts_with nat_eq source (codes "m.words HAS '") && (slice_index source (length source - 1) == 39)
-    && list_all is_query_byte (source_word source)
-
--- does the document have the word?
-abbrev pub has_word : List ℕ → Doc → Bool
-has_word word doc = holds (fields_of doc.text).words word
-
--- a query's truth: the document has its word, at every second
+-- a query's truth: that of its text's condition
 abbrev pub truth_of : QueryRow → Truth
-truth_of query tables doc second = has_word (source_word query.source) doc
+truth_of query = Holds.truth_of (condition_in query.source)
 
 -- the first second that a query covers
 abbrev pub start_of : QueryRow → ℤ

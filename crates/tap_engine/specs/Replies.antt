@@ -1,23 +1,25 @@
 -- What a command does: its reply, the session after it, and the rows that it adds.
-use Rattle.std.specs.Prelude.{ℕ, ◌+◌, ℤ, List, [], ◌∷◌, length, Option, Some, None}
+use Rattle.std.specs.Prelude.{ℕ, ◌+◌, ℤ, List, [], ◌∷◌, length, map, Option, Some, None}
 use Rattle.tap_base.specs.Numbers.{moment_of}
 use Rattle.tap_rows.specs.declared.change.Change.{Change}
-use Rattle.tap_rows.specs.declared.change.Change.TheVariants.{Docs, OneQuery}
+use Rattle.tap_rows.specs.declared.change.Change.TheVariants.{Docs, OneNote, OneQuery}
 use Rattle.tap_rows.specs.declared.rows.Doc.{Doc}
+use Rattle.tap_rows.specs.declared.rows.Note.{Note}
 use Rattle.tap_rows.specs.declared.rows.QueryRow.{QueryRow}
 use Rattle.tap_rows.specs.declared.tables.Tables.{Tables}
 use Rattle.tap_rows.specs.Tables.{after}
-use Rattle.tap_rows.specs.Results.{run_moments}
+use Rattle.tap_rows.specs.Results.{run_moments, snapshot}
 use Rattle.tap_rows.specs.Deliveries.{run_change}
+use Rattle.tql_core.specs.Holds as Holds
 use Rattle.script_lang.specs.declared.command.Command.{Command}
 use Rattle.script_lang.specs.declared.command.Command.TheVariants.{At, AsUser, Mail, Mbox, AddNote, Define, Run, BoxOf, ListOf, Filter, Explain, Ask, Wake, ScoresOf, DigestOf, Bad}
 use Rattle.script_lang.specs.declared.refusal.Refusal.{Refusal}
 use Rattle.script_lang.specs.declared.refusal.Refusal.TheVariants.{NotBuilt, BadMoment, NoQuery}
 use Rattle.script_lang.specs.declared.reply.Reply.{Reply}
-use Rattle.script_lang.specs.declared.reply.Reply.TheVariants.{At as SetAt, AsUser as SetUser, OneDoc, Defined, Ran, BoxOf as Boxed, No}
+use Rattle.script_lang.specs.declared.reply.Reply.TheVariants.{At as SetAt, AsUser as SetUser, OneDoc, OneNote as NoteAdded, Defined, Ran, BoxOf as Boxed, Asked, No}
 use Rattle.tap_engine.specs.declared.session.Session.{Session}
 use Rattle.tap_engine.specs.Sessions.{present, user_of}
-use Rattle.tap_engine.specs.Queries.{truth_of, start_of, query_named, hits_of, box_in}
+use Rattle.tap_engine.specs.Queries.{condition_in, truth_of, start_of, query_named, hits_of, box_in}
 use Rattle.tap_engine.specs.Verdicts.{text_of, verdict}
 
 -- a command's reply, the session after it, and the rows that it adds
@@ -64,6 +66,26 @@ add_query name source session tables = record {
   change = Some (OneQuery (next_query tables session name source));
 }
 
+-- the next note
+abbrev pub next_note : Tables → Session → ℕ → List ℕ → ℤ → List ℕ → Note
+next_note tables session doc kind value text = record {
+  num = record { 0 = length tables.notes + 1 };
+  doc = record { 0 = doc };
+  author = user_of session;
+  kind = kind;
+  value = value;
+  arrival = present session;
+  text = text;
+}
+
+-- a note of the user on this document
+abbrev pub add_note : ℕ → List ℕ → ℤ → List ℕ → Session → Tables → Answer
+add_note doc kind value text session tables = record {
+  reply = NoteAdded (record { 0 = length tables.notes + 1 });
+  session = session;
+  change = Some (OneNote (next_note tables session doc kind value text));
+}
+
 -- a run of this query: its ordinal, the moment, and what it delivers
 abbrev pub run_query : Option QueryRow → Session → Tables → Answer
 run_query None session tables = refused NoQuery session
@@ -78,6 +100,15 @@ abbrev pub show_box : Option QueryRow → List ℕ → Session → Tables → An
 show_box None name session tables = refused NoQuery session
 show_box (Some query) name session tables = record { reply = Boxed name (box_in query tables); session = session; change = None }
 
+-- the documents that the condition of a text gives at a second
+abbrev pub ask_at : Option ℤ → List ℕ → Session → Tables → Answer
+ask_at None source session tables = refused BadMoment session
+ask_at (Some second) source session tables = record {
+  reply = Asked second (map (λ doc. doc.num) (snapshot (Holds.truth_of (condition_in source)) tables second));
+  session = session;
+  change = None;
+}
+
 -- the answer to a command that isn't refused
 abbrev pub accepted : Command → Session → Tables → Answer
 accepted (At text) session tables = set_moment (moment_of text) session
@@ -88,11 +119,11 @@ accepted (Run name) session tables = run_query (query_named (user_of session) na
 accepted (BoxOf name) session tables = show_box (query_named (user_of session) name tables) name session tables
 accepted (Bad refusal) session tables = refused refusal session
 accepted (Mbox block) session tables = refused NotBuilt session
-accepted (AddNote doc kind value text) session tables = refused NotBuilt session
+accepted (AddNote doc kind value text) session tables = add_note doc kind value text session tables
 accepted (ListOf name) session tables = refused NotBuilt session
 accepted (Filter block) session tables = refused NotBuilt session
 accepted (Explain name) session tables = refused NotBuilt session
-accepted (Ask moment source) session tables = refused NotBuilt session
+accepted (Ask moment source) session tables = ask_at (moment_of moment) source session tables
 accepted (Wake name) session tables = refused NotBuilt session
 accepted (ScoresOf kind) session tables = refused NotBuilt session
 accepted (DigestOf name ordinal) session tables = refused NotBuilt session

@@ -9,15 +9,16 @@ use Rattle.tap_rows.specs.declared.results.Entry.{Entry}
 use Rattle.tap_rows.specs.Constant.{arrival_hit}
 use Rattle.script_lang.specs.declared.refusal.Refusal.{Refusal}
 use Rattle.script_lang.specs.declared.refusal.Refusal.TheVariants.{Taken, NoQuery, Memory}
-use Rattle.script_lang.specs.declared.refusal.LimitName.TheVariants.{Queries, AllQueries, Users, Runs, Picks, Store}
-use Rattle.tap_engine.specs.declared.limits.TheConstants.{USER_QUERY_LIMIT, QUERY_LIMIT, USER_LIMIT, RUN_LIMIT, PICK_LIMIT, STORE_LIMIT}
+use Rattle.script_lang.specs.declared.refusal.LimitName.TheVariants.{Notes, Queries, AllQueries, Users, Runs, Picks, Store}
+use Rattle.tap_engine.specs.declared.limits.TheConstants.{NOTE_LIMIT, USER_QUERY_LIMIT, QUERY_LIMIT, USER_LIMIT, RUN_LIMIT, PICK_LIMIT, STORE_LIMIT}
 use Rattle.tap_engine.specs.declared.kept_query.KeptQuery.{KeptQuery}
 use Rattle.tap_engine.specs.declared.engine.Engine.{Engine}
 use Rattle.tap_engine.specs.declared.run.Due.{Due}
 use Rattle.tap_engine.specs.Sessions.{present, user_of, greatest_moment}
-use Rattle.tap_engine.specs.Queries.{has_word, source_word}
+use Rattle.tap_engine.specs.Local.{local_truth}
+use Rattle.tap_engine.specs.Queries.{condition_in}
 use Rattle.tap_engine.specs.Limits.{stored_bytes, owners_in, different, passes}
-use Rattle.tap_engine.specs.Verdicts.{missing, unless, no_moment, no_user, bad_name, not_built, is_early}
+use Rattle.tap_engine.specs.Verdicts.{missing, unless, first_refusal, no_moment, no_user, bad_name, text_refusal, no_doc, long_note, is_early}
 use Rattle.tap_engine.specs.Keeping.{kept_query, named_in, owned_in}
 
 -- the engine stands for the tables: it keeps their documents and queries, how many bytes they store, and who owns a
@@ -35,24 +36,37 @@ pub record StandsFor (engine : Engine) (tables : Tables) : Type 0 where
 abbrev pub kept_named : Engine → List ℕ → Option KeptQuery
 kept_named engine name = named_in (user_of engine.session) name engine.queries
 
--- the checks of a query of this user, name and length, by what is kept
-unfoldable pub query_checks : Engine → List ℕ → List ℕ → ℕ → List (Option Refusal)
-query_checks engine user name len =
-    bad_name name
-    ∷ unless (is_none (named_in user name engine.queries)) Taken
-    ∷ passes Queries USER_QUERY_LIMIT (owned_in user engine.queries) 1
+-- why a query of this user and name is refused for its name, by what is kept
+unfoldable pub name_refusal : Engine → List ℕ → List ℕ → Option Refusal
+name_refusal engine user name = option_or (bad_name name) (unless (is_none (named_in user name engine.queries)) Taken)
+
+-- the limits of a query of this user and length, by what is kept
+unfoldable pub query_limits : Engine → List ℕ → ℕ → List (Option Refusal)
+query_limits engine user len =
+    passes Queries USER_QUERY_LIMIT (owned_in user engine.queries) 1
     ∷ passes AllQueries QUERY_LIMIT (length engine.queries) 1
     ∷ passes Users USER_LIMIT (length engine.owners) (if holds engine.owners user then 0 else 1)
     ∷ passes Store STORE_LIMIT engine.bytes len
     ∷ []
 
--- the checks of a new query, by what is kept
-abbrev pub define_checks : Engine → List ℕ → List ℕ → List (Option Refusal)
-define_checks engine name source =
-    not_built source
-    ∷ no_moment engine.session
-    ∷ no_user engine.session
-    ∷ query_checks engine (user_of engine.session) name (length source)
+-- why a new query is refused, by what is kept
+abbrev pub define_refusal : Engine → List ℕ → List ℕ → Option Refusal
+define_refusal engine name source =
+    option_or (no_moment engine.session)
+    (option_or (no_user engine.session)
+    (option_or (name_refusal engine (user_of engine.session) name)
+    (option_or (text_refusal source)
+    (first_refusal (query_limits engine (user_of engine.session) (length source))))))
+
+-- the bounds of a note on this document and of so many bytes, by what is kept
+unfoldable pub note_bounds : Engine → ℕ → ℕ → Option Refusal
+note_bounds engine doc len =
+    first_refusal (no_doc doc (length engine.docs) ∷ long_note len ∷ passes Notes NOTE_LIMIT engine.notes 1 ∷ passes Store STORE_LIMIT engine.bytes len ∷ [])
+
+-- why a note is refused, by what is kept
+abbrev pub note_refusal : Engine → ℕ → List ℕ → List ℕ → Option Refusal
+note_refusal engine doc kind text =
+    option_or (no_moment engine.session) (option_or (no_user engine.session) (option_or (bad_name kind) (note_bounds engine doc (length text))))
 
 -- why a look for the user's query of this name is refused, by what is kept
 unfoldable pub look_refusal : Engine → List ℕ → Option Refusal
@@ -61,7 +75,7 @@ look_refusal engine name = option_or (no_user engine.session) (option_or (bad_na
 -- what a run of this query delivers, by what is kept
 abbrev pub hits_kept : Engine → Option KeptQuery → List Hit
 hits_kept engine None = []
-hits_kept engine (Some kept) = filter_map (arrival_hit (has_word (source_word kept.row.source)) kept.covered (present engine.session)) engine.docs
+hits_kept engine (Some kept) = filter_map (arrival_hit (local_truth (condition_in kept.row.source)) kept.covered (present engine.session)) engine.docs
 
 -- what a query has delivered, by what is kept of it
 abbrev pub entries_kept : Option KeptQuery → Option (List Entry)

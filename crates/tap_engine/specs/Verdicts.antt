@@ -1,6 +1,7 @@
 -- Why a command is refused: the first of its checks that refuses, in the order of the refusals' numbers, limits in the
 -- order of the table of limits.
-use Rattle.std.specs.Prelude.{ℕ, ℤ, List, [], ◌∷◌, length, Bool, true, false, ◌||◌, nat_le, int_le, Option, Some, None, is_none, if◌then◌else◌}
+use Rattle.std.specs.Prelude.{ℕ, ℤ, List, [], ◌∷◌, length, Bool, true, false, ◌&&◌, ◌||◌, nat_le, int_le, int_lt, Option, Some, None, is_none, Result, Ok, Err, if◌then◌else◌}
+use Rattle.std.specs.Option.{option_or}
 use Rattle.std.specs.Str.{all_ascii_digits}
 use Rattle.tap_base.specs.Numbers.{moment_of}
 use Rattle.tap_base.specs.Names.{is_name}
@@ -13,12 +14,17 @@ use Rattle.script_lang.specs.declared.state.TheConstants.{MESSAGE_LIMIT}
 use Rattle.script_lang.specs.declared.command.Command.{Command}
 use Rattle.script_lang.specs.declared.command.Command.TheVariants.{At, AsUser, Mail, Mbox, AddNote, Define, Run, BoxOf, ListOf, Filter, Explain, Ask, Wake, ScoresOf, DigestOf, Bad}
 use Rattle.script_lang.specs.declared.refusal.Refusal.{Refusal}
-use Rattle.script_lang.specs.declared.refusal.Refusal.TheVariants.{NotBuilt, BadMoment, Backwards, NoMoment, NoUser, BadName, Taken, NoQuery, Limit}
-use Rattle.script_lang.specs.declared.refusal.LimitName.TheVariants.{Message, Documents, Queries, AllQueries, Users, Runs, Picks, Store}
+use Rattle.script_lang.specs.declared.refusal.Refusal.TheVariants.{NotBuilt, BadMoment, Backwards, NoMoment, NoUser, BadName, Taken, NoQuery, NoDoc, Lex, Parse, Types, NotOver, Limit}
+use Rattle.script_lang.specs.declared.refusal.LimitName.TheVariants.{Message, Note, Documents, Notes, Queries, AllQueries, Users, Runs, Picks, Store}
+use Rattle.tql_core.specs.Condition.{Condition}
+use Rattle.tql_text.specs.declared.fault.TextFault.{TextFault}
+use Rattle.tql_text.specs.declared.fault.TextFault.TheVariants as T
+use Rattle.tql_text.specs.Texts.{condition_of}
 use Rattle.tap_engine.specs.declared.session.Session.{Session}
-use Rattle.tap_engine.specs.declared.limits.TheConstants.{DOCUMENT_LIMIT, USER_QUERY_LIMIT, QUERY_LIMIT, USER_LIMIT, RUN_LIMIT, PICK_LIMIT, STORE_LIMIT}
+use Rattle.tap_engine.specs.declared.limits.TheConstants.{DOCUMENT_LIMIT, NOTE_TEXT_LIMIT, NOTE_LIMIT, USER_QUERY_LIMIT, QUERY_LIMIT, USER_LIMIT, RUN_LIMIT, PICK_LIMIT, STORE_LIMIT}
 use Rattle.tap_engine.specs.Sessions.{present, user_of, last_moment}
-use Rattle.tap_engine.specs.Queries.{is_built, query_named, hits_of}
+use Rattle.tap_engine.specs.Local.{is_local}
+use Rattle.tap_engine.specs.Queries.{condition_in, query_named, hits_of}
 use Rattle.tap_engine.specs.Limits.{stored_bytes, owners_in, different, queries_of, new_users, passes}
 
 -- the first refusal of some checks
@@ -45,15 +51,41 @@ no_user session = missing NoUser session.user
 unfoldable pub bad_name : List ℕ → Option Refusal
 bad_name name = unless (is_name name) BadName
 
--- a text of another form than the one that is built
+-- the refusal of a text's fault
+abbrev pub fault_refusal : TextFault → Option Refusal
+fault_refusal (T.Lex fault) = Some (Lex fault)
+fault_refusal (T.Parse fault) = Some (Parse fault)
+fault_refusal (T.Types fault) = Some (Types fault)
+fault_refusal T.Memory = None
+
+-- the refusal of a reading
+abbrev pub reading_refusal : Result Condition TextFault → Option Refusal
+reading_refusal (Ok condition) = None
+reading_refusal (Err fault) = fault_refusal fault
+
+-- the first fault of a text
+unfoldable pub text_fault : List ℕ → Option Refusal
+text_fault source = reading_refusal (condition_of source)
+
+-- a text whose condition speaks of now or of other rows
 unfoldable pub not_built : List ℕ → Option Refusal
-not_built source = unless (is_built source) NotBuilt
+not_built source = unless (is_local (condition_in source)) NotBuilt
+
+-- why a query of this text is refused
+unfoldable pub text_refusal : List ℕ → Option Refusal
+text_refusal source = option_or (text_fault source) (not_built source)
 
 -- a second below the last moment
 abbrev pub is_back : Option ℤ → Option ℤ → Option Refusal
 is_back None second = None
 is_back (Some last) None = None
 is_back (Some last) (Some second) = unless (int_le last second) (Backwards last)
+
+-- a second that isn't below the present one
+abbrev pub not_over : Option ℤ → Option ℤ → Option Refusal
+not_over None now = None
+not_over (Some second) None = None
+not_over (Some second) (Some now) = unless (int_lt second now) (NotOver now)
 
 -- the user has a query of this name
 abbrev pub taken : Session → List ℕ → Tables → Option Refusal
@@ -67,6 +99,14 @@ no_query session name tables = missing NoQuery (query_named (user_of session) na
 abbrev pub too_long : Block → Option Refusal
 too_long Long = Some (Limit Message)
 too_long (Whole text) = unless (nat_le (length text) MESSAGE_LIMIT) (Limit Message)
+
+-- a number that is no document's, where there are so many
+unfoldable pub no_doc : ℕ → ℕ → Option Refusal
+no_doc doc count = unless (nat_le 1 doc && nat_le doc count) NoDoc
+
+-- a note of so many bytes that is too long
+unfoldable pub long_note : ℕ → Option Refusal
+long_note len = unless (nat_le len NOTE_TEXT_LIMIT) (Limit Note)
 
 -- the text of a block; one that is too long has none
 abbrev pub text_of : Block → List ℕ
@@ -94,11 +134,12 @@ checks (Mail block) session tables =
     ∷ passes Store STORE_LIMIT (stored_bytes tables) (length (text_of block))
     ∷ []
 checks (Define name source) session tables =
-    not_built source
-    ∷ no_moment session
+    no_moment session
     ∷ no_user session
     ∷ bad_name name
     ∷ taken session name tables
+    ∷ text_fault source
+    ∷ not_built source
     ∷ passes Queries USER_QUERY_LIMIT (queries_of (user_of session) tables) 1
     ∷ passes AllQueries QUERY_LIMIT (length tables.queries) 1
     ∷ passes Users USER_LIMIT (different (owners_in tables)) (new_users (user_of session) tables)
@@ -114,11 +155,20 @@ checks (Run name) session tables =
     ∷ []
 checks (BoxOf name) session tables = no_user session ∷ bad_name name ∷ no_query session name tables ∷ []
 checks (Mbox block) session tables = Some NotBuilt ∷ []
-checks (AddNote doc kind value text) session tables = Some NotBuilt ∷ []
+checks (AddNote doc kind value text) session tables =
+    no_moment session
+    ∷ no_user session
+    ∷ bad_name kind
+    ∷ no_doc doc (length tables.docs)
+    ∷ long_note (length text)
+    ∷ passes Notes NOTE_LIMIT (length tables.notes) 1
+    ∷ passes Store STORE_LIMIT (stored_bytes tables) (length text)
+    ∷ []
 checks (ListOf name) session tables = Some NotBuilt ∷ []
 checks (Filter block) session tables = Some NotBuilt ∷ []
 checks (Explain name) session tables = Some NotBuilt ∷ []
-checks (Ask moment source) session tables = Some NotBuilt ∷ []
+checks (Ask moment source) session tables =
+    missing BadMoment (moment_of moment) ∷ no_moment session ∷ text_fault source ∷ not_over (moment_of moment) session.moment ∷ []
 checks (Wake name) session tables = Some NotBuilt ∷ []
 checks (ScoresOf kind) session tables = Some NotBuilt ∷ []
 checks (DigestOf name ordinal) session tables = Some NotBuilt ∷ []

@@ -1,12 +1,15 @@
-ghost use Rattle.std.specs.Prelude.{◌≡◌, ◌<◌, ◌+◌, ◌^◌, ◌++◌, [], ◌∷◌, length, Some, None, true, is_none, if◌then◌else◌, OnOk, OnErr, IfOk, IfErr};
+ghost use Rattle.std.specs.Prelude.{◌≡◌, ◌<◌, ◌≤◌, ◌+◌, ◌^◌, ◌++◌, [], ◌∷◌, length, Some, None, true, is_none, if◌then◌else◌, OnOk, OnErr, IfOk, IfErr};
 ghost use Rattle.std.specs.Result.{result_err};
 ghost use Rattle.tap_base.specs.Words.{holds};
 ghost use Rattle.tap_rows.specs.declared.change.Change.{Change};
 ghost use Rattle.tap_rows.specs.Tables.{after};
 ghost use Rattle.script_lang.specs.declared.command.Command.{Command};
 ghost use Rattle.script_lang.specs.Replies.{HasShortNames, is_accepted};
-ghost use Rattle.tap_engine.specs.Verdicts.{not_built, unless, first_refusal};
+ghost use Rattle.tap_engine.specs.Verdicts.{unless, first_refusal};
 ghost use Rattle.script_lang.specs.declared.refusal.Refusal.{Refusal};
+ghost use Rattle.tql_core.specs.Condition.{condition};
+ghost use Rattle.snapshot_meaning.specs.Seen.{exists_in};
+ghost use Rattle.tap_engine.specs.Queries.{condition_in};
 ghost use Rattle.tap_engine.specs.Keeping.{new_kept, with_owner, named_in};
 ghost use Rattle.tap_engine.specs.Sessions.{present, user_of};
 ghost use Rattle.tap_engine.specs.Sound.{Sound};
@@ -16,25 +19,15 @@ ghost use Rattle.tap_engine.specs.Stories.{Follows, Refuses};
 use crate::engine::Engine;
 use crate::kept_queries::KeptQueries;
 use crate::kept_query::KeptQuery;
+use crate::kept_row::KeptRow;
 use crate::limits::{QUERY_LIMIT, STORE_LIMIT, USER_LIMIT, USER_QUERY_LIMIT, refuse_more};
-use crate::query::is_built;
 use crate::sessions::refuse_name;
+use crate::text::keep_text;
 use script_lang::{LimitName, Refusal, Reply};
 use std::alloc::Global;
 use tap_base::{Memory, QueryNum, Rows, Text, Texts};
 use tap_rows::{Change, QueryRow, Tables};
-
-// Refuses a query of another form than the one that is built.
-#[tactic(auto, unfolding(crate::specs::Verdicts::not_built))]
-fn refuse_form(source: &[u8]) -> Result<(), Refusal>
-    ensures { result_err result ≡ not_built source.now }
-{
-    if is_built(source) {
-        Ok(())
-    } else {
-        Err(Refusal::NotBuilt)
-    }
-}
+use tql_core::Cond;
 
 // Adds an owner that may be there.
 fn push_owner(owners: &mut Texts, owner: Text) -> Result<(), Memory>
@@ -105,18 +98,26 @@ fn copy_query(row: &QueryRow) -> Result<QueryRow, Memory>
 }
 
 impl Engine {
-    ghost use Rattle.tap_engine.specs.Standing.{StandsFor, query_checks, define_checks, RefusedBy};
+    ghost use Rattle.tap_engine.specs.Standing.{StandsFor, name_refusal, query_limits, define_refusal, RefusedBy};
 
     // Adds a query.
-    fn add_query(&mut self, alloc: Global, tables: &mut Tables, row: QueryRow) -> Result<(), Memory>
-        requires { self.old.bytes + length row.source < 2 ^ 64 }
+    fn add_query(
+        &mut self,
+        alloc: Global,
+        tables: &mut Tables,
+        row: QueryRow,
+        cond: Cond,
+    ) -> Result<(), Memory>
+        requires cond { condition cond ≡ condition_in row.source }
+        requires few { exists_in (condition cond) ≤ 15 }
+        requires bytes { self.old.bytes + length row.source < 2 ^ 64 }
         ensures tables { OnOk result (tables.new ≡ after tables.old (Change.OneQuery row)) }
         ensures engine { OnOk result (self.new ≡ record self.old { queries = self.old.queries ++ new_kept row ∷ []; owners = with_owner self.old.owners row.owner; bytes = self.old.bytes + length row.source }) }
         ensures err { OnErr result ((self.new ≡ self.old) × (tables.new ≡ tables.old)) }
     {
         let len = row.source.len();
         let owner = row.owner.copy()?;
-        let kept = KeptQuery::new(copy_query(&row)?, Rows::new(alloc));
+        let kept = KeptQuery::new(KeptRow::new(copy_query(&row)?, cond), Rows::new(alloc));
         push_query(
             &mut self.queries,
             &mut self.owners,
@@ -147,16 +148,23 @@ impl Engine {
         if self.owners.holds(user) { 0 } else { 1 }
     }
 
-    // Refuses a query of this user, name and length.
-    #[tactic(auto, unfolding(crate::specs::Standing::query_checks))]
-    fn refuse_query(&self, user: &[u8], name: &[u8], len: usize) -> Result<(), Refusal>
-        ensures value { result_err result ≡ first_refusal (query_checks self.now user.now name.now len) }
-        ensures few { OnOk result (length self.now.queries < QUERY_LIMIT) }
-        ensures bytes { OnOk result (self.now.bytes + len < 2 ^ 64) }
+    // Refuses a name that isn't one, or that the user has used.
+    #[tactic(auto, unfolding(crate::specs::Standing::name_refusal))]
+    fn refuse_query_name(&self, user: &[u8], name: &[u8]) -> Result<(), Refusal>
+        ensures value { result_err result ≡ name_refusal self.now user.now name.now }
         ensures name { OnOk result (is_name name.now ≡ true) }
     {
         refuse_name(name)?;
-        self.refuse_taken(user, name)?;
+        self.refuse_taken(user, name)
+    }
+
+    // Refuses a query of this user and length that would pass a limit.
+    #[tactic(auto, unfolding(crate::specs::Standing::query_limits))]
+    fn refuse_query(&self, user: &[u8], len: usize) -> Result<(), Refusal>
+        ensures value { result_err result ≡ first_refusal (query_limits self.now user.now len) }
+        ensures few { OnOk result (length self.now.queries < QUERY_LIMIT) }
+        ensures bytes { OnOk result (self.now.bytes + len < 2 ^ 64) }
+    {
         refuse_more(
             LimitName::Queries,
             USER_QUERY_LIMIT,
@@ -173,29 +181,38 @@ impl Engine {
         refuse_more(LimitName::Store, STORE_LIMIT, self.bytes, len)
     }
 
-    // The row of a query that isn't refused.
-    fn new_query(&self, name: Text, source: Text) -> Result<QueryRow, Refusal>
-        ensures checks { OnOk result (first_refusal (define_checks self.now name source) ≡ None) }
-        ensures row { IfOk result (λ row. row ≡ record { num = record { 0 = length self.now.queries + 1 }; owner = user_of self.now.session; name = name; source = source; arrival = present self.now.session }) }
-        ensures refusal { IfErr result (λ refusal. RefusedBy (first_refusal (define_checks self.now name source)) refusal) }
+    // The row of a query that isn't refused, and its condition.
+    fn new_query(
+        &self,
+        alloc: Global,
+        name: Text,
+        source: Text,
+    ) -> Result<(QueryRow, Cond), Refusal>
+        ensures checks { OnOk result (define_refusal self.now name source ≡ None) }
+        ensures row { IfOk result (λ made. made.0 ≡ record { num = record { 0 = length self.now.queries + 1 }; owner = user_of self.now.session; name = name; source = source; arrival = present self.now.session }) }
+        ensures cond { IfOk result (λ made. condition made.1 ≡ condition_in source) }
+        ensures vars { IfOk result (λ made. exists_in (condition made.1) ≤ 15) }
+        ensures refusal { IfErr result (λ refusal. RefusedBy (define_refusal self.now name source) refusal) }
         ensures bytes { OnOk result (self.now.bytes + length source < 2 ^ 64) }
         ensures name { OnOk result (is_name name ≡ true) }
     {
-        refuse_form(source.as_slice())?;
         let Some(moment) = self.session.moment else {
             return Err(Refusal::NoMoment);
         };
         let Some(user) = &self.session.user else {
             return Err(Refusal::NoUser);
         };
-        self.refuse_query(user.as_slice(), name.as_slice(), source.len())?;
-        Ok(QueryRow {
+        self.refuse_query_name(user.as_slice(), name.as_slice())?;
+        let cond = keep_text(alloc, source.as_slice())?;
+        self.refuse_query(user.as_slice(), source.len())?;
+        let row = QueryRow {
             num: QueryNum(self.queries.len() as u32 + 1),
             owner: user.copy()?,
             name,
             source,
             arrival: moment,
-        })
+        };
+        Ok((row, cond))
     }
 
     // Defines a query.
@@ -215,9 +232,9 @@ impl Engine {
         ensures short { IfOk result (λ reply. HasShortNames reply) }
         ensures accepted { IfOk result (λ reply. is_accepted reply ≡ true) }
     {
-        let row = self.new_query(name, source)?;
+        let (row, cond) = self.new_query(alloc, name, source)?;
         let shown = row.name.copy()?;
-        self.add_query(alloc, tables, row)?;
+        self.add_query(alloc, tables, row, cond)?;
         Ok(Reply::Defined(shown))
     }
 }

@@ -55,7 +55,7 @@ impl KeptQueries {
         ensures { option_copied result ≡ named_in owner.now name.now self.now }
     {
         for kept in &self.items {
-            if is_named(&kept.row, owner, name) {
+            if is_named(kept.row.row(), owner, name) {
                 return Some(kept);
             }
         }
@@ -69,7 +69,7 @@ impl KeptQueries {
     {
         self.items
             .iter()
-            .filter(|kept| kept.row.owner.as_slice() == owner)
+            .filter(|kept| kept.row.row().owner.as_slice() == owner)
             .count()
     }
 

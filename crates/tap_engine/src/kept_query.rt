@@ -2,14 +2,15 @@ ghost use Rattle.std.specs.Prelude.{◌≡◌, ◌<◌, ◌+◌, ◌^◌, ◌++�
 ghost use Rattle.tap_rows.specs.Tables.{after};
 ghost use Rattle.tap_rows.specs.declared.change.Change.{Change};
 
+use crate::kept_row::KeptRow;
 use tap_base::{Memory, Rows};
-use tap_rows::{Change, Entry, Pick, QueryRow, RunRow, Tables};
+use tap_rows::{Change, Entry, Pick, RunRow, Tables};
 
 /// What is kept of a query: its row, the second that it has covered up to, how many runs it had, and what it has
 /// delivered.
 #[derive(Drop)]
 pub struct KeptQuery {
-    pub row: QueryRow,
+    pub row: KeptRow,
     pub covered: i64,
     pub runs: usize,
     pub entries: Rows<Entry>,
@@ -20,7 +21,7 @@ impl KeptQuery {
     ghost use Rattle.tap_engine.specs.Keeping.{new_kept, after_run};
 
     // A query that was never run.
-    pub(crate) fn new(row: QueryRow, entries: Rows<Entry>) -> KeptQuery
+    pub(crate) fn new(row: KeptRow, entries: Rows<Entry>) -> KeptQuery
         requires { entries ≡ [] }
         ensures { result ≡ new_kept row }
     {

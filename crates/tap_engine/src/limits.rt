@@ -7,6 +7,12 @@ use script_lang::{LimitName, Refusal};
 /// The most documents.
 pub const DOCUMENT_LIMIT: usize = 1000000;
 
+/// The most bytes of a note.
+pub const NOTE_TEXT_LIMIT: usize = 4096;
+
+/// The most notes.
+pub const NOTE_LIMIT: usize = 1000000;
+
 /// The most queries of one user.
 pub const USER_QUERY_LIMIT: usize = 64;
 

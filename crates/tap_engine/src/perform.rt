@@ -34,8 +34,17 @@ impl Engine {
             Command::AsUser(name) => self.as_user(name),
             Command::Mail(block) => self.mail(alloc, tables, block),
             Command::Define { name, source } => self.define(alloc, tables, name, source),
+            Command::AddNote {
+                doc,
+                kind,
+                value,
+                text,
+            } => self.note(tables, doc, kind, value, text),
             Command::Run(name) => self.run(alloc, tables, name.as_slice()),
             Command::BoxOf(name) => self.show_box(alloc, tables, name),
+            Command::Ask { moment, source } => {
+                self.ask(alloc, tables, moment.as_slice(), source.as_slice())
+            }
             Command::Bad(refusal) => Err(refusal),
             _ => Err(Refusal::NotBuilt),
         }

@@ -11,7 +11,8 @@ ghost use Rattle.tap_rows.specs.Deliveries.{pick_rows};
 ghost use Rattle.tap_rows.specs.Results.{entry_at};
 ghost use Rattle.script_lang.specs.declared.command.Command.{Command};
 ghost use Rattle.script_lang.specs.Replies.{HasShortNames, is_accepted};
-ghost use Rattle.tap_engine.specs.Queries.{has_word, source_word};
+ghost use Rattle.tap_engine.specs.Local.{local_truth};
+ghost use Rattle.tap_engine.specs.Queries.{condition_in};
 ghost use Rattle.tap_engine.specs.declared.kept_query.KeptQuery.{KeptQuery};
 ghost use Rattle.tap_engine.specs.Keeping.{after_run};
 ghost use Rattle.tap_engine.specs.Sessions.{present};
@@ -19,8 +20,8 @@ ghost use Rattle.tap_engine.specs.Sound.{Sound};
 ghost use Rattle.tap_engine.specs.Stories.{Follows, Refuses};
 
 use crate::engine::Engine;
+use crate::kept_row::KeptRow;
 use crate::limits::{PICK_LIMIT, RUN_LIMIT, refuse_more};
-use crate::query::word_of;
 use script_lang::{LimitName, Refusal, Reply};
 use std::alloc::Global;
 use tap_base::{Memory, QueryNum, Rows};
@@ -35,12 +36,12 @@ pub struct Due {
     pub hits: Rows<Hit>,
 }
 
-// Has the document the word, and did it arrive in the window?
-fn is_hit(kept: &KeptDoc, word: &[u8], from: i64, to: i64) -> bool
-    ensures { result ≡ (has_word word.now kept.now && int_le from kept.now.arrival && int_lt kept.now.arrival to) }
+// Is the query true of the document, and did it arrive in the window?
+fn is_hit(kept: &KeptDoc, query: &KeptRow, from: i64, to: i64) -> bool
+    ensures { result ≡ (local_truth (condition_in query.now.source) kept.now && int_le from kept.now.arrival && int_lt kept.now.arrival to) }
 {
     let arrival = kept.doc().arrival;
-    kept.fields().words.holds(word) && from <= arrival && arrival < to
+    query.is_true_of(kept) && from <= arrival && arrival < to
 }
 
 // Where the documents begin that arrived at this second or later, which are looked for from the last one backward.
@@ -71,19 +72,19 @@ fn docs_from(docs: &[KeptDoc], from: i64) -> &[KeptDoc]
     docs_after(docs, place_from(docs, from))
 }
 
-// The documents that have the word and arrived from the one second on and before the other, each with its arrival.
+// The documents of which the query is true and that arrived from the one second on and before the other, each with its arrival.
 fn arrived_with(
     alloc: Global,
     docs: &[KeptDoc],
-    word: &[u8],
+    query: &KeptRow,
     from: i64,
     to: i64,
 ) -> Result<Rows<Hit>, Memory>
-    ensures { IfOk result (λ hits. hits ≡ filter_map (arrival_hit (has_word word.now) from to) docs.now) }
+    ensures { IfOk result (λ hits. hits ≡ filter_map (arrival_hit (local_truth (condition_in query.now.source)) from to) docs.now) }
 {
     let mut hits = Rows::new(alloc);
     for kept in docs {
-        if is_hit(kept, word, from, to) {
+        if is_hit(kept, query, from, to) {
             let doc = kept.doc();
             hits.push(Hit {
                 doc: doc.num,
@@ -98,14 +99,14 @@ fn arrived_with(
 fn late_with(
     alloc: Global,
     docs: &[KeptDoc],
-    word: &[u8],
+    query: &KeptRow,
     from: i64,
     to: i64,
 ) -> Result<Rows<Hit>, Memory>
     requires { Arrived 1 (pos 0) docs.now }
-    ensures { IfOk result (λ hits. hits ≡ filter_map (arrival_hit (has_word word.now) from to) docs.now) }
+    ensures { IfOk result (λ hits. hits ≡ filter_map (arrival_hit (local_truth (condition_in query.now.source)) from to) docs.now) }
 {
-    arrived_with(alloc, docs_from(docs, from), word, from, to)
+    arrived_with(alloc, docs_from(docs, from), query, from, to)
 }
 
 // One pick for each hit, where there were so many before.
@@ -166,11 +167,10 @@ impl Engine {
         };
         let kept = self.look(name)?;
         refuse_more(LimitName::Runs, RUN_LIMIT, runs, 1)?;
-        let word = word_of(kept.row.source.as_slice());
-        let hits = late_with(alloc, self.docs.as_slice(), word, kept.covered, moment)?;
+        let hits = late_with(alloc, self.docs.as_slice(), &kept.row, kept.covered, moment)?;
         refuse_more(LimitName::Picks, PICK_LIMIT, picks, hits.len())?;
         Ok(Due {
-            query: kept.row.num,
+            query: kept.row.row().num,
             moment,
             runs: kept.runs,
             hits,

@@ -14,7 +14,7 @@ use script_lang::{Refusal, Reply};
 use tap_base::{Text, is_name, read_moment};
 
 // The second of a moment's text, if it is one.
-fn second_of(text: &[u8]) -> Option<i64>
+pub(crate) fn second_of(text: &[u8]) -> Option<i64>
     ensures { result ≡ moment_of text.now }
 {
     read_moment(text).ok()

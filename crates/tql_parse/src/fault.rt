@@ -5,7 +5,7 @@ use tap_base::Memory;
 use thiserror::Error;
 
 /// Why tokens have no tree.
-#[derive(Debug, Drop, Error)]
+#[derive(Clone, Copy, Debug, PartialEq, Eq, Error)]
 pub enum ParseFault {
     /// No query goes on with this token.
     #[error("no query goes on with the token at {place}")]

@@ -1,0 +1,74 @@
+-- Questions: why one is refused, and what it gives.
+use Rattle.std.proofs.Common.{◌≡◌, ◌∙◌, sym, refl, ap, ℕ, ℤ, List, [], ◌∷◌, map, Bool, Option, Some, None, inl, inr}
+use Rattle.std.specs.Prelude.{◌⊎◌, ◌&&◌, int_le, int_lt, filter, Ok}
+use Rattle.tap_base.specs.declared.numbers.DocNum.{DocNum}
+use Rattle.tap_base.specs.Numbers.{moment_of}
+use Rattle.tap_rows.specs.declared.tables.Tables.{Tables}
+use Rattle.tap_rows.specs.declared.rows.Doc.{Doc}
+use Rattle.tap_rows.specs.declared.rows.Note.{Note}
+use Rattle.tap_rows.specs.Results.{is_given, snapshot}
+use Rattle.script_lang.specs.declared.refusal.Refusal.{Refusal}
+use Rattle.script_lang.specs.declared.refusal.Refusal.TheVariants.{BadMoment, NoMoment, NotOver, Memory}
+use Rattle.script_lang.specs.declared.command.Command.TheVariants.{Ask}
+use Rattle.script_lang.specs.declared.reply.Reply.TheVariants.{Asked}
+use Rattle.tql_core.specs.Condition.{Condition}
+use Rattle.tql_core.specs.Holds as Holds
+use Rattle.tql_core.proofs.OfTheSecond.{of-the-second}
+use Rattle.tql_text.specs.Texts.{condition_of}
+use Rattle.snapshot_meaning.specs.Seen.{seen}
+use Rattle.tap_engine.specs.declared.session.Session.{Session}
+use Rattle.tap_engine.specs.Queries.{condition_in}
+use Rattle.tap_engine.specs.Verdicts.{first_refusal, verdict, missing, unless, no_moment, text_fault, not_over}
+use Rattle.tap_engine.specs.Replies.{ask_at, tables_after}
+use Rattle.tap_engine.specs.Stories.{Refuses, Follows}
+use Rattle.tap_engine.proofs.TextLaws.{read-fine}
+use Rattle.tap_engine.proofs.CheckLaws.{follows-accepted}
+
+one : (x : Option Refusal) → first_refusal (x ∷ []) ≡ x
+one None = refl
+one (Some x) = refl
+
+module _ (t : Tables) (s : Session) (moment source : List ℕ) (m now : ℤ) (is-m : moment_of moment ≡ Some m) (is-now : s.moment ≡ Some now) where
+  -- the checks that are left once there are both moments
+  left : verdict (Ask moment source) s t ≡ first_refusal (text_fault source ∷ unless (int_lt m now) (NotOver now) ∷ [])
+  left =
+      ap (λ o. first_refusal (missing BadMoment o ∷ no_moment s ∷ text_fault source ∷ not_over o s.moment ∷ [])) is-m
+      ∙ ap (λ o. first_refusal (None ∷ missing NoMoment o ∷ text_fault source ∷ not_over (Some m) o ∷ [])) is-now
+
+  -- the text is at fault, or there is no memory to read it
+  pub ask-text : (refusal : Refusal) → (text_fault source ≡ Some refusal) ⊎ (refusal ≡ Memory) → Refuses refusal (Ask moment source) s t
+  ask-text refusal (inl e) = inl (left ∙ ap (λ o. first_refusal (o ∷ unless (int_lt m now) (NotOver now) ∷ [])) e)
+  ask-text refusal (inr e) = inr (e, refl)
+
+  fine : (c : Condition) → condition_of source ≡ Ok c → verdict (Ask moment source) s t ≡ unless (int_lt m now) (NotOver now)
+  fine c e = left ∙ ap (λ o. first_refusal (o ∷ unless (int_lt m now) (NotOver now) ∷ [])) (read-fine source c e).1 ∙ one (unless (int_lt m now) (NotOver now))
+
+  -- the second isn't over
+  pub ask-open : (c : Condition) (refusal : Refusal) → condition_of source ≡ Ok c → Some refusal ≡ unless (int_lt m now) (NotOver now) → Refuses refusal (Ask moment source) s t
+  ask-open c refusal e is = inl (fine c e ∙ sym is)
+
+  filter-same : (p q : Doc → Bool) (docs : List Doc) → ((doc : Doc) → p doc ≡ q doc) → filter p docs ≡ filter q docs
+  filter-same p q [] same = refl
+  filter-same p q (doc ∷ docs) same = rw (same doc, filter-same p q docs same) refl
+
+  -- a condition looks at documents and notes alone
+  seen-same : (c : Condition) → snapshot (Holds.truth_of c) (seen t.docs t.notes) m ≡ snapshot (Holds.truth_of c) t m
+  seen-same c =
+      filter-same (λ doc. is_given (Holds.truth_of c) (seen t.docs t.notes) doc m) (λ doc. is_given (Holds.truth_of c) t doc m) t.docs
+      (λ doc. ap (λ b. int_le doc.arrival m && b) (of-the-second c t (seen t.docs t.notes) doc m refl refl))
+
+  -- a question that isn't refused
+  pub follows-ask : (c : Condition) (docs : List Doc) (notes : List Note) (nums : List DocNum) → condition_of source ≡ Ok c → None ≡ unless (int_lt m now) (NotOver now) → docs ≡ t.docs → notes ≡ t.notes
+      → nums ≡ map (λ doc. doc.num) (snapshot (Holds.truth_of c) (seen docs notes) m) → Follows t s (Ask moment source) (Asked m nums) t s
+  follows-ask c docs notes nums e over is-docs is-notes is =
+      let follows = follows-accepted t s (Ask moment source) (fine c e ∙ sym over) in
+      let same : nums ≡ map (λ doc. doc.num) (snapshot (Holds.truth_of (condition_in source)) t m) =
+      is ∙ ap (λ docs. map (λ doc. doc.num) (snapshot (Holds.truth_of c) (seen docs notes) m)) is-docs
+      ∙ ap (λ notes. map (λ doc. doc.num) (snapshot (Holds.truth_of c) (seen t.docs notes) m)) is-notes
+      ∙ ap (map (λ doc. doc.num)) (seen-same c)
+      ∙ ap (λ c. map (λ doc. doc.num) (snapshot (Holds.truth_of c) t m)) (sym (read-fine source c e).0) in
+      record {
+        reply_is = ap (Asked m) same ∙ sym (ap (λ o. (ask_at o source s t).reply) is-m) ∙ follows.reply_is;
+        tables_are = sym (ap (λ o. tables_after (ask_at o source s t).change t) is-m) ∙ follows.tables_are;
+        session_is = sym (ap (λ o. (ask_at o source s t).session) is-m) ∙ follows.session_is;
+      }

@@ -1,0 +1,10 @@
+use Rattle.tql_core.specs.Condition.{condition}
+use Rattle.tap_engine.proofs.VariableLaws.{read-few}
+use Rattle.tap_engine.proofs.TextLaws.{fault-refused}
+use Rattle.tap_engine.proofs.text.read_text.Goals as goal
+
+pub returns-in-Err-clause-refusal : goal.returns-in-Err-clause-refusal
+returns-in-Err-clause-refusal c = fault-refused c.args.source.now c.in-Err.fault c.refusal_of.result c.in-Err.ensures c.refusal_of.ensures
+
+pub returns-in-Ok-clause-vars : goal.returns-in-Ok-clause-vars
+returns-in-Ok-clause-vars c = read-few c.args.source.now (condition c.in-Ok.cond) c.in-Ok.ensures

@@ -1,0 +1,65 @@
+ghost use Rattle.std.specs.Prelude.{◌≡◌, true, int_lt, IfOk, IfErr};
+ghost use Rattle.std.specs.Result.{result_err};
+ghost use Rattle.script_lang.specs.declared.command.Command.{Command};
+ghost use Rattle.script_lang.specs.declared.refusal.Refusal.{Refusal};
+ghost use Rattle.script_lang.specs.Replies.{HasShortNames, is_accepted};
+ghost use Rattle.tap_engine.specs.Stories.{Follows, Refuses};
+ghost use Rattle.tap_engine.specs.Verdicts.{unless};
+
+use crate::engine::Engine;
+use crate::sessions::second_of;
+use crate::text::read_text;
+use script_lang::{Refusal, Reply};
+use snapshot_meaning::gives;
+use std::alloc::Global;
+use tap_rows::Tables;
+
+// Refuses a second that isn't over.
+fn refuse_open(second: i64, now: i64) -> Result<(), Refusal>
+    ensures { result_err result ≡ unless (int_lt second now) (Refusal.NotOver now) }
+{
+    if second < now {
+        Ok(())
+    } else {
+        Err(Refusal::NotOver { now })
+    }
+}
+
+impl Engine {
+    ghost use Rattle.tap_engine.specs.Standing.{StandsFor};
+
+    // Lists the documents that a condition gives at a second that is over.
+    pub(crate) fn ask(
+        &self,
+        alloc: Global,
+        tables: &Tables,
+        moment: &[u8],
+        source: &[u8],
+    ) -> Result<Reply, Refusal>
+        requires { StandsFor self.now tables.now }
+        ensures ok { IfOk result (λ reply. Follows tables.now self.now.session (Command.Ask moment.now source.now) reply tables.now self.now.session) }
+        ensures refusal { IfErr result (λ refusal. Refuses refusal (Command.Ask moment.now source.now) self.now.session tables.now) }
+        ensures short { IfOk result (λ reply. HasShortNames reply) }
+        ensures accepted { IfOk result (λ reply. is_accepted reply ≡ true) }
+    {
+        let Some(second) = second_of(moment) else {
+            return Err(Refusal::BadMoment);
+        };
+        let Some(now) = self.session.moment else {
+            return Err(Refusal::NoMoment);
+        };
+        let cond = read_text(alloc, source)?;
+        refuse_open(second, now)?;
+        let docs = gives(
+            alloc,
+            &cond,
+            self.docs.as_slice(),
+            tables.notes.as_slice(),
+            second,
+        )?;
+        Ok(Reply::Asked {
+            moment: second,
+            docs,
+        })
+    }
+}

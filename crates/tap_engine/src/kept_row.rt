@@ -1,0 +1,54 @@
+ghost use Rattle.std.specs.Prelude.{◌≡◌, ◌≤◌};
+ghost use Rattle.tql_core.specs.Condition.{condition};
+ghost use Rattle.snapshot_meaning.specs.Seen.{exists_in};
+ghost use Rattle.tap_rows.specs.declared.rows.QueryRow.{QueryRow};
+ghost use Rattle.tap_engine.specs.Local.{local_truth};
+ghost use Rattle.tap_engine.specs.Queries.{condition_in};
+
+use snapshot_meaning::holds_at;
+use std::marker::Model;
+use tap_rows::{KeptDoc, QueryRow};
+use tql_core::{Cond, Env, RowRef, Var};
+
+/// The row of a query with the condition of its text. It is seen as the row. An environment has room for the EXISTS
+/// variables of the condition.
+#[derive(Drop)]
+pub struct KeptRow {
+    row: QueryRow,
+    cond: Cond,
+}
+
+impl Model for KeptRow {
+    ghost Value = { QueryRow };
+
+    ghost view = { λ kept. kept.row };
+
+    ghost invariant = { λ kept. (condition kept.cond ≡ condition_in kept.row.source) × (exists_in (condition kept.cond) ≤ 15) };
+}
+
+impl KeptRow {
+    // Joins a row and the condition of its text.
+    pub(crate) fn new(row: QueryRow, cond: Cond) -> KeptRow
+        requires cond { condition cond ≡ condition_in row.source }
+        requires few { exists_in (condition cond) ≤ 15 }
+        ensures { result ≡ row }
+    {
+        KeptRow { row, cond }
+    }
+
+    /// The row.
+    pub fn row(&self) -> &QueryRow
+        ensures { result.now ≡ self.now }
+    {
+        &self.row
+    }
+
+    // Is the condition true of the document, where it speaks of neither now nor other rows?
+    #[tactic(auto, unfolding(crate::specs::Local::local_truth))]
+    pub(crate) fn is_true_of(&self, doc: &KeptDoc) -> bool
+        ensures { result ≡ local_truth (condition_in self.now.source) doc.now }
+    {
+        let env = Env::new().bind(Var(0), RowRef::OfDoc(doc));
+        holds_at(&self.cond, &env, &[], &[], 0)
+    }
+}

@@ -1,0 +1,11 @@
+//! The condition of a query's text: its tokens, its tree and the types of that.
+#![tactic(auto)]
+
+mod condition;
+mod fault;
+
+pub use condition::read_condition;
+pub use fault::TextFault;
+
+#[cfg(test)]
+mod tests;
