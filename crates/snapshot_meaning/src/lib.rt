@@ -3,7 +3,7 @@
 
 mod snapshot;
 
-pub use snapshot::{gives, holds_at};
+pub use snapshot::{gives, holds_at, is_doc_given};
 
 #[cfg(test)]
 mod tests;

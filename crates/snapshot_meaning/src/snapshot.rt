@@ -92,8 +92,9 @@ pub fn holds_at<'a>(
     }
 }
 
-// Is the document given at this second?
-fn is_doc_given<'a>(
+/// Is the document given at this second: has it arrived by then, and does the condition hold of it over the rows that
+/// arrived by then? It takes no memory.
+pub fn is_doc_given<'a>(
     cond: &'a Cond,
     doc: &'a KeptDoc,
     docs: &'a [KeptDoc],

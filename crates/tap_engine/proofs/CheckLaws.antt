@@ -1,23 +1,23 @@
 -- What the engine finds of a command's checks is what its verdict says.
-use Rattle.std.proofs.Common.{◌≡◌, ◌∙◌, sym, refl, ap, subst, arith, ℕ, suc, pos, List, [], ◌∷◌, ◌+◌, length, map, Option, Some, None, Bool, true, false, inl, inr, if◌then◌else◌}
+use Rattle.std.proofs.Common.{◌≡◌, ◌∙◌, sym, refl, ap, subst, ℕ, suc, List, [], ◌∷◌, ◌+◌, length, map, Option, Some, None, Bool, true, false, inl, inr, if◌then◌else◌}
 use Rattle.std.specs.Prelude.{◌⊎◌, ◌==◌, ◌||◌, nat_le, is_none, find, filter, Result, Ok, Err}
 use Rattle.std.specs.Option.{option_map, option_or}
 use Rattle.std.specs.Str.{bytes_eq}
 use Rattle.std.proofs.lemmas.Bool.{cases_Bool}
-use Rattle.std.proofs.lemmas.Int.{ints}
 use Rattle.std.proofs.lemmas.List.{length-map}
 use Rattle.tap_rows.specs.declared.tables.Tables.{Tables}
 use Rattle.tap_rows.specs.declared.rows.QueryRow.{QueryRow}
-use Rattle.tap_rows.proofs.FreshLaws.{fresh-is}
+use Rattle.tap_rows.specs.declared.rows.Note.{Note}
+use Rattle.tap_rows.specs.declared.results.Hit.{Hit}
 use Rattle.tap_base.specs.Words.{holds}
 use Rattle.tql_core.specs.Condition.{Condition}
 use Rattle.tql_core.proofs.OfTheSecond.{of-the-second}
 use Rattle.tql_text.specs.declared.fault.TextFault.{TextFault}
 use Rattle.tql_text.specs.declared.fault.TextFault.TheVariants as T
 use Rattle.tql_text.specs.Texts.{condition_of}
-use Rattle.tap_engine.proofs.TextLaws.{truth-local}
+use Rattle.tap_engine.proofs.FreshLaws.{fresh-seen}
 use Rattle.script_lang.specs.declared.refusal.Refusal.{Refusal}
-use Rattle.script_lang.specs.declared.refusal.Refusal.TheVariants.{NoQuery, NoMoment, NotBuilt, Taken, Memory, Limit}
+use Rattle.script_lang.specs.declared.refusal.Refusal.TheVariants.{NoQuery, NoMoment, Taken, Memory, Limit}
 use Rattle.script_lang.specs.declared.refusal.LimitName.{LimitName}
 use Rattle.script_lang.specs.declared.refusal.LimitName.TheVariants.{Queries, AllQueries, Users, Store, Runs, Picks}
 use Rattle.script_lang.specs.declared.command.Command.{Command}
@@ -26,17 +26,17 @@ use Rattle.tap_engine.specs.declared.limits.TheConstants.{USER_QUERY_LIMIT, QUER
 use Rattle.tap_engine.specs.declared.session.Session.{Session}
 use Rattle.tap_engine.specs.declared.engine.Engine.{Engine}
 use Rattle.tap_engine.specs.Sessions.{user_of, present}
-use Rattle.tap_engine.specs.Local.{is_local, local_truth}
+use Rattle.tap_engine.specs.declared.kept_query.KeptQuery.{KeptQuery}
 use Rattle.tap_engine.specs.Queries.{is_named, query_named, condition_in, truth_of, start_of}
 use Rattle.tap_rows.specs.Results.{covered}
 use Rattle.tap_engine.specs.Limits.{passes}
-use Rattle.tap_engine.specs.Verdicts.{first_refusal, verdict, missing, unless, no_moment, no_user, bad_name, reading_refusal, text_fault, not_built, text_refusal, is_early, hits_found}
+use Rattle.tap_engine.specs.Verdicts.{first_refusal, verdict, missing, unless, no_moment, no_user, bad_name, reading_refusal, text_fault, wide_refusal, too_wide, is_early, hits_found}
 use Rattle.tap_engine.specs.Keeping.{kept_query, named_in, owned_in}
-use Rattle.tap_engine.specs.Standing.{StandsFor, name_refusal, query_limits, define_refusal, look_refusal, run_refusal, kept_named, hits_kept, entries_kept, RefusedBy}
+use Rattle.tap_engine.specs.Standing.{StandsFor, name_refusal, query_limits, define_refusal, look_refusal, run_refusal, kept_named, hits_kept, wide_kept, entries_kept, RefusedBy}
 use Rattle.tap_engine.specs.Sound.{Sound}
 use Rattle.tap_engine.specs.Stories.{Refuses, Follows}
 use Rattle.tap_engine.specs.Replies.{answer_of, accepted, answer_by, tables_after, next_query, show_box}
-use Rattle.tap_rows.specs.Kept.{Each, In, IsOfTheSecond}
+use Rattle.tap_rows.specs.Kept.{In, IsOfTheSecond}
 use Rattle.tap_rows.specs.Deliveries.{delivered}
 use Rattle.tap_rows.specs.declared.results.Entry.{Entry}
 use Rattle.tap_rows.proofs.KeptLaws.{box-is}
@@ -65,20 +65,19 @@ none-map : (t : Tables) (o : Option QueryRow) → is_none (option_map (kept_quer
 none-map t None = refl
 none-map t (Some q) = refl
 
-seven : (a b c d e f : Option Refusal) (rest : List (Option Refusal)) → option_or a (option_or b (option_or (option_or c d) (option_or (option_or e f) (first_refusal rest)))) ≡ first_refusal (a ∷ b ∷ c ∷ d ∷ e ∷ f ∷ rest)
-seven (Some x) b c d e f rest = refl
-seven None (Some x) c d e f rest = refl
-seven None None (Some x) d e f rest = refl
-seven None None None (Some x) e f rest = refl
-seven None None None None (Some x) f rest = refl
-seven None None None None None (Some x) rest = refl
-seven None None None None None None rest = refl
+limits-last : (a b c d e : Option Refusal) (rest : List (Option Refusal)) → option_or a (option_or b (option_or (option_or c d) (option_or e (first_refusal rest)))) ≡ first_refusal (a ∷ b ∷ c ∷ d ∷ e ∷ rest)
+limits-last (Some x) b c d e rest = refl
+limits-last None (Some x) c d e rest = refl
+limits-last None None (Some x) d e rest = refl
+limits-last None None None (Some x) e rest = refl
+limits-last None None None None (Some x) rest = refl
+limits-last None None None None None rest = refl
 
 -- a new query is refused as its verdict says
 pub define-verdict : (e : Engine) (t : Tables) (name source : List ℕ) → StandsFor e t → define_refusal e name source ≡ verdict (Define name source) e.session t
-unfolding name_refusal query_limits text_refusal
+unfolding name_refusal query_limits
 define-verdict e t name source stands =
-    seven (no_moment e.session) (no_user e.session) (bad_name name) (unless (is_none (named_in (user_of e.session) name e.queries)) Taken) (text_fault source) (not_built source) (query_limits e (user_of e.session) (length source))
+    limits-last (no_moment e.session) (no_user e.session) (bad_name name) (unless (is_none (named_in (user_of e.session) name e.queries)) Taken) (text_fault source) (query_limits e (user_of e.session) (length source))
     ∙ rw (stands.queries, named-kept t (user_of e.session) name t.queries, none-map t (find (is_named (user_of e.session) name) t.queries), owned-kept t (user_of e.session) t.queries, length-map t.queries (kept_query t), stands.users, stands.owners (user_of e.session), stands.bytes) refl
 
 -- a command that is refused by its verdict, or for want of memory
@@ -122,14 +121,15 @@ three None (Some y) c = refl
 three None None (Some z) = refl
 three None None None = refl
 
-six : (a b c d e f : Option Refusal) → option_or a (option_or (option_or b (option_or c d)) (option_or e f)) ≡ first_refusal (a ∷ b ∷ c ∷ d ∷ e ∷ f ∷ [])
-six (Some x) b c d e f = refl
-six None (Some x) c d e f = refl
-six None None (Some x) d e f = refl
-six None None None (Some x) e f = refl
-six None None None None (Some x) f = refl
-six None None None None None (Some x) = refl
-six None None None None None None = refl
+seven : (a b c d w e f : Option Refusal) → option_or a (option_or (option_or b (option_or c d)) (option_or w (option_or e f))) ≡ first_refusal (a ∷ b ∷ c ∷ d ∷ w ∷ e ∷ f ∷ [])
+seven (Some x) b c d w e f = refl
+seven None (Some x) c d w e f = refl
+seven None None (Some x) d w e f = refl
+seven None None None (Some x) w e f = refl
+seven None None None None (Some x) e f = refl
+seven None None None None None (Some x) f = refl
+seven None None None None None None (Some x) = refl
+seven None None None None None None None = refl
 
 -- a box is refused as its verdict says
 pub box-verdict : (e : Engine) (t : Tables) (name : List ℕ) → StandsFor e t → look_refusal e name ≡ verdict (BoxOf name) e.session t
@@ -142,35 +142,41 @@ box-verdict e t name stands =
 pub box-refuses : (e : Engine) (t : Tables) (name : List ℕ) (refusal : Refusal) → StandsFor e t → RefusedBy (look_refusal e name) refusal → Refuses refusal (BoxOf name) e.session t
 box-refuses e t name refusal stands by = subst (λ v. RefusedBy v refusal) (box-verdict e t name stands) by
 
--- each query that there is speaks of neither now nor other rows
-local-of : (q : QueryRow) (qs : List QueryRow) → In q qs → Each (λ q. is_local (condition_in q.source) ≡ true) qs → is_local (condition_in q.source) ≡ true
-local-of q [] has each = absurd has
-local-of q (x ∷ qs) (inl e) each = ap (λ q. is_local (condition_in q.source)) e ∙ each.0
-local-of q (x ∷ qs) (inr h) each = local-of q qs h each.1
+-- what a run of a query delivers, by what is kept
+pub hits-is : (e : Engine) (t : Tables) (o : Option QueryRow) → StandsFor e t → hits_kept e t.notes (option_map (kept_query t) o) ≡ hits_found o t (present e.session)
+hits-is e t None stands = refl
+hits-is e t (Some q) stands = rw stands.docs (fresh-seen q t (covered (start_of q) q.num.0 t.runs) (present e.session))
 
--- what a run of a query delivers, from the documents of which its condition is true and that arrived since its last run
-pub hits-is : (e : Engine) (t : Tables) (o : Option QueryRow) → ((q : QueryRow) → o ≡ Some q → In q t.queries) → StandsFor e t → Sound t e.session → hits_kept e (option_map (kept_query t) o) ≡ hits_found o t (present e.session)
-hits-is e t None has stands sound = refl
-hits-is e t (Some q) has stands sound =
-    rw stands.docs (sym (fresh-is (truth_of q) t (local_truth (condition_in q.source)) (start_of q) (pos 0) (covered (start_of q) q.num.0 t.runs) (present e.session) (λ d s. truth-local (condition_in q.source) t d s (local-of q t.queries (has q refl) sound.local)) (omega (arith, ints)) sound.kept.docs))
+wide-is : (e : Engine) (t : Tables) (o : Option QueryRow) → StandsFor e t → wide_kept e (option_map (kept_query t) o) ≡ too_wide o t.docs (present e.session)
+wide-is e t None stands = refl
+wide-is e t (Some q) stands = ap (λ docs. wide_refusal q.source docs (present e.session)) stands.docs
+
+-- the checks of a run, by what is found of its query
+abbrev run_checks : Engine → ℕ → ℕ → Option Refusal → Option Refusal → List Hit → Option Refusal
+run_checks e runs picks found wide hits =
+    option_or (no_moment e.session) (option_or found (option_or wide (option_or (passes Runs RUN_LIMIT runs 1) (passes Picks PICK_LIMIT picks (length hits)))))
 
 -- a run is refused as its verdict says
-pub run-verdict : (e : Engine) (t : Tables) (name : List ℕ) → StandsFor e t → Sound t e.session → run_refusal e (length t.runs) (length t.picks) name ≡ verdict (Run name) e.session t
+pub run-verdict : (e : Engine) (t : Tables) (name : List ℕ) → StandsFor e t → run_refusal e t.notes (length t.runs) (length t.picks) name ≡ verdict (Run name) e.session t
 unfolding look_refusal
-run-verdict e t name stands sound =
+run-verdict e t name stands =
     let o = query_named (user_of e.session) name t in
-    ap (λ k. option_or (no_moment e.session) (option_or (option_or (no_user e.session) (option_or (bad_name name) (missing NoQuery k))) (option_or (passes Runs RUN_LIMIT (length t.runs) 1) (passes Picks PICK_LIMIT (length t.picks) (length (hits_kept e k)))))) (named-is e t name stands)
-    ∙ ap (λ m. option_or (no_moment e.session) (option_or (option_or (no_user e.session) (option_or (bad_name name) m)) (option_or (passes Runs RUN_LIMIT (length t.runs) 1) (passes Picks PICK_LIMIT (length t.picks) (length (hits_kept e (option_map (kept_query t) o))))))) (missing-map t o)
-    ∙ ap (λ hits. option_or (no_moment e.session) (option_or (option_or (no_user e.session) (option_or (bad_name name) (missing NoQuery o))) (option_or (passes Runs RUN_LIMIT (length t.runs) 1) (passes Picks PICK_LIMIT (length t.picks) (length hits))))) (hits-is e t o (find-in (is_named (user_of e.session) name) t.queries) stands sound)
-    ∙ six (no_moment e.session) (no_user e.session) (bad_name name) (missing NoQuery o) (passes Runs RUN_LIMIT (length t.runs) 1) (passes Picks PICK_LIMIT (length t.picks) (length (hits_found o t (present e.session))))
+    let look : Option KeptQuery → Option Refusal = λ k. option_or (no_user e.session) (option_or (bad_name name) (missing NoQuery k)) in
+    ap (λ k. run_checks e (length t.runs) (length t.picks) (look k) (wide_kept e k) (hits_kept e t.notes k)) (named-is e t name stands)
+    ∙ ap (λ m. run_checks e (length t.runs) (length t.picks) (option_or (no_user e.session) (option_or (bad_name name) m)) (wide_kept e (option_map (kept_query t) o)) (hits_kept e t.notes (option_map (kept_query t) o))) (missing-map t o)
+    ∙ ap (λ w. run_checks e (length t.runs) (length t.picks) (option_or (no_user e.session) (option_or (bad_name name) (missing NoQuery o))) w (hits_kept e t.notes (option_map (kept_query t) o))) (wide-is e t o stands)
+    ∙ ap (run_checks e (length t.runs) (length t.picks) (option_or (no_user e.session) (option_or (bad_name name) (missing NoQuery o))) (too_wide o t.docs (present e.session))) (hits-is e t o stands)
+    ∙ seven (no_moment e.session) (no_user e.session) (bad_name name) (missing NoQuery o) (too_wide o t.docs (present e.session)) (passes Runs RUN_LIMIT (length t.runs) 1) (passes Picks PICK_LIMIT (length t.picks) (length (hits_found o t (present e.session))))
 
-pub run-refuses : (e : Engine) (t : Tables) (name : List ℕ) (runs picks : ℕ) (refusal : Refusal) → StandsFor e t → Sound t e.session → runs ≡ length t.runs → picks ≡ length t.picks → RefusedBy (run_refusal e runs picks name) refusal → Refuses refusal (Run name) e.session t
-run-refuses e t name runs picks refusal stands sound is-runs is-picks by =
-    subst (λ v. RefusedBy v refusal) (ap (λ n. run_refusal e n picks name) is-runs ∙ ap (λ n. run_refusal e (length t.runs) n name) is-picks ∙ run-verdict e t name stands sound) by
+run-is : (e : Engine) (t : Tables) (name : List ℕ) (notes : List Note) (runs picks : ℕ) → StandsFor e t → notes ≡ t.notes → runs ≡ length t.runs → picks ≡ length t.picks → run_refusal e notes runs picks name ≡ verdict (Run name) e.session t
+run-is e t name notes runs picks stands is-notes is-runs is-picks =
+    ap (λ notes. run_refusal e notes runs picks name) is-notes ∙ ap (λ n. run_refusal e t.notes n picks name) is-runs ∙ ap (λ n. run_refusal e t.notes (length t.runs) n name) is-picks ∙ run-verdict e t name stands
 
-pub run-none : (e : Engine) (t : Tables) (name : List ℕ) (runs picks : ℕ) → StandsFor e t → Sound t e.session → runs ≡ length t.runs → picks ≡ length t.picks → run_refusal e runs picks name ≡ None → verdict (Run name) e.session t ≡ None
-run-none e t name runs picks stands sound is-runs is-picks none =
-    sym (ap (λ n. run_refusal e n picks name) is-runs ∙ ap (λ n. run_refusal e (length t.runs) n name) is-picks ∙ run-verdict e t name stands sound) ∙ none
+pub run-refuses : (e : Engine) (t : Tables) (name : List ℕ) (notes : List Note) (runs picks : ℕ) (refusal : Refusal) → StandsFor e t → notes ≡ t.notes → runs ≡ length t.runs → picks ≡ length t.picks → RefusedBy (run_refusal e notes runs picks name) refusal → Refuses refusal (Run name) e.session t
+run-refuses e t name notes runs picks refusal stands is-notes is-runs is-picks by = subst (λ v. RefusedBy v refusal) (run-is e t name notes runs picks stands is-notes is-runs is-picks) by
+
+pub run-none : (e : Engine) (t : Tables) (name : List ℕ) (notes : List Note) (runs picks : ℕ) → StandsFor e t → notes ≡ t.notes → runs ≡ length t.runs → picks ≡ length t.picks → run_refusal e notes runs picks name ≡ None → verdict (Run name) e.session t ≡ None
+run-none e t name notes runs picks stands is-notes is-runs is-picks none = sym (run-is e t name notes runs picks stands is-notes is-runs is-picks) ∙ none
 
 -- what isn't refused is accepted
 pub follows-accepted : (t : Tables) (s : Session) (c : Command) → verdict c s t ≡ None → Follows t s c (accepted c s t).reply (tables_after (accepted c s t).change t) (accepted c s t).session
@@ -190,7 +196,7 @@ second-none (Some x) (Some y) rest e = absurd (some-none x e)
 
 -- a query isn't defined without a moment
 pub define-moment : (e : Engine) (name source : List ℕ) → define_refusal e name source ≡ None → e.session.moment ≡ None → ⊥
-define-moment e name source none no_m = some-none NoMoment (sym (ap (λ m. option_or (missing NoMoment m) (option_or (no_user e.session) (option_or (name_refusal e (user_of e.session) name) (option_or (text_refusal source) (first_refusal (query_limits e (user_of e.session) (length source))))))) no_m) ∙ none)
+define-moment e name source none no_m = some-none NoMoment (sym (ap (λ m. option_or (missing NoMoment m) (option_or (no_user e.session) (option_or (name_refusal e (user_of e.session) name) (option_or (text_fault source) (first_refusal (query_limits e (user_of e.session) (length source))))))) no_m) ∙ none)
 
 -- a query is defined
 pub follows-define : (t : Tables) (s : Session) (name source shown : List ℕ) (n : ℕ) (row : QueryRow) (t' : Tables) (s' : Session) → verdict (Define name source) s t ≡ None → n ≡ length t.queries
@@ -209,17 +215,15 @@ follows-define t s name source shown n row t' s' none count is-row is-shown is-t
 pub truth-of-second : (q : QueryRow) → IsOfTheSecond (truth_of q)
 truth-of-second q = of-the-second (condition_in q.source)
 
-text-late : (source : List ℕ) (rest : List (Option Refusal)) → is_early (first_refusal rest) ≡ false → is_early (option_or (text_refusal source) (first_refusal rest)) ≡ false
-unfolding text_refusal text_fault not_built
-text-late source rest late = go (condition_of source) (is_local (condition_in source)) where
-  go : (r : Result Condition TextFault) (b : Bool) → is_early (option_or (option_or (reading_refusal r) (unless b NotBuilt)) (first_refusal rest)) ≡ false
-  go (Err (T.Lex fault)) b = refl
-  go (Err (T.Parse fault)) b = refl
-  go (Err (T.Types fault)) b = refl
-  go (Err T.Memory) true = late
-  go (Err T.Memory) false = refl
-  go (Ok c) true = late
-  go (Ok c) false = refl
+text-late : (source : List ℕ) (rest : List (Option Refusal)) → is_early (first_refusal rest) ≡ false → is_early (option_or (text_fault source) (first_refusal rest)) ≡ false
+unfolding text_fault
+text-late source rest late = go (condition_of source) where
+  go : (r : Result Condition TextFault) → is_early (option_or (reading_refusal r) (first_refusal rest)) ≡ false
+  go (Err (T.Lex fault)) = refl
+  go (Err (T.Parse fault)) = refl
+  go (Err (T.Types fault)) = refl
+  go (Err T.Memory) = late
+  go (Ok c) = late
 
 passes-late : (name : LimitName) (limit count more : ℕ) → is_early (passes name limit count more) ≡ false
 passes-late name limit count more = elim ((more == 0) || nat_le (count + more) limit) as (λ b. is_early (if b then None else Some (Limit name)) ≡ false) [ true ↦ refl | false ↦ refl ]
@@ -238,10 +242,10 @@ limits-late engine user len =
 
 -- a query is refused for its text, or for want of memory to read it, once it isn't for want of a moment, of a user or of a name
 pub text-refused : (e : Engine) (name source : List ℕ) (refusal : Refusal) → no_moment e.session ≡ None → no_user e.session ≡ None → None ≡ name_refusal e (user_of e.session) name
-    → (text_refusal source ≡ Some refusal) ⊎ (refusal ≡ Memory) → RefusedBy (define_refusal e name source) refusal
+    → (text_fault source ≡ Some refusal) ⊎ (refusal ≡ Memory) → RefusedBy (define_refusal e name source) refusal
 text-refused e name source refusal moment user named by =
     let user-is = user_of e.session in
-    let rest = option_or (text_refusal source) (first_refusal (query_limits e user-is (length source))) in
+    let rest = option_or (text_fault source) (first_refusal (query_limits e user-is (length source))) in
     let is : define_refusal e name source ≡ rest =
     ap (λ x. option_or x (option_or (no_user e.session) (option_or (name_refusal e user-is name) rest))) moment
     ∙ ap (λ x. option_or x (option_or (name_refusal e user-is name) rest)) user
@@ -272,5 +276,5 @@ follows-box e t name entries stands sound none is = go (query_named (user_of e.s
       }
 
 -- a query isn't run without a moment
-pub run-moment : (e : Engine) (runs picks : ℕ) (name : List ℕ) → run_refusal e runs picks name ≡ None → e.session.moment ≡ None → ⊥
-run-moment e runs picks name none no_m = some-none NoMoment (sym (ap (λ m. option_or (missing NoMoment m) (option_or (look_refusal e name) (option_or (passes Runs RUN_LIMIT runs 1) (passes Picks PICK_LIMIT picks (length (hits_kept e (kept_named e name))))))) no_m) ∙ none)
+pub run-moment : (e : Engine) (notes : List Note) (runs picks : ℕ) (name : List ℕ) → run_refusal e notes runs picks name ≡ None → e.session.moment ≡ None → ⊥
+run-moment e notes runs picks name none no_m = some-none NoMoment (sym (ap (λ m. option_or (missing NoMoment m) (option_or (look_refusal e name) (option_or (wide_kept e (kept_named e name)) (option_or (passes Runs RUN_LIMIT runs 1) (passes Picks PICK_LIMIT picks (length (hits_kept e notes (kept_named e name)))))))) no_m) ∙ none)

@@ -7,6 +7,7 @@ use Rattle.std.proofs.lemmas.List.Elements.{filter-append}
 use Rattle.tap_rows.specs.declared.tables.Tables.{Tables}
 use Rattle.tap_rows.specs.declared.rows.QueryRow.{QueryRow}
 use Rattle.tap_rows.specs.declared.rows.RunRow.{RunRow}
+use Rattle.tap_rows.specs.declared.rows.Note.{Note}
 use Rattle.tap_rows.specs.declared.results.Entry.{Entry}
 use Rattle.tap_rows.specs.declared.change.Change.TheVariants.{RunDone}
 use Rattle.tap_rows.specs.Tables.{after}
@@ -27,7 +28,6 @@ use Rattle.tap_engine.specs.Queries.{is_named, query_named, hits_of, truth_of, s
 use Rattle.tap_engine.specs.Verdicts.{verdict}
 use Rattle.tap_engine.specs.Keeping.{kept_query, after_run}
 use Rattle.tap_engine.specs.Standing.{StandsFor, kept_named, hits_kept, due_of}
-use Rattle.tap_engine.specs.Sound.{Sound}
 use Rattle.tap_engine.specs.Stories.{Follows}
 use Rattle.tap_engine.specs.Replies.{run_query, tables_after}
 use Rattle.tap_engine.proofs.CheckLaws.{named-is, hits-is, find-in, follows-accepted}
@@ -42,25 +42,22 @@ pub record IsDue (e : Engine) (t : Tables) (name : List ℕ) (due : Due) : Type 
 no-due : (due : Due) → Some due ≡ None → ⊥
 no-due due e = cc
 
-some-row : (x y : QueryRow) → Some x ≡ Some y → x ≡ y
-some-row x y e = cc
-
 same-due : (x y : Due) → Some x ≡ Some y → x ≡ y
 same-due x y e = cc
 
-pub due-is : (e : Engine) (t : Tables) (name : List ℕ) (due : Due) → StandsFor e t → Sound t e.session → Some due ≡ due_of e (kept_named e name) → IsDue e t name due
-due-is e t name due stands sound is = go (query_named (user_of e.session) name t) refl where
-  kept : Some due ≡ due_of e (option_map (kept_query t) (query_named (user_of e.session) name t))
-  kept = is ∙ ap (due_of e) (named-is e t name stands)
+pub due-is : (e : Engine) (t : Tables) (name : List ℕ) (notes : List Note) (due : Due) → StandsFor e t → notes ≡ t.notes → Some due ≡ due_of e notes (kept_named e name) → IsDue e t name due
+due-is e t name notes due stands is-notes is = go (query_named (user_of e.session) name t) refl where
+  kept : Some due ≡ due_of e t.notes (option_map (kept_query t) (query_named (user_of e.session) name t))
+  kept = is ∙ ap (λ notes. due_of e notes (kept_named e name)) is-notes ∙ ap (due_of e t.notes) (named-is e t name stands)
 
   go : (o : Option QueryRow) → query_named (user_of e.session) name t ≡ o → IsDue e t name due
-  go None none = absurd (no-due due (kept ∙ ap (λ o. due_of e (option_map (kept_query t) o)) none))
+  go None none = absurd (no-due due (kept ∙ ap (λ o. due_of e t.notes (option_map (kept_query t) o)) none))
   go (Some q) some = record {
     q = q;
     some = some;
     has = find-in (is_named (user_of e.session) name) t.queries q some;
-    is = same-due due (record { query = q.num; moment = present e.session; runs = length (run_moments q.num.0 t.runs); hits = hits_kept e (Some (kept_query t q)) }) (kept ∙ ap (λ o. due_of e (option_map (kept_query t) o)) some)
-        ∙ ap (λ hits. record { query = q.num; moment = present e.session; runs = length (run_moments q.num.0 t.runs); hits = hits }) (hits-is e t (Some q) (λ r same. subst (λ r. In r t.queries) (some-row q r same) (find-in (is_named (user_of e.session) name) t.queries q some)) stands sound);
+    is = same-due due (record { query = q.num; moment = present e.session; runs = length (run_moments q.num.0 t.runs); hits = hits_kept e t.notes (Some (kept_query t q)) }) (kept ∙ ap (λ o. due_of e t.notes (option_map (kept_query t) o)) some)
+        ∙ ap (λ hits. record { query = q.num; moment = present e.session; runs = length (run_moments q.num.0 t.runs); hits = hits }) (hits-is e t (Some q) stands);
   }
 
 -- a query has no more runs than there are

@@ -1,6 +1,7 @@
 mod Moments
 mod OwnerLaws
 mod TextLaws
+mod FreshLaws
 mod CheckLaws
 mod StandingLaws
 mod ArrivalLaws

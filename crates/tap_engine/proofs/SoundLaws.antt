@@ -26,13 +26,11 @@ use Rattle.script_lang.specs.declared.refusal.Refusal.TheVariants.{BadMoment, Ba
 use Rattle.script_lang.specs.declared.reply.Reply.{Reply}
 use Rattle.tap_engine.specs.declared.session.Session.{Session}
 use Rattle.tap_engine.specs.Sessions.{no_session, present, or_zero, user_of, later_of, greatest_of, moments_in, greatest_moment, last_moment}
-use Rattle.tap_engine.specs.Local.{is_local}
-use Rattle.tap_engine.specs.Queries.{condition_in, truth_of, start_of, is_named, query_named}
-use Rattle.tap_engine.specs.Verdicts.{verdict, first_refusal, missing, unless, is_back, no_moment, no_user, bad_name, taken, text_fault, not_built, text_of}
+use Rattle.tap_engine.specs.Queries.{truth_of, start_of, is_named, query_named}
+use Rattle.tap_engine.specs.Verdicts.{verdict, first_refusal, missing, unless, is_back, text_of}
 use Rattle.tap_engine.specs.Replies.{Answer, answer_of, answer_by, accepted, tables_after, set_moment, next_doc, next_note, next_query, run_query, show_box, ask_at}
 use Rattle.tap_engine.specs.Stories.{Step}
 use Rattle.tap_engine.specs.Sound.{Sound, IsNow}
-use Rattle.tap_engine.proofs.TextLaws.{built-local}
 use Rattle.tap_engine.proofs.CheckLaws.{truth-of-second, find-in, second-none}
 
 -- what an answer leaves is sound
@@ -173,7 +171,7 @@ at-sound text session tables sound none = go (moment_of text) refl where
   go (Some m) is =
       let positive = moment-positive text m is in
       let back = second-none (missing BadMoment (moment_of text)) (is_back (last_moment session tables) (moment_of text)) [] none in
-      record { kept = sound.kept; local = sound.local; now = (positive, at-by tables session m sound positive (sym (ap (is_back (last_moment session tables)) is) ∙ back)) }
+      record { kept = sound.kept; now = (positive, at-by tables session m sound positive (sym (ap (is_back (last_moment session tables)) is) ∙ back)) }
 
 -- one more document at the end
 arrived-more : (num : ℕ) (low m : ℤ) (docs : List Doc) (doc : Doc) → Arrived num low docs → Each (λ doc. doc.arrival ≤ℤ m) docs → low ≤ℤ m → doc.arrival ≡ m → doc.num.0 ≡ num + length docs → Arrived num low (docs ++ doc ∷ [])
@@ -190,7 +188,6 @@ mail-sound block session tables sound there =
     let ge : m ≤ℤ doc.arrival = subst (λ z. m ≤ℤ z) (sym at) (omega (arith, ints)) in
     record {
       kept = kept-docs truth_of start_of truth-of-second m tables (doc ∷ []) sound.kept now.1 (ge, tt) (arrived-more 1 (pos 0) m tables.docs doc sound.kept.docs now.1.docs now.0 at (omega arith));
-      local = sound.local;
       now = subst (λ moment. IsNow moment (after tables (Docs (doc ∷ [])))) (sym there.is) (
         now.0,
         record {
@@ -213,7 +210,6 @@ note-sound doc kind value text session tables sound there =
     let ge : m ≤ℤ note.arrival = subst (λ z. m ≤ℤ z) (sym at) (omega (arith, ints)) in
     record {
       kept = kept-note truth_of start_of truth-of-second m tables note sound.kept now.1 ge;
-      local = sound.local;
       now = subst (λ moment. IsNow moment (after tables (OneNote note))) (sym there.is) (
         now.0,
         record {
@@ -226,8 +222,8 @@ note-sound doc kind value text session tables sound there =
       );
     }
 
-define-sound : (name source : List ℕ) (session : Session) (tables : Tables) → Sound tables session → Present session → is_local (condition_in source) ≡ true → Leaves tables (accepted (Define name source) session tables)
-define-sound name source session tables sound there local =
+define-sound : (name source : List ℕ) (session : Session) (tables : Tables) → Sound tables session → Present session → Leaves tables (accepted (Define name source) session tables)
+define-sound name source session tables sound there =
     let m = there.m in
     let now = now-at tables session m there.is sound in
     let query : QueryRow = next_query tables session name source in
@@ -235,7 +231,6 @@ define-sound name source session tables sound there local =
     let le : query.arrival ≤ℤ m = subst (λ z. z ≤ℤ m) (sym at) (omega (arith, ints)) in
     record {
       kept = kept-query truth_of start_of truth-of-second m tables query sound.kept now.1 refl;
-      local = each-append (λ query. is_local (condition_in query.source) ≡ true) tables.queries (query ∷ []) sound.local (local, tt);
       now = subst (λ moment. IsNow moment (after tables (OneQuery query))) (sym there.is) (
         now.0,
         record {
@@ -256,7 +251,6 @@ run-sound session tables (Some q) has sound there =
     let at : present session ≡ m = ap or_zero there.is in
     subst (λ z. Leaves tables (record { reply = (run_query (Some q) session tables).reply; session = session; change = Some (run_change (truth_of q) (start_of q) tables q.num z) })) (sym at) (record {
       kept = kept-run truth_of start_of truth-of-second m tables q sound.kept now.1 (has q refl);
-      local = sound.local;
       now = subst (λ moment. IsNow moment (after tables (run_change (truth_of q) (start_of q) tables q.num m))) (sym there.is) (
         now.0,
         record {
@@ -277,21 +271,12 @@ ask-sound : (second : Option ℤ) (source : List ℕ) (session : Session) (table
 ask-sound None source session tables sound = sound
 ask-sound (Some second) source session tables sound = sound
 
-rest-none : (x : Option Refusal) (rest : List (Option Refusal)) → first_refusal (x ∷ rest) ≡ None → first_refusal rest ≡ None
-rest-none None rest e = e
-rest-none (Some x) rest e = absurd (some-refusal x e)
-
--- a query that isn't refused speaks of neither now nor other rows
-define-local : (name source : List ℕ) (session : Session) (tables : Tables) → verdict (Define name source) session tables ≡ None → is_local (condition_in source) ≡ true
-define-local name source session tables none =
-    built-local source (first-none (not_built source) _ (rest-none (text_fault source) _ (rest-none (taken session name tables) _ (rest-none (bad_name name) _ (rest-none (no_user session) _ (rest-none (no_moment session) _ none))))))
-
 -- a command that isn't refused keeps it
 accepted-sound : (command : Command) (session : Session) (tables : Tables) → Sound tables session → verdict command session tables ≡ None → Leaves tables (accepted command session tables)
 accepted-sound (At text) session tables sound none = at-sound text session tables sound none
-accepted-sound (AsUser name) session tables sound none = record { kept = sound.kept; local = sound.local; now = sound.now }
+accepted-sound (AsUser name) session tables sound none = record { kept = sound.kept; now = sound.now }
 accepted-sound (Mail block) session tables sound none = mail-sound block session tables sound (present-by session (first-none (missing NoMoment session.moment) _ none))
-accepted-sound (Define name source) session tables sound none = define-sound name source session tables sound (present-by session (first-none (missing NoMoment session.moment) _ none)) (define-local name source session tables none)
+accepted-sound (Define name source) session tables sound none = define-sound name source session tables sound (present-by session (first-none (missing NoMoment session.moment) _ none))
 accepted-sound (Run name) session tables sound none = run-sound session tables (query_named (user_of session) name tables) (find-in (is_named (user_of session) name) tables.queries) sound (present-by session (first-none (missing NoMoment session.moment) _ none))
 accepted-sound (BoxOf name) session tables sound none = box-sound session tables (query_named (user_of session) name tables) name sound
 accepted-sound (Bad refusal) session tables sound none = sound
@@ -318,4 +303,4 @@ step-sound tables session command reply tables' session' (inr stays) sound = rw 
 
 -- a new session over no rows begins so
 pub sound-start : Sound no_rows no_session
-sound-start = record { kept = kept-empty truth_of start_of truth-of-second; local = tt; now = tt }
+sound-start = record { kept = kept-empty truth_of start_of truth-of-second; now = tt }

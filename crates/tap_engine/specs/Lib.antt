@@ -2,6 +2,8 @@ pub mod Sessions
 pub mod Local
 pub mod Queries
 pub mod Limits
+pub mod Wide
+pub mod Fresh
 pub mod Verdicts
 pub mod Replies
 pub mod Stories

@@ -1,18 +1,16 @@
 -- What holds of the tables and the session at every point of a story.
-use Rattle.std.specs.Prelude.{◌≡◌, ℤ, pos, true, ◌≤ℤ◌, Option, Some, None}
+use Rattle.std.specs.Prelude.{ℤ, pos, ◌≤ℤ◌, Option, Some, None}
 use Rattle.tap_rows.specs.declared.tables.Tables.{Tables}
-use Rattle.tap_rows.specs.Kept.{IsKept, IsBy, Each}
+use Rattle.tap_rows.specs.Kept.{IsKept, IsBy}
 use Rattle.tap_engine.specs.declared.session.Session.{Session}
-use Rattle.tap_engine.specs.Local.{is_local}
-use Rattle.tap_engine.specs.Queries.{condition_in, truth_of, start_of}
+use Rattle.tap_engine.specs.Queries.{truth_of, start_of}
 
 -- no row is of a time after the session's moment, where it has one
 abbrev pub IsNow : Option ℤ → Tables → Type 0
 IsNow None tables = Unit {0}
 IsNow (Some moment) tables = (pos 0 ≤ℤ moment) × IsBy start_of moment tables
 
--- the tables are kept, with each query's deliveries equal to its box, no query speaks of now or of other rows, and the session's moment is not below their rows
+-- the tables are kept, with each query's deliveries equal to its box, and the session's moment is not below their rows
 pub record Sound (tables : Tables) (session : Session) : Type 0 where
   pub kept : IsKept truth_of start_of tables
-  pub local : Each (λ query. is_local (condition_in query.source) ≡ true) tables.queries
   pub now : IsNow session.moment tables

@@ -1,12 +1,11 @@
 -- What the engine keeps of the tables.
 use Rattle.std.specs.Prelude.{ℕ, ◌≡◌, ◌⊎◌, List, [], ◌∷◌, length, map, Option, Some, None, is_none, false, if◌then◌else◌}
-use Rattle.std.specs.List.{filter_map}
 use Rattle.std.specs.Option.{option_or}
 use Rattle.tap_base.specs.Words.{holds}
 use Rattle.tap_rows.specs.declared.tables.Tables.{Tables}
+use Rattle.tap_rows.specs.declared.rows.Note.{Note}
 use Rattle.tap_rows.specs.declared.results.Hit.{Hit}
 use Rattle.tap_rows.specs.declared.results.Entry.{Entry}
-use Rattle.tap_rows.specs.Constant.{arrival_hit}
 use Rattle.script_lang.specs.declared.refusal.Refusal.{Refusal}
 use Rattle.script_lang.specs.declared.refusal.Refusal.TheVariants.{Taken, NoQuery, Memory}
 use Rattle.script_lang.specs.declared.refusal.LimitName.TheVariants.{Notes, Queries, AllQueries, Users, Runs, Picks, Store}
@@ -15,10 +14,9 @@ use Rattle.tap_engine.specs.declared.kept_query.KeptQuery.{KeptQuery}
 use Rattle.tap_engine.specs.declared.engine.Engine.{Engine}
 use Rattle.tap_engine.specs.declared.run.Due.{Due}
 use Rattle.tap_engine.specs.Sessions.{present, user_of, greatest_moment}
-use Rattle.tap_engine.specs.Local.{local_truth}
-use Rattle.tap_engine.specs.Queries.{condition_in}
+use Rattle.tap_engine.specs.Fresh.{fresh_of}
 use Rattle.tap_engine.specs.Limits.{stored_bytes, owners_in, different, passes}
-use Rattle.tap_engine.specs.Verdicts.{missing, unless, first_refusal, no_moment, no_user, bad_name, text_refusal, no_doc, long_note, is_early}
+use Rattle.tap_engine.specs.Verdicts.{missing, unless, first_refusal, no_moment, no_user, bad_name, text_fault, wide_refusal, no_doc, long_note, is_early}
 use Rattle.tap_engine.specs.Keeping.{kept_query, named_in, owned_in}
 
 -- the engine stands for the tables: it keeps their documents and queries, how many bytes they store, and who owns a
@@ -55,7 +53,7 @@ define_refusal engine name source =
     option_or (no_moment engine.session)
     (option_or (no_user engine.session)
     (option_or (name_refusal engine (user_of engine.session) name)
-    (option_or (text_refusal source)
+    (option_or (text_fault source)
     (first_refusal (query_limits engine (user_of engine.session) (length source))))))
 
 -- the bounds of a note on this document and of so many bytes, by what is kept
@@ -72,10 +70,15 @@ note_refusal engine doc kind text =
 unfoldable pub look_refusal : Engine → List ℕ → Option Refusal
 look_refusal engine name = option_or (no_user engine.session) (option_or (bad_name name) (missing NoQuery (kept_named engine name)))
 
--- what a run of this query delivers, by what is kept
-abbrev pub hits_kept : Engine → Option KeptQuery → List Hit
-hits_kept engine None = []
-hits_kept engine (Some kept) = filter_map (arrival_hit (local_truth (condition_in kept.row.source)) kept.covered (present engine.session)) engine.docs
+-- what a run of this query delivers, by what is kept and these notes
+abbrev pub hits_kept : Engine → List Note → Option KeptQuery → List Hit
+hits_kept engine notes None = []
+hits_kept engine notes (Some kept) = fresh_of kept.row engine.docs notes kept.covered (present engine.session) engine.docs
+
+-- why a run of this query is refused for the seconds that it would try, by what is kept
+abbrev pub wide_kept : Engine → Option KeptQuery → Option Refusal
+wide_kept engine None = None
+wide_kept engine (Some kept) = wide_refusal kept.row.source engine.docs (present engine.session)
 
 -- what a query has delivered, by what is kept of it
 abbrev pub entries_kept : Option KeptQuery → Option (List Entry)
@@ -83,17 +86,18 @@ entries_kept None = None
 entries_kept (Some kept) = Some kept.entries
 
 -- what a run of this query is about to deliver
-abbrev pub due_of : Engine → Option KeptQuery → Option Due
-due_of engine None = None
-due_of engine (Some kept) = Some (record { query = kept.row.num; moment = present engine.session; runs = kept.runs; hits = hits_kept engine (Some kept) })
+abbrev pub due_of : Engine → List Note → Option KeptQuery → Option Due
+due_of engine notes None = None
+due_of engine notes (Some kept) = Some (record { query = kept.row.num; moment = present engine.session; runs = kept.runs; hits = hits_kept engine notes (Some kept) })
 
--- why a run is refused, by what is kept and by how many runs and deliveries there are
-abbrev pub run_refusal : Engine → ℕ → ℕ → List ℕ → Option Refusal
-run_refusal engine runs picks name =
+-- why a run is refused, by what is kept, by these notes and by how many runs and deliveries there are
+abbrev pub run_refusal : Engine → List Note → ℕ → ℕ → List ℕ → Option Refusal
+run_refusal engine notes runs picks name =
     option_or (no_moment engine.session)
     (option_or (look_refusal engine name)
+    (option_or (wide_kept engine (kept_named engine name))
     (option_or (passes Runs RUN_LIMIT runs 1)
-    (passes Picks PICK_LIMIT picks (length (hits_kept engine (kept_named engine name))))))
+    (passes Picks PICK_LIMIT picks (length (hits_kept engine notes (kept_named engine name)))))))
 
 -- refused so, or for want of memory where it isn't refused for want of a moment, of a user or of a name
 abbrev pub RefusedBy : Option Refusal → Refusal → Type 0

@@ -1,11 +1,11 @@
 -- Why a command is refused: the first of its checks that refuses, in the order of the refusals' numbers, limits in the
 -- order of the table of limits.
-use Rattle.std.specs.Prelude.{ℕ, ℤ, List, [], ◌∷◌, length, Bool, true, false, ◌&&◌, ◌||◌, nat_le, int_le, int_lt, Option, Some, None, is_none, Result, Ok, Err, if◌then◌else◌}
-use Rattle.std.specs.Option.{option_or}
+use Rattle.std.specs.Prelude.{ℕ, ℤ, List, [], ◌∷◌, length, Bool, true, false, not, ◌&&◌, ◌||◌, nat_le, int_le, int_lt, Option, Some, None, is_none, Result, Ok, Err, if◌then◌else◌}
 use Rattle.std.specs.Str.{all_ascii_digits}
 use Rattle.tap_base.specs.Numbers.{moment_of}
 use Rattle.tap_base.specs.Names.{is_name}
 use Rattle.tap_rows.specs.declared.tables.Tables.{Tables}
+use Rattle.tap_rows.specs.declared.rows.Doc.{Doc}
 use Rattle.tap_rows.specs.declared.rows.QueryRow.{QueryRow}
 use Rattle.tap_rows.specs.declared.results.Hit.{Hit}
 use Rattle.mail_lines.specs.declared.block.Block.{Block}
@@ -23,8 +23,8 @@ use Rattle.tql_text.specs.Texts.{condition_of}
 use Rattle.tap_engine.specs.declared.session.Session.{Session}
 use Rattle.tap_engine.specs.declared.limits.TheConstants.{DOCUMENT_LIMIT, NOTE_TEXT_LIMIT, NOTE_LIMIT, USER_QUERY_LIMIT, QUERY_LIMIT, USER_LIMIT, RUN_LIMIT, PICK_LIMIT, STORE_LIMIT}
 use Rattle.tap_engine.specs.Sessions.{present, user_of, last_moment}
-use Rattle.tap_engine.specs.Local.{is_local}
-use Rattle.tap_engine.specs.Queries.{condition_in, query_named, hits_of}
+use Rattle.tap_engine.specs.Wide.{is_wide}
+use Rattle.tap_engine.specs.Queries.{query_named, hits_of}
 use Rattle.tap_engine.specs.Limits.{stored_bytes, owners_in, different, queries_of, new_users, passes}
 
 -- the first refusal of some checks
@@ -67,14 +67,6 @@ reading_refusal (Err fault) = fault_refusal fault
 unfoldable pub text_fault : List ℕ → Option Refusal
 text_fault source = reading_refusal (condition_of source)
 
--- a text whose condition speaks of now or of other rows
-unfoldable pub not_built : List ℕ → Option Refusal
-not_built source = unless (is_local (condition_in source)) NotBuilt
-
--- why a query of this text is refused
-unfoldable pub text_refusal : List ℕ → Option Refusal
-text_refusal source = option_or (text_fault source) (not_built source)
-
 -- a second below the last moment
 abbrev pub is_back : Option ℤ → Option ℤ → Option Refusal
 is_back None second = None
@@ -94,6 +86,15 @@ taken session name tables = unless (is_none (query_named (user_of session) name 
 -- the user has no query of this name
 abbrev pub no_query : Session → List ℕ → Tables → Option Refusal
 no_query session name tables = missing NoQuery (query_named (user_of session) name tables)
+
+-- a query whose run would try too many seconds
+unfoldable pub wide_refusal : List ℕ → List Doc → ℤ → Option Refusal
+wide_refusal source docs moment = unless (not (is_wide source docs moment)) NotBuilt
+
+-- the same, where there is a query
+abbrev pub too_wide : Option QueryRow → List Doc → ℤ → Option Refusal
+too_wide None docs moment = None
+too_wide (Some query) docs moment = wide_refusal query.source docs moment
 
 -- a message that is too long
 abbrev pub too_long : Block → Option Refusal
@@ -139,7 +140,6 @@ checks (Define name source) session tables =
     ∷ bad_name name
     ∷ taken session name tables
     ∷ text_fault source
-    ∷ not_built source
     ∷ passes Queries USER_QUERY_LIMIT (queries_of (user_of session) tables) 1
     ∷ passes AllQueries QUERY_LIMIT (length tables.queries) 1
     ∷ passes Users USER_LIMIT (different (owners_in tables)) (new_users (user_of session) tables)
@@ -150,6 +150,7 @@ checks (Run name) session tables =
     ∷ no_user session
     ∷ bad_name name
     ∷ no_query session name tables
+    ∷ too_wide (query_named (user_of session) name tables) tables.docs (present session)
     ∷ passes Runs RUN_LIMIT (length tables.runs) 1
     ∷ passes Picks PICK_LIMIT (length tables.picks) (delivers session name tables)
     ∷ []

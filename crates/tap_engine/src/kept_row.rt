@@ -2,12 +2,14 @@ ghost use Rattle.std.specs.Prelude.{◌≡◌, ◌≤◌};
 ghost use Rattle.tql_core.specs.Condition.{condition};
 ghost use Rattle.snapshot_meaning.specs.Seen.{exists_in};
 ghost use Rattle.tap_rows.specs.declared.rows.QueryRow.{QueryRow};
-ghost use Rattle.tap_engine.specs.Local.{local_truth};
-ghost use Rattle.tap_engine.specs.Queries.{condition_in};
+ghost use Rattle.tap_rows.specs.Results.{is_given};
+ghost use Rattle.snapshot_meaning.specs.Seen.{seen};
+ghost use Rattle.tap_engine.specs.Local.{is_local, local_truth};
+ghost use Rattle.tap_engine.specs.Queries.{condition_in, truth_of};
 
-use snapshot_meaning::holds_at;
+use snapshot_meaning::{holds_at, is_doc_given};
 use std::marker::Model;
-use tap_rows::{KeptDoc, QueryRow};
+use tap_rows::{KeptDoc, Note, QueryRow};
 use tql_core::{Cond, Env, RowRef, Var};
 
 /// The row of a query with the condition of its text. It is seen as the row. An environment has room for the EXISTS
@@ -24,6 +26,18 @@ impl Model for KeptRow {
     ghost view = { λ kept. kept.row };
 
     ghost invariant = { λ kept. (condition kept.cond ≡ condition_in kept.row.source) × (exists_in (condition kept.cond) ≤ 15) };
+}
+
+// Does the condition speak of neither now nor other rows?
+fn is_local(cond: &Cond) -> bool
+    ensures { result ≡ is_local (condition cond.now) }
+{
+    match cond {
+        Cond::True | Cond::False | Cond::Plain(_) => true,
+        Cond::NowAtLeast(_) | Cond::NowBefore(_) | Cond::Exists(_, _, _) => false,
+        Cond::All(l, r) | Cond::Either(l, r) => is_local(l) && is_local(r),
+        Cond::Not(x) => is_local(x),
+    }
 }
 
 impl KeptRow {
@@ -50,5 +64,25 @@ impl KeptRow {
     {
         let env = Env::new().bind(Var(0), RowRef::OfDoc(doc));
         holds_at(&self.cond, &env, &[], &[], 0)
+    }
+
+    // Does the condition speak of neither now nor other rows?
+    pub(crate) fn is_local(&self) -> bool
+        ensures { result ≡ is_local (condition_in self.now.source) }
+    {
+        is_local(&self.cond)
+    }
+
+    // Is the document given at this second, over these documents and notes?
+    pub(crate) fn is_given_at(
+        &self,
+        doc: &KeptDoc,
+        docs: &[KeptDoc],
+        notes: &[Note],
+        s: i64,
+    ) -> bool
+        ensures { result ≡ is_given (truth_of self.now) (seen docs.now notes.now) doc.now s }
+    {
+        is_doc_given(&self.cond, doc, docs, notes, s)
     }
 }

@@ -17,6 +17,7 @@ mod perform;
 mod run;
 mod session;
 mod sessions;
+mod slow_run;
 mod text;
 
 pub use engine::Engine;
@@ -24,7 +25,7 @@ pub use kept_queries::KeptQueries;
 pub use kept_query::KeptQuery;
 pub use kept_row::KeptRow;
 pub use limits::{
-    DOCUMENT_LIMIT, NOTE_LIMIT, NOTE_TEXT_LIMIT, PICK_LIMIT, QUERY_LIMIT, RUN_LIMIT, STORE_LIMIT,
-    USER_LIMIT, USER_QUERY_LIMIT,
+    DOCUMENT_LIMIT, NOTE_LIMIT, NOTE_TEXT_LIMIT, PICK_LIMIT, QUERY_LIMIT, RUN_LIMIT, SECOND_LIMIT,
+    STORE_LIMIT, USER_LIMIT, USER_QUERY_LIMIT,
 };
 pub use session::Session;

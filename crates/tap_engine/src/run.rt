@@ -1,5 +1,6 @@
 ghost use Rattle.std.specs.Prelude.{◌≡◌, ℤ, pos, ◌<ℤ◌, drop, Bool, true, ◌≤◌, ◌<◌, ◌+◌, ◌-◌, ◌^◌, ◌++◌, [], ◌∷◌, length, map, max, Some, None, ◌&&◌, int_le, int_lt, slice_index_or, slice_set, OnOk, OnErr, IfOk, IfErr};
 ghost use Rattle.std.specs.List.{filter_map};
+ghost use Rattle.std.specs.Result.{result_err};
 ghost use Rattle.tap_rows.specs.declared.tables.Tables.{Tables};
 ghost use Rattle.tap_rows.specs.declared.rows.RunRow.{RunRow};
 ghost use Rattle.tap_rows.specs.declared.rows.Doc.{Doc};
@@ -12,6 +13,9 @@ ghost use Rattle.tap_rows.specs.Results.{entry_at};
 ghost use Rattle.script_lang.specs.declared.command.Command.{Command};
 ghost use Rattle.script_lang.specs.Replies.{HasShortNames, is_accepted};
 ghost use Rattle.tap_engine.specs.Local.{local_truth};
+ghost use Rattle.tap_engine.specs.Fresh.{fresh_of};
+ghost use Rattle.tap_engine.specs.Wide.{is_long};
+ghost use Rattle.tap_engine.specs.Verdicts.{wide_refusal};
 ghost use Rattle.tap_engine.specs.Queries.{condition_in};
 ghost use Rattle.tap_engine.specs.declared.kept_query.KeptQuery.{KeptQuery};
 ghost use Rattle.tap_engine.specs.Keeping.{after_run};
@@ -21,11 +25,12 @@ ghost use Rattle.tap_engine.specs.Stories.{Follows, Refuses};
 
 use crate::engine::Engine;
 use crate::kept_row::KeptRow;
-use crate::limits::{PICK_LIMIT, RUN_LIMIT, refuse_more};
+use crate::limits::{PICK_LIMIT, RUN_LIMIT, SECOND_LIMIT, refuse_more};
+use crate::slow_run::slow_hits;
 use script_lang::{LimitName, Refusal, Reply};
 use std::alloc::Global;
 use tap_base::{Memory, QueryNum, Rows};
-use tap_rows::{Change, Entry, Hit, KeptDoc, Pick, RunRow, Tables};
+use tap_rows::{Change, Entry, Hit, KeptDoc, Note, Pick, RunRow, Tables};
 
 /// What a run is about to deliver.
 #[derive(Drop)]
@@ -109,6 +114,47 @@ fn late_with(
     arrived_with(alloc, docs_from(docs, from), query, from, to)
 }
 
+// The documents that a run of the query finds: those that it gives for the first time from the one second on and before the other.
+fn fresh_hits(
+    alloc: Global,
+    query: &KeptRow,
+    docs: &[KeptDoc],
+    notes: &[Note],
+    from: i64,
+    to: i64,
+) -> Result<Rows<Hit>, Memory>
+    requires { Arrived 1 (pos 0) docs.now }
+    ensures { IfOk result (λ hits. hits ≡ fresh_of query.now docs.now notes.now from to docs.now) }
+{
+    if query.is_local() {
+        late_with(alloc, docs, query, from, to)
+    } else {
+        slow_hits(alloc, query, docs, notes, from, to)
+    }
+}
+
+// Are there more seconds from the first document's arrival to this moment than are tried?
+fn is_long(docs: &[KeptDoc], moment: i64) -> bool
+    ensures { result ≡ is_long docs.now moment }
+{
+    match docs.first() {
+        None => false,
+        Some(doc) => i128::from(doc.doc().arrival) + i128::from(SECOND_LIMIT) < i128::from(moment),
+    }
+}
+
+// Refuses a query that speaks of now or of other rows, where a run would try too many seconds.
+#[tactic(auto, unfolding(crate::specs::Verdicts::wide_refusal))]
+fn refuse_wide(query: &KeptRow, docs: &[KeptDoc], moment: i64) -> Result<(), Refusal>
+    ensures { result_err result ≡ wide_refusal query.now.source docs.now moment }
+{
+    if !query.is_local() && is_long(docs, moment) {
+        Err(Refusal::NotBuilt)
+    } else {
+        Ok(())
+    }
+}
+
 // One pick for each hit, where there were so many before.
 fn picks_after(
     alloc: Global,
@@ -153,12 +199,19 @@ fn entries_at(alloc: Global, run: u32, hits: &[Hit]) -> Result<Rows<Entry>, Memo
 impl Engine {
     ghost use Rattle.tap_engine.specs.Standing.{StandsFor, run_refusal, kept_named, hits_kept, due_of, RefusedBy};
 
-    // What a run of the user's query of this name delivers, where there are so many runs and deliveries.
-    fn due_run(&self, alloc: Global, runs: usize, picks: usize, name: &[u8]) -> Result<Due, Refusal>
+    // What a run of the user's query of this name delivers, where there are these notes and so many runs and deliveries.
+    fn due_run(
+        &self,
+        alloc: Global,
+        notes: &[Note],
+        runs: usize,
+        picks: usize,
+        name: &[u8],
+    ) -> Result<Due, Refusal>
         requires arrived { Arrived 1 (pos 0) self.now.docs }
-        ensures verdict { OnOk result (run_refusal self.now runs picks name.now ≡ None) }
-        ensures due { IfOk result (λ due. Some due ≡ due_of self.now (kept_named self.now name.now)) }
-        ensures refusal { IfErr result (λ refusal. RefusedBy (run_refusal self.now runs picks name.now) refusal) }
+        ensures verdict { OnOk result (run_refusal self.now notes.now runs picks name.now ≡ None) }
+        ensures due { IfOk result (λ due. Some due ≡ due_of self.now notes.now (kept_named self.now name.now)) }
+        ensures refusal { IfErr result (λ refusal. RefusedBy (run_refusal self.now notes.now runs picks name.now) refusal) }
         ensures few { OnOk result (runs < RUN_LIMIT) }
         ensures room { IfOk result (λ due. picks + length due.hits ≤ max picks PICK_LIMIT) }
     {
@@ -166,8 +219,16 @@ impl Engine {
             return Err(Refusal::NoMoment);
         };
         let kept = self.look(name)?;
+        refuse_wide(&kept.row, self.docs.as_slice(), moment)?;
         refuse_more(LimitName::Runs, RUN_LIMIT, runs, 1)?;
-        let hits = late_with(alloc, self.docs.as_slice(), &kept.row, kept.covered, moment)?;
+        let hits = fresh_hits(
+            alloc,
+            &kept.row,
+            self.docs.as_slice(),
+            notes,
+            kept.covered,
+            moment,
+        )?;
         refuse_more(LimitName::Picks, PICK_LIMIT, picks, hits.len())?;
         Ok(Due {
             query: kept.row.row().num,
@@ -223,7 +284,13 @@ impl Engine {
         ensures short { IfOk result (λ reply. HasShortNames reply) }
         ensures accepted { IfOk result (λ reply. is_accepted reply ≡ true) }
     {
-        let due = self.due_run(alloc, tables.runs.len(), tables.picks.len(), name)?;
+        let due = self.due_run(
+            alloc,
+            tables.notes.as_slice(),
+            tables.runs.len(),
+            tables.picks.len(),
+            name,
+        )?;
         let ordinal = due.runs as u32 + 1;
         self.deliver(
             alloc,

@@ -1,12 +1,10 @@
-ghost use Rattle.std.specs.Prelude.{◌≡◌, ◌≤◌, ◌⊎◌, None, Some, Ok, true, OnOk, IfOk, IfErr};
-ghost use Rattle.std.specs.Result.{result_err};
+ghost use Rattle.std.specs.Prelude.{◌≡◌, ◌≤◌, ◌⊎◌, None, Some, Ok, OnOk, IfOk, IfErr};
 ghost use Rattle.script_lang.specs.declared.refusal.Refusal.{Refusal};
 ghost use Rattle.tql_core.specs.Condition.{condition};
 ghost use Rattle.tql_text.specs.Texts.{condition_of};
 ghost use Rattle.snapshot_meaning.specs.Seen.{exists_in};
-ghost use Rattle.tap_engine.specs.Local.{is_local};
 ghost use Rattle.tap_engine.specs.Queries.{condition_in};
-ghost use Rattle.tap_engine.specs.Verdicts.{fault_refusal, unless, text_fault, text_refusal};
+ghost use Rattle.tap_engine.specs.Verdicts.{fault_refusal, text_fault};
 
 use script_lang::Refusal;
 use std::alloc::Global;
@@ -37,38 +35,13 @@ pub(crate) fn read_text(alloc: Global, source: &[u8]) -> Result<Cond, Refusal>
     }
 }
 
-// Does the condition speak of neither now nor other rows?
-fn is_local(cond: &Cond) -> bool
-    ensures { result ≡ is_local (condition cond.now) }
-{
-    match cond {
-        Cond::True | Cond::False | Cond::Plain(_) => true,
-        Cond::NowAtLeast(_) | Cond::NowBefore(_) | Cond::Exists(_, _, _) => false,
-        Cond::All(l, r) | Cond::Either(l, r) => is_local(l) && is_local(r),
-        Cond::Not(x) => is_local(x),
-    }
-}
-
-// Refuses a condition that speaks of now or of other rows.
-fn refuse_distant(cond: &Cond) -> Result<(), Refusal>
-    ensures value { result_err result ≡ unless (is_local (condition cond.now)) Refusal.NotBuilt }
-    ensures local { OnOk result (is_local (condition cond.now) ≡ true) }
-{
-    if is_local(cond) {
-        Ok(())
-    } else {
-        Err(Refusal::NotBuilt)
-    }
-}
-
-// The condition of a text, if it speaks of neither now nor other rows.
+// The condition of a query's text, which has no fault.
 pub(crate) fn keep_text(alloc: Global, source: &[u8]) -> Result<Cond, Refusal>
-    ensures fine { OnOk result (text_refusal source.now ≡ None) }
+    ensures fine { OnOk result (text_fault source.now ≡ None) }
     ensures cond { IfOk result (λ cond. condition cond ≡ condition_in source.now) }
     ensures vars { IfOk result (λ cond. exists_in (condition cond) ≤ 15) }
-    ensures refusal { IfErr result (λ refusal. (text_refusal source.now ≡ Some refusal) ⊎ (refusal ≡ Refusal.Memory)) }
+    ensures refusal { IfErr result (λ refusal. (text_fault source.now ≡ Some refusal) ⊎ (refusal ≡ Refusal.Memory)) }
 {
     let cond = read_text(alloc, source)?;
-    refuse_distant(&cond)?;
     Ok(cond)
 }

@@ -1,5 +1,6 @@
 mod Worked
 pub mod SecondsLaws
+pub mod SlowLaws
 pub mod FreshLaws
 pub mod OrderLaws
 pub mod UnionLaws
