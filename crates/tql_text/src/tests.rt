@@ -23,30 +23,99 @@ fn each_fault_has_its_place(rt: HostRuntime) -> Result<(), Fail> {
     let alloc = rt.alloc();
     let types = TextFault::Types;
     let cases: [(&[u8], TextFault); 24] = [
-        (b"m.size = ;".as_slice(), TextFault::Lex(LexFault::BadByte { place: 9 })),
-        (b"m.words HAS 'a".as_slice(), TextFault::Lex(LexFault::OpenString { place: 12 })),
+        (
+            b"m.size = ;".as_slice(),
+            TextFault::Lex(LexFault::BadByte { place: 9 }),
+        ),
+        (
+            b"m.words HAS 'a".as_slice(),
+            TextFault::Lex(LexFault::OpenString { place: 12 }),
+        ),
         (b"m.size =".as_slice(), TextFault::Parse(ParseFault::Ended)),
-        (b"m.size = 1 1".as_slice(), TextFault::Parse(ParseFault::Unexpected { place: 11 })),
-        (b"x.size = 1".as_slice(), types(TypeFault::NoVar { place: 0 })),
-        (b"m.sise = 1".as_slice(), types(TypeFault::NoField { place: 2 })),
-        (b"m.doc = 1".as_slice(), types(TypeFault::NoField { place: 2 })),
-        (b"m.size = 'a'".as_slice(), types(TypeFault::Clash { place: 7 })),
-        (b"m.from HAS 'a'".as_slice(), types(TypeFault::Clash { place: 7 })),
-        (b"m.words HAS 1".as_slice(), types(TypeFault::Clash { place: 8 })),
-        (b"now < today".as_slice(), types(TypeFault::Clash { place: 4 })),
-        (b"m.words = 'a'".as_slice(), types(TypeFault::Clash { place: 8 })),
-        (b"m.size + 1 DAY = 1".as_slice(), types(TypeFault::Clash { place: 7 })),
-        (b"m.size + 100000000001 SECONDS = 1".as_slice(), types(TypeFault::Clash { place: 7 })),
-        (b"m.size = x.ts".as_slice(), types(TypeFault::NoVar { place: 9 })),
-        (b"EXISTS (m: DOC WHERE TRUE)".as_slice(), types(TypeFault::Shadow { place: 8 })),
-        (b"now < TIME 'x'".as_slice(), types(TypeFault::BadTime { place: 11 })),
-        (b"now < m.ts + 100000000001 SECONDS".as_slice(), types(TypeFault::BigSpan { place: 13 })),
-        (b"now < m.ts + 9223372036854775807 DAYS".as_slice(), types(TypeFault::BigSpan { place: 13 })),
-        (b"now < m.ts + 1157408 DAYS".as_slice(), types(TypeFault::BigSpan { place: 13 })),
-        (b"EXISTS (a: NOTE WHERE a.size = 1)".as_slice(), types(TypeFault::NoField { place: 24 })),
-        (b"EXISTS (a: NOTE WHERE TRUE) AND a.doc = 1".as_slice(), types(TypeFault::NoVar { place: 32 })),
-        (b"x.size = 1 OR m.sise = 1".as_slice(), types(TypeFault::NoVar { place: 0 })),
-        (b"TIME 'x' < x.ts".as_slice(), types(TypeFault::BadTime { place: 5 })),
+        (
+            b"m.size = 1 1".as_slice(),
+            TextFault::Parse(ParseFault::Unexpected { place: 11 }),
+        ),
+        (
+            b"x.size = 1".as_slice(),
+            types(TypeFault::NoVar { place: 0 }),
+        ),
+        (
+            b"m.sise = 1".as_slice(),
+            types(TypeFault::NoField { place: 2 }),
+        ),
+        (
+            b"m.doc = 1".as_slice(),
+            types(TypeFault::NoField { place: 2 }),
+        ),
+        (
+            b"m.size = 'a'".as_slice(),
+            types(TypeFault::Clash { place: 7 }),
+        ),
+        (
+            b"m.from HAS 'a'".as_slice(),
+            types(TypeFault::Clash { place: 7 }),
+        ),
+        (
+            b"m.words HAS 1".as_slice(),
+            types(TypeFault::Clash { place: 8 }),
+        ),
+        (
+            b"now < today".as_slice(),
+            types(TypeFault::Clash { place: 4 }),
+        ),
+        (
+            b"m.words = 'a'".as_slice(),
+            types(TypeFault::Clash { place: 8 }),
+        ),
+        (
+            b"m.size + 1 DAY = 1".as_slice(),
+            types(TypeFault::Clash { place: 7 }),
+        ),
+        (
+            b"m.size + 100000000001 SECONDS = 1".as_slice(),
+            types(TypeFault::Clash { place: 7 }),
+        ),
+        (
+            b"m.size = x.ts".as_slice(),
+            types(TypeFault::NoVar { place: 9 }),
+        ),
+        (
+            b"EXISTS (m: DOC WHERE TRUE)".as_slice(),
+            types(TypeFault::Shadow { place: 8 }),
+        ),
+        (
+            b"now < TIME 'x'".as_slice(),
+            types(TypeFault::BadTime { place: 11 }),
+        ),
+        (
+            b"now < m.ts + 100000000001 SECONDS".as_slice(),
+            types(TypeFault::BigSpan { place: 13 }),
+        ),
+        (
+            b"now < m.ts + 9223372036854775807 DAYS".as_slice(),
+            types(TypeFault::BigSpan { place: 13 }),
+        ),
+        (
+            b"now < m.ts + 1157408 DAYS".as_slice(),
+            types(TypeFault::BigSpan { place: 13 }),
+        ),
+        (
+            b"EXISTS (a: NOTE WHERE a.size = 1)".as_slice(),
+            types(TypeFault::NoField { place: 24 }),
+        ),
+        (
+            b"EXISTS (a: NOTE WHERE TRUE) AND a.doc = 1".as_slice(),
+            types(TypeFault::NoVar { place: 32 }),
+        ),
+        (
+            b"x.size = 1 OR m.sise = 1".as_slice(),
+            types(TypeFault::NoVar { place: 0 }),
+        ),
+        (
+            b"TIME 'x' < x.ts".as_slice(),
+            types(TypeFault::BadTime { place: 5 }),
+        ),
     ];
     for (text, fault) in cases {
         assert!(rt; has_fault(alloc, text, fault), "{}", text.escape_ascii());
@@ -57,12 +126,19 @@ fn each_fault_has_its_place(rt: HostRuntime) -> Result<(), Fail> {
 #[test]
 fn limits_are_exact(rt: HostRuntime) -> Result<(), Fail> {
     let alloc = rt.alloc();
-    assert!(rt; is_condition(alloc, b"EXISTS (a: DOC WHERE EXISTS (b: DOC WHERE EXISTS (c: DOC WHERE EXISTS (d: DOC WHERE EXISTS (e: DOC WHERE TRUE)))))"));
-    assert!(rt; has_fault(
-        alloc,
-        b"EXISTS (a: DOC WHERE EXISTS (b: DOC WHERE EXISTS (c: DOC WHERE EXISTS (d: DOC WHERE EXISTS (e: DOC WHERE EXISTS (f: DOC WHERE TRUE))))))",
-        TextFault::Types(TypeFault::ManyVars { place: 113 }),
-    ));
+    assert!(rt;
+        is_condition(
+            alloc,
+            b"EXISTS (a: DOC WHERE EXISTS (b: DOC WHERE EXISTS (c: DOC WHERE EXISTS (d: DOC WHERE EXISTS (e: DOC WHERE TRUE)))))"
+        )
+    );
+    assert!(rt;
+        has_fault(
+            alloc,
+            b"EXISTS (a: DOC WHERE EXISTS (b: DOC WHERE EXISTS (c: DOC WHERE EXISTS (d: DOC WHERE EXISTS (e: DOC WHERE EXISTS (f: DOC WHERE TRUE))))))",
+            TextFault::Types(TypeFault::ManyVars { place: 113 }),
+        )
+    );
     assert!(rt; is_condition(alloc, b"now < m.ts + 100000000000 SECONDS"));
     assert!(rt; is_condition(alloc, b"now < m.ts + 1157407 DAYS"));
     Ok(())
