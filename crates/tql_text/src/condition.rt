@@ -24,8 +24,8 @@ fn check_tree(alloc: Global, tree: &Tree) -> Result<Cond, TextFault>
     }
 }
 
-// The condition of some tokens.
-fn parse_tokens(alloc: Global, tokens: &[Token]) -> Result<Cond, TextFault>
+/// The condition of some tokens, or the first fault of their syntax, else of their types.
+pub fn read_tokens(alloc: Global, tokens: &[Token]) -> Result<Cond, TextFault>
     ensures { Reads (of_tree (query_at 32 tokens.now)) result }
 {
     match parse(alloc, tokens) {
@@ -41,7 +41,7 @@ pub fn read_condition(alloc: Global, text: &[u8]) -> Result<Cond, TextFault>
     ensures { Reads (condition_of text.now) result }
 {
     match lex(alloc, text) {
-        Ok(tokens) => parse_tokens(alloc, &tokens),
+        Ok(tokens) => read_tokens(alloc, &tokens),
         Err(LexFault::Memory) => Err(TextFault::Memory),
         Err(fault) => Err(TextFault::Lex(fault)),
     }

@@ -4,7 +4,7 @@
 mod condition;
 mod fault;
 
-pub use condition::read_condition;
+pub use condition::{read_condition, read_tokens};
 pub use fault::TextFault;
 
 #[cfg(test)]

@@ -1,0 +1,4 @@
+pub mod Rules
+pub mod RuleLines
+pub mod RuleTexts
+pub mod Ratings

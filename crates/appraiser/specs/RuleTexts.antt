@@ -1,0 +1,43 @@
+-- The rules of a filter's text, a line each.
+use Rattle.std.specs.Prelude.{ℕ, suc, ◌≡◌, ◌⊎◌, List, [], ◌∷◌, ◌++◌, length, nat_le, Result, Ok, Err, if◌then◌else◌}
+use Rattle.std.specs.Str.Lines.{lines}
+use Rattle.line_words.specs.Words.{is_skipped}
+use Rattle.appraiser.specs.declared.fault.RuleFault.{RuleFault}
+use Rattle.appraiser.specs.declared.fault.RuleFault.TheVariants.{Line, ManyRules, Memory}
+use Rattle.appraiser.specs.declared.rules.Rules.{Rules}
+use Rattle.appraiser.specs.declared.read.TheConstants.{RULE_LIMIT}
+use Rattle.appraiser.specs.Rules.{Rule, rules_in}
+use Rattle.appraiser.specs.RuleLines.{rule_of}
+
+-- the lines of rules, each with its number among all lines: those that have words and are no comments
+abbrev pub rule_lines_from : ℕ → List (List ℕ) → List (ℕ × List ℕ)
+rule_lines_from number [] = []
+rule_lines_from number (line ∷ lines) = if is_skipped line then rule_lines_from (suc number) lines else (number, line) ∷ rule_lines_from (suc number) lines
+
+abbrev pub rule_lines : List ℕ → List (ℕ × List ℕ)
+rule_lines text = rule_lines_from 1 (lines text)
+
+-- a rule, if it is one, before others
+abbrev pub with_rule : ℕ → Result Rule ℕ → Result (List Rule) RuleFault → Result (List Rule) RuleFault
+with_rule number (Err place) others = Err (Line number place)
+with_rule number (Ok rule) (Err fault) = Err fault
+with_rule number (Ok rule) (Ok rules) = Ok (rule ∷ rules)
+
+-- the rules of some lines, or the first fault
+abbrev pub rules_at : List (ℕ × List ℕ) → Result (List Rule) RuleFault
+rules_at [] = Ok []
+rules_at (line ∷ lines) = with_rule line.0 (rule_of line.1) (rules_at lines)
+
+-- the rules of a text, or its first fault: too many lines of rules, before any of them is read
+abbrev pub rules_of : List ℕ → Result (List Rule) RuleFault
+rules_of text = if nat_le (length (rule_lines text)) RULE_LIMIT then rules_at (rule_lines text) else Err ManyRules
+
+-- the rules that are read already, and then the others
+abbrev pub joined : List Rule → Result (List Rule) RuleFault → Result (List Rule) RuleFault
+joined rules (Err fault) = Err fault
+joined rules (Ok others) = Ok (rules ++ others)
+
+-- the answer is what the definition gives, or want of memory
+abbrev pub ReadsRules : Result (List Rule) RuleFault → Result Rules RuleFault → Type 0
+ReadsRules expected (Ok rules) = expected ≡ Ok (rules_in rules)
+ReadsRules expected (Err fault) = (expected ≡ Err fault) ⊎ (fault ≡ Memory)

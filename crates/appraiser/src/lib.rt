@@ -1,0 +1,19 @@
+//! Filters: the rules of a text, how they rate a document, and a box in the order of its ratings.
+#![tactic(auto)]
+
+mod fault;
+mod line_fault;
+mod rating;
+mod read;
+mod rule;
+mod rule_line;
+mod rules;
+
+pub use fault::RuleFault;
+pub use rating::{Rating, appraise};
+pub use read::{RULE_LIMIT, read_rules};
+pub use rule::KeptRule;
+pub use rules::Rules;
+
+#[cfg(test)]
+mod tests;

@@ -1,0 +1,263 @@
+ghost use Rattle.std.specs.Prelude.{◌≡◌, ◌-◌, length, take, drop};
+ghost use Rattle.std.specs.Option.{option_copied};
+ghost use Rattle.tql_core.specs.Condition.{Condition};
+ghost use Rattle.tql_text.specs.Texts.{of_tree};
+ghost use Rattle.tql_parse.specs.Reading.{query_at};
+ghost use Rattle.tql_core.specs.Condition.{condition};
+ghost use Rattle.appraiser.specs.Rules.{rule_view};
+ghost use Rattle.appraiser.specs.RuleLines.{lex_place, parse_place, type_place, fault_place, is_word, number_of, text_of, is_of_now, place_of_now, is_priority, rated, timeless_rule, rule_with, rule_at, rule_of_tokens, rule_of, ReadsRule};
+
+use crate::KeptRule;
+use crate::line_fault::LineFault;
+use std::alloc::Global;
+use tap_base::{Text, is_name};
+use tql_core::Cond;
+use tql_lex::{Kind, LexFault, Token, lex};
+use tql_parse::ParseFault;
+use tql_text::{TextFault, read_tokens};
+use tql_types::TypeFault;
+
+// The place of a fault of tokens.
+fn lex_place(fault: LexFault) -> u32
+    ensures { result ≡ lex_place fault }
+{
+    match fault {
+        LexFault::BadByte { place }
+        | LexFault::OpenString { place }
+        | LexFault::BigNumber { place } => place,
+        LexFault::TooLong { .. } => 4096,
+        LexFault::Memory => 0,
+    }
+}
+
+// The place of a fault of syntax.
+fn parse_place(ends: u32, fault: ParseFault) -> u32
+    ensures { result ≡ parse_place ends fault }
+{
+    match fault {
+        ParseFault::Unexpected { place } | ParseFault::Deep { place } => place,
+        ParseFault::Ended => ends,
+        ParseFault::Memory => 0,
+    }
+}
+
+// The place of a fault of types.
+fn type_place(begins: u32, fault: TypeFault) -> u32
+    ensures { result ≡ type_place begins fault }
+{
+    match fault {
+        TypeFault::NoVar { place }
+        | TypeFault::NoField { place }
+        | TypeFault::Clash { place }
+        | TypeFault::Shadow { place }
+        | TypeFault::BadTime { place }
+        | TypeFault::BigSpan { place }
+        | TypeFault::ManyVars { place } => place,
+        TypeFault::ManyNodes => begins,
+        TypeFault::Memory => 0,
+    }
+}
+
+// The place of a fault of a condition.
+fn fault_place(begins: u32, ends: u32, fault: TextFault) -> u32
+    ensures { result ≡ fault_place begins ends fault }
+{
+    match fault {
+        TextFault::Lex(fault) => lex_place(fault),
+        TextFault::Parse(fault) => parse_place(ends, fault),
+        TextFault::Types(fault) => type_place(begins, fault),
+        TextFault::Memory => 0,
+    }
+}
+
+// Is the token this word?
+fn is_word(kind: &Kind, name: &[u8]) -> bool
+    ensures { result ≡ is_word name.now kind.now }
+{
+    match kind {
+        Kind::Word(word) => word.as_slice() == name,
+        Kind::Number(_) | Kind::Str(_) | Kind::Mark(_) => false,
+    }
+}
+
+// The number of a token.
+fn number_of(kind: &Kind) -> Option<i64>
+    ensures { result ≡ number_of kind.now }
+{
+    match kind {
+        Kind::Number(n) => Some(*n),
+        Kind::Word(_) | Kind::Str(_) | Kind::Mark(_) => None,
+    }
+}
+
+// The text of a token.
+fn text_of(kind: &Kind) -> Option<&Text>
+    ensures { option_copied result ≡ text_of kind.now }
+{
+    match kind {
+        Kind::Str(text) => Some(text),
+        Kind::Word(_) | Kind::Number(_) | Kind::Mark(_) => None,
+    }
+}
+
+// Does the token speak of now or of other rows?
+fn is_of_now(kind: &Kind) -> bool
+    ensures { result ≡ is_of_now kind.now }
+{
+    is_word(kind, b"now") || is_word(kind, b"today") || is_word(kind, b"exists")
+}
+
+// The place of the first token that speaks of now or of other rows.
+fn place_of_now(tokens: &[Token]) -> Option<u32>
+    ensures { result ≡ place_of_now tokens.now }
+{
+    for token in tokens {
+        if is_of_now(&token.kind) {
+            return Some(token.place);
+        }
+    }
+    None
+}
+
+// Is the number that of a priority?
+fn is_priority(n: i64) -> bool
+    ensures { result ≡ is_priority n }
+{
+    0 <= n && n <= 1000
+}
+
+// The rule, where its priority and its class may stand.
+fn rated(
+    cond: Cond,
+    priority: i64,
+    priority_place: u32,
+    class: &Text,
+    class_place: u32,
+) -> Result<KeptRule, LineFault>
+    ensures { ReadsRule (rated (condition cond) priority priority_place class.now class_place) result }
+{
+    if !is_priority(priority) {
+        return Err(LineFault::At(priority_place));
+    }
+    if !is_name(class.as_slice()) {
+        return Err(LineFault::At(class_place));
+    }
+    Ok(KeptRule {
+        cond,
+        priority: priority as u32,
+        class: class.copy()?,
+    })
+}
+
+// The same, where the condition speaks of neither now nor other rows.
+fn timeless_rule(
+    middle: &[Token],
+    cond: Cond,
+    priority: i64,
+    priority_place: u32,
+    class: &Text,
+    class_place: u32,
+) -> Result<KeptRule, LineFault>
+    ensures { ReadsRule (timeless_rule (place_of_now middle.now) (condition cond) priority priority_place class.now class_place) result }
+{
+    match place_of_now(middle) {
+        Some(place) => Err(LineFault::At(place)),
+        None => rated(cond, priority, priority_place, class, class_place),
+    }
+}
+
+// The same, where there is a condition between WHEN and PRIORITY.
+fn rule_with(
+    alloc: Global,
+    begins: u32,
+    ends: u32,
+    middle: &[Token],
+    priority: i64,
+    priority_place: u32,
+    class: &Text,
+    class_place: u32,
+) -> Result<KeptRule, LineFault>
+    ensures { ReadsRule (rule_with (of_tree (query_at 32 middle.now)) begins ends middle.now priority priority_place class.now class_place) result }
+{
+    match read_tokens(alloc, middle) {
+        Ok(cond) => timeless_rule(middle, cond, priority, priority_place, class, class_place),
+        Err(TextFault::Memory) => Err(LineFault::Memory),
+        Err(fault) => Err(LineFault::At(fault_place(begins, ends, fault))),
+    }
+}
+
+// The rule of the tokens of a condition and of the four after it.
+fn rule_at(
+    alloc: Global,
+    len: u32,
+    begins: u32,
+    middle: &[Token],
+    last: &[Token],
+) -> Result<KeptRule, LineFault>
+    requires { length last.now ≡ 4 }
+    ensures { ReadsRule (rule_at len begins middle.now last.now) result }
+{
+    let (Some(n), Some(class)) = (number_of(&last[1].kind), text_of(&last[3].kind)) else {
+        return Err(LineFault::At(len));
+    };
+    if !is_word(&last[0].kind, b"priority") || !is_word(&last[2].kind, b"class") {
+        return Err(LineFault::At(len));
+    }
+    rule_with(
+        alloc,
+        begins,
+        last[0].place,
+        middle,
+        n,
+        last[1].place,
+        class,
+        last[3].place,
+    )
+}
+
+// The rule of the tokens after WHEN.
+fn rule_after(
+    alloc: Global,
+    len: u32,
+    begins: u32,
+    rest: &[Token],
+) -> Result<KeptRule, LineFault>
+    ensures { ReadsRule (rule_at len begins (take (length rest.now - 4) rest.now) (drop (length rest.now - 4) rest.now)) result }
+{
+    if rest.len() < 4 {
+        return Err(LineFault::At(len));
+    }
+    let (middle, last) = rest.split_at(rest.len() - 4);
+    rule_at(alloc, len, begins, middle, last)
+}
+
+// The rule of a line's tokens.
+fn rule_of_tokens(alloc: Global, len: u32, tokens: &[Token]) -> Result<KeptRule, LineFault>
+    ensures { ReadsRule (rule_of_tokens len tokens.now) result }
+{
+    let Some((first, rest)) = tokens.split_first() else {
+        return Err(LineFault::At(0));
+    };
+    if is_word(&first.kind, b"when") {
+        rule_after(alloc, len, first.place, rest)
+    } else {
+        Err(LineFault::At(first.place))
+    }
+}
+
+/// The rule of a line, or the place of its first fault: that of its tokens; a first one that isn't WHEN; the line's end
+/// where the last four aren't PRIORITY, a number, CLASS and a text; a fault of the condition; a word that speaks of now
+/// or of other rows; a number above 1,000; a text that is no name.
+#[tactic(auto, unfolding(crate::specs::RuleLines::rule_of))]
+pub(crate) fn read_rule(alloc: Global, line: &[u8]) -> Result<KeptRule, LineFault>
+    ensures { ReadsRule (rule_of line.now) result }
+{
+    if line.len() > 4096 {
+        return Err(LineFault::At(4096));
+    }
+    match lex(alloc, line) {
+        Ok(tokens) => rule_of_tokens(alloc, line.len() as u32, &tokens),
+        Err(LexFault::Memory) => Err(LineFault::Memory),
+        Err(fault) => Err(LineFault::At(lex_place(fault))),
+    }
+}

@@ -1,0 +1,98 @@
+use crate::{RuleFault, read_rules};
+use std::alloc::Global;
+use std::test::Fail;
+
+// How many rules the text has, or its fault.
+fn rules_or_fault(alloc: Global, text: &[u8]) -> Result<usize, RuleFault> {
+    match read_rules(alloc, text) {
+        Ok(rules) => Ok(rules.len()),
+        Err(fault) => Err(fault),
+    }
+}
+
+#[test]
+fn each_fault_of_a_rule_has_its_place(rt: HostRuntime) -> Result<(), Fail> {
+    let alloc = rt.alloc();
+    let cases: [(&[u8], Result<usize, RuleFault>); 16] = [
+        (b"".as_slice(), Ok(0)),
+        (
+            b"WHEN m.from = 'boss@x' PRIORITY 9 CLASS 'work'\nWHEN m.words HAS 'lunch' PRIORITY 5 CLASS 'fun'\n",
+            Ok(2),
+        ),
+        (
+            b"\n# a comment\nwhen true priority 1000 class 'a.b-c_1'\n",
+            Ok(1),
+        ),
+        (
+            b"WHEN now < m.ts PRIORITY 1 CLASS 'a'\n",
+            Err(RuleFault::Line { number: 1, place: 5 }),
+        ),
+        (
+            b"WHEN today < m.ts PRIORITY 1 CLASS 'a'\n",
+            Err(RuleFault::Line { number: 1, place: 5 }),
+        ),
+        (
+            b"\n# one\nWHEN m.size = ; PRIORITY 1 CLASS 'a'\n",
+            Err(RuleFault::Line {
+                number: 3,
+                place: 14,
+            }),
+        ),
+        (
+            b"IF TRUE PRIORITY 1 CLASS 'a'\n",
+            Err(RuleFault::Line { number: 1, place: 0 }),
+        ),
+        (b"WHEN\n", Err(RuleFault::Line { number: 1, place: 4 })),
+        (
+            b"WHEN TRUE PRIORITY 'a' CLASS 'a'\n",
+            Err(RuleFault::Line {
+                number: 1,
+                place: 32,
+            }),
+        ),
+        (
+            b"WHEN PRIORITY 1 CLASS 'a'\n",
+            Err(RuleFault::Line { number: 1, place: 5 }),
+        ),
+        (
+            b"WHEN m.size = PRIORITY 1 CLASS 'a'\n",
+            Err(RuleFault::Line {
+                number: 1,
+                place: 14,
+            }),
+        ),
+        (
+            b"WHEN m.sise = 1 PRIORITY 1 CLASS 'a'\n",
+            Err(RuleFault::Line { number: 1, place: 7 }),
+        ),
+        (
+            b"WHEN EXISTS (r: DOC WHERE TRUE) PRIORITY 1 CLASS 'a'\n",
+            Err(RuleFault::Line { number: 1, place: 5 }),
+        ),
+        (
+            b"WHEN TRUE PRIORITY 1001 CLASS 'a'\n",
+            Err(RuleFault::Line {
+                number: 1,
+                place: 19,
+            }),
+        ),
+        (
+            b"WHEN TRUE PRIORITY 1 CLASS 'A'\n",
+            Err(RuleFault::Line {
+                number: 1,
+                place: 27,
+            }),
+        ),
+        (
+            b"WHEN TRUE PRIORITY 1 CLASS 'a'\r\nWHEN TRUE PRIORITY 1 CLASS 'a' 'b'\n",
+            Err(RuleFault::Line {
+                number: 2,
+                place: 34,
+            }),
+        ),
+    ];
+    for (text, expected) in cases {
+        assert_eq!(rt; rules_or_fault(alloc, text), expected);
+    }
+    Ok(())
+}
