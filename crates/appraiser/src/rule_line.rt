@@ -216,12 +216,7 @@ fn rule_at(
 }
 
 // The rule of the tokens after WHEN.
-fn rule_after(
-    alloc: Global,
-    len: u32,
-    begins: u32,
-    rest: &[Token],
-) -> Result<KeptRule, LineFault>
+fn rule_after(alloc: Global, len: u32, begins: u32, rest: &[Token]) -> Result<KeptRule, LineFault>
     ensures { ReadsRule (rule_at len begins (take (length rest.now - 4) rest.now) (drop (length rest.now - 4) rest.now)) result }
 {
     if rest.len() < 4 {

@@ -25,11 +25,17 @@ fn each_fault_of_a_rule_has_its_place(rt: HostRuntime) -> Result<(), Fail> {
         ),
         (
             b"WHEN now < m.ts PRIORITY 1 CLASS 'a'\n",
-            Err(RuleFault::Line { number: 1, place: 5 }),
+            Err(RuleFault::Line {
+                number: 1,
+                place: 5,
+            }),
         ),
         (
             b"WHEN today < m.ts PRIORITY 1 CLASS 'a'\n",
-            Err(RuleFault::Line { number: 1, place: 5 }),
+            Err(RuleFault::Line {
+                number: 1,
+                place: 5,
+            }),
         ),
         (
             b"\n# one\nWHEN m.size = ; PRIORITY 1 CLASS 'a'\n",
@@ -40,9 +46,18 @@ fn each_fault_of_a_rule_has_its_place(rt: HostRuntime) -> Result<(), Fail> {
         ),
         (
             b"IF TRUE PRIORITY 1 CLASS 'a'\n",
-            Err(RuleFault::Line { number: 1, place: 0 }),
+            Err(RuleFault::Line {
+                number: 1,
+                place: 0,
+            }),
         ),
-        (b"WHEN\n", Err(RuleFault::Line { number: 1, place: 4 })),
+        (
+            b"WHEN\n",
+            Err(RuleFault::Line {
+                number: 1,
+                place: 4,
+            }),
+        ),
         (
             b"WHEN TRUE PRIORITY 'a' CLASS 'a'\n",
             Err(RuleFault::Line {
@@ -52,7 +67,10 @@ fn each_fault_of_a_rule_has_its_place(rt: HostRuntime) -> Result<(), Fail> {
         ),
         (
             b"WHEN PRIORITY 1 CLASS 'a'\n",
-            Err(RuleFault::Line { number: 1, place: 5 }),
+            Err(RuleFault::Line {
+                number: 1,
+                place: 5,
+            }),
         ),
         (
             b"WHEN m.size = PRIORITY 1 CLASS 'a'\n",
@@ -63,11 +81,17 @@ fn each_fault_of_a_rule_has_its_place(rt: HostRuntime) -> Result<(), Fail> {
         ),
         (
             b"WHEN m.sise = 1 PRIORITY 1 CLASS 'a'\n",
-            Err(RuleFault::Line { number: 1, place: 7 }),
+            Err(RuleFault::Line {
+                number: 1,
+                place: 7,
+            }),
         ),
         (
             b"WHEN EXISTS (r: DOC WHERE TRUE) PRIORITY 1 CLASS 'a'\n",
-            Err(RuleFault::Line { number: 1, place: 5 }),
+            Err(RuleFault::Line {
+                number: 1,
+                place: 5,
+            }),
         ),
         (
             b"WHEN TRUE PRIORITY 1001 CLASS 'a'\n",
