@@ -16,13 +16,13 @@ use Rattle.tql_core.specs.Holds as Holds
 use Rattle.tql_core.proofs.OfTheSecond.{of-the-second}
 use Rattle.tql_text.specs.Texts.{condition_of}
 use Rattle.snapshot_meaning.specs.Seen.{seen}
-use Rattle.tap_engine.specs.declared.session.Session.{Session}
-use Rattle.tap_engine.specs.Queries.{condition_in}
-use Rattle.tap_engine.specs.Verdicts.{first_refusal, verdict, missing, unless, no_moment, text_fault, not_over}
-use Rattle.tap_engine.specs.Replies.{ask_at, tables_after}
-use Rattle.tap_engine.specs.Stories.{Refuses, Follows}
+use Rattle.tap_model.specs.declared.session.Session.{Session}
+use Rattle.tap_model.specs.Queries.{condition_in}
+use Rattle.tap_model.specs.Verdicts.{first_refusal, verdict, missing, unless, no_moment, text_fault, not_over}
+use Rattle.tap_model.specs.Replies.{ask_at, tables_after}
+use Rattle.tap_model.specs.Stories.{Refuses, Follows}
 use Rattle.tap_engine.proofs.TextLaws.{read-fine}
-use Rattle.tap_engine.proofs.CheckLaws.{follows-accepted}
+use Rattle.tap_model.proofs.AnswerLaws.{follows-accepted}
 
 one : (x : Option Refusal) → first_refusal (x ∷ []) ≡ x
 one None = refl

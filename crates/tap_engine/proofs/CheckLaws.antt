@@ -1,5 +1,5 @@
 -- What the engine finds of a command's checks is what its verdict says.
-use Rattle.std.proofs.Common.{◌≡◌, ◌∙◌, sym, refl, ap, subst, ℕ, suc, List, [], ◌∷◌, ◌+◌, length, map, Option, Some, None, Bool, true, false, inl, inr, if◌then◌else◌}
+use Rattle.std.proofs.Common.{◌≡◌, ◌∙◌, sym, refl, ap, subst, ℕ, suc, List, [], ◌∷◌, ◌+◌, length, map, Option, Some, None, true, false, inl, inr, if◌then◌else◌}
 use Rattle.std.specs.Prelude.{◌⊎◌, ◌==◌, ◌||◌, nat_le, is_none, find, filter, Result, Ok, Err}
 use Rattle.std.specs.Option.{option_map, option_or}
 use Rattle.std.specs.Str.{bytes_eq}
@@ -11,32 +11,30 @@ use Rattle.tap_rows.specs.declared.rows.Note.{Note}
 use Rattle.tap_rows.specs.declared.results.Hit.{Hit}
 use Rattle.tap_base.specs.Words.{holds}
 use Rattle.tql_core.specs.Condition.{Condition}
-use Rattle.tql_core.proofs.OfTheSecond.{of-the-second}
 use Rattle.tql_text.specs.declared.fault.TextFault.{TextFault}
 use Rattle.tql_text.specs.declared.fault.TextFault.TheVariants as T
 use Rattle.tql_text.specs.Texts.{condition_of}
+use Rattle.tap_model.proofs.AnswerLaws.{some-none, find-in, truth-of-second, follows-accepted}
 use Rattle.tap_engine.proofs.FreshLaws.{fresh-seen}
 use Rattle.script_lang.specs.declared.refusal.Refusal.{Refusal}
 use Rattle.script_lang.specs.declared.refusal.Refusal.TheVariants.{NoQuery, NoMoment, Taken, Memory, Limit}
 use Rattle.script_lang.specs.declared.refusal.LimitName.{LimitName}
 use Rattle.script_lang.specs.declared.refusal.LimitName.TheVariants.{Queries, AllQueries, Users, Store, Runs, Picks}
-use Rattle.script_lang.specs.declared.command.Command.{Command}
 use Rattle.script_lang.specs.declared.command.Command.TheVariants.{Define, Run, BoxOf}
-use Rattle.tap_engine.specs.declared.limits.TheConstants.{USER_QUERY_LIMIT, QUERY_LIMIT, USER_LIMIT, STORE_LIMIT, RUN_LIMIT, PICK_LIMIT}
-use Rattle.tap_engine.specs.declared.session.Session.{Session}
+use Rattle.tap_model.specs.declared.limits.TheConstants.{USER_QUERY_LIMIT, QUERY_LIMIT, USER_LIMIT, STORE_LIMIT, RUN_LIMIT, PICK_LIMIT}
+use Rattle.tap_model.specs.declared.session.Session.{Session}
 use Rattle.tap_engine.specs.declared.engine.Engine.{Engine}
-use Rattle.tap_engine.specs.Sessions.{user_of, present}
+use Rattle.tap_model.specs.Sessions.{user_of, present}
 use Rattle.tap_engine.specs.declared.kept_query.KeptQuery.{KeptQuery}
-use Rattle.tap_engine.specs.Queries.{is_named, query_named, condition_in, truth_of, start_of}
+use Rattle.tap_model.specs.Queries.{is_named, query_named, truth_of, start_of}
 use Rattle.tap_rows.specs.Results.{covered}
-use Rattle.tap_engine.specs.Limits.{passes}
-use Rattle.tap_engine.specs.Verdicts.{first_refusal, verdict, missing, unless, no_moment, no_user, bad_name, reading_refusal, text_fault, wide_refusal, too_wide, is_early, hits_found}
+use Rattle.tap_model.specs.Limits.{passes}
+use Rattle.tap_model.specs.Verdicts.{first_refusal, verdict, missing, unless, no_moment, no_user, bad_name, reading_refusal, text_fault, wide_refusal, too_wide, is_early, hits_found}
 use Rattle.tap_engine.specs.Keeping.{kept_query, named_in, owned_in}
 use Rattle.tap_engine.specs.Standing.{StandsFor, name_refusal, query_limits, define_refusal, look_refusal, run_refusal, kept_named, hits_kept, wide_kept, entries_kept, RefusedBy}
-use Rattle.tap_engine.specs.Sound.{Sound}
-use Rattle.tap_engine.specs.Stories.{Refuses, Follows}
-use Rattle.tap_engine.specs.Replies.{answer_of, accepted, answer_by, tables_after, next_query, show_box}
-use Rattle.tap_rows.specs.Kept.{In, IsOfTheSecond}
+use Rattle.tap_model.specs.Sound.{Sound}
+use Rattle.tap_model.specs.Stories.{Refuses, Follows}
+use Rattle.tap_model.specs.Replies.{tables_after, next_query, show_box}
 use Rattle.tap_rows.specs.Deliveries.{delivered}
 use Rattle.tap_rows.specs.declared.results.Entry.{Entry}
 use Rattle.tap_rows.proofs.KeptLaws.{box-is}
@@ -92,28 +90,11 @@ missing-map : (t : Tables) (o : Option QueryRow) → missing NoQuery (option_map
 missing-map t None = refl
 missing-map t (Some q) = refl
 
-pub some-none : (x : Refusal) → Some x ≡ None → ⊥
-some-none x e = cc
-
 some-entries : (xs : List Entry) → Some xs ≡ None → ⊥
 some-entries xs e = cc
 
 some-same : (xs ys : List Entry) → Some xs ≡ Some ys → xs ≡ ys
 some-same xs ys e = cc
-
-some-row : (x y : QueryRow) → Some x ≡ Some y → x ≡ y
-some-row x y e = cc
-
-no-row : (x : QueryRow) → None ≡ Some x → ⊥
-no-row x e = cc
-
--- what is found is there
-pub find-in : (p : QueryRow → Bool) (qs : List QueryRow) (q : QueryRow) → find p qs ≡ Some q → In q qs
-find-in p [] q e = absurd (no-row q e)
-find-in p (x ∷ qs) q e = go (p x) refl (find-in p qs q) where
-  go : (b : Bool) → p x ≡ b → (find p qs ≡ Some q → In q qs) → In q (x ∷ qs)
-  go true y rest = inl (sym (some-row x q (sym (ap (λ b. if b then Some x else find p qs) y) ∙ e)))
-  go false n rest = inr (rest (sym (ap (λ b. if b then Some x else find p qs) n) ∙ e))
 
 three : (a b c : Option Refusal) → option_or a (option_or b c) ≡ first_refusal (a ∷ b ∷ c ∷ [])
 three (Some x) b c = refl
@@ -178,22 +159,6 @@ run-refuses e t name notes runs picks refusal stands is-notes is-runs is-picks b
 pub run-none : (e : Engine) (t : Tables) (name : List ℕ) (notes : List Note) (runs picks : ℕ) → StandsFor e t → notes ≡ t.notes → runs ≡ length t.runs → picks ≡ length t.picks → run_refusal e notes runs picks name ≡ None → verdict (Run name) e.session t ≡ None
 run-none e t name notes runs picks stands is-notes is-runs is-picks none = sym (run-is e t name notes runs picks stands is-notes is-runs is-picks) ∙ none
 
--- what isn't refused is accepted
-pub follows-accepted : (t : Tables) (s : Session) (c : Command) → verdict c s t ≡ None → Follows t s c (accepted c s t).reply (tables_after (accepted c s t).change t) (accepted c s t).session
-follows-accepted t s c none =
-    let is : answer_of c s t ≡ accepted c s t = ap (λ v. answer_by v c s t) none in
-    record {
-      reply_is = sym (ap (λ a. a.reply) is);
-      tables_are = sym (ap (λ a. tables_after a.change t) is);
-      session_is = sym (ap (λ a. a.session) is);
-    }
-
-pub second-none : (x y : Option Refusal) (rest : List (Option Refusal)) → first_refusal (x ∷ y ∷ rest) ≡ None → y ≡ None
-second-none None None rest e = refl
-second-none None (Some y) rest e = e
-second-none (Some x) None rest e = refl
-second-none (Some x) (Some y) rest e = absurd (some-none x e)
-
 -- a query isn't defined without a moment
 pub define-moment : (e : Engine) (name source : List ℕ) → define_refusal e name source ≡ None → e.session.moment ≡ None → ⊥
 define-moment e name source none no_m = some-none NoMoment (sym (ap (λ m. option_or (missing NoMoment m) (option_or (no_user e.session) (option_or (name_refusal e (user_of e.session) name) (option_or (text_fault source) (first_refusal (query_limits e (user_of e.session) (length source))))))) no_m) ∙ none)
@@ -210,10 +175,6 @@ follows-define t s name source shown n row t' s' none count is-row is-shown is-t
       tables_are = is-t ∙ ap (λ r. after t (OneQuery r)) same ∙ follows.tables_are;
       session_is = is-s ∙ follows.session_is;
     }
-
--- a query's truth looks at nothing but the documents and notes that arrived by its second
-pub truth-of-second : (q : QueryRow) → IsOfTheSecond (truth_of q)
-truth-of-second q = of-the-second (condition_in q.source)
 
 text-late : (source : List ℕ) (rest : List (Option Refusal)) → is_early (first_refusal rest) ≡ false → is_early (option_or (text_fault source) (first_refusal rest)) ≡ false
 unfolding text_fault

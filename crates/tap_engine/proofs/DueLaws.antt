@@ -19,18 +19,19 @@ use Rattle.tap_rows.proofs.PlaceLaws.{ordinal-new, moments-new, moments-other, o
 use Rattle.tap_rows.proofs.RunLaws.{last-more}
 use Rattle.script_lang.specs.declared.command.Command.TheVariants.{Run}
 use Rattle.script_lang.specs.declared.reply.Reply.TheVariants.{Ran}
-use Rattle.tap_engine.specs.declared.session.Session.{Session}
+use Rattle.tap_model.specs.declared.session.Session.{Session}
 use Rattle.tap_engine.specs.declared.kept_query.KeptQuery.{KeptQuery}
 use Rattle.tap_engine.specs.declared.engine.Engine.{Engine}
 use Rattle.tap_engine.specs.declared.run.Due.{Due}
-use Rattle.tap_engine.specs.Sessions.{user_of, present}
-use Rattle.tap_engine.specs.Queries.{is_named, query_named, hits_of, truth_of, start_of}
-use Rattle.tap_engine.specs.Verdicts.{verdict}
+use Rattle.tap_model.specs.Sessions.{user_of, present}
+use Rattle.tap_model.specs.Queries.{is_named, query_named, hits_of, truth_of, start_of}
+use Rattle.tap_model.specs.Verdicts.{verdict}
 use Rattle.tap_engine.specs.Keeping.{kept_query, after_run}
 use Rattle.tap_engine.specs.Standing.{StandsFor, kept_named, hits_kept, due_of}
-use Rattle.tap_engine.specs.Stories.{Follows}
-use Rattle.tap_engine.specs.Replies.{run_query, tables_after}
-use Rattle.tap_engine.proofs.CheckLaws.{named-is, hits-is, find-in, follows-accepted}
+use Rattle.tap_model.specs.Stories.{Follows}
+use Rattle.tap_model.specs.Replies.{run_query, tables_after}
+use Rattle.tap_model.proofs.AnswerLaws.{find-in, follows-accepted}
+use Rattle.tap_engine.proofs.CheckLaws.{named-is, hits-is}
 
 -- what is due is due to a query that there is
 pub record IsDue (e : Engine) (t : Tables) (name : List ℕ) (due : Due) : Type 0 where

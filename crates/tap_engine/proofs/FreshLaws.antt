@@ -18,8 +18,8 @@ use Rattle.tap_rows.proofs.SecondsLaws.{least_second-same}
 use Rattle.tap_engine.proofs.SlowLaws.{first-from-arrival, least-here, least-next}
 use Rattle.tql_core.proofs.OfTheSecond.{of-the-second}
 use Rattle.snapshot_meaning.specs.Seen.{seen}
-use Rattle.tap_engine.specs.Local.{is_local, local_truth}
-use Rattle.tap_engine.specs.Queries.{condition_in, truth_of, start_of}
+use Rattle.tap_model.specs.Local.{is_local, local_truth}
+use Rattle.tap_model.specs.Queries.{condition_in, truth_of, start_of}
 use Rattle.tap_engine.specs.Fresh.{fresh_hit, fresh_of, with_hit}
 use Rattle.tap_engine.proofs.TextLaws.{truth-local}
 

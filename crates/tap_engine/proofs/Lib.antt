@@ -10,4 +10,3 @@ mod AskLaws
 mod DueLaws
 mod NoteLaws
 mod VariableLaws
-pub mod SoundLaws

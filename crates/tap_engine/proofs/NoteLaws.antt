@@ -13,16 +13,16 @@ use Rattle.script_lang.specs.declared.refusal.Refusal.TheVariants.{NoMoment}
 use Rattle.script_lang.specs.declared.command.Command.TheVariants.{AddNote}
 use Rattle.script_lang.specs.declared.reply.Reply.TheVariants.{OneNote as NoteAdded}
 use Rattle.script_lang.specs.declared.refusal.LimitName.TheVariants.{Notes, Store}
-use Rattle.tap_engine.specs.declared.limits.TheConstants.{NOTE_LIMIT, STORE_LIMIT}
-use Rattle.tap_engine.specs.Limits.{passes}
-use Rattle.tap_engine.specs.declared.session.Session.{Session}
+use Rattle.tap_model.specs.declared.limits.TheConstants.{NOTE_LIMIT, STORE_LIMIT}
+use Rattle.tap_model.specs.Limits.{passes}
+use Rattle.tap_model.specs.declared.session.Session.{Session}
 use Rattle.tap_engine.specs.declared.engine.Engine.{Engine}
-use Rattle.tap_engine.specs.Sessions.{user_of, present}
-use Rattle.tap_engine.specs.Verdicts.{first_refusal, verdict, missing, no_moment, no_user, bad_name, no_doc, long_note}
-use Rattle.tap_engine.specs.Replies.{next_note}
+use Rattle.tap_model.specs.Sessions.{user_of, present}
+use Rattle.tap_model.specs.Verdicts.{first_refusal, verdict, missing, no_moment, no_user, bad_name, no_doc, long_note}
+use Rattle.tap_model.specs.Replies.{next_note}
 use Rattle.tap_engine.specs.Standing.{StandsFor, note_bounds, note_refusal, RefusedBy}
-use Rattle.tap_engine.specs.Stories.{Refuses, Follows}
-use Rattle.tap_engine.proofs.CheckLaws.{some-none, follows-accepted}
+use Rattle.tap_model.specs.Stories.{Refuses, Follows}
+use Rattle.tap_model.proofs.AnswerLaws.{some-none, follows-accepted}
 
 four : (a b c : Option Refusal) (rest : List (Option Refusal)) → option_or a (option_or b (option_or c (first_refusal rest))) ≡ first_refusal (a ∷ b ∷ c ∷ rest)
 four (Some x) b c rest = refl

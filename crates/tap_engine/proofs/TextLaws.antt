@@ -12,9 +12,9 @@ use Rattle.tql_core.specs.Holds.{truth, truth_of, asked_of}
 use Rattle.tql_text.specs.declared.fault.TextFault.{TextFault}
 use Rattle.tql_text.specs.declared.fault.TextFault.TheVariants as T
 use Rattle.tql_text.specs.Texts.{condition_of}
-use Rattle.tap_engine.specs.Local.{is_local, local_truth}
-use Rattle.tap_engine.specs.Queries.{or_never, condition_in}
-use Rattle.tap_engine.specs.Verdicts.{fault_refusal, reading_refusal, text_fault}
+use Rattle.tap_model.specs.Local.{is_local, local_truth}
+use Rattle.tap_model.specs.Queries.{or_never, condition_in}
+use Rattle.tap_model.specs.Verdicts.{fault_refusal, reading_refusal, text_fault}
 
 both-true : (a b : Bool) → (a && b) ≡ true → (a ≡ true) × (b ≡ true)
 both-true true true e = (refl, refl)

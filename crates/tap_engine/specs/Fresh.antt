@@ -7,7 +7,7 @@ use Rattle.tap_rows.specs.declared.rows.QueryRow.{QueryRow}
 use Rattle.tap_rows.specs.declared.results.Hit.{Hit}
 use Rattle.tap_rows.specs.Results.{first_second, hit_of, at_least, in_order, put_in}
 use Rattle.snapshot_meaning.specs.Seen.{seen}
-use Rattle.tap_engine.specs.Queries.{truth_of, start_of}
+use Rattle.tap_model.specs.Queries.{truth_of, start_of}
 
 -- a document with its first second, where that is from tau on and below t
 unfoldable pub fresh_hit : QueryRow → List Doc → List Note → ℤ → ℤ → Doc → Option Hit

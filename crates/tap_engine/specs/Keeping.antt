@@ -8,7 +8,7 @@ use Rattle.tap_rows.specs.declared.results.Entry.{Entry}
 use Rattle.tap_rows.specs.Results.{run_moments, covered}
 use Rattle.tap_rows.specs.Deliveries.{delivered}
 use Rattle.tap_engine.specs.declared.kept_query.KeptQuery.{KeptQuery}
-use Rattle.tap_engine.specs.Queries.{start_of, is_named}
+use Rattle.tap_model.specs.Queries.{start_of, is_named}
 
 -- what is kept of a query: its row, the second that it has covered up to, how many runs it had, and what it has delivered
 abbrev pub kept_query : Tables → QueryRow → KeptQuery

@@ -1,13 +1,3 @@
-pub mod Sessions
-pub mod Local
-pub mod Queries
-pub mod Limits
-pub mod Wide
 pub mod Fresh
-pub mod Verdicts
-pub mod Replies
-pub mod Stories
-pub mod Sound
 pub mod Keeping
 pub mod Standing
-pub mod Laws

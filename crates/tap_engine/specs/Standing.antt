@@ -9,14 +9,14 @@ use Rattle.tap_rows.specs.declared.results.Entry.{Entry}
 use Rattle.script_lang.specs.declared.refusal.Refusal.{Refusal}
 use Rattle.script_lang.specs.declared.refusal.Refusal.TheVariants.{Taken, NoQuery, Memory}
 use Rattle.script_lang.specs.declared.refusal.LimitName.TheVariants.{Notes, Queries, AllQueries, Users, Runs, Picks, Store}
-use Rattle.tap_engine.specs.declared.limits.TheConstants.{NOTE_LIMIT, USER_QUERY_LIMIT, QUERY_LIMIT, USER_LIMIT, RUN_LIMIT, PICK_LIMIT, STORE_LIMIT}
+use Rattle.tap_model.specs.declared.limits.TheConstants.{NOTE_LIMIT, USER_QUERY_LIMIT, QUERY_LIMIT, USER_LIMIT, RUN_LIMIT, PICK_LIMIT, STORE_LIMIT}
 use Rattle.tap_engine.specs.declared.kept_query.KeptQuery.{KeptQuery}
 use Rattle.tap_engine.specs.declared.engine.Engine.{Engine}
 use Rattle.tap_engine.specs.declared.run.Due.{Due}
-use Rattle.tap_engine.specs.Sessions.{present, user_of, greatest_moment}
+use Rattle.tap_model.specs.Sessions.{present, user_of, greatest_moment}
 use Rattle.tap_engine.specs.Fresh.{fresh_of}
-use Rattle.tap_engine.specs.Limits.{stored_bytes, owners_in, different, passes}
-use Rattle.tap_engine.specs.Verdicts.{missing, unless, first_refusal, no_moment, no_user, bad_name, text_fault, wide_refusal, no_doc, long_note, is_early}
+use Rattle.tap_model.specs.Limits.{stored_bytes, owners_in, different, passes}
+use Rattle.tap_model.specs.Verdicts.{missing, unless, first_refusal, no_moment, no_user, bad_name, text_fault, wide_refusal, no_doc, long_note, is_early}
 use Rattle.tap_engine.specs.Keeping.{kept_query, named_in, owned_in}
 
 -- the engine stands for the tables: it keeps their documents and queries, how many bytes they store, and who owns a

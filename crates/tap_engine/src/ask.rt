@@ -3,8 +3,8 @@ ghost use Rattle.std.specs.Result.{result_err};
 ghost use Rattle.script_lang.specs.declared.command.Command.{Command};
 ghost use Rattle.script_lang.specs.declared.refusal.Refusal.{Refusal};
 ghost use Rattle.script_lang.specs.Replies.{HasShortNames, is_accepted};
-ghost use Rattle.tap_engine.specs.Stories.{Follows, Refuses};
-ghost use Rattle.tap_engine.specs.Verdicts.{unless};
+ghost use Rattle.tap_model.specs.Stories.{Follows, Refuses};
+ghost use Rattle.tap_model.specs.Verdicts.{unless};
 
 use crate::engine::Engine;
 use crate::sessions::second_of;

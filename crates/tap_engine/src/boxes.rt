@@ -2,8 +2,8 @@ ghost use Rattle.std.specs.Prelude.{◌≡◌, None, Some, true, OnOk, IfOk, IfE
 ghost use Rattle.script_lang.specs.declared.command.Command.{Command};
 ghost use Rattle.script_lang.specs.Replies.{HasShortNames, is_accepted};
 ghost use Rattle.tap_base.specs.Names.{is_name};
-ghost use Rattle.tap_engine.specs.Sound.{Sound};
-ghost use Rattle.tap_engine.specs.Stories.{Follows, Refuses};
+ghost use Rattle.tap_model.specs.Sound.{Sound};
+ghost use Rattle.tap_model.specs.Stories.{Follows, Refuses};
 
 use crate::engine::Engine;
 use script_lang::{Refusal, Reply};

@@ -2,9 +2,9 @@ ghost use Rattle.std.specs.Prelude.{◌≡◌, length};
 ghost use Rattle.tap_rows.specs.Tables.{no_rows};
 
 use crate::kept_queries::KeptQueries;
-use crate::session::Session;
 use std::alloc::Global;
 use tap_base::{Rows, Texts};
+use tap_model::Session;
 use tap_rows::KeptDoc;
 
 /// What is kept of the tables, so that a command is answered at the cost of what it looks at.
@@ -20,7 +20,7 @@ pub struct Engine {
 }
 
 impl Engine {
-    ghost use Rattle.tap_engine.specs.Sessions.{no_session};
+    ghost use Rattle.tap_model.specs.Sessions.{no_session};
     ghost use Rattle.tap_engine.specs.Standing.{StandsFor};
 
     /// An engine with a new session that stands for the empty tables.

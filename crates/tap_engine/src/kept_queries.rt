@@ -3,7 +3,7 @@ ghost use Rattle.std.specs.Option.{option_copied};
 ghost use Rattle.std.specs.Str.{bytes_eq};
 ghost use Rattle.tap_rows.specs.Tables.{after};
 ghost use Rattle.tap_rows.specs.declared.change.Change.{Change};
-ghost use Rattle.tap_engine.specs.Queries.{is_named};
+ghost use Rattle.tap_model.specs.Queries.{is_named};
 ghost use Rattle.tap_engine.specs.declared.kept_query.KeptQuery.{KeptQuery};
 ghost use Rattle.tap_engine.specs.Keeping.{after_run, named_in, owned_in};
 

@@ -17,7 +17,7 @@ pub struct KeptQuery {
 }
 
 impl KeptQuery {
-    ghost use Rattle.tap_engine.specs.Queries.{start_of};
+    ghost use Rattle.tap_model.specs.Queries.{start_of};
     ghost use Rattle.tap_engine.specs.Keeping.{new_kept, after_run};
 
     // A query that was never run.

@@ -4,8 +4,8 @@ ghost use Rattle.snapshot_meaning.specs.Seen.{exists_in};
 ghost use Rattle.tap_rows.specs.declared.rows.QueryRow.{QueryRow};
 ghost use Rattle.tap_rows.specs.Results.{is_given};
 ghost use Rattle.snapshot_meaning.specs.Seen.{seen};
-ghost use Rattle.tap_engine.specs.Local.{is_local, local_truth};
-ghost use Rattle.tap_engine.specs.Queries.{condition_in, truth_of};
+ghost use Rattle.tap_model.specs.Local.{is_local, local_truth};
+ghost use Rattle.tap_model.specs.Queries.{condition_in, truth_of};
 
 use snapshot_meaning::{holds_at, is_doc_given};
 use std::marker::Model;
@@ -58,7 +58,7 @@ impl KeptRow {
     }
 
     // Is the condition true of the document, where it speaks of neither now nor other rows?
-    #[tactic(auto, unfolding(crate::specs::Local::local_truth))]
+    #[tactic(auto, unfolding(tap_model::specs::Local::local_truth))]
     pub(crate) fn is_true_of(&self, doc: &KeptDoc) -> bool
         ensures { result ≡ local_truth (condition_in self.now.source) doc.now }
     {

@@ -4,17 +4,18 @@ ghost use Rattle.tap_rows.specs.declared.change.Change.{Change};
 ghost use Rattle.tap_rows.specs.Tables.{after};
 ghost use Rattle.script_lang.specs.declared.command.Command.{Command};
 ghost use Rattle.script_lang.specs.Replies.{HasShortNames, is_accepted};
-ghost use Rattle.tap_engine.specs.Verdicts.{too_long, text_of};
-ghost use Rattle.tap_engine.specs.Replies.{next_doc};
-ghost use Rattle.tap_engine.specs.Stories.{Follows, Refuses};
+ghost use Rattle.tap_model.specs.Verdicts.{too_long, text_of};
+ghost use Rattle.tap_model.specs.Replies.{next_doc};
+ghost use Rattle.tap_model.specs.Stories.{Follows, Refuses};
 
 use crate::engine::Engine;
-use crate::limits::{DOCUMENT_LIMIT, STORE_LIMIT, refuse_more};
+use crate::limits::refuse_more;
 use mail_fields::keep;
 use mail_lines::Block;
 use script_lang::{LimitName, MESSAGE_LIMIT, Refusal, Reply};
 use std::alloc::Global;
 use tap_base::{DocNum, Memory, Rows, Text};
+use tap_model::{DOCUMENT_LIMIT, STORE_LIMIT};
 use tap_rows::{Change, Doc, KeptDoc, Tables};
 
 // The text of a message that isn't too long.

@@ -4,20 +4,21 @@ ghost use Rattle.tap_rows.specs.declared.change.Change.{Change};
 ghost use Rattle.tap_rows.specs.Tables.{after};
 ghost use Rattle.script_lang.specs.declared.command.Command.{Command};
 ghost use Rattle.script_lang.specs.Replies.{HasShortNames, is_accepted};
-ghost use Rattle.tap_engine.specs.Sessions.{present, user_of};
-ghost use Rattle.tap_engine.specs.Sound.{Sound};
-ghost use Rattle.tap_engine.specs.Stories.{Follows, Refuses};
-ghost use Rattle.tap_engine.specs.Verdicts.{no_doc, long_note};
+ghost use Rattle.tap_model.specs.Sessions.{present, user_of};
+ghost use Rattle.tap_model.specs.Sound.{Sound};
+ghost use Rattle.tap_model.specs.Stories.{Follows, Refuses};
+ghost use Rattle.tap_model.specs.Verdicts.{no_doc, long_note};
 
 use crate::engine::Engine;
-use crate::limits::{NOTE_LIMIT, NOTE_TEXT_LIMIT, STORE_LIMIT, refuse_more};
+use crate::limits::refuse_more;
 use crate::sessions::refuse_name;
 use script_lang::{LimitName, Refusal, Reply};
 use tap_base::{DocNum, Memory, NoteNum, Text};
+use tap_model::{NOTE_LIMIT, NOTE_TEXT_LIMIT, STORE_LIMIT};
 use tap_rows::{Change, Note, Tables};
 
 // Refuses a number that is no document's, where there are so many.
-#[tactic(auto, unfolding(crate::specs::Verdicts::no_doc))]
+#[tactic(auto, unfolding(tap_model::specs::Verdicts::no_doc))]
 fn refuse_doc(doc: u32, count: usize) -> Result<(), Refusal>
     ensures { result_err result ≡ no_doc doc count }
 {
@@ -29,7 +30,7 @@ fn refuse_doc(doc: u32, count: usize) -> Result<(), Refusal>
 }
 
 // Refuses a note of so many bytes that is too long.
-#[tactic(auto, unfolding(crate::specs::Verdicts::long_note))]
+#[tactic(auto, unfolding(tap_model::specs::Verdicts::long_note))]
 fn refuse_long(len: usize) -> Result<(), Refusal>
     ensures { result_err result ≡ long_note len }
 {

@@ -1,7 +1,7 @@
 ghost use Rattle.std.specs.Prelude.{◌≡◌, true, false, OnOk, OnErr, IfOk, IfErr};
 ghost use Rattle.script_lang.specs.Replies.{HasShortNames, is_accepted};
-ghost use Rattle.tap_engine.specs.Sound.{Sound};
-ghost use Rattle.tap_engine.specs.Stories.{Follows, Refuses, Step};
+ghost use Rattle.tap_model.specs.Sound.{Sound};
+ghost use Rattle.tap_model.specs.Stories.{Follows, Refuses, Step};
 
 use crate::engine::Engine;
 use script_lang::{Command, Refusal, Reply};

@@ -12,24 +12,25 @@ ghost use Rattle.tap_rows.specs.Deliveries.{pick_rows};
 ghost use Rattle.tap_rows.specs.Results.{entry_at};
 ghost use Rattle.script_lang.specs.declared.command.Command.{Command};
 ghost use Rattle.script_lang.specs.Replies.{HasShortNames, is_accepted};
-ghost use Rattle.tap_engine.specs.Local.{local_truth};
+ghost use Rattle.tap_model.specs.Local.{local_truth};
 ghost use Rattle.tap_engine.specs.Fresh.{fresh_of};
-ghost use Rattle.tap_engine.specs.Wide.{is_long};
-ghost use Rattle.tap_engine.specs.Verdicts.{wide_refusal};
-ghost use Rattle.tap_engine.specs.Queries.{condition_in};
+ghost use Rattle.tap_model.specs.Wide.{is_long};
+ghost use Rattle.tap_model.specs.Verdicts.{wide_refusal};
+ghost use Rattle.tap_model.specs.Queries.{condition_in};
 ghost use Rattle.tap_engine.specs.declared.kept_query.KeptQuery.{KeptQuery};
 ghost use Rattle.tap_engine.specs.Keeping.{after_run};
-ghost use Rattle.tap_engine.specs.Sessions.{present};
-ghost use Rattle.tap_engine.specs.Sound.{Sound};
-ghost use Rattle.tap_engine.specs.Stories.{Follows, Refuses};
+ghost use Rattle.tap_model.specs.Sessions.{present};
+ghost use Rattle.tap_model.specs.Sound.{Sound};
+ghost use Rattle.tap_model.specs.Stories.{Follows, Refuses};
 
 use crate::engine::Engine;
 use crate::kept_row::KeptRow;
-use crate::limits::{PICK_LIMIT, RUN_LIMIT, SECOND_LIMIT, refuse_more};
+use crate::limits::refuse_more;
 use crate::slow_run::slow_hits;
 use script_lang::{LimitName, Refusal, Reply};
 use std::alloc::Global;
 use tap_base::{Memory, QueryNum, Rows};
+use tap_model::{PICK_LIMIT, RUN_LIMIT, SECOND_LIMIT};
 use tap_rows::{Change, Entry, Hit, KeptDoc, Note, Pick, RunRow, Tables};
 
 /// What a run is about to deliver.
@@ -144,7 +145,7 @@ fn is_long(docs: &[KeptDoc], moment: i64) -> bool
 }
 
 // Refuses a query that speaks of now or of other rows, where a run would try too many seconds.
-#[tactic(auto, unfolding(crate::specs::Verdicts::wide_refusal))]
+#[tactic(auto, unfolding(tap_model::specs::Verdicts::wide_refusal))]
 fn refuse_wide(query: &KeptRow, docs: &[KeptDoc], moment: i64) -> Result<(), Refusal>
     ensures { result_err result ≡ wide_refusal query.now.source docs.now moment }
 {

@@ -6,8 +6,8 @@ ghost use Rattle.tap_base.specs.Names.{is_name};
 ghost use Rattle.tap_rows.specs.declared.tables.Tables.{Tables};
 ghost use Rattle.script_lang.specs.declared.command.Command.{Command};
 ghost use Rattle.script_lang.specs.Replies.{HasShortNames, is_accepted};
-ghost use Rattle.tap_engine.specs.Verdicts.{is_back, bad_name, verdict};
-ghost use Rattle.tap_engine.specs.Stories.{Follows, Refuses};
+ghost use Rattle.tap_model.specs.Verdicts.{is_back, bad_name, verdict};
+ghost use Rattle.tap_model.specs.Stories.{Follows, Refuses};
 
 use crate::engine::Engine;
 use script_lang::{Refusal, Reply};
@@ -31,7 +31,7 @@ fn refuse_back(last: Option<i64>, second: i64) -> Result<(), Refusal>
 }
 
 // Refuses a text that is no name.
-#[tactic(auto, unfolding(crate::specs::Verdicts::bad_name))]
+#[tactic(auto, unfolding(tap_model::specs::Verdicts::bad_name))]
 pub(crate) fn refuse_name(name: &[u8]) -> Result<(), Refusal>
     ensures value { result_err result ≡ bad_name name.now }
     ensures name { OnOk result (is_name name.now ≡ true) }

@@ -4,7 +4,7 @@ ghost use Rattle.tap_rows.specs.Results.{is_given, hit_of, at_least, put_in, is_
 ghost use Rattle.tap_rows.specs.Seconds.{least_second};
 ghost use Rattle.tap_rows.specs.Arrivals.{Arrived};
 ghost use Rattle.snapshot_meaning.specs.Seen.{seen};
-ghost use Rattle.tap_engine.specs.Queries.{truth_of};
+ghost use Rattle.tap_model.specs.Queries.{truth_of};
 ghost use Rattle.tap_engine.specs.Fresh.{fresh_hit, fresh_of, with_hit};
 
 use crate::kept_row::KeptRow;

@@ -3,8 +3,8 @@ ghost use Rattle.script_lang.specs.declared.refusal.Refusal.{Refusal};
 ghost use Rattle.tql_core.specs.Condition.{condition};
 ghost use Rattle.tql_text.specs.Texts.{condition_of};
 ghost use Rattle.snapshot_meaning.specs.Seen.{exists_in};
-ghost use Rattle.tap_engine.specs.Queries.{condition_in};
-ghost use Rattle.tap_engine.specs.Verdicts.{fault_refusal, text_fault};
+ghost use Rattle.tap_model.specs.Queries.{condition_in};
+ghost use Rattle.tap_model.specs.Verdicts.{fault_refusal, text_fault};
 
 use script_lang::Refusal;
 use std::alloc::Global;

@@ -10,10 +10,10 @@ use Rattle.tap_rows.specs.declared.tables.Tables.{Tables}
 use Rattle.tap_rows.specs.Tables.{no_rows}
 use Rattle.script_lang.specs.declared.command.Command.{Command}
 use Rattle.script_lang.specs.Script.{script, complete, Reading, new_reading, script_from, complete_from}
-use Rattle.tap_engine.specs.declared.session.Session.{Session}
-use Rattle.tap_engine.specs.Sessions.{no_session}
-use Rattle.tap_engine.specs.Sound.{Sound}
-use Rattle.tap_engine.proofs.SoundLaws.{sound-start}
+use Rattle.tap_model.specs.declared.session.Session.{Session}
+use Rattle.tap_model.specs.Sessions.{no_session}
+use Rattle.tap_model.specs.Sound.{Sound}
+use Rattle.tap_model.proofs.SoundLaws.{sound-start}
 use Rattle.tap_top.specs.declared.top.TheConstants.{SCRIPT_LIMIT, PIECE}
 use Rattle.tap_top.specs.Answers.{Answered, Closed, ClosedCut}
 use Rattle.tap_top.specs.Pieces.{Went, WentCut, WentShort}

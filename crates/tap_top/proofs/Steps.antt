@@ -6,8 +6,8 @@ use Rattle.std.proofs.lemmas.Grind.{common_steps}
 use Rattle.tap_rows.specs.declared.tables.Tables.{Tables}
 use Rattle.script_lang.specs.declared.command.Command.{Command}
 use Rattle.script_lang.specs.Script.{Reading, script_from, complete_from}
-use Rattle.tap_engine.specs.declared.session.Session.{Session}
-use Rattle.tap_engine.specs.Sound.{Sound}
+use Rattle.tap_model.specs.declared.session.Session.{Session}
+use Rattle.tap_model.specs.Sound.{Sound}
 use Rattle.tap_top.specs.Answers.{Answered, CutOff}
 use Rattle.tap_top.specs.Pieces.{Went, WentCut, WentShort}
 use Rattle.tap_top.proofs.Stories.{Answered-none, Answered-then, CutOff-then}

@@ -11,10 +11,10 @@ use Rattle.script_lang.specs.declared.reply.Reply.{Reply}
 use Rattle.script_lang.specs.Replies.{reply_bytes, TookSome, is_accepted}
 use Rattle.script_lang.proofs.Puts.{Appends-more, Appends-none}
 use Rattle.tap_edges.specs.declared.edges.PutFailed.{PutFailed}
-use Rattle.tap_engine.specs.declared.session.Session.{Session}
-use Rattle.tap_engine.specs.Sound.{Sound}
-use Rattle.tap_engine.specs.Stories.{Step, Story}
-use Rattle.tap_engine.proofs.SoundLaws.{step-sound}
+use Rattle.tap_model.specs.declared.session.Session.{Session}
+use Rattle.tap_model.specs.Sound.{Sound}
+use Rattle.tap_model.specs.Stories.{Step, Story}
+use Rattle.tap_model.proofs.SoundLaws.{step-sound}
 use Rattle.tap_top.specs.Points.{SoundAlong}
 use Rattle.tap_top.specs.Answers.{Answered, CutOff}
 

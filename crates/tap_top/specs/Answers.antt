@@ -6,8 +6,8 @@ use Rattle.tap_rows.specs.declared.tables.Tables.{Tables}
 use Rattle.script_lang.specs.declared.command.Command.{Command}
 use Rattle.script_lang.specs.declared.reply.Reply.{Reply}
 use Rattle.script_lang.specs.Replies.{reply_bytes, is_accepted}
-use Rattle.tap_engine.specs.declared.session.Session.{Session}
-use Rattle.tap_engine.specs.Stories.{Story}
+use Rattle.tap_model.specs.declared.session.Session.{Session}
+use Rattle.tap_model.specs.Stories.{Story}
 use Rattle.tap_top.specs.Points.{SoundAlong}
 
 -- the commands were answered as in a story, and their replies were taken

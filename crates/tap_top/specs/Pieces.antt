@@ -3,7 +3,7 @@ use Rattle.std.specs.Prelude.{ℕ, ◌≡◌, List, [], ◌∷◌, ◌++◌, Boo
 use Rattle.tap_rows.specs.declared.tables.Tables.{Tables}
 use Rattle.script_lang.specs.declared.command.Command.{Command}
 use Rattle.script_lang.specs.Script.{Reading, script_from, complete_from}
-use Rattle.tap_engine.specs.declared.session.Session.{Session}
+use Rattle.tap_model.specs.declared.session.Session.{Session}
 use Rattle.tap_top.specs.Answers.{Answered, CutOff}
 
 -- a reader took bytes, the commands that they completed were answered, and their replies were taken

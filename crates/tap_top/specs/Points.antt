@@ -3,9 +3,9 @@ use Rattle.std.specs.Prelude.{List, [], ◌∷◌}
 use Rattle.tap_rows.specs.declared.tables.Tables.{Tables}
 use Rattle.script_lang.specs.declared.command.Command.{Command}
 use Rattle.script_lang.specs.declared.reply.Reply.{Reply}
-use Rattle.tap_engine.specs.declared.session.Session.{Session}
-use Rattle.tap_engine.specs.Sound.{Sound}
-use Rattle.tap_engine.specs.Stories.{Story}
+use Rattle.tap_model.specs.declared.session.Session.{Session}
+use Rattle.tap_model.specs.Sound.{Sound}
+use Rattle.tap_model.specs.Stories.{Story}
 
 -- the tables and the session are sound at each point of a story: before each command, and at the end
 abbrev pub SoundAlong : (tables : Tables) (session : Session) (commands : List Command) (replies : List Reply) (tables' : Tables) (session' : Session) → Story tables session commands replies tables' session' → Type 0

@@ -4,8 +4,8 @@ use Rattle.std.specs.Io.KnownBytes.{Consumes, IsAtEnd}
 use Rattle.tap_rows.specs.declared.tables.Tables.{Tables}
 use Rattle.script_lang.specs.declared.command.Command.{Command}
 use Rattle.script_lang.specs.Script.{script, complete}
-use Rattle.tap_engine.specs.declared.session.Session.{Session}
-use Rattle.tap_engine.specs.Sessions.{no_session}
+use Rattle.tap_model.specs.declared.session.Session.{Session}
+use Rattle.tap_model.specs.Sessions.{no_session}
 use Rattle.tap_top.specs.declared.top.TheConstants.{SCRIPT_LIMIT, PIECE}
 use Rattle.tap_top.specs.Answers.{Answered, CutOff}
 

@@ -3,7 +3,7 @@ ghost use Rattle.tap_edges.specs.Edges.{HasCause, Rose};
 ghost use Rattle.script_lang.specs.Replies.{is_accepted};
 ghost use Rattle.script_lang.specs.Script.{script_from, complete_from};
 ghost use Rattle.tap_engine.specs.Standing.{StandsFor};
-ghost use Rattle.tap_engine.specs.Sound.{Sound};
+ghost use Rattle.tap_model.specs.Sound.{Sound};
 ghost use Rattle.tap_top.specs.Answers.{Answered, CutOff, ClosedCut};
 ghost use Rattle.tap_top.specs.Pieces.{Went, WentCut, WentShort};
 ghost use Rattle.tap_top.specs.declared.feed.Stop.{Stop};

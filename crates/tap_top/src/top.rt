@@ -2,9 +2,9 @@ ghost use Rattle.std.specs.Prelude.{◌≡◌, ◌≤◌, ◌<◌, ◌+◌, ◌�
 ghost use Rattle.tap_edges.specs.Edges.{Rose};
 ghost use Rattle.tap_rows.specs.Tables.{no_rows};
 ghost use Rattle.script_lang.specs.Script.{script_from};
-ghost use Rattle.tap_engine.specs.Sessions.{no_session};
+ghost use Rattle.tap_model.specs.Sessions.{no_session};
 ghost use Rattle.tap_engine.specs.Standing.{StandsFor};
-ghost use Rattle.tap_engine.specs.Sound.{Sound};
+ghost use Rattle.tap_model.specs.Sound.{Sound};
 ghost use Rattle.tap_top.specs.Points.{IsSound};
 ghost use Rattle.tap_top.specs.Answers.{Closed, ClosedCut};
 ghost use Rattle.tap_top.specs.Statuses.{Whole, ReadCut, TooLong, Starved, PutCut, HoldsScript};

@@ -1,8 +1,8 @@
 use Rattle.std.proofs.Common.{◌≡◌, ◌++◌, drop}
 use Rattle.std.specs.List.{filter_map}
 use Rattle.tap_rows.specs.Constant.{arrival_hit}
-use Rattle.tap_engine.specs.Local.{local_truth}
-use Rattle.tap_engine.specs.Queries.{condition_in}
+use Rattle.tap_model.specs.Local.{local_truth}
+use Rattle.tap_model.specs.Queries.{condition_in}
 use Rattle.tap_engine.proofs.run.arrived_with.Given as goal
 
 -- the hits so far, and those of the documents that are left

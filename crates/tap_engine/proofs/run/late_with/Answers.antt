@@ -3,8 +3,8 @@ use Rattle.std.proofs.lemmas.Int.{to_z-of_z}
 use Rattle.std.proofs.lemmas.Result.{IfOk-weaker}
 use Rattle.std.specs.List.{filter_map}
 use Rattle.tap_rows.specs.Constant.{arrival_hit}
-use Rattle.tap_engine.specs.Local.{local_truth}
-use Rattle.tap_engine.specs.Queries.{condition_in}
+use Rattle.tap_model.specs.Local.{local_truth}
+use Rattle.tap_model.specs.Queries.{condition_in}
 use Rattle.tap_engine.proofs.run.late_with.Goals as goal
 
 pub returns : goal.returns

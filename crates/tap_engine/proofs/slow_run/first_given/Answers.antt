@@ -2,7 +2,7 @@ use Rattle.std.proofs.Common.{rules, ◌∙◌, sym, w64, to_z, of_z}
 use Rattle.std.proofs.lemmas.Int.{to_z-of_z}
 use Rattle.tap_rows.specs.Results.{is_given}
 use Rattle.snapshot_meaning.specs.Seen.{seen}
-use Rattle.tap_engine.specs.Queries.{truth_of}
+use Rattle.tap_model.specs.Queries.{truth_of}
 use Rattle.tap_engine.proofs.FreshLaws.{found, one-less}
 use Rattle.tap_engine.proofs.slow_run.first_given.Goals as goal
 

@@ -3,7 +3,7 @@ use Rattle.std.specs.Int.{int_gap}
 use Rattle.tap_rows.specs.Results.{is_given}
 use Rattle.tap_rows.specs.Seconds.{least_second}
 use Rattle.snapshot_meaning.specs.Seen.{seen}
-use Rattle.tap_engine.specs.Queries.{truth_of}
+use Rattle.tap_model.specs.Queries.{truth_of}
 use Rattle.tap_engine.proofs.slow_run.first_given.Given as goal
 
 -- the least second is among those that are left

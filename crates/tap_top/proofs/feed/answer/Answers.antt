@@ -1,4 +1,4 @@
-use Rattle.tap_engine.proofs.SoundLaws.{step-sound}
+use Rattle.tap_model.proofs.SoundLaws.{step-sound}
 use Rattle.tap_top.proofs.Stories.{Answered-one, CutOff-one}
 use Rattle.tap_top.proofs.feed.answer.Goals as goal
 

@@ -1,6 +1,6 @@
 use Rattle.std.proofs.Common.{◌≤◌, length}
 use Rattle.tap_engine.specs.Standing.{StandsFor}
-use Rattle.tap_engine.specs.Sound.{Sound}
+use Rattle.tap_model.specs.Sound.{Sound}
 use Rattle.tap_top.proofs.Steps.{Feeding}
 use Rattle.tap_top.proofs.feed.feed.Given as goal
 

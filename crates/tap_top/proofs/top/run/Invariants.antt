@@ -1,6 +1,6 @@
 use Rattle.std.proofs.Common.{◌≤◌, ◌-◌, ◌+◌}
 use Rattle.tap_engine.specs.Standing.{StandsFor}
-use Rattle.tap_engine.specs.Sound.{Sound}
+use Rattle.tap_model.specs.Sound.{Sound}
 use Rattle.tap_top.specs.declared.top.TheConstants.{SCRIPT_LIMIT, PIECE}
 use Rattle.tap_top.proofs.Runs.{Running}
 use Rattle.tap_top.proofs.top.run.Given as goal

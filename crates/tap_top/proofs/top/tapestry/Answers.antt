@@ -1,4 +1,4 @@
-use Rattle.tap_engine.specs.Sessions.{no_session}
+use Rattle.tap_model.specs.Sessions.{no_session}
 use Rattle.tap_top.proofs.Runs.{start-sound, not-long, completes}
 use Rattle.tap_top.proofs.top.tapestry.Goals as goal
 

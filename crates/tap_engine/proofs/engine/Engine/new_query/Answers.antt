@@ -1,8 +1,8 @@
 use Rattle.std.proofs.Common.{rules, ◌≡◌, subst, Some, None}
 use Rattle.std.specs.Prelude.{◌⊎◌}
 use Rattle.script_lang.specs.declared.refusal.Refusal.TheVariants.{Memory}
-use Rattle.tap_engine.specs.Sessions.{user_of}
-use Rattle.tap_engine.specs.Verdicts.{no_moment, no_user, text_fault}
+use Rattle.tap_model.specs.Sessions.{user_of}
+use Rattle.tap_model.specs.Verdicts.{no_moment, no_user, text_fault}
 use Rattle.tap_engine.specs.Standing.{name_refusal}
 use Rattle.tap_engine.proofs.CheckLaws.{text-refused}
 use Rattle.tap_engine.proofs.engine.Engine.new_query.Goals as goal

@@ -1,6 +1,6 @@
 use Rattle.std.proofs.Common.{rules, ◌∙◌, sym, ap, ◌+◌, w64}
 use Rattle.std.proofs.lemmas.Int.{to_z-of_z}
-use Rattle.tap_engine.specs.Sessions.{user_of, present}
+use Rattle.tap_model.specs.Sessions.{user_of, present}
 use Rattle.tap_engine.proofs.NoteLaws.{note-verdict, note-refuses, note-moment, follows-note, stands-note}
 use Rattle.tap_engine.proofs.engine.Engine.note.Goals as goal
 

@@ -1,6 +1,6 @@
 use Rattle.std.proofs.Common.{◌≡◌, drop}
 use Rattle.std.specs.Prelude.{find}
-use Rattle.tap_engine.specs.Queries.{is_named}
+use Rattle.tap_model.specs.Queries.{is_named}
 use Rattle.tap_engine.proofs.kept_queries.KeptQueries.named.Given as goal
 
 -- the query is among those that are left

@@ -17,10 +17,10 @@ use Rattle.script_lang.specs.declared.refusal.Refusal.{Refusal}
 use Rattle.script_lang.specs.declared.refusal.Refusal.TheVariants.{NotBuilt, BadMoment, NoQuery}
 use Rattle.script_lang.specs.declared.reply.Reply.{Reply}
 use Rattle.script_lang.specs.declared.reply.Reply.TheVariants.{At as SetAt, AsUser as SetUser, OneDoc, OneNote as NoteAdded, Defined, Ran, BoxOf as Boxed, Asked, No}
-use Rattle.tap_engine.specs.declared.session.Session.{Session}
-use Rattle.tap_engine.specs.Sessions.{present, user_of}
-use Rattle.tap_engine.specs.Queries.{condition_in, truth_of, start_of, query_named, hits_of, box_in}
-use Rattle.tap_engine.specs.Verdicts.{text_of, verdict}
+use Rattle.tap_model.specs.declared.session.Session.{Session}
+use Rattle.tap_model.specs.Sessions.{present, user_of}
+use Rattle.tap_model.specs.Queries.{condition_in, truth_of, start_of, query_named, hits_of, box_in}
+use Rattle.tap_model.specs.Verdicts.{text_of, verdict}
 
 -- a command's reply, the session after it, and the rows that it adds
 pub record Answer : Type 0 where

@@ -1,9 +1,9 @@
 -- Runs that would try too many seconds.
 use Rattle.std.specs.Prelude.{ℕ, ℤ, pos, ◌+ℤ◌, List, [], ◌∷◌, Bool, false, ◌&&◌, not, int_lt}
 use Rattle.tap_rows.specs.declared.rows.Doc.{Doc}
-use Rattle.tap_engine.specs.declared.limits.TheConstants.{SECOND_LIMIT}
-use Rattle.tap_engine.specs.Local.{is_local}
-use Rattle.tap_engine.specs.Queries.{condition_in}
+use Rattle.tap_model.specs.declared.limits.TheConstants.{SECOND_LIMIT}
+use Rattle.tap_model.specs.Local.{is_local}
+use Rattle.tap_model.specs.Queries.{condition_in}
 
 -- are there more seconds from the first document's arrival to this moment than are tried?
 abbrev pub is_long : List Doc → ℤ → Bool

@@ -3,10 +3,10 @@ use Rattle.tap_rows.specs.declared.tables.Tables.{Tables}
 use Rattle.tap_rows.specs.Tables.{no_rows}
 use Rattle.script_lang.specs.declared.command.Command.{Command}
 use Rattle.script_lang.specs.declared.reply.Reply.{Reply}
-use Rattle.tap_engine.specs.declared.session.Session.{Session}
-use Rattle.tap_engine.specs.Sessions.{no_session}
-use Rattle.tap_engine.specs.Stories.{Step}
-use Rattle.tap_engine.specs.Sound.{Sound}
+use Rattle.tap_model.specs.declared.session.Session.{Session}
+use Rattle.tap_model.specs.Sessions.{no_session}
+use Rattle.tap_model.specs.Stories.{Step}
+use Rattle.tap_model.specs.Sound.{Sound}
 
 -- a new session over no rows is sound, and each step keeps that
 pub record StepsAreSound : Type 0 where

@@ -2,7 +2,7 @@
 use Rattle.std.specs.Prelude.{ℕ, ℤ, pos, List, [], ◌∷◌, ◌++◌, map, Option, Some, None, int_le, if◌then◌else◌}
 use Rattle.std.specs.Option.{option_or}
 use Rattle.tap_rows.specs.declared.tables.Tables.{Tables}
-use Rattle.tap_engine.specs.declared.session.Session.{Session}
+use Rattle.tap_model.specs.declared.session.Session.{Session}
 
 -- a session begins without a moment and without a user
 abbrev pub no_session : Session

@@ -1,5 +1,5 @@
 //! Laws of stories.
-ghost use Rattle.tap_engine.specs.Laws.{StepsAreSound};
+ghost use Rattle.tap_model.specs.Laws.{StepsAreSound};
 
 /// Each step keeps what holds of the tables and the session at every point of a story, and above all that what each query
 /// has delivered is its box.

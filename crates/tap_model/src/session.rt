@@ -10,7 +10,7 @@ pub struct Session {
 }
 
 impl Session {
-    ghost use Rattle.tap_engine.specs.Sessions.{no_session};
+    ghost use Rattle.tap_model.specs.Sessions.{no_session};
 
     /// A session without a moment and without a user.
     pub fn new() -> Session

@@ -6,9 +6,9 @@ use Rattle.script_lang.specs.declared.reply.Reply.{Reply}
 use Rattle.script_lang.specs.declared.reply.Reply.TheVariants.{No}
 use Rattle.script_lang.specs.declared.refusal.Refusal.{Refusal}
 use Rattle.script_lang.specs.declared.refusal.Refusal.TheVariants.{Memory}
-use Rattle.tap_engine.specs.declared.session.Session.{Session}
-use Rattle.tap_engine.specs.Verdicts.{verdict, is_spared}
-use Rattle.tap_engine.specs.Replies.{answer_of, tables_after}
+use Rattle.tap_model.specs.declared.session.Session.{Session}
+use Rattle.tap_model.specs.Verdicts.{verdict, is_spared}
+use Rattle.tap_model.specs.Replies.{answer_of, tables_after}
 
 -- the command is answered, and moves the tables and the session, as its answer says
 pub record Follows (tables : Tables) (session : Session) (command : Command) (reply : Reply) (tables' : Tables) (session' : Session) : Type 0 where

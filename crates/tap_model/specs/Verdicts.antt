@@ -20,12 +20,12 @@ use Rattle.tql_core.specs.Condition.{Condition}
 use Rattle.tql_text.specs.declared.fault.TextFault.{TextFault}
 use Rattle.tql_text.specs.declared.fault.TextFault.TheVariants as T
 use Rattle.tql_text.specs.Texts.{condition_of}
-use Rattle.tap_engine.specs.declared.session.Session.{Session}
-use Rattle.tap_engine.specs.declared.limits.TheConstants.{DOCUMENT_LIMIT, NOTE_TEXT_LIMIT, NOTE_LIMIT, USER_QUERY_LIMIT, QUERY_LIMIT, USER_LIMIT, RUN_LIMIT, PICK_LIMIT, STORE_LIMIT}
-use Rattle.tap_engine.specs.Sessions.{present, user_of, last_moment}
-use Rattle.tap_engine.specs.Wide.{is_wide}
-use Rattle.tap_engine.specs.Queries.{query_named, hits_of}
-use Rattle.tap_engine.specs.Limits.{stored_bytes, owners_in, different, queries_of, new_users, passes}
+use Rattle.tap_model.specs.declared.session.Session.{Session}
+use Rattle.tap_model.specs.declared.limits.TheConstants.{DOCUMENT_LIMIT, NOTE_TEXT_LIMIT, NOTE_LIMIT, USER_QUERY_LIMIT, QUERY_LIMIT, USER_LIMIT, RUN_LIMIT, PICK_LIMIT, STORE_LIMIT}
+use Rattle.tap_model.specs.Sessions.{present, user_of, last_moment}
+use Rattle.tap_model.specs.Wide.{is_wide}
+use Rattle.tap_model.specs.Queries.{query_named, hits_of}
+use Rattle.tap_model.specs.Limits.{stored_bytes, owners_in, different, queries_of, new_users, passes}
 
 -- the first refusal of some checks
 abbrev pub first_refusal : List (Option Refusal) → Option Refusal

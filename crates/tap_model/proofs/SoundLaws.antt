@@ -24,14 +24,14 @@ use Rattle.script_lang.specs.declared.command.Command.TheVariants.{At, AsUser, M
 use Rattle.script_lang.specs.declared.refusal.Refusal.{Refusal}
 use Rattle.script_lang.specs.declared.refusal.Refusal.TheVariants.{BadMoment, Backwards, NoMoment}
 use Rattle.script_lang.specs.declared.reply.Reply.{Reply}
-use Rattle.tap_engine.specs.declared.session.Session.{Session}
-use Rattle.tap_engine.specs.Sessions.{no_session, present, or_zero, user_of, later_of, greatest_of, moments_in, greatest_moment, last_moment}
-use Rattle.tap_engine.specs.Queries.{truth_of, start_of, is_named, query_named}
-use Rattle.tap_engine.specs.Verdicts.{verdict, first_refusal, missing, unless, is_back, text_of}
-use Rattle.tap_engine.specs.Replies.{Answer, answer_of, answer_by, accepted, tables_after, set_moment, next_doc, next_note, next_query, run_query, show_box, ask_at}
-use Rattle.tap_engine.specs.Stories.{Step}
-use Rattle.tap_engine.specs.Sound.{Sound, IsNow}
-use Rattle.tap_engine.proofs.CheckLaws.{truth-of-second, find-in, second-none}
+use Rattle.tap_model.specs.declared.session.Session.{Session}
+use Rattle.tap_model.specs.Sessions.{no_session, present, or_zero, user_of, later_of, greatest_of, moments_in, greatest_moment, last_moment}
+use Rattle.tap_model.specs.Queries.{truth_of, start_of, is_named, query_named}
+use Rattle.tap_model.specs.Verdicts.{verdict, first_refusal, missing, unless, is_back, text_of}
+use Rattle.tap_model.specs.Replies.{Answer, answer_of, answer_by, accepted, tables_after, set_moment, next_doc, next_note, next_query, run_query, show_box, ask_at}
+use Rattle.tap_model.specs.Stories.{Step}
+use Rattle.tap_model.specs.Sound.{Sound, IsNow}
+use Rattle.tap_model.proofs.AnswerLaws.{truth-of-second, find-in, second-none}
 
 -- what an answer leaves is sound
 abbrev Leaves : Tables → Answer → Type 0

@@ -1,5 +1,0 @@
-use Rattle.tap_engine.proofs.SoundLaws.{sound-start, step-sound}
-use Rattle.tap_engine.proofs.laws.every_step_is_sound.Goals as goal
-
-pub returns : goal.returns
-returns c = record { first = sound-start; next = step-sound }

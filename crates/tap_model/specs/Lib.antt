@@ -1,0 +1,10 @@
+pub mod Sessions
+pub mod Local
+pub mod Queries
+pub mod Limits
+pub mod Wide
+pub mod Verdicts
+pub mod Replies
+pub mod Stories
+pub mod Sound
+pub mod Laws
