@@ -1,0 +1,78 @@
+-- What the keepers in memory stand for.
+use Rattle.std.specs.Prelude.{ℕ, ◌+◌, ◌-◌, ◌^◌, min, ℤ, pos, List, Bool, true, false, ◌||◌, Option, Some, None, [], ◌∷◌, ◌==◌, if◌then◌else◌, Result, Ok, Err}
+use Rattle.std.specs.Ordering.{int_eq}
+use Rattle.tap_rows.specs.declared.tables.Tables.{Tables}
+use Rattle.tap_rows.specs.declared.change.Change.{Change}
+use Rattle.tap_rows.specs.Tables.{after}
+use Rattle.keeper_core.specs.declared.fault.AttachFault.{AttachFault}
+use Rattle.keeper_core.specs.declared.fault.AttachFault.TheVariants.{Alien, Failed}
+use Rattle.keeper_core.specs.declared.fault.CommitFault.{CommitFault}
+use Rattle.keeper_core.specs.declared.fault.CommitFault.TheVariants as commit
+use Rattle.keeper_core.specs.declared.mem_keeper.KeepPlan.{KeepPlan}
+
+-- a keeper in memory: its tables and their version, what a crash leaves, how the coming calls go, and how it stands
+pub record Stored : Type 0 where
+  pub tables : Tables
+  pub version : ℤ
+  pub left : Tables
+  pub fails : List KeepPlan
+  pub calls : ℕ
+  pub attached : Bool
+  pub stopped : Bool
+  pub place : List ℕ
+  pub faults : ℕ
+
+-- a keeper in memory that never fails
+pub record Sure : Type 0 where
+  pub tables : Tables
+  pub attached : Bool
+  pub place : List ℕ
+
+-- a count of 64 bits stands still at its end
+abbrev pub next_count : ℕ → ℕ
+next_count n = min (n + 1) (2 ^ 64 - 1)
+
+-- does the plan let this call fail, and does a crash then leave the new tables?
+abbrev pub planned : List KeepPlan → ℕ → Option Bool
+planned [] call = None
+planned (plan ∷ plans) call = if plan.call == call then Some plan.kept else planned plans call
+
+-- a version that is attached
+abbrev pub is_known : ℤ → Bool
+is_known version = int_eq version (pos 1) || int_eq version (pos 2)
+
+-- the next tables that a crash may leave after a failure, by the plan
+abbrev pub left_by : Bool → Tables → Change → Tables
+left_by true tables change = after tables change
+left_by false tables change = tables
+
+-- the keeper after a call that the plan lets fail
+abbrev pub stopped_with : Tables → Stored → Stored
+stopped_with left keeper = record keeper { left = left; calls = next_count keeper.calls; stopped = true; faults = next_count keeper.faults }
+
+-- the keeper after an attach at a place
+abbrev pub attached_at : List ℕ → Option Bool → Stored → Stored
+attached_at place (Some kept) keeper = stopped_with keeper.left (record keeper { place = place })
+attached_at place None keeper =
+    record keeper {
+      version = if is_known keeper.version then pos 2 else keeper.version;
+      calls = next_count keeper.calls;
+      attached = is_known keeper.version;
+      place = place;
+    }
+
+-- what an attach answers
+abbrev pub attach_answer : Option Bool → Stored → Result Tables AttachFault
+attach_answer (Some kept) keeper = Err Failed
+attach_answer None keeper = if is_known keeper.version then Ok keeper.tables else Err (Alien keeper.version)
+
+-- the keeper after a commit
+abbrev pub committed : Change → Option Bool → Stored → Stored
+committed change (Some kept) keeper = stopped_with (left_by kept keeper.tables change) keeper
+committed change None keeper =
+    record keeper { tables = after keeper.tables change; left = after keeper.tables change; calls = next_count keeper.calls }
+
+-- what a commit answers
+abbrev pub commit_answer : Option Bool → Result (Unit {0}) CommitFault
+commit_answer (Some kept) = Err commit.Failed
+commit_answer None = Ok tt

@@ -1,0 +1,71 @@
+ghost use Rattle.std.specs.Prelude.{◌≡◌, false, []};
+ghost use Rattle.keeper_core.specs.Stored.{Sure};
+
+use crate::{AttachFault, CommitFault, Keeper};
+use std::alloc::Global;
+use std::marker::Model;
+use tap_base::Text;
+use tap_rows::{Change, Tables};
+
+/// A keeper in memory that never fails.
+#[derive(Drop)]
+pub struct SureKeeper {
+    tables: Tables,
+    attached: bool,
+    place: Text,
+}
+
+impl Model for SureKeeper {
+    ghost Value = { Sure };
+
+    ghost view = { λ k. record { tables = k.tables; attached = k.attached; place = k.place } };
+}
+
+impl SureKeeper {
+    /// Keeps these tables, in version 2.
+    pub fn new(alloc: Global, tables: Tables) -> SureKeeper
+        ensures { result ≡ record { tables = tables; attached = false; place = [] } }
+    {
+        SureKeeper {
+            tables,
+            attached: false,
+            place: Text::new(alloc),
+        }
+    }
+}
+
+impl Keeper for SureKeeper {
+    ghost use Rattle.std.specs.Prelude.{◌≡◌, pos, false};
+    ghost use Rattle.std.proofs.Common.{sym, ◌∙◌};
+
+    ghost tells = { λ k s. s ≡ k.tables };
+
+    ghost has_version = { λ _ v. v ≡ pos 2 };
+
+    ghost honest = { λ _. Unit {0} };
+
+    ghost may_leave = { λ k x. x ≡ k.tables };
+
+    ghost attached = { λ k. k.attached };
+
+    ghost stopped = { λ _. false };
+
+    ghost place = { λ k. k.place };
+
+    ghost faults = { λ _. 0 };
+
+    fn attach(&mut self, alloc: Global, at: &str) -> Result<Tables, AttachFault> {
+        let place = Text::from_slice(alloc, at.as_bytes())?;
+        let tables = self.tables.copy()?;
+        self.place = place;
+        self.attached = true;
+        Ok(tables)
+    }
+
+    fn commit(&mut self, change: &Change) -> Result<(), CommitFault> {
+        self.tables.apply(change.copy()?)?;
+        Ok(())
+    }
+
+    ghost one = { λ k s t a b. a ∙ sym b };
+}
