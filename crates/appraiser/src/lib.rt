@@ -3,6 +3,7 @@
 
 mod fault;
 mod line_fault;
+mod listings;
 mod rating;
 mod read;
 mod rule;
@@ -10,6 +11,7 @@ mod rule_line;
 mod rules;
 
 pub use fault::RuleFault;
+pub use listings::listing;
 pub use rating::{Rating, appraise};
 pub use read::{RULE_LIMIT, read_rules};
 pub use rule::KeptRule;

@@ -1,0 +1,8 @@
+use Rattle.std.proofs.Common.{◌≡◌, ◌++◌, drop, map}
+use Rattle.appraiser.specs.Rules.{rules_in}
+use Rattle.appraiser.specs.Listings.{rated_entry}
+use Rattle.appraiser.proofs.listings.rate_entries.Given as goal
+
+-- the rows are those so far and those of the entries that are left
+abbrev pub invariant-loop-entry : goal.invariant-loop-entry
+invariant-loop-entry l = map (rated_entry (rules_in l.rules) l.docs) l.entries ≡ l.rows.items ++ map (rated_entry (rules_in l.rules) l.docs) (drop l.entry-index l.entries)

@@ -1,0 +1,108 @@
+ghost use Rattle.std.specs.Prelude.{◌≡◌, ◌++◌, ◌∷◌, [], map, IfOk, OnOk};
+ghost use Rattle.std.specs.Option.{option_copied};
+ghost use Rattle.tap_rows.specs.WellFormed.{row_at};
+ghost use Rattle.appraiser.specs.Rules.{rules_in};
+ghost use Rattle.appraiser.specs.Ranks.{rank_of};
+ghost use Rattle.appraiser.specs.Listings.{listed_of, rated_entry, is_above, sorted_by, listing_of};
+
+use crate::{Rules, appraise};
+use std::alloc::Global;
+use std::cmp::Reverse;
+use tap_base::{DocNum, Memory, Rows, Text};
+use tap_rows::{Entry, KeptDoc, Listed};
+
+/// What rows are put in order by: the priority from the greatest, the first second, the document.
+#[derive(Clone, Copy, PartialEq, Eq, PartialOrd, Ord)]
+struct Rank {
+    priority: Reverse<u32>,
+    first: i64,
+    doc: u32,
+}
+
+// The rank of a row.
+fn rank_of(row: &Listed) -> Rank
+    ensures { result ≡ rank_of row.now }
+{
+    Rank {
+        priority: Reverse(row.priority),
+        first: row.entry.first,
+        doc: row.entry.doc.0,
+    }
+}
+
+// The document of a number.
+fn doc_of(docs: &[KeptDoc], num: DocNum) -> Option<&KeptDoc>
+    ensures { option_copied result ≡ row_at num.0 docs.now }
+{
+    if num.0 == 0 {
+        None
+    } else {
+        docs.get(num.0 as usize - 1)
+    }
+}
+
+// An entry with the rating of its document.
+fn rate_entry<'a>(
+    alloc: Global,
+    rules: &'a Rules,
+    docs: &'a [KeptDoc],
+    entry: Entry,
+) -> Result<Listed, Memory>
+    ensures { IfOk result (λ row. row ≡ rated_entry (rules_in rules.now) docs.now entry) }
+{
+    match doc_of(docs, entry.doc) {
+        None => Ok(Listed {
+            entry,
+            priority: 0,
+            class: Text::from_slice(alloc, b"other")?,
+        }),
+        Some(doc) => {
+            let rating = appraise(rules, doc);
+            Ok(Listed {
+                entry,
+                priority: rating.priority,
+                class: Text::from_slice(alloc, rating.class)?,
+            })
+        }
+    }
+}
+
+// The entries, each with the rating of its document.
+fn rate_entries<'a>(
+    alloc: Global,
+    rules: &'a Rules,
+    docs: &'a [KeptDoc],
+    entries: &'a [Entry],
+) -> Result<Vec<Listed>, Memory>
+    ensures { IfOk result (λ rows. rows.items ≡ map (rated_entry (rules_in rules.now) docs.now) entries.now) }
+{
+    let mut rows = Vec::new(alloc);
+    for entry in entries {
+        rows.push(rate_entry(alloc, rules, docs, *entry)?)?;
+    }
+    Ok(rows)
+}
+
+// Puts rows in order.
+fn sort_rows(rows: &mut Vec<Listed>) -> Result<(), Memory>
+    ensures { OnOk result (rows.new.items ≡ sorted_by is_above rows.old.items) }
+{
+    rows.sort_by_key(|row| rank_of(row))?;
+    Ok(())
+}
+
+/// The entries of a box, each with the rating of its document, in order of priority from the greatest, then of first
+/// second, then of number. An entry whose document isn't there is rated as by no rules. `Memory` comes only for want of
+/// memory.
+pub fn listing<'a>(
+    alloc: Global,
+    rules: &'a Rules,
+    docs: &'a [KeptDoc],
+    entries: &'a [Entry],
+) -> Result<Rows<Listed>, Memory>
+    ensures { IfOk result (λ rows. rows ≡ listing_of (rules_in rules.now) docs.now entries.now) }
+{
+    let mut rows = rate_entries(alloc, rules, docs, entries)?;
+    sort_rows(&mut rows)?;
+    Ok(Rows::from_vec(rows))
+}
