@@ -4,3 +4,4 @@ pub mod RuleTexts
 pub mod Ratings
 pub mod Listings
 pub mod Ranks
+pub mod Laws

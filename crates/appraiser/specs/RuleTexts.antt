@@ -1,5 +1,5 @@
 -- The rules of a filter's text, a line each.
-use Rattle.std.specs.Prelude.{ℕ, suc, ◌≡◌, ◌⊎◌, List, [], ◌∷◌, ◌++◌, length, nat_le, Result, Ok, Err, if◌then◌else◌}
+use Rattle.std.specs.Prelude.{ℕ, suc, ◌≡◌, ◌≤◌, ◌⊎◌, List, [], ◌∷◌, ◌++◌, length, nat_le, Result, Ok, Err, if◌then◌else◌}
 use Rattle.std.specs.Str.Lines.{lines}
 use Rattle.line_words.specs.Words.{is_skipped}
 use Rattle.appraiser.specs.declared.fault.RuleFault.{RuleFault}
@@ -31,6 +31,12 @@ rules_at (line ∷ lines) = with_rule line.0 (rule_of line.1) (rules_at lines)
 -- the rules of a text, or its first fault: too many lines of rules, before any of them is read
 abbrev pub rules_of : List ℕ → Result (List Rule) RuleFault
 rules_of text = if nat_le (length (rule_lines text)) RULE_LIMIT then rules_at (rule_lines text) else Err ManyRules
+
+-- a fault is of a line of this number at most
+abbrev pub IsWithin : ℕ → RuleFault → Type 0
+IsWithin most (Line number place) = number ≤ most
+IsWithin most ManyRules = Unit {0}
+IsWithin most Memory = Unit {0}
 
 -- the rules that are read already, and then the others
 abbrev pub joined : List Rule → Result (List Rule) RuleFault → Result (List Rule) RuleFault

@@ -1,7 +1,7 @@
-ghost use Rattle.std.specs.Prelude.{◌≡◌, ◌⊎◌, ℕ, suc, List, ◌∷◌, map, length, Err, OnOk, IfErr, if◌then◌else◌};
+ghost use Rattle.std.specs.Prelude.{◌≡◌, ◌⊎◌, ℕ, suc, List, ◌∷◌, map, length, Err, OnOk, IfOk, IfErr, ◌≤◌, if◌then◌else◌};
 ghost use Rattle.line_words.specs.Words.{is_skipped};
-ghost use Rattle.appraiser.specs.Rules.{rule_view};
-ghost use Rattle.appraiser.specs.RuleTexts.{rule_lines, rule_lines_from, rules_at, rules_of, joined, ReadsRules};
+ghost use Rattle.appraiser.specs.Rules.{rule_view, rules_in};
+ghost use Rattle.appraiser.specs.RuleTexts.{rule_lines, rule_lines_from, rules_at, rules_of, joined, IsWithin, ReadsRules};
 
 use crate::line_fault::LineFault;
 use crate::rule_line::read_rule;
@@ -45,6 +45,7 @@ fn read_line(
 ) -> Result<(), RuleFault>
     ensures ok { OnOk result ((more : List (List ℕ)) → joined (map rule_view items.old) (rules_at (rule_lines_from number (line.now ∷ more))) ≡ joined (map rule_view items.new) (rules_at (rule_lines_from (suc number) more))) }
     ensures err { IfErr result (λ fault. ((more : List (List ℕ)) → rules_at (rule_lines_from number (line.now ∷ more)) ≡ Err fault) ⊎ (fault ≡ RuleFault.Memory)) }
+    ensures within { IfErr result (λ fault. IsWithin number fault) }
 {
     if is_blank_or_comment(line) {
         return Ok(());
@@ -61,7 +62,8 @@ fn read_line(
 
 // Reads the rules of the lines.
 fn read_lines(alloc: Global, text: &[u8]) -> Result<Rules, RuleFault>
-    ensures { ReadsRules (rules_at (rule_lines text.now)) result }
+    ensures rules { ReadsRules (rules_at (rule_lines text.now)) result }
+    ensures within { IfErr result (λ fault. IsWithin (length text.now) fault) }
 {
     let mut items = Rows::new(alloc);
     let mut rest = text;
@@ -79,10 +81,13 @@ fn read_lines(alloc: Global, text: &[u8]) -> Result<Rules, RuleFault>
 /// over. `ManyRules` comes where there are more than 64, before any is read. Otherwise the first line that is no rule is
 /// answered, with its number among all lines, from 1, and the place of its first fault.
 pub fn read_rules(alloc: Global, text: &[u8]) -> Result<Rules, RuleFault>
-    ensures { ReadsRules (rules_of text.now) result }
+    ensures rules { ReadsRules (rules_of text.now) result }
+    ensures few { IfOk result (λ rules. length (rules_in rules) ≤ RULE_LIMIT) }
+    ensures within { IfErr result (λ fault. IsWithin (length text.now) fault) }
 {
     if count_rules(text) > RULE_LIMIT {
         return Err(RuleFault::ManyRules);
     }
-    read_lines(alloc, text)
+    let rules = read_lines(alloc, text)?;
+    Ok(rules)
 }

@@ -146,6 +146,7 @@ stands-placed e t q i m kept stands is-kept has at there is = record {
   bytes = stands.bytes;
   users = stands.users;
   owners = stands.owners;
+  filters = stands.filters;
   greatest = λ none. absurd (there none);
 }
 

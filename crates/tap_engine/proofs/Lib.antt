@@ -10,3 +10,4 @@ mod AskLaws
 mod DueLaws
 mod NoteLaws
 mod VariableLaws
+mod FilterLaws

@@ -66,6 +66,7 @@ stands-note e t note stands there = record {
   bytes = more (sum_by (λ doc. length doc.text) t.docs) (sum_by (λ note. length note.text) t.notes) (sum_by (λ query. length query.source) t.queries) (sum_by (λ filter. length filter.source) t.filters) _ _ (length note.text) stands.bytes (sum_by-append (λ note. length note.text) t.notes (note ∷ []));
   users = stands.users;
   owners = stands.owners;
+  filters = stands.filters;
   greatest = λ none. absurd (there none);
 } where
   more : (a b c d b' n k : ℕ) → n ≡ a + b + c + d → b' ≡ b + (0 + k) → n + k ≡ a + b' + c + d

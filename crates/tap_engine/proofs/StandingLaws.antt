@@ -33,6 +33,7 @@ stands-query e t row stands kept num there = record {
   bytes = more (sum_by (λ doc. length doc.text) t.docs) (sum_by (λ note. length note.text) t.notes) (sum_by (λ query. length query.source) t.queries) (sum_by (λ filter. length filter.source) t.filters) _ _ (length row.source) stands.bytes (sum_by-append (λ query. length query.source) t.queries (row ∷ []));
   users = users-more e.owners names (map (λ filter. filter.owner) t.filters) row.owner stands.users (stands.owners row.owner) ∙ ap different (sym all);
   owners = λ user. owners-more e.owners names (map (λ filter. filter.owner) t.filters) row.owner user stands.owners ∙ ap (λ texts. holds texts user) (sym all);
+  filters = stands.filters;
   greatest = λ none. absurd (there none);
 } where
   names : List (List ℕ)

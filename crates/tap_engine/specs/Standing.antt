@@ -19,12 +19,13 @@ use Rattle.tap_model.specs.Limits.{stored_bytes, owners_in, different, passes}
 use Rattle.tap_model.specs.Verdicts.{missing, unless, first_refusal, no_moment, no_user, bad_name, text_fault, wide_refusal, no_doc, long_note, is_early}
 use Rattle.tap_engine.specs.Keeping.{kept_query, named_in, owned_in}
 
--- the engine stands for the tables: it keeps their documents and queries, how many bytes they store, and who owns a
+-- the engine stands for the tables: it keeps their documents, queries and filters, how many bytes they store, and who owns a
 -- query or a filter; before the session has a moment it also keeps the greatest moment of the tables
 pub record StandsFor (engine : Engine) (tables : Tables) : Type 0 where
   pub docs : engine.docs ≡ tables.docs
   pub queries : engine.queries ≡ map (kept_query tables) tables.queries
   pub notes : engine.notes ≡ length tables.notes
+  pub filters : engine.filters ≡ tables.filters
   pub bytes : engine.bytes ≡ stored_bytes tables
   pub users : length engine.owners ≡ different (owners_in tables)
   pub owners : (user : List ℕ) → holds engine.owners user ≡ holds (owners_in tables) user

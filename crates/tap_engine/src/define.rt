@@ -31,7 +31,7 @@ use tap_rows::{Change, QueryRow, Tables};
 use tql_core::Cond;
 
 // Adds an owner that may be there.
-fn push_owner(owners: &mut Texts, owner: Text) -> Result<(), Memory>
+pub(crate) fn push_owner(owners: &mut Texts, owner: Text) -> Result<(), Memory>
     ensures ok { OnOk result (owners.new ≡ with_owner owners.old owner) }
     ensures err { OnErr result (owners.new ≡ owners.old) }
 {
@@ -143,7 +143,7 @@ impl Engine {
     }
 
     // How many users more own a query or a filter when this one does.
-    fn new_users(&self, user: &[u8]) -> usize
+    pub(crate) fn new_users(&self, user: &[u8]) -> usize
         ensures { result ≡ if holds self.now.owners user.now then 0 else 1 }
     {
         if self.owners.holds(user) { 0 } else { 1 }

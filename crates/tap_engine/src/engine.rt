@@ -1,6 +1,7 @@
 ghost use Rattle.std.specs.Prelude.{◌≡◌, length};
 ghost use Rattle.tap_rows.specs.Tables.{no_rows};
 
+use crate::kept_filter::KeptFilter;
 use crate::kept_queries::KeptQueries;
 use std::alloc::Global;
 use tap_base::{Rows, Texts};
@@ -14,6 +15,7 @@ pub struct Engine {
     pub(crate) docs: Rows<KeptDoc>,
     pub(crate) notes: usize,
     pub(crate) queries: KeptQueries,
+    pub(crate) filters: Rows<KeptFilter>,
     pub(crate) bytes: usize,
     pub(crate) owners: Texts,
     pub(crate) greatest: Option<i64>,
@@ -33,6 +35,7 @@ impl Engine {
             docs: Rows::new(alloc),
             notes: 0,
             queries: KeptQueries::new(alloc),
+            filters: Rows::new(alloc),
             bytes: 0,
             owners: Texts::new(alloc),
             greatest: None,

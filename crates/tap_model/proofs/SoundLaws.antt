@@ -11,13 +11,14 @@ use Rattle.tap_rows.specs.declared.tables.Tables.{Tables}
 use Rattle.tap_rows.specs.declared.rows.Doc.{Doc}
 use Rattle.tap_rows.specs.declared.rows.Note.{Note}
 use Rattle.tap_rows.specs.declared.rows.QueryRow.{QueryRow}
-use Rattle.tap_rows.specs.declared.change.Change.TheVariants.{Docs, OneNote, OneQuery}
+use Rattle.tap_rows.specs.declared.rows.FilterRow.{FilterRow}
+use Rattle.tap_rows.specs.declared.change.Change.TheVariants.{Docs, OneNote, OneQuery, OneFilter}
 use Rattle.tap_rows.specs.Tables.{no_rows, after}
 use Rattle.tap_rows.specs.Arrivals.{Arrived}
 use Rattle.tap_rows.specs.Deliveries.{next_run, run_change}
 use Rattle.tap_rows.specs.Kept.{Each, In, IsBy}
 use Rattle.tap_rows.proofs.LaterLaws.{each-map, each-append}
-use Rattle.tap_rows.proofs.KeptLaws.{kept-empty, kept-docs, kept-note, kept-query, kept-run}
+use Rattle.tap_rows.proofs.KeptLaws.{kept-empty, kept-docs, kept-note, kept-query, kept-filter, kept-run}
 use Rattle.mail_lines.specs.declared.block.Block.{Block}
 use Rattle.script_lang.specs.declared.command.Command.{Command}
 use Rattle.script_lang.specs.declared.command.Command.TheVariants.{At, AsUser, Mail, Mbox, AddNote, Define, Run, BoxOf, ListOf, Filter, Explain, Ask, Wake, ScoresOf, DigestOf, Bad}
@@ -28,7 +29,7 @@ use Rattle.tap_model.specs.declared.session.Session.{Session}
 use Rattle.tap_model.specs.Sessions.{no_session, present, or_zero, user_of, later_of, greatest_of, moments_in, greatest_moment, last_moment}
 use Rattle.tap_model.specs.Queries.{truth_of, start_of, is_named, query_named}
 use Rattle.tap_model.specs.Verdicts.{verdict, first_refusal, missing, unless, is_back, text_of}
-use Rattle.tap_model.specs.Replies.{Answer, answer_of, answer_by, accepted, tables_after, set_moment, next_doc, next_note, next_query, run_query, show_box, ask_at}
+use Rattle.tap_model.specs.Replies.{Answer, answer_of, answer_by, accepted, tables_after, set_moment, next_doc, next_note, next_query, next_filter, run_query, show_box, show_list, ask_at}
 use Rattle.tap_model.specs.Stories.{Step}
 use Rattle.tap_model.specs.Sound.{Sound, IsNow}
 use Rattle.tap_model.proofs.AnswerLaws.{truth-of-second, find-in, second-none}
@@ -267,6 +268,31 @@ box-sound : (session : Session) (tables : Tables) (query : Option QueryRow) (nam
 box-sound session tables None name sound = sound
 box-sound session tables (Some q) name sound = sound
 
+list-sound : (session : Session) (tables : Tables) (query : Option QueryRow) (name : List ℕ) → Sound tables session → Leaves tables (show_list query name session tables)
+list-sound session tables None name sound = sound
+list-sound session tables (Some q) name sound = sound
+
+filter-sound : (block : Block) (session : Session) (tables : Tables) → Sound tables session → Present session → Leaves tables (accepted (Filter block) session tables)
+filter-sound block session tables sound there =
+    let m = there.m in
+    let now = now-at tables session m there.is sound in
+    let filter : FilterRow = next_filter tables session (text_of block) in
+    let at : filter.arrival ≡ m = ap or_zero there.is in
+    let le : filter.arrival ≤ℤ m = subst (λ z. z ≤ℤ m) (sym at) (omega (arith, ints)) in
+    record {
+      kept = kept-filter truth_of start_of truth-of-second m tables filter sound.kept now.1;
+      now = subst (λ moment. IsNow moment (after tables (OneFilter filter))) (sym there.is) (
+        now.0,
+        record {
+          docs = now.1.docs;
+          notes = now.1.notes;
+          queries = now.1.queries;
+          runs = now.1.runs;
+          filters = each-append (λ filter. filter.arrival ≤ℤ m) tables.filters (filter ∷ []) now.1.filters (le, tt);
+        },
+      );
+    }
+
 ask-sound : (second : Option ℤ) (source : List ℕ) (session : Session) (tables : Tables) → Sound tables session → Leaves tables (ask_at second source session tables)
 ask-sound None source session tables sound = sound
 ask-sound (Some second) source session tables sound = sound
@@ -282,8 +308,8 @@ accepted-sound (BoxOf name) session tables sound none = box-sound session tables
 accepted-sound (Bad refusal) session tables sound none = sound
 accepted-sound (Mbox block) session tables sound none = sound
 accepted-sound (AddNote doc kind value text) session tables sound none = note-sound doc kind value text session tables sound (present-by session (first-none (missing NoMoment session.moment) _ none))
-accepted-sound (ListOf name) session tables sound none = sound
-accepted-sound (Filter block) session tables sound none = sound
+accepted-sound (ListOf name) session tables sound none = list-sound session tables (query_named (user_of session) name tables) name sound
+accepted-sound (Filter block) session tables sound none = filter-sound block session tables sound (present-by session (first-none (missing NoMoment session.moment) _ none))
 accepted-sound (Explain name) session tables sound none = sound
 accepted-sound (Ask moment source) session tables sound none = ask-sound (moment_of moment) source session tables sound
 accepted-sound (Wake name) session tables sound none = sound

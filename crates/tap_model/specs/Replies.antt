@@ -2,10 +2,11 @@
 use Rattle.std.specs.Prelude.{ℕ, ◌+◌, ℤ, List, [], ◌∷◌, length, map, Option, Some, None}
 use Rattle.tap_base.specs.Numbers.{moment_of}
 use Rattle.tap_rows.specs.declared.change.Change.{Change}
-use Rattle.tap_rows.specs.declared.change.Change.TheVariants.{Docs, OneNote, OneQuery}
+use Rattle.tap_rows.specs.declared.change.Change.TheVariants.{Docs, OneNote, OneQuery, OneFilter}
 use Rattle.tap_rows.specs.declared.rows.Doc.{Doc}
 use Rattle.tap_rows.specs.declared.rows.Note.{Note}
 use Rattle.tap_rows.specs.declared.rows.QueryRow.{QueryRow}
+use Rattle.tap_rows.specs.declared.rows.FilterRow.{FilterRow}
 use Rattle.tap_rows.specs.declared.tables.Tables.{Tables}
 use Rattle.tap_rows.specs.Tables.{after}
 use Rattle.tap_rows.specs.Results.{run_moments, snapshot}
@@ -16,10 +17,12 @@ use Rattle.script_lang.specs.declared.command.Command.TheVariants.{At, AsUser, M
 use Rattle.script_lang.specs.declared.refusal.Refusal.{Refusal}
 use Rattle.script_lang.specs.declared.refusal.Refusal.TheVariants.{NotBuilt, BadMoment, NoQuery}
 use Rattle.script_lang.specs.declared.reply.Reply.{Reply}
-use Rattle.script_lang.specs.declared.reply.Reply.TheVariants.{At as SetAt, AsUser as SetUser, OneDoc, OneNote as NoteAdded, Defined, Ran, BoxOf as Boxed, Asked, No}
+use Rattle.script_lang.specs.declared.reply.Reply.TheVariants.{At as SetAt, AsUser as SetUser, OneDoc, OneNote as NoteAdded, Defined, Ran, BoxOf as Boxed, ListOf as Listing, Filter as FilterAdded, Asked, No}
 use Rattle.tap_model.specs.declared.session.Session.{Session}
 use Rattle.tap_model.specs.Sessions.{present, user_of}
 use Rattle.tap_model.specs.Queries.{condition_in, truth_of, start_of, query_named, hits_of, box_in}
+use Rattle.appraiser.specs.Listings.{listing_of}
+use Rattle.tap_model.specs.Filters.{rules_in_text, rules_of_user}
 use Rattle.tap_model.specs.Verdicts.{text_of, verdict}
 
 -- a command's reply, the session after it, and the rows that it adds
@@ -100,6 +103,28 @@ abbrev pub show_box : Option QueryRow → List ℕ → Session → Tables → An
 show_box None name session tables = refused NoQuery session
 show_box (Some query) name session tables = record { reply = Boxed name (box_in query tables); session = session; change = None }
 
+-- the box of this query in the order of its documents' ratings by the user's rules
+abbrev pub show_list : Option QueryRow → List ℕ → Session → Tables → Answer
+show_list None name session tables = refused NoQuery session
+show_list (Some query) name session tables = record {
+  reply = Listing name (listing_of (rules_of_user (user_of session) tables) tables.docs (box_in query tables));
+  session = session;
+  change = None;
+}
+
+-- the next filter
+abbrev pub next_filter : Tables → Session → List ℕ → FilterRow
+next_filter tables session source =
+    record { num = length tables.filters + 1; owner = user_of session; source = source; arrival = present session }
+
+-- a filter of the user with this text
+abbrev pub add_filter : List ℕ → Session → Tables → Answer
+add_filter source session tables = record {
+  reply = FilterAdded (length (rules_in_text source));
+  session = session;
+  change = Some (OneFilter (next_filter tables session source));
+}
+
 -- the documents that the condition of a text gives at a second
 abbrev pub ask_at : Option ℤ → List ℕ → Session → Tables → Answer
 ask_at None source session tables = refused BadMoment session
@@ -120,8 +145,8 @@ accepted (BoxOf name) session tables = show_box (query_named (user_of session) n
 accepted (Bad refusal) session tables = refused refusal session
 accepted (Mbox block) session tables = refused NotBuilt session
 accepted (AddNote doc kind value text) session tables = add_note doc kind value text session tables
-accepted (ListOf name) session tables = refused NotBuilt session
-accepted (Filter block) session tables = refused NotBuilt session
+accepted (ListOf name) session tables = show_list (query_named (user_of session) name tables) name session tables
+accepted (Filter block) session tables = add_filter (text_of block) session tables
 accepted (Explain name) session tables = refused NotBuilt session
 accepted (Ask moment source) session tables = ask_at (moment_of moment) source session tables
 accepted (Wake name) session tables = refused NotBuilt session

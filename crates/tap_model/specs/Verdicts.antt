@@ -10,18 +10,22 @@ use Rattle.tap_rows.specs.declared.rows.QueryRow.{QueryRow}
 use Rattle.tap_rows.specs.declared.results.Hit.{Hit}
 use Rattle.mail_lines.specs.declared.block.Block.{Block}
 use Rattle.mail_lines.specs.declared.block.Block.TheVariants.{Whole, Long}
-use Rattle.script_lang.specs.declared.state.TheConstants.{MESSAGE_LIMIT}
+use Rattle.script_lang.specs.declared.state.TheConstants.{MESSAGE_LIMIT, FILTER_LIMIT}
 use Rattle.script_lang.specs.declared.command.Command.{Command}
 use Rattle.script_lang.specs.declared.command.Command.TheVariants.{At, AsUser, Mail, Mbox, AddNote, Define, Run, BoxOf, ListOf, Filter, Explain, Ask, Wake, ScoresOf, DigestOf, Bad}
 use Rattle.script_lang.specs.declared.refusal.Refusal.{Refusal}
-use Rattle.script_lang.specs.declared.refusal.Refusal.TheVariants.{NotBuilt, BadMoment, Backwards, NoMoment, NoUser, BadName, Taken, NoQuery, NoDoc, Lex, Parse, Types, NotOver, Limit}
-use Rattle.script_lang.specs.declared.refusal.LimitName.TheVariants.{Message, Note, Documents, Notes, Queries, AllQueries, Users, Runs, Picks, Store}
+use Rattle.script_lang.specs.declared.refusal.Refusal.TheVariants.{NotBuilt, BadMoment, Backwards, NoMoment, NoUser, BadName, Taken, NoQuery, NoDoc, Lex, Parse, Types, NotOver, Limit, Rule, ManyRules}
+use Rattle.script_lang.specs.declared.refusal.LimitName.TheVariants.{Message, Block as BlockLimit, Note, Documents, Notes, Queries, AllQueries, Users, Filters, Runs, Picks, Store}
 use Rattle.tql_core.specs.Condition.{Condition}
 use Rattle.tql_text.specs.declared.fault.TextFault.{TextFault}
 use Rattle.tql_text.specs.declared.fault.TextFault.TheVariants as T
 use Rattle.tql_text.specs.Texts.{condition_of}
+use Rattle.appraiser.specs.declared.fault.RuleFault.{RuleFault}
+use Rattle.appraiser.specs.declared.fault.RuleFault.TheVariants as R
+use Rattle.appraiser.specs.Rules.{Rule as FilterRule}
+use Rattle.appraiser.specs.RuleTexts.{rules_of}
 use Rattle.tap_model.specs.declared.session.Session.{Session}
-use Rattle.tap_model.specs.declared.limits.TheConstants.{DOCUMENT_LIMIT, NOTE_TEXT_LIMIT, NOTE_LIMIT, USER_QUERY_LIMIT, QUERY_LIMIT, USER_LIMIT, RUN_LIMIT, PICK_LIMIT, STORE_LIMIT}
+use Rattle.tap_model.specs.declared.limits.TheConstants.{DOCUMENT_LIMIT, NOTE_TEXT_LIMIT, NOTE_LIMIT, USER_QUERY_LIMIT, QUERY_LIMIT, USER_LIMIT, FILTER_ROW_LIMIT, RUN_LIMIT, PICK_LIMIT, STORE_LIMIT}
 use Rattle.tap_model.specs.Sessions.{present, user_of, last_moment}
 use Rattle.tap_model.specs.Wide.{is_wide}
 use Rattle.tap_model.specs.Queries.{query_named, hits_of}
@@ -109,6 +113,25 @@ no_doc doc count = unless (nat_le 1 doc && nat_le doc count) NoDoc
 unfoldable pub long_note : ℕ → Option Refusal
 long_note len = unless (nat_le len NOTE_TEXT_LIMIT) (Limit Note)
 
+-- the refusal of a fault of a filter's text
+abbrev pub rule_refusal : RuleFault → Option Refusal
+rule_refusal (R.Line number place) = Some (Rule number place)
+rule_refusal R.ManyRules = Some ManyRules
+rule_refusal R.Memory = None
+
+abbrev pub rules_refusal : Result (List FilterRule) RuleFault → Option Refusal
+rules_refusal (Ok rules) = None
+rules_refusal (Err fault) = rule_refusal fault
+
+-- the first fault of a filter's text
+unfoldable pub filter_fault : List ℕ → Option Refusal
+filter_fault source = rules_refusal (rules_of source)
+
+-- a filter's block that is too long
+abbrev pub long_filter : Block → Option Refusal
+long_filter Long = Some (Limit BlockLimit)
+long_filter (Whole text) = unless (nat_le (length text) FILTER_LIMIT) (Limit BlockLimit)
+
 -- the text of a block; one that is too long has none
 abbrev pub text_of : Block → List ℕ
 text_of Long = []
@@ -165,8 +188,16 @@ checks (AddNote doc kind value text) session tables =
     ∷ passes Notes NOTE_LIMIT (length tables.notes) 1
     ∷ passes Store STORE_LIMIT (stored_bytes tables) (length text)
     ∷ []
-checks (ListOf name) session tables = Some NotBuilt ∷ []
-checks (Filter block) session tables = Some NotBuilt ∷ []
+checks (ListOf name) session tables = no_user session ∷ bad_name name ∷ no_query session name tables ∷ []
+checks (Filter block) session tables =
+    no_moment session
+    ∷ no_user session
+    ∷ long_filter block
+    ∷ passes Users USER_LIMIT (different (owners_in tables)) (new_users (user_of session) tables)
+    ∷ passes Filters FILTER_ROW_LIMIT (length tables.filters) 1
+    ∷ passes Store STORE_LIMIT (stored_bytes tables) (length (text_of block))
+    ∷ filter_fault (text_of block)
+    ∷ []
 checks (Explain name) session tables = Some NotBuilt ∷ []
 checks (Ask moment source) session tables =
     missing BadMoment (moment_of moment) ∷ no_moment session ∷ text_fault source ∷ not_over (moment_of moment) session.moment ∷ []

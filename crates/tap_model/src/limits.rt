@@ -18,6 +18,9 @@ pub const QUERY_LIMIT: usize = 4000;
 /// The most users that own a query or a filter.
 pub const USER_LIMIT: usize = 1000;
 
+/// The most filters.
+pub const FILTER_ROW_LIMIT: usize = 10000;
+
 /// The most runs.
 pub const RUN_LIMIT: usize = 1000000;
 

@@ -1,0 +1,206 @@
+-- Filters and lists: why one is refused, and what the engine keeps after one.
+use Rattle.std.proofs.Common.{◌≡◌, ◌∙◌, sym, refl, ap, subst, arith, ℕ, suc, List, [], ◌∷◌, ◌++◌, ◌+◌, length, map, take, get_or, ◌<◌, ◌≤◌, Bool, Option, Some, None, true, false, inl, inr, if◌then◌else◌}
+use Rattle.std.specs.Prelude.{◌⊎◌, ◌==◌, ◌||◌, nat_le, sum_by, find, reverse, Result, Ok, Err}
+use Rattle.std.specs.Option.{option_or, option_map}
+use Rattle.std.proofs.lemmas.List.{map-append, append_assoc, append-nil}
+use Rattle.std.specs.List.{All}
+use Rattle.std.proofs.lemmas.List.Elements.{All-weaker}
+use Rattle.std.proofs.Math.Seq.{take-suc}
+use Rattle.std.proofs.lemmas.List.{reverse-append}
+use Rattle.std.proofs.lemmas.List.Sums.{sum_by-append}
+use Rattle.tap_base.specs.Words.{holds}
+use Rattle.tap_rows.specs.declared.tables.Tables.{Tables}
+use Rattle.tap_rows.specs.declared.rows.Doc.{Doc}
+use Rattle.tap_rows.specs.declared.rows.QueryRow.{QueryRow}
+use Rattle.tap_rows.specs.declared.results.Entry.{Entry}
+use Rattle.tap_rows.specs.Kept.{Each}
+use Rattle.tap_base.specs.Names.{is_name}
+use Rattle.appraiser.proofs.Classes.{Named, IfRules, Classed, text-named, sorted-named}
+use Rattle.tap_rows.specs.declared.rows.FilterRow.{FilterRow}
+use Rattle.tap_rows.specs.declared.results.Listed.{Listed}
+use Rattle.tap_rows.specs.declared.change.Change.TheVariants.{OneFilter}
+use Rattle.tap_rows.specs.Tables.{after}
+use Rattle.tap_rows.specs.Deliveries.{delivered}
+use Rattle.tap_rows.proofs.KeptLaws.{box-is}
+use Rattle.mail_lines.specs.declared.block.Block.{Block}
+use Rattle.script_lang.specs.declared.refusal.Refusal.{Refusal}
+use Rattle.script_lang.specs.declared.refusal.Refusal.TheVariants.{NoMoment, Memory, Limit}
+use Rattle.script_lang.specs.declared.refusal.LimitName.{LimitName}
+use Rattle.script_lang.specs.declared.refusal.LimitName.TheVariants.{Users, Filters, Store}
+use Rattle.script_lang.specs.declared.command.Command.TheVariants.{Filter, ListOf}
+use Rattle.script_lang.specs.declared.reply.Reply.TheVariants.{Filter as FilterAdded, ListOf as Listing}
+use Rattle.appraiser.specs.declared.fault.RuleFault.{RuleFault}
+use Rattle.appraiser.specs.declared.fault.RuleFault.TheVariants as R
+use Rattle.appraiser.specs.Rules.{Rule}
+use Rattle.appraiser.specs.RuleTexts.{rules_of}
+use Rattle.appraiser.specs.Listings.{listing_of}
+use Rattle.tap_model.specs.declared.limits.TheConstants.{USER_LIMIT, FILTER_ROW_LIMIT, STORE_LIMIT}
+use Rattle.tap_model.specs.declared.session.Session.{Session}
+use Rattle.tap_model.specs.Limits.{passes, different}
+use Rattle.tap_model.specs.Sessions.{user_of, present}
+use Rattle.tap_model.specs.Filters.{or_none, rules_in_text, last_filter, filter_rules, rules_of_user}
+use Rattle.tap_model.specs.Queries.{is_named, query_named, truth_of, start_of, box_in}
+use Rattle.tap_model.specs.Verdicts.{first_refusal, verdict, missing, no_moment, no_user, long_filter, rule_refusal, rules_refusal, filter_fault, text_of, is_early}
+use Rattle.tap_model.specs.Replies.{next_filter, show_list, tables_after}
+use Rattle.tap_model.specs.Sound.{Sound}
+use Rattle.tap_model.specs.Stories.{Refuses, Follows}
+use Rattle.tap_model.proofs.AnswerLaws.{some-none, find-in, truth-of-second, follows-accepted}
+use Rattle.tap_engine.specs.declared.engine.Engine.{Engine}
+use Rattle.tap_engine.specs.declared.kept_query.KeptQuery.{KeptQuery}
+use Rattle.tap_engine.specs.Keeping.{kept_query, with_owner}
+use Rattle.tap_engine.specs.Standing.{StandsFor, RefusedBy, look_refusal, kept_named}
+use Rattle.tap_engine.specs.FilterChecks.{filter_limits, filter_refusal}
+use Rattle.tap_engine.specs.Lists.{rows_kept}
+use Rattle.tap_engine.proofs.OwnerLaws.{users-more, owners-more}
+use Rattle.tap_engine.proofs.CheckLaws.{named-is, box-verdict, passes-late, late-first}
+
+seven : (a b c x y z f : Option Refusal) → option_or a (option_or b (option_or c (option_or (first_refusal (x ∷ y ∷ z ∷ [])) f))) ≡ first_refusal (a ∷ b ∷ c ∷ x ∷ y ∷ z ∷ f ∷ [])
+seven (Some r) b c x y z f = refl
+seven None (Some r) c x y z f = refl
+seven None None (Some r) x y z f = refl
+seven None None None (Some r) y z f = refl
+seven None None None None (Some r) z f = refl
+seven None None None None None (Some r) f = refl
+seven None None None None None None (Some r) = refl
+seven None None None None None None None = refl
+
+-- a filter is refused as its verdict says
+pub filter-verdict : (e : Engine) (t : Tables) (block : Block) → StandsFor e t → filter_refusal e block ≡ verdict (Filter block) e.session t
+unfolding filter_limits
+filter-verdict e t block stands =
+    seven (no_moment e.session) (no_user e.session) (long_filter block) (passes Users USER_LIMIT (length e.owners) (if holds e.owners (user_of e.session) then 0 else 1)) (passes Filters FILTER_ROW_LIMIT (length e.filters) 1) (passes Store STORE_LIMIT e.bytes (length (text_of block))) (filter_fault (text_of block))
+    ∙ rw (stands.filters, stands.users, stands.owners (user_of e.session), stands.bytes) refl
+
+pub filter-refuses : (e : Engine) (t : Tables) (block : Block) (refusal : Refusal) → StandsFor e t → RefusedBy (filter_refusal e block) refusal → Refuses refusal (Filter block) e.session t
+filter-refuses e t block refusal stands by = subst (λ v. RefusedBy v refusal) (filter-verdict e t block stands) by
+
+-- a filter isn't added without a moment
+pub filter-moment : (e : Engine) (block : Block) → filter_refusal e block ≡ None → e.session.moment ≡ None → ⊥
+filter-moment e block none no_m = some-none NoMoment (sym (ap (λ m. option_or (missing NoMoment m) (option_or (no_user e.session) (option_or (long_filter block) (option_or (first_refusal (filter_limits e (user_of e.session) (length (text_of block)))) (filter_fault (text_of block)))))) no_m) ∙ none)
+
+fault-late : (source : List ℕ) → is_early (filter_fault source) ≡ false
+unfolding filter_fault
+fault-late source = go (rules_of source) where
+  go : (r : Result (List Rule) RuleFault) → is_early (rules_refusal r) ≡ false
+  go (Ok rules) = refl
+  go (Err (R.Line number place)) = refl
+  go (Err R.ManyRules) = refl
+  go (Err R.Memory) = refl
+
+-- a filter is refused for its text, or for want of memory to read it, once it isn't refused before
+pub text-refused : (e : Engine) (block : Block) (refusal : Refusal) → no_moment e.session ≡ None → no_user e.session ≡ None → long_filter block ≡ None → first_refusal (filter_limits e (user_of e.session) (length (text_of block))) ≡ None
+    → (filter_fault (text_of block) ≡ Some refusal) ⊎ (refusal ≡ Memory) → RefusedBy (filter_refusal e block) refusal
+text-refused e block refusal moment user long limits by =
+    let fault = filter_fault (text_of block) in
+    let bound = first_refusal (filter_limits e (user_of e.session) (length (text_of block))) in
+    let is : filter_refusal e block ≡ fault =
+    ap (λ x. option_or x (option_or (no_user e.session) (option_or (long_filter block) (option_or bound fault)))) moment
+    ∙ ap (λ x. option_or x (option_or (long_filter block) (option_or bound fault))) user
+    ∙ ap (λ x. option_or x (option_or bound fault)) long
+    ∙ ap (λ x. option_or x fault) limits in
+    elim by [
+      | inl refused ↦ inl (is ∙ refused)
+      | inr memory ↦ inr (memory, ap is_early is ∙ fault-late (text_of block))
+    ]
+
+-- a filter is added
+pub follows-filter : (t : Tables) (s : Session) (block : Block) (n count : ℕ) (row : FilterRow) (t' : Tables) (s' : Session) → verdict (Filter block) s t ≡ None → n ≡ length t.filters
+    → row ≡ record { num = n + 1; owner = user_of s; source = text_of block; arrival = present s } → count ≡ length (rules_in_text (text_of block)) → t' ≡ after t (OneFilter row) → s' ≡ s
+    → Follows t s (Filter block) (FilterAdded count) t' s'
+follows-filter t s block n count row t' s' none at is-row is-count is-t is-s =
+    let follows = follows-accepted t s (Filter block) none in
+    let same : row ≡ next_filter t s (text_of block) = is-row ∙ ap (λ n. record { num = n + 1; owner = user_of s; source = text_of block; arrival = present s }) at in
+    record {
+      reply_is = ap FilterAdded is-count ∙ follows.reply_is;
+      tables_are = is-t ∙ ap (λ row. after t (OneFilter row)) same ∙ follows.tables_are;
+      session_is = is-s ∙ follows.session_is;
+    }
+
+-- a filter more
+pub stands-filter : (e : Engine) (t : Tables) (row : FilterRow) → StandsFor e t → (e.session.moment ≡ None → ⊥)
+    → StandsFor (record e { filters = e.filters ++ row ∷ []; owners = with_owner e.owners row.owner; bytes = e.bytes + length row.source }) (after t (OneFilter row))
+stands-filter e t row stands there = record {
+  docs = stands.docs;
+  queries = stands.queries;
+  notes = stands.notes;
+  filters = ap (λ fs. fs ++ row ∷ []) stands.filters;
+  bytes = more (sum_by (λ doc. length doc.text) t.docs) (sum_by (λ note. length note.text) t.notes) (sum_by (λ query. length query.source) t.queries) (sum_by (λ filter. length filter.source) t.filters) _ _ (length row.source) stands.bytes (sum_by-append (λ filter. length filter.source) t.filters (row ∷ []));
+  users = users-more e.owners names [] row.owner (stands.users ∙ ap different (sym none-after)) (stands.owners row.owner ∙ ap (λ texts. holds texts row.owner) (sym none-after)) ∙ ap different (sym all);
+  owners = λ user. owners-more e.owners names [] row.owner user (λ w. stands.owners w ∙ ap (λ texts. holds texts w) (sym none-after)) ∙ ap (λ texts. holds texts user) (sym all);
+  greatest = λ none. absurd (there none);
+} where
+  names : List (List ℕ)
+  names = map (λ query. query.owner) t.queries ++ map (λ filter. filter.owner) t.filters
+
+  none-after : names ++ [] ≡ names
+  none-after = append-nil names
+
+  all : map (λ query. query.owner) t.queries ++ map (λ filter. filter.owner) (t.filters ++ row ∷ []) ≡ names ++ row.owner ∷ []
+  all = ap (λ xs. map (λ query. query.owner) t.queries ++ xs) (map-append (λ filter. filter.owner) t.filters (row ∷ [])) ∙ sym (append_assoc (map (λ query. query.owner) t.queries) (map (λ filter. filter.owner) t.filters) (row.owner ∷ []))
+
+  more : (a b c d d' n k : ℕ) → n ≡ a + b + c + d → d' ≡ d + (0 + k) → n + k ≡ a + b + c + d'
+  more a b c d d' n k is e = omega (arith, is, e)
+
+-- the last of some filters
+pub find_last : (p : FilterRow → Bool) (k : ℕ) (filters : List FilterRow) (d : FilterRow) → k < length filters → find p (reverse (take (k + 1) filters)) ≡ (if p (get_or filters k d) then Some (get_or filters k d) else find p (reverse (take k filters)))
+find_last p k filters d lt =
+    let one : k + 1 ≡ suc k = omega arith in
+    let next : take (k + 1) filters ≡ take k filters ++ get_or filters k d ∷ [] = ap (λ n. take n filters) one ∙ take-suc filters k d lt in
+    ap (λ l. find p (reverse l)) next ∙ ap (find p) (reverse-append (take k filters) (get_or filters k d ∷ []))
+
+text-rules : (source : List ℕ) → Each Named (rules_in_text source)
+unfolding rules_in_text
+text-rules source = go (rules_of source) (text-named source) where
+  go : (r : Result (List Rule) RuleFault) → IfRules r → Each Named (or_none r)
+  go (Err fault) named = tt
+  go (Ok rules) named = named
+
+filter-named : (o : Option FilterRow) → Each Named (filter_rules o)
+filter-named None = tt
+filter-named (Some filter) = text-rules filter.source
+
+short : (text : List ℕ) → is_name text ≡ true → length text ≤ 32
+short text named = grind (arith, named)
+
+-- the classes of a list are short
+pub listing_short : (o : Option FilterRow) (docs : List Doc) (entries : List Entry) (rows : List Listed) → rows ≡ listing_of (filter_rules o) docs entries → All (λ row. length row.class ≤ 32) rows
+listing_short o docs entries rows is =
+    All-weaker Classed (λ row. length row.class ≤ 32) (λ row. short row.class) rows (subst (All Classed) (sym is) (sorted-named (filter_rules o) docs entries (filter-named o)))
+
+-- a list is refused as a box is
+pub list-refuses : (e : Engine) (t : Tables) (name : List ℕ) (refusal : Refusal) → StandsFor e t → RefusedBy (look_refusal e name) refusal → Refuses refusal (ListOf name) e.session t
+list-refuses e t name refusal stands by = subst (λ v. RefusedBy v refusal) (box-verdict e t name stands) by
+
+some-rows : (xs : List Listed) → Some xs ≡ None → ⊥
+some-rows xs e = cc
+
+some-same : (xs ys : List Listed) → Some xs ≡ Some ys → xs ≡ ys
+some-same xs ys e = cc
+
+-- a list that isn't refused is of a query that there is
+pub follows-list : (e : Engine) (t : Tables) (name : List ℕ) (rows : List Listed) → StandsFor e t → Sound t e.session → look_refusal e name ≡ None → Some rows ≡ rows_kept e (kept_named e name) → Follows t e.session (ListOf name) (Listing name rows) t e.session
+follows-list e t name rows stands sound none is = go (query_named (user_of e.session) name t) refl where
+  shown : Option QueryRow → Follows t e.session (ListOf name) (show_list (query_named (user_of e.session) name t) name e.session t).reply (tables_after (show_list (query_named (user_of e.session) name t) name e.session t).change t) (show_list (query_named (user_of e.session) name t) name e.session t).session
+  shown o = follows-accepted t e.session (ListOf name) (sym (box-verdict e t name stands) ∙ none)
+
+  rules : List Rule
+  rules = rules_of_user (user_of e.session) t
+
+  kept : Some rows ≡ rows_kept e (option_map (kept_query t) (query_named (user_of e.session) name t))
+  kept = is ∙ ap (rows_kept e) (named-is e t name stands)
+
+  go : (o : Option QueryRow) → query_named (user_of e.session) name t ≡ o → Follows t e.session (ListOf name) (Listing name rows) t e.session
+  go None none' = absurd (some-rows rows (kept ∙ ap (λ o. rows_kept e (option_map (kept_query t) o)) none'))
+  go (Some q) some =
+      let follows = shown (Some q) in
+      let by-kept : Some rows ≡ Some (listing_of (filter_rules (last_filter (user_of e.session) e.filters)) e.docs (delivered q.num.0 t)) = kept ∙ ap (λ o. rows_kept e (option_map (kept_query t) o)) some in
+      let same : rows ≡ listing_of (filter_rules (last_filter (user_of e.session) e.filters)) e.docs (delivered q.num.0 t) = some-same rows _ by-kept in
+      let box = box-is truth_of start_of truth-of-second t q t.queries (find-in (is_named (user_of e.session) name) t.queries q some) sound.kept.each in
+      let whole : rows ≡ listing_of rules t.docs (box_in q t) =
+      same ∙ ap (λ fs. listing_of (filter_rules (last_filter (user_of e.session) fs)) e.docs (delivered q.num.0 t)) stands.filters
+      ∙ ap (λ docs. listing_of rules docs (delivered q.num.0 t)) stands.docs ∙ ap (listing_of rules t.docs) box.box in
+      record {
+        reply_is = ap (Listing name) whole ∙ sym (ap (λ o. (show_list o name e.session t).reply) some) ∙ follows.reply_is;
+        tables_are = sym (ap (λ o. tables_after (show_list o name e.session t).change t) some) ∙ follows.tables_are;
+        session_is = sym (ap (λ o. (show_list o name e.session t).session) some) ∙ follows.session_is;
+      }

@@ -1,0 +1,96 @@
+ghost use Rattle.std.specs.Prelude.{◌≡◌, ◌≤◌, Some, None, true, length, IfOk, IfErr, OnOk};
+ghost use Rattle.std.specs.List.{All};
+ghost use Rattle.std.specs.Option.{option_copied};
+ghost use Rattle.tap_base.specs.Names.{is_name};
+ghost use Rattle.script_lang.specs.declared.command.Command.{Command};
+ghost use Rattle.script_lang.specs.Replies.{HasShortNames, is_accepted};
+ghost use Rattle.appraiser.specs.Rules.{rules_in};
+ghost use Rattle.appraiser.specs.Listings.{listing_of};
+ghost use Rattle.tap_model.specs.Filters.{last_filter, filter_rules};
+ghost use Rattle.tap_model.specs.Sessions.{user_of};
+ghost use Rattle.tap_model.specs.Sound.{Sound};
+ghost use Rattle.tap_model.specs.Stories.{Follows, Refuses};
+
+use crate::engine::Engine;
+use crate::kept_filter::KeptFilter;
+use appraiser::{Rules, listing};
+use script_lang::{Refusal, Reply};
+use std::alloc::Global;
+use tap_base::{Memory, Rows, Text};
+use tap_rows::{Entry, KeptDoc, Listed, Tables};
+
+// The last of the user's filters.
+fn last_filter<'a>(filters: &'a [KeptFilter], user: &[u8]) -> Option<&'a KeptFilter>
+    ensures { option_copied result ≡ last_filter user.now filters.now }
+{
+    let mut end = filters.len();
+    'filters: while end > 0 {
+        end -= 1;
+        if filters[end].row().owner.as_slice() == user {
+            return Some(&filters[end]);
+        }
+    }
+    None
+}
+
+// The entries of a box, rated by a filter, or by no rules where there is none.
+fn rate<'a>(
+    alloc: Global,
+    filter: Option<&'a KeptFilter>,
+    docs: &'a [KeptDoc],
+    entries: &'a [Entry],
+) -> Result<Rows<Listed>, Memory>
+    ensures { IfOk result (λ rows. rows ≡ listing_of (filter_rules (option_copied filter.entry)) docs.now entries.now) }
+{
+    match filter {
+        Some(kept) => listing(alloc, kept.rules(), docs, entries),
+        None => listing(alloc, &Rules::none(alloc), docs, entries),
+    }
+}
+
+impl Engine {
+    ghost use Rattle.tap_engine.specs.Standing.{StandsFor, look_refusal, kept_named, RefusedBy};
+    ghost use Rattle.tap_engine.specs.Lists.{rows_kept};
+
+    // The session's user; empty where it has none.
+    fn user_name(&self) -> &[u8]
+        ensures { result.now ≡ user_of self.now.session }
+    {
+        match &self.session.user {
+            Some(user) => user.as_slice(),
+            None => &[],
+        }
+    }
+
+    // The deliveries of the user's query of this name, rated by the user's last filter.
+    fn rows_named(&self, alloc: Global, name: &[u8]) -> Result<Rows<Listed>, Refusal>
+        ensures look { OnOk result (look_refusal self.now name.now ≡ None) }
+        ensures rows { IfOk result (λ rows. Some rows ≡ rows_kept self.now (kept_named self.now name.now)) }
+        ensures short { IfOk result (λ rows. All (λ row. length row.class ≤ 32) rows) }
+        ensures refusal { IfErr result (λ refusal. RefusedBy (look_refusal self.now name.now) refusal) }
+        ensures name { OnOk result (is_name name.now ≡ true) }
+    {
+        let kept = self.look(name)?;
+        let filter = last_filter(self.filters.as_slice(), self.user_name());
+        let rows = rate(alloc, filter, self.docs.as_slice(), kept.entries.as_slice())?;
+        Ok(rows)
+    }
+
+    // Lists the deliveries of the user's query of this name in the order of their ratings.
+    pub(crate) fn show_list(
+        &self,
+        alloc: Global,
+        tables: &Tables,
+        name: Text,
+    ) -> Result<Reply, Refusal>
+        requires stands { StandsFor self.now tables.now }
+        requires sound { Sound tables.now self.now.session }
+        ensures ok { IfOk result (λ reply. Follows tables.now self.now.session (Command.ListOf name) reply tables.now self.now.session) }
+        ensures refusal { IfErr result (λ refusal. Refuses refusal (Command.ListOf name) self.now.session tables.now) }
+        ensures short { IfOk result (λ reply. HasShortNames reply) }
+        ensures accepted { IfOk result (λ reply. is_accepted reply ≡ true) }
+    {
+        let rows = self.rows_named(alloc, name.as_slice())?;
+        Ok(Reply::ListOf { name, rows })
+    }
+}
