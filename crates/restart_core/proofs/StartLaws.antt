@@ -1,11 +1,11 @@
 -- What is stored of a source says the same, and its text stands from a place on.
-use Rattle.std.proofs.Common.{◌≡◌, ◌∙◌, sym, ap, refl, arith, ℕ, zero, suc, ◌+◌, ◌-◌, ◌≤◌, List, [], ◌∷◌, ◌++◌, length, drop, Bool, true, false, if◌then◌else◌}
+use Rattle.std.proofs.Common.{◌≡◌, ◌∙◌, sym, ap, refl, arith, ℕ, zero, suc, ◌+◌, ◌-◌, List, [], ◌∷◌, ◌++◌, length, drop, Bool, true, false, if◌then◌else◌}
 use Rattle.std.specs.Prelude.{codes, min}
 use Rattle.std.specs.List.{prefix_len, position_or_len}
 use Rattle.std.proofs.Math.Seq.{drop-nil}
 use Rattle.std.proofs.lemmas.List.{length-drop, drop_min}
 use Rattle.tap_base.specs.Bytes.{is_blank}
-use Rattle.script_lang.specs.Commands.{word, after_words, after_blanks, after_word}
+use Rattle.script_lang.specs.Commands.{after_words, after_blanks, after_word}
 use Rattle.restart_core.specs.Starts.{is_from_now, condition_text, stored_source}
 
 -- blanks are skipped once

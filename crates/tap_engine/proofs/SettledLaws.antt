@@ -1,5 +1,5 @@
 -- Conditions that hold of a document at every second or at none: its hit, and that such hits stand in order.
-use Rattle.std.proofs.Common.{◌≡◌, ◌∙◌, sym, ap, refl, arith, ℕ, suc, ◌≤◌, ◌<◌, ℤ, Bool, true, false, Option, Some, None, List, [], ◌∷◌, if◌then◌else◌}
+use Rattle.std.proofs.Common.{◌≡◌, ◌∙◌, ap, refl, arith, ℕ, suc, ◌≤◌, ◌<◌, ℤ, Bool, true, false, Some, None, List, [], ◌∷◌, if◌then◌else◌}
 use Rattle.std.specs.Prelude.{◌&&◌, ◌≤ℤ◌, ◌<ℤ◌, int_le, int_lt}
 use Rattle.std.specs.Int.{int_max}
 use Rattle.std.specs.List.{filter_map, cons_option}
@@ -9,7 +9,6 @@ use Rattle.tap_rows.specs.declared.rows.Doc.{Doc}
 use Rattle.tap_rows.specs.declared.results.Hit.{Hit}
 use Rattle.tap_rows.specs.Arrivals.{Arrived}
 use Rattle.tap_rows.specs.Results.{Truth, is_given, first_second, hit_of, at_least, in_order, put_in, is_before}
-use Rattle.tap_rows.specs.Seconds.{least_second}
 use Rattle.tap_rows.proofs.FreshLaws.{Later, first-never}
 use Rattle.tap_engine.specs.Fresh.{open_from, settled_hit}
 use Rattle.tap_engine.proofs.SlowLaws.{first-from-open, least-here, least-end}
