@@ -28,6 +28,7 @@ use Rattle.tap_model.specs.Sessions.{user_of, present}
 use Rattle.tap_engine.specs.declared.kept_query.KeptQuery.{KeptQuery}
 use Rattle.tap_model.specs.Queries.{is_named, query_named, truth_of, start_of}
 use Rattle.tap_rows.specs.Results.{covered}
+use Rattle.restart_core.specs.Starts.{condition_text, stored_source}
 use Rattle.tap_model.specs.Limits.{passes}
 use Rattle.tap_model.specs.Verdicts.{first_refusal, verdict, missing, unless, no_moment, no_user, bad_name, reading_refusal, text_fault, wide_refusal, too_wide, is_early, hits_found}
 use Rattle.tap_engine.specs.Keeping.{kept_query, named_in, owned_in}
@@ -75,7 +76,7 @@ limits-last None None None None None rest = refl
 pub define-verdict : (e : Engine) (t : Tables) (name source : List ℕ) → StandsFor e t → define_refusal e name source ≡ verdict (Define name source) e.session t
 unfolding name_refusal query_limits
 define-verdict e t name source stands =
-    limits-last (no_moment e.session) (no_user e.session) (bad_name name) (unless (is_none (named_in (user_of e.session) name e.queries)) Taken) (text_fault source) (query_limits e (user_of e.session) (length source))
+    limits-last (no_moment e.session) (no_user e.session) (bad_name name) (unless (is_none (named_in (user_of e.session) name e.queries)) Taken) (text_fault (condition_text source)) (query_limits e (user_of e.session) (length (stored_source source)))
     ∙ rw (stands.queries, named-kept t (user_of e.session) name t.queries, none-map t (find (is_named (user_of e.session) name) t.queries), owned-kept t (user_of e.session) t.queries, length-map t.queries (kept_query t), stands.users, stands.owners (user_of e.session), stands.bytes) refl
 
 -- a command that is refused by its verdict, or for want of memory
@@ -130,7 +131,7 @@ hits-is e t (Some q) stands = rw stands.docs (fresh-seen q t (covered (start_of 
 
 wide-is : (e : Engine) (t : Tables) (o : Option QueryRow) → StandsFor e t → wide_kept e (option_map (kept_query t) o) ≡ too_wide o t.docs (present e.session)
 wide-is e t None stands = refl
-wide-is e t (Some q) stands = ap (λ docs. wide_refusal q.source docs (present e.session)) stands.docs
+wide-is e t (Some q) stands = ap (λ docs. wide_refusal (condition_text q.source) docs (present e.session)) stands.docs
 
 -- the checks of a run, by what is found of its query
 abbrev run_checks : Engine → ℕ → ℕ → Option Refusal → Option Refusal → List Hit → Option Refusal
@@ -161,15 +162,15 @@ run-none e t name notes runs picks stands is-notes is-runs is-picks none = sym (
 
 -- a query isn't defined without a moment
 pub define-moment : (e : Engine) (name source : List ℕ) → define_refusal e name source ≡ None → e.session.moment ≡ None → ⊥
-define-moment e name source none no_m = some-none NoMoment (sym (ap (λ m. option_or (missing NoMoment m) (option_or (no_user e.session) (option_or (name_refusal e (user_of e.session) name) (option_or (text_fault source) (first_refusal (query_limits e (user_of e.session) (length source))))))) no_m) ∙ none)
+define-moment e name source none no_m = some-none NoMoment (sym (ap (λ m. option_or (missing NoMoment m) (option_or (no_user e.session) (option_or (name_refusal e (user_of e.session) name) (option_or (text_fault (condition_text source)) (first_refusal (query_limits e (user_of e.session) (length (stored_source source)))))))) no_m) ∙ none)
 
 -- a query is defined
 pub follows-define : (t : Tables) (s : Session) (name source shown : List ℕ) (n : ℕ) (row : QueryRow) (t' : Tables) (s' : Session) → verdict (Define name source) s t ≡ None → n ≡ length t.queries
-    → row ≡ record { num = record { 0 = n + 1 }; owner = user_of s; name = name; source = source; arrival = present s } → shown ≡ row.name → t' ≡ after t (OneQuery row) → s' ≡ s
+    → row ≡ record { num = record { 0 = n + 1 }; owner = user_of s; name = name; source = stored_source source; arrival = present s } → shown ≡ row.name → t' ≡ after t (OneQuery row) → s' ≡ s
     → Follows t s (Define name source) (Defined shown) t' s'
 follows-define t s name source shown n row t' s' none count is-row is-shown is-t is-s =
     let follows = follows-accepted t s (Define name source) none in
-    let same : row ≡ next_query t s name source = is-row ∙ ap (λ n. record { num = record { 0 = n + 1 }; owner = user_of s; name = name; source = source; arrival = present s }) count in
+    let same : row ≡ next_query t s name (stored_source source) = is-row ∙ ap (λ n. record { num = record { 0 = n + 1 }; owner = user_of s; name = name; source = stored_source source; arrival = present s }) count in
     record {
       reply_is = ap Defined (is-shown ∙ ap (λ r. r.name) same) ∙ follows.reply_is;
       tables_are = is-t ∙ ap (λ r. after t (OneQuery r)) same ∙ follows.tables_are;
@@ -203,17 +204,17 @@ limits-late engine user len =
 
 -- a query is refused for its text, or for want of memory to read it, once it isn't for want of a moment, of a user or of a name
 pub text-refused : (e : Engine) (name source : List ℕ) (refusal : Refusal) → no_moment e.session ≡ None → no_user e.session ≡ None → None ≡ name_refusal e (user_of e.session) name
-    → (text_fault source ≡ Some refusal) ⊎ (refusal ≡ Memory) → RefusedBy (define_refusal e name source) refusal
+    → (text_fault (condition_text source) ≡ Some refusal) ⊎ (refusal ≡ Memory) → RefusedBy (define_refusal e name source) refusal
 text-refused e name source refusal moment user named by =
     let user-is = user_of e.session in
-    let rest = option_or (text_fault source) (first_refusal (query_limits e user-is (length source))) in
+    let rest = option_or (text_fault (condition_text source)) (first_refusal (query_limits e user-is (length (stored_source source)))) in
     let is : define_refusal e name source ≡ rest =
     ap (λ x. option_or x (option_or (no_user e.session) (option_or (name_refusal e user-is name) rest))) moment
     ∙ ap (λ x. option_or x (option_or (name_refusal e user-is name) rest)) user
     ∙ ap (λ x. option_or x rest) (sym named) in
     elim by [
-      | inl refused ↦ inl (is ∙ ap (λ x. option_or x (first_refusal (query_limits e user-is (length source)))) refused)
-      | inr memory ↦ inr (memory, ap is_early is ∙ text-late source (query_limits e user-is (length source)) (limits-late e user-is (length source)))
+      | inl refused ↦ inl (is ∙ ap (λ x. option_or x (first_refusal (query_limits e user-is (length (stored_source source))))) refused)
+      | inr memory ↦ inr (memory, ap is_early is ∙ text-late (condition_text source) (query_limits e user-is (length (stored_source source))) (limits-late e user-is (length (stored_source source))))
     ]
 
 -- a box that isn't refused is of a query that there is

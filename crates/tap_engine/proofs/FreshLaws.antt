@@ -1,6 +1,6 @@
 -- What a run finds, by the documents and notes that are seen, is what it delivers over the tables.
-use Rattle.std.proofs.Common.{◌≡◌, ◌∙◌, sym, ap, refl, subst, arith, ℕ, zero, suc, ◌+◌, ◌<◌, ℤ, pos, Bool, true, false, Option, Some, None, List, [], ◌∷◌, drop, length}
-use Rattle.std.specs.Prelude.{◌+ℤ◌, ◌<ℤ◌, ◌≤ℤ◌, ◌&&◌, int_le, slice_index_or}
+use Rattle.std.proofs.Common.{◌≡◌, ◌∙◌, sym, ap, refl, arith, ℕ, zero, suc, ◌+◌, ◌<◌, ℤ, pos, Bool, true, false, Option, Some, None, List, [], ◌∷◌, drop, length}
+use Rattle.std.specs.Prelude.{◌+ℤ◌, ◌<ℤ◌, ◌&&◌, int_le, slice_index_or}
 use Rattle.std.specs.Int.Signed.{lt_z}
 use Rattle.std.specs.List.{filter_map, cons_option}
 use Rattle.std.proofs.lemmas.Int.{ints}
@@ -10,24 +10,23 @@ use Rattle.tap_rows.specs.declared.rows.Note.{Note}
 use Rattle.tap_rows.specs.declared.rows.QueryRow.{QueryRow}
 use Rattle.tap_rows.specs.declared.results.Hit.{Hit}
 use Rattle.tap_rows.specs.Arrivals.{Arrived}
-use Rattle.tap_rows.specs.Constant.{arrival_hit}
 use Rattle.tap_rows.specs.Results.{is_given, first_second, hit_of, at_least, in_order, fresh_in}
 use Rattle.tap_rows.specs.Seconds.{least_second}
-use Rattle.tap_rows.proofs.FreshLaws.{fresh-is}
 use Rattle.tap_rows.proofs.SecondsLaws.{least_second-same}
-use Rattle.tap_engine.proofs.SlowLaws.{first-from-arrival, least-here, least-next}
+use Rattle.tap_engine.proofs.SlowLaws.{first-from-open, least-here, least-next}
 use Rattle.tql_core.proofs.OfTheSecond.{of-the-second}
 use Rattle.snapshot_meaning.specs.Seen.{seen}
 use Rattle.tap_model.specs.Local.{is_local, local_truth}
-use Rattle.tap_model.specs.Queries.{condition_in, truth_of, start_of}
-use Rattle.tap_engine.specs.Fresh.{fresh_hit, fresh_of, with_hit}
+use Rattle.tap_model.specs.Queries.{condition_by, truth_of, start_of}
+use Rattle.tap_engine.specs.Fresh.{fresh_hit, fresh_of, with_hit, open_from, settled_hit}
+use Rattle.tap_engine.proofs.SettledLaws.{hit-settled, settled-in_order}
 use Rattle.tap_engine.proofs.TextLaws.{truth-local}
 
--- the seconds from the arrival on are all that may be first
-pub hit-from-arrival : (q : QueryRow) (docs : List Doc) (notes : List Note) (tau t : ℤ) (doc : Doc) → pos 0 ≤ℤ doc.arrival
-    → hit_of doc (at_least tau (least_second (is_given (truth_of q) (seen docs notes) doc) doc.arrival t)) ≡ fresh_hit q docs notes tau t doc
+-- the seconds from that one on are all that may be first
+pub hit-from-open : (q : QueryRow) (docs : List Doc) (notes : List Note) (tau t : ℤ) (doc : Doc)
+    → hit_of doc (at_least tau (least_second (is_given (truth_of q) (seen docs notes) doc) (open_from (start_of q) doc) t)) ≡ fresh_hit q docs notes tau t doc
 unfolding fresh_hit
-hit-from-arrival q docs notes tau t doc le = ap (λ o. hit_of doc (at_least tau o)) (sym (first-from-arrival (truth_of q) (seen docs notes) doc (start_of q) t le))
+hit-from-open q docs notes tau t doc = ap (λ o. hit_of doc (at_least tau o)) (sym (first-from-open (truth_of q) (seen docs notes) doc (start_of q) t))
 
 more : (o : Option Hit) (hits : List Hit) → in_order (cons_option o hits) ≡ with_hit o (in_order hits)
 more None hits = refl
@@ -53,15 +52,6 @@ more-at q docs notes tau t tau' t' place x hit hits hits' is-tau is-t lt at is i
     ∙ ap (λ y. fresh_of q docs notes tau t (y ∷ drop (place + 1) docs)) at
     ∙ sym (ap (fresh_of q docs notes tau t) (at-place place docs x lt))
 
--- no document arrived before the second 0
-arrived-in : (num : ℕ) (low : ℤ) (docs : List Doc) (place : ℕ) (d : Doc) → Arrived num low docs → pos 0 ≤ℤ low → place < length docs → pos 0 ≤ℤ (slice_index_or docs place d).arrival
-arrived-in num low [] place d arrived le lt = absurd (omega (arith, lt))
-arrived-in num low (doc ∷ docs) zero d arrived le lt = omega (arith, ints, arrived.0, le)
-arrived-in num low (doc ∷ docs) (suc place) d arrived le lt = arrived-in (suc num) doc.arrival docs place d arrived.2 (omega (arith, ints, arrived.0, le)) (omega (arith, lt))
-
-pub arrived-at : (docs : List Doc) (place : ℕ) (x : Doc) → Arrived 1 (pos 0) docs → place < length docs → x ≡ slice_index_or docs place x → pos 0 ≤ℤ x.arrival
-arrived-at docs place x arrived lt at = subst (λ d. pos 0 ≤ℤ d.arrival) (sym at) (arrived-in 1 (pos 0) docs place x arrived (omega (arith, ints)) lt)
-
 drop-all : (docs : List Doc) → drop (length docs) docs ≡ []
 drop-all [] = refl
 drop-all (doc ∷ docs) = drop-all docs
@@ -81,21 +71,23 @@ found p from to from' to' second is-from is-to left lt here =
 pub one-less : (p : ℤ → Bool) (from to second : ℤ) → least_second p from to ≡ least_second p second to → p second ≡ false → least_second p from to ≡ least_second p (second +ℤ pos 1) to
 one-less p from to second left fails = left ∙ least-next p second to fails
 
--- a condition that speaks of neither now nor other rows finds what arrived
-pub fresh-local : (q : QueryRow) (docs : List Doc) (notes : List Note) (tau t : ℤ) → is_local (condition_in q.source) ≡ true → Arrived 1 (pos 0) docs → filter_map (arrival_hit (local_truth (condition_in q.source)) tau t) docs ≡ fresh_of q docs notes tau t docs
-unfolding fresh_of fresh_hit
-fresh-local q docs notes tau t local arrived =
-    sym (fresh-is (truth_of q) (seen docs notes) (local_truth (condition_in q.source)) (start_of q) (pos 0) tau t (λ d s. truth-local (condition_in q.source) (seen docs notes) d s local) (omega (arith, ints)) arrived)
-
 filter-same : (f g : Doc → Option Hit) (docs : List Doc) → ((doc : Doc) → f doc ≡ g doc) → filter_map f docs ≡ filter_map g docs
 filter-same f g [] same = refl
 filter-same f g (doc ∷ docs) same = rw (same doc, filter-same f g docs same) refl
+
+-- a condition that speaks of neither now nor other rows finds what may be given in the window
+pub fresh-local : (q : QueryRow) (docs : List Doc) (notes : List Note) (tau t : ℤ) → is_local (condition_by q) ≡ true → Arrived 1 (pos 0) docs → filter_map (settled_hit (local_truth (condition_by q)) (start_of q) tau t) docs ≡ fresh_of q docs notes tau t docs
+unfolding fresh_of fresh_hit
+fresh-local q docs notes tau t local arrived =
+    sym (settled-in_order (local_truth (condition_by q)) (start_of q) tau t 1 (pos 0) docs arrived)
+    ∙ ap in_order (filter-same (settled_hit (local_truth (condition_by q)) (start_of q) tau t) (fresh_hit q docs notes tau t) docs
+    (λ doc. sym (hit-settled (truth_of q) (seen docs notes) (local_truth (condition_by q)) doc (start_of q) tau t (λ s. truth-local (condition_by q) (seen docs notes) doc s local))))
 
 hit-same : (q : QueryRow) (t : Tables) (tau m : ℤ) (doc : Doc) → fresh_hit q t.docs t.notes tau m doc ≡ hit_of doc (at_least tau (first_second (truth_of q) t doc (start_of q) m))
 unfolding fresh_hit
 hit-same q t tau m doc =
     ap (λ o. hit_of doc (at_least tau o)) (least_second-same (is_given (truth_of q) (seen t.docs t.notes) doc) (is_given (truth_of q) t doc) (start_of q) m
-    (λ s lo hi. ap (λ b. int_le doc.arrival s && b) (of-the-second (condition_in q.source) t (seen t.docs t.notes) doc s refl refl)))
+    (λ s lo hi. ap (λ b. int_le doc.arrival s && b) (of-the-second (condition_by q) t (seen t.docs t.notes) doc s refl refl)))
 
 -- a query looks at documents and notes alone
 pub fresh-seen : (q : QueryRow) (t : Tables) (tau m : ℤ) → fresh_of q t.docs t.notes tau m t.docs ≡ fresh_in (truth_of q) t (start_of q) tau m

@@ -2,6 +2,7 @@ mod Moments
 mod OwnerLaws
 mod TextLaws
 mod SlowLaws
+mod SettledLaws
 mod FreshLaws
 mod CheckLaws
 mod StandingLaws

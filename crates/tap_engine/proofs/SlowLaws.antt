@@ -5,12 +5,13 @@ use Rattle.std.specs.Int.{int_gap}
 use Rattle.std.specs.List.{position_or_len}
 use Rattle.std.specs.Option.{option_or}
 use Rattle.std.proofs.lemmas.Bool.{cases_Bool}
-use Rattle.std.proofs.lemmas.Int.{ints, by_lt_z}
+use Rattle.std.proofs.lemmas.Int.{ints, by_lt_z, int_max_is}
 use Rattle.tap_rows.specs.declared.tables.Tables.{Tables}
 use Rattle.tap_rows.specs.declared.rows.Doc.{Doc}
 use Rattle.tap_rows.specs.declared.results.Hit.{Hit}
 use Rattle.tap_rows.specs.Results.{Truth, is_given, first_second, put_in, is_before}
 use Rattle.tap_rows.specs.Seconds.{least_second}
+use Rattle.tap_engine.specs.Fresh.{open_from}
 use Rattle.tap_rows.proofs.SecondsLaws.{least_second-is, least_second-never, least_second-more, gap-is}
 
 -- no second is left
@@ -47,8 +48,10 @@ not-yet : (a s : ℤ) → s <ℤ a → int_le a s ≡ false
 not-yet a s h = grind (arith, ints)
 
 -- a document is not given before its arrival
-pub first-from-arrival : (truth : Truth) (tables : Tables) (doc : Doc) (start t : ℤ) → start ≤ℤ doc.arrival → first_second truth tables doc start t ≡ least_second (is_given truth tables doc) doc.arrival t
-first-from-arrival truth tables doc start t le = least-later (is_given truth tables doc) start doc.arrival t le (λ x lo hi. rw (not-yet doc.arrival x hi) refl)
+pub first-from-open : (truth : Truth) (tables : Tables) (doc : Doc) (start t : ℤ) → first_second truth tables doc start t ≡ least_second (is_given truth tables doc) (open_from start doc) t
+first-from-open truth tables doc start t = least-later (is_given truth tables doc) start (open_from start doc) t (omega (arith, ints, int_max_is start doc.arrival)) (λ x lo hi. rw (not-yet doc.arrival x (early x lo hi)) refl) where
+  early : (x : ℤ) → start ≤ℤ x → x <ℤ open_from start doc → x <ℤ doc.arrival
+  early x lo hi = omega (arith, ints, int_max_is start doc.arrival, lo, hi)
 
 -- a hit is put before the first of those that it stands before
 pub put_in-at : (hit : Hit) (hits : List Hit) → put_in hit hits ≡ insert hits (position_or_len (is_before hit) hits) hit

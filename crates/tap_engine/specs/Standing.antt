@@ -17,6 +17,7 @@ use Rattle.tap_model.specs.Sessions.{present, user_of, greatest_moment}
 use Rattle.tap_engine.specs.Fresh.{fresh_of}
 use Rattle.tap_model.specs.Limits.{stored_bytes, owners_in, different, passes}
 use Rattle.tap_model.specs.Verdicts.{missing, unless, first_refusal, no_moment, no_user, bad_name, text_fault, wide_refusal, no_doc, long_note, is_early}
+use Rattle.restart_core.specs.Starts.{condition_text, stored_source}
 use Rattle.tap_engine.specs.Keeping.{kept_query, named_in, owned_in}
 
 -- the engine stands for the tables: it keeps their documents, queries and filters, how many bytes they store, and who owns a
@@ -54,8 +55,8 @@ define_refusal engine name source =
     option_or (no_moment engine.session)
     (option_or (no_user engine.session)
     (option_or (name_refusal engine (user_of engine.session) name)
-    (option_or (text_fault source)
-    (first_refusal (query_limits engine (user_of engine.session) (length source))))))
+    (option_or (text_fault (condition_text source))
+    (first_refusal (query_limits engine (user_of engine.session) (length (stored_source source)))))))
 
 -- the bounds of a note on this document and of so many bytes, by what is kept
 unfoldable pub note_bounds : Engine → ℕ → ℕ → Option Refusal
@@ -79,7 +80,7 @@ hits_kept engine notes (Some kept) = fresh_of kept.row engine.docs notes kept.co
 -- why a run of this query is refused for the seconds that it would try, by what is kept
 abbrev pub wide_kept : Engine → Option KeptQuery → Option Refusal
 wide_kept engine None = None
-wide_kept engine (Some kept) = wide_refusal kept.row.source engine.docs (present engine.session)
+wide_kept engine (Some kept) = wide_refusal (condition_text kept.row.source) engine.docs (present engine.session)
 
 -- what a query has delivered, by what is kept of it
 abbrev pub entries_kept : Option KeptQuery → Option (List Entry)

@@ -9,7 +9,8 @@ ghost use Rattle.tap_model.specs.Verdicts.{unless, first_refusal};
 ghost use Rattle.script_lang.specs.declared.refusal.Refusal.{Refusal};
 ghost use Rattle.tql_core.specs.Condition.{condition};
 ghost use Rattle.snapshot_meaning.specs.Seen.{exists_in};
-ghost use Rattle.tap_model.specs.Queries.{condition_in};
+ghost use Rattle.tap_model.specs.Queries.{condition_by};
+ghost use Rattle.restart_core.specs.Starts.{stored_source};
 ghost use Rattle.tap_engine.specs.Keeping.{new_kept, with_owner, named_in};
 ghost use Rattle.tap_model.specs.Sessions.{present, user_of};
 ghost use Rattle.tap_model.specs.Sound.{Sound};
@@ -22,7 +23,7 @@ use crate::kept_query::KeptQuery;
 use crate::kept_row::KeptRow;
 use crate::limits::refuse_more;
 use crate::sessions::refuse_name;
-use crate::text::keep_text;
+use crate::text::keep_source;
 use script_lang::{LimitName, Refusal, Reply};
 use std::alloc::Global;
 use tap_base::{Memory, QueryNum, Rows, Text, Texts};
@@ -109,7 +110,7 @@ impl Engine {
         row: QueryRow,
         cond: Cond,
     ) -> Result<(), Memory>
-        requires cond { condition cond ≡ condition_in row.source }
+        requires cond { condition cond ≡ condition_by row }
         requires few { exists_in (condition cond) ≤ 15 }
         requires bytes { self.old.bytes + length row.source < 2 ^ 64 }
         ensures tables { OnOk result (tables.new ≡ after tables.old (Change.OneQuery row)) }
@@ -190,11 +191,11 @@ impl Engine {
         source: Text,
     ) -> Result<(QueryRow, Cond), Refusal>
         ensures checks { OnOk result (define_refusal self.now name source ≡ None) }
-        ensures row { IfOk result (λ made. made.0 ≡ record { num = record { 0 = length self.now.queries + 1 }; owner = user_of self.now.session; name = name; source = source; arrival = present self.now.session }) }
-        ensures cond { IfOk result (λ made. condition made.1 ≡ condition_in source) }
+        ensures row { IfOk result (λ made. made.0 ≡ record { num = record { 0 = length self.now.queries + 1 }; owner = user_of self.now.session; name = name; source = stored_source source; arrival = present self.now.session }) }
+        ensures cond { IfOk result (λ made. condition made.1 ≡ condition_by made.0) }
         ensures vars { IfOk result (λ made. exists_in (condition made.1) ≤ 15) }
         ensures refusal { IfErr result (λ refusal. RefusedBy (define_refusal self.now name source) refusal) }
-        ensures bytes { OnOk result (self.now.bytes + length source < 2 ^ 64) }
+        ensures bytes { IfOk result (λ made. self.now.bytes + length made.0.source < 2 ^ 64) }
         ensures name { OnOk result (is_name name ≡ true) }
     {
         let Some(moment) = self.session.moment else {
@@ -204,7 +205,7 @@ impl Engine {
             return Err(Refusal::NoUser);
         };
         self.refuse_query_name(user.as_slice(), name.as_slice())?;
-        let cond = keep_text(alloc, source.as_slice())?;
+        let (source, cond) = keep_source(alloc, source)?;
         self.refuse_query(user.as_slice(), source.len())?;
         let row = QueryRow {
             num: QueryNum(self.queries.len() as u32 + 1),

@@ -25,9 +25,10 @@ impl KeptQuery {
         requires { entries ≡ [] }
         ensures { result ≡ new_kept row }
     {
+        let covered = row.start();
         KeptQuery {
             row,
-            covered: 0,
+            covered,
             runs: 0,
             entries,
         }

@@ -5,19 +5,21 @@ ghost use Rattle.tap_rows.specs.declared.rows.QueryRow.{QueryRow};
 ghost use Rattle.tap_rows.specs.Results.{is_given};
 ghost use Rattle.snapshot_meaning.specs.Seen.{seen};
 ghost use Rattle.tap_model.specs.Local.{is_local, local_truth};
-ghost use Rattle.tap_model.specs.Queries.{condition_in, truth_of};
+ghost use Rattle.tap_model.specs.Queries.{condition_by, truth_of, start_of};
 
+use restart_core::cut_start;
 use snapshot_meaning::{holds_at, is_doc_given};
 use std::marker::Model;
 use tap_rows::{KeptDoc, Note, QueryRow};
 use tql_core::{Cond, Env, RowRef, Var};
 
-/// The row of a query with the condition of its text. It is seen as the row. An environment has room for the EXISTS
+/// The row of a query with its condition and its start. It is seen as the row. An environment has room for the EXISTS
 /// variables of the condition.
 #[derive(Drop)]
 pub struct KeptRow {
     row: QueryRow,
     cond: Cond,
+    start: i64,
 }
 
 impl Model for KeptRow {
@@ -25,7 +27,7 @@ impl Model for KeptRow {
 
     ghost view = { λ kept. kept.row };
 
-    ghost invariant = { λ kept. (condition kept.cond ≡ condition_in kept.row.source) × (exists_in (condition kept.cond) ≤ 15) };
+    ghost invariant = { λ kept. (condition kept.cond ≡ condition_by kept.row) × ((exists_in (condition kept.cond) ≤ 15) × (kept.start ≡ start_of kept.row)) };
 }
 
 // Does the condition speak of neither now nor other rows?
@@ -40,14 +42,27 @@ fn is_local(cond: &Cond) -> bool
     }
 }
 
+// The first second that a query covers.
+#[tactic(auto, unfolding(tap_model::specs::Queries::start_of))]
+fn start_of(row: &QueryRow) -> i64
+    ensures { result ≡ start_of row.now }
+{
+    if cut_start(row.source.as_slice()).from_now {
+        row.arrival
+    } else {
+        0
+    }
+}
+
 impl KeptRow {
-    // Joins a row and the condition of its text.
+    // Joins a row and its condition.
     pub(crate) fn new(row: QueryRow, cond: Cond) -> KeptRow
-        requires cond { condition cond ≡ condition_in row.source }
+        requires cond { condition cond ≡ condition_by row }
         requires few { exists_in (condition cond) ≤ 15 }
         ensures { result ≡ row }
     {
-        KeptRow { row, cond }
+        let start = start_of(&row);
+        KeptRow { row, cond, start }
     }
 
     /// The row.
@@ -57,10 +72,17 @@ impl KeptRow {
         &self.row
     }
 
+    // The first second that the query covers.
+    pub(crate) fn start(&self) -> i64
+        ensures { result ≡ start_of self.now }
+    {
+        self.start
+    }
+
     // Is the condition true of the document, where it speaks of neither now nor other rows?
     #[tactic(auto, unfolding(tap_model::specs::Local::local_truth))]
     pub(crate) fn is_true_of(&self, doc: &KeptDoc) -> bool
-        ensures { result ≡ local_truth (condition_in self.now.source) doc.now }
+        ensures { result ≡ local_truth (condition_by self.now) doc.now }
     {
         let env = Env::new().bind(Var(0), RowRef::OfDoc(doc));
         holds_at(&self.cond, &env, &[], &[], 0)
@@ -68,7 +90,7 @@ impl KeptRow {
 
     // Does the condition speak of neither now nor other rows?
     pub(crate) fn is_local(&self) -> bool
-        ensures { result ≡ is_local (condition_in self.now.source) }
+        ensures { result ≡ is_local (condition_by self.now) }
     {
         is_local(&self.cond)
     }

@@ -6,17 +6,17 @@ ghost use Rattle.tap_rows.specs.declared.rows.RunRow.{RunRow};
 ghost use Rattle.tap_rows.specs.declared.rows.Doc.{Doc};
 ghost use Rattle.tap_rows.specs.declared.change.Change.{Change};
 ghost use Rattle.tap_rows.specs.Tables.{after};
-ghost use Rattle.tap_rows.specs.Constant.{arrival_hit};
 ghost use Rattle.tap_rows.specs.Arrivals.{Arrived};
 ghost use Rattle.tap_rows.specs.Deliveries.{pick_rows};
 ghost use Rattle.tap_rows.specs.Results.{entry_at};
 ghost use Rattle.script_lang.specs.declared.command.Command.{Command};
 ghost use Rattle.script_lang.specs.Replies.{HasShortNames, is_accepted};
 ghost use Rattle.tap_model.specs.Local.{local_truth};
-ghost use Rattle.tap_engine.specs.Fresh.{fresh_of};
+ghost use Rattle.restart_core.specs.Starts.{condition_text};
+ghost use Rattle.tap_engine.specs.Fresh.{fresh_of, settled_hit, open_from};
 ghost use Rattle.tap_model.specs.Wide.{is_long};
 ghost use Rattle.tap_model.specs.Verdicts.{wide_refusal};
-ghost use Rattle.tap_model.specs.Queries.{condition_in};
+ghost use Rattle.tap_model.specs.Queries.{condition_by, start_of};
 ghost use Rattle.tap_engine.specs.declared.kept_query.KeptQuery.{KeptQuery};
 ghost use Rattle.tap_engine.specs.Keeping.{after_run};
 ghost use Rattle.tap_model.specs.Sessions.{present};
@@ -26,7 +26,7 @@ ghost use Rattle.tap_model.specs.Stories.{Follows, Refuses};
 use crate::engine::Engine;
 use crate::kept_row::KeptRow;
 use crate::limits::refuse_more;
-use crate::slow_run::slow_hits;
+use crate::slow_run::{open_from, slow_hits};
 use script_lang::{LimitName, Refusal, Reply};
 use std::alloc::Global;
 use tap_base::{Memory, QueryNum, Rows};
@@ -42,12 +42,12 @@ pub struct Due {
     pub hits: Rows<Hit>,
 }
 
-// Is the query true of the document, and did it arrive in the window?
+// Is the query true of the document, and is the second from which on it may be given in the window?
 fn is_hit(kept: &KeptDoc, query: &KeptRow, from: i64, to: i64) -> bool
-    ensures { result ≡ (local_truth (condition_in query.now.source) kept.now && int_le from kept.now.arrival && int_lt kept.now.arrival to) }
+    ensures { result ≡ (local_truth (condition_by query.now) kept.now && int_le from (open_from (start_of query.now) kept.now) && int_lt (open_from (start_of query.now) kept.now) to) }
 {
-    let arrival = kept.doc().arrival;
-    query.is_true_of(kept) && from <= arrival && arrival < to
+    let first = open_from(query, kept);
+    query.is_true_of(kept) && from <= first && first < to
 }
 
 // Where the documents begin that arrived at this second or later, which are looked for from the last one backward.
@@ -73,12 +73,25 @@ fn docs_after(docs: &[KeptDoc], place: usize) -> &[KeptDoc]
 // The documents from the first on that arrived at this second or later.
 fn docs_from(docs: &[KeptDoc], from: i64) -> &[KeptDoc]
     requires { Arrived 1 (pos 0) docs.now }
-    ensures { (holds : Doc → Bool) (to : ℤ) → filter_map (arrival_hit holds from to) docs.now ≡ filter_map (arrival_hit holds from to) result.now }
+    ensures { (holds : Doc → Bool) (start to : ℤ) → start <ℤ from → filter_map (settled_hit holds start from to) docs.now ≡ filter_map (settled_hit holds start from to) result.now }
 {
     docs_after(docs, place_from(docs, from))
 }
 
-// The documents of which the query is true and that arrived from the one second on and before the other, each with its arrival.
+// The same where that second is after the query's start, and all documents where it isn't.
+fn late_docs<'a>(docs: &'a [KeptDoc], query: &KeptRow, from: i64) -> &'a [KeptDoc]
+    requires { Arrived 1 (pos 0) docs.now }
+    ensures { (holds : Doc → Bool) (to : ℤ) → filter_map (settled_hit holds (start_of query.now) from to) docs.now ≡ filter_map (settled_hit holds (start_of query.now) from to) result.now }
+{
+    if query.start() < from {
+        docs_from(docs, from)
+    } else {
+        docs
+    }
+}
+
+// The documents of which the query is true and that may be given from the one second on and before the other, each with the
+// second from which on it may be.
 fn arrived_with(
     alloc: Global,
     docs: &[KeptDoc],
@@ -86,15 +99,14 @@ fn arrived_with(
     from: i64,
     to: i64,
 ) -> Result<Rows<Hit>, Memory>
-    ensures { IfOk result (λ hits. hits ≡ filter_map (arrival_hit (local_truth (condition_in query.now.source)) from to) docs.now) }
+    ensures { IfOk result (λ hits. hits ≡ filter_map (settled_hit (local_truth (condition_by query.now)) (start_of query.now) from to) docs.now) }
 {
     let mut hits = Rows::new(alloc);
     for kept in docs {
         if is_hit(kept, query, from, to) {
-            let doc = kept.doc();
             hits.push(Hit {
-                doc: doc.num,
-                first: doc.arrival,
+                doc: kept.doc().num,
+                first: open_from(query, kept),
             })?;
         }
     }
@@ -110,9 +122,9 @@ fn late_with(
     to: i64,
 ) -> Result<Rows<Hit>, Memory>
     requires { Arrived 1 (pos 0) docs.now }
-    ensures { IfOk result (λ hits. hits ≡ filter_map (arrival_hit (local_truth (condition_in query.now.source)) from to) docs.now) }
+    ensures { IfOk result (λ hits. hits ≡ filter_map (settled_hit (local_truth (condition_by query.now)) (start_of query.now) from to) docs.now) }
 {
-    arrived_with(alloc, docs_from(docs, from), query, from, to)
+    arrived_with(alloc, late_docs(docs, query, from), query, from, to)
 }
 
 // The documents that a run of the query finds: those that it gives for the first time from the one second on and before the other.
@@ -147,7 +159,7 @@ fn is_long(docs: &[KeptDoc], moment: i64) -> bool
 // Refuses a query that speaks of now or of other rows, where a run would try too many seconds.
 #[tactic(auto, unfolding(tap_model::specs::Verdicts::wide_refusal))]
 fn refuse_wide(query: &KeptRow, docs: &[KeptDoc], moment: i64) -> Result<(), Refusal>
-    ensures { result_err result ≡ wide_refusal query.now.source docs.now moment }
+    ensures { result_err result ≡ wide_refusal (condition_text query.now.source) docs.now moment }
 {
     if !query.is_local() && is_long(docs, moment) {
         Err(Refusal::NotBuilt)

@@ -1,11 +1,10 @@
-ghost use Rattle.std.specs.Prelude.{◌≡◌, ◌<◌, ◌≤◌, ◌≤ℤ◌, ◌+◌, pos, drop, length, OnOk, IfOk};
+ghost use Rattle.std.specs.Prelude.{◌≡◌, ◌<◌, ◌≤◌, ◌+◌, drop, length, OnOk, IfOk};
 ghost use Rattle.std.specs.List.{position_or_len};
 ghost use Rattle.tap_rows.specs.Results.{is_given, hit_of, at_least, put_in, is_before};
 ghost use Rattle.tap_rows.specs.Seconds.{least_second};
-ghost use Rattle.tap_rows.specs.Arrivals.{Arrived};
 ghost use Rattle.snapshot_meaning.specs.Seen.{seen};
-ghost use Rattle.tap_model.specs.Queries.{truth_of};
-ghost use Rattle.tap_engine.specs.Fresh.{fresh_hit, fresh_of, with_hit};
+ghost use Rattle.tap_model.specs.Queries.{truth_of, start_of};
+ghost use Rattle.tap_engine.specs.Fresh.{fresh_hit, fresh_of, with_hit, open_from};
 
 use crate::kept_row::KeptRow;
 use std::alloc::Global;
@@ -33,6 +32,13 @@ fn first_given(
     None
 }
 
+// The second from which on the document may be given.
+pub(crate) fn open_from(query: &KeptRow, doc: &KeptDoc) -> i64
+    ensures { result ≡ open_from (start_of query.now) doc.now }
+{
+    query.start().max(doc.doc().arrival)
+}
+
 // The document as a hit with its second, where that is tau or later.
 fn hit_from(doc: &KeptDoc, first: Option<i64>, tau: i64) -> Option<Hit>
     ensures { result ≡ hit_of doc.now (at_least tau first) }
@@ -48,7 +54,8 @@ fn hit_from(doc: &KeptDoc, first: Option<i64>, tau: i64) -> Option<Hit>
     }
 }
 
-// The document as a hit, where its first second is from tau on and before the other: the seconds from its arrival on are tried.
+// The document as a hit, where its first second is from tau on and before the other: the seconds from its arrival, or from
+// the query's start where that is later, are tried.
 fn hit_in(
     query: &KeptRow,
     doc: &KeptDoc,
@@ -57,10 +64,10 @@ fn hit_in(
     tau: i64,
     to: i64,
 ) -> Option<Hit>
-    requires { pos 0 ≤ℤ doc.now.arrival }
     ensures { result ≡ fresh_hit query.now docs.now notes.now tau to doc.now }
 {
-    let first = first_given(query, doc, docs, notes, doc.doc().arrival, to);
+    let from = open_from(query, doc);
+    let first = first_given(query, doc, docs, notes, from, to);
     hit_from(doc, first, tau)
 }
 
@@ -113,7 +120,6 @@ fn put_doc(
     tau: i64,
     to: i64,
 ) -> Result<(), Memory>
-    requires arrived { Arrived 1 (pos 0) docs.now }
     requires place { place < length docs.now }
     requires after { hits.old.items ≡ fresh_of query.now docs.now notes.now tau to (drop (place + 1) docs.now) }
     ensures { OnOk result (hits.new.items ≡ fresh_of query.now docs.now notes.now tau to (drop place docs.now)) }
@@ -132,7 +138,6 @@ pub(crate) fn slow_hits(
     tau: i64,
     to: i64,
 ) -> Result<Rows<Hit>, Memory>
-    requires { Arrived 1 (pos 0) docs.now }
     ensures { IfOk result (λ hits. hits ≡ fresh_of query.now docs.now notes.now tau to docs.now) }
 {
     let mut hits = Vec::new(alloc);

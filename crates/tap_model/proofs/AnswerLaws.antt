@@ -8,7 +8,7 @@ use Rattle.tql_core.proofs.OfTheSecond.{of-the-second}
 use Rattle.script_lang.specs.declared.refusal.Refusal.{Refusal}
 use Rattle.script_lang.specs.declared.command.Command.{Command}
 use Rattle.tap_model.specs.declared.session.Session.{Session}
-use Rattle.tap_model.specs.Queries.{condition_in, truth_of}
+use Rattle.tap_model.specs.Queries.{condition_by, truth_of}
 use Rattle.tap_model.specs.Verdicts.{first_refusal, verdict}
 use Rattle.tap_model.specs.Replies.{answer_of, answer_by, accepted, tables_after}
 use Rattle.tap_model.specs.Stories.{Follows}
@@ -48,4 +48,4 @@ second-none (Some x) (Some y) rest e = absurd (some-none x e)
 
 -- a query's truth looks at nothing but the documents and notes that arrived by its second
 pub truth-of-second : (q : QueryRow) → IsOfTheSecond (truth_of q)
-truth-of-second q = of-the-second (condition_in q.source)
+truth-of-second q = of-the-second (condition_by q)

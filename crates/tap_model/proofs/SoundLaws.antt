@@ -26,6 +26,7 @@ use Rattle.script_lang.specs.declared.refusal.Refusal.{Refusal}
 use Rattle.script_lang.specs.declared.refusal.Refusal.TheVariants.{BadMoment, Backwards, NoMoment}
 use Rattle.script_lang.specs.declared.reply.Reply.{Reply}
 use Rattle.tap_model.specs.declared.session.Session.{Session}
+use Rattle.restart_core.specs.Starts.{is_from_now, stored_source}
 use Rattle.tap_model.specs.Sessions.{no_session, present, or_zero, user_of, later_of, greatest_of, moments_in, greatest_moment, last_moment}
 use Rattle.tap_model.specs.Queries.{truth_of, start_of, is_named, query_named}
 use Rattle.tap_model.specs.Verdicts.{verdict, first_refusal, missing, unless, is_back, text_of}
@@ -55,6 +56,11 @@ present-by session none = go session.moment refl where
   go : (moment : Option ℤ) → session.moment ≡ moment → Present session
   go (Some m) is = record { m = m; is = is }
   go None is = absurd (some-refusal NoMoment (sym (ap (missing NoMoment) is) ∙ none))
+
+-- a query doesn't start after its arrival, nor after a moment that isn't before both
+start-by : (m : ℤ) (query : QueryRow) → pos 0 ≤ℤ m → query.arrival ≤ℤ m → start_of query ≤ℤ m
+unfolding start_of
+start-by m query positive le = elim (is_from_now query.source) as (λ b. (if b then query.arrival else pos 0) ≤ℤ m) [ true ↦ le | false ↦ positive ]
 
 -- what is known of the session's moment
 now-at : (tables : Tables) (session : Session) (m : ℤ) → session.moment ≡ Some m → Sound tables session → (pos 0 ≤ℤ m) × IsBy start_of m tables
@@ -113,7 +119,7 @@ greatest-by m tables positive most =
     record {
       docs = each-of-map (λ doc. doc.arrival) m tables.docs (each-left (λ z. z ≤ℤ m) docs notes two);
       notes = each-of-map (λ note. note.arrival) m tables.notes (each-right (λ z. z ≤ℤ m) docs notes two);
-      queries = each-map (λ query. query.arrival ≤ℤ m) (λ query. (query.arrival ≤ℤ m) × (start_of query ≤ℤ m)) tables.queries (λ query le. (le, positive)) (each-of-map (λ query. query.arrival) m tables.queries (each-right (λ z. z ≤ℤ m) (docs ++ notes) queries three));
+      queries = each-map (λ query. query.arrival ≤ℤ m) (λ query. (query.arrival ≤ℤ m) × (start_of query ≤ℤ m)) tables.queries (λ query le. (le, start-by m query positive le)) (each-of-map (λ query. query.arrival) m tables.queries (each-right (λ z. z ≤ℤ m) (docs ++ notes) queries three));
       runs = each-of-map (λ run. run.moment) m tables.runs (each-right (λ z. z ≤ℤ m) (docs ++ notes ++ queries) runs four);
       filters = each-of-map (λ filter. filter.arrival) m tables.filters (each-right (λ z. z ≤ℤ m) (docs ++ notes ++ queries ++ runs) filters all);
     }
@@ -227,7 +233,7 @@ define-sound : (name source : List ℕ) (session : Session) (tables : Tables) �
 define-sound name source session tables sound there =
     let m = there.m in
     let now = now-at tables session m there.is sound in
-    let query : QueryRow = next_query tables session name source in
+    let query : QueryRow = next_query tables session name (stored_source source) in
     let at : query.arrival ≡ m = ap or_zero there.is in
     let le : query.arrival ≤ℤ m = subst (λ z. z ≤ℤ m) (sym at) (omega (arith, ints)) in
     record {
@@ -237,7 +243,7 @@ define-sound name source session tables sound there =
         record {
           docs = now.1.docs;
           notes = now.1.notes;
-          queries = each-append (λ query. (query.arrival ≤ℤ m) × (start_of query ≤ℤ m)) tables.queries (query ∷ []) now.1.queries ((le, now.0), tt);
+          queries = each-append (λ query. (query.arrival ≤ℤ m) × (start_of query ≤ℤ m)) tables.queries (query ∷ []) now.1.queries ((le, start-by m query now.0 le), tt);
           runs = now.1.runs;
           filters = now.1.filters;
         },

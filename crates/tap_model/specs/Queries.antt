@@ -1,5 +1,5 @@
 -- Queries, and a user's query of a name.
-use Rattle.std.specs.Prelude.{ℕ, List, Bool, ◌&&◌, Option, ℤ, pos, find, Result, Ok, Err}
+use Rattle.std.specs.Prelude.{ℕ, List, Bool, ◌&&◌, Option, ℤ, pos, find, Result, Ok, Err, if◌then◌else◌}
 use Rattle.std.specs.Str.{bytes_eq}
 use Rattle.tap_rows.specs.declared.tables.Tables.{Tables}
 use Rattle.tap_rows.specs.declared.rows.QueryRow.{QueryRow}
@@ -11,23 +11,28 @@ use Rattle.tql_core.specs.Condition.{Condition, Never}
 use Rattle.tql_core.specs.Holds as Holds
 use Rattle.tql_text.specs.declared.fault.TextFault.{TextFault}
 use Rattle.tql_text.specs.Texts.{condition_of}
+use Rattle.restart_core.specs.Starts.{is_from_now, condition_text}
 
 -- the condition of a reading; one with a fault is never true
 abbrev pub or_never : Result Condition TextFault → Condition
 or_never (Err fault) = Never
 or_never (Ok condition) = condition
 
--- the condition of a query's text
+-- the condition of a text
 unfoldable pub condition_in : List ℕ → Condition
-condition_in source = or_never (condition_of source)
+condition_in text = or_never (condition_of text)
 
--- a query's truth: that of its text's condition
+-- the condition of a query: that of the text in its source
+abbrev pub condition_by : QueryRow → Condition
+condition_by query = condition_in (condition_text query.source)
+
+-- a query's truth: that of its condition
 abbrev pub truth_of : QueryRow → Truth
-truth_of query = Holds.truth_of (condition_in query.source)
+truth_of query = Holds.truth_of (condition_by query)
 
--- the first second that a query covers
-abbrev pub start_of : QueryRow → ℤ
-start_of query = pos 0
+-- the first second that a query covers: its arrival where it is from now, else the first of all
+unfoldable pub start_of : QueryRow → ℤ
+start_of query = if is_from_now query.source then query.arrival else pos 0
 
 -- is it this user's query of this name?
 abbrev pub is_named : List ℕ → List ℕ → QueryRow → Bool

@@ -23,6 +23,7 @@ use Rattle.tap_model.specs.Sessions.{present, user_of}
 use Rattle.tap_model.specs.Queries.{condition_in, truth_of, start_of, query_named, hits_of, box_in}
 use Rattle.appraiser.specs.Listings.{listing_of}
 use Rattle.tap_model.specs.Filters.{rules_in_text, rules_of_user}
+use Rattle.restart_core.specs.Starts.{stored_source}
 use Rattle.tap_model.specs.Verdicts.{text_of, verdict}
 
 -- a command's reply, the session after it, and the rows that it adds
@@ -66,7 +67,7 @@ abbrev pub add_query : List ℕ → List ℕ → Session → Tables → Answer
 add_query name source session tables = record {
   reply = Defined name;
   session = session;
-  change = Some (OneQuery (next_query tables session name source));
+  change = Some (OneQuery (next_query tables session name (stored_source source)));
 }
 
 -- the next note

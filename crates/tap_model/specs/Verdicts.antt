@@ -24,6 +24,7 @@ use Rattle.appraiser.specs.declared.fault.RuleFault.{RuleFault}
 use Rattle.appraiser.specs.declared.fault.RuleFault.TheVariants as R
 use Rattle.appraiser.specs.Rules.{Rule as FilterRule}
 use Rattle.appraiser.specs.RuleTexts.{rules_of}
+use Rattle.restart_core.specs.Starts.{condition_text, stored_source}
 use Rattle.tap_model.specs.declared.session.Session.{Session}
 use Rattle.tap_model.specs.declared.limits.TheConstants.{DOCUMENT_LIMIT, NOTE_TEXT_LIMIT, NOTE_LIMIT, USER_QUERY_LIMIT, QUERY_LIMIT, USER_LIMIT, FILTER_ROW_LIMIT, RUN_LIMIT, PICK_LIMIT, STORE_LIMIT}
 use Rattle.tap_model.specs.Sessions.{present, user_of, last_moment}
@@ -69,7 +70,7 @@ reading_refusal (Err fault) = fault_refusal fault
 
 -- the first fault of a text
 unfoldable pub text_fault : List ℕ → Option Refusal
-text_fault source = reading_refusal (condition_of source)
+text_fault text = reading_refusal (condition_of text)
 
 -- a second below the last moment
 abbrev pub is_back : Option ℤ → Option ℤ → Option Refusal
@@ -93,12 +94,12 @@ no_query session name tables = missing NoQuery (query_named (user_of session) na
 
 -- a query whose run would try too many seconds
 unfoldable pub wide_refusal : List ℕ → List Doc → ℤ → Option Refusal
-wide_refusal source docs moment = unless (not (is_wide source docs moment)) NotBuilt
+wide_refusal text docs moment = unless (not (is_wide text docs moment)) NotBuilt
 
 -- the same, where there is a query
 abbrev pub too_wide : Option QueryRow → List Doc → ℤ → Option Refusal
 too_wide None docs moment = None
-too_wide (Some query) docs moment = wide_refusal query.source docs moment
+too_wide (Some query) docs moment = wide_refusal (condition_text query.source) docs moment
 
 -- a message that is too long
 abbrev pub too_long : Block → Option Refusal
@@ -162,11 +163,11 @@ checks (Define name source) session tables =
     ∷ no_user session
     ∷ bad_name name
     ∷ taken session name tables
-    ∷ text_fault source
+    ∷ text_fault (condition_text source)
     ∷ passes Queries USER_QUERY_LIMIT (queries_of (user_of session) tables) 1
     ∷ passes AllQueries QUERY_LIMIT (length tables.queries) 1
     ∷ passes Users USER_LIMIT (different (owners_in tables)) (new_users (user_of session) tables)
-    ∷ passes Store STORE_LIMIT (stored_bytes tables) (length source)
+    ∷ passes Store STORE_LIMIT (stored_bytes tables) (length (stored_source source))
     ∷ []
 checks (Run name) session tables =
     no_moment session

@@ -12,4 +12,4 @@ is_long (doc ∷ docs) moment = int_lt (doc.arrival +ℤ pos SECOND_LIMIT) momen
 
 -- a condition that speaks of now or of other rows, over so many seconds
 abbrev pub is_wide : List ℕ → List Doc → ℤ → Bool
-is_wide source docs moment = not (is_local (condition_in source)) && is_long docs moment
+is_wide text docs moment = not (is_local (condition_in text)) && is_long docs moment

@@ -1,10 +1,7 @@
 use Rattle.std.proofs.Common.{w64, to_z, of_z}
 use Rattle.std.proofs.lemmas.Int.{to_z-of_z}
-use Rattle.tap_engine.proofs.FreshLaws.{arrived-at, more-at}
+use Rattle.tap_engine.proofs.FreshLaws.{more-at}
 use Rattle.tap_engine.proofs.slow_run.put_doc.Goals as goal
-
-pub hit_in-hit-requires : goal.hit_in-hit-requires
-hit_in-hit-requires c = arrived-at c.args.docs.now c.args.place c.index-docs-place.result c.requires.arrived c.requires.place c.index-docs-place.is
 
 pub returns : goal.returns
 returns c = more-at c.args.query.now c.args.docs.now c.args.notes.now c.args.tau c.args.to (to_z w64 (of_z w64 c.args.tau)) (to_z w64 (of_z w64 c.args.to)) c.args.place c.index-docs-place.result c.hit_in-hit.result c.args.hits.now.items c.put_some.new.hits.items
