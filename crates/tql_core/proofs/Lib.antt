@@ -1,1 +1,2 @@
 pub mod OfTheSecond
+pub mod Growth
