@@ -35,7 +35,8 @@ use Rattle.time_marks.specs.declared.window.Window.{Window}
 use Rattle.monotone_rewrite.specs.Query.{distinct, distinct_onto, fold_probe, can_find, probe_of, unfolded, window}
 use Rattle.time_marks.proofs.Lists.{any_same, any_in, in_any, map_in, append_in}
 use Rattle.time_marks.proofs.Envs.{bind_same, bind_other, base_stays}
-use Rattle.monotone_rewrite.proofs.Finding.{Apart, Fine, fine, fine_from, is_value_of}
+use Rattle.monotone_rewrite.proofs.Finding.{Apart, Fine, fine, fine_from}
+use Rattle.time_marks.proofs.Orders.{is_value_of}
 use Rattle.monotone_rewrite.proofs.Folds.{Bounds, body_named, fold_truth, no_is, is_no_is, same_base_is}
 use Rattle.monotone_rewrite.specs.Laws.{IsUnionOf, WindowIsUnion, DistinctIsUnion}
 use Rattle.time_marks.proofs.Asked.{hits, first, count_between}

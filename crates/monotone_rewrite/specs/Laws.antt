@@ -8,6 +8,7 @@ use Rattle.tap_rows.specs.Grown.{Grown}
 use Rattle.tql_core.specs.Condition.{Condition}
 use Rattle.tql_core.specs.Holds.{truth_of}
 use Rattle.tql_core.specs.Scope.{In, IsQuery}
+use Rattle.time_marks.specs.Found.{IsProbe}
 use Rattle.time_marks.specs.Probes.{Probe, window_meaning, meaning_without}
 use Rattle.monotone_rewrite.specs.Query.{window, distinct}
 
@@ -56,3 +57,11 @@ pub record IsLeastGrowing (c : Condition) (T : Tables) (start : ℤ) : Type 0 wh
 
 abbrev pub UnionIsLeast : Type 0
 UnionIsLeast = (c : Condition) (T : Tables) (start : ℤ) → IsLeastGrowing c T start
+
+-- each probe binds and names its variables as it should
+abbrev pub AreProbes : List Probe → Type 0
+AreProbes X = (p : Probe) → In p X → IsProbe p
+
+-- the probes of a query's window do
+abbrev pub ProbesKeepScopes : Type 0
+ProbesKeepScopes = (c : Condition) (start : ℤ) → IsQuery c → AreProbes (window c start)

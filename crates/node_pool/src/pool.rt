@@ -44,6 +44,7 @@ impl<N: PoolNode + Drop> Pool<N> {
         ensures found { IfOk result (λ id. slice_get self.new id.0 ≡ Some node) }
         ensures err { OnErr result (self.new ≡ self.old) }
         ensures extends { Extends self.old self.new }
+        ensures is_pool { IsPool N.kids self.new }
     {
         let (index, _) = self.nodes.insert_full(node)?;
         Ok(NodeId(index as u32))
@@ -52,7 +53,8 @@ impl<N: PoolNode + Drop> Pool<N> {
     /// The node of this number.
     pub fn get(&self, id: NodeId) -> &N
         requires { id.0 < length self.now }
-        ensures { slice_get self.now id.0 ≡ Some result.now }
+        ensures node { slice_get self.now id.0 ≡ Some result.now }
+        ensures is_pool { IsPool N.kids self.now }
     {
         &self.nodes.as_slice()[id.0 as usize]
     }

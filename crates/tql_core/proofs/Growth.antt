@@ -1,13 +1,14 @@
 -- Conditions in a pool: they stay as it grows, and no two numbers have the same.
-use Rattle.std.proofs.Common.{◌≡◌, ℕ, zero, suc, ◌<◌, Bool, true, List, [], ◌∷◌, ◌++◌, length, Option, Some, None, refl, sym, ap, ◌∙◌, subst, arith}
+use Rattle.std.proofs.Common.{◌≡◌, ℕ, zero, suc, ◌<◌, Bool, true, List, [], ◌∷◌, ◌++◌, length, Option, Some, None, refl, sym, ap, ◌∙◌, subst, arith, length-append}
 use Rattle.std.specs.Prelude.{◌&&◌, slice_get, nat_lt}
 use Rattle.std.proofs.lemmas.Bool.{and_parts}
-use Rattle.node_pool.specs.Pools.{are_below, IsPool}
+use Rattle.std.proofs.lemmas.Option.{slice_get_within}
+use Rattle.node_pool.specs.Pools.{are_below, IsPool, Extends}
 use Rattle.node_pool.specs.declared.node.NodeId.{NodeId}
 use Rattle.tql_core.specs.Condition.{Condition, Not, Exists}
 use Rattle.tql_core.specs.declared.tnode.TNode.{TNode}
 use Rattle.tql_core.specs.declared.tnode.TNode.TheVariants as N
-use Rattle.tql_core.specs.Trees.{kids_of, node_tree, tree, tree_at, NodesSayTheirParts, TreesStay, EqualTreesHaveOneNumber}
+use Rattle.tql_core.specs.Trees.{kids_of, node_tree, tree, tree_at, IsTreeAt, KeepsTrees, NodesSayTheirParts, TreesStay, EqualTreesHaveOneNumber}
 
 is_below : (k n : ℕ) → nat_lt k n ≡ true → k < n
 is_below k n h = grind arith
@@ -105,3 +106,19 @@ one_number nodes p (suc n) i j a b c e =
 -- in a pool two numbers are equal just where their conditions are
 pub equal_trees : EqualTreesHaveOneNumber
 equal_trees nodes i j p a b = ((λ e. ap (tree_at nodes) e), one_number nodes p (suc i) i j (omega arith) a b)
+
+-- what the numbers of a pool say, they still say when it has grown
+pub keeps_trees : (old new : List TNode) → IsPool kids_of old → Extends old new → KeepsTrees old new
+keeps_trees old new p x id c t = record {
+  within = longer t.within;
+  is = tree_extends old new id p x t.within ∙ t.is;
+} where
+  longer : id < length old → id < length new
+  longer h = subst (λ ns. id < length ns) (sym x.is) (omega (arith, length-append old x.more))
+
+-- a new node says what its parts said
+pub node_added : (old new : List TNode) (id : ℕ) (node : TNode) → IsPool kids_of old → IsPool kids_of new → Extends old new → are_below (length old) (kids_of node) ≡ true → slice_get new id ≡ Some node → IsTreeAt new id (node_tree (Some node) (tree_at old))
+node_added old new id node p q x b e = record {
+  within = slice_get_within new id node e;
+  is = at_node new id node q e ∙ node_same (length old) node (tree_at new) (tree_at old) b (λ k h. tree_extends old new k p x h);
+}

@@ -46,3 +46,12 @@ TreesStay = (old new : List TNode) (id : ℕ) → IsPool kids_of old → Extends
 -- in a pool two numbers are equal just where their conditions are
 abbrev pub EqualTreesHaveOneNumber : Type 0
 EqualTreesHaveOneNumber = (nodes : List TNode) (i j : ℕ) → IsPool kids_of nodes → i < length nodes → j < length nodes → ((i ≡ j) ↔ (tree_at nodes i ≡ tree_at nodes j))
+
+-- there is a node of this number, and it says this
+pub record IsTreeAt (nodes : List TNode) (id : ℕ) (x : Condition) : Type 0 where
+  pub within : id < length nodes
+  pub is : tree_at nodes id ≡ x
+
+-- what the numbers of one list say, those of the other say too
+abbrev pub KeepsTrees : List TNode → List TNode → Type 0
+KeepsTrees old new = (id : ℕ) (x : Condition) → IsTreeAt old id x → IsTreeAt new id x
