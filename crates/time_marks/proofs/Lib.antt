@@ -9,3 +9,4 @@ pub mod WindowLaws
 pub mod Paths
 pub mod Orders
 pub mod SeekLaws
+pub mod Repeats

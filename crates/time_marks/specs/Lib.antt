@@ -6,4 +6,5 @@ pub mod Found
 pub mod Seeks
 pub mod Kept
 pub mod KeptParts
+pub mod Distinct
 pub mod Views

@@ -1,5 +1,6 @@
 //! Laws of marks, bodies and probes.
 ghost use Rattle.time_marks.specs.Laws.{ChangesAtMarks, BodiesHoldAtMarks};
+ghost use Rattle.time_marks.specs.Distinct.{SameProbeIsEqual, RepeatsFindNothingNew};
 ghost use Rattle.time_marks.specs.Found.{FoundInAnyOrder};
 ghost use Rattle.time_marks.specs.Seeks.{SeeksSolveMarks};
 
@@ -21,4 +22,14 @@ pub fn found_in_any_order()
 /// For every row and window a mark lies in the window just where the stored second lies in the seek's window.
 pub fn seeks_solve_marks()
     ensures { SeeksSolveMarks }
+{}
+
+/// The test of two probes is true just where they are equal.
+pub fn the_test_is_equality()
+    ensures { SameProbeIsEqual }
+{}
+
+/// Probes that equal earlier ones find nothing new.
+pub fn repeats_find_nothing_new()
+    ensures { RepeatsFindNothingNew }
 {}

@@ -39,10 +39,10 @@ use Rattle.tql_core.specs.declared.tnode.TNode.TheVariants as N
 use Rattle.tql_core.specs.contracts.tnode.TNodePartialEq.TheImpl as node
 use Rattle.node_pool.specs.declared.node.NodeId.{NodeId}
 
-var_is : (v w : Var) → var.ghosts.eq v w ≡ true → v ≡ w
+pub var_is : (v w : Var) → var.ghosts.eq v w ≡ true → v ≡ w
 var_is v w h = ap (λ k. record { 0 = k }) (eqb-true v.0 w.0 h)
 
-table_is : (a b : Table) → table.ghosts.eq a b ≡ true → a ≡ b
+pub table_is : (a b : Table) → table.ghosts.eq a b ≡ true → a ≡ b
 table_is Docs Docs h = refl
 table_is Notes Notes h = refl
 table_is _ _ h = absurd (false≢true h)

@@ -7,3 +7,4 @@ pub mod Bounds
 pub mod Scope
 pub mod Trees
 pub mod Exact
+pub mod Same

@@ -2,6 +2,7 @@
 ghost use Rattle.tap_rows.specs.Kept.{IsOfTheSecond};
 ghost use Rattle.tql_core.specs.Condition.{Condition};
 ghost use Rattle.tql_core.specs.Holds.{truth_of};
+ghost use Rattle.tql_core.specs.Same.{SameIsEqual};
 ghost use Rattle.tql_core.specs.Trees.{NodesSayTheirParts, TreesStay, EqualTreesHaveOneNumber};
 
 /// The truth of a condition at a second looks at nothing but the documents and notes that arrived by then.
@@ -22,4 +23,9 @@ pub fn trees_stay()
 /// In a pool two numbers are equal just where their conditions are.
 pub fn equal_trees_have_one_number()
     ensures { EqualTreesHaveOneNumber }
+{}
+
+/// The test of two conditions is true just where they are equal.
+pub fn the_test_is_equality()
+    ensures { SameIsEqual }
 {}
