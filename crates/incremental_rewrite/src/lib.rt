@@ -8,3 +8,6 @@ mod texts;
 
 pub use explain::render;
 pub use ranges::incremental;
+
+#[cfg(test)]
+mod tests;

@@ -84,7 +84,6 @@ pub(crate) fn put_var(alloc: Global, var: Var, into: &mut Text) -> Result<(), Me
     }
 }
 
-
 // Appends what is added to a time.
 fn put_plus(alloc: Global, n: i64, into: &mut Text) -> Result<(), Memory>
     ensures { OnOk result (into.new ≡ into.old ++ plus_text n) }
