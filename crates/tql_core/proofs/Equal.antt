@@ -1,6 +1,5 @@
 -- The test of conditions is equality.
-use Rattle.std.proofs.Common.{◌≡◌, ap, refl, subst, Bool, true, false}
-use Rattle.std.specs.Prelude.{◌&&◌}
+use Rattle.std.proofs.Common.{◌≡◌, ap, refl, subst, true}
 use Rattle.std.proofs.lemmas.Bool.{and_parts, and_from, false≢true}
 use Rattle.tql_tree.specs.contracts.table.TableEq.TheImpl.Laws as table
 use Rattle.tql_core.specs.contracts.term.VarEq.TheImpl.Laws as var
