@@ -27,6 +27,7 @@ use Rattle.time_marks.specs.Marks.{copied, copy, copy_term, guards_of, arrival_t
 use Rattle.time_marks.specs.Probes.{Probe, choices, some_rows, is_value, guards_true, come_by, fits, finds, found}
 use Rattle.monotone_rewrite.specs.Query.{probe_of, unfolded}
 use Rattle.time_marks.specs.Laws.{Keeps, Same, Along, Crossed}
+use Rattle.time_marks.proofs.Orders.{is_value_of, value_is}
 use Rattle.time_marks.proofs.Lists.{or_left, any_in, in_any, in_map, map_in, in_left, in_right, append_in}
 use Rattle.time_marks.proofs.Seconds.{reached, le_self}
 use Rattle.time_marks.proofs.Envs.{bind_other, copied_pos, guards_hold}
@@ -93,13 +94,6 @@ module _ (T : Tables) (d : Doc) where
   along_come : (s : ℤ) (path : List Step) (env final : Env) → Along T s path env final → come_by s env ≡ true → come_by s final ≡ true
   along_come s [] env final e h = subst (λ x. come_by s x ≡ true) (sym e) h
   along_come s (step ∷ path) env final (r, i, c, along) h = along_come s path (bind step.var r env) final along (and_from _ _ c h)
-
-pub is_value_of : (o : Option ℤ) (b : ℤ) → is_value o b ≡ true → o ≡ Some b
-is_value_of None b h = absurd (false≢true h)
-is_value_of (Some x) b h = ap Some ((Decides-int_eq x b).0 h)
-
-pub value_is : (o : Option ℤ) (b : ℤ) → o ≡ Some b → is_value o b ≡ true
-value_is o b e = subst (λ z. is_value z b ≡ true) (sym e) ((Decides-int_eq b b).1 refl)
 
 module _ (c : Condition) (a : ℤ) (q : IsQuery c) (T : Tables) (d : Doc) where
   only_m : (env : Env) → lookup 0 env ≡ Some (OfDoc d) → Same (0 ∷ []) (asked_of d) env

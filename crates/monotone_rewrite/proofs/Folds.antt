@@ -34,7 +34,7 @@ use Rattle.time_marks.specs.Marks.{copied, copy, copy_base, copy_term, arrival_t
 use Rattle.monotone_rewrite.specs.Folding.{Known, Yes, No, Open, known, is_no, constant, same_base, is_there, fold_atom, fold_all, fold_either, fold_not, fold_exists, fold}
 use Rattle.time_marks.specs.Probes.{Probe, choices, some_rows, is_value, guards_true, come_by, fits, finds, found}
 use Rattle.monotone_rewrite.specs.Query.{fold_probe, can_find, probe_of, unfolded, window}
-use Rattle.monotone_rewrite.specs.Found.{Named}
+use Rattle.time_marks.specs.Found.{Named}
 use Rattle.time_marks.proofs.Lists.{any_same, map_in, append_in}
 use Rattle.time_marks.proofs.Envs.{bind_same, bind_other, base_stays}
 use Rattle.monotone_rewrite.proofs.Finding.{Apart, Fine, fine, fine_if}

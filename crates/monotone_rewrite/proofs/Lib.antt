@@ -4,6 +4,7 @@ pub mod Folds
 pub mod Windows
 pub mod Growing
 pub mod Scopes
-pub mod Orders
 pub mod ProbeLists
 pub mod Worked
+pub mod SharedNodes
+pub mod Bounded

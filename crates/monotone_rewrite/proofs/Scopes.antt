@@ -24,7 +24,7 @@ use Rattle.time_marks.specs.Probes.{Probe}
 use Rattle.monotone_rewrite.specs.Query.{fold_probe, can_find, probe_of, unfolded, window}
 use Rattle.std.proofs.lemmas.Bool.{cases_Bool}
 use Rattle.monotone_rewrite.proofs.Growing.{filter_in}
-use Rattle.monotone_rewrite.specs.Found.{vars_of, Distinct, Named, IsProbe}
+use Rattle.time_marks.specs.Found.{vars_of, Distinct, Named, IsProbe}
 use Rattle.time_marks.proofs.Lists.{in_map, map_in, in_left, in_right, append_in}
 use Rattle.time_marks.proofs.Envs.{copied_back}
 use Rattle.monotone_rewrite.proofs.Folds.{base_within, atom_within, body_named}

@@ -32,10 +32,13 @@ use Rattle.time_marks.specs.Marks.{copied, copy, copy_base, copy_term, arrival_t
 use Rattle.monotone_rewrite.specs.Folding.{Known, Yes, No, Open, known, is_no, constant, same_base, is_there, fold_atom, fold_all, fold_either, fold_not, fold_exists, fold}
 use Rattle.time_marks.specs.Probes.{Probe, least, choices, some_rows, is_value, guards_true, come_by, fits, finds, found}
 use Rattle.time_marks.specs.declared.window.Window.{Window}
-use Rattle.monotone_rewrite.specs.Query.{distinct, distinct_onto, fold_probe, can_find, probe_of, unfolded, window}
+use Rattle.time_marks.specs.Distinct.{same_probe, distinct_probes}
+use Rattle.time_marks.proofs.Repeats.{probe_is, distinct_found}
+use Rattle.monotone_rewrite.specs.Query.{fold_probe, can_find, probe_of, unfolded, window}
 use Rattle.time_marks.proofs.Lists.{any_same, any_in, in_any, map_in, append_in}
 use Rattle.time_marks.proofs.Envs.{bind_same, bind_other, base_stays}
-use Rattle.monotone_rewrite.proofs.Finding.{Apart, Fine, fine, fine_from, is_value_of}
+use Rattle.monotone_rewrite.proofs.Finding.{Apart, Fine, fine, fine_from}
+use Rattle.time_marks.proofs.Orders.{is_value_of}
 use Rattle.monotone_rewrite.proofs.Folds.{Bounds, body_named, fold_truth, no_is, is_no_is, same_base_is}
 use Rattle.monotone_rewrite.specs.Laws.{IsUnionOf, WindowIsUnion, DistinctIsUnion}
 use Rattle.time_marks.proofs.Asked.{hits, first, count_between}
@@ -171,31 +174,6 @@ same_union c a X Y h u = record {
 pub window_is_union : WindowIsUnion
 window_is_union c a q st = same_union c a (window c a) (unfolded c a) (window_found c a q) (unfolded_is_union c a q st)
 
-module _ (same : Probe → Probe → Bool) (sound : (p q : Probe) → same p q ≡ true → p ≡ q) (test : Probe → Bool) where
-  seen_found : (p : Probe) (seen : List Probe) → list_any (same p) seen ≡ true → test p ≡ true → list_any test seen ≡ true
-  seen_found p seen h y = let k = any_in (same p) seen h in in_any test seen k.0 k.1 (ap test (sym (sound p k.0 k.2)) ∙ y)
-
-  pub distinct_found : (kept X : List Probe) → list_any test (distinct_onto same kept X) ≡ (list_any test kept || list_any test X)
-  distinct_found kept [] = sym (or_false (list_any test kept))
-    where
-      or_false : (x : Bool) → (x || false) ≡ x
-      or_false true = refl
-      or_false false = refl
-  distinct_found kept (p ∷ ps) =
-      elim (cases_Bool (list_any (same p) kept)) [
-        | inl y ↦ rw y (distinct_found kept ps ∙ dropped (list_any test kept) (test p) (list_any test ps) (seen_found p kept y))
-        | inr n ↦ rw n (distinct_found (kept ++ p ∷ []) ps ∙ ap (λ z. z || list_any test ps) (list_any-append test kept (p ∷ [])) ∙ grouped (list_any test kept) (test p) (list_any test ps))
-      ]
-    where
-      dropped : (s t x : Bool) → (t ≡ true → s ≡ true) → (s || x) ≡ (s || (t || x))
-      dropped true t x h = refl
-      dropped false true x h = absurd (false≢true (h refl))
-      dropped false false x h = refl
-
-      grouped : (s t x : Bool) → ((s || (t || false)) || x) ≡ (s || (t || x))
-      grouped true t x = refl
-      grouped false true x = refl
-      grouped false false x = refl
-
 pub distinct_is_union : DistinctIsUnion
-distinct_is_union same sound c a q st = same_union c a (distinct same (window c a)) (window c a) (λ T d b. distinct_found same sound (finds T d b) [] (window c a)) (window_is_union c a q st)
+distinct_is_union c a q st =
+    same_union c a (distinct_probes (window c a)) (window c a) (λ T d b. distinct_found same_probe probe_is (finds T d b) [] (window c a)) (window_is_union c a q st)

@@ -8,8 +8,10 @@ use Rattle.tap_rows.specs.Grown.{Grown}
 use Rattle.tql_core.specs.Condition.{Condition}
 use Rattle.tql_core.specs.Holds.{truth_of}
 use Rattle.tql_core.specs.Scope.{In, IsQuery}
+use Rattle.time_marks.specs.Found.{IsProbe}
 use Rattle.time_marks.specs.Probes.{Probe, window_meaning, meaning_without}
-use Rattle.monotone_rewrite.specs.Query.{window, distinct}
+use Rattle.time_marks.specs.Distinct.{distinct_probes}
+use Rattle.monotone_rewrite.specs.Query.{window}
 
 -- the documents arrived at 1970-01-01T00:00:00Z or later
 abbrev pub FromZero : Tables → Type 0
@@ -25,11 +27,9 @@ pub record IsUnionOf (c : Condition) (start : ℤ) (X : List Probe) : Type 0 whe
 abbrev pub WindowIsUnion : Type 0
 WindowIsUnion = (c : Condition) (start : ℤ) → IsQuery c → pos 0 ≤ℤ start → IsUnionOf c start (window c start)
 
--- leaving out probes that equal earlier ones keeps the meaning
+-- the same of the distinct probes
 abbrev pub DistinctIsUnion : Type 0
-DistinctIsUnion =
-    (same : Probe → Probe → Bool) → ((p q : Probe) → same p q ≡ true → p ≡ q)
-    → (c : Condition) (start : ℤ) → IsQuery c → pos 0 ≤ℤ start → IsUnionOf c start (distinct same (window c start))
+DistinctIsUnion = (c : Condition) (start : ℤ) → IsQuery c → pos 0 ≤ℤ start → IsUnionOf c start (distinct_probes (window c start))
 
 -- rows that come at t or later change no first second below t
 abbrev pub LaterRowsKeepFirst : Type 0
@@ -56,3 +56,11 @@ pub record IsLeastGrowing (c : Condition) (T : Tables) (start : ℤ) : Type 0 wh
 
 abbrev pub UnionIsLeast : Type 0
 UnionIsLeast = (c : Condition) (T : Tables) (start : ℤ) → IsLeastGrowing c T start
+
+-- each probe binds and names its variables as it should
+abbrev pub AreProbes : List Probe → Type 0
+AreProbes X = (p : Probe) → In p X → IsProbe p
+
+-- the probes of a query's window do
+abbrev pub ProbesKeepScopes : Type 0
+ProbesKeepScopes = (c : Condition) (start : ℤ) → IsQuery c → AreProbes (window c start)

@@ -1,4 +1,4 @@
 pub mod Folding
 pub mod Query
 pub mod Laws
-pub mod Found
+pub mod Kinds

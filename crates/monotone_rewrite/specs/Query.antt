@@ -26,16 +26,3 @@ unfolded c a = map (probe_of c) (rising_from c a)
 -- the window query: folded, and without the probes whose body folded to false
 abbrev pub window : Condition → ℤ → List Probe
 window c a = filter can_find (map fold_probe (unfolded c a))
-
--- the kept probes with one more, unless it equals one of them
-abbrev pub kept_with : (Probe → Probe → Bool) → List Probe → Probe → List Probe
-kept_with same kept p = if list_any (same p) kept then kept else kept ++ p ∷ []
-
--- those kept, and then each probe that equals none before it
-abbrev pub distinct_onto : (Probe → Probe → Bool) → List Probe → List Probe → List Probe
-distinct_onto same kept [] = kept
-distinct_onto same kept (p ∷ ps) = distinct_onto same (kept_with same kept p) ps
-
--- the list without each probe that equals an earlier one
-abbrev pub distinct : (Probe → Probe → Bool) → List Probe → List Probe
-distinct same X = distinct_onto same [] X

@@ -1,13 +1,16 @@
-ghost use Rattle.std.specs.Prelude.{◌≡◌, IfOk};
-ghost use Rattle.tql_core.specs.Condition.{condition, timeless};
+ghost use Rattle.std.specs.Prelude.{◌≡◌, IfOk, OnOk};
+ghost use Rattle.tql_core.specs.Condition.{condition};
+ghost use Rattle.tql_core.specs.Trees.{IsTreeAt, KeepsTrees};
 ghost use Rattle.tql_core.specs.Values.{compare};
 ghost use Rattle.time_marks.specs.Marks.{body};
-ghost use Rattle.monotone_rewrite.specs.Folding.{known, constant, same_base, is_there, fold_atom, fold_all, fold_either, fold_not, fold_exists, fold};
+ghost use Rattle.monotone_rewrite.specs.Folding.{same_base, is_there, fold_atom, fold};
 
-use std::alloc::Global;
+use crate::shared::{
+    shared, shared_all, shared_constant, shared_either, shared_exists, shared_not,
+};
+use node_pool::{NodeId, Pool};
 use tap_base::{Copied, Memory, Op};
-use tql_core::{Atom, Base, Cond, Term, Timeless, Var};
-use tql_tree::Table;
+use tql_core::{Atom, Base, Cond, TNode, Term};
 
 // Does the comparison of two numbers hold?
 fn compares(op: Op, x: i64, y: i64) -> bool
@@ -50,115 +53,63 @@ fn is_there(at: &Term, base: Base) -> bool
     }
 }
 
-// True or False.
-fn constant(truth: bool) -> Timeless
-    ensures { timeless result ≡ constant truth }
-{
-    if truth {
-        Timeless::True
-    } else {
-        Timeless::False
-    }
-}
-
 // An atom, where what is known of it is worked out.
-fn folded_atom(at: &Term, atom: Atom) -> Timeless
-    ensures { timeless result ≡ fold_atom at.now atom }
+fn folded_atom(pool: &mut Pool<TNode>, at: &Term, atom: Atom) -> Result<NodeId, Memory>
+    ensures kept { OnOk result (KeepsTrees pool.old pool.new) }
+    ensures tree { IfOk result (λ id. IsTreeAt pool.new id.0 (fold_atom at.now atom)) }
 {
     match atom {
-        Atom::Numbers(x, op, y) => Timeless::Plain(Atom::Numbers(x, op, y)),
-        Atom::Texts(x, op, y) => Timeless::Plain(Atom::Texts(x, op, y)),
-        Atom::Has(v, f, y) => Timeless::Plain(Atom::Has(v, f, y)),
+        Atom::Numbers(x, op, y) => shared(pool, TNode::Plain(Atom::Numbers(x, op, y))),
+        Atom::Texts(x, op, y) => shared(pool, TNode::Plain(Atom::Texts(x, op, y))),
+        Atom::Has(v, f, y) => shared(pool, TNode::Plain(Atom::Has(v, f, y))),
         Atom::Times(x, op, y) => {
             if is_same_base(x.base, y.base) && is_there(at, x.base) {
-                constant(compares(op, x.plus, y.plus))
+                shared_constant(pool, compares(op, x.plus, y.plus))
             } else {
-                Timeless::Plain(Atom::Times(x, op, y))
+                shared(pool, TNode::Plain(Atom::Times(x, op, y)))
             }
         }
     }
 }
 
-// Both, where what is known of either is worked out.
-fn folded_all(alloc: Global, l: Timeless, r: Timeless) -> Result<Timeless, Memory>
-    ensures { IfOk result (λ b. timeless b ≡ fold_all (known (timeless l)) (known (timeless r)) (timeless l) (timeless r)) }
-{
-    match (l, r) {
-        (Timeless::False, _) => Ok(Timeless::False),
-        (Timeless::True, r) => Ok(r),
-        (_, Timeless::False) => Ok(Timeless::False),
-        (l, Timeless::True) => Ok(l),
-        (l, r) => Ok(Timeless::All(Box::new(alloc, l)?, Box::new(alloc, r)?)),
-    }
-}
-
-// The opposite, where what is known is worked out.
-fn folded_not(alloc: Global, x: Timeless) -> Result<Timeless, Memory>
-    ensures { IfOk result (λ b. timeless b ≡ fold_not (known (timeless x)) (timeless x)) }
-{
-    match x {
-        Timeless::True => Ok(Timeless::False),
-        Timeless::False => Ok(Timeless::True),
-        x => Ok(Timeless::Not(Box::new(alloc, x)?)),
-    }
-}
-
-// Some row, unless none can be one.
-fn folded_exists(alloc: Global, var: Var, table: Table, x: Timeless) -> Result<Timeless, Memory>
-    ensures { IfOk result (λ b. timeless b ≡ fold_exists (known (timeless x)) var table (timeless x)) }
-{
-    match x {
-        Timeless::False => Ok(Timeless::False),
-        x => Ok(Timeless::Exists(var, table, Box::new(alloc, x)?)),
-    }
-}
-
-// Either, where what is known of one is worked out.
-fn folded_either(alloc: Global, l: Timeless, r: Timeless) -> Result<Timeless, Memory>
-    ensures { IfOk result (λ b. timeless b ≡ fold_either (known (timeless l)) (known (timeless r)) (timeless l) (timeless r)) }
-{
-    match (l, r) {
-        (Timeless::True, _) => Ok(Timeless::True),
-        (Timeless::False, r) => Ok(r),
-        (_, Timeless::True) => Ok(Timeless::True),
-        (l, Timeless::False) => Ok(l),
-        (l, r) => Ok(Timeless::Either(Box::new(alloc, l)?, Box::new(alloc, r)?)),
-    }
-}
-
-/// The body of the condition at the term, folded.
-pub(crate) fn folded_body(alloc: Global, cond: &Cond, at: &Term) -> Result<Timeless, Memory>
-    ensures { IfOk result (λ b. timeless b ≡ fold at.now (body (condition cond.now) at.now)) }
+/// The body of the condition at the term, folded, as a node of the pool.
+pub(crate) fn folded_body(pool: &mut Pool<TNode>, cond: &Cond, at: &Term) -> Result<NodeId, Memory>
+    ensures kept { OnOk result (KeepsTrees pool.old pool.new) }
+    ensures tree { IfOk result (λ id. IsTreeAt pool.new id.0 (fold at.now (body (condition cond.now) at.now))) }
 {
     match cond {
-        Cond::True => Ok(Timeless::True),
-        Cond::False => Ok(Timeless::False),
-        Cond::Plain(atom) => Ok(folded_atom(at, atom.copied()?)),
-        Cond::NowAtLeast(term) => Ok(folded_atom(at, Atom::Times(*at, Op::Ge, *term))),
-        Cond::NowBefore(term) => Ok(folded_atom(at, Atom::Times(*at, Op::Lt, *term))),
+        Cond::True => shared(pool, TNode::True),
+        Cond::False => shared(pool, TNode::False),
+        Cond::Plain(atom) => folded_atom(pool, at, atom.copied()?),
+        Cond::NowAtLeast(term) => folded_atom(pool, at, Atom::Times(*at, Op::Ge, *term)),
+        Cond::NowBefore(term) => folded_atom(pool, at, Atom::Times(*at, Op::Lt, *term)),
         Cond::All(l, r) => {
-            let left = folded_body(alloc, l, at)?;
-            let right = folded_body(alloc, r, at)?;
-            folded_all(alloc, left, right)
+            let left = folded_body(pool, l, at)?;
+            let right = folded_body(pool, r, at)?;
+            let both = shared_all(pool, left, right)?;
+            Ok(both)
         }
         Cond::Either(l, r) => {
-            let left = folded_body(alloc, l, at)?;
-            let right = folded_body(alloc, r, at)?;
-            folded_either(alloc, left, right)
+            let left = folded_body(pool, l, at)?;
+            let right = folded_body(pool, r, at)?;
+            let either = shared_either(pool, left, right)?;
+            Ok(either)
         }
         Cond::Not(x) => {
-            let inner = folded_body(alloc, x, at)?;
-            folded_not(alloc, inner)
+            let inner = folded_body(pool, x, at)?;
+            let opposite = shared_not(pool, inner)?;
+            Ok(opposite)
         }
         Cond::Exists(var, table, x) => {
             let arrival = Term {
                 base: Base::Arrival(*var),
                 plus: 0,
             };
-            let here = folded_atom(at, Atom::Times(arrival, Op::Le, *at));
-            let inner = folded_body(alloc, x, at)?;
-            let both = folded_all(alloc, here, inner)?;
-            folded_exists(alloc, *var, *table, both)
+            let here = folded_atom(pool, at, Atom::Times(arrival, Op::Le, *at))?;
+            let inner = folded_body(pool, x, at)?;
+            let both = shared_all(pool, here, inner)?;
+            let some = shared_exists(pool, *var, *table, both)?;
+            Ok(some)
         }
     }
 }

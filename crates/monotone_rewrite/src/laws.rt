@@ -1,6 +1,5 @@
 //! Laws of window queries, over their definitions alone.
-ghost use Rattle.monotone_rewrite.specs.Laws.{WindowIsUnion, DistinctIsUnion, LaterRowsKeepFirst, UnionIsLeast};
-ghost use Rattle.monotone_rewrite.specs.Found.{ProbesKeepScopes, FoundInAnyOrder};
+ghost use Rattle.monotone_rewrite.specs.Laws.{WindowIsUnion, DistinctIsUnion, LaterRowsKeepFirst, UnionIsLeast, ProbesKeepScopes};
 
 /// The window query over the past seconds gives the union of what was given at each of them, with first seconds; and
 /// over the seconds since the last run, without what was given before, what is fresh.
@@ -26,9 +25,4 @@ pub fn the_union_is_least()
 /// Each probe of a window query binds and names its variables as it should.
 pub fn probes_keep_scopes()
     ensures { ProbesKeepScopes }
-{}
-
-/// A probe finds a document just where each step has a row, in whatever order they are looked for.
-pub fn found_in_any_order()
-    ensures { FoundInAnyOrder }
 {}

@@ -3,6 +3,7 @@
 
 mod folded;
 pub mod laws;
+mod shared;
 mod window_query;
 
 pub use window_query::{monotone, monotone_from};

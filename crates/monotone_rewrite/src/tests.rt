@@ -42,10 +42,12 @@ fn never(alloc: Global) -> Result<Cond, Memory>
 fn a_condition_has_its_probes(rt: HostRuntime) -> Result<(), Memory> {
     let alloc = rt.alloc();
     let cond = unnoted(alloc)?;
-    let probes = monotone(alloc, &cond)?;
+    let query = monotone(alloc, &cond)?;
+    let probes = query.probes.as_slice();
     assert_eq!(rt; probes.len(), 2);
-    assert_eq!(rt; probes.as_slice()[0].at, arrival(0, 0));
-    assert_eq!(rt; probes.as_slice()[1].at, arrival(9, 5));
+    assert_eq!(rt; probes[0].at, arrival(0, 0));
+    assert_eq!(rt; probes[1].at, arrival(9, 5));
+    assert_ne!(rt; probes[0].body, probes[1].body);
     Ok(())
 }
 
@@ -53,7 +55,7 @@ fn a_condition_has_its_probes(rt: HostRuntime) -> Result<(), Memory> {
 fn what_is_never_true_has_no_probe(rt: HostRuntime) -> Result<(), Memory> {
     let alloc = rt.alloc();
     let cond = never(alloc)?;
-    let probes = monotone(alloc, &cond)?;
-    assert_eq!(rt; probes.len(), 0);
+    let query = monotone(alloc, &cond)?;
+    assert_eq!(rt; query.probes.len(), 0);
     Ok(())
 }

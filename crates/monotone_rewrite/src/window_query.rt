@@ -1,39 +1,50 @@
-ghost use Rattle.std.specs.Prelude.{◌≡◌, pos, ◌≤ℤ◌, [], ◌∷◌, ◌++◌, IfOk, OnOk, not};
+ghost use Rattle.std.specs.Prelude.{◌≡◌, ◌<◌, pos, ◌≤ℤ◌, [], ◌∷◌, ◌++◌, IfOk, OnOk, not, true, length};
 ghost use Rattle.std.specs.List.{filter};
-ghost use Rattle.tql_core.specs.Condition.{condition, timeless};
-ghost use Rattle.tql_core.specs.Scope.{IsQuery};
-ghost use Rattle.time_marks.specs.Views.{probe_view, probes_view};
+ghost use Rattle.tql_core.specs.Bounds.{are_bounded, is_bounded};
+ghost use Rattle.tql_core.specs.Condition.{condition};
+ghost use Rattle.tql_core.specs.Scope.{In, IsQuery};
+ghost use Rattle.tql_core.specs.Trees.{tree_at};
+ghost use Rattle.time_marks.specs.Found.{IsProbe};
+ghost use Rattle.time_marks.specs.Kept.{are_kept};
+ghost use Rattle.time_marks.specs.Probes.{Probe as ProbeView};
+ghost use Rattle.time_marks.specs.Views.{probe_in, probes_in, probes_of};
 ghost use Rattle.monotone_rewrite.specs.Folding.{known, is_no};
 ghost use Rattle.monotone_rewrite.specs.Query.{can_find, fold_probe, probe_of, window};
-ghost use Rattle.monotone_rewrite.specs.Laws.{IsUnionOf};
+ghost use Rattle.monotone_rewrite.specs.Laws.{IsUnionOf, AreProbes};
 
 use crate::folded::folded_body;
+use crate::shared::{Kind, kind_of};
+use node_pool::{NodeId, Pool};
 use std::alloc::Global;
 use tap_base::{Memory, Rows};
-use time_marks::{Mark, Probe, rising_from};
-use tql_core::{Cond, Timeless};
+use time_marks::{Mark, Probe, WindowQuery, rising_from};
+use tql_core::{Cond, TNode};
 
 // Is the body anything but False?
-fn can_find(body: &Timeless) -> bool
-    ensures { result ≡ not (is_no (known (timeless body.now))) }
+fn can_find(pool: &Pool<TNode>, body: NodeId) -> bool
+    requires { body.0 < length pool.now }
+    ensures { result ≡ not (is_no (known (tree_at pool.now body.0))) }
 {
-    match body {
-        Timeless::False => false,
+    match kind_of(pool, body) {
+        Kind::No => false,
         _ => true,
     }
 }
 
-// Appends the mark's probe, unless its body is False.
-fn add_probe(
-    alloc: Global,
-    cond: &Cond,
+// Appends the probe of a mark with this body, unless the body is False.
+fn push_probe(
+    pool: &Pool<TNode>,
     mark: &Mark,
+    body: NodeId,
     probes: &mut Rows<Probe>,
 ) -> Result<(), Memory>
-    ensures { OnOk result (probes_view probes.new ≡ probes_view probes.old ++ filter can_find (fold_probe (probe_of (condition cond.now) mark.now) ∷ [])) }
+    requires within { body.0 < length pool.now }
+    requires bounded { is_bounded mark.now.at ≡ true }
+    requires kept { are_kept pool.now probes.old ≡ true }
+    ensures kept { OnOk result (are_kept pool.now probes.new ≡ true) }
+    ensures probes { OnOk result (probes_in pool.now probes.new ≡ probes_in pool.now probes.old ++ filter can_find (record { path = mark.now.path; at = mark.now.at; body = tree_at pool.now body.0 } ∷ [])) }
 {
-    let body = folded_body(alloc, cond, &mark.at)?;
-    if can_find(&body) {
+    if can_find(pool, body) {
         let path = mark.path.copy()?;
         probes.push(Probe {
             path,
@@ -44,38 +55,66 @@ fn add_probe(
     Ok(())
 }
 
+// Appends the mark's probe, unless its body is False.
+fn add_probe(
+    pool: &mut Pool<TNode>,
+    cond: &Cond,
+    mark: &Mark,
+    probes: &mut Rows<Probe>,
+) -> Result<(), Memory>
+    requires bounded { is_bounded mark.now.at ≡ true }
+    requires kept { are_kept pool.old probes.old ≡ true }
+    ensures kept { OnOk result (are_kept pool.new probes.new ≡ true) }
+    ensures probes { OnOk result (probes_in pool.new probes.new ≡ probes_in pool.old probes.old ++ filter can_find (fold_probe (probe_of (condition cond.now) mark.now) ∷ [])) }
+{
+    let body = folded_body(pool, cond, &mark.at)?;
+    push_probe(pool, mark, body, probes)?;
+    Ok(())
+}
+
 // The window query of the condition.
-fn window_probes(alloc: Global, cond: &Cond, start: i64) -> Result<Rows<Probe>, Memory>
-    requires { IsQuery (condition cond.now) }
-    ensures { IfOk result (λ probes. probes_view probes ≡ window (condition cond.now) start) }
+fn window_query(alloc: Global, cond: &Cond, start: i64) -> Result<WindowQuery, Memory>
+    requires scoped { IsQuery (condition cond.now) }
+    requires bounded { are_bounded (condition cond.now) ≡ true }
+    requires start { start ≤ℤ pos 250000000000 }
+    requires from_zero { pos 0 ≤ℤ start }
+    ensures { IfOk result (λ query. probes_of query ≡ window (condition cond.now) start) }
 {
     let marks = rising_from(alloc, cond, start)?;
+    let mut pool = Pool::new(alloc);
     let mut probes = Rows::new(alloc);
     for mark in marks.as_slice() {
-        add_probe(alloc, cond, mark, &mut probes)?;
+        add_probe(&mut pool, cond, mark, &mut probes)?;
     }
-    Ok(probes)
+    Ok(WindowQuery { pool, probes })
 }
 
 /// The window query of a condition that is asked for the seconds from the start on: a probe for each of its rising
 /// marks, folded, without those whose body is False. Over the window from the start to t it finds each document that
 /// was given at some second below t, with the first such second, and no other; it is the minimum bounding monotone
-/// query. The condition names no variable but `m` and those that its EXISTS bind. `Memory` comes only for want of memory.
-pub fn monotone_from(alloc: Global, cond: &Cond, start: i64) -> Result<Rows<Probe>, Memory>
+/// query. Its probes bind and name their variables as they should. The condition names no variable but `m` and those
+/// that its EXISTS bind, and its times are as typing gives them. `Memory` comes for want of memory, and where the bodies
+/// have more than 4,294,967,295 nodes.
+pub fn monotone_from(alloc: Global, cond: &Cond, start: i64) -> Result<WindowQuery, Memory>
     requires scoped { IsQuery (condition cond.now) }
+    requires bounded { are_bounded (condition cond.now) ≡ true }
     requires from_zero { pos 0 ≤ℤ start }
-    ensures is_window { IfOk result (λ probes. probes_view probes ≡ window (condition cond.now) start) }
-    ensures is_union { IfOk result (λ probes. IsUnionOf (condition cond.now) start (probes_view probes)) }
+    requires start { start ≤ℤ pos 250000000000 }
+    ensures is_window { IfOk result (λ query. probes_of query ≡ window (condition cond.now) start) }
+    ensures is_union { IfOk result (λ query. IsUnionOf (condition cond.now) start (probes_of query)) }
+    ensures scopes { IfOk result (λ query. AreProbes (probes_of query)) }
 {
-    let probes = window_probes(alloc, cond, start)?;
-    Ok(probes)
+    let query = window_query(alloc, cond, start)?;
+    Ok(query)
 }
 
 /// The window query of a condition that is asked for all seconds from 0.
-pub fn monotone(alloc: Global, cond: &Cond) -> Result<Rows<Probe>, Memory>
-    requires { IsQuery (condition cond.now) }
-    ensures is_window { IfOk result (λ probes. probes_view probes ≡ window (condition cond.now) (pos 0)) }
-    ensures is_union { IfOk result (λ probes. IsUnionOf (condition cond.now) (pos 0) (probes_view probes)) }
+pub fn monotone(alloc: Global, cond: &Cond) -> Result<WindowQuery, Memory>
+    requires scoped { IsQuery (condition cond.now) }
+    requires bounded { are_bounded (condition cond.now) ≡ true }
+    ensures is_window { IfOk result (λ query. probes_of query ≡ window (condition cond.now) (pos 0)) }
+    ensures is_union { IfOk result (λ query. IsUnionOf (condition cond.now) (pos 0) (probes_of query)) }
+    ensures scopes { IfOk result (λ query. AreProbes (probes_of query)) }
 {
     monotone_from(alloc, cond, 0)
 }

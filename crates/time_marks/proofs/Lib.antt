@@ -7,3 +7,6 @@ pub mod Bodies
 pub mod Fits
 pub mod WindowLaws
 pub mod Paths
+pub mod Orders
+pub mod SeekLaws
+pub mod Repeats

@@ -2,4 +2,9 @@ pub mod Marks
 pub mod Probes
 pub mod Windows
 pub mod Laws
+pub mod Found
+pub mod Seeks
+pub mod Kept
+pub mod KeptParts
+pub mod Distinct
 pub mod Views

@@ -4,14 +4,24 @@
 mod copies;
 pub mod laws;
 mod mark;
+mod plan;
 mod probe;
+mod ranged;
+mod ranged_query;
 mod rising_marks;
+mod seek;
 mod window;
+mod window_query;
 
 pub use mark::{Mark, Step};
+pub use plan::{Access, Plan, Reach};
 pub use probe::Probe;
+pub use ranged::Ranged;
+pub use ranged_query::RangedQuery;
 pub use rising_marks::{rising, rising_from};
+pub use seek::Seek;
 pub use window::Window;
+pub use window_query::WindowQuery;
 
 #[cfg(test)]
 mod tests;

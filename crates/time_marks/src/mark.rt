@@ -5,7 +5,7 @@ use tql_core::{Atom, Term, Var};
 use tql_tree::Table;
 
 /// A row to be found: its variable, its table, and atoms that it makes true.
-#[derive(Drop)]
+#[derive(PartialEq, Eq, Drop)]
 pub struct Step {
     pub var: Var,
     pub table: Table,

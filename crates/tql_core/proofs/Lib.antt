@@ -1,1 +1,3 @@
 pub mod OfTheSecond
+pub mod Growth
+pub mod Equal

@@ -5,8 +5,6 @@ use Rattle.tql_core.specs.declared.term.Term.{Term}
 use Rattle.tql_core.specs.declared.atom.Atom.{Atom}
 use Rattle.tql_core.specs.declared.cond.Cond.{Cond}
 use Rattle.tql_core.specs.declared.cond.Cond.TheVariants as C
-use Rattle.tql_core.specs.declared.timeless.Timeless.{Timeless}
-use Rattle.tql_core.specs.declared.timeless.Timeless.TheVariants as B
 
 -- a condition; one with neither NowAtLeast nor NowBefore is timeless
 pub data Condition : Type 0 where
@@ -31,13 +29,3 @@ condition (C.All' p l q r) = All (condition l) (condition r)
 condition (C.Either' p l q r) = Either (condition l) (condition r)
 condition (C.Not' p x) = Not (condition x)
 condition (C.Exists' v t p x) = Exists v t (condition x)
-
--- what the code's timeless condition says
-abbrev pub timeless : Timeless → Condition
-timeless B.True = Always
-timeless B.False = Never
-timeless (B.Plain a) = Plain a
-timeless (B.All' p l q r) = All (timeless l) (timeless r)
-timeless (B.Either' p l q r) = Either (timeless l) (timeless r)
-timeless (B.Not' p x) = Not (timeless x)
-timeless (B.Exists' v t p x) = Exists v t (timeless x)

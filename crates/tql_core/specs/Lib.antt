@@ -5,3 +5,6 @@ pub mod Holds
 pub mod Bindings
 pub mod Bounds
 pub mod Scope
+pub mod Trees
+pub mod Exact
+pub mod Same

@@ -42,7 +42,7 @@ pub enum NumExpr {
 }
 
 /// A text, or a field of a variable's row.
-#[derive(Drop)]
+#[derive(PartialEq, Eq, Hash, Drop)]
 pub enum TextExpr {
     Literal(Text),
     Field(Var, TextField),
@@ -50,7 +50,7 @@ pub enum TextExpr {
 
 /// A condition on rows that does not speak of now: a comparison of two numbers, texts or times, or whether a list
 /// holds a text.
-#[derive(Drop)]
+#[derive(PartialEq, Eq, Hash, Drop)]
 pub enum Atom {
     Numbers(NumExpr, Op, NumExpr),
     Texts(TextExpr, Op, TextExpr),

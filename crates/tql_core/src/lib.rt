@@ -8,7 +8,8 @@ mod env;
 pub mod laws;
 mod row_ref;
 mod term;
-mod timeless;
+mod tnode;
+mod tnode_pool;
 mod values;
 
 pub use atom::{Atom, ListField, NumExpr, NumField, TextExpr, TextField};
@@ -17,7 +18,8 @@ pub use cond::Cond;
 pub use env::Env;
 pub use row_ref::RowRef;
 pub use term::{Base, Term, Var};
-pub use timeless::Timeless;
+pub use tnode::TNode;
+pub use tnode_pool::node_at;
 pub use values::value;
 
 #[cfg(test)]

@@ -1,4 +1,5 @@
-use crate::{Atom, ListField, TextExpr, Var};
+use crate::{Atom, ListField, TNode, TextExpr, Var};
+use node_pool::{Pool, PoolNode};
 use tap_base::{Copied, Memory, Text};
 
 #[test]
@@ -13,5 +14,19 @@ fn an_atom_is_copied(rt: HostRuntime) -> Result<(), Memory> {
         }
         _ => assert!(rt; false),
     }
+    Ok(())
+}
+
+#[test]
+fn equal_nodes_have_one_number(rt: HostRuntime) -> Result<(), Memory> {
+    let mut pool = Pool::new(rt.alloc());
+    let always = pool.intern(TNode::True)?;
+    let not = pool.intern(TNode::Not(always))?;
+    let again = pool.intern(TNode::True)?;
+    assert_eq!(rt; always.0, 0);
+    assert_eq!(rt; not.0, 1);
+    assert_eq!(rt; again.0, 0);
+    assert_eq!(rt; pool.len(), 2);
+    assert_eq!(rt; TNode::Not(not).kids_below(1), false);
     Ok(())
 }

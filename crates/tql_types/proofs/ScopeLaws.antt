@@ -280,7 +280,7 @@ first-knows variable (inr i) = absurd i
 abbrev ok : Condition → Result Condition TypeFault
 ok c = Ok c
 
-typed-parts : (fault : Option TypeFault) (c x : Condition) → unless_fault fault c ≡ Ok x → (fault ≡ None) × (c ≡ x)
+pub typed-parts : (fault : Option TypeFault) (c x : Condition) → unless_fault fault c ≡ Ok x → (fault ≡ None) × (c ≡ x)
 typed-parts (Some f) c x e = absurd cc
 typed-parts None c x e =
     elim (cases_Bool (nat_le (nodes c) NODE_LIMIT)) [

@@ -1,12 +1,18 @@
 use Rattle.std.proofs.Common.{◌≡◌, rules, sym, subst}
 use Rattle.tql_core.specs.Condition.{condition}
-use Rattle.time_marks.specs.Views.{probes_view}
+use Rattle.time_marks.specs.Views.{probes_of}
 use Rattle.monotone_rewrite.specs.Query.{window}
-use Rattle.monotone_rewrite.specs.Laws.{IsUnionOf}
+use Rattle.monotone_rewrite.specs.Laws.{IsUnionOf, AreProbes}
+use Rattle.monotone_rewrite.proofs.Scopes.{is_window_probe}
 use Rattle.monotone_rewrite.proofs.Windows.{window_is_union}
 use Rattle.monotone_rewrite.proofs.window_query.monotone_from.Goals as goal
 
 pub returns-clause-is_union : goal.returns-clause-is_union
 returns-clause-is_union c =
-    let w : probes_view c.in_ok-probes.probes ≡ window (condition c.args.cond.now) c.args.start = search rules in
+    let w : probes_of c.in_ok-query.query ≡ window (condition c.args.cond.now) c.args.start = search rules in
     subst (λ X. IsUnionOf (condition c.args.cond.now) c.args.start X) (sym w) (window_is_union (condition c.args.cond.now) c.args.start c.requires.scoped c.requires.from_zero)
+
+pub returns-clause-scopes : goal.returns-clause-scopes
+returns-clause-scopes c =
+    let w : probes_of c.in_ok-query.query ≡ window (condition c.args.cond.now) c.args.start = search rules in
+    subst AreProbes (sym w) (is_window_probe (condition c.args.cond.now) c.args.start c.requires.scoped)

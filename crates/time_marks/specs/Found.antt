@@ -7,10 +7,9 @@ use Rattle.tql_core.specs.Row.{Row, arrival}
 use Rattle.tap_rows.specs.declared.tables.Tables.{Tables}
 use Rattle.tql_core.specs.Values.{Env, lookup, value, true_atom}
 use Rattle.tql_core.specs.Holds.{truth}
-use Rattle.tql_core.specs.Scope.{In, BaseIn, AtomIn, IsQuery}
+use Rattle.tql_core.specs.Scope.{In, BaseIn, AtomIn}
 use Rattle.time_marks.specs.declared.mark.Step.{Step}
 use Rattle.time_marks.specs.Probes.{Probe, choices, finds}
-use Rattle.monotone_rewrite.specs.Query.{window}
 
 abbrev pub vars_of : List Step → List ℕ
 vars_of path = map (λ step. step.var.0) path
@@ -47,10 +46,6 @@ pub record Finds (T : Tables) (d : Doc) (b : ℤ) (p : Probe) : Type 0 where
   pub guards : (step : Step) → In step p.path → (a : Atom) → In a step.guards → true_atom a env ≡ true
   pub at : value p.at env ≡ Some b
   pub body : truth T (pos 0) p.body env ≡ true
-
--- every probe of a query's window keeps its scopes
-abbrev pub ProbesKeepScopes : Type 0
-ProbesKeepScopes = (c : Condition) (a : ℤ) → IsQuery c → (p : Probe) → In p (window c a) → IsProbe p
 
 -- a probe finds a document just where each step has a row, however these are looked for
 abbrev pub FoundInAnyOrder : Type 0

@@ -2,7 +2,8 @@
 use Rattle.std.proofs.Common.{◌≡◌, ℕ, zero, suc, ◌+◌, ◌≤◌, ◌<◌, ℤ, pos, Bool, true, false, not, Option, Some, None, List, [], ◌∷◌, ◌++◌, refl, sym, ap, ◌∙◌, subst, inl, inr, arith}
 use Rattle.std.specs.Prelude.{◌⊎◌, ◌&&◌, ◌||◌, map, int_le}
 use Rattle.std.specs.List.{list_any, list_all}
-use Rattle.std.proofs.lemmas.Bool.{cases_eq, and_parts, and_from}
+use Rattle.std.proofs.lemmas.Bool.{cases_eq, and_parts, and_from, false≢true}
+use Rattle.std.proofs.lemmas.Bool.Decides.{Decides-int_eq}
 use Rattle.tap_rows.specs.declared.rows.Doc.{Doc}
 use Rattle.tql_core.specs.declared.atom.Atom.{Atom}
 use Rattle.tql_core.specs.Condition.{Condition, Always, Never, Plain, NowAtLeast, NowBefore, All, Either, Not, Exists}
@@ -13,11 +14,17 @@ use Rattle.tql_core.specs.Holds.{truth}
 use Rattle.tql_core.specs.Scope.{In, BaseIn, AtomIn}
 use Rattle.time_marks.specs.declared.mark.Step.{Step}
 use Rattle.time_marks.specs.Probes.{Probe, choices, some_rows, is_value, guards_true, come_by, fits, finds}
-use Rattle.monotone_rewrite.specs.Found.{vars_of, Distinct, Named, IsProbe, Finds, FoundInAnyOrder}
+use Rattle.time_marks.specs.Found.{vars_of, Distinct, Named, IsProbe, Finds, FoundInAnyOrder}
 use Rattle.time_marks.specs.Laws.{Same}
 use Rattle.time_marks.proofs.Lists.{any_in, in_any, any_same, all_in, in_map}
 use Rattle.time_marks.proofs.Envs.{bind_same, bind_other, same_bind, value_same, atom_same}
-use Rattle.monotone_rewrite.proofs.Finding.{is_value_of, value_is}
+
+pub is_value_of : (o : Option ℤ) (b : ℤ) → is_value o b ≡ true → o ≡ Some b
+is_value_of None b h = absurd (false≢true h)
+is_value_of (Some x) b h = ap Some ((Decides-int_eq x b).0 h)
+
+pub value_is : (o : Option ℤ) (b : ℤ) → o ≡ Some b → is_value o b ≡ true
+value_is o b e = subst (λ z. is_value z b ≡ true) (sym e) ((Decides-int_eq b b).1 refl)
 
 pub all_from : {A : Type 0} (p : A → Bool) (xs : List A) → ((x : A) → In x xs → p x ≡ true) → list_all p xs ≡ true
 all_from p [] h = refl

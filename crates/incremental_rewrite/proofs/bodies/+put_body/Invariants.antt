@@ -1,0 +1,4 @@
+use Rattle.incremental_rewrite.proofs.bodies.+put_body.Given as goal
+
+abbrev pub decreases-put_body : goal.decreases-put_body
+decreases-put_body l = l.id.0

@@ -1,0 +1,71 @@
+-- Nodes of a pool that grows.
+use Rattle.std.proofs.Common.{◌≡◌, ◌∙◌, refl, sym, ap, ℕ, ◌<◌, Bool, true, false, List, [], ◌∷◌, ◌++◌, length, arith, subst}
+use Rattle.std.specs.Prelude.{◌&&◌, nat_lt, map}
+use Rattle.std.specs.List.{filter}
+use Rattle.std.proofs.lemmas.Bool.{and_parts, and_from}
+use Rattle.tql_core.specs.declared.tnode.TNode.{TNode}
+use Rattle.tql_core.specs.declared.term.Term.{Term}
+use Rattle.tql_core.specs.declared.term.Var.{Var}
+use Rattle.tql_tree.specs.declared.table.Table.{Table}
+use Rattle.tql_core.specs.Condition.{Condition, Always, Never, Plain, All, Either, Not, Exists}
+use Rattle.tql_core.specs.Trees.{tree_at, IsTreeAt, KeepsTrees}
+use Rattle.tql_core.specs.Bounds.{is_bounded}
+use Rattle.time_marks.specs.declared.probe.Probe.{Probe as CodeProbe}
+use Rattle.time_marks.specs.declared.mark.Mark.{Mark}
+use Rattle.time_marks.specs.Probes.{Probe}
+use Rattle.time_marks.specs.Kept.{is_kept, are_kept}
+use Rattle.time_marks.specs.Views.{probe_in, probes_in}
+use Rattle.monotone_rewrite.specs.Query.{can_find}
+use Rattle.monotone_rewrite.specs.Folding.{known, fold_all, fold_either, fold_not, fold_exists}
+
+module _ (nodes : List TNode) where
+  -- what two numbers say together, where what each says is known
+  pub all_known : (after : List TNode) (l r id : ℕ) (x y : Condition) → IsTreeAt nodes l x → IsTreeAt nodes r y
+      → IsTreeAt after id (fold_all (known (tree_at nodes l)) (known (tree_at nodes r)) (tree_at nodes l) (tree_at nodes r)) → IsTreeAt after id (fold_all (known x) (known y) x y)
+  all_known after l r id x y a b t = record { within = t.within; is = t.is ∙ rw (a.is, b.is) refl }
+
+  pub either_known : (after : List TNode) (l r id : ℕ) (x y : Condition) → IsTreeAt nodes l x → IsTreeAt nodes r y
+      → IsTreeAt after id (fold_either (known (tree_at nodes l)) (known (tree_at nodes r)) (tree_at nodes l) (tree_at nodes r)) → IsTreeAt after id (fold_either (known x) (known y) x y)
+  either_known after l r id x y a b t = record { within = t.within; is = t.is ∙ rw (a.is, b.is) refl }
+
+  pub not_known : (after : List TNode) (l id : ℕ) (x : Condition) → IsTreeAt nodes l x
+      → IsTreeAt after id (fold_not (known (tree_at nodes l)) (tree_at nodes l)) → IsTreeAt after id (fold_not (known x) x)
+  not_known after l id x a t = record { within = t.within; is = t.is ∙ rw a.is refl }
+
+  pub exists_known : (after : List TNode) (l id : ℕ) (v : Var) (table : Table) (x : Condition) → IsTreeAt nodes l x
+      → IsTreeAt after id (fold_exists (known (tree_at nodes l)) v table (tree_at nodes l)) → IsTreeAt after id (fold_exists (known x) v table x)
+  exists_known after l id v table x a t = record { within = t.within; is = t.is ∙ rw a.is refl }
+
+pub kept_within : (nodes : List TNode) (id : ℕ) (x : Condition) → IsTreeAt nodes id x → id < length nodes
+kept_within nodes id x t = t.within
+
+pub kept_through : (a b c : List TNode) → KeepsTrees a b → KeepsTrees b c → KeepsTrees a c
+kept_through a b c f g id x t = g id x (f id x t)
+
+module _ (old new : List TNode) (keeps : KeepsTrees old new) where
+  here : (id : ℕ) → nat_lt id (length old) ≡ true → IsTreeAt new id (tree_at old id)
+  here id h = keeps id (tree_at old id) (record { within = grind arith; is = refl })
+
+  still_kept : (p : CodeProbe) → is_kept old p ≡ true → is_kept new p ≡ true
+  still_kept p h =
+      let q = and_parts _ _ h in
+      let w = (here p.body.0 q.0).within in
+      let l : nat_lt p.body.0 (length new) ≡ true = grind arith in
+      and_from _ _ l q.1
+
+  pub all_kept : (ps : List CodeProbe) → are_kept old ps ≡ true → are_kept new ps ≡ true
+  all_kept [] h = refl
+  all_kept (p ∷ ps) h = let q = and_parts _ _ h in and_from _ _ (still_kept p q.0) (all_kept ps q.1)
+
+  pub same_probes : (ps : List CodeProbe) → are_kept old ps ≡ true → probes_in new ps ≡ probes_in old ps
+  same_probes [] h = refl
+  same_probes (p ∷ ps) h =
+      let q = and_parts _ _ h in
+      let e = (here p.body.0 (and_parts _ _ q.0).0).is in
+      rw (e, same_probes ps q.1) refl
+
+  -- the probes with that of a mark, unless its body is False
+  pub probe_added : (ps : List CodeProbe) → are_kept old ps ≡ true → (qs : List CodeProbe) (mark : Mark) (id : ℕ) (x : Condition) → IsTreeAt new id x
+      → probes_in new qs ≡ probes_in new ps ++ filter can_find (record { path = mark.path; at = mark.at; body = tree_at new id } ∷ [])
+      → probes_in new qs ≡ probes_in old ps ++ filter can_find (record { path = mark.path; at = mark.at; body = x } ∷ [])
+  probe_added ps h qs mark id x t e = e ∙ rw (same_probes ps h, t.is) refl

@@ -1,5 +1,0 @@
-use Rattle.monotone_rewrite.proofs.Orders.{found_either_way}
-use Rattle.monotone_rewrite.proofs.laws.found_in_any_order.Goals as goal
-
-pub returns : goal.returns
-returns c = found_either_way

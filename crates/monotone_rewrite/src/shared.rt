@@ -1,0 +1,117 @@
+ghost use Rattle.std.specs.Prelude.{◌≡◌, ◌<◌, length, true, Some, IfOk, OnOk};
+ghost use Rattle.node_pool.specs.Pools.{are_below};
+ghost use Rattle.tql_core.specs.Trees.{kids_of, node_tree, tree_at, IsTreeAt, KeepsTrees};
+ghost use Rattle.monotone_rewrite.specs.Folding.{known, constant, fold_all, fold_either, fold_not, fold_exists};
+ghost use Rattle.monotone_rewrite.specs.Kinds.{kind_is};
+
+use node_pool::{NodeId, Pool};
+use tap_base::Memory;
+use tql_core::{TNode, Var};
+use tql_tree::Table;
+
+// What a node says of itself: it is True, it is False, or neither.
+#[derive(Clone, Copy)]
+pub(crate) enum Kind {
+    Yes,
+    No,
+    Open,
+}
+
+// The node's number. `Memory` comes for want of memory, and where the pool has no further number.
+pub(crate) fn shared(pool: &mut Pool<TNode>, node: TNode) -> Result<NodeId, Memory>
+    requires { are_below (length pool.old) (kids_of node) ≡ true }
+    ensures kept { OnOk result (KeepsTrees pool.old pool.new) }
+    ensures tree { IfOk result (λ id. IsTreeAt pool.new id.0 (node_tree (Some node) (tree_at pool.old))) }
+{
+    if pool.len() == u32::MAX {
+        return Err(Memory);
+    }
+    let id = pool.intern(node)?;
+    Ok(id)
+}
+
+// What the node of this number says of itself.
+pub(crate) fn kind_of(pool: &Pool<TNode>, id: NodeId) -> Kind
+    requires { id.0 < length pool.now }
+    ensures { kind_is result ≡ known (tree_at pool.now id.0) }
+{
+    match pool.get(id) {
+        TNode::True => Kind::Yes,
+        TNode::False => Kind::No,
+        _ => Kind::Open,
+    }
+}
+
+// True or False.
+pub(crate) fn shared_constant(pool: &mut Pool<TNode>, truth: bool) -> Result<NodeId, Memory>
+    ensures kept { OnOk result (KeepsTrees pool.old pool.new) }
+    ensures tree { IfOk result (λ id. IsTreeAt pool.new id.0 (constant truth)) }
+{
+    if truth {
+        shared(pool, TNode::True)
+    } else {
+        shared(pool, TNode::False)
+    }
+}
+
+// Both, where what is known of either is worked out.
+pub(crate) fn shared_all(pool: &mut Pool<TNode>, l: NodeId, r: NodeId) -> Result<NodeId, Memory>
+    requires left { l.0 < length pool.old }
+    requires right { r.0 < length pool.old }
+    ensures kept { OnOk result (KeepsTrees pool.old pool.new) }
+    ensures tree { IfOk result (λ id. IsTreeAt pool.new id.0 (fold_all (known (tree_at pool.old l.0)) (known (tree_at pool.old r.0)) (tree_at pool.old l.0) (tree_at pool.old r.0))) }
+{
+    match (kind_of(pool, l), kind_of(pool, r)) {
+        (Kind::No, _) => shared(pool, TNode::False),
+        (Kind::Yes, _) => Ok(r),
+        (_, Kind::No) => shared(pool, TNode::False),
+        (_, Kind::Yes) => Ok(l),
+        _ => shared(pool, TNode::All(l, r)),
+    }
+}
+
+// Either, where what is known of one is worked out.
+pub(crate) fn shared_either(pool: &mut Pool<TNode>, l: NodeId, r: NodeId) -> Result<NodeId, Memory>
+    requires left { l.0 < length pool.old }
+    requires right { r.0 < length pool.old }
+    ensures kept { OnOk result (KeepsTrees pool.old pool.new) }
+    ensures tree { IfOk result (λ id. IsTreeAt pool.new id.0 (fold_either (known (tree_at pool.old l.0)) (known (tree_at pool.old r.0)) (tree_at pool.old l.0) (tree_at pool.old r.0))) }
+{
+    match (kind_of(pool, l), kind_of(pool, r)) {
+        (Kind::Yes, _) => shared(pool, TNode::True),
+        (Kind::No, _) => Ok(r),
+        (_, Kind::Yes) => shared(pool, TNode::True),
+        (_, Kind::No) => Ok(l),
+        _ => shared(pool, TNode::Either(l, r)),
+    }
+}
+
+// The opposite, where what is known is worked out.
+pub(crate) fn shared_not(pool: &mut Pool<TNode>, x: NodeId) -> Result<NodeId, Memory>
+    requires { x.0 < length pool.old }
+    ensures kept { OnOk result (KeepsTrees pool.old pool.new) }
+    ensures tree { IfOk result (λ id. IsTreeAt pool.new id.0 (fold_not (known (tree_at pool.old x.0)) (tree_at pool.old x.0))) }
+{
+    match kind_of(pool, x) {
+        Kind::Yes => shared(pool, TNode::False),
+        Kind::No => shared(pool, TNode::True),
+        Kind::Open => shared(pool, TNode::Not(x)),
+    }
+}
+
+// Some row, unless none can be one.
+pub(crate) fn shared_exists(
+    pool: &mut Pool<TNode>,
+    var: Var,
+    table: Table,
+    x: NodeId,
+) -> Result<NodeId, Memory>
+    requires { x.0 < length pool.old }
+    ensures kept { OnOk result (KeepsTrees pool.old pool.new) }
+    ensures tree { IfOk result (λ id. IsTreeAt pool.new id.0 (fold_exists (known (tree_at pool.old x.0)) var table (tree_at pool.old x.0))) }
+{
+    match kind_of(pool, x) {
+        Kind::No => shared(pool, TNode::False),
+        _ => shared(pool, TNode::Exists(var, table, x)),
+    }
+}

@@ -1,0 +1,63 @@
+-- Marks solved for the stored second of their driving row.
+use Rattle.std.specs.Prelude.{◌≡◌, ℤ, pos, ◌+ℤ◌, neg_ℤ, Bool, true, false, Option, Some, None}
+use Rattle.tql_core.specs.declared.term.Base.{Base}
+use Rattle.tql_core.specs.declared.term.Base.TheVariants as B
+use Rattle.tql_core.specs.declared.term.Term.{Term}
+use Rattle.tql_core.specs.Bounds.{is_bounded}
+use Rattle.tql_core.specs.Row.{arrival, date}
+use Rattle.tql_core.specs.Values.{Env, lookup, on_row, up, value}
+use Rattle.time_marks.specs.declared.seek.Seek.{Seek}
+use Rattle.time_marks.specs.declared.seek.Seek.TheVariants.{Arrived, Dated, Fixed, ArrivedDay, DatedDay}
+use Rattle.time_marks.specs.declared.window.Window.{Window}
+use Rattle.time_marks.specs.Windows.{is_within, moved, days_window}
+
+abbrev pub seek_from : Base → ℤ → Seek
+seek_from (B.Arrival v) plus = Arrived v plus
+seek_from (B.Date v) plus = Dated v plus
+seek_from B.Fixed plus = Fixed plus
+seek_from (B.ArrivalDay v n) plus = ArrivedDay v n
+seek_from (B.DateDay v n) plus = DatedDay v n
+
+-- the seek of a mark
+abbrev pub seek_of : Term → Seek
+seek_of e = seek_from e.base e.plus
+
+abbrev pub seek_plus : Seek → ℤ
+seek_plus (Arrived v n) = n
+seek_plus (Dated v n) = n
+seek_plus (Fixed moment) = pos 0
+seek_plus (ArrivedDay v n) = n
+seek_plus (DatedDay v n) = n
+
+-- the second that a driving row has; a fixed mark's is its moment
+abbrev pub stored : Seek → Env → Option ℤ
+stored (Arrived v n) env = on_row (lookup v.0 env) (λ r. Some (arrival r))
+stored (Dated v n) env = on_row (lookup v.0 env) date
+stored (Fixed moment) env = Some moment
+stored (ArrivedDay v n) env = on_row (lookup v.0 env) (λ r. Some (arrival r))
+stored (DatedDay v n) env = on_row (lookup v.0 env) date
+
+-- the mark of a stored second
+abbrev pub marked_at : Seek → ℤ → ℤ
+marked_at (Arrived v n) x = x +ℤ n
+marked_at (Dated v n) x = x +ℤ n
+marked_at (Fixed moment) x = x
+marked_at (ArrivedDay v n) x = up (x +ℤ n)
+marked_at (DatedDay v n) x = up (x +ℤ n)
+
+-- the window of the stored seconds whose marks lie in the window
+abbrev pub seek_window : Window → Seek → Window
+seek_window w (Arrived v n) = moved w (neg_ℤ n)
+seek_window w (Dated v n) = moved w (neg_ℤ n)
+seek_window w (Fixed moment) = w
+seek_window w (ArrivedDay v n) = moved (days_window w) (neg_ℤ n)
+seek_window w (DatedDay v n) = moved (days_window w) (neg_ℤ n)
+
+-- is the second there, and in the window?
+abbrev pub lies_in : Window → Option ℤ → Bool
+lies_in w None = false
+lies_in w (Some x) = is_within w x
+
+-- a mark lies in a window just where the stored second lies in the seek's window
+abbrev pub SeeksSolveMarks : Type 0
+SeeksSolveMarks = (e : Term) (w : Window) (env : Env) → is_bounded e ≡ true → lies_in w (value e env) ≡ lies_in (seek_window w (seek_of e)) (stored (seek_of e) env)

@@ -1,0 +1,32 @@
+ghost use Rattle.std.specs.Prelude.{◌≡◌, ◌<◌, length, true, Some};
+ghost use Rattle.node_pool.specs.Pools.{are_below};
+ghost use Rattle.tql_core.specs.Trees.{kids_of, node_tree, tree_at};
+
+use crate::TNode;
+use node_pool::{NodeId, Pool, PoolNode};
+
+impl PoolNode for TNode {
+    ghost use Rattle.tql_core.specs.Trees.{kids_of};
+    ghost use Rattle.tql_core.specs.Exact.{node_is};
+
+    ghost kids = { kids_of };
+
+    fn kids_below(&self, limit: u32) -> bool {
+        match self {
+            TNode::True | TNode::False | TNode::Plain(_) => true,
+            TNode::All(l, r) | TNode::Either(l, r) => l.0 < limit && r.0 < limit,
+            TNode::Not(x) | TNode::Exists(_, _, x) => x.0 < limit,
+        }
+    }
+
+    ghost exact = { node_is };
+}
+
+/// The node of this number: what it says is what the number says, and its parts have lower numbers. It takes no memory.
+pub fn node_at(pool: &Pool<TNode>, id: NodeId) -> &TNode
+    requires { id.0 < length pool.now }
+    ensures says { tree_at pool.now id.0 ≡ node_tree (Some result.now) (tree_at pool.now) }
+    ensures parts { are_below id.0 (kids_of result.now) ≡ true }
+{
+    pool.get(id)
+}
