@@ -2,6 +2,8 @@
 #![tactic(auto)]
 
 mod arrivals;
+mod row_index;
 mod walk;
 
+pub use row_index::RowIndex;
 pub use walk::{DocWalk, NoteWalk, Walk};
