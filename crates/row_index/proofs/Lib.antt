@@ -1,2 +1,3 @@
 pub mod Halves
-pub mod Places
+pub mod InPlaces
+pub mod Entries

@@ -1,3 +1,4 @@
 pub mod Walks
 pub mod Orders
 pub mod Rows
+pub mod Places

@@ -2,6 +2,9 @@
 #![tactic(auto)]
 
 mod arrivals;
+mod note_places;
+mod places;
+mod postings;
 mod row_index;
 mod walk;
 

@@ -1,6 +1,6 @@
 use Rattle.std.proofs.Common.{rules, ◌≡◌, ◌<◌, ◌-◌, arith, sym, ◌∙◌}
 use Rattle.row_index.specs.Orders.{doc_number}
-use Rattle.row_index.proofs.Places.{none_before, found_at}
+use Rattle.row_index.proofs.InPlaces.{none_before, found_at}
 use Rattle.row_index.proofs.row_index.doc_at.Goals as goal
 
 pub returns-then-num-eq0 : goal.returns-then-num-eq0

@@ -1,5 +1,5 @@
 use Rattle.std.proofs.Common.{rules}
-use Rattle.row_index.proofs.Places.{arrived_of}
+use Rattle.row_index.proofs.InPlaces.{arrived_of}
 use Rattle.row_index.proofs.row_index.RowIndex.docs.Goals as goal
 
 pub returns-clause-arrived : goal.returns-clause-arrived
