@@ -1,3 +1,5 @@
 pub mod Halves
 pub mod InPlaces
 pub mod Entries
+pub mod PostLaws
+pub mod TextLaws

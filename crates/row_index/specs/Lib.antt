@@ -2,3 +2,5 @@ pub mod Walks
 pub mod Orders
 pub mod Rows
 pub mod Places
+pub mod Posts
+pub mod Texts

@@ -2,6 +2,7 @@
 #![tactic(auto)]
 
 mod arrivals;
+mod doc_texts;
 mod note_places;
 mod places;
 mod postings;

@@ -1,14 +1,15 @@
 // The places of rows by a text of theirs.
 
-ghost use Rattle.std.specs.Prelude.{◌≡◌, [], false, OnOk, OnErr};
+ghost use Rattle.std.specs.Prelude.{◌≡◌, [], false, option_to_list, OnOk, OnErr};
 ghost use Rattle.std.specs.Str.{bytes_eq};
+ghost use Rattle.row_index.specs.Posts.{posted_all, unposted_all, IsPartlyPosted};
 ghost use Rattle.row_index.specs.Places.{under, posted, unposted, has_key};
 
 use crate::places::{drop_place, put_place};
 use indexmap::IndexMap;
 use std::alloc::Global;
 use std::marker::Model;
-use tap_base::Memory;
+use tap_base::{Memory, Text};
 
 /// The places under each text, in order.
 #[derive(Drop)]
@@ -75,6 +76,46 @@ impl Postings {
     {
         if let Some(places) = self.places.get_mut(key) {
             drop_place(places, place);
+        }
+    }
+
+    /// The place under each of the texts, too. After `Memory` it is under the first few of them.
+    pub(crate) fn add_all(&mut self, keys: &[Text], place: u32) -> Result<(), Memory>
+        ensures ok { OnOk result (self.new ≡ posted_all bytes_eq keys.now place self.old) }
+        ensures err { OnErr result (IsPartlyPosted keys.now place self.old self.new) }
+    {
+        for key in keys {
+            self.add(key.as_slice(), place)?;
+        }
+        Ok(())
+    }
+
+    /// The place no longer under any of the texts.
+    pub(crate) fn forget_all(&mut self, keys: &[Text], place: u32)
+        ensures { self.new ≡ unposted_all bytes_eq keys.now place self.old }
+    {
+        for key in keys {
+            self.forget(key.as_slice(), place);
+        }
+    }
+
+    /// The place under the text, too, where there is one.
+    pub(crate) fn add_some(&mut self, key: &Option<Text>, place: u32) -> Result<(), Memory>
+        ensures ok { OnOk result (self.new ≡ posted_all bytes_eq (option_to_list key.now) place self.old) }
+        ensures err { OnErr result (IsPartlyPosted (option_to_list key.now) place self.old self.new) }
+    {
+        match key {
+            Some(key) => self.add(key.as_slice(), place),
+            None => Ok(()),
+        }
+    }
+
+    /// The place no longer under the text, where there is one.
+    pub(crate) fn forget_some(&mut self, key: &Option<Text>, place: u32)
+        ensures { self.new ≡ unposted_all bytes_eq (option_to_list key.now) place self.old }
+    {
+        if let Some(key) = key {
+            self.forget(key.as_slice(), place);
         }
     }
 }
