@@ -3,3 +3,4 @@ pub mod InPlaces
 pub mod Entries
 pub mod PostLaws
 pub mod TextLaws
+pub mod DateLaws

@@ -4,3 +4,4 @@ pub mod Rows
 pub mod Places
 pub mod Posts
 pub mod Texts
+pub mod Dates

@@ -21,7 +21,7 @@ pub(crate) struct DocTexts {
 
 // The fields of a document.
 #[tactic(auto, unfolding(crate::specs::Texts::fields))]
-fn fields_in(doc: &KeptDoc) -> &Fields
+pub(crate) fn fields_in(doc: &KeptDoc) -> &Fields
     ensures { result.now ≡ fields doc.now }
 {
     doc.fields()

@@ -2,6 +2,7 @@
 #![tactic(auto)]
 
 mod arrivals;
+mod dates;
 mod doc_texts;
 mod note_places;
 mod places;
