@@ -4,3 +4,4 @@ pub mod Entries
 pub mod PostLaws
 pub mod TextLaws
 pub mod DateLaws
+pub mod PlaceLists
