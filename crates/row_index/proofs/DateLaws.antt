@@ -1,6 +1,6 @@
 -- Documents that are put in order of date, and taken away again.
 use Rattle.std.proofs.Common.{◌≡◌, ℕ, zero, suc, ◌+◌, ◌-◌, ◌<◌, ◌≤◌, ◌*◌, ℤ, Bool, true, false, not, List, [], ◌∷◌, ◌++◌, Option, Some, None, length, map, filter, refl, sym, ap, ◌∙◌, subst, inl, inr, arith, nat_eq, if◌then◌else◌}
-use Rattle.std.specs.Prelude.{pos, int_le, int_lt, nat_lt, fold, ◌&&◌, ◌||◌, ◌==◌, cond}
+use Rattle.std.specs.Prelude.{slice_get, pos, int_le, int_lt, nat_lt, fold, ◌&&◌, ◌||◌, ◌==◌, cond}
 use Rattle.std.specs.Option.{is_some, unwrap_or}
 use Rattle.std.specs.declared.cmp.Ordering.{Ordering}
 use Rattle.std.specs.declared.cmp.Ordering.TheVariants.{Less, Equal, Greater}
@@ -16,6 +16,9 @@ use Rattle.tap_rows.specs.Kept.{Each}
 use Rattle.row_index.specs.declared.dates.Dated.{Dated}
 use Rattle.row_index.specs.Orders.{Numbered, doc_number, in_window}
 use Rattle.row_index.specs.Texts.{fields}
+use Rattle.row_index.specs.Walks.{at_places}
+use Rattle.row_index.specs.Posts.{places_of}
+use Rattle.row_index.proofs.PlaceLists.{own_picked, all_own}
 use Rattle.row_index.specs.Dates.{has_date, stored_date, is_earlier, put_dated, in_date_order, dated_in, dated}
 
 -- how dates with their places are compared
@@ -217,3 +220,14 @@ key_is d t u p docs e q n b =
 pub range_is : (low high end l e : ℤ) (docs : List Doc) (keys part : List Dated) → ((x : ℤ) → (int_le low x && int_lt x end) ≡ (int_le low x && int_lt x high)) → l ≡ low → e ≡ end → part ≡ filter (range_contains dated_cmp (Included (record { date = l; place = 0 })) (Excluded (record { date = e; place = 0 }))) keys → keys ≡ map dated (in_date_order docs) → part ≡ map dated (dated_in low high docs)
 range_is low high end l e docs keys part w p q r k =
     dates_in low high end docs keys part w (r ∙ ap (λ z. filter (range_contains dated_cmp (Included (record { date = z; place = 0 })) (Excluded (record { date = e; place = 0 }))) keys) p ∙ ap (λ z. filter (range_contains dated_cmp (Included (record { date = low; place = 0 })) (Excluded (record { date = z; place = 0 }))) keys) q) k
+
+-- the documents of some dates
+
+places_dated : (docs : List Doc) → map (λ (k : Dated). k.place) (map dated docs) ≡ places_of doc_number docs
+places_dated [] = refl
+places_dated (doc ∷ docs) = ap (λ z. (doc.num.0 - 1) ∷ z) (places_dated docs)
+
+pub found_dated : (low high : ℤ) (docs : List Doc) (keys : List Dated) (left : List Doc) → Numbered doc_number 1 docs → left ≡ at_places docs (map (λ (k : Dated). k.place) keys) → keys ≡ map dated (dated_in low high docs) → left ≡ dated_in low high docs
+found_dated low high docs keys left h l e =
+    let own = all_own doc_number docs h in
+    l ∙ ap (λ z. at_places docs (map (λ (k : Dated). k.place) z)) e ∙ ap (λ z. at_places docs z) (places_dated (dated_in low high docs)) ∙ own_picked doc_number docs (dated_in low high docs) (each_kept (λ doc. slice_get docs (doc.num.0 - 1) ≡ Some doc) (λ x. int_le low (stored_date x) && int_lt (stored_date x) high) (in_date_order docs) (each_ordered (λ doc. slice_get docs (doc.num.0 - 1) ≡ Some doc) docs own))

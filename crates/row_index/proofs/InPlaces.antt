@@ -61,3 +61,68 @@ early_each (doc ∷ docs) e = (e.0.early, early_each docs e.1)
 
 pub arrived_of : (docs : List Doc) → InPlace doc_number doc_arrival docs → Arrived 1 (pos 0) docs
 arrived_of docs h = arrived_from 1 (pos 0) docs h.numbered h.rising (early_each docs h.moments)
+
+-- one row more, or the last one less
+
+le_true : (a b : ℤ) → a ≤ℤ b → int_le a b ≡ true
+le_true a b h = grind (arith, ints)
+
+module _ {A : Type 0} where
+  each_onto : (P : A → Type 0) (xs : List A) (x : A) → Each P xs → P x → Each P (xs ++ x ∷ [])
+  each_onto P [] x e p = (p, tt)
+  each_onto P (y ∷ ys) x e p = (e.0, each_onto P ys x e.1 p)
+
+  each_front : (P : A → Type 0) (xs : List A) (x : A) → Each P (xs ++ x ∷ []) → Each P xs
+  each_front P [] x e = tt
+  each_front P (y ∷ ys) x e = (e.0, each_front P ys x e.1)
+
+  all_onto : (t : A → Bool) (xs : List A) (x : A) → list_all t xs ≡ true → t x ≡ true → list_all t (xs ++ x ∷ []) ≡ true
+  all_onto t [] x h k = rw k refl
+  all_onto t (y ∷ ys) x h k = let a = and_parts (t y) (list_all t ys) h in rw a.0 (all_onto t ys x a.1 k)
+
+  all_front : (t : A → Bool) (xs : List A) (x : A) → list_all t (xs ++ x ∷ []) ≡ true → list_all t xs ≡ true
+  all_front t [] x h = refl
+  all_front t (y ∷ ys) x h = let a = and_parts (t y) (list_all t (ys ++ x ∷ [])) h in rw a.0 (all_front t ys x a.1)
+
+  numbered_onto : (number : A → ℕ) (n : ℕ) (xs : List A) (x : A) → Numbered number n xs → number x ≡ n + length xs → Numbered number n (xs ++ x ∷ [])
+  numbered_onto number n [] x h e = (e ∙ omega arith, tt)
+  numbered_onto number n (y ∷ ys) x h e = (h.0, numbered_onto number (n + 1) ys x h.1 (e ∙ omega arith))
+
+  numbered_front : (number : A → ℕ) (n : ℕ) (xs : List A) (x : A) → Numbered number n (xs ++ x ∷ []) → Numbered number n xs
+  numbered_front number n [] x h = tt
+  numbered_front number n (y ∷ ys) x h = (h.0, numbered_front number (n + 1) ys x h.1)
+
+  number_last : (number : A → ℕ) (n : ℕ) (xs : List A) (x : A) → Numbered number n (xs ++ x ∷ []) → number x ≡ n + length xs
+  number_last number n [] x h = h.0 ∙ omega arith
+  number_last number n (y ∷ ys) x h = number_last number (n + 1) ys x h.1 ∙ omega arith
+
+  rising_onto : (f : A → ℤ) (xs : List A) (x : A) → Rising f xs → Each (λ y. f y ≤ℤ f x) xs → Rising f (xs ++ x ∷ [])
+  rising_onto f [] x r e = (refl, tt)
+  rising_onto f (y ∷ ys) x r e = (all_onto (λ z. int_le (f y) (f z)) ys x r.0 (le_true _ _ e.0), rising_onto f ys x r.1 e.1)
+
+  rising_front : (f : A → ℤ) (xs : List A) (x : A) → Rising f (xs ++ x ∷ []) → Rising f xs
+  rising_front f [] x r = tt
+  rising_front f (y ∷ ys) x r = (all_front (λ z. int_le (f y) (f z)) ys x r.0, rising_front f ys x r.1)
+
+  module _ (number : A → ℕ) (arrival : A → ℤ) (xs : List A) (x : A) where
+    one_longer : length (xs ++ x ∷ []) ≡ length xs + 1
+    one_longer = length-append xs (x ∷ [])
+
+    pub in_place_more : InPlace number arrival xs → number x ≡ length xs + 1 → number x < 2 ^ 32 → IsMoment (arrival x) → Each (λ y. arrival y ≤ℤ arrival x) xs → InPlace number arrival (xs ++ x ∷ [])
+    in_place_more h e w m a = record {
+      numbered = numbered_onto number 1 xs x h.numbered (e ∙ omega arith);
+      rising = rising_onto arrival xs x h.rising a;
+      moments = each_onto (λ row. IsMoment (arrival row)) xs x h.moments m;
+      room = subst (λ n. n < 2 ^ 32) (e ∙ sym one_longer) w;
+    }
+
+    pub in_place_less : InPlace number arrival (xs ++ x ∷ []) → InPlace number arrival xs
+    in_place_less h = record {
+      numbered = numbered_front number 1 xs x h.numbered;
+      rising = rising_front arrival xs x h.rising;
+      moments = each_front (λ row. IsMoment (arrival row)) xs x h.moments;
+      room = let o = one_longer in let r = h.room in omega (arith, o, r);
+    }
+
+    pub number_of_last : InPlace number arrival (xs ++ x ∷ []) → number x ≡ length xs + 1
+    number_of_last h = number_last number 1 xs x h.numbered ∙ omega arith

@@ -5,3 +5,4 @@ pub mod PostLaws
 pub mod TextLaws
 pub mod DateLaws
 pub mod PlaceLists
+pub mod HeldLaws

@@ -1,11 +1,13 @@
 -- Rows picked by their places.
-use Rattle.std.proofs.Common.{◌≡◌, ℕ, zero, suc, ◌+◌, ◌-◌, List, [], ◌∷◌, ◌++◌, Option, Some, None, IfSome, map, filter, refl, sym, ap, ◌∙◌, subst, arith}
+use Rattle.std.proofs.Common.{◌≡◌, ℕ, zero, suc, ◌+◌, ◌-◌, List, [], ◌∷◌, ◌++◌, Option, Some, None, IfSome, map, filter, Bool, true, false, refl, sym, ap, ◌∙◌, subst, inl, inr, arith}
+use Rattle.std.proofs.lemmas.Bool.{cases_Bool}
 use Rattle.std.specs.Prelude.{slice_get, option_copied}
 use Rattle.std.specs.Borrow.{Bor}
 use Rattle.tap_rows.specs.Kept.{Each}
 use Rattle.row_index.specs.Walks.{at_places, put_before}
 use Rattle.row_index.specs.Orders.{Numbered}
-use Rattle.row_index.specs.Posts.{places_of}
+use Rattle.row_index.specs.Places.{under}
+use Rattle.row_index.specs.Posts.{places_of, with_key, has, Posts}
 
 module _ {A : Type 0} where
   pub none_picked : (rows : List A) (places : List ℕ) → places ≡ [] → at_places rows places ≡ []
@@ -31,6 +33,19 @@ module _ {A : Type 0} where
       let first : slice_get all (number row - 1) ≡ Some row = subst (λ k. slice_get all k ≡ Some row) p (s 0) in
       (first, own_from number (n + 1) all rows h.1 (λ k. let q : n + suc k ≡ n + 1 + k = omega arith in subst (λ m. slice_get all m ≡ slice_get rows k) q (s (suc k))))
 
+  each_kept : (P : A → Type 0) (t : A → Bool) (rows : List A) → Each P rows → Each P (filter t rows)
+  each_kept P t [] e = tt
+  each_kept P t (row ∷ rows) e =
+      elim (cases_Bool (t row)) [
+        | inl b ↦ rw b (e.0, each_kept P t rows e.1)
+        | inr b ↦ rw b (each_kept P t rows e.1)
+      ]
+
   -- each row in its place stands at its own
   pub all_own : (number : A → ℕ) (rows : List A) → Numbered number 1 rows → Each (λ row. slice_get rows (number row - 1) ≡ Some row) rows
   all_own number rows h = own_from number 0 rows rows (subst (λ n. Numbered number n rows) (omega arith) h) (λ k. let z : k ≡ 0 + k = omega arith in subst (λ m. slice_get rows m ≡ slice_get rows k) z refl)
+
+  -- the rows that are found under a key
+  pub found_under : {K : Type 0} (eq : K → K → Bool) (keys : A → List K) (number : A → ℕ) (rows : List A) (es : List (K × List ℕ)) (key : K) (places : List ℕ) (left : List A) → Numbered number 1 rows → Posts eq keys number rows es → left ≡ at_places rows places → places ≡ under eq key es → left ≡ with_key eq keys key rows
+  found_under eq keys number rows es key places left h posts l e =
+      l ∙ ap (λ z. at_places rows z) (e ∙ posts key) ∙ own_picked number rows (with_key eq keys key rows) (each_kept (λ row. slice_get rows (number row - 1) ≡ Some row) (λ row. has eq key (keys row)) rows (all_own number rows h))

@@ -5,3 +5,4 @@ pub mod Places
 pub mod Posts
 pub mod Texts
 pub mod Dates
+pub mod Held

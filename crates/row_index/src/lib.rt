@@ -3,6 +3,7 @@
 
 mod arrivals;
 mod dates;
+mod doc_places;
 mod doc_texts;
 mod note_places;
 mod places;

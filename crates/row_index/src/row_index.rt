@@ -2,12 +2,18 @@
 
 ghost use Rattle.std.specs.Prelude.{◌≡◌, ◌+◌, ◌<◌, ℕ, ℤ, pos, ◌≤ℤ◌, List, [], ◌∷◌, ◌++◌, length, nat_eq, option_copied, option_to_list, slice_get, OnOk, OnErr};
 ghost use Rattle.std.specs.List.{find};
+ghost use Rattle.tap_rows.specs.declared.change.Change.TheVariants.{Docs, OneNote};
 ghost use Rattle.tap_rows.specs.Arrivals.{Arrived};
 ghost use Rattle.tap_rows.specs.Kept.{Each};
 ghost use Rattle.tap_rows.specs.Tables.{no_rows, after};
-ghost use Rattle.row_index.specs.Orders.{InPlace, doc_number, doc_arrival, note_number, note_arrival, in_window, up_to};
+ghost use Rattle.row_index.specs.Orders.{InPlace, IsMoment, doc_number, doc_arrival, note_number, note_arrival, in_window, up_to};
+ghost use Rattle.row_index.specs.Texts.{with_text, msgids, parents, senders, words_in};
+ghost use Rattle.row_index.specs.Dates.{dated_in};
+ghost use Rattle.row_index.specs.Held.{notes_on};
 ghost use Rattle.row_index.specs.Rows.{without_last_doc, without_last_note};
 
+use crate::doc_places::DocPlaces;
+use crate::note_places::NotePlaces;
 use crate::arrivals::{docs_up_to, docs_within, notes_up_to, notes_within};
 use crate::walk::{DocWalk, NoteWalk, Walk};
 use std::alloc::Global;
@@ -20,19 +26,21 @@ use tap_rows::{KeptDoc, Note};
 #[derive(Drop)]
 pub struct RowIndex {
     docs: Vec<KeptDoc>,
+    places: DocPlaces,
     notes: Vec<Note>,
+    on_doc: NotePlaces,
 }
 
 impl Model for RowIndex {
     ghost use Rattle.tap_rows.specs.declared.tables.Tables.{Tables};
-    ghost use Rattle.row_index.specs.Orders.{InPlace, doc_number, doc_arrival, note_number, note_arrival};
     ghost use Rattle.row_index.specs.Rows.{rows_alone};
+    ghost use Rattle.row_index.specs.Held.{IsHeld};
 
     ghost Value = { Tables };
 
     ghost view = { λ index. rows_alone index.docs.items index.notes.items };
 
-    ghost invariant = { λ index. InPlace doc_number doc_arrival index.docs.items × InPlace note_number note_arrival index.notes.items };
+    ghost invariant = { λ index. IsHeld index.docs.items index.places index.notes.items index.on_doc };
 }
 
 impl RowIndex {
@@ -42,7 +50,9 @@ impl RowIndex {
     {
         RowIndex {
             docs: Vec::new(alloc),
+            places: DocPlaces::new(alloc),
             notes: Vec::new(alloc),
+            on_doc: NotePlaces::new(alloc),
         }
     }
 
@@ -75,6 +85,48 @@ impl RowIndex {
         ensures { result ≡ up_to doc_arrival last self.now.docs }
     {
         Walk::over(docs_up_to(&self.docs, last))
+    }
+
+    /// The documents whose date is from `low` up to but not at `high`, in order of date, then of number.
+    pub fn docs_dated(&self, low: i64, high: i64) -> DocWalk<'_>
+        ensures { result ≡ dated_in low high self.now.docs }
+    {
+        Walk::by_date(&self.docs, self.places.dates.within(low, high))
+    }
+
+    /// The documents whose Message-ID (RFC 5322 3.6.4) is the text. One look-up.
+    pub fn by_msgid(&self, text: &[u8]) -> DocWalk<'_>
+        ensures { result ≡ with_text msgids text.now self.now.docs }
+    {
+        Walk::placed(&self.docs, self.places.texts.msgid.under(text))
+    }
+
+    /// The documents whose In-Reply-To (RFC 5322 3.6.4) is the text. One look-up.
+    pub fn by_parent(&self, text: &[u8]) -> DocWalk<'_>
+        ensures { result ≡ with_text parents text.now self.now.docs }
+    {
+        Walk::placed(&self.docs, self.places.texts.parent.under(text))
+    }
+
+    /// The documents whose sender (RFC 5322 3.6.2) is the text. One look-up.
+    pub fn by_sender(&self, text: &[u8]) -> DocWalk<'_>
+        ensures { result ≡ with_text senders text.now self.now.docs }
+    {
+        Walk::placed(&self.docs, self.places.texts.sender.under(text))
+    }
+
+    /// The documents of which the text is a word. One look-up.
+    pub fn by_word(&self, text: &[u8]) -> DocWalk<'_>
+        ensures { result ≡ with_text words_in text.now self.now.docs }
+    {
+        Walk::placed(&self.docs, self.places.texts.word.under(text))
+    }
+
+    /// The notes on this document. One look-up.
+    pub fn notes_of(&self, doc: DocNum) -> NoteWalk<'_>
+        ensures { result ≡ notes_on doc.0 self.now.notes }
+    {
+        Walk::placed(&self.notes, self.on_doc.under(doc.0))
     }
 
     /// The notes that arrived from `low` up to but not at `high`.
@@ -120,6 +172,63 @@ impl RowIndex {
         steps.add(self.notes.len());
         &self.notes
     }
+
+    /// One more document, behind the others. At Err nothing has changed.
+    pub fn add_doc(&mut self, doc: KeptDoc) -> Result<(), Memory>
+        requires number { doc.num.0 ≡ length self.old.docs + 1 }
+        requires moment { IsMoment doc.arrival }
+        requires after { Each (λ other. other.arrival ≤ℤ doc.arrival) self.old.docs }
+        ensures ok { OnOk result (self.new ≡ after self.old (Docs (doc ∷ []))) }
+        ensures err { OnErr result (self.new ≡ self.old) }
+    {
+        let place = number_of(&doc) - 1;
+        self.docs.reserve(1)?;
+        self.places.add(&doc, place)?;
+        self.docs.push(doc)?;
+        Ok(())
+    }
+
+    /// One more note, behind the others. At Err nothing has changed.
+    pub fn add_note(&mut self, note: Note) -> Result<(), Memory>
+        requires number { note.num.0 ≡ length self.old.notes + 1 }
+        requires moment { IsMoment note.arrival }
+        requires after { Each (λ other. other.arrival ≤ℤ note.arrival) self.old.notes }
+        ensures ok { OnOk result (self.new ≡ after self.old (OneNote note)) }
+        ensures err { OnErr result (self.new ≡ self.old) }
+    {
+        let place = note.num.0 - 1;
+        self.notes.reserve(1)?;
+        self.on_doc.add(note.doc.0, place)?;
+        self.notes.push(note)?;
+        Ok(())
+    }
+
+    /// The last document no longer. It takes no memory.
+    pub fn forget_last_doc(&mut self)
+        requires { 0 < length self.old.docs }
+        ensures { self.new ≡ without_last_doc self.old }
+    {
+        if let Some(doc) = self.docs.pop() {
+            self.places.forget(&doc, self.docs.len() as u32);
+        }
+    }
+
+    /// The last note no longer. It takes no memory.
+    pub fn forget_last_note(&mut self)
+        requires { 0 < length self.old.notes }
+        ensures { self.new ≡ without_last_note self.old }
+    {
+        if let Some(note) = self.notes.pop() {
+            self.on_doc.forget(note.doc.0, self.notes.len() as u32);
+        }
+    }
+}
+
+// The document's number.
+fn number_of(doc: &KeptDoc) -> u32
+    ensures { result ≡ doc.now.num.0 }
+{
+    doc.doc().num.0
 }
 
 // The document at this place.
