@@ -13,3 +13,6 @@ mod walk;
 
 pub use row_index::RowIndex;
 pub use walk::{DocWalk, NoteWalk, Walk};
+
+#[cfg(test)]
+mod tests;
