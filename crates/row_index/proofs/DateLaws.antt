@@ -1,6 +1,6 @@
 -- Documents that are put in order of date, and taken away again.
-use Rattle.std.proofs.Common.{◌≡◌, ℕ, zero, suc, ◌+◌, ◌-◌, ◌<◌, ◌≤◌, ◌*◌, ℤ, Bool, true, false, not, List, [], ◌∷◌, ◌++◌, Option, Some, None, length, map, filter, refl, sym, ap, ◌∙◌, subst, inl, inr, arith, nat_eq, if◌then◌else◌}
-use Rattle.std.specs.Prelude.{slice_get, pos, int_le, int_lt, nat_lt, fold, ◌&&◌, ◌||◌, ◌==◌, cond}
+use Rattle.std.proofs.Common.{◌≡◌, ℕ, zero, suc, ◌+◌, ◌-◌, ◌<◌, ◌≤◌, ℤ, Bool, true, false, not, List, [], ◌∷◌, ◌++◌, Some, None, length, map, filter, refl, sym, ap, ◌∙◌, inl, inr, arith, if◌then◌else◌}
+use Rattle.std.specs.Prelude.{slice_get, pos, int_le, int_lt, nat_lt, fold, ◌&&◌, ◌||◌, ◌==◌}
 use Rattle.std.specs.Option.{is_some, unwrap_or}
 use Rattle.std.specs.declared.cmp.Ordering.{Ordering}
 use Rattle.std.specs.declared.cmp.Ordering.TheVariants.{Less, Equal, Greater}
@@ -10,7 +10,7 @@ use Rattle.std.specs.Set.{remove_key}
 use Rattle.std.specs.BTreeMap.Range.{range_contains}
 use Rattle.std.specs.declared.ops.Bound.TheVariants.{Included, Excluded}
 use Rattle.std.proofs.lemmas.Int.{ints}
-use Rattle.std.proofs.lemmas.Bool.{cases_Bool, true≢false}
+use Rattle.std.proofs.lemmas.Bool.{cases_Bool}
 use Rattle.tap_rows.specs.declared.rows.Doc.{Doc}
 use Rattle.tap_rows.specs.Kept.{Each}
 use Rattle.row_index.specs.declared.dates.Dated.{Dated}
@@ -167,10 +167,13 @@ from_low low k = plain k.date (zero_first k.place)
   where
     le_of : (x y : ℤ) → int_lt x y ≡ true → int_le x y ≡ true
     le_of x y h = grind (arith, ints)
+
     gt_of : (x y : ℤ) → int_lt x y ≡ true → int_le y x ≡ false
     gt_of x y h = grind (arith, ints)
+
     eq_of : (x y : ℤ) → int_lt x y ≡ false → int_lt y x ≡ false → int_le x y ≡ true
     eq_of x y h g = grind (arith, ints)
+
     plain : (x : ℤ) → is_le (nat_cmp 0 k.place) ≡ true → is_le (ordering_then (int_cmp low x) (nat_cmp 0 k.place)) ≡ int_le low x
     plain x z =
         elim (cases_Bool (int_lt low x)) [

@@ -1,7 +1,6 @@
 -- The entries of a map from keys to places, as lists. `seen` is what a key is seen as.
-use Rattle.std.proofs.Common.{◌≡◌, ℕ, Bool, true, false, List, [], ◌∷◌, ◌++◌, Option, Some, None, map, refl, sym, ap, ◌∙◌, inl, inr}
-use Rattle.std.specs.Prelude.{◌||◌, Vec}
-use Rattle.std.specs.List.{list_any}
+use Rattle.std.proofs.Common.{◌≡◌, ℕ, Bool, false, List, [], ◌∷◌, Some, None, map, refl, ap, ◌∙◌, inl, inr}
+use Rattle.std.specs.Prelude.{Vec}
 use Rattle.std.specs.Map.{lookup, set_value}
 use Rattle.std.proofs.lemmas.Bool.{cases_Bool, true≢false}
 use Rattle.indexmap.specs.IndexMap.{insert_entry}

@@ -1,12 +1,11 @@
 -- An index with one row more, or the last one less.
-use Rattle.std.proofs.Common.{◌≡◌, ℕ, ◌+◌, ◌-◌, ◌<◌, ◌≤◌, ◌^◌, ℤ, ◌≤ℤ◌, Bool, true, List, [], ◌∷◌, ◌++◌, length, refl, sym, ap, ◌∙◌, subst, arith, nat_eq}
+use Rattle.std.proofs.Common.{◌≡◌, ℕ, ◌+◌, ◌-◌, ◌<◌, ◌^◌, ◌≤ℤ◌, true, List, [], ◌∷◌, ◌++◌, length, sym, ap, ◌∙◌, subst, arith, nat_eq}
 use Rattle.tap_rows.specs.declared.rows.Doc.{Doc}
 use Rattle.tap_rows.specs.declared.rows.Note.{Note}
 use Rattle.tap_rows.specs.Kept.{Each}
 use Rattle.row_index.specs.declared.doc_places.DocPlaces.{DocPlaces}
-use Rattle.row_index.specs.Orders.{InPlace, IsMoment, Numbered, doc_number, doc_arrival, note_number, note_arrival}
+use Rattle.row_index.specs.Orders.{InPlace, IsMoment, doc_number, doc_arrival, note_number, note_arrival}
 use Rattle.row_index.specs.Places.{posted, unposted}
-use Rattle.row_index.specs.Posts.{Posts}
 use Rattle.row_index.specs.Texts.{IsNext}
 use Rattle.row_index.specs.Held.{DocPosts, IsHeld, noted}
 use Rattle.row_index.proofs.InPlaces.{in_place_more, in_place_less, number_of_last}

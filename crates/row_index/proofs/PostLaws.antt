@@ -1,9 +1,7 @@
 -- Rows that are put under their keys, and taken away again.
-use Rattle.std.proofs.Common.{◌≡◌, ℕ, zero, suc, ◌+◌, ◌-◌, ◌<◌, ◌≤◌, Bool, true, false, List, [], ◌∷◌, ◌++◌, Option, Some, None, length, take, map, filter, refl, sym, ap, ◌∙◌, subst, inl, inr, arith, nat_eq, length-append, if◌then◌else◌}
+use Rattle.std.proofs.Common.{◌≡◌, ℕ, zero, suc, ◌+◌, ◌-◌, ◌<◌, ◌≤◌, Bool, true, false, List, [], ◌∷◌, ◌++◌, Some, length, take, filter, refl, sym, ap, ◌∙◌, subst, inl, inr, arith, nat_eq, length-append, if◌then◌else◌}
 use Rattle.std.specs.Prelude.{slice_get, slice_index_or, ◌||◌}
-use Rattle.std.specs.List.{list_any}
 use Rattle.std.proofs.lemmas.Bool.{cases_Bool, true≢false}
-use Rattle.std.proofs.lemmas.List.{take-append-le, take_all}
 use Rattle.row_index.specs.Places.{is_number, ends_with, with_place, without_place, under, posted, unposted}
 use Rattle.row_index.specs.Posts.{posted_all, unposted_all, has, with_key, places_of, Posts}
 use Rattle.tap_rows.specs.Kept.{Each}
@@ -73,6 +71,7 @@ module _ {K : Type 0} (eq : K → K → Bool) (sound : (x y : K) → eq x y ≡ 
             | inl c ↦ rw (s, c) refl
             | inr c ↦ rw (s, c) refl
           ]
+
       missed : eq key e.0 ≡ false → under eq other (posted eq key p es) ≡ (if eq other key then with_place p (under eq other es) else under eq other es) → (if eq other e.0 then e.1 else under eq other (posted eq key p es)) ≡ (if eq other key then with_place p (if eq other e.0 then e.1 else under eq other es) else (if eq other e.0 then e.1 else under eq other es))
       missed b i =
           elim (cases_Bool (eq other e.0)) [
@@ -103,6 +102,7 @@ module _ {K : Type 0} (eq : K → K → Bool) (sound : (x y : K) → eq x y ≡ 
             | inl c ↦ rw (s, c) refl
             | inr c ↦ rw (s, c) refl
           ]
+
       missed : eq key e.0 ≡ false → under eq other (unposted eq key p es) ≡ (if eq other key then without_place p (under eq other es) else under eq other es) → (if eq other e.0 then e.1 else under eq other (unposted eq key p es)) ≡ (if eq other key then without_place p (if eq other e.0 then e.1 else under eq other es) else (if eq other e.0 then e.1 else under eq other es))
       missed b i =
           elim (cases_Bool (eq other e.0)) [
@@ -185,6 +185,7 @@ module _ {K : Type 0} (eq : K → K → Bool) (sound : (x y : K) → eq x y ≡ 
             | inl c ↦ rw c (taken_put p (under eq other es) f)
             | inr c ↦ rw c (not_taken p (under eq other es) f)
           ]
+
       ended : under eq other part ≡ (if has eq other (take n keys) then with_place p (under eq other es) else under eq other es) → without_place p (under eq other part) ≡ under eq other es → (if has eq other keys then without_place p (under eq other part) else under eq other part) ≡ under eq other es
       ended a w =
           elim (cases_Bool (has eq other keys)) [
@@ -305,6 +306,7 @@ module _ {K A : Type 0} (eq : K → K → Bool) (sound : (x y : K) → eq x y �
             | inl c ↦ rw c (put_taken (length rows) (places_of number (with_key eq keys key rows)))
             | inr c ↦ rw c (not_taken (length rows) (places_of number (with_key eq keys key rows)) n)
           ]
+
       ended : (key : K) → under eq key es ≡ (if has eq key (keys row) then places_of number (with_key eq keys key rows) ++ length rows ∷ [] else places_of number (with_key eq keys key rows)) → without_place (length rows) (under eq key es) ≡ places_of number (with_key eq keys key rows) → (if has eq key (keys row) then without_place (length rows) (under eq key es) else under eq key es) ≡ places_of number (with_key eq keys key rows)
       ended key u w =
           elim (cases_Bool (has eq key (keys row))) [

@@ -3,7 +3,6 @@ use Rattle.std.specs.Prelude.{◌≡◌, ◌+◌, List, ℕ, length}
 use Rattle.std.specs.Str.{bytes_eq}
 use Rattle.std.specs.Option.{option_to_list}
 use Rattle.tap_rows.specs.declared.rows.Doc.{Doc}
-use Rattle.tap_rows.specs.declared.rows.Note.{Note}
 use Rattle.tap_rows.specs.declared.fields.Fields.{Fields}
 use Rattle.tap_rows.specs.Fields.{fields_of}
 use Rattle.row_index.specs.declared.doc_texts.DocTexts.{DocTexts}

@@ -55,7 +55,8 @@ impl Postings {
     {
         let mut places = Vec::new(self.alloc);
         places.push(place)?;
-        self.places.insert(Vec::from_slice(self.alloc, key)?, places)?;
+        self.places
+            .insert(Vec::from_slice(self.alloc, key)?, places)?;
         Ok(())
     }
 

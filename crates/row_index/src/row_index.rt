@@ -2,6 +2,9 @@
 
 ghost use Rattle.std.specs.Prelude.{◌≡◌, ◌+◌, ◌<◌, ℕ, ℤ, pos, ◌≤ℤ◌, List, [], ◌∷◌, ◌++◌, length, nat_eq, option_copied, option_to_list, slice_get, OnOk, OnErr};
 ghost use Rattle.std.specs.List.{find};
+ghost use Rattle.tap_rows.specs.declared.rows.Doc.{Doc};
+ghost use Rattle.tap_rows.specs.declared.rows.Note.{Note};
+ghost use Rattle.tap_rows.specs.declared.tables.Tables.{Tables};
 ghost use Rattle.tap_rows.specs.declared.change.Change.TheVariants.{Docs, OneNote};
 ghost use Rattle.tap_rows.specs.Arrivals.{Arrived};
 ghost use Rattle.tap_rows.specs.Kept.{Each};
@@ -12,9 +15,9 @@ ghost use Rattle.row_index.specs.Dates.{dated_in};
 ghost use Rattle.row_index.specs.Held.{notes_on};
 ghost use Rattle.row_index.specs.Rows.{without_last_doc, without_last_note};
 
+use crate::arrivals::{docs_up_to, docs_within, notes_up_to, notes_within};
 use crate::doc_places::DocPlaces;
 use crate::note_places::NotePlaces;
-use crate::arrivals::{docs_up_to, docs_within, notes_up_to, notes_within};
 use crate::walk::{DocWalk, NoteWalk, Walk};
 use std::alloc::Global;
 use std::marker::Model;
@@ -206,7 +209,8 @@ impl RowIndex {
     /// The last document no longer. It takes no memory.
     pub fn forget_last_doc(&mut self)
         requires { 0 < length self.old.docs }
-        ensures { self.new ≡ without_last_doc self.old }
+        ensures last { self.new ≡ without_last_doc self.old }
+        ensures undone { (before : Tables) (doc : Doc) → self.old ≡ after before (Docs (doc ∷ [])) → self.new ≡ before }
     {
         if let Some(doc) = self.docs.pop() {
             self.places.forget(&doc, self.docs.len() as u32);
@@ -216,7 +220,8 @@ impl RowIndex {
     /// The last note no longer. It takes no memory.
     pub fn forget_last_note(&mut self)
         requires { 0 < length self.old.notes }
-        ensures { self.new ≡ without_last_note self.old }
+        ensures last { self.new ≡ without_last_note self.old }
+        ensures undone { (before : Tables) (note : Note) → self.old ≡ after before (OneNote note) → self.new ≡ before }
     {
         if let Some(note) = self.notes.pop() {
             self.on_doc.forget(note.doc.0, self.notes.len() as u32);

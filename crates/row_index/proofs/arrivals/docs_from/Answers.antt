@@ -1,4 +1,4 @@
-use Rattle.std.proofs.Common.{rules, int_le, int_lt}
+use Rattle.std.proofs.Common.{rules, int_lt}
 use Rattle.std.proofs.lemmas.List.Sorted.{IsPartitionPoint-from_clause}
 use Rattle.row_index.specs.Orders.{doc_arrival}
 use Rattle.row_index.proofs.Halves.{before_first, rest_as_taken}

@@ -1,4 +1,4 @@
-use Rattle.std.proofs.Common.{rules, ◌≡◌, ◌<◌, ◌-◌, arith, sym, ◌∙◌}
+use Rattle.std.proofs.Common.{◌≡◌, ◌<◌, arith, sym, ◌∙◌}
 use Rattle.row_index.specs.Orders.{doc_number}
 use Rattle.row_index.proofs.InPlaces.{none_before, found_at}
 use Rattle.row_index.proofs.row_index.doc_at.Goals as goal

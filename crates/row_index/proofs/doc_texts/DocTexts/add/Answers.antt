@@ -1,6 +1,4 @@
-use Rattle.std.proofs.Common.{rules}
 use Rattle.std.proofs.lemmas.Result.{on_ok_weaker, on_err_weaker}
-use Rattle.row_index.specs.Texts.{IsUnposted}
 use Rattle.row_index.proofs.TextLaws.{next_more, next_undone}
 use Rattle.row_index.proofs.doc_texts.DocTexts.add.Goals as goal
 

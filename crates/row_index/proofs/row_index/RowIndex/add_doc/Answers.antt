@@ -2,7 +2,6 @@ use Rattle.std.proofs.Common.{rules, ◌≡◌, ◌+◌, ◌<◌, ◌-◌, ◌^�
 use Rattle.tap_rows.specs.declared.rows.Doc.{Doc}
 use Rattle.tap_rows.specs.declared.tables.Tables.{Tables}
 use Rattle.tap_rows.specs.Kept.{Each}
-use Rattle.row_index.specs.Orders.{IsMoment}
 use Rattle.row_index.specs.Texts.{IsNext}
 use Rattle.row_index.specs.Held.{DocPosts}
 use Rattle.row_index.proofs.HeldLaws.{held_doc_more}
