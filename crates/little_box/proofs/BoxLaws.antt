@@ -1,10 +1,9 @@
 -- The deliveries in a map by document.
-use Rattle.std.proofs.Common.{◌≡◌, ℕ, zero, suc, ◌+◌, ◌<◌, ◌≤◌, ◌^◌, Bool, true, false, List, [], ◌∷◌, ◌++◌, Option, Some, None, refl, sym, ap, ◌∙◌, is_some, map, nat_eq, length, take, arith, inl, inr, subst, length-append}
+use Rattle.std.proofs.Common.{◌≡◌, ℕ, zero, suc, ◌+◌, ◌<◌, ◌≤◌, Bool, true, false, List, [], ◌∷◌, ◌++◌, Option, Some, None, refl, sym, ap, ◌∙◌, is_some, map, nat_eq, length, take, arith, inl, inr, subst, length-append}
 use Rattle.std.specs.Prelude.{◌||◌}
 use Rattle.indexmap.specs.IndexMap.{insert_entry}
-use Rattle.std.specs.List.{list_any}
 use Rattle.std.specs.Map.{keys_of, values_of, lookup}
-use Rattle.std.proofs.lemmas.Bool.{cases_Bool, false≢true}
+use Rattle.std.proofs.lemmas.Bool.{cases_Bool}
 use Rattle.tap_rows.specs.declared.results.Entry.{Entry}
 use Rattle.little_box.specs.Boxes.{is_in, AreDistinct, IsBox}
 

@@ -1,4 +1,4 @@
-use Rattle.std.proofs.Common.{rules, ◌≡◌, ◌++◌, ◌∷◌, [], ◌<◌, false, length, sym, ap, ◌∙◌}
+use Rattle.std.proofs.Common.{rules, ◌≡◌, ◌++◌, ◌∷◌, [], ◌<◌, false, length, ap, ◌∙◌}
 use Rattle.std.specs.Map.{values_of}
 use Rattle.little_box.specs.Boxes.{is_in}
 use Rattle.little_box.proofs.BoxLaws.{inserted, box_more, values_more}
