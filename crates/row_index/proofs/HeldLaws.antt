@@ -1,0 +1,84 @@
+-- An index with one row more, or the last one less.
+use Rattle.std.proofs.Common.{◌≡◌, ℕ, ◌+◌, ◌-◌, ◌<◌, ◌^◌, ◌≤ℤ◌, true, List, [], ◌∷◌, ◌++◌, length, sym, ap, ◌∙◌, subst, arith, nat_eq}
+use Rattle.tap_rows.specs.declared.rows.Doc.{Doc}
+use Rattle.tap_rows.specs.declared.rows.Note.{Note}
+use Rattle.tap_rows.specs.Kept.{Each}
+use Rattle.row_index.specs.declared.doc_places.DocPlaces.{DocPlaces}
+use Rattle.row_index.specs.Orders.{InPlace, IsMoment, doc_number, doc_arrival, note_number, note_arrival}
+use Rattle.row_index.specs.Places.{posted, unposted}
+use Rattle.row_index.specs.Texts.{IsNext}
+use Rattle.row_index.specs.Held.{DocPosts, IsHeld, noted}
+use Rattle.row_index.proofs.InPlaces.{in_place_more, in_place_less, number_of_last}
+use Rattle.row_index.proofs.PostLaws.{posts_more, posts_less}
+
+same_nat : (x y : ℕ) → nat_eq x y ≡ true → x ≡ y
+same_nat x y h = grind (arith, h)
+
+place_behind : (p n len : ℕ) → p ≡ n - 1 → n ≡ len + 1 → p ≡ len
+place_behind p n len a b = omega (arith, a, b)
+
+-- the next document at its place
+next_doc : (docs : List Doc) (doc : Doc) (p : ℕ) → InPlace doc_number doc_arrival docs → doc.num.0 ≡ length docs + 1 → p ≡ doc.num.0 - 1 → IsNext docs doc p
+next_doc docs doc p h e q = record { numbered = h.numbered; number = e; behind = place_behind p doc.num.0 (length docs) q e }
+
+pub held_doc_more : (docs more : List Doc) (doc : Doc) (p : ℕ) (old new : DocPlaces) (notes : List Note) (on_doc : List (ℕ × List ℕ))
+    → IsHeld docs old notes on_doc → doc.num.0 ≡ length docs + 1 → doc.num.0 < 2 ^ 32 → IsMoment doc.arrival → Each (λ other. other.arrival ≤ℤ doc.arrival) docs
+    → p ≡ doc.num.0 - 1 → ((docs : List Doc) → IsNext docs doc p → DocPosts docs old → DocPosts (docs ++ doc ∷ []) new) → more ≡ docs ++ doc ∷ []
+    → IsHeld more new notes on_doc
+held_doc_more docs more doc p old new notes on_doc h e w m a q f s = subst (λ z. IsHeld z new notes on_doc) (sym s) (record {
+  docs_stand = in_place_more doc_number doc_arrival docs doc h.docs_stand e w m a;
+  notes_stand = h.notes_stand;
+  docs_found = f docs (next_doc docs doc p h.docs_stand e q) h.docs_found;
+  notes_found = h.notes_found;
+})
+
+pub held_doc_same : (docs : List Doc) (doc : Doc) (p : ℕ) (old new : DocPlaces) (notes : List Note) (on_doc : List (ℕ × List ℕ))
+    → IsHeld docs old notes on_doc → doc.num.0 ≡ length docs + 1
+    → p ≡ doc.num.0 - 1 → ((docs : List Doc) → IsNext docs doc p → DocPosts docs old → DocPosts docs new)
+    → IsHeld docs new notes on_doc
+held_doc_same docs doc p old new notes on_doc h e q f = record {
+  docs_stand = h.docs_stand;
+  notes_stand = h.notes_stand;
+  docs_found = f docs (next_doc docs doc p h.docs_stand e q) h.docs_found;
+  notes_found = h.notes_found;
+}
+
+pub held_doc_less : (docs all : List Doc) (doc : Doc) (p : ℕ) (old new : DocPlaces) (notes : List Note) (on_doc : List (ℕ × List ℕ))
+    → IsHeld all old notes on_doc → all ≡ docs ++ doc ∷ [] → p ≡ length docs
+    → ((docs : List Doc) → IsNext docs doc p → DocPosts (docs ++ doc ∷ []) old → DocPosts docs new)
+    → IsHeld docs new notes on_doc
+held_doc_less docs all doc p old new notes on_doc h s q f =
+    let h' = subst (λ z. IsHeld z old notes on_doc) s h in
+    let stand = in_place_less doc_number doc_arrival docs doc h'.docs_stand in
+    record {
+      docs_stand = stand;
+      notes_stand = h'.notes_stand;
+      docs_found = f docs (record { numbered = stand.numbered; number = number_of_last doc_number doc_arrival docs doc h'.docs_stand; behind = q }) h'.docs_found;
+      notes_found = h'.notes_found;
+    }
+
+pub held_note_more : (docs : List Doc) (places : DocPlaces) (notes more : List Note) (note : Note) (p : ℕ) (old new : List (ℕ × List ℕ))
+    → IsHeld docs places notes old → note.num.0 ≡ length notes + 1 → note.num.0 < 2 ^ 32 → IsMoment note.arrival → Each (λ other. other.arrival ≤ℤ note.arrival) notes
+    → p ≡ note.num.0 - 1 → new ≡ posted nat_eq note.doc.0 p old → more ≡ notes ++ note ∷ []
+    → IsHeld docs places more new
+held_note_more docs places notes more note p old new h e w m a q f s =
+    let b : p ≡ length notes = place_behind p note.num.0 (length notes) q e in
+    subst (λ z. IsHeld docs places z new) (sym s) (record {
+      docs_stand = h.docs_stand;
+      notes_stand = in_place_more note_number note_arrival notes note h.notes_stand e w m a;
+      docs_found = h.docs_found;
+      notes_found = posts_more nat_eq same_nat noted note_number notes note old new h.notes_stand.numbered e (f ∙ ap (λ k. posted nat_eq note.doc.0 k old) b) h.notes_found;
+    })
+
+pub held_note_less : (docs : List Doc) (places : DocPlaces) (notes all : List Note) (note : Note) (p : ℕ) (old new : List (ℕ × List ℕ))
+    → IsHeld docs places all old → all ≡ notes ++ note ∷ [] → p ≡ length notes → new ≡ unposted nat_eq note.doc.0 p old
+    → IsHeld docs places notes new
+held_note_less docs places notes all note p old new h s q f =
+    let h' = subst (λ z. IsHeld docs places z old) s h in
+    let stand = in_place_less note_number note_arrival notes note h'.notes_stand in
+    record {
+      docs_stand = h'.docs_stand;
+      notes_stand = stand;
+      docs_found = h'.docs_found;
+      notes_found = posts_less nat_eq same_nat noted note_number notes note old new stand.numbered (number_of_last note_number note_arrival notes note h'.notes_stand) (f ∙ ap (λ k. unposted nat_eq note.doc.0 k old) q) h'.notes_found;
+    }

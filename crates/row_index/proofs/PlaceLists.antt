@@ -1,0 +1,51 @@
+-- Rows picked by their places.
+use Rattle.std.proofs.Common.{◌≡◌, ℕ, suc, ◌+◌, ◌-◌, List, [], ◌∷◌, Option, Some, None, IfSome, filter, Bool, refl, sym, ap, ◌∙◌, subst, inl, inr, arith}
+use Rattle.std.proofs.lemmas.Bool.{cases_Bool}
+use Rattle.std.specs.Prelude.{slice_get, option_copied}
+use Rattle.std.specs.Borrow.{Bor}
+use Rattle.tap_rows.specs.Kept.{Each}
+use Rattle.row_index.specs.Walks.{at_places, put_before}
+use Rattle.row_index.specs.Orders.{Numbered}
+use Rattle.row_index.specs.Places.{under}
+use Rattle.row_index.specs.Posts.{places_of, with_key, has, Posts}
+
+module _ {A : Type 0} where
+  pub none_picked : (rows : List A) (places : List ℕ) → places ≡ [] → at_places rows places ≡ []
+  none_picked rows places e = ap (λ z. at_places rows z) e
+
+  pub end_picked : (rows : List A) (places rest : List ℕ) (p : ℕ) (o : Option (Bor A)) → places ≡ p ∷ rest → option_copied o ≡ slice_get rows p → o ≡ None → at_places rows places ≡ []
+  end_picked rows places rest p o e f h = ap (λ z. at_places rows z) e ∙ ap (λ z. put_before z (at_places rows rest)) (sym f ∙ ap option_copied h)
+
+  pub row_picked : (left rows : List A) (places rest : List ℕ) (p : ℕ) (o : Option (Bor A)) → left ≡ at_places rows places → places ≡ p ∷ rest → option_copied o ≡ slice_get rows p → IfSome o (λ row. left ≡ row.now ∷ at_places rows rest)
+  row_picked left rows places rest p None l e f = tt
+  row_picked left rows places rest p (Some row) l e f = l ∙ ap (λ z. at_places rows z) e ∙ ap (λ z. put_before z (at_places rows rest)) (sym f)
+
+  -- rows that stand at their own places are picked by them
+  pub own_picked : (number : A → ℕ) (all rows : List A) → Each (λ row. slice_get all (number row - 1) ≡ Some row) rows → at_places all (places_of number rows) ≡ rows
+  own_picked number all [] e = refl
+  own_picked number all (row ∷ rows) e = ap (λ z. put_before z (at_places all (places_of number rows))) e.0 ∙ ap (λ z. row ∷ z) (own_picked number all rows e.1)
+
+  own_from : (number : A → ℕ) (n : ℕ) (all rows : List A) → Numbered number (n + 1) rows → ((k : ℕ) → slice_get all (n + k) ≡ slice_get rows k) → Each (λ row. slice_get all (number row - 1) ≡ Some row) rows
+  own_from number n all [] h s = tt
+  own_from number n all (row ∷ rows) h s =
+      let e : number row ≡ n + 1 = h.0 in
+      let p : n + 0 ≡ number row - 1 = omega (arith, e) in
+      let first : slice_get all (number row - 1) ≡ Some row = subst (λ k. slice_get all k ≡ Some row) p (s 0) in
+      (first, own_from number (n + 1) all rows h.1 (λ k. let q : n + suc k ≡ n + 1 + k = omega arith in subst (λ m. slice_get all m ≡ slice_get rows k) q (s (suc k))))
+
+  each_kept : (P : A → Type 0) (t : A → Bool) (rows : List A) → Each P rows → Each P (filter t rows)
+  each_kept P t [] e = tt
+  each_kept P t (row ∷ rows) e =
+      elim (cases_Bool (t row)) [
+        | inl b ↦ rw b (e.0, each_kept P t rows e.1)
+        | inr b ↦ rw b (each_kept P t rows e.1)
+      ]
+
+  -- each row in its place stands at its own
+  pub all_own : (number : A → ℕ) (rows : List A) → Numbered number 1 rows → Each (λ row. slice_get rows (number row - 1) ≡ Some row) rows
+  all_own number rows h = own_from number 0 rows rows (subst (λ n. Numbered number n rows) (omega arith) h) (λ k. let z : k ≡ 0 + k = omega arith in subst (λ m. slice_get rows m ≡ slice_get rows k) z refl)
+
+  -- the rows that are found under a key
+  pub found_under : {K : Type 0} (eq : K → K → Bool) (keys : A → List K) (number : A → ℕ) (rows : List A) (es : List (K × List ℕ)) (key : K) (places : List ℕ) (left : List A) → Numbered number 1 rows → Posts eq keys number rows es → left ≡ at_places rows places → places ≡ under eq key es → left ≡ with_key eq keys key rows
+  found_under eq keys number rows es key places left h posts l e =
+      l ∙ ap (λ z. at_places rows z) (e ∙ posts key) ∙ own_picked number rows (with_key eq keys key rows) (each_kept (λ row. slice_get rows (number row - 1) ≡ Some row) (λ row. has eq key (keys row)) rows (all_own number rows h))

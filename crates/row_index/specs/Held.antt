@@ -1,0 +1,29 @@
+-- What an index holds besides its rows.
+use Rattle.std.specs.Prelude.{ℕ, List, [], ◌∷◌, nat_eq}
+use Rattle.tap_rows.specs.declared.rows.Doc.{Doc}
+use Rattle.tap_rows.specs.declared.rows.Note.{Note}
+use Rattle.row_index.specs.declared.doc_places.DocPlaces.{DocPlaces}
+use Rattle.row_index.specs.Orders.{InPlace, doc_number, doc_arrival, note_number, note_arrival}
+use Rattle.row_index.specs.Posts.{Posts, with_key}
+use Rattle.row_index.specs.Texts.{TextPosts}
+use Rattle.row_index.specs.Dates.{DatePosts}
+
+-- the documents are found by their texts and dates
+pub record DocPosts (docs : List Doc) (places : DocPlaces) : Type 0 where
+  pub texts : TextPosts docs places.texts
+  pub dates : DatePosts docs places.dates
+
+-- the document that a note is on
+abbrev pub noted : Note → List ℕ
+noted note = note.doc.0 ∷ []
+
+-- the notes on a document
+abbrev pub notes_on : ℕ → List Note → List Note
+notes_on doc notes = with_key nat_eq noted doc notes
+
+-- rows in their places, and what finds them
+pub record IsHeld (docs : List Doc) (places : DocPlaces) (notes : List Note) (on_doc : List (ℕ × List ℕ)) : Type 0 where
+  pub docs_stand : InPlace doc_number doc_arrival docs
+  pub notes_stand : InPlace note_number note_arrival notes
+  pub docs_found : DocPosts docs places
+  pub notes_found : Posts nat_eq noted note_number notes on_doc

@@ -1,0 +1,50 @@
+-- Rows in order of arrival, and those of a window.
+use Rattle.std.specs.Prelude.{◌≡◌, ℕ, ◌+◌, ◌<◌, ◌^◌, ℤ, pos, ◌≤ℤ◌, true, ◌&&◌, List, [], ◌∷◌, length, int_le, int_lt, filter}
+use Rattle.std.specs.List.{list_all}
+use Rattle.tap_rows.specs.declared.rows.Doc.{Doc}
+use Rattle.tap_rows.specs.declared.rows.Note.{Note}
+use Rattle.tap_rows.specs.Kept.{Each}
+
+module _ {A : Type 0} (f : A → ℤ) where
+  -- f never falls
+  abbrev pub Rising : List A → Type 0
+  Rising [] = Unit {0}
+  Rising (x ∷ xs) = (list_all (λ y. int_le (f x) (f y)) xs ≡ true) × Rising xs
+
+  -- those from low up to, and without, high
+  abbrev pub in_window : ℤ → ℤ → List A → List A
+  in_window low high xs = filter (λ x. int_le low (f x) && int_lt (f x) high) xs
+
+  -- those up to, and with, last
+  abbrev pub up_to : ℤ → List A → List A
+  up_to last xs = filter (λ x. int_le (f x) last) xs
+
+-- the numbers are the places, from n
+abbrev pub Numbered : {A : Type 0} → (A → ℕ) → ℕ → List A → Type 0
+Numbered number n [] = Unit {0}
+Numbered number n (x ∷ xs) = (number x ≡ n) × Numbered number (n + 1) xs
+
+-- a moment of the clock that commands tell
+pub record IsMoment (s : ℤ) : Type 0 where
+  pub early : pos 0 ≤ℤ s
+  pub late : s ≤ℤ pos 250000000000
+
+-- rows in their places: their numbers are their places, from 1, their arrivals are moments that never fall, and a
+-- number of 32 bits counts them
+pub record InPlace {A : Type 0} (number : A → ℕ) (arrival : A → ℤ) (rows : List A) : Type 0 where
+  pub numbered : Numbered number 1 rows
+  pub rising : Rising arrival rows
+  pub moments : Each (λ row. IsMoment (arrival row)) rows
+  pub room : length rows < 2 ^ 32
+
+abbrev pub doc_number : Doc → ℕ
+doc_number doc = doc.num.0
+
+abbrev pub doc_arrival : Doc → ℤ
+doc_arrival doc = doc.arrival
+
+abbrev pub note_number : Note → ℕ
+note_number note = note.num.0
+
+abbrev pub note_arrival : Note → ℤ
+note_arrival note = note.arrival

@@ -1,0 +1,68 @@
+-- The texts by which documents are found.
+use Rattle.std.specs.Prelude.{◌≡◌, ◌+◌, List, ℕ, length}
+use Rattle.std.specs.Str.{bytes_eq}
+use Rattle.std.specs.Option.{option_to_list}
+use Rattle.tap_rows.specs.declared.rows.Doc.{Doc}
+use Rattle.tap_rows.specs.declared.fields.Fields.{Fields}
+use Rattle.tap_rows.specs.Fields.{fields_of}
+use Rattle.row_index.specs.declared.doc_texts.DocTexts.{DocTexts}
+use Rattle.row_index.specs.Orders.{Numbered, doc_number}
+use Rattle.row_index.specs.Posts.{Posts, posted_all, unposted_all, IsPartlyPosted, with_key}
+
+-- the fields of a document's text
+unfoldable pub fields : Doc → Fields
+fields doc = fields_of doc.text
+
+-- its message id, or none
+abbrev pub msgids : Doc → List (List ℕ)
+msgids doc = option_to_list (fields doc).msgid
+
+-- the message id that it answers, or none
+abbrev pub parents : Doc → List (List ℕ)
+parents doc = option_to_list (fields doc).inreplyto
+
+-- its sender, or none
+abbrev pub senders : Doc → List (List ℕ)
+senders doc = option_to_list (fields doc).from
+
+-- its words
+abbrev pub words_in : Doc → List (List ℕ)
+words_in doc = (fields doc).words
+
+-- the documents of which one of these texts is the given one
+abbrev pub with_text : (Doc → List (List ℕ)) → List ℕ → List Doc → List Doc
+with_text texts text docs = with_key bytes_eq texts text docs
+
+-- under each text stand the places of the documents that have it
+pub record TextPosts (docs : List Doc) (texts : DocTexts) : Type 0 where
+  pub msgid : Posts bytes_eq msgids doc_number docs texts.msgid
+  pub parent : Posts bytes_eq parents doc_number docs texts.parent
+  pub sender : Posts bytes_eq senders doc_number docs texts.sender
+  pub word : Posts bytes_eq words_in doc_number docs texts.word
+
+-- the document comes next after these, at this place
+pub record IsNext (docs : List Doc) (doc : Doc) (place : ℕ) : Type 0 where
+  pub numbered : Numbered doc_number 1 docs
+  pub number : doc.num.0 ≡ length docs + 1
+  pub behind : place ≡ length docs
+
+-- a document was put under all its texts
+pub record IsPosted (doc : Doc) (place : ℕ) (old new : DocTexts) : Type 0 where
+  pub msgid : new.msgid ≡ posted_all bytes_eq (msgids doc) place old.msgid
+  pub parent : new.parent ≡ posted_all bytes_eq (parents doc) place old.parent
+  pub sender : new.sender ≡ posted_all bytes_eq (senders doc) place old.sender
+  pub word : new.word ≡ posted_all bytes_eq (words_in doc) place old.word
+
+-- a document was put under some of its texts
+pub record IsPartly (doc : Doc) (place : ℕ) (old new : DocTexts) : Type 0 where
+  pub msgid : IsPartlyPosted (msgids doc) place old.msgid new.msgid
+  pub parent : IsPartlyPosted (parents doc) place old.parent new.parent
+  pub sender : IsPartlyPosted (senders doc) place old.sender new.sender
+  pub word : IsPartlyPosted (words_in doc) place old.word new.word
+
+-- a document was taken away from all its texts
+pub record IsUnposted (doc : Doc) (place : ℕ) (old new : DocTexts) : Type 0 where
+  pub msgid : new.msgid ≡ unposted_all bytes_eq (msgids doc) place old.msgid
+  pub parent : new.parent ≡ unposted_all bytes_eq (parents doc) place old.parent
+  pub sender : new.sender ≡ unposted_all bytes_eq (senders doc) place old.sender
+  pub word : new.word ≡ unposted_all bytes_eq (words_in doc) place old.word

@@ -1,0 +1,27 @@
+-- The rows that a walk has still to hand out.
+use Rattle.std.specs.Prelude.{ℕ, Option, Some, None, List, [], ◌∷◌, map, slice_get}
+use Rattle.row_index.specs.declared.dates.Dated.{Dated}
+use Rattle.row_index.specs.declared.walk.Places.{Places}
+use Rattle.row_index.specs.declared.walk.Places.TheVariants.{Listed, ByDate}
+use Rattle.row_index.specs.declared.walk.Left.{Left}
+use Rattle.row_index.specs.declared.walk.Left.TheVariants.{Beside, Picked}
+
+-- an element that may be absent, before others that count only where it is there
+abbrev pub put_before : {A : Type 0} → Option A → List A → List A
+put_before None rest = []
+put_before (Some x) rest = x ∷ rest
+
+-- the elements at these places, up to the first place that has none
+abbrev pub at_places : {A : Type 0} → List A → List ℕ → List A
+at_places xs [] = []
+at_places xs (k ∷ ks) = put_before (slice_get xs k) (at_places xs ks)
+
+-- the places that are left
+abbrev pub places_in : Places → List ℕ
+places_in (Listed places) = places.now
+places_in (ByDate dates) = map (λ (key : Dated). key.place) dates
+
+-- the rows that are left
+abbrev pub left_in : {A : Type 0} → Left A → List A
+left_in (Beside rows) = rows.now
+left_in (Picked picked) = at_places picked.rows.now (places_in picked.places)

@@ -1,0 +1,84 @@
+// The places of documents by their texts.
+
+ghost use Rattle.std.specs.Prelude.{◌≡◌, ◌+◌, ℕ, List, [], ◌∷◌, ◌++◌, length, OnOk, OnErr};
+ghost use Rattle.tap_rows.specs.declared.rows.Doc.{Doc};
+ghost use Rattle.row_index.specs.Orders.{Numbered, doc_number};
+ghost use Rattle.row_index.specs.Texts.{fields, IsNext, TextPosts, IsPosted, IsPartly, IsUnposted};
+
+use crate::postings::Postings;
+use std::alloc::Global;
+use tap_base::Memory;
+use tap_rows::{Fields, KeptDoc};
+
+/// The places of documents by message id, by the message id that they answer, by sender and by word.
+#[derive(Drop)]
+pub(crate) struct DocTexts {
+    pub(crate) msgid: Postings,
+    pub(crate) parent: Postings,
+    pub(crate) sender: Postings,
+    pub(crate) word: Postings,
+}
+
+// The fields of a document.
+#[tactic(auto, unfolding(crate::specs::Texts::fields))]
+pub(crate) fn fields_in(doc: &KeptDoc) -> &Fields
+    ensures { result.now ≡ fields doc.now }
+{
+    doc.fields()
+}
+
+impl DocTexts {
+    /// No places.
+    pub(crate) fn new(alloc: Global) -> DocTexts
+        ensures { TextPosts [] result }
+    {
+        DocTexts {
+            msgid: Postings::new(alloc),
+            parent: Postings::new(alloc),
+            sender: Postings::new(alloc),
+            word: Postings::new(alloc),
+        }
+    }
+
+    // The place under each text of the document. After `Memory` it is under some of them.
+    fn put(&mut self, doc: &KeptDoc, place: u32) -> Result<(), Memory>
+        ensures ok { OnOk result (IsPosted doc.now place self.old self.new) }
+        ensures err { OnErr result (IsPartly doc.now place self.old self.new) }
+    {
+        let fields = fields_in(doc);
+        self.msgid.add_some(&fields.msgid, place)?;
+        self.parent.add_some(&fields.inreplyto, place)?;
+        self.sender.add_some(&fields.from, place)?;
+        self.word.add_all(fields.words.as_slice(), place)
+    }
+
+    // The place no longer under any text of the document.
+    fn take(&mut self, doc: &KeptDoc, place: u32)
+        ensures { IsUnposted doc.now place self.old self.new }
+    {
+        let fields = fields_in(doc);
+        self.msgid.forget_some(&fields.msgid, place);
+        self.parent.forget_some(&fields.inreplyto, place);
+        self.sender.forget_some(&fields.from, place);
+        self.word.forget_all(fields.words.as_slice(), place);
+    }
+
+    /// The document under its texts, at the place after those of `docs`. At Err all is as it was for them.
+    pub(crate) fn add(&mut self, doc: &KeptDoc, place: u32) -> Result<(), Memory>
+        ensures ok { OnOk result ((docs : List Doc) → IsNext docs doc.now place → TextPosts docs self.old → TextPosts (docs ++ doc.now ∷ []) self.new) }
+        ensures err { OnErr result ((docs : List Doc) → IsNext docs doc.now place → TextPosts docs self.old → TextPosts docs self.new) }
+    {
+        let done = self.put(doc, place);
+        if done.is_err() {
+            self.take(doc, place);
+        }
+        done
+    }
+
+    /// The document no longer under its texts.
+    pub(crate) fn forget(&mut self, doc: &KeptDoc, place: u32)
+        ensures { (docs : List Doc) → IsNext docs doc.now place → TextPosts (docs ++ doc.now ∷ []) self.old → TextPosts docs self.new }
+    {
+        self.take(doc, place);
+    }
+}

@@ -1,0 +1,18 @@
+//! The rows of documents and notes, with what finds some of them.
+#![tactic(auto)]
+
+mod arrivals;
+mod dates;
+mod doc_places;
+mod doc_texts;
+mod note_places;
+mod places;
+mod postings;
+mod row_index;
+mod walk;
+
+pub use row_index::RowIndex;
+pub use walk::{DocWalk, NoteWalk, Walk};
+
+#[cfg(test)]
+mod tests;

@@ -1,0 +1,79 @@
+// The places of notes by their document.
+
+ghost use Rattle.std.specs.Prelude.{◌≡◌, [], nat_eq, false, OnOk, OnErr};
+ghost use Rattle.row_index.specs.Places.{under, posted, unposted, has_key};
+
+use crate::places::{drop_place, put_place};
+use indexmap::IndexMap;
+use std::alloc::Global;
+use std::marker::Model;
+use tap_base::Memory;
+
+/// The places under each number, in order.
+#[derive(Drop)]
+pub(crate) struct NotePlaces {
+    places: IndexMap<u32, Vec<u32>>,
+    alloc: Global,
+}
+
+impl Model for NotePlaces {
+    ghost use Rattle.std.specs.Prelude.{ℕ, List, map};
+
+    ghost Value = { List (ℕ × List ℕ) };
+
+    ghost view = { λ p. map (λ e. (e.0, e.1.items)) p.places.entries };
+}
+
+impl NotePlaces {
+    /// No places.
+    pub(crate) fn new(alloc: Global) -> NotePlaces
+        ensures { result ≡ [] }
+    {
+        NotePlaces {
+            places: IndexMap::new(alloc),
+            alloc,
+        }
+    }
+
+    /// The places under the number: one look-up.
+    pub(crate) fn under(&self, key: u32) -> &[u32]
+        ensures { result.now ≡ under nat_eq key self.now }
+    {
+        match self.places.get(&key) {
+            Some(places) => places.as_slice(),
+            None => &[],
+        }
+    }
+
+    // The first place under a number.
+    fn begin(&mut self, key: u32, place: u32) -> Result<(), Memory>
+        requires { has_key nat_eq key self.old ≡ false }
+        ensures ok { OnOk result (self.new ≡ posted nat_eq key place self.old) }
+        ensures err { OnErr result (self.new ≡ self.old) }
+    {
+        let mut places = Vec::new(self.alloc);
+        places.push(place)?;
+        self.places.insert(key, places)?;
+        Ok(())
+    }
+
+    /// The place under the number, too.
+    pub(crate) fn add(&mut self, key: u32, place: u32) -> Result<(), Memory>
+        ensures ok { OnOk result (self.new ≡ posted nat_eq key place self.old) }
+        ensures err { OnErr result (self.new ≡ self.old) }
+    {
+        match self.places.get_mut(&key) {
+            Some(places) => put_place(places, place),
+            None => self.begin(key, place),
+        }
+    }
+
+    /// The place no longer under the number, if it was its last one.
+    pub(crate) fn forget(&mut self, key: u32, place: u32)
+        ensures { self.new ≡ unposted nat_eq key place self.old }
+    {
+        if let Some(places) = self.places.get_mut(&key) {
+            drop_place(places, place);
+        }
+    }
+}

@@ -1,0 +1,122 @@
+// The places of rows by a text of theirs.
+
+ghost use Rattle.std.specs.Prelude.{◌≡◌, [], false, option_to_list, OnOk, OnErr};
+ghost use Rattle.std.specs.Str.{bytes_eq};
+ghost use Rattle.row_index.specs.Posts.{posted_all, unposted_all, IsPartlyPosted};
+ghost use Rattle.row_index.specs.Places.{under, posted, unposted, has_key};
+
+use crate::places::{drop_place, put_place};
+use indexmap::IndexMap;
+use std::alloc::Global;
+use std::marker::Model;
+use tap_base::{Memory, Text};
+
+/// The places under each text, in order.
+#[derive(Drop)]
+pub(crate) struct Postings {
+    places: IndexMap<Vec<u8>, Vec<u32>>,
+    alloc: Global,
+}
+
+impl Model for Postings {
+    ghost use Rattle.std.specs.Prelude.{ℕ, List, map};
+
+    ghost Value = { List (List ℕ × List ℕ) };
+
+    ghost view = { λ p. map (λ e. (e.0.items, e.1.items)) p.places.entries };
+}
+
+impl Postings {
+    /// No places.
+    pub(crate) fn new(alloc: Global) -> Postings
+        ensures { result ≡ [] }
+    {
+        Postings {
+            places: IndexMap::new(alloc),
+            alloc,
+        }
+    }
+
+    /// The places under the text: one look-up.
+    pub(crate) fn under(&self, key: &[u8]) -> &[u32]
+        ensures { result.now ≡ under bytes_eq key.now self.now }
+    {
+        match self.places.get(key) {
+            Some(places) => places.as_slice(),
+            None => &[],
+        }
+    }
+
+    // The first place under a text.
+    fn begin(&mut self, key: &[u8], place: u32) -> Result<(), Memory>
+        requires { has_key bytes_eq key.now self.old ≡ false }
+        ensures ok { OnOk result (self.new ≡ posted bytes_eq key.now place self.old) }
+        ensures err { OnErr result (self.new ≡ self.old) }
+    {
+        let mut places = Vec::new(self.alloc);
+        places.push(place)?;
+        self.places
+            .insert(Vec::from_slice(self.alloc, key)?, places)?;
+        Ok(())
+    }
+
+    /// The place under the text, too.
+    pub(crate) fn add(&mut self, key: &[u8], place: u32) -> Result<(), Memory>
+        ensures ok { OnOk result (self.new ≡ posted bytes_eq key.now place self.old) }
+        ensures err { OnErr result (self.new ≡ self.old) }
+    {
+        match self.places.get_mut(key) {
+            Some(places) => put_place(places, place),
+            None => self.begin(key, place),
+        }
+    }
+
+    /// The place no longer under the text, if it was its last one.
+    pub(crate) fn forget(&mut self, key: &[u8], place: u32)
+        ensures { self.new ≡ unposted bytes_eq key.now place self.old }
+    {
+        if let Some(places) = self.places.get_mut(key) {
+            drop_place(places, place);
+        }
+    }
+
+    /// The place under each of the texts, too. After `Memory` it is under the first few of them.
+    pub(crate) fn add_all(&mut self, keys: &[Text], place: u32) -> Result<(), Memory>
+        ensures ok { OnOk result (self.new ≡ posted_all bytes_eq keys.now place self.old) }
+        ensures err { OnErr result (IsPartlyPosted keys.now place self.old self.new) }
+    {
+        for key in keys {
+            self.add(key.as_slice(), place)?;
+        }
+        Ok(())
+    }
+
+    /// The place no longer under any of the texts.
+    pub(crate) fn forget_all(&mut self, keys: &[Text], place: u32)
+        ensures { self.new ≡ unposted_all bytes_eq keys.now place self.old }
+    {
+        for key in keys {
+            self.forget(key.as_slice(), place);
+        }
+    }
+
+    /// The place under the text, too, where there is one.
+    pub(crate) fn add_some(&mut self, key: &Option<Text>, place: u32) -> Result<(), Memory>
+        ensures ok { OnOk result (self.new ≡ posted_all bytes_eq (option_to_list key.now) place self.old) }
+        ensures err { OnErr result (IsPartlyPosted (option_to_list key.now) place self.old self.new) }
+    {
+        match key {
+            Some(key) => self.add(key.as_slice(), place),
+            None => Ok(()),
+        }
+    }
+
+    /// The place no longer under the text, where there is one.
+    pub(crate) fn forget_some(&mut self, key: &Option<Text>, place: u32)
+        ensures { self.new ≡ unposted_all bytes_eq (option_to_list key.now) place self.old }
+    {
+        if let Some(key) = key {
+            self.forget(key.as_slice(), place);
+        }
+    }
+}

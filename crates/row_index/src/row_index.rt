@@ -1,0 +1,256 @@
+// The rows and their index.
+
+ghost use Rattle.std.specs.Prelude.{◌≡◌, ◌+◌, ◌<◌, ℕ, ℤ, pos, ◌≤ℤ◌, List, [], ◌∷◌, ◌++◌, length, nat_eq, option_copied, option_to_list, slice_get, OnOk, OnErr};
+ghost use Rattle.std.specs.List.{find};
+ghost use Rattle.tap_rows.specs.declared.rows.Doc.{Doc};
+ghost use Rattle.tap_rows.specs.declared.rows.Note.{Note};
+ghost use Rattle.tap_rows.specs.declared.tables.Tables.{Tables};
+ghost use Rattle.tap_rows.specs.declared.change.Change.TheVariants.{Docs, OneNote};
+ghost use Rattle.tap_rows.specs.Arrivals.{Arrived};
+ghost use Rattle.tap_rows.specs.Kept.{Each};
+ghost use Rattle.tap_rows.specs.Tables.{no_rows, after};
+ghost use Rattle.row_index.specs.Orders.{InPlace, IsMoment, doc_number, doc_arrival, note_number, note_arrival, in_window, up_to};
+ghost use Rattle.row_index.specs.Texts.{with_text, msgids, parents, senders, words_in};
+ghost use Rattle.row_index.specs.Dates.{dated_in};
+ghost use Rattle.row_index.specs.Held.{notes_on};
+ghost use Rattle.row_index.specs.Rows.{without_last_doc, without_last_note};
+
+use crate::arrivals::{docs_up_to, docs_within, notes_up_to, notes_within};
+use crate::doc_places::DocPlaces;
+use crate::note_places::NotePlaces;
+use crate::walk::{DocWalk, NoteWalk, Walk};
+use std::alloc::Global;
+use std::marker::Model;
+use std::sync::ledger::Ledger;
+use tap_base::{DocNum, Memory, Steps};
+use tap_rows::{KeptDoc, Note};
+
+/// All documents and notes, with what finds some of them. It is seen as tables that have no other rows.
+#[derive(Drop)]
+pub struct RowIndex {
+    docs: Vec<KeptDoc>,
+    places: DocPlaces,
+    notes: Vec<Note>,
+    on_doc: NotePlaces,
+}
+
+impl Model for RowIndex {
+    ghost use Rattle.tap_rows.specs.declared.tables.Tables.{Tables};
+    ghost use Rattle.row_index.specs.Rows.{rows_alone};
+    ghost use Rattle.row_index.specs.Held.{IsHeld};
+
+    ghost Value = { Tables };
+
+    ghost view = { λ index. rows_alone index.docs.items index.notes.items };
+
+    ghost invariant = { λ index. IsHeld index.docs.items index.places index.notes.items index.on_doc };
+}
+
+impl RowIndex {
+    /// No rows.
+    pub fn new(alloc: Global) -> RowIndex
+        ensures { result ≡ no_rows }
+    {
+        RowIndex {
+            docs: Vec::new(alloc),
+            places: DocPlaces::new(alloc),
+            notes: Vec::new(alloc),
+            on_doc: NotePlaces::new(alloc),
+        }
+    }
+
+    /// How many documents there are. Their numbers are their places, from 1, and their arrivals never fall.
+    pub fn docs(&self) -> u32
+        ensures count { result ≡ length self.now.docs }
+        ensures places { InPlace doc_number doc_arrival self.now.docs }
+        ensures arrived { Arrived 1 (pos 0) self.now.docs }
+    {
+        self.docs.len() as u32
+    }
+
+    /// How many notes there are. Their numbers are their places, from 1, and their arrivals never fall.
+    pub fn notes(&self) -> u32
+        ensures count { result ≡ length self.now.notes }
+        ensures places { InPlace note_number note_arrival self.now.notes }
+    {
+        self.notes.len() as u32
+    }
+
+    /// The documents that arrived from `low` up to but not at `high`, in seconds since 1970-01-01T00:00:00Z.
+    pub fn docs_arrived(&self, low: i64, high: i64) -> DocWalk<'_>
+        ensures { result ≡ in_window doc_arrival low high self.now.docs }
+    {
+        Walk::over(docs_within(&self.docs, low, high))
+    }
+
+    /// The documents that arrived up to `last`.
+    pub fn all_docs_to(&self, last: i64) -> DocWalk<'_>
+        ensures { result ≡ up_to doc_arrival last self.now.docs }
+    {
+        Walk::over(docs_up_to(&self.docs, last))
+    }
+
+    /// The documents whose date is from `low` up to but not at `high`, in order of date, then of number.
+    pub fn docs_dated(&self, low: i64, high: i64) -> DocWalk<'_>
+        ensures { result ≡ dated_in low high self.now.docs }
+    {
+        Walk::by_date(&self.docs, self.places.dates.within(low, high))
+    }
+
+    /// The documents whose Message-ID (RFC 5322 3.6.4) is the text. One look-up.
+    pub fn by_msgid(&self, text: &[u8]) -> DocWalk<'_>
+        ensures { result ≡ with_text msgids text.now self.now.docs }
+    {
+        Walk::placed(&self.docs, self.places.texts.msgid.under(text))
+    }
+
+    /// The documents whose In-Reply-To (RFC 5322 3.6.4) is the text. One look-up.
+    pub fn by_parent(&self, text: &[u8]) -> DocWalk<'_>
+        ensures { result ≡ with_text parents text.now self.now.docs }
+    {
+        Walk::placed(&self.docs, self.places.texts.parent.under(text))
+    }
+
+    /// The documents whose sender (RFC 5322 3.6.2) is the text. One look-up.
+    pub fn by_sender(&self, text: &[u8]) -> DocWalk<'_>
+        ensures { result ≡ with_text senders text.now self.now.docs }
+    {
+        Walk::placed(&self.docs, self.places.texts.sender.under(text))
+    }
+
+    /// The documents of which the text is a word. One look-up.
+    pub fn by_word(&self, text: &[u8]) -> DocWalk<'_>
+        ensures { result ≡ with_text words_in text.now self.now.docs }
+    {
+        Walk::placed(&self.docs, self.places.texts.word.under(text))
+    }
+
+    /// The notes on this document. One look-up.
+    pub fn notes_of(&self, doc: DocNum) -> NoteWalk<'_>
+        ensures { result ≡ notes_on doc.0 self.now.notes }
+    {
+        Walk::placed(&self.notes, self.on_doc.under(doc.0))
+    }
+
+    /// The notes that arrived from `low` up to but not at `high`.
+    pub fn notes_arrived(&self, low: i64, high: i64) -> NoteWalk<'_>
+        ensures { result ≡ in_window note_arrival low high self.now.notes }
+    {
+        Walk::over(notes_within(&self.notes, low, high))
+    }
+
+    /// The notes that arrived up to `last`.
+    pub fn all_notes_to(&self, last: i64) -> NoteWalk<'_>
+        ensures { result ≡ up_to note_arrival last self.now.notes }
+    {
+        Walk::over(notes_up_to(&self.notes, last))
+    }
+
+    /// The document of this number, with a step. None exactly where there is no such number, and then no step.
+    pub fn doc<L: Ledger>(&self, num: DocNum, steps: &mut Steps<L>) -> Option<&KeptDoc>
+        ensures doc { option_copied result ≡ find (λ doc. nat_eq doc.num.0 num.0) self.now.docs }
+        ensures steps { steps.new ≡ steps.old + length (option_to_list (option_copied result)) }
+    {
+        let doc = doc_at(&self.docs, num.0);
+        if doc.is_some() {
+            steps.tick();
+        }
+        doc
+    }
+
+    /// All documents, with a step for each.
+    pub fn every_doc<L: Ledger>(&self, steps: &mut Steps<L>) -> &[KeptDoc]
+        ensures docs { result.now ≡ self.now.docs }
+        ensures steps { steps.new ≡ steps.old + length self.now.docs }
+    {
+        steps.add(self.docs.len());
+        &self.docs
+    }
+
+    /// All notes, with a step for each.
+    pub fn every_note<L: Ledger>(&self, steps: &mut Steps<L>) -> &[Note]
+        ensures notes { result.now ≡ self.now.notes }
+        ensures steps { steps.new ≡ steps.old + length self.now.notes }
+    {
+        steps.add(self.notes.len());
+        &self.notes
+    }
+
+    /// One more document, behind the others. At Err nothing has changed.
+    pub fn add_doc(&mut self, doc: KeptDoc) -> Result<(), Memory>
+        requires number { doc.num.0 ≡ length self.old.docs + 1 }
+        requires moment { IsMoment doc.arrival }
+        requires after { Each (λ other. other.arrival ≤ℤ doc.arrival) self.old.docs }
+        ensures ok { OnOk result (self.new ≡ after self.old (Docs (doc ∷ []))) }
+        ensures err { OnErr result (self.new ≡ self.old) }
+    {
+        let place = number_of(&doc) - 1;
+        self.docs.reserve(1)?;
+        self.places.add(&doc, place)?;
+        self.docs.push(doc)?;
+        Ok(())
+    }
+
+    /// One more note, behind the others. At Err nothing has changed.
+    pub fn add_note(&mut self, note: Note) -> Result<(), Memory>
+        requires number { note.num.0 ≡ length self.old.notes + 1 }
+        requires moment { IsMoment note.arrival }
+        requires after { Each (λ other. other.arrival ≤ℤ note.arrival) self.old.notes }
+        ensures ok { OnOk result (self.new ≡ after self.old (OneNote note)) }
+        ensures err { OnErr result (self.new ≡ self.old) }
+    {
+        let place = note.num.0 - 1;
+        self.notes.reserve(1)?;
+        self.on_doc.add(note.doc.0, place)?;
+        self.notes.push(note)?;
+        Ok(())
+    }
+
+    /// The last document no longer. It takes no memory.
+    pub fn forget_last_doc(&mut self)
+        requires { 0 < length self.old.docs }
+        ensures last { self.new ≡ without_last_doc self.old }
+        ensures undone { (before : Tables) (doc : Doc) → self.old ≡ after before (Docs (doc ∷ [])) → self.new ≡ before }
+    {
+        if let Some(doc) = self.docs.pop() {
+            self.places.forget(&doc, self.docs.len() as u32);
+        }
+    }
+
+    /// The last note no longer. It takes no memory.
+    pub fn forget_last_note(&mut self)
+        requires { 0 < length self.old.notes }
+        ensures last { self.new ≡ without_last_note self.old }
+        ensures undone { (before : Tables) (note : Note) → self.old ≡ after before (OneNote note) → self.new ≡ before }
+    {
+        if let Some(note) = self.notes.pop() {
+            self.on_doc.forget(note.doc.0, self.notes.len() as u32);
+        }
+    }
+}
+
+// The document's number.
+fn number_of(doc: &KeptDoc) -> u32
+    ensures { result ≡ doc.now.num.0 }
+{
+    doc.doc().num.0
+}
+
+// The document at this place.
+fn doc_in(docs: &[KeptDoc], place: usize) -> Option<&KeptDoc>
+    ensures { option_copied result ≡ slice_get docs.now place }
+{
+    docs.get(place)
+}
+
+// The document of this number.
+fn doc_at(docs: &[KeptDoc], num: u32) -> Option<&KeptDoc>
+    requires { InPlace doc_number doc_arrival docs.now }
+    ensures { option_copied result ≡ find (λ doc. nat_eq doc.num.0 num) docs.now }
+{
+    if num == 0 {
+        None
+    } else {
+        doc_in(docs, num as usize - 1)
+    }
+}
