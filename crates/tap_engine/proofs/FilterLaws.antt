@@ -1,4 +1,4 @@
--- Filters and lists: why one is refused, and what the engine keeps after one.
+-- Filters, lists and explanations: why one is refused, and what the engine keeps after one.
 use Rattle.std.proofs.Common.{◌≡◌, ◌∙◌, sym, refl, ap, subst, arith, ℕ, suc, List, [], ◌∷◌, ◌++◌, ◌+◌, length, map, take, get_or, ◌<◌, ◌≤◌, Bool, Option, Some, None, true, false, inl, inr, if◌then◌else◌}
 use Rattle.std.specs.Prelude.{◌⊎◌, ◌==◌, ◌||◌, nat_le, sum_by, find, reverse, Result, Ok, Err}
 use Rattle.std.specs.Option.{option_or, option_map}
@@ -27,8 +27,8 @@ use Rattle.script_lang.specs.declared.refusal.Refusal.{Refusal}
 use Rattle.script_lang.specs.declared.refusal.Refusal.TheVariants.{NoMoment, Memory, Limit}
 use Rattle.script_lang.specs.declared.refusal.LimitName.{LimitName}
 use Rattle.script_lang.specs.declared.refusal.LimitName.TheVariants.{Users, Filters, Store}
-use Rattle.script_lang.specs.declared.command.Command.TheVariants.{Filter, ListOf}
-use Rattle.script_lang.specs.declared.reply.Reply.TheVariants.{Filter as FilterAdded, ListOf as Listing}
+use Rattle.script_lang.specs.declared.command.Command.TheVariants.{Filter, ListOf, Explain}
+use Rattle.script_lang.specs.declared.reply.Reply.TheVariants.{Filter as FilterAdded, ListOf as Listing, Explain as Explained}
 use Rattle.appraiser.specs.declared.fault.RuleFault.{RuleFault}
 use Rattle.appraiser.specs.declared.fault.RuleFault.TheVariants as R
 use Rattle.appraiser.specs.Rules.{Rule}
@@ -39,9 +39,9 @@ use Rattle.tap_model.specs.declared.session.Session.{Session}
 use Rattle.tap_model.specs.Limits.{passes, different}
 use Rattle.tap_model.specs.Sessions.{user_of, present}
 use Rattle.tap_model.specs.Filters.{or_none, rules_in_text, last_filter, filter_rules, rules_of_user}
-use Rattle.tap_model.specs.Queries.{is_named, query_named, truth_of, start_of, box_in}
+use Rattle.tap_model.specs.Queries.{is_named, query_named, truth_of, start_of, box_in, lines_of}
 use Rattle.tap_model.specs.Verdicts.{first_refusal, verdict, missing, no_moment, no_user, long_filter, rule_refusal, rules_refusal, filter_fault, text_of, is_early}
-use Rattle.tap_model.specs.Replies.{next_filter, show_list, tables_after}
+use Rattle.tap_model.specs.Replies.{next_filter, show_list, show_lines, tables_after}
 use Rattle.tap_model.specs.Sound.{Sound}
 use Rattle.tap_model.specs.Stories.{Refuses, Follows}
 use Rattle.tap_model.proofs.AnswerLaws.{some-none, find-in, truth-of-second, follows-accepted}
@@ -50,7 +50,7 @@ use Rattle.tap_engine.specs.declared.kept_query.KeptQuery.{KeptQuery}
 use Rattle.tap_engine.specs.Keeping.{kept_query, with_owner}
 use Rattle.tap_engine.specs.Standing.{StandsFor, RefusedBy, look_refusal, kept_named}
 use Rattle.tap_engine.specs.FilterChecks.{filter_limits, filter_refusal}
-use Rattle.tap_engine.specs.Lists.{rows_kept}
+use Rattle.tap_engine.specs.Lists.{rows_kept, lines_kept}
 use Rattle.tap_engine.proofs.OwnerLaws.{users-more, owners-more}
 use Rattle.tap_engine.proofs.CheckLaws.{named-is, box-verdict, passes-late, late-first}
 
@@ -203,4 +203,33 @@ follows-list e t name rows stands sound none is = go (query_named (user_of e.ses
         reply_is = ap (Listing name) whole ∙ sym (ap (λ o. (show_list o name e.session t).reply) some) ∙ follows.reply_is;
         tables_are = sym (ap (λ o. tables_after (show_list o name e.session t).change t) some) ∙ follows.tables_are;
         session_is = sym (ap (λ o. (show_list o name e.session t).session) some) ∙ follows.session_is;
+      }
+
+-- an explanation is refused as a box is
+pub lines-refuses : (e : Engine) (t : Tables) (name : List ℕ) (refusal : Refusal) → StandsFor e t → RefusedBy (look_refusal e name) refusal → Refuses refusal (Explain name) e.session t
+lines-refuses e t name refusal stands by = subst (λ v. RefusedBy v refusal) (box-verdict e t name stands) by
+
+some-lines : (xs : List (List ℕ)) → Some xs ≡ None → ⊥
+some-lines xs e = cc
+
+lines-same : (xs ys : List (List ℕ)) → Some xs ≡ Some ys → xs ≡ ys
+lines-same xs ys e = cc
+
+-- an explanation that isn't refused is of a query that there is
+pub follows-lines : (e : Engine) (t : Tables) (name : List ℕ) (lines : List (List ℕ)) → StandsFor e t → look_refusal e name ≡ None → Some lines ≡ lines_kept (kept_named e name) → Follows t e.session (Explain name) (Explained name lines) t e.session
+follows-lines e t name lines stands none is = go (query_named (user_of e.session) name t) refl where
+  follows : Follows t e.session (Explain name) (show_lines (query_named (user_of e.session) name t) name e.session t).reply (tables_after (show_lines (query_named (user_of e.session) name t) name e.session t).change t) (show_lines (query_named (user_of e.session) name t) name e.session t).session
+  follows = follows-accepted t e.session (Explain name) (sym (box-verdict e t name stands) ∙ none)
+
+  kept : Some lines ≡ lines_kept (option_map (kept_query t) (query_named (user_of e.session) name t))
+  kept = is ∙ ap lines_kept (named-is e t name stands)
+
+  go : (o : Option QueryRow) → query_named (user_of e.session) name t ≡ o → Follows t e.session (Explain name) (Explained name lines) t e.session
+  go None none' = absurd (some-lines lines (kept ∙ ap (λ o. lines_kept (option_map (kept_query t) o)) none'))
+  go (Some q) some =
+      let same : lines ≡ lines_of q = lines-same lines (lines_of q) (kept ∙ ap (λ o. lines_kept (option_map (kept_query t) o)) some) in
+      record {
+        reply_is = ap (Explained name) same ∙ sym (ap (λ o. (show_lines o name e.session t).reply) some) ∙ follows.reply_is;
+        tables_are = sym (ap (λ o. tables_after (show_lines o name e.session t).change t) some) ∙ follows.tables_are;
+        session_is = sym (ap (λ o. (show_lines o name e.session t).session) some) ∙ follows.session_is;
       }

@@ -15,6 +15,10 @@ use Rattle.tql_tree.specs.Syntax.{Syntax, True, False, Or, And, Not, Exists, Com
 use Rattle.tql_core.specs.declared.term.Term.{Term}
 use Rattle.tql_core.specs.declared.atom.TextExpr.{TextExpr}
 use Rattle.tql_core.specs.Condition.{Condition, Always, Never}
+use Rattle.tql_core.specs.Bounds.{are_bounded}
+use Rattle.tql_core.specs.Scope.{IsQuery}
+use Rattle.tql_types.proofs.ScopeLaws.{typed-is-query}
+use Rattle.tql_types.proofs.BoundLaws.{typed-bounded}
 use Rattle.tql_types.specs.declared.scope.Variable.{Variable}
 use Rattle.tql_types.specs.declared.field.Field.{Field}
 use Rattle.tql_types.specs.declared.field.Field.TheVariants as F
@@ -197,3 +201,18 @@ tokens-few (Ok tokens) c e = tree-few (query_at 32 tokens) c e
 -- the condition of a text binds at most five
 pub read-few : (text : List ℕ) (c : Condition) → condition_of text ≡ Ok c → exists_in c ≤ 15
 read-few text c e = omega (arith, tokens-few (lexed text) c e)
+
+typing-query : (typing : Result Condition TypeFault) (tree : Syntax) (c : Condition) → typed tree ≡ typing → of_typing typing ≡ Ok c → IsQuery c × (are_bounded c ≡ true)
+typing-query typing tree c is e = let ok = is ∙ typing-few typing c e in (typed-is-query tree c ok, typed-bounded tree c ok)
+
+tree-query : (tree : Result Syntax ParseFault) (c : Condition) → of_tree tree ≡ Ok c → IsQuery c × (are_bounded c ≡ true)
+tree-query (Err fault) c e = absurd cc
+tree-query (Ok tree) c e = typing-query (typed tree) tree c refl e
+
+tokens-query : (tokens : Result (List Token) LexFault) (c : Condition) → of_tokens tokens ≡ Ok c → IsQuery c × (are_bounded c ≡ true)
+tokens-query (Err fault) c e = absurd cc
+tokens-query (Ok tokens) c e = tree-query (query_at 32 tokens) c e
+
+-- the condition of a text names only variables in scope, and its times are bounded
+pub read-query : (text : List ℕ) (c : Condition) → condition_of text ≡ Ok c → IsQuery c × (are_bounded c ≡ true)
+read-query text c e = tokens-query (lexed text) c e

@@ -1,8 +1,9 @@
--- A list of a box, by what is kept.
-use Rattle.std.specs.Prelude.{List, Option, Some, None}
+-- A list of a box and the lines of a query, by what is kept.
+use Rattle.std.specs.Prelude.{ℕ, List, Option, Some, None}
 use Rattle.tap_rows.specs.declared.results.Listed.{Listed}
 use Rattle.appraiser.specs.Listings.{listing_of}
 use Rattle.tap_model.specs.Sessions.{user_of}
+use Rattle.tap_model.specs.Queries.{lines_of}
 use Rattle.tap_model.specs.Filters.{last_filter, filter_rules}
 use Rattle.tap_engine.specs.declared.engine.Engine.{Engine}
 use Rattle.tap_engine.specs.declared.kept_query.KeptQuery.{KeptQuery}
@@ -11,3 +12,8 @@ use Rattle.tap_engine.specs.declared.kept_query.KeptQuery.{KeptQuery}
 abbrev pub rows_kept : Engine → Option KeptQuery → Option (List Listed)
 rows_kept engine None = None
 rows_kept engine (Some kept) = Some (listing_of (filter_rules (last_filter (user_of engine.session) engine.filters)) engine.docs kept.entries)
+
+-- the lines that explain a query
+abbrev pub lines_kept : Option KeptQuery → Option (List (List ℕ))
+lines_kept None = None
+lines_kept (Some kept) = Some (lines_of kept.row)

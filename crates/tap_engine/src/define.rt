@@ -7,13 +7,15 @@ ghost use Rattle.script_lang.specs.declared.command.Command.{Command};
 ghost use Rattle.script_lang.specs.Replies.{HasShortNames, is_accepted};
 ghost use Rattle.tap_model.specs.Verdicts.{unless, first_refusal};
 ghost use Rattle.script_lang.specs.declared.refusal.Refusal.{Refusal};
+ghost use Rattle.tql_core.specs.Bounds.{are_bounded};
 ghost use Rattle.tql_core.specs.Condition.{condition};
+ghost use Rattle.tql_core.specs.Scope.{IsQuery};
 ghost use Rattle.snapshot_meaning.specs.Seen.{exists_in};
 ghost use Rattle.tap_model.specs.Queries.{condition_by};
 ghost use Rattle.restart_core.specs.Starts.{stored_source};
 ghost use Rattle.tap_engine.specs.Keeping.{new_kept, with_owner, named_in};
 ghost use Rattle.tap_model.specs.Sessions.{present, user_of};
-ghost use Rattle.tap_model.specs.Sound.{Sound};
+ghost use Rattle.tap_model.specs.Sound.{Sound, IsMoment};
 ghost use Rattle.tap_base.specs.Names.{is_name};
 ghost use Rattle.tap_model.specs.Stories.{Follows, Refuses};
 
@@ -112,6 +114,9 @@ impl Engine {
     ) -> Result<(), Memory>
         requires cond { condition cond ≡ condition_by row }
         requires few { exists_in (condition cond) ≤ 15 }
+        requires scoped { IsQuery (condition cond) }
+        requires bounded { are_bounded (condition cond) ≡ true }
+        requires arrival { IsMoment row.arrival }
         requires bytes { self.old.bytes + length row.source < 2 ^ 64 }
         ensures tables { OnOk result (tables.new ≡ after tables.old (Change.OneQuery row)) }
         ensures engine { OnOk result (self.new ≡ record self.old { queries = self.old.queries ++ new_kept row ∷ []; owners = with_owner self.old.owners row.owner; bytes = self.old.bytes + length row.source }) }
@@ -119,7 +124,8 @@ impl Engine {
     {
         let len = row.source.len();
         let owner = row.owner.copy()?;
-        let kept = KeptQuery::new(KeptRow::new(copy_query(&row)?, cond), Rows::new(alloc));
+        let kept_row = KeptRow::new(alloc, copy_query(&row)?, cond)?;
+        let kept = KeptQuery::new(kept_row, Rows::new(alloc));
         push_query(
             &mut self.queries,
             &mut self.owners,
@@ -194,6 +200,8 @@ impl Engine {
         ensures row { IfOk result (λ made. made.0 ≡ record { num = record { 0 = length self.now.queries + 1 }; owner = user_of self.now.session; name = name; source = stored_source source; arrival = present self.now.session }) }
         ensures cond { IfOk result (λ made. condition made.1 ≡ condition_by made.0) }
         ensures vars { IfOk result (λ made. exists_in (condition made.1) ≤ 15) }
+        ensures scoped { IfOk result (λ made. IsQuery (condition made.1)) }
+        ensures bounded { IfOk result (λ made. are_bounded (condition made.1) ≡ true) }
         ensures refusal { IfErr result (λ refusal. RefusedBy (define_refusal self.now name source) refusal) }
         ensures bytes { IfOk result (λ made. self.now.bytes + length made.0.source < 2 ^ 64) }
         ensures name { OnOk result (is_name name ≡ true) }

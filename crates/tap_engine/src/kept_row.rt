@@ -1,25 +1,37 @@
-ghost use Rattle.std.specs.Prelude.{◌≡◌, ◌≤◌};
+ghost use Rattle.std.specs.Prelude.{◌≡◌, ◌≤◌, true, IfOk};
+ghost use Rattle.tql_core.specs.Bounds.{are_bounded};
 ghost use Rattle.tql_core.specs.Condition.{condition};
+ghost use Rattle.tql_core.specs.Scope.{IsQuery};
+ghost use Rattle.time_marks.specs.Distinct.{distinct_probes};
+ghost use Rattle.time_marks.specs.Views.{ranged_probes};
+ghost use Rattle.monotone_rewrite.specs.Query.{window};
 ghost use Rattle.snapshot_meaning.specs.Seen.{exists_in};
 ghost use Rattle.tap_rows.specs.declared.rows.QueryRow.{QueryRow};
 ghost use Rattle.tap_rows.specs.Results.{is_given};
 ghost use Rattle.snapshot_meaning.specs.Seen.{seen};
 ghost use Rattle.tap_model.specs.Local.{is_local, local_truth};
-ghost use Rattle.tap_model.specs.Queries.{condition_by, truth_of, start_of};
+ghost use Rattle.tap_model.specs.Queries.{condition_by, truth_of, start_of, probes_in};
+ghost use Rattle.tap_model.specs.Sound.{IsMoment};
 
+use incremental_rewrite::incremental;
+use monotone_rewrite::monotone_from;
 use restart_core::cut_start;
 use snapshot_meaning::{holds_at, is_doc_given};
+use std::alloc::Global;
 use std::marker::Model;
+use tap_base::Memory;
 use tap_rows::{KeptDoc, Note, QueryRow};
+use time_marks::RangedQuery;
 use tql_core::{Cond, Env, RowRef, Var};
 
-/// The row of a query with its condition and its start. It is seen as the row. An environment has room for the EXISTS
+/// The row of a query with its condition, its start and its window query. It is seen as the row. An environment has room for the EXISTS
 /// variables of the condition.
 #[derive(Drop)]
 pub struct KeptRow {
     row: QueryRow,
     cond: Cond,
     start: i64,
+    ranged: RangedQuery,
 }
 
 impl Model for KeptRow {
@@ -27,7 +39,7 @@ impl Model for KeptRow {
 
     ghost view = { λ kept. kept.row };
 
-    ghost invariant = { λ kept. (condition kept.cond ≡ condition_by kept.row) × ((exists_in (condition kept.cond) ≤ 15) × (kept.start ≡ start_of kept.row)) };
+    ghost invariant = { λ kept. (condition kept.cond ≡ condition_by kept.row) × ((exists_in (condition kept.cond) ≤ 15) × ((kept.start ≡ start_of kept.row) × (ranged_probes kept.ranged ≡ probes_in kept.row))) };
 }
 
 // Does the condition speak of neither now nor other rows?
@@ -54,15 +66,36 @@ fn start_of(row: &QueryRow) -> i64
     }
 }
 
+// The window query of a condition from a start on, without repeats, its marks solved.
+fn range(alloc: Global, cond: &Cond, start: i64) -> Result<RangedQuery, Memory>
+    requires scoped { IsQuery (condition cond.now) }
+    requires bounded { are_bounded (condition cond.now) ≡ true }
+    requires start { IsMoment start }
+    ensures { IfOk result (λ ranged. ranged_probes ranged ≡ distinct_probes (window (condition cond.now) start)) }
+{
+    let query = monotone_from(alloc, cond, start)?;
+    let ranged = incremental(alloc, query)?;
+    Ok(ranged)
+}
+
 impl KeptRow {
-    // Joins a row and its condition.
-    pub(crate) fn new(row: QueryRow, cond: Cond) -> KeptRow
+    // Joins a row and its condition, with the window query from its start on.
+    pub(crate) fn new(alloc: Global, row: QueryRow, cond: Cond) -> Result<KeptRow, Memory>
         requires cond { condition cond ≡ condition_by row }
         requires few { exists_in (condition cond) ≤ 15 }
-        ensures { result ≡ row }
+        requires scoped { IsQuery (condition cond) }
+        requires bounded { are_bounded (condition cond) ≡ true }
+        requires arrival { IsMoment row.arrival }
+        ensures { IfOk result (λ kept. kept ≡ row) }
     {
         let start = start_of(&row);
-        KeptRow { row, cond, start }
+        let ranged = range(alloc, &cond, start)?;
+        Ok(KeptRow {
+            row,
+            cond,
+            start,
+            ranged,
+        })
     }
 
     /// The row.
@@ -70,6 +103,13 @@ impl KeptRow {
         ensures { result.now ≡ self.now }
     {
         &self.row
+    }
+
+    // The window query, without repeats, its marks solved.
+    pub(crate) fn ranged(&self) -> &RangedQuery
+        ensures { ranged_probes result.now ≡ probes_in self.now }
+    {
+        &self.ranged
     }
 
     // The first second that the query covers.

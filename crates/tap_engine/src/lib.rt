@@ -5,6 +5,7 @@ mod ask;
 mod boxes;
 mod define;
 mod engine;
+mod explain;
 mod filter;
 mod kept_filter;
 mod kept_queries;

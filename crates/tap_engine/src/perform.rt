@@ -42,6 +42,7 @@ impl Engine {
             } => self.note(tables, doc, kind, value, text),
             Command::Run(name) => self.run(alloc, tables, name.as_slice()),
             Command::BoxOf(name) => self.show_box(alloc, tables, name),
+            Command::Explain(name) => self.explain(alloc, tables, name),
             Command::ListOf(name) => self.show_list(alloc, tables, name),
             Command::Filter(block) => self.filter(alloc, tables, block),
             Command::Ask { moment, source } => {

@@ -1,7 +1,9 @@
-ghost use Rattle.std.specs.Prelude.{◌≡◌, ◌≤◌, ◌⊎◌, ◌++◌, drop, length, codes, None, Some, Ok, OnOk, IfOk, IfErr};
+ghost use Rattle.std.specs.Prelude.{◌≡◌, ◌≤◌, ◌⊎◌, ◌++◌, drop, length, codes, None, Some, Ok, true, OnOk, IfOk, IfErr};
 ghost use Rattle.script_lang.specs.declared.refusal.Refusal.{Refusal};
 ghost use Rattle.restart_core.specs.Starts.{condition_text, stored_source};
+ghost use Rattle.tql_core.specs.Bounds.{are_bounded};
 ghost use Rattle.tql_core.specs.Condition.{condition};
+ghost use Rattle.tql_core.specs.Scope.{IsQuery};
 ghost use Rattle.tql_text.specs.Texts.{condition_of};
 ghost use Rattle.snapshot_meaning.specs.Seen.{exists_in};
 ghost use Rattle.tap_model.specs.Queries.{condition_in};
@@ -30,6 +32,8 @@ fn refusal_of(fault: TextFault) -> Refusal
 pub(crate) fn read_text(alloc: Global, source: &[u8]) -> Result<Cond, Refusal>
     ensures cond { IfOk result (λ cond. condition_of source.now ≡ Ok (condition cond)) }
     ensures vars { IfOk result (λ cond. exists_in (condition cond) ≤ 15) }
+    ensures scoped { IfOk result (λ cond. IsQuery (condition cond)) }
+    ensures bounded { IfOk result (λ cond. are_bounded (condition cond) ≡ true) }
     ensures refusal { IfErr result (λ refusal. (text_fault source.now ≡ Some refusal) ⊎ (refusal ≡ Refusal.Memory)) }
 {
     match read_condition(alloc, source) {
@@ -43,6 +47,8 @@ fn keep_text(alloc: Global, source: &[u8]) -> Result<Cond, Refusal>
     ensures fine { OnOk result (text_fault source.now ≡ None) }
     ensures cond { IfOk result (λ cond. condition cond ≡ condition_in source.now) }
     ensures vars { IfOk result (λ cond. exists_in (condition cond) ≤ 15) }
+    ensures scoped { IfOk result (λ cond. IsQuery (condition cond)) }
+    ensures bounded { IfOk result (λ cond. are_bounded (condition cond) ≡ true) }
     ensures refusal { IfErr result (λ refusal. (text_fault source.now ≡ Some refusal) ⊎ (refusal ≡ Refusal.Memory)) }
 {
     let cond = read_text(alloc, source)?;
@@ -91,6 +97,8 @@ pub(crate) fn keep_source(alloc: Global, source: Text) -> Result<(Text, Cond), R
     ensures stored { IfOk result (λ made. made.0 ≡ stored_source source) }
     ensures cond { IfOk result (λ made. condition made.1 ≡ condition_in (condition_text source)) }
     ensures vars { IfOk result (λ made. exists_in (condition made.1) ≤ 15) }
+    ensures scoped { IfOk result (λ made. IsQuery (condition made.1)) }
+    ensures bounded { IfOk result (λ made. are_bounded (condition made.1) ≡ true) }
     ensures refusal { IfErr result (λ refusal. (text_fault (condition_text source) ≡ Some refusal) ⊎ (refusal ≡ Refusal.Memory)) }
 {
     let cond = keep_text(alloc, text_of(source.as_slice()))?;

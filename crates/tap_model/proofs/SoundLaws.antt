@@ -6,7 +6,8 @@ use Rattle.std.specs.Option.{option_or}
 use Rattle.std.proofs.lemmas.Int.{ints}
 use Rattle.jiff.specs.Words.{parse_timestamp, Error}
 use Rattle.tap_base.specs.declared.moments.TheConstants.{LAST_MOMENT}
-use Rattle.tap_base.specs.Numbers.{moment_of, moment_read, moment_at, positive, number_of, is_date_form}
+use Rattle.tap_base.specs.Numbers.{moment_of}
+use Rattle.tql_types.proofs.Ranges.{InRange, moment-range}
 use Rattle.tap_rows.specs.declared.tables.Tables.{Tables}
 use Rattle.tap_rows.specs.declared.rows.Doc.{Doc}
 use Rattle.tap_rows.specs.declared.rows.Note.{Note}
@@ -30,9 +31,9 @@ use Rattle.restart_core.specs.Starts.{is_from_now, stored_source}
 use Rattle.tap_model.specs.Sessions.{no_session, present, or_zero, user_of, later_of, greatest_of, moments_in, greatest_moment, last_moment}
 use Rattle.tap_model.specs.Queries.{truth_of, start_of, is_named, query_named}
 use Rattle.tap_model.specs.Verdicts.{verdict, first_refusal, missing, unless, is_back, text_of}
-use Rattle.tap_model.specs.Replies.{Answer, answer_of, answer_by, accepted, tables_after, set_moment, next_doc, next_note, next_query, next_filter, run_query, show_box, show_list, ask_at}
+use Rattle.tap_model.specs.Replies.{Answer, answer_of, answer_by, accepted, tables_after, set_moment, next_doc, next_note, next_query, next_filter, run_query, show_box, show_list, show_lines, ask_at}
 use Rattle.tap_model.specs.Stories.{Step}
-use Rattle.tap_model.specs.Sound.{Sound, IsNow}
+use Rattle.tap_model.specs.Sound.{Sound, IsNow, IsMoment}
 use Rattle.tap_model.proofs.AnswerLaws.{truth-of-second, find-in, second-none}
 
 -- what an answer leaves is sound
@@ -63,7 +64,7 @@ unfolding start_of
 start-by m query positive le = elim (is_from_now query.source) as (λ b. (if b then query.arrival else pos 0) ≤ℤ m) [ true ↦ le | false ↦ positive ]
 
 -- what is known of the session's moment
-now-at : (tables : Tables) (session : Session) (m : ℤ) → session.moment ≡ Some m → Sound tables session → (pos 0 ≤ℤ m) × IsBy start_of m tables
+now-at : (tables : Tables) (session : Session) (m : ℤ) → session.moment ≡ Some m → Sound tables session → IsMoment m × IsBy start_of m tables
 now-at tables session m is sound = subst (λ moment. IsNow moment tables) is sound.now
 
 -- rows that are by a moment are by a later one
@@ -124,34 +125,9 @@ greatest-by m tables positive most =
       filters = each-of-map (λ filter. filter.arrival) m tables.filters (each-right (λ z. z ≤ℤ m) (docs ++ notes ++ queries ++ runs) filters all);
     }
 
-some-moment : (x y : ℤ) → Some x ≡ Some y → x ≡ y
-some-moment x y e = cc
-
-none-moment : (x : ℤ) → None ≡ Some x → ⊥
-none-moment x e = cc
-
--- a moment is not below 0
-at-positive : (second m : ℤ) → moment_at second ≡ Some m → pos 0 ≤ℤ m
-at-positive second m e = go (int_le (pos 0) second) refl (int_le second (pos LAST_MOMENT)) refl where
-  go : (a : Bool) → int_le (pos 0) second ≡ a → (b : Bool) → int_le second (pos LAST_MOMENT) ≡ b → pos 0 ≤ℤ m
-  go true y true z = let is : second ≡ m = some-moment second m (sym (rw (y, z) refl) ∙ e) in grind (arith, ints)
-  go true y false z = absurd (none-moment m (sym (rw (y, z) refl) ∙ e))
-  go false y b z = absurd (none-moment m (sym (rw y refl) ∙ e))
-
-read-positive : (read : Result ℤ Error) (m : ℤ) → moment_read read ≡ Some m → pos 0 ≤ℤ m
-read-positive (Ok nanosecond) m e = at-positive (int_div nanosecond (pos 1_000_000_000)) m e
-read-positive (Err fault) m e = absurd (none-moment m e)
-
-number-positive : (n : Option ℕ) (m : ℤ) → positive n ≡ Some m → pos 0 ≤ℤ m
-number-positive (Some n) m e = let is : pos n ≡ m = some-moment (pos n) m e in subst (λ z. pos 0 ≤ℤ z) is (omega (arith, ints))
-number-positive None m e = absurd (none-moment m e)
-
-moment-positive : (text : List ℕ) (m : ℤ) → moment_of text ≡ Some m → pos 0 ≤ℤ m
-moment-positive text m e = go (all_ascii_digits text) refl (is_date_form text) refl where
-  go : (a : Bool) → all_ascii_digits text ≡ a → (b : Bool) → is_date_form text ≡ b → pos 0 ≤ℤ m
-  go true y b z = number-positive (number_of 12 LAST_MOMENT text) m (sym (ap (λ a. if a then positive (number_of 12 LAST_MOMENT text) else if is_date_form text then moment_read (parse_timestamp text) else None) y) ∙ e)
-  go false y true z = read-positive (parse_timestamp text) m (sym (ap (λ a. if a then positive (number_of 12 LAST_MOMENT text) else if is_date_form text then moment_read (parse_timestamp text) else None) y ∙ ap (λ b. if b then moment_read (parse_timestamp text) else None) z) ∙ e)
-  go false y false z = absurd (none-moment m (sym (ap (λ a. if a then positive (number_of 12 LAST_MOMENT text) else if is_date_form text then moment_read (parse_timestamp text) else None) y ∙ ap (λ b. if b then moment_read (parse_timestamp text) else None) z) ∙ e))
+-- the moment of a text is in range
+moment-in-range : (text : List ℕ) (m : ℤ) → moment_of text ≡ Some m → IsMoment m
+moment-in-range text m e = subst InRange e (moment-range text)
 
 -- a second that is not refused is not below the last one
 not-back : (last second : ℤ) → is_back (Some last) (Some second) ≡ None → last ≤ℤ second
@@ -176,9 +152,9 @@ at-sound text session tables sound none = go (moment_of text) refl where
   go : (moment : Option ℤ) → moment_of text ≡ moment → Leaves tables (set_moment moment session)
   go None is = sound
   go (Some m) is =
-      let positive = moment-positive text m is in
+      let range = moment-in-range text m is in
       let back = second-none (missing BadMoment (moment_of text)) (is_back (last_moment session tables) (moment_of text)) [] none in
-      record { kept = sound.kept; now = (positive, at-by tables session m sound positive (sym (ap (is_back (last_moment session tables)) is) ∙ back)) }
+      record { kept = sound.kept; now = (range, at-by tables session m sound range.0 (sym (ap (is_back (last_moment session tables)) is) ∙ back)) }
 
 -- one more document at the end
 arrived-more : (num : ℕ) (low m : ℤ) (docs : List Doc) (doc : Doc) → Arrived num low docs → Each (λ doc. doc.arrival ≤ℤ m) docs → low ≤ℤ m → doc.arrival ≡ m → doc.num.0 ≡ num + length docs → Arrived num low (docs ++ doc ∷ [])
@@ -194,7 +170,7 @@ mail-sound block session tables sound there =
     let le : doc.arrival ≤ℤ m = subst (λ z. z ≤ℤ m) (sym at) (omega (arith, ints)) in
     let ge : m ≤ℤ doc.arrival = subst (λ z. m ≤ℤ z) (sym at) (omega (arith, ints)) in
     record {
-      kept = kept-docs truth_of start_of truth-of-second m tables (doc ∷ []) sound.kept now.1 (ge, tt) (arrived-more 1 (pos 0) m tables.docs doc sound.kept.docs now.1.docs now.0 at (omega arith));
+      kept = kept-docs truth_of start_of truth-of-second m tables (doc ∷ []) sound.kept now.1 (ge, tt) (arrived-more 1 (pos 0) m tables.docs doc sound.kept.docs now.1.docs now.0.0 at (omega arith));
       now = subst (λ moment. IsNow moment (after tables (Docs (doc ∷ [])))) (sym there.is) (
         now.0,
         record {
@@ -243,7 +219,7 @@ define-sound name source session tables sound there =
         record {
           docs = now.1.docs;
           notes = now.1.notes;
-          queries = each-append (λ query. (query.arrival ≤ℤ m) × (start_of query ≤ℤ m)) tables.queries (query ∷ []) now.1.queries ((le, start-by m query now.0 le), tt);
+          queries = each-append (λ query. (query.arrival ≤ℤ m) × (start_of query ≤ℤ m)) tables.queries (query ∷ []) now.1.queries ((le, start-by m query now.0.0 le), tt);
           runs = now.1.runs;
           filters = now.1.filters;
         },
@@ -277,6 +253,10 @@ box-sound session tables (Some q) name sound = sound
 list-sound : (session : Session) (tables : Tables) (query : Option QueryRow) (name : List ℕ) → Sound tables session → Leaves tables (show_list query name session tables)
 list-sound session tables None name sound = sound
 list-sound session tables (Some q) name sound = sound
+
+lines-sound : (session : Session) (tables : Tables) (query : Option QueryRow) (name : List ℕ) → Sound tables session → Leaves tables (show_lines query name session tables)
+lines-sound session tables None name sound = sound
+lines-sound session tables (Some q) name sound = sound
 
 filter-sound : (block : Block) (session : Session) (tables : Tables) → Sound tables session → Present session → Leaves tables (accepted (Filter block) session tables)
 filter-sound block session tables sound there =
@@ -316,7 +296,7 @@ accepted-sound (Mbox block) session tables sound none = sound
 accepted-sound (AddNote doc kind value text) session tables sound none = note-sound doc kind value text session tables sound (present-by session (first-none (missing NoMoment session.moment) _ none))
 accepted-sound (ListOf name) session tables sound none = list-sound session tables (query_named (user_of session) name tables) name sound
 accepted-sound (Filter block) session tables sound none = filter-sound block session tables sound (present-by session (first-none (missing NoMoment session.moment) _ none))
-accepted-sound (Explain name) session tables sound none = sound
+accepted-sound (Explain name) session tables sound none = lines-sound session tables (query_named (user_of session) name tables) name sound
 accepted-sound (Ask moment source) session tables sound none = ask-sound (moment_of moment) source session tables sound
 accepted-sound (Wake name) session tables sound none = sound
 accepted-sound (ScoresOf kind) session tables sound none = sound
@@ -332,6 +312,18 @@ answer-sound command session tables sound = go (verdict command session tables) 
 pub step-sound : (tables : Tables) (session : Session) (command : Command) (reply : Reply) (tables' : Tables) (session' : Session) → Step tables session command reply tables' session' → Sound tables session → Sound tables' session'
 step-sound tables session command reply tables' session' (inl follows) sound = rw (follows.tables_are, follows.session_is) (answer-sound command session tables sound)
 step-sound tables session command reply tables' session' (inr stays) sound = rw (stays.tables_are, stays.session_is) sound
+
+-- the present moment is one
+pub present-moment : (tables : Tables) (session : Session) → Sound tables session → IsMoment (present session)
+present-moment tables session sound = go session.moment sound.now where
+  go : (moment : Option ℤ) → IsNow moment tables → IsMoment (or_zero moment)
+  go None now = (omega (arith, ints), omega (arith, ints))
+  go (Some m) now = now.0
+
+-- a query's start is a moment, since its arrival is
+pub start-moment : (query : QueryRow) → IsMoment query.arrival → IsMoment (start_of query)
+unfolding start_of
+start-moment query range = elim (is_from_now query.source) as (λ b. IsMoment (if b then query.arrival else pos 0)) [ true ↦ range | false ↦ (omega (arith, ints), omega (arith, ints)) ]
 
 -- a new session over no rows begins so
 pub sound-start : Sound no_rows no_session

@@ -11,6 +11,10 @@ use Rattle.tql_core.specs.Condition.{Condition, Never}
 use Rattle.tql_core.specs.Holds as Holds
 use Rattle.tql_text.specs.declared.fault.TextFault.{TextFault}
 use Rattle.tql_text.specs.Texts.{condition_of}
+use Rattle.time_marks.specs.Probes.{Probe}
+use Rattle.time_marks.specs.Distinct.{distinct_probes}
+use Rattle.monotone_rewrite.specs.Query.{window}
+use Rattle.incremental_rewrite.specs.Lines.{explain_lines}
 use Rattle.restart_core.specs.Starts.{is_from_now, condition_text}
 
 -- the condition of a reading; one with a fault is never true
@@ -33,6 +37,14 @@ truth_of query = Holds.truth_of (condition_by query)
 -- the first second that a query covers: its arrival where it is from now, else the first of all
 unfoldable pub start_of : QueryRow → ℤ
 start_of query = if is_from_now query.source then query.arrival else pos 0
+
+-- the probes of a query: its window query from its start on, without repeats
+abbrev pub probes_in : QueryRow → List Probe
+probes_in query = distinct_probes (window (condition_by query) (start_of query))
+
+-- the lines that explain a query
+abbrev pub lines_of : QueryRow → List (List ℕ)
+lines_of query = explain_lines (probes_in query)
 
 -- is it this user's query of this name?
 abbrev pub is_named : List ℕ → List ℕ → QueryRow → Bool

@@ -17,10 +17,10 @@ use Rattle.script_lang.specs.declared.command.Command.TheVariants.{At, AsUser, M
 use Rattle.script_lang.specs.declared.refusal.Refusal.{Refusal}
 use Rattle.script_lang.specs.declared.refusal.Refusal.TheVariants.{NotBuilt, BadMoment, NoQuery}
 use Rattle.script_lang.specs.declared.reply.Reply.{Reply}
-use Rattle.script_lang.specs.declared.reply.Reply.TheVariants.{At as SetAt, AsUser as SetUser, OneDoc, OneNote as NoteAdded, Defined, Ran, BoxOf as Boxed, ListOf as Listing, Filter as FilterAdded, Asked, No}
+use Rattle.script_lang.specs.declared.reply.Reply.TheVariants.{At as SetAt, AsUser as SetUser, OneDoc, OneNote as NoteAdded, Defined, Ran, BoxOf as Boxed, ListOf as Listing, Filter as FilterAdded, Explain as Explained, Asked, No}
 use Rattle.tap_model.specs.declared.session.Session.{Session}
 use Rattle.tap_model.specs.Sessions.{present, user_of}
-use Rattle.tap_model.specs.Queries.{condition_in, truth_of, start_of, query_named, hits_of, box_in}
+use Rattle.tap_model.specs.Queries.{condition_in, truth_of, start_of, query_named, hits_of, box_in, lines_of}
 use Rattle.appraiser.specs.Listings.{listing_of}
 use Rattle.tap_model.specs.Filters.{rules_in_text, rules_of_user}
 use Rattle.restart_core.specs.Starts.{stored_source}
@@ -113,6 +113,11 @@ show_list (Some query) name session tables = record {
   change = None;
 }
 
+-- the window query of this query, a line for each probe
+abbrev pub show_lines : Option QueryRow → List ℕ → Session → Tables → Answer
+show_lines None name session tables = refused NoQuery session
+show_lines (Some query) name session tables = record { reply = Explained name (lines_of query); session = session; change = None }
+
 -- the next filter
 abbrev pub next_filter : Tables → Session → List ℕ → FilterRow
 next_filter tables session source =
@@ -148,7 +153,7 @@ accepted (Mbox block) session tables = refused NotBuilt session
 accepted (AddNote doc kind value text) session tables = add_note doc kind value text session tables
 accepted (ListOf name) session tables = show_list (query_named (user_of session) name tables) name session tables
 accepted (Filter block) session tables = add_filter (text_of block) session tables
-accepted (Explain name) session tables = refused NotBuilt session
+accepted (Explain name) session tables = show_lines (query_named (user_of session) name tables) name session tables
 accepted (Ask moment source) session tables = ask_at (moment_of moment) source session tables
 accepted (Wake name) session tables = refused NotBuilt session
 accepted (ScoresOf kind) session tables = refused NotBuilt session

@@ -199,7 +199,7 @@ checks (Filter block) session tables =
     ∷ passes Store STORE_LIMIT (stored_bytes tables) (length (text_of block))
     ∷ filter_fault (text_of block)
     ∷ []
-checks (Explain name) session tables = Some NotBuilt ∷ []
+checks (Explain name) session tables = no_user session ∷ bad_name name ∷ no_query session name tables ∷ []
 checks (Ask moment source) session tables =
     missing BadMoment (moment_of moment) ∷ no_moment session ∷ text_fault source ∷ not_over (moment_of moment) session.moment ∷ []
 checks (Wake name) session tables = Some NotBuilt ∷ []

@@ -1,5 +1,5 @@
 use Rattle.tql_core.specs.Condition.{condition}
-use Rattle.tap_engine.proofs.VariableLaws.{read-few}
+use Rattle.tap_engine.proofs.VariableLaws.{read-few, read-query}
 use Rattle.tap_engine.proofs.TextLaws.{fault-refused}
 use Rattle.tap_engine.proofs.text.read_text.Goals as goal
 
@@ -8,3 +8,9 @@ returns-in-Err-clause-refusal c = fault-refused c.args.source.now c.in-Err.fault
 
 pub returns-in-Ok-clause-vars : goal.returns-in-Ok-clause-vars
 returns-in-Ok-clause-vars c = read-few c.args.source.now (condition c.in-Ok.cond) c.in-Ok.ensures
+
+pub returns-in-Ok-clause-scoped : goal.returns-in-Ok-clause-scoped
+returns-in-Ok-clause-scoped c = (read-query c.args.source.now (condition c.in-Ok.cond) c.in-Ok.ensures).0
+
+pub returns-in-Ok-clause-bounded : goal.returns-in-Ok-clause-bounded
+returns-in-Ok-clause-bounded c = (read-query c.args.source.now (condition c.in-Ok.cond) c.in-Ok.ensures).1

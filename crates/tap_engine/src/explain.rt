@@ -1,0 +1,48 @@
+ghost use Rattle.std.specs.Prelude.{◌≡◌, None, Some, true, OnOk, IfOk, IfErr};
+ghost use Rattle.script_lang.specs.declared.command.Command.{Command};
+ghost use Rattle.script_lang.specs.Replies.{HasShortNames, is_accepted};
+ghost use Rattle.tap_base.specs.Names.{is_name};
+ghost use Rattle.tap_model.specs.Sound.{Sound};
+ghost use Rattle.tap_model.specs.Stories.{Follows, Refuses};
+
+use crate::engine::Engine;
+use incremental_rewrite::render;
+use script_lang::{Refusal, Reply};
+use std::alloc::Global;
+use tap_base::{Text, Texts};
+use tap_rows::Tables;
+
+impl Engine {
+    ghost use Rattle.tap_engine.specs.Standing.{StandsFor, look_refusal, kept_named, RefusedBy};
+    ghost use Rattle.tap_engine.specs.Lists.{lines_kept};
+
+    // The lines of the user's query of this name.
+    fn lines_named(&self, alloc: Global, name: &[u8]) -> Result<Texts, Refusal>
+        ensures look { OnOk result (look_refusal self.now name.now ≡ None) }
+        ensures lines { IfOk result (λ lines. Some lines ≡ lines_kept (kept_named self.now name.now)) }
+        ensures refusal { IfErr result (λ refusal. RefusedBy (look_refusal self.now name.now) refusal) }
+        ensures name { OnOk result (is_name name.now ≡ true) }
+    {
+        let kept = self.look(name)?;
+        let lines = render(alloc, kept.row.ranged())?;
+        Ok(lines)
+    }
+
+    // Explains the user's query of this name.
+    pub(crate) fn explain(
+        &self,
+        alloc: Global,
+        tables: &Tables,
+        name: Text,
+    ) -> Result<Reply, Refusal>
+        requires stands { StandsFor self.now tables.now }
+        requires sound { Sound tables.now self.now.session }
+        ensures ok { IfOk result (λ reply. Follows tables.now self.now.session (Command.Explain name) reply tables.now self.now.session) }
+        ensures refusal { IfErr result (λ refusal. Refuses refusal (Command.Explain name) self.now.session tables.now) }
+        ensures short { IfOk result (λ reply. HasShortNames reply) }
+        ensures accepted { IfOk result (λ reply. is_accepted reply ≡ true) }
+    {
+        let lines = self.lines_named(alloc, name.as_slice())?;
+        Ok(Reply::Explain { name, lines })
+    }
+}
