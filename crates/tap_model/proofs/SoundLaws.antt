@@ -4,7 +4,6 @@ use Rattle.std.specs.Prelude.{◌≤ℤ◌, int_le, int_div, Result, Ok, Err}
 use Rattle.std.specs.Str.{all_ascii_digits}
 use Rattle.std.specs.Option.{option_or}
 use Rattle.std.proofs.lemmas.Int.{ints}
-use Rattle.jiff.specs.Words.{parse_timestamp, Error}
 use Rattle.tap_base.specs.declared.moments.TheConstants.{LAST_MOMENT}
 use Rattle.tap_base.specs.Numbers.{moment_of}
 use Rattle.tql_types.proofs.Ranges.{InRange, moment-range}
