@@ -1,3 +1,5 @@
 pub mod AnswerLaws
 pub mod SoundLaws
 pub mod ViewLaws
+pub mod CoreLaws
+pub mod AlikeLaws
