@@ -3,3 +3,4 @@ pub mod SoundLaws
 pub mod ViewLaws
 pub mod CoreLaws
 pub mod AlikeLaws
+pub mod PrivateLaws
