@@ -4,3 +4,5 @@ pub mod ViewLaws
 pub mod CoreLaws
 pub mod AlikeLaws
 pub mod PrivateLaws
+pub mod StepLaws
+pub mod OtherLaws

@@ -12,7 +12,6 @@ SameDeedSameReply =
     → view_of user a.session a.tables ≡ view_of user b.session b.tables
     → deed_of a.session a.command ≡ deed_of b.session b.command
     → concerns user a.session a.command ≡ true
-    → concerns user b.session b.command ≡ true
     → (is_shared_reply a.reply ≡ true)
     ⊎ ((is_shared_reply b.reply ≡ true)
     ⊎ ((a.reply ≡ b.reply) × (view_of user a.session' a.tables' ≡ view_of user b.session' b.tables')))
