@@ -75,22 +75,22 @@ pub cores-run : (user name : List ℕ) (runs : List RunRow) (run : RunRow) (k : 
 cores-run user name runs run k [] q from is of = refl
 cores-run user name runs run k (x ∷ qs) q from is of =
     go (bytes_eq x.owner user) refl (bytes_eq x.name name) refl (λ found. cores-run user name runs run (suc k) qs q from.1 found of) where
-  -- the query that is found
-  found : (a b : Bool) → bytes_eq x.owner user ≡ a → bytes_eq x.name name ≡ b → (if a && b then Some x else find (is_named user name) qs) ≡ Some q
-  found a b e f = sym (ap (λ z. if z && bytes_eq x.name name then Some x else find (is_named user name) qs) e ∙ ap (λ z. if a && z then Some x else find (is_named user name) qs) f) ∙ is
+      -- the query that is found
+      found : (a b : Bool) → bytes_eq x.owner user ≡ a → bytes_eq x.name name ≡ b → (if a && b then Some x else find (is_named user name) qs) ≡ Some q
+      found a b e f = sym (ap (λ z. if z && bytes_eq x.name name then Some x else find (is_named user name) qs) e ∙ ap (λ z. if a && z then Some x else find (is_named user name) qs) f) ∙ is
 
-  later : find (is_named user name) qs ≡ Some q → (run.query.0 ≡ x.num.0 → ⊥)
-  later e = let bounds = query-bounds (suc k) qs q from.1 (find-in (is_named user name) qs q e) in λ same. absurd (omega (arith, bounds.0, from.0, of, same))
+      later : find (is_named user name) qs ≡ Some q → (run.query.0 ≡ x.num.0 → ⊥)
+      later e = let bounds = query-bounds (suc k) qs q from.1 (find-in (is_named user name) qs q e) in λ same. absurd (omega (arith, bounds.0, from.0, of, same))
 
-  go : (a : Bool) → bytes_eq x.owner user ≡ a → (b : Bool) → bytes_eq x.name name ≡ b → (find (is_named user name) qs ≡ Some q → cores user (runs ++ run ∷ []) qs ≡ with_run name run.moment (cores user runs qs))
-      → map (core_of (runs ++ run ∷ [])) (if a then x ∷ filter (λ query. bytes_eq query.owner user) qs else filter (λ query. bytes_eq query.owner user) qs) ≡ with_run name run.moment (map (core_of runs) (if a then x ∷ filter (λ query. bytes_eq query.owner user) qs else filter (λ query. bytes_eq query.owner user) qs))
-  go true e true f rest =
-      let same : run.query.0 ≡ x.num.0 = of ∙ sym (ap (λ row. row.num.0) (some-row x q (found true true e f))) in
-      rw f (join x.name x.source x.arrival _ _ _ _ (moments-new x.num.0 runs run same) (cores-above user runs run (suc k) qs from.1 (omega (arith, same, from.0))))
-  go true e false f rest =
-      let there = found true false e f in
-      rw f (join x.name x.source x.arrival _ _ _ _ (moments-other x.num.0 runs run (later there)) (rest there))
-  go false e b f rest = rest (found false b e f)
+      go : (a : Bool) → bytes_eq x.owner user ≡ a → (b : Bool) → bytes_eq x.name name ≡ b → (find (is_named user name) qs ≡ Some q → cores user (runs ++ run ∷ []) qs ≡ with_run name run.moment (cores user runs qs))
+          → map (core_of (runs ++ run ∷ [])) (if a then x ∷ filter (λ query. bytes_eq query.owner user) qs else filter (λ query. bytes_eq query.owner user) qs) ≡ with_run name run.moment (map (core_of runs) (if a then x ∷ filter (λ query. bytes_eq query.owner user) qs else filter (λ query. bytes_eq query.owner user) qs))
+      go true e true f rest =
+          let same : run.query.0 ≡ x.num.0 = of ∙ sym (ap (λ row. row.num.0) (some-row x q (found true true e f))) in
+          rw f (join x.name x.source x.arrival _ _ _ _ (moments-new x.num.0 runs run same) (cores-above user runs run (suc k) qs from.1 (omega (arith, same, from.0))))
+      go true e false f rest =
+          let there = found true false e f in
+          rw f (join x.name x.source x.arrival _ _ _ _ (moments-other x.num.0 runs run (later there)) (rest there))
+      go false e b f rest = rest (found false b e f)
 
 -- a run of another user's query
 pub cores-run-other : (user owner name : List ℕ) (runs : List RunRow) (run : RunRow) (k : ℕ) (qs : List QueryRow) (q : QueryRow) → bytes_eq owner user ≡ false → QueriesFrom k qs → find (is_named owner name) qs ≡ Some q → run.query.0 ≡ q.num.0
@@ -98,31 +98,31 @@ pub cores-run-other : (user owner name : List ℕ) (runs : List RunRow) (run : R
 cores-run-other user owner name runs run k [] q other from is of = refl
 cores-run-other user owner name runs run k (x ∷ qs) q other from is of =
     go (bytes_eq x.owner user) refl (is_named owner name x) refl (λ found. cores-run-other user owner name runs run (suc k) qs q other from.1 found of) where
-  found : (b : Bool) → is_named owner name x ≡ b → (if b then Some x else find (is_named owner name) qs) ≡ Some q
-  found b e = sym (ap (λ z. if z then Some x else find (is_named owner name) qs) e) ∙ is
+      found : (b : Bool) → is_named owner name x ≡ b → (if b then Some x else find (is_named owner name) qs) ≡ Some q
+      found b e = sym (ap (λ z. if z then Some x else find (is_named owner name) qs) e) ∙ is
 
-  later : find (is_named owner name) qs ≡ Some q → (run.query.0 ≡ x.num.0 → ⊥)
-  later e = let bounds = query-bounds (suc k) qs q from.1 (find-in (is_named owner name) qs q e) in λ same. absurd (omega (arith, bounds.0, from.0, of, same))
+      later : find (is_named owner name) qs ≡ Some q → (run.query.0 ≡ x.num.0 → ⊥)
+      later e = let bounds = query-bounds (suc k) qs q from.1 (find-in (is_named owner name) qs q e) in λ same. absurd (omega (arith, bounds.0, from.0, of, same))
 
-  left : (a b : Bool) → (a && b) ≡ true → a ≡ true
-  left true b e = refl
-  left false b e = e
+      left : (a b : Bool) → (a && b) ≡ true → a ≡ true
+      left true b e = refl
+      left false b e = e
 
-  both : true ≡ false → ⊥
-  both e = cc
+      both : true ≡ false → ⊥
+      both e = cc
 
-  go : (a : Bool) → bytes_eq x.owner user ≡ a → (b : Bool) → is_named owner name x ≡ b → (find (is_named owner name) qs ≡ Some q → cores user (runs ++ run ∷ []) qs ≡ cores user runs qs)
-      → map (core_of (runs ++ run ∷ [])) (if a then x ∷ filter (λ query. bytes_eq query.owner user) qs else filter (λ query. bytes_eq query.owner user) qs) ≡ map (core_of runs) (if a then x ∷ filter (λ query. bytes_eq query.owner user) qs else filter (λ query. bytes_eq query.owner user) qs)
-  go true e true f rest =
-      let named : x.owner ≡ owner = same-text x.owner owner (left (bytes_eq x.owner owner) (bytes_eq x.name name) f) in
-      absurd (both (sym e ∙ ap (λ o. bytes_eq o user) named ∙ other))
-  go true e false f rest =
-      let there = found false f in
-      join x.name x.source x.arrival _ _ _ _ (moments-other x.num.0 runs run (later there)) (rest there)
-  go false e true f rest =
-      let same : run.query.0 ≡ x.num.0 = of ∙ sym (ap (λ row. row.num.0) (some-row x q (found true f))) in
-      cores-above user runs run (suc k) qs from.1 (omega (arith, same, from.0))
-  go false e false f rest = rest (found false f)
+      go : (a : Bool) → bytes_eq x.owner user ≡ a → (b : Bool) → is_named owner name x ≡ b → (find (is_named owner name) qs ≡ Some q → cores user (runs ++ run ∷ []) qs ≡ cores user runs qs)
+          → map (core_of (runs ++ run ∷ [])) (if a then x ∷ filter (λ query. bytes_eq query.owner user) qs else filter (λ query. bytes_eq query.owner user) qs) ≡ map (core_of runs) (if a then x ∷ filter (λ query. bytes_eq query.owner user) qs else filter (λ query. bytes_eq query.owner user) qs)
+      go true e true f rest =
+          let named : x.owner ≡ owner = same-text x.owner owner (left (bytes_eq x.owner owner) (bytes_eq x.name name) f) in
+          absurd (both (sym e ∙ ap (λ o. bytes_eq o user) named ∙ other))
+      go true e false f rest =
+          let there = found false f in
+          join x.name x.source x.arrival _ _ _ _ (moments-other x.num.0 runs run (later there)) (rest there)
+      go false e true f rest =
+          let same : run.query.0 ≡ x.num.0 = of ∙ sym (ap (λ row. row.num.0) (some-row x q (found true f))) in
+          cores-above user runs run (suc k) qs from.1 (omega (arith, same, from.0))
+      go false e false f rest = rest (found false f)
 
 last-is : (user : List ℕ) (filters : List FilterRow) (new : FilterRow) → last_filter user (filters ++ new ∷ []) ≡ (if bytes_eq new.owner user then Some new else last_filter user filters)
 last-is user filters new = ap (find (λ filter. bytes_eq filter.owner user)) (reverse-append filters (new ∷ []))

@@ -6,3 +6,4 @@ pub mod AlikeLaws
 pub mod PrivateLaws
 pub mod StepLaws
 pub mod OtherLaws
+pub mod TaleLaws

@@ -73,9 +73,9 @@ define-told user name source t o s twins sound sound' is =
     let own : bytes_eq (user_of s) user ≡ true = subst (λ u. bytes_eq (user_of s) u ≡ true) is (self-text (user_of s)) in
     let new : Core = record { name = name; source = stored_source source; arrival = present s; runs = [] } in
     let queries : cores user t.runs (t.queries ++ next_query t s name (stored_source source) ∷ []) ≡ cores user o.runs (o.queries ++ next_query (twin t o) s name (stored_source source) ∷ []) =
-        cores-new user t (next_query t s name (stored_source source)) sound.kept refl own
-        ∙ ap (λ cs. cs ++ new ∷ []) twins.queries
-        ∙ sym (cores-new user (twin t o) (next_query (twin t o) s name (stored_source source)) sound'.kept refl own) in
+    cores-new user t (next_query t s name (stored_source source)) sound.kept refl own
+    ∙ ap (λ cs. cs ++ new ∷ []) twins.queries
+    ∙ sym (cores-new user (twin t o) (next_query (twin t o) s name (stored_source source)) sound'.kept refl own) in
     told-same _ _ _ _ refl (brief-twins t s _ _ _ _ queries twins.filter)
 
 core-same : (c d : Core) → Some c ≡ Some d → c ≡ d
@@ -96,9 +96,9 @@ run-one user name t o s q p twins sound sound' is is' same =
     let hits : hits_of q t (present s) ≡ hits_of p (twin t o) (present s) = hits-core q t (present s) ∙ ap (λ c. core_hits t.docs t.notes c (present s)) same ∙ sym (hits-core p (twin t o) (present s)) in
     let ordinal : length (run_moments q.num.0 t.runs) + 1 ≡ length (run_moments p.num.0 o.runs) + 1 = ap (λ (c : Core). length c.runs + 1) same in
     let queries : cores user (t.runs ++ next_run t q.num (present s) ∷ []) t.queries ≡ cores user (o.runs ++ next_run (twin t o) p.num (present s) ∷ []) o.queries =
-        cores-run user name t.runs (next_run t q.num (present s)) 1 t.queries q sound.kept.queries is refl
-        ∙ ap (with_run name (present s)) twins.queries
-        ∙ sym (cores-run user name o.runs (next_run (twin t o) p.num (present s)) 1 o.queries p sound'.kept.queries is' refl) in
+    cores-run user name t.runs (next_run t q.num (present s)) 1 t.queries q sound.kept.queries is refl
+    ∙ ap (with_run name (present s)) twins.queries
+    ∙ sym (cores-run user name o.runs (next_run (twin t o) p.num (present s)) 1 o.queries p sound'.kept.queries is' refl) in
     told-same _ _ _ _ (ap (λ n. Ran n (present s) (hits_of q t (present s))) ordinal ∙ ap (Ran (length (run_moments p.num.0 o.runs) + 1) (present s)) hits) (brief-twins t s _ _ _ _ queries twins.filter)
 
 run-told : (user name : List ℕ) (t o : Tables) (s : Session) (q p : Option QueryRow) → AreTwins user t o → Sound t s → Sound (twin t o) s → query_named user name t ≡ q → query_named user name o ≡ p → option_map (core_of t.runs) q ≡ option_map (core_of o.runs) p
@@ -140,7 +140,7 @@ filter-told : (user source : List ℕ) (t o : Tables) (s : Session) → AreTwins
 filter-told user source t o s twins is =
     let own : bytes_eq (user_of s) user ≡ true = subst (λ u. bytes_eq (user_of s) u ≡ true) is (self-text (user_of s)) in
     let last : option_map (λ filter. filter.source) (last_filter user (t.filters ++ next_filter t s source ∷ [])) ≡ option_map (λ filter. filter.source) (last_filter user (o.filters ++ next_filter (twin t o) s source ∷ [])) =
-        ap (option_map (λ filter. filter.source)) (filter-own user t.filters (next_filter t s source) own) ∙ sym (ap (option_map (λ filter. filter.source)) (filter-own user o.filters (next_filter (twin t o) s source) own)) in
+    ap (option_map (λ filter. filter.source)) (filter-own user t.filters (next_filter t s source) own) ∙ sym (ap (option_map (λ filter. filter.source)) (filter-own user o.filters (next_filter (twin t o) s source) own)) in
     told-same _ _ _ _ refl (brief-twins t s _ _ _ _ twins.queries last)
 
 snapshot-same : (truth : Truth) (t o : Tables) (second : ℤ) (docs : List Doc) → IsOfTheSecond truth → filter (λ doc. is_given truth t doc second) docs ≡ filter (λ doc. is_given truth (twin t o) doc second) docs

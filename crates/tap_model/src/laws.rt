@@ -18,3 +18,9 @@ pub fn equal_views_are_answered_alike()
 pub fn others_leave_the_view()
     ensures { OthersLeaveTheView }
 {}
+
+/// Whatever else stands in two stories from points that look alike to a user, at a moment: where the same deeds concern the
+/// user and none of them meets a shared refusal, they get the same replies, and the ends look alike.
+pub fn equal_deeds_get_equal_replies()
+    ensures { SameDeedsSameReplies }
+{}
