@@ -8,4 +8,6 @@ pub mod Verdicts
 pub mod Replies
 pub mod Stories
 pub mod Sound
+pub mod Privacy
+pub mod PrivacyLaws
 pub mod Laws
