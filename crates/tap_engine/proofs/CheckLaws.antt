@@ -187,10 +187,10 @@ text-late source rest late = go (condition_of source) where
   go (Err T.Memory) = late
   go (Ok c) = late
 
-passes-late : (name : LimitName) (limit count more : ℕ) → is_early (passes name limit count more) ≡ false
+pub passes-late : (name : LimitName) (limit count more : ℕ) → is_early (passes name limit count more) ≡ false
 passes-late name limit count more = elim ((more == 0) || nat_le (count + more) limit) as (λ b. is_early (if b then None else Some (Limit name)) ≡ false) [ true ↦ refl | false ↦ refl ]
 
-late-first : (x : Option Refusal) (rest : List (Option Refusal)) → is_early x ≡ false → is_early (first_refusal rest) ≡ false → is_early (first_refusal (x ∷ rest)) ≡ false
+pub late-first : (x : Option Refusal) (rest : List (Option Refusal)) → is_early x ≡ false → is_early (first_refusal rest) ≡ false → is_early (first_refusal (x ∷ rest)) ≡ false
 late-first None rest x-late rest-late = rest-late
 late-first (Some x) rest x-late rest-late = x-late
 

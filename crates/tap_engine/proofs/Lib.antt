@@ -10,4 +10,5 @@ mod ArrivalLaws
 mod AskLaws
 mod DueLaws
 mod NoteLaws
+mod MboxLaws
 mod VariableLaws

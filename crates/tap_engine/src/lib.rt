@@ -11,6 +11,7 @@ mod kept_row;
 mod limits;
 mod look;
 mod mail;
+mod mbox;
 mod note;
 mod perform;
 mod run;
