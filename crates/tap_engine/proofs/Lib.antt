@@ -10,5 +10,6 @@ mod ArrivalLaws
 mod AskLaws
 mod DueLaws
 mod NoteLaws
+mod MboxLaws
 mod VariableLaws
 mod FilterLaws

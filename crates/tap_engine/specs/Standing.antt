@@ -6,17 +6,18 @@ use Rattle.tap_rows.specs.declared.tables.Tables.{Tables}
 use Rattle.tap_rows.specs.declared.rows.Note.{Note}
 use Rattle.tap_rows.specs.declared.results.Hit.{Hit}
 use Rattle.tap_rows.specs.declared.results.Entry.{Entry}
+use Rattle.mail_lines.specs.declared.block.Block.{Block}
 use Rattle.script_lang.specs.declared.refusal.Refusal.{Refusal}
 use Rattle.script_lang.specs.declared.refusal.Refusal.TheVariants.{Taken, NoQuery, Memory}
-use Rattle.script_lang.specs.declared.refusal.LimitName.TheVariants.{Notes, Queries, AllQueries, Users, Runs, Picks, Store}
-use Rattle.tap_model.specs.declared.limits.TheConstants.{NOTE_LIMIT, USER_QUERY_LIMIT, QUERY_LIMIT, USER_LIMIT, RUN_LIMIT, PICK_LIMIT, STORE_LIMIT}
+use Rattle.script_lang.specs.declared.refusal.LimitName.TheVariants.{Documents, Notes, Queries, AllQueries, Users, Runs, Picks, Store}
+use Rattle.tap_model.specs.declared.limits.TheConstants.{DOCUMENT_LIMIT, NOTE_LIMIT, USER_QUERY_LIMIT, QUERY_LIMIT, USER_LIMIT, RUN_LIMIT, PICK_LIMIT, STORE_LIMIT}
 use Rattle.tap_engine.specs.declared.kept_query.KeptQuery.{KeptQuery}
 use Rattle.tap_engine.specs.declared.engine.Engine.{Engine}
 use Rattle.tap_engine.specs.declared.run.Due.{Due}
 use Rattle.tap_model.specs.Sessions.{present, user_of, greatest_moment}
 use Rattle.tap_engine.specs.Fresh.{fresh_of}
 use Rattle.tap_model.specs.Limits.{stored_bytes, owners_in, different, passes}
-use Rattle.tap_model.specs.Verdicts.{missing, unless, first_refusal, no_moment, no_user, bad_name, text_fault, wide_refusal, no_doc, long_note, is_early}
+use Rattle.tap_model.specs.Verdicts.{missing, unless, first_refusal, no_moment, no_user, bad_name, text_fault, wide_refusal, messages_of, long_message, long_block, bytes_of, no_doc, long_note, is_early}
 use Rattle.restart_core.specs.Starts.{condition_text, stored_source}
 use Rattle.tap_engine.specs.Keeping.{kept_query, named_in, owned_in}
 
@@ -57,6 +58,15 @@ define_refusal engine name source =
     (option_or (name_refusal engine (user_of engine.session) name)
     (option_or (text_fault (condition_text source))
     (first_refusal (query_limits engine (user_of engine.session) (length (stored_source source)))))))
+
+-- the bounds of these messages of a mailbox file, by what is kept
+unfoldable pub mbox_bounds : Engine → Block → List (List ℕ) → Option Refusal
+mbox_bounds engine block messages =
+    first_refusal (long_message messages ∷ long_block block ∷ passes Documents DOCUMENT_LIMIT (length engine.docs) (length messages) ∷ passes Store STORE_LIMIT engine.bytes (bytes_of messages) ∷ [])
+
+-- why a mailbox file is refused, by what is kept
+abbrev pub mbox_refusal : Engine → Block → Option Refusal
+mbox_refusal engine block = option_or (no_moment engine.session) (mbox_bounds engine block (messages_of block))
 
 -- the bounds of a note on this document and of so many bytes, by what is kept
 unfoldable pub note_bounds : Engine → ℕ → ℕ → Option Refusal

@@ -15,6 +15,7 @@ mod limits;
 mod lists;
 mod look;
 mod mail;
+mod mbox;
 mod note;
 mod perform;
 mod run;

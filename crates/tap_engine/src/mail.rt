@@ -30,19 +30,19 @@ fn message_of(block: Block) -> Result<Text, Refusal>
     }
 }
 
-// Adds a document to the tables and to those that are kept.
-fn push_doc(
+// Adds documents to the tables and to those that are kept.
+pub(crate) fn push_docs(
     docs: &mut Rows<KeptDoc>,
     tables: &mut Tables,
-    kept: KeptDoc,
+    kept: Rows<KeptDoc>,
     rows: Rows<Doc>,
 ) -> Result<(), Memory>
-    ensures docs { OnOk result (docs.new ≡ docs.old ++ kept ∷ []) }
+    ensures docs { OnOk result (docs.new ≡ docs.old ++ kept) }
     ensures tables { OnOk result (tables.new ≡ after tables.old (Change.Docs rows)) }
     ensures err { OnErr result ((docs.new ≡ docs.old) × (tables.new ≡ tables.old)) }
 {
     let len = docs.len();
-    docs.push(kept)?;
+    docs.append(kept)?;
     let done = tables.apply(Change::Docs(rows));
     if done.is_err() {
         docs.cut(len);
@@ -56,20 +56,21 @@ fn make_doc(
     num: DocNum,
     moment: i64,
     text: Text,
-) -> Result<(Rows<Doc>, KeptDoc), Memory>
+) -> Result<(Rows<Doc>, Rows<KeptDoc>), Memory>
     requires { length text ≤ MESSAGE_LIMIT }
     ensures rows { IfOk result (λ made. made.0 ≡ record { num = num; arrival = moment; text = text } ∷ []) }
-    ensures kept { IfOk result (λ made. made.1 ≡ record { num = num; arrival = moment; text = text }) }
+    ensures kept { IfOk result (λ made. made.1 ≡ record { num = num; arrival = moment; text = text } ∷ []) }
 {
     let copy = text.copy()?;
-    let kept = keep(
+    let mut kept = Rows::new(alloc);
+    kept.push(keep(
         alloc,
         Doc {
             num,
             arrival: moment,
             text: copy,
         },
-    )?;
+    )?)?;
     let mut rows = Rows::new(alloc);
     rows.push(Doc {
         num,
@@ -102,7 +103,7 @@ impl Engine {
         let len = text.len();
         let num = DocNum(self.docs.len() as u32 + 1);
         let (rows, kept) = make_doc(alloc, num, moment, text)?;
-        push_doc(&mut self.docs, tables, kept, rows)?;
+        push_docs(&mut self.docs, tables, kept, rows)?;
         self.bytes += len;
         Ok(num)
     }

@@ -33,6 +33,7 @@ impl Engine {
             Command::At(text) => self.at(text.as_slice()),
             Command::AsUser(name) => self.as_user(name),
             Command::Mail(block) => self.mail(alloc, tables, block),
+            Command::Mbox(block) => self.mbox(alloc, tables, block),
             Command::Define { name, source } => self.define(alloc, tables, name, source),
             Command::AddNote {
                 doc,

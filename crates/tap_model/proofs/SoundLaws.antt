@@ -29,8 +29,8 @@ use Rattle.tap_model.specs.declared.session.Session.{Session}
 use Rattle.restart_core.specs.Starts.{is_from_now, stored_source}
 use Rattle.tap_model.specs.Sessions.{no_session, present, or_zero, user_of, later_of, greatest_of, moments_in, greatest_moment, last_moment}
 use Rattle.tap_model.specs.Queries.{truth_of, start_of, is_named, query_named}
-use Rattle.tap_model.specs.Verdicts.{verdict, first_refusal, missing, unless, is_back, text_of}
-use Rattle.tap_model.specs.Replies.{Answer, answer_of, answer_by, accepted, tables_after, set_moment, next_doc, next_note, next_query, next_filter, run_query, show_box, show_list, show_lines, ask_at}
+use Rattle.tap_model.specs.Verdicts.{verdict, first_refusal, missing, unless, is_back, text_of, messages_of}
+use Rattle.tap_model.specs.Replies.{Answer, answer_of, answer_by, accepted, tables_after, set_moment, next_doc, next_note, next_query, next_filter, run_query, show_box, show_list, show_lines, ask_at, docs_from, next_docs, some_docs, add_mbox}
 use Rattle.tap_model.specs.Stories.{Step}
 use Rattle.tap_model.specs.Sound.{Sound, IsNow, IsMoment}
 use Rattle.tap_model.proofs.AnswerLaws.{truth-of-second, find-in, second-none}
@@ -182,6 +182,52 @@ mail-sound block session tables sound there =
       );
     }
 
+-- more documents at the end
+each-at : (P : Doc → Type 0) (num : ℕ) (moment : ℤ) (texts : List (List ℕ)) → ((doc : Doc) → doc.arrival ≡ moment → P doc) → Each P (docs_from num moment texts)
+each-at P num moment [] all = tt
+each-at P num moment (text ∷ texts) all = (all (record { num = record { 0 = num }; arrival = moment; text = text }) refl, each-at P (num + 1) moment texts all)
+
+arrived-from : (num : ℕ) (low m moment : ℤ) (texts : List (List ℕ)) → low ≤ℤ m → moment ≡ m → Arrived num low (docs_from num moment texts)
+arrived-from num low m moment [] le at = tt
+arrived-from num low m moment (text ∷ texts) le at =
+    (subst (λ z. low ≤ℤ z) (sym at) le, refl, subst (λ n. Arrived n moment (docs_from (num + 1) moment texts)) (up num) (arrived-from (num + 1) moment m moment texts (subst (λ z. z ≤ℤ m) (sym at) (omega (arith, ints))) at)) where
+      up : (n : ℕ) → n + 1 ≡ suc n
+      up n = omega arith
+
+arrived-all : (num : ℕ) (low m moment : ℤ) (docs : List Doc) (texts : List (List ℕ)) (next : ℕ) → Arrived num low docs → Each (λ doc. doc.arrival ≤ℤ m) docs → low ≤ℤ m → moment ≡ m → next ≡ num + length docs → Arrived num low (docs ++ docs_from next moment texts)
+arrived-all num low m moment [] texts next arrived each le at is = subst (λ n. Arrived num low (docs_from n moment texts)) (none is) (arrived-from num low m moment texts le at) where
+  none : next ≡ num + 0 → num ≡ next
+  none e = omega (arith, e)
+arrived-all num low m moment (doc ∷ docs) texts next arrived each le at is = (arrived.0, arrived.1, arrived-all (suc num) doc.arrival m moment docs texts next arrived.2 each.1 each.0 at (omega (arith, is)))
+
+docs-sound : (docs : List Doc) (m : ℤ) (session : Session) (tables : Tables) → Sound tables session → session.moment ≡ Some m → Each (λ doc. doc.arrival ≤ℤ m) docs → Each (λ doc. m ≤ℤ doc.arrival) docs → Arrived 1 (pos 0) (tables.docs ++ docs) → Sound (tables_after (some_docs docs) tables) session
+docs-sound [] m session tables sound is by from arrived = sound
+docs-sound (doc ∷ docs) m session tables sound is by from arrived =
+    let now = now-at tables session m is sound in
+    record {
+      kept = kept-docs truth_of start_of truth-of-second m tables (doc ∷ docs) sound.kept now.1 from arrived;
+      now = subst (λ moment. IsNow moment (after tables (Docs (doc ∷ docs)))) (sym is) (
+        now.0,
+        record {
+          docs = each-append (λ doc. doc.arrival ≤ℤ m) tables.docs (doc ∷ docs) now.1.docs by;
+          notes = now.1.notes;
+          queries = now.1.queries;
+          runs = now.1.runs;
+          filters = now.1.filters;
+        },
+      );
+    }
+
+mbox-sound : (texts : List (List ℕ)) (session : Session) (tables : Tables) → Sound tables session → Present session → Leaves tables (add_mbox texts session tables)
+mbox-sound texts session tables sound there =
+    let m = there.m in
+    let now = now-at tables session m there.is sound in
+    let at : present session ≡ m = ap or_zero there.is in
+    docs-sound (next_docs tables (present session) texts) m session tables sound there.is
+    (each-at (λ doc. doc.arrival ≤ℤ m) (length tables.docs + 1) (present session) texts (λ doc e. subst (λ z. z ≤ℤ m) (sym (e ∙ at)) (omega (arith, ints))))
+    (each-at (λ doc. m ≤ℤ doc.arrival) (length tables.docs + 1) (present session) texts (λ doc e. subst (λ z. m ≤ℤ z) (sym (e ∙ at)) (omega (arith, ints))))
+    (arrived-all 1 (pos 0) m (present session) tables.docs texts (length tables.docs + 1) sound.kept.docs now.1.docs now.0.0 at (omega arith))
+
 note-sound : (doc : ℕ) (kind : List ℕ) (value : ℤ) (text : List ℕ) (session : Session) (tables : Tables) → Sound tables session → Present session → Leaves tables (accepted (AddNote doc kind value text) session tables)
 note-sound doc kind value text session tables sound there =
     let m = there.m in
@@ -291,7 +337,7 @@ accepted-sound (Define name source) session tables sound none = define-sound nam
 accepted-sound (Run name) session tables sound none = run-sound session tables (query_named (user_of session) name tables) (find-in (is_named (user_of session) name) tables.queries) sound (present-by session (first-none (missing NoMoment session.moment) _ none))
 accepted-sound (BoxOf name) session tables sound none = box-sound session tables (query_named (user_of session) name tables) name sound
 accepted-sound (Bad refusal) session tables sound none = sound
-accepted-sound (Mbox block) session tables sound none = sound
+accepted-sound (Mbox block) session tables sound none = mbox-sound (messages_of block) session tables sound (present-by session (first-none (missing NoMoment session.moment) _ none))
 accepted-sound (AddNote doc kind value text) session tables sound none = note-sound doc kind value text session tables sound (present-by session (first-none (missing NoMoment session.moment) _ none))
 accepted-sound (ListOf name) session tables sound none = list-sound session tables (query_named (user_of session) name tables) name sound
 accepted-sound (Filter block) session tables sound none = filter-sound block session tables sound (present-by session (first-none (missing NoMoment session.moment) _ none))

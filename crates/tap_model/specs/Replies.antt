@@ -17,14 +17,14 @@ use Rattle.script_lang.specs.declared.command.Command.TheVariants.{At, AsUser, M
 use Rattle.script_lang.specs.declared.refusal.Refusal.{Refusal}
 use Rattle.script_lang.specs.declared.refusal.Refusal.TheVariants.{NotBuilt, BadMoment, NoQuery}
 use Rattle.script_lang.specs.declared.reply.Reply.{Reply}
-use Rattle.script_lang.specs.declared.reply.Reply.TheVariants.{At as SetAt, AsUser as SetUser, OneDoc, OneNote as NoteAdded, Defined, Ran, BoxOf as Boxed, ListOf as Listing, Filter as FilterAdded, Explain as Explained, Asked, No}
+use Rattle.script_lang.specs.declared.reply.Reply.TheVariants.{At as SetAt, AsUser as SetUser, OneDoc, OneNote as NoteAdded, Defined, Ran, BoxOf as Boxed, ListOf as Listing, Filter as FilterAdded, Explain as Explained, Asked, No, Docs as DocsAdded}
 use Rattle.tap_model.specs.declared.session.Session.{Session}
 use Rattle.tap_model.specs.Sessions.{present, user_of}
 use Rattle.tap_model.specs.Queries.{condition_in, truth_of, start_of, query_named, hits_of, box_in, lines_of}
 use Rattle.appraiser.specs.Listings.{listing_of}
 use Rattle.tap_model.specs.Filters.{rules_in_text, rules_of_user}
 use Rattle.restart_core.specs.Starts.{stored_source}
-use Rattle.tap_model.specs.Verdicts.{text_of, verdict}
+use Rattle.tap_model.specs.Verdicts.{text_of, messages_of, verdict}
 
 -- a command's reply, the session after it, and the rows that it adds
 pub record Answer : Type 0 where
@@ -55,6 +55,28 @@ add_mail text session tables = record {
   reply = OneDoc (record { 0 = length tables.docs + 1 });
   session = session;
   change = Some (Docs (next_doc tables (present session) text ∷ []));
+}
+
+-- documents with these texts, numbered from this one on
+abbrev pub docs_from : ℕ → ℤ → List (List ℕ) → List Doc
+docs_from num moment [] = []
+docs_from num moment (text ∷ texts) = record { num = record { 0 = num }; arrival = moment; text = text } ∷ docs_from (num + 1) moment texts
+
+-- the next documents
+abbrev pub next_docs : Tables → ℤ → List (List ℕ) → List Doc
+next_docs tables moment texts = docs_from (length tables.docs + 1) moment texts
+
+-- some documents as a change; none change nothing
+abbrev pub some_docs : List Doc → Option Change
+some_docs [] = None
+some_docs (doc ∷ docs) = Some (Docs (doc ∷ docs))
+
+-- documents with these texts, all in one change
+abbrev pub add_mbox : List (List ℕ) → Session → Tables → Answer
+add_mbox texts session tables = record {
+  reply = DocsAdded (length texts) (length tables.docs + 1);
+  session = session;
+  change = some_docs (next_docs tables (present session) texts);
 }
 
 -- the next query
@@ -149,7 +171,7 @@ accepted (Define name source) session tables = add_query name source session tab
 accepted (Run name) session tables = run_query (query_named (user_of session) name tables) session tables
 accepted (BoxOf name) session tables = show_box (query_named (user_of session) name tables) name session tables
 accepted (Bad refusal) session tables = refused refusal session
-accepted (Mbox block) session tables = refused NotBuilt session
+accepted (Mbox block) session tables = add_mbox (messages_of block) session tables
 accepted (AddNote doc kind value text) session tables = add_note doc kind value text session tables
 accepted (ListOf name) session tables = show_list (query_named (user_of session) name tables) name session tables
 accepted (Filter block) session tables = add_filter (text_of block) session tables

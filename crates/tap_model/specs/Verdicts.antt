@@ -1,7 +1,8 @@
 -- Why a command is refused: the first of its checks that refuses, in the order of the refusals' numbers, limits in the
 -- order of the table of limits.
-use Rattle.std.specs.Prelude.{ℕ, ℤ, List, [], ◌∷◌, length, Bool, true, false, not, ◌&&◌, ◌||◌, nat_le, int_le, int_lt, Option, Some, None, is_none, Result, Ok, Err, if◌then◌else◌}
+use Rattle.std.specs.Prelude.{ℕ, ℤ, List, [], ◌∷◌, length, sum_by, Bool, true, false, not, ◌&&◌, ◌||◌, nat_le, int_le, int_lt, Option, Some, None, is_none, Result, Ok, Err, if◌then◌else◌}
 use Rattle.std.specs.Str.{all_ascii_digits}
+use Rattle.std.specs.List.{list_all}
 use Rattle.tap_base.specs.Numbers.{moment_of}
 use Rattle.tap_base.specs.Names.{is_name}
 use Rattle.tap_rows.specs.declared.tables.Tables.{Tables}
@@ -16,6 +17,7 @@ use Rattle.script_lang.specs.declared.command.Command.TheVariants.{At, AsUser, M
 use Rattle.script_lang.specs.declared.refusal.Refusal.{Refusal}
 use Rattle.script_lang.specs.declared.refusal.Refusal.TheVariants.{NotBuilt, BadMoment, Backwards, NoMoment, NoUser, BadName, Taken, NoQuery, NoDoc, Lex, Parse, Types, NotOver, Limit, Rule, ManyRules}
 use Rattle.script_lang.specs.declared.refusal.LimitName.TheVariants.{Message, Block as BlockLimit, Note, Documents, Notes, Queries, AllQueries, Users, Filters, Runs, Picks, Store}
+use Rattle.mail_lines.specs.Mbox.{mbox_messages}
 use Rattle.tql_core.specs.Condition.{Condition}
 use Rattle.tql_text.specs.declared.fault.TextFault.{TextFault}
 use Rattle.tql_text.specs.declared.fault.TextFault.TheVariants as T
@@ -106,6 +108,28 @@ abbrev pub too_long : Block → Option Refusal
 too_long Long = Some (Limit Message)
 too_long (Whole text) = unless (nat_le (length text) MESSAGE_LIMIT) (Limit Message)
 
+-- the messages of a mailbox file; a block that is too long has none
+abbrev pub messages_of : Block → List (List ℕ)
+messages_of Long = []
+messages_of (Whole text) = mbox_messages text
+
+-- are all messages short enough?
+abbrev pub are_short : List (List ℕ) → Bool
+are_short messages = list_all (λ message. nat_le (length message) MESSAGE_LIMIT) messages
+
+-- one of the messages is too long
+abbrev pub long_message : List (List ℕ) → Option Refusal
+long_message messages = unless (are_short messages) (Limit Message)
+
+-- a mailbox file that is too long
+abbrev pub long_block : Block → Option Refusal
+long_block Long = Some (Limit BlockLimit)
+long_block (Whole text) = None
+
+-- the bytes of the messages
+abbrev pub bytes_of : List (List ℕ) → ℕ
+bytes_of messages = sum_by length messages
+
 -- a number that is no document's, where there are so many
 unfoldable pub no_doc : ℕ → ℕ → Option Refusal
 no_doc doc count = unless (nat_le 1 doc && nat_le doc count) NoDoc
@@ -179,7 +203,13 @@ checks (Run name) session tables =
     ∷ passes Picks PICK_LIMIT (length tables.picks) (delivers session name tables)
     ∷ []
 checks (BoxOf name) session tables = no_user session ∷ bad_name name ∷ no_query session name tables ∷ []
-checks (Mbox block) session tables = Some NotBuilt ∷ []
+checks (Mbox block) session tables =
+    no_moment session
+    ∷ long_message (messages_of block)
+    ∷ long_block block
+    ∷ passes Documents DOCUMENT_LIMIT (length tables.docs) (length (messages_of block))
+    ∷ passes Store STORE_LIMIT (stored_bytes tables) (bytes_of (messages_of block))
+    ∷ []
 checks (AddNote doc kind value text) session tables =
     no_moment session
     ∷ no_user session

@@ -1,0 +1,52 @@
+ghost use Rattle.std.specs.Prelude.{◌≡◌};
+
+use crate::cut_mbox;
+use std::alloc::Global;
+use tap_base::{Memory, Text};
+
+// The messages of an mbox text, each in braces.
+fn cut(alloc: Global, text: &[u8]) -> Result<Text, Memory> {
+    let messages = cut_mbox(alloc, text)?;
+    let mut shown = Text::new(alloc);
+    for i in 0..messages.len() {
+        if let Some(message) = messages.get(i) {
+            shown.push_slice(b"{")?;
+            shown.push_slice(message.as_slice())?;
+            shown.push_slice(b"}")?;
+        }
+    }
+    Ok(shown)
+}
+
+#[test]
+fn mbox_texts_are_cut(rt: HostRuntime) -> Result<(), Memory> {
+    let rows: [(&[u8], &[u8]); 9] = [
+        // two messages, a quoted line
+        (
+            b"From a Mon Jun  1 10:00:00 1992\nSubject: one\n\nx\n>From here\n\nFrom b Mon Jun  1 10:01:00 1992\nSubject: two\n\n",
+            b"{Subject: one\n\nx\nFrom here\n}{Subject: two\n}",
+        ),
+        (b"", b""),
+        (b"lead\nFrom a\n", b""),
+        // after an empty line anywhere, also before the first message
+        (b"lead\n\nFrom a\nx", b"{x\n}"),
+        // a line that follows no empty line is text
+        (b"From a\nFrom b\n", b"{From b\n}"),
+        // only one last empty line is dropped
+        (b"From a\nx\n\n\nFrom b\ny\n\n\n", b"{x\n\n}{y\n\n}"),
+        // a message may be empty
+        (b"From a\n\nFrom b\n", b"{}{}"),
+        // one quote goes; a quote needs the blank
+        (
+            b"From a\n>>From x\n>From\n> From\n",
+            b"{>From x\n>From\n> From\n}",
+        ),
+        // a line ends without its CR, a last piece keeps it
+        (b"From a\r\nx\r\n\r\nFrom b\ny\r", b"{x\n}{y\r\n}"),
+    ];
+    for (text, want) in rows {
+        let shown = cut(rt.alloc(), text)?;
+        assert_eq!(rt; shown.as_slice(), want);
+    }
+    Ok(())
+}

@@ -1,0 +1,122 @@
+-- Mailbox files: why one is refused, and what the engine keeps after one.
+use Rattle.std.proofs.Common.{◌≡◌, ◌∙◌, sym, refl, ap, subst, arith, ℕ, ℤ, List, [], ◌∷◌, ◌++◌, ◌+◌, ◌*◌, ◌≤◌, suc, length, Bool, true, false, Option, Some, None, inl, inr}
+use Rattle.std.specs.Prelude.{◌&&◌, nat_le, sum_by}
+use Rattle.std.specs.Option.{option_or}
+use Rattle.std.proofs.lemmas.List.{append-nil}
+use Rattle.std.proofs.lemmas.List.Sums.{sum_by-append, sum_by-cons}
+use Rattle.tap_rows.specs.declared.tables.Tables.{Tables}
+use Rattle.tap_rows.specs.declared.rows.Doc.{Doc}
+use Rattle.tap_rows.specs.declared.change.Change.TheVariants.{Docs}
+use Rattle.tap_rows.specs.Tables.{after}
+use Rattle.mail_lines.specs.declared.block.Block.{Block}
+use Rattle.mail_lines.specs.declared.block.Block.TheVariants.{Whole, Long}
+use Rattle.script_lang.specs.declared.refusal.Refusal.{Refusal}
+use Rattle.script_lang.specs.declared.refusal.Refusal.TheVariants.{NoMoment, Memory, Limit}
+use Rattle.script_lang.specs.declared.refusal.LimitName.TheVariants.{Message, Documents, Store}
+use Rattle.script_lang.specs.declared.command.Command.TheVariants.{Mbox}
+use Rattle.script_lang.specs.declared.reply.Reply.TheVariants.{Docs as DocsAdded}
+use Rattle.tap_model.specs.declared.limits.TheConstants.{DOCUMENT_LIMIT, STORE_LIMIT}
+use Rattle.tap_model.specs.declared.session.Session.{Session}
+use Rattle.tap_model.specs.Sessions.{present}
+use Rattle.tap_model.specs.Limits.{passes}
+use Rattle.tap_model.specs.Verdicts.{first_refusal, verdict, missing, unless, no_moment, messages_of, are_short, long_message, long_block, bytes_of, is_early}
+use Rattle.tap_model.specs.Replies.{docs_from, next_docs, some_docs, tables_after}
+use Rattle.tap_model.specs.Stories.{Refuses, Follows}
+use Rattle.tap_model.proofs.AnswerLaws.{some-none, follows-accepted}
+use Rattle.tap_engine.specs.declared.engine.Engine.{Engine}
+use Rattle.tap_engine.specs.Standing.{StandsFor, mbox_bounds, mbox_refusal, RefusedBy}
+use Rattle.tap_engine.proofs.CheckLaws.{late-first, passes-late}
+
+first-or : (a : Option Refusal) (rest : List (Option Refusal)) → option_or a (first_refusal rest) ≡ first_refusal (a ∷ rest)
+first-or None rest = refl
+first-or (Some x) rest = refl
+
+-- a mailbox file is refused as its verdict says
+pub mbox-verdict : (e : Engine) (t : Tables) (block : Block) → StandsFor e t → mbox_refusal e block ≡ verdict (Mbox block) e.session t
+unfolding mbox_bounds
+mbox-verdict e t block stands =
+    first-or (no_moment e.session) (long_message (messages_of block) ∷ long_block block ∷ passes Documents DOCUMENT_LIMIT (length e.docs) (length (messages_of block)) ∷ passes Store STORE_LIMIT e.bytes (bytes_of (messages_of block)) ∷ [])
+    ∙ rw (stands.docs, stands.bytes) refl
+
+pub mbox-refuses : (e : Engine) (t : Tables) (block : Block) (refusal : Refusal) → StandsFor e t → RefusedBy (mbox_refusal e block) refusal → Refuses refusal (Mbox block) e.session t
+mbox-refuses e t block refusal stands by = subst (λ v. RefusedBy v refusal) (mbox-verdict e t block stands) by
+
+-- none is added without a moment
+pub mbox-moment : (e : Engine) (block : Block) → mbox_refusal e block ≡ None → e.session.moment ≡ None → ⊥
+mbox-moment e block none no_m = some-none NoMoment (sym (ap (λ m. option_or (missing NoMoment m) (mbox_bounds e block (messages_of block))) no_m) ∙ none)
+
+message-late : (short : Bool) → is_early (unless short (Limit Message)) ≡ false
+message-late true = refl
+message-late false = refl
+
+block-late : (block : Block) → is_early (long_block block) ≡ false
+block-late Long = refl
+block-late (Whole text) = refl
+
+-- once there is a moment, there may be no memory for it
+pub mbox-memory : (e : Engine) (block : Block) → no_moment e.session ≡ None → RefusedBy (mbox_refusal e block) Memory
+unfolding mbox_bounds
+mbox-memory e block moment = inr (refl, ap (λ x. is_early (option_or x (mbox_bounds e block (messages_of block)))) moment ∙ late) where
+  late : is_early (mbox_bounds e block (messages_of block)) ≡ false
+  late =
+      late-first _ _ (message-late (are_short (messages_of block)))
+      (late-first _ _ (block-late block)
+      (late-first _ _ (passes-late Documents DOCUMENT_LIMIT (length e.docs) (length (messages_of block)))
+      (late-first _ [] (passes-late Store STORE_LIMIT e.bytes (bytes_of (messages_of block))) refl)))
+
+both-true : (a b : Bool) → (a && b) ≡ true → (a ≡ true) × (b ≡ true)
+both-true true true e = (refl, refl)
+both-true true false e = absurd cc
+both-true false b e = absurd cc
+
+-- short messages have few bytes
+pub few-bytes : (messages : List (List ℕ)) → are_short messages ≡ true → bytes_of messages ≤ 1048576 * length messages
+few-bytes [] e = omega arith
+few-bytes (message ∷ messages) e =
+    let both = both-true (nat_le (length message) 1048576) (are_short messages) e in
+    let rest = few-bytes messages both.1 in
+    rw (sum_by-cons length message messages) (step (length message) (bytes_of messages) (length messages) (le (length message) both.0) rest)
+  where
+    le : (n : ℕ) → nat_le n 1048576 ≡ true → n ≤ 1048576
+    le n h = grind arith
+
+    step : (a b n : ℕ) → a ≤ 1048576 → b ≤ 1048576 * n → a + b ≤ 1048576 * suc n
+    step a b n h k = omega (arith, h, k)
+
+-- some documents as a change
+pub docs-change : (t : Tables) (docs : List Doc) → tables_after (some_docs docs) t ≡ after t (Docs docs)
+docs-change t [] = ap (λ docs. record t { docs = docs }) (sym (append-nil t.docs))
+docs-change t (doc ∷ docs) = refl
+
+docs-bytes : (num : ℕ) (moment : ℤ) (texts : List (List ℕ)) → sum_by (λ doc. length doc.text) (docs_from num moment texts) ≡ bytes_of texts
+docs-bytes num moment [] = refl
+docs-bytes num moment (text ∷ texts) =
+    sum_by-cons (λ doc. length doc.text) (record { num = record { 0 = num }; arrival = moment; text = text }) (docs_from (num + 1) moment texts)
+    ∙ ap (λ n. length text + n) (docs-bytes (num + 1) moment texts) ∙ sym (sum_by-cons length text texts)
+
+-- the messages are added
+pub follows-mbox : (t : Tables) (s : Session) (block : Block) (texts : List (List ℕ)) (count first : ℕ) (moment : ℤ) (t' : Tables) (s' : Session) → verdict (Mbox block) s t ≡ None → texts ≡ messages_of block → moment ≡ present s
+    → count ≡ length texts → first ≡ length t.docs + 1 → t' ≡ tables_after (some_docs (next_docs t moment texts)) t → s' ≡ s → Follows t s (Mbox block) (DocsAdded count first) t' s'
+follows-mbox t s block texts count first moment t' s' none is at is-count is-first is-t is-s =
+    let follows = follows-accepted t s (Mbox block) none in
+    record {
+      reply_is = ap (λ n. DocsAdded n first) (is-count ∙ ap length is) ∙ ap (DocsAdded (length (messages_of block))) is-first ∙ follows.reply_is;
+      tables_are = is-t ∙ ap (λ m. tables_after (some_docs (next_docs t m texts)) t) at ∙ ap (λ texts. tables_after (some_docs (next_docs t (present s) texts)) t) is ∙ follows.tables_are;
+      session_is = is-s ∙ follows.session_is;
+    }
+
+-- documents more
+pub stands-docs : (e : Engine) (t : Tables) (moment : ℤ) (texts : List (List ℕ)) → StandsFor e t → (e.session.moment ≡ None → ⊥)
+    → StandsFor (record e { docs = e.docs ++ next_docs t moment texts; bytes = e.bytes + bytes_of texts }) (tables_after (some_docs (next_docs t moment texts)) t)
+stands-docs e t moment texts stands there = rw (docs-change t (next_docs t moment texts)) (record {
+  docs = ap (λ docs. docs ++ next_docs t moment texts) stands.docs;
+  queries = stands.queries;
+  notes = stands.notes;
+  bytes = more (sum_by (λ doc. length doc.text) t.docs) (sum_by (λ note. length note.text) t.notes) (sum_by (λ query. length query.source) t.queries) (sum_by (λ filter. length filter.source) t.filters) _ _ (bytes_of texts) stands.bytes
+      (sum_by-append (λ doc. length doc.text) t.docs (next_docs t moment texts) ∙ ap (λ n. sum_by (λ doc. length doc.text) t.docs + n) (docs-bytes (length t.docs + 1) moment texts));
+  users = stands.users;
+  owners = stands.owners;
+  greatest = λ none. absurd (there none);
+}) where
+  more : (a b c d a' n k : ℕ) → n ≡ a + b + c + d → a' ≡ a + k → n + k ≡ a' + b + c + d
+  more a b c d a' n k is e = omega (arith, is, e)

@@ -1,0 +1,207 @@
+ghost use Rattle.std.specs.Prelude.{◌≡◌, ◌≤◌, ◌<◌, ◌+◌, ◌^◌, ◌++◌, length, max, None, true, OnOk, OnErr, IfOk, IfErr};
+ghost use Rattle.std.specs.Result.{result_err};
+ghost use Rattle.tap_rows.specs.declared.change.Change.{Change};
+ghost use Rattle.tap_rows.specs.Tables.{after};
+ghost use Rattle.script_lang.specs.declared.command.Command.{Command};
+ghost use Rattle.script_lang.specs.Replies.{HasShortNames, is_accepted};
+ghost use Rattle.tap_model.specs.Sessions.{present};
+ghost use Rattle.tap_model.specs.Verdicts.{messages_of, are_short, long_message, long_block, bytes_of};
+ghost use Rattle.tap_model.specs.Replies.{docs_from, next_docs, some_docs, tables_after};
+ghost use Rattle.tap_model.specs.Stories.{Follows, Refuses};
+
+use crate::engine::Engine;
+use crate::limits::refuse_more;
+use crate::mail::push_docs;
+use mail_fields::keep;
+use mail_lines::{Block, cut_mbox};
+use script_lang::{LimitName, MESSAGE_LIMIT, Refusal, Reply};
+use std::alloc::Global;
+use tap_base::{DocNum, Memory, Rows, Text, Texts};
+use tap_model::{DOCUMENT_LIMIT, STORE_LIMIT};
+use tap_rows::{Doc, KeptDoc, Tables};
+
+// The messages of a mailbox file; one that is too long has none.
+fn cut_block(alloc: Global, block: &Block) -> Result<Texts, Memory>
+    ensures { IfOk result (λ texts. texts ≡ messages_of block.now) }
+{
+    match block {
+        Block::Whole(text) => cut_mbox(alloc, text.as_slice()),
+        Block::Long => Ok(Texts::new(alloc)),
+    }
+}
+
+// Are all messages short enough?
+fn are_short(texts: &[Text]) -> bool
+    ensures { result ≡ are_short texts.now }
+{
+    texts.iter().all(|text| text.len() <= MESSAGE_LIMIT as usize)
+}
+
+// Refuses messages of which one is too long.
+fn refuse_long_message(texts: &[Text]) -> Result<(), Refusal>
+    ensures value { result_err result ≡ long_message texts.now }
+    ensures short { OnOk result (are_short texts.now ≡ true) }
+{
+    if are_short(texts) {
+        Ok(())
+    } else {
+        Err(Refusal::Limit(LimitName::Message))
+    }
+}
+
+// Refuses a mailbox file that is too long.
+fn refuse_long_block(block: &Block) -> Result<(), Refusal>
+    ensures { result_err result ≡ long_block block.now }
+{
+    match block {
+        Block::Whole(_) => Ok(()),
+        Block::Long => Err(Refusal::Limit(LimitName::Block)),
+    }
+}
+
+// How many bytes the messages have.
+fn total(texts: &[Text]) -> usize
+    requires { bytes_of texts.now < 2 ^ 64 }
+    ensures { result ≡ bytes_of texts.now }
+{
+    let mut bytes = 0;
+    for text in texts {
+        bytes += text.len();
+    }
+    bytes
+}
+
+// Documents with these texts, numbered from this one on.
+fn make_rows(alloc: Global, first: usize, moment: i64, texts: &[Text]) -> Result<Rows<Doc>, Memory>
+    requires { first + length texts.now < 2 ^ 32 }
+    ensures { IfOk result (λ rows. rows ≡ docs_from first moment texts.now) }
+{
+    let mut rows = Rows::new(alloc);
+    let mut num = first;
+    for text in texts {
+        rows.push(Doc {
+            num: DocNum(num as u32),
+            arrival: moment,
+            text: text.copy()?,
+        })?;
+        num += 1;
+    }
+    Ok(rows)
+}
+
+// The same with their fields.
+fn make_kept(
+    alloc: Global,
+    first: usize,
+    moment: i64,
+    texts: &[Text],
+) -> Result<Rows<KeptDoc>, Memory>
+    requires few { first + length texts.now < 2 ^ 32 }
+    requires short { are_short texts.now ≡ true }
+    ensures { IfOk result (λ kept. kept ≡ docs_from first moment texts.now) }
+{
+    let mut kept = Rows::new(alloc);
+    let mut num = first;
+    for text in texts {
+        let doc = Doc {
+            num: DocNum(num as u32),
+            arrival: moment,
+            text: text.copy()?,
+        };
+        kept.push(keep(alloc, doc)?)?;
+        num += 1;
+    }
+    Ok(kept)
+}
+
+impl Engine {
+    ghost use Rattle.tap_engine.specs.Standing.{StandsFor, mbox_bounds, mbox_refusal, RefusedBy};
+
+    // Refuses these messages of a mailbox file.
+    #[tactic(auto, unfolding(crate::specs::Standing::mbox_bounds))]
+    fn refuse_messages(&self, block: &Block, texts: &[Text]) -> Result<(), Refusal>
+        ensures value { result_err result ≡ mbox_bounds self.now block.now texts.now }
+        ensures short { OnOk result (are_short texts.now ≡ true) }
+        ensures few { OnOk result (length self.now.docs + length texts.now ≤ max (length self.now.docs) DOCUMENT_LIMIT) }
+        ensures bytes { OnOk result (self.now.bytes + bytes_of texts.now < 2 ^ 64) }
+    {
+        refuse_long_message(texts)?;
+        refuse_long_block(block)?;
+        refuse_more(
+            LimitName::Documents,
+            DOCUMENT_LIMIT,
+            self.docs.len(),
+            texts.len(),
+        )?;
+        refuse_more(LimitName::Store, STORE_LIMIT, self.bytes, total(texts))
+    }
+
+    // The messages of a mailbox file that isn't refused, and the moment at which they arrive.
+    fn new_messages(&self, alloc: Global, block: &Block) -> Result<(i64, Texts), Refusal>
+        ensures checks { OnOk result (mbox_refusal self.now block.now ≡ None) }
+        ensures moment { IfOk result (λ made. made.0 ≡ present self.now.session) }
+        ensures texts { IfOk result (λ made. made.1 ≡ messages_of block.now) }
+        ensures refusal { IfErr result (λ refusal. RefusedBy (mbox_refusal self.now block.now) refusal) }
+        ensures short { IfOk result (λ made. are_short made.1 ≡ true) }
+        ensures few { IfOk result (λ made. length self.now.docs + length made.1 ≤ max (length self.now.docs) DOCUMENT_LIMIT) }
+        ensures bytes { IfOk result (λ made. self.now.bytes + bytes_of made.1 < 2 ^ 64) }
+    {
+        let Some(moment) = self.session.moment else {
+            return Err(Refusal::NoMoment);
+        };
+        let texts = cut_block(alloc, block)?;
+        self.refuse_messages(block, texts.as_slice())?;
+        Ok((moment, texts))
+    }
+
+    // Adds documents that arrive at this moment, all in one change; none change nothing.
+    fn add_docs(
+        &mut self,
+        alloc: Global,
+        tables: &mut Tables,
+        moment: i64,
+        texts: &[Text],
+    ) -> Result<(), Memory>
+        requires docs { self.old.docs ≡ tables.old.docs }
+        requires few { length self.old.docs + length texts.now ≤ max (length self.old.docs) DOCUMENT_LIMIT }
+        requires short { are_short texts.now ≡ true }
+        requires bytes { self.old.bytes + bytes_of texts.now < 2 ^ 64 }
+        ensures tables { OnOk result (tables.new ≡ tables_after (some_docs (next_docs tables.old moment texts.now)) tables.old) }
+        ensures engine { OnOk result (self.new ≡ record self.old { docs = self.old.docs ++ next_docs tables.old moment texts.now; bytes = self.old.bytes + bytes_of texts.now }) }
+        ensures err { OnErr result ((self.new ≡ self.old) × (tables.new ≡ tables.old)) }
+    {
+        if texts.is_empty() {
+            return Ok(());
+        }
+        let first = self.docs.len() + 1;
+        let rows = make_rows(alloc, first, moment, texts)?;
+        let kept = make_kept(alloc, first, moment, texts)?;
+        push_docs(&mut self.docs, tables, kept, rows)?;
+        self.bytes += total(texts);
+        Ok(())
+    }
+
+    // Adds the messages of a mailbox file.
+    pub(crate) fn mbox(
+        &mut self,
+        alloc: Global,
+        tables: &mut Tables,
+        block: Block,
+    ) -> Result<Reply, Refusal>
+        requires stands { StandsFor self.old tables.old }
+        ensures ok { IfOk result (λ reply. Follows tables.old self.old.session (Command.Mbox block) reply tables.new self.new.session) }
+        ensures stands { OnOk result (StandsFor self.new tables.new) }
+        ensures refusal { IfErr result (λ refusal. Refuses refusal (Command.Mbox block) self.old.session tables.old) }
+        ensures err { OnErr result ((self.new ≡ self.old) × (tables.new ≡ tables.old)) }
+        ensures short { IfOk result (λ reply. HasShortNames reply) }
+        ensures accepted { IfOk result (λ reply. is_accepted reply ≡ true) }
+    {
+        let (moment, texts) = self.new_messages(alloc, &block)?;
+        let first = self.docs.as_slice().len() as u64 + 1;
+        self.add_docs(alloc, tables, moment, texts.as_slice())?;
+        Ok(Reply::Docs {
+            count: texts.len() as u32,
+            first,
+        })
+    }
+}
