@@ -19,7 +19,7 @@ use Rattle.tap_model.specs.declared.session.Session.{Session}
 use Rattle.tap_model.specs.Sessions.{present, or_empty, user_of, last_moment, greatest_moment}
 use Rattle.tap_model.specs.Queries.{query_named}
 use Rattle.tap_model.specs.Limits.{passes, queries_of, stored_bytes, different, owners_in, new_users}
-use Rattle.tap_model.specs.Verdicts.{first_refusal, verdict, checks, missing, unless, is_back, taken, no_query, wide_refusal, too_wide, text_of, delivers}
+use Rattle.tap_model.specs.Verdicts.{first_refusal, verdict, checks, missing, unless, is_back, taken, no_query, wide_refusal, too_wide, text_of, delivers, messages_of, bytes_of}
 use Rattle.tap_model.specs.Privacy.{is_shared, is_user, concerns, owned_queries}
 use Rattle.tap_model.proofs.ViewLaws.{Core, core_of, cores, source_in, named-core}
 use Rattle.tap_model.proofs.CoreLaws.{same-text}
@@ -138,7 +138,7 @@ pub checks-alike : (c : Command) (user : List ℕ) (s : Session) (t o : Tables) 
 checks-alike (At text) user s t o m at by twins = (inl refl, (inl (back-same s t o m (moment_of text) at), tt))
 checks-alike (AsUser name) user s t o m at by twins = absurd (no-true by)
 checks-alike (Mail block) user s t o m at by twins = (inl refl, (inl refl, (inl refl, (inr (store-may t o (length (text_of block))), tt))))
-checks-alike (Mbox block) user s t o m at by twins = (inl refl, tt)
+checks-alike (Mbox block) user s t o m at by twins = (inl refl, (inl refl, (inl refl, (inl refl, (inr (store-may t o (bytes_of (messages_of block))), tt)))))
 checks-alike (AddNote doc kind value text) user s t o m at by twins = (inl refl, (inl refl, (inl refl, (inl refl, (inl refl, (inl refl, (inr (store-may t o (length text)), tt)))))))
 checks-alike (Define name source) user s t o m at by twins =
     let own = own-twins user s t o by twins in
@@ -149,7 +149,7 @@ checks-alike (Run name) user s t o m at by twins =
 checks-alike (BoxOf name) user s t o m at by twins = (inl refl, (inl refl, (inl (missing-same s name t o (own-twins user s t o by twins)), tt)))
 checks-alike (ListOf name) user s t o m at by twins = (inl refl, (inl refl, (inl (missing-same s name t o (own-twins user s t o by twins)), tt)))
 checks-alike (Filter block) user s t o m at by twins = (inl refl, (inl refl, (inl refl, (inr (users-may (user_of s) t o), (inr (both-may Filters FILTER_ROW_LIMIT (length t.filters) (length o.filters) 1 1 refl), (inr (store-may t o (length (text_of block))), (inl refl, tt)))))))
-checks-alike (Explain name) user s t o m at by twins = (inl refl, tt)
+checks-alike (Explain name) user s t o m at by twins = (inl refl, (inl refl, (inl (missing-same s name t o (own-twins user s t o by twins)), tt)))
 checks-alike (Ask moment source) user s t o m at by twins = (inl refl, (inl refl, (inl refl, (inl refl, tt))))
 checks-alike (Wake name) user s t o m at by twins = (inl refl, tt)
 checks-alike (ScoresOf kind) user s t o m at by twins = (inl refl, tt)

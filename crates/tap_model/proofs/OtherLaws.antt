@@ -15,7 +15,7 @@ use Rattle.tap_model.specs.declared.session.Session.{Session}
 use Rattle.tap_model.specs.Sessions.{present, user_of, or_empty}
 use Rattle.tap_model.specs.Queries.{query_named}
 use Rattle.tap_model.specs.Verdicts.{verdict, missing, no_moment, no_user, text_of}
-use Rattle.tap_model.specs.Replies.{Answer, answer_of, answer_by, accepted, tables_after, next_query, next_filter, run_query, show_box, show_list, ask_at}
+use Rattle.tap_model.specs.Replies.{Answer, answer_of, answer_by, accepted, tables_after, next_query, next_filter, run_query, show_box, show_list, show_lines, ask_at}
 use Rattle.tap_model.specs.Stories.{Step}
 use Rattle.tap_model.specs.Sound.{Sound}
 use Rattle.tap_model.specs.Privacy.{is_user, concerns, view_of, Move}
@@ -59,6 +59,10 @@ list-other : (user name : List ℕ) (s : Session) (t : Tables) (q : Option Query
 list-other user name s t None = refl
 list-other user name s t (Some q) = refl
 
+lines-other : (user name : List ℕ) (s : Session) (t : Tables) (q : Option QueryRow) → Leaves user s t (show_lines q name s t)
+lines-other user name s t None = refl
+lines-other user name s t (Some q) = refl
+
 filter-left : (user source : List ℕ) (s : Session) (t : Tables) → bytes_eq (user_of s) user ≡ false → brief_of user s (record t { filters = t.filters ++ next_filter t s source ∷ [] }) ≡ brief_of user s t
 filter-left user source s t other =
     with-queries user s t (record t { filters = t.filters ++ next_filter t s source ∷ [] }) refl refl refl (ap (option_map (λ filter. filter.source)) (filter-other user t.filters (next_filter t s source) other))
@@ -81,7 +85,7 @@ accepted-other (Run name) user s t other sound none = run-other user name s t (q
 accepted-other (BoxOf name) user s t other sound none = box-other user name s t (query_named (user_of s) name t)
 accepted-other (ListOf name) user s t other sound none = list-other user name s t (query_named (user_of s) name t)
 accepted-other (Filter block) user s t other sound none = filter-left user (text_of block) s t (other-user user s.user (second-none (no_moment s) (no_user s) _ none) other)
-accepted-other (Explain name) user s t other sound none = refl
+accepted-other (Explain name) user s t other sound none = lines-other user name s t (query_named (user_of s) name t)
 accepted-other (Ask moment source) user s t other sound none = ask-other user source s t (moment_of moment)
 accepted-other (Wake name) user s t other sound none = refl
 accepted-other (ScoresOf kind) user s t other sound none = refl

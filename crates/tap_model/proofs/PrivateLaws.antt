@@ -8,6 +8,8 @@ use Rattle.tap_rows.specs.declared.tables.Tables.{Tables}
 use Rattle.tap_rows.specs.declared.rows.Doc.{Doc}
 use Rattle.tap_rows.specs.declared.rows.QueryRow.{QueryRow}
 use Rattle.tap_rows.specs.declared.rows.FilterRow.{FilterRow}
+use Rattle.tap_rows.specs.declared.change.Change.TheVariants.{Docs}
+use Rattle.tap_rows.specs.Tables.{after}
 use Rattle.tap_rows.specs.Results.{Truth, run_moments, is_given}
 use Rattle.tap_rows.specs.Deliveries.{next_run}
 use Rattle.tap_rows.specs.Kept.{IsOfTheSecond}
@@ -19,17 +21,17 @@ use Rattle.script_lang.specs.declared.command.Command.{Command}
 use Rattle.script_lang.specs.declared.command.Command.TheVariants.{At, AsUser, Mail, Mbox, AddNote, Define, Run, BoxOf, ListOf, Filter, Explain, Ask, Wake, ScoresOf, DigestOf, Bad}
 use Rattle.script_lang.specs.declared.refusal.Refusal.{Refusal}
 use Rattle.script_lang.specs.declared.reply.Reply.{Reply}
-use Rattle.script_lang.specs.declared.reply.Reply.TheVariants.{Ran, BoxOf as Boxed, ListOf as Listing, Asked, No}
+use Rattle.script_lang.specs.declared.reply.Reply.TheVariants.{Ran, BoxOf as Boxed, ListOf as Listing, Explain as Explained, Asked, No}
 use Rattle.restart_core.specs.Starts.{stored_source}
 use Rattle.tap_model.specs.declared.session.Session.{Session}
 use Rattle.tap_model.specs.Sessions.{present, user_of}
 use Rattle.tap_model.specs.Queries.{condition_in, query_named, hits_of, box_in}
 use Rattle.tap_model.specs.Filters.{last_filter, filter_rules, rules_in_text, rules_of_user}
-use Rattle.tap_model.specs.Verdicts.{verdict, text_of}
-use Rattle.tap_model.specs.Replies.{Answer, answer_of, answer_by, accepted, tables_after, set_moment, next_query, next_filter, run_query, show_box, show_list, ask_at, add_query, add_filter}
+use Rattle.tap_model.specs.Verdicts.{verdict, text_of, messages_of}
+use Rattle.tap_model.specs.Replies.{Answer, answer_of, answer_by, accepted, tables_after, set_moment, next_query, next_filter, run_query, show_box, show_list, show_lines, some_docs, next_docs, ask_at, add_query, add_filter}
 use Rattle.tap_model.specs.Sound.{Sound}
 use Rattle.tap_model.specs.Privacy.{concerns}
-use Rattle.tap_model.proofs.ViewLaws.{Core, core_of, cores, source_in, Brief, brief_of, core_hits, core_entries, hits-core, box-core}
+use Rattle.tap_model.proofs.ViewLaws.{Core, core_of, cores, source_in, Brief, brief_of, core_hits, core_entries, core_lines, hits-core, box-core, lines-core}
 use Rattle.tap_model.proofs.CoreLaws.{self-text, cores-new, with_run, cores-run, filter-own}
 use Rattle.tap_model.proofs.AlikeLaws.{IsShared, twin, AreTwins, own-twins, user-is, found-same, verdict-alike}
 
@@ -136,6 +138,19 @@ list-told user name t o s (Some q) (Some p) twins own same =
 list-told user name t o s (Some q) None twins own same = absurd (some-core (core_of t.runs q) same)
 list-told user name t o s None (Some p) twins own same = absurd (core-some (core_of o.runs p) same)
 
+lines-told : (user name : List ℕ) (t o : Tables) (s : Session) (q p : Option QueryRow) → AreTwins user t o → option_map (core_of t.runs) q ≡ option_map (core_of o.runs) p
+    → told user t (show_lines q name s t) ≡ told user (twin t o) (show_lines p name s (twin t o))
+lines-told user name t o s None None twins same = answered user t o s _ _ twins refl
+lines-told user name t o s (Some q) (Some p) twins same =
+    answered user t o s _ _ twins (ap (Explained name) (lines-core q t.runs ∙ ap core_lines (core-same (core_of t.runs q) (core_of o.runs p) same) ∙ sym (lines-core p o.runs)))
+lines-told user name t o s (Some q) None twins same = absurd (some-core (core_of t.runs q) same)
+lines-told user name t o s None (Some p) twins same = absurd (core-some (core_of o.runs p) same)
+
+docs-told : (user : List ℕ) (t o : Tables) (s : Session) (reply : Reply) (docs : List Doc) → AreTwins user t o
+    → told user t (record { reply = reply; session = s; change = some_docs docs }) ≡ told user (twin t o) (record { reply = reply; session = s; change = some_docs docs })
+docs-told user t o s reply [] twins = still user t o t s reply twins
+docs-told user t o s reply (doc ∷ docs) twins = still user t o (after t (Docs (doc ∷ docs))) s reply twins
+
 filter-told : (user source : List ℕ) (t o : Tables) (s : Session) → AreTwins user t o → user_of s ≡ user → told user t (add_filter source s t) ≡ told user (twin t o) (add_filter source s (twin t o))
 filter-told user source t o s twins is =
     let own : bytes_eq (user_of s) user ≡ true = subst (λ u. bytes_eq (user_of s) u ≡ true) is (self-text (user_of s)) in
@@ -160,7 +175,7 @@ accepted-told : (c : Command) (user : List ℕ) (s : Session) (t o : Tables) →
 accepted-told (At text) user s t o by twins sound sound' = at-told user t o s (moment_of text) twins
 accepted-told (AsUser name) user s t o by twins sound sound' = absurd (no-true by)
 accepted-told (Mail block) user s t o by twins sound sound' = still user t o (tables_after (accepted (Mail block) s t).change t) s _ twins
-accepted-told (Mbox block) user s t o by twins sound sound' = still user t o t s _ twins
+accepted-told (Mbox block) user s t o by twins sound sound' = docs-told user t o s _ (next_docs t (present s) (messages_of block)) twins
 accepted-told (AddNote doc kind value text) user s t o by twins sound sound' = still user t o (tables_after (accepted (AddNote doc kind value text) s t).change t) s _ twins
 accepted-told (Define name source) user s t o by twins sound sound' = define-told user name source t o s twins sound sound' (user-is user s by)
 accepted-told (Run name) user s t o by twins sound sound' =
@@ -170,7 +185,8 @@ accepted-told (BoxOf name) user s t o by twins sound sound' =
 accepted-told (ListOf name) user s t o by twins sound sound' =
     list-told user name t o s (query_named (user_of s) name t) (query_named (user_of s) name o) twins (user-is user s by) (found-same (user_of s) name t o (own-twins user s t o by twins))
 accepted-told (Filter block) user s t o by twins sound sound' = filter-told user (text_of block) t o s twins (user-is user s by)
-accepted-told (Explain name) user s t o by twins sound sound' = still user t o t s _ twins
+accepted-told (Explain name) user s t o by twins sound sound' =
+    lines-told user name t o s (query_named (user_of s) name t) (query_named (user_of s) name o) twins (found-same (user_of s) name t o (own-twins user s t o by twins))
 accepted-told (Ask moment source) user s t o by twins sound sound' = ask-told user source t o s (moment_of moment) twins
 accepted-told (Wake name) user s t o by twins sound sound' = still user t o t s _ twins
 accepted-told (ScoresOf kind) user s t o by twins sound sound' = still user t o t s _ twins

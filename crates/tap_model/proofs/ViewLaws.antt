@@ -15,7 +15,7 @@ use Rattle.tap_rows.specs.Results.{run_moments, covered, last_or, fresh_in, unio
 use Rattle.tap_rows.specs.Kept.{Each, KeptQuery}
 use Rattle.tap_rows.proofs.LaterLaws.{fresh-later, grown-same}
 use Rattle.tap_model.specs.declared.session.Session.{Session}
-use Rattle.tap_model.specs.Queries.{truth_of, start_of, is_named, hits_of, box_in}
+use Rattle.tap_model.specs.Queries.{truth_of, start_of, is_named, hits_of, box_in, lines_of}
 use Rattle.tap_model.specs.Filters.{last_filter}
 use Rattle.tap_model.specs.Sound.{Sound}
 use Rattle.tap_model.specs.Privacy.{QueryView, query_view, owned_queries, View, view_of}
@@ -84,6 +84,9 @@ core_hits docs notes core moment = fresh_in (truth_of (row_of core)) (bare docs 
 abbrev pub core_entries : List Doc → List Note → Core → List Entry
 core_entries docs notes core = entries_from core.runs (union_until (truth_of (row_of core)) (bare docs notes) (start_of (row_of core)) (last_or (start_of (row_of core)) core.runs)) 1 core.runs
 
+abbrev pub core_lines : Core → List (List ℕ)
+core_lines core = lines_of (row_of core)
+
 fresh-bare : (q : QueryRow) (t : Tables) (start tau until : ℤ) → fresh_in (truth_of q) t start tau until ≡ fresh_in (truth_of q) (bare t.docs t.notes) start tau until
 fresh-bare q t start tau until = fresh-later (truth_of q) until (bare t.docs t.notes) t start tau until (truth-of-second q) (grown-same until (bare t.docs t.notes) t refl refl) (omega (arith, ints))
 
@@ -96,6 +99,11 @@ pub box-core : (q : QueryRow) (t : Tables) → box_in q t ≡ core_entries t.doc
 unfolding start_of
 box-core q t =
     ap (λ hits. entries_from (run_moments q.num.0 t.runs) hits 1 (run_moments q.num.0 t.runs)) (fresh-bare q t (start_of q) (start_of q) (covered (start_of q) q.num.0 t.runs))
+
+-- the lines that explain a query are of its core alone
+pub lines-core : (q : QueryRow) (runs : List RunRow) → lines_of q ≡ core_lines (core_of runs q)
+unfolding start_of
+lines-core q runs = refl
 
 abbrev full_query : List Doc → List Note → Core → QueryView
 full_query docs notes core = record { name = core.name; source = core.source; arrival = core.arrival; runs = core.runs; entries = core_entries docs notes core }
