@@ -8,19 +8,22 @@ pub fn every_step_is_sound()
     ensures { StepsAreSound }
 {}
 
-/// A user is answered by what the user sees alone: one deed at two points that look alike to its user, at a moment, gets
-/// one reply and leaves points that look alike, unless what all users share doesn't hold it.
+/// What a user is answered depends on what the user sees alone: at two sound points that look alike to the user and have a
+/// moment, one command gets the same reply and leaves points that look alike, unless one of the two replies refuses it for
+/// want of what all users share.
 pub fn equal_views_are_answered_alike()
     ensures { SameDeedSameReply }
 {}
 
-/// What a user sees is left by each command of another user but a moment, a document or a note.
+/// A command that doesn't concern a user leaves what the user sees. Only a moment, documents and notes concern users who
+/// don't give them.
 pub fn others_leave_the_view()
     ensures { OthersLeaveTheView }
 {}
 
-/// Whatever else stands in two stories from points that look alike to a user, at a moment: where the same deeds concern the
-/// user and none of them meets a shared refusal, they get the same replies, and the ends look alike.
+/// Two stories from sound points that look alike to a user and have a moment: where the same commands concern the user, and
+/// none of them is refused for want of what all users share, they get the same replies and the ends look alike, whatever
+/// others do in between.
 pub fn equal_deeds_get_equal_replies()
     ensures { SameDeedsSameReplies }
 {}
