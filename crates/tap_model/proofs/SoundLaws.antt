@@ -1,10 +1,8 @@
 -- Each step keeps what holds of the tables and the session: above all, that a query's deliveries are its box.
 use Rattle.std.proofs.Common.{◌≡◌, ◌∙◌, sym, ap, refl, subst, arith, ℕ, suc, ◌+◌, ℤ, pos, List, [], ◌∷◌, ◌++◌, length, map, Bool, true, false, Option, Some, None, inl, inr, if◌then◌else◌}
-use Rattle.std.specs.Prelude.{◌≤ℤ◌, int_le, int_div, Result, Ok, Err}
-use Rattle.std.specs.Str.{all_ascii_digits}
+use Rattle.std.specs.Prelude.{◌≤ℤ◌, int_le}
 use Rattle.std.specs.Option.{option_or}
 use Rattle.std.proofs.lemmas.Int.{ints}
-use Rattle.tap_base.specs.declared.moments.TheConstants.{LAST_MOMENT}
 use Rattle.tap_base.specs.Numbers.{moment_of}
 use Rattle.tql_types.proofs.Ranges.{InRange, moment-range}
 use Rattle.tap_rows.specs.declared.tables.Tables.{Tables}
