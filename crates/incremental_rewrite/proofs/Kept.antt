@@ -1,6 +1,6 @@
 -- Probes that are kept unless they equal earlier ones.
 use Rattle.std.proofs.Common.{◌≡◌, ◌∙◌, refl, sym, ap, subst, arith, ℕ, ◌<◌, Bool, true, false, List, [], ◌∷◌, ◌++◌, length, map, if◌then◌else◌}
-use Rattle.std.specs.Prelude.{◌&&◌, ◌||◌, ◌↔◌, nat_lt, nat_eq}
+use Rattle.std.specs.Prelude.{◌&&◌, ◌||◌, nat_lt, nat_eq}
 use Rattle.std.specs.List.{list_any}
 use Rattle.std.specs.Cmp.Lexicographic.{pointwise}
 use Rattle.std.proofs.lemmas.Bool.{and_parts, and_from, eqb-true, eq-eqb}
@@ -8,7 +8,6 @@ use Rattle.std.proofs.lemmas.List.{map-append}
 use Rattle.node_pool.specs.Pools.{IsPool}
 use Rattle.tql_core.specs.contracts.term.TermPartialEq.TheImpl as term
 use Rattle.tql_core.specs.declared.tnode.TNode.{TNode}
-use Rattle.tql_core.specs.Condition.{Condition}
 use Rattle.tql_core.specs.Same.{same_condition}
 use Rattle.tql_core.specs.Trees.{kids_of, tree_at}
 use Rattle.tql_core.proofs.Equal.{condition_is, itself}

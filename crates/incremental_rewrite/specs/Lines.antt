@@ -1,5 +1,5 @@
 -- The lines that show a window query.
-use Rattle.std.specs.Prelude.{ℕ, ◌-◌, ℤ, pos, negsuc, suc, zero, Bool, List, [], ◌∷◌, ◌++◌, map, codes, nat_lt, ◌==◌, if◌then◌else◌}
+use Rattle.std.specs.Prelude.{ℕ, ◌-◌, ℤ, pos, negsuc, suc, zero, List, [], ◌∷◌, ◌++◌, map, codes, nat_lt, ◌==◌, if◌then◌else◌}
 use Rattle.std.specs.List.{flat_map}
 use Rattle.std.specs.Fmt.{decimal, signed_decimal}
 use Rattle.tql_tree.specs.Canonical.{text_of_bytes, text_of_table, text_of_op, within}

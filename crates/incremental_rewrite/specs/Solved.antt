@@ -1,5 +1,5 @@
 -- Probes of the code, compared by the numbers of their bodies.
-use Rattle.std.specs.Prelude.{ℕ, Bool, ◌&&◌, List, map, nat_eq}
+use Rattle.std.specs.Prelude.{Bool, ◌&&◌, List, map, nat_eq}
 use Rattle.std.specs.Cmp.Lexicographic.{pointwise}
 use Rattle.tql_core.specs.contracts.term.TermPartialEq.TheImpl as term
 use Rattle.time_marks.specs.contracts.mark.StepPartialEq.TheImpl as step

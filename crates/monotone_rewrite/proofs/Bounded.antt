@@ -1,5 +1,5 @@
 -- The marks of a condition whose times are as typing gives them.
-use Rattle.std.proofs.Common.{◌≡◌, ◌∙◌, refl, sym, ap, ℤ, pos, negsuc, Bool, true, false, List, [], ◌∷◌, ◌++◌, arith}
+use Rattle.std.proofs.Common.{◌≡◌, ◌∙◌, refl, ap, ℤ, pos, negsuc, Bool, true, false, List, [], ◌∷◌, ◌++◌, arith}
 use Rattle.std.specs.Prelude.{◌&&◌, ◌≤ℤ◌, map, int_le, int_lt, not}
 use Rattle.std.specs.List.{list_all}
 use Rattle.std.proofs.lemmas.Bool.{and_parts, and_from}
@@ -8,7 +8,6 @@ use Rattle.tql_tree.specs.declared.table.Table.TheVariants.{Docs}
 use Rattle.tql_core.specs.declared.term.Base.{Base}
 use Rattle.tql_core.specs.declared.term.Base.TheVariants.{Arrival, Date, Fixed, ArrivalDay, DateDay}
 use Rattle.tql_core.specs.declared.term.Term.{Term}
-use Rattle.tql_core.specs.declared.term.Var.{Var}
 use Rattle.tql_core.specs.Condition.{Condition, Always, Never, Plain, NowAtLeast, NowBefore, All, Either, Not, Exists}
 use Rattle.tql_core.specs.Bounds.{is_near, is_bounded_base, is_bounded, are_bounded}
 use Rattle.time_marks.specs.declared.mark.Mark.{Mark}

@@ -1,35 +1,28 @@
 -- What a probe finds, and when a document is given.
-use Rattle.std.proofs.Common.{◌≡◌, ℕ, zero, suc, ◌+◌, ◌≤◌, ℤ, pos, Bool, true, false, not, Option, Some, None, List, [], ◌∷◌, ◌++◌, refl, sym, ap, ◌∙◌, subst, inl, inr, arith, cond}
-use Rattle.std.specs.Prelude.{◌⊎◌, ◌&&◌, ◌||◌, ◌+ℤ◌, ◌≤ℤ◌, ◌<ℤ◌, map, int_le, int_lt, nat_eq}
-use Rattle.std.specs.List.{list_any, list_all}
-use Rattle.std.specs.Ordering.{int_eq}
-use Rattle.std.proofs.lemmas.Bool.{cases_Bool, both_ways, and_parts, and_from, or_cases, true≢false, false≢true, ne_eqb}
-use Rattle.std.proofs.lemmas.Bool.Decides.{Decides-int_eq}
+use Rattle.std.proofs.Common.{◌≡◌, ℕ, ℤ, pos, Bool, true, false, not, Some, List, [], ◌∷◌, ◌++◌, refl, sym, ap, ◌∙◌, subst, inl, inr, arith}
+use Rattle.std.specs.Prelude.{◌+ℤ◌, ◌<ℤ◌, int_le, int_lt}
+use Rattle.std.proofs.lemmas.Bool.{cases_Bool, and_parts, and_from, or_cases, false≢true, ne_eqb}
 use Rattle.std.proofs.lemmas.Int.{ints}
 use Rattle.tap_rows.specs.declared.rows.Doc.{Doc}
-use Rattle.tql_tree.specs.declared.table.Table.{Table}
 use Rattle.tql_tree.specs.declared.table.Table.TheVariants.{Docs}
-use Rattle.tql_core.specs.declared.term.Var.{Var}
 use Rattle.tql_core.specs.declared.term.Term.{Term}
-use Rattle.tql_core.specs.declared.atom.Atom.{Atom}
 use Rattle.tql_core.specs.Condition.{Condition, Always, Never, Plain, NowAtLeast, NowBefore, All, Either, Not, Exists}
-use Rattle.tql_core.specs.Row.{Row, OfDoc, arrival, rows_of}
+use Rattle.tql_core.specs.Row.{OfDoc, rows_of}
 use Rattle.tap_rows.specs.declared.tables.Tables.{Tables}
 use Rattle.tap_rows.specs.Results.{visible}
-use Rattle.tql_core.specs.Values.{Bound, Env, bind, lookup, on_row, plus_to, value, true_atom}
+use Rattle.tql_core.specs.Values.{Env, bind, lookup, value}
 use Rattle.tql_core.specs.Holds.{truth, asked_of}
 use Rattle.time_marks.proofs.Asked.{given}
-use Rattle.tap_rows.specs.Seconds.{first_from}
 use Rattle.tql_core.specs.Scope.{In, Scoped, IsQuery}
 use Rattle.time_marks.specs.declared.mark.Step.{Step}
 use Rattle.time_marks.specs.declared.mark.Mark.{Mark}
-use Rattle.time_marks.specs.Marks.{copied, copy, copy_term, guards_of, arrival_term, step_of, after, mark_if, marks, m, fixed_term, marks_from, rising_from, body}
-use Rattle.time_marks.specs.Probes.{Probe, choices, some_rows, is_value, guards_true, come_by, fits, finds, found}
+use Rattle.time_marks.specs.Marks.{copied, copy, copy_term, arrival_term, step_of, after, mark_if, marks, m, fixed_term, marks_from, rising_from, body}
+use Rattle.time_marks.specs.Probes.{choices, some_rows, come_by, fits, finds, found}
 use Rattle.monotone_rewrite.specs.Query.{probe_of, unfolded}
 use Rattle.time_marks.specs.Laws.{Keeps, Same, Along, Crossed}
 use Rattle.time_marks.proofs.Orders.{is_value_of, value_is}
-use Rattle.time_marks.proofs.Lists.{or_left, any_in, in_any, in_map, map_in, in_left, in_right, append_in}
-use Rattle.time_marks.proofs.Seconds.{reached, le_self}
+use Rattle.time_marks.proofs.Lists.{or_left, any_in, in_any, in_map, map_in, append_in}
+use Rattle.time_marks.proofs.Seconds.{reached}
 use Rattle.time_marks.proofs.Envs.{bind_other, copied_pos, guards_hold}
 use Rattle.time_marks.proofs.Crossing.{crossing, crossed_here, crossed_left, crossed_right, plus_none}
 use Rattle.time_marks.proofs.Bodies.{body_truth}

@@ -1,14 +1,12 @@
 -- Folding keeps what a probe finds.
-use Rattle.std.proofs.Common.{◌≡◌, ℕ, zero, suc, ◌+◌, ◌≤◌, ℤ, pos, negsuc, Bool, true, false, not, Option, Some, None, List, [], ◌∷◌, ◌++◌, refl, sym, ap, ◌∙◌, subst, inl, inr, arith, cond}
-use Rattle.std.specs.Prelude.{◌⊎◌, ◌&&◌, ◌||◌, ◌+ℤ◌, ◌≤ℤ◌, ◌<ℤ◌, map, int_le, int_lt, nat_eq}
-use Rattle.std.specs.List.{list_any, list_all, filter}
+use Rattle.std.proofs.Common.{◌≡◌, ℕ, ℤ, pos, Bool, true, false, not, Some, List, [], ◌∷◌, refl, sym, ap, ◌∙◌, subst, inl, inr, arith}
+use Rattle.std.specs.Prelude.{◌&&◌, ◌||◌, ◌+ℤ◌, int_lt, nat_eq}
+use Rattle.std.specs.List.{list_any}
 use Rattle.std.specs.Ordering.{int_eq}
-use Rattle.std.proofs.lemmas.Bool.{cases_Bool, cases_eq, both_ways, and_parts, and_from, or_cases, true≢false, false≢true, eqb-true}
+use Rattle.std.proofs.lemmas.Bool.{cases_Bool, cases_eq, and_parts, false≢true, eqb-true}
 use Rattle.std.proofs.lemmas.Bool.Decides.{Decides-int_eq}
 use Rattle.std.proofs.lemmas.Int.{ints}
-use Rattle.tap_rows.specs.declared.rows.Doc.{Doc}
 use Rattle.tql_tree.specs.declared.table.Table.{Table}
-use Rattle.tql_tree.specs.declared.table.Table.TheVariants.{Docs}
 use Rattle.tql_core.specs.declared.term.Var.{Var}
 use Rattle.tql_core.specs.declared.term.Base.{Base}
 use Rattle.tql_core.specs.declared.term.Base.TheVariants.{Arrival, Date, Fixed, ArrivalDay, DateDay}
@@ -22,22 +20,16 @@ use Rattle.tql_core.specs.declared.atom.Atom.TheVariants.{Numbers, Texts, Times,
 use Rattle.tql_core.specs.declared.atom.TextExpr.{TextExpr}
 use Rattle.tql_core.specs.declared.atom.TextExpr.TheVariants as X
 use Rattle.tql_core.specs.Condition.{Condition, Always, Never, Plain, NowAtLeast, NowBefore, All, Either, Not, Exists}
-use Rattle.tql_core.specs.Row.{Row, OfDoc, arrival, date, rows_of}
+use Rattle.tql_core.specs.Row.{Row, arrival, rows_of}
 use Rattle.tap_rows.specs.declared.tables.Tables.{Tables}
-use Rattle.tap_rows.specs.Results.{visible}
-use Rattle.tql_core.specs.Values.{Env, bind, lookup, on_row, base_value, plus_to, value, both, compare, true_atom}
-use Rattle.tql_core.specs.Holds.{truth, asked_of}
-use Rattle.tql_core.specs.Scope.{In, BaseIn, NumIn, TextIn, AtomIn, Scoped, IsQuery}
-use Rattle.time_marks.specs.declared.mark.Step.{Step}
-use Rattle.time_marks.specs.declared.mark.Mark.{Mark}
-use Rattle.time_marks.specs.Marks.{copied, copy, copy_base, copy_term, arrival_term, step_of, after, mark_if, marks, m, rising, body}
+use Rattle.tql_core.specs.Values.{Env, bind, lookup, on_row, base_value, plus_to, value, both, compare}
+use Rattle.tql_core.specs.Holds.{truth}
+use Rattle.tql_core.specs.Scope.{In, BaseIn, NumIn, TextIn, AtomIn, Scoped}
+use Rattle.time_marks.specs.Marks.{copy_base, copy_term, body}
 use Rattle.monotone_rewrite.specs.Folding.{Known, Yes, No, Open, known, is_no, constant, same_base, is_there, fold_atom, fold_all, fold_either, fold_not, fold_exists, fold}
-use Rattle.time_marks.specs.Probes.{Probe, choices, some_rows, is_value, guards_true, come_by, fits, finds, found}
-use Rattle.monotone_rewrite.specs.Query.{fold_probe, can_find, probe_of, unfolded, window}
 use Rattle.time_marks.specs.Found.{Named}
-use Rattle.time_marks.proofs.Lists.{any_same, map_in, append_in}
+use Rattle.time_marks.proofs.Lists.{any_same}
 use Rattle.time_marks.proofs.Envs.{bind_same, bind_other, base_stays}
-use Rattle.monotone_rewrite.proofs.Finding.{Apart, Fine, fine, fine_if}
 
 yes_is : (c : Condition) → known c ≡ Yes → c ≡ Always
 yes_is Always e = refl

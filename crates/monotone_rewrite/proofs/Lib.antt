@@ -3,6 +3,7 @@ pub mod Union
 pub mod Folds
 pub mod Windows
 pub mod Growing
+pub mod Depths
 pub mod Scopes
 pub mod ProbeLists
 pub mod Worked

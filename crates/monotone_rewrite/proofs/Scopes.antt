@@ -1,5 +1,5 @@
 -- The probes of a window query keep their scopes.
-use Rattle.std.proofs.Common.{◌≡◌, ℕ, zero, suc, ◌≤◌, ◌<◌, ℤ, pos, Bool, true, false, not, List, [], ◌∷◌, ◌++◌, refl, sym, ap, ◌∙◌, subst, inl, inr, arith}
+use Rattle.std.proofs.Common.{◌≡◌, ℕ, zero, suc, ◌≤◌, ◌<◌, ℤ, pos, Bool, true, false, not, List, [], ◌∷◌, ◌++◌, length, refl, sym, ap, ◌∙◌, subst, inl, inr, arith}
 use Rattle.std.specs.Prelude.{◌⊎◌, ◌&&◌, map, int_lt}
 use Rattle.tql_core.specs.Values.{compare}
 use Rattle.tql_tree.specs.declared.table.Table.{Table}
@@ -24,6 +24,7 @@ use Rattle.time_marks.specs.Probes.{Probe}
 use Rattle.monotone_rewrite.specs.Query.{fold_probe, can_find, probe_of, unfolded, window}
 use Rattle.std.proofs.lemmas.Bool.{cases_Bool}
 use Rattle.monotone_rewrite.proofs.Growing.{filter_in}
+use Rattle.monotone_rewrite.proofs.Depths.{nested_few, nested_body, nested_fold, short_from}
 use Rattle.time_marks.specs.Found.{vars_of, Distinct, Named, IsProbe}
 use Rattle.time_marks.proofs.Lists.{in_map, map_in, in_left, in_right, append_in}
 use Rattle.time_marks.proofs.Envs.{copied_back}
@@ -131,7 +132,7 @@ copied_high : (v : ℕ) → 1 ≤ v → 5 < copied v
 copied_high zero h = absurd (omega arith)
 copied_high (suc v) h = omega arith
 
-module _ (c : Condition) (a : ℤ) (q : IsQuery c) (mark : Mark) (k : IsMark (0 ∷ []) mark) where
+module _ (c : Condition) (a : ℤ) (q : IsQuery c) (mark : Mark) (k : IsMark (0 ∷ []) mark) (s : length mark.path ≤ 5) where
   first_apart : (j : ℕ) → In j (vars_of (step_of m Docs c ∷ mark.path)) → (j ≡ 0) ⊎ (5 < j)
   first_apart j (inl e) = inl e
   first_apart j (inr i) = let o = k.other j i in let h = copied_high o.0 o.3 in let e = o.1 in inr (omega arith)
@@ -144,6 +145,8 @@ module _ (c : Condition) (a : ℤ) (q : IsQuery c) (mark : Mark) (k : IsMark (0 
 
   first_probe : IsProbe (probe_of c (after (step_of m Docs c) mark))
   first_probe = record {
+    asked = (map copy_atom (guards_of c), mark.path, refl);
+    room = omega (arith, s, nested_body c mark.at, nested_few c (0 ∷ []) q);
     once = (λ i. let o = k.other 0 i in let h = copied_high o.0 o.3 in let e = o.1 in absurd (omega arith), k.once);
     apart = first_apart;
     guards = first_guards;
@@ -156,7 +159,7 @@ pub is_probe : (c : Condition) (a : ℤ) → IsQuery c → (p : Probe) → In p 
 is_probe c a q p i =
     let k = map_in (probe_of c) (rising_from c a) p i in
     let l = map_in (after (step_of m Docs c)) (marks_from c a) k.0 k.1 in
-    subst IsProbe (sym (k.2 ∙ ap (probe_of c) l.2)) (first_probe c a q l.0 (mark_from c a q l.0 l.1))
+    subst IsProbe (sym (k.2 ∙ ap (probe_of c) l.2)) (first_probe c a q l.0 (mark_from c a q l.0 l.1) (short_from c a q l.0 l.1))
 
 named_constant : (scope : List ℕ) (b : Bool) → Named scope (constant b)
 named_constant scope true = tt
@@ -210,4 +213,4 @@ is_window_probe c a q p i =
     let f = filter_in can_find (map fold_probe (unfolded c a)) p i in
     let k = map_in fold_probe (unfolded c a) p f.0 in
     let r = is_probe c a q k.0 k.1 in
-    subst IsProbe (sym k.2) (record { once = r.once; apart = r.apart; guards = r.guards; at = r.at; body = named_fold k.0.at k.0.body (vars_of k.0.path) r.body })
+    subst IsProbe (sym k.2) (record { asked = r.asked; room = omega (arith, r.room, nested_fold k.0.at k.0.body); once = r.once; apart = r.apart; guards = r.guards; at = r.at; body = named_fold k.0.at k.0.body (vars_of k.0.path) r.body })

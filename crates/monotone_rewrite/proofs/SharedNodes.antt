@@ -1,20 +1,17 @@
 -- Nodes of a pool that grows.
-use Rattle.std.proofs.Common.{◌≡◌, ◌∙◌, refl, sym, ap, ℕ, ◌<◌, Bool, true, false, List, [], ◌∷◌, ◌++◌, length, arith, subst}
-use Rattle.std.specs.Prelude.{◌&&◌, nat_lt, map}
+use Rattle.std.proofs.Common.{◌≡◌, ◌∙◌, refl, ℕ, ◌<◌, true, List, [], ◌∷◌, ◌++◌, length, arith}
+use Rattle.std.specs.Prelude.{nat_lt}
 use Rattle.std.specs.List.{filter}
 use Rattle.std.proofs.lemmas.Bool.{and_parts, and_from}
 use Rattle.tql_core.specs.declared.tnode.TNode.{TNode}
-use Rattle.tql_core.specs.declared.term.Term.{Term}
 use Rattle.tql_core.specs.declared.term.Var.{Var}
 use Rattle.tql_tree.specs.declared.table.Table.{Table}
-use Rattle.tql_core.specs.Condition.{Condition, Always, Never, Plain, All, Either, Not, Exists}
+use Rattle.tql_core.specs.Condition.{Condition}
 use Rattle.tql_core.specs.Trees.{tree_at, IsTreeAt, KeepsTrees}
-use Rattle.tql_core.specs.Bounds.{is_bounded}
 use Rattle.time_marks.specs.declared.probe.Probe.{Probe as CodeProbe}
 use Rattle.time_marks.specs.declared.mark.Mark.{Mark}
-use Rattle.time_marks.specs.Probes.{Probe}
 use Rattle.time_marks.specs.Kept.{is_kept, are_kept}
-use Rattle.time_marks.specs.Views.{probe_in, probes_in}
+use Rattle.time_marks.specs.Views.{probes_in}
 use Rattle.monotone_rewrite.specs.Query.{can_find}
 use Rattle.monotone_rewrite.specs.Folding.{known, fold_all, fold_either, fold_not, fold_exists}
 

@@ -1,22 +1,20 @@
 -- The window query's meaning is the union over past seconds, before folding.
-use Rattle.std.proofs.Common.{◌≡◌, ℕ, zero, suc, ◌+◌, ◌≤◌, ◌<◌, ℤ, pos, negsuc, Bool, true, false, not, Option, Some, None, List, [], ◌∷◌, ◌++◌, refl, sym, ap, ◌∙◌, subst, inl, inr, arith, cond}
-use Rattle.std.specs.Prelude.{◌⊎◌, ◌&&◌, ◌||◌, ◌+ℤ◌, ◌-ℤ◌, ◌≤ℤ◌, ◌<ℤ◌, map, int_le, int_lt, nat_eq, is_some}
-use Rattle.std.specs.List.{list_any, list_all, filter, filter_map}
+use Rattle.std.proofs.Common.{◌≡◌, ℕ, zero, suc, ◌+◌, ℤ, pos, negsuc, Bool, true, false, not, Option, Some, None, List, [], ◌∷◌, refl, sym, ap, ◌∙◌, subst, inl, inr, arith}
+use Rattle.std.specs.Prelude.{◌+ℤ◌, ◌-ℤ◌, ◌≤ℤ◌, ◌<ℤ◌, int_le, is_some}
+use Rattle.std.specs.List.{filter, filter_map}
 use Rattle.std.specs.Int.{int_gap}
-use Rattle.std.proofs.lemmas.Bool.{cases_Bool, both_ways, and_parts, and_from, or_cases, true≢false, false≢true, ne_eqb}
+use Rattle.std.proofs.lemmas.Bool.{cases_Bool}
 use Rattle.std.proofs.lemmas.Int.{ints, by_lt_z}
 use Rattle.tap_rows.specs.declared.rows.Doc.{Doc}
 use Rattle.tql_core.specs.Condition.{Condition}
 use Rattle.tap_rows.specs.declared.tables.Tables.{Tables}
-use Rattle.time_marks.proofs.Asked.{given, first, count_between, hits, fresh, union}
+use Rattle.time_marks.proofs.Asked.{given, first, count_between}
 use Rattle.tap_rows.specs.Seconds.{first_from}
 use Rattle.tql_core.specs.Scope.{In, IsQuery}
-use Rattle.time_marks.specs.Probes.{Probe, found, least, window_meaning, meaning_without}
-use Rattle.time_marks.specs.declared.window.Window.{Window}
+use Rattle.time_marks.specs.Probes.{found, least}
 use Rattle.monotone_rewrite.specs.Query.{unfolded}
-use Rattle.tap_rows.specs.declared.results.Hit.{Hit}
 use Rattle.tap_rows.specs.Results.{hit_of, in_order, at_least}
-use Rattle.monotone_rewrite.specs.Laws.{FromZero, IsUnionOf}
+use Rattle.monotone_rewrite.specs.Laws.{IsUnionOf}
 use Rattle.time_marks.proofs.Seconds.{first_same}
 use Rattle.monotone_rewrite.proofs.Finding.{begins, starts, found_given}
 

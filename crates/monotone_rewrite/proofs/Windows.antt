@@ -1,50 +1,36 @@
 -- The folded window query, and its distinct probes, find the same.
-use Rattle.std.proofs.Common.{◌≡◌, ℕ, zero, suc, ◌+◌, ◌≤◌, ℤ, pos, negsuc, Bool, true, false, not, Option, Some, None, List, [], ◌∷◌, ◌++◌, refl, sym, ap, ◌∙◌, subst, inl, inr, arith, cond}
-use Rattle.std.specs.Prelude.{◌⊎◌, ◌&&◌, ◌||◌, ◌+ℤ◌, ◌≤ℤ◌, ◌<ℤ◌, map, int_le, int_lt, nat_eq, is_some}
-use Rattle.std.specs.List.{list_any, list_all, filter, filter_map}
-use Rattle.std.specs.Ordering.{int_eq}
-use Rattle.std.proofs.lemmas.Bool.{not-false, cases_Bool, cases_eq, both_ways, and_parts, and_from, or_cases, true≢false, false≢true, eqb-true}
-use Rattle.std.proofs.lemmas.Bool.Decides.{Decides-int_eq}
-use Rattle.std.proofs.lemmas.Int.{ints}
+use Rattle.std.proofs.Common.{◌≡◌, ℕ, zero, suc, ℤ, pos, Bool, true, false, not, Option, Some, None, List, [], ◌∷◌, refl, sym, ap, ◌∙◌, subst, inl, inr}
+use Rattle.std.specs.Prelude.{◌&&◌, ◌||◌, ◌+ℤ◌, map, is_some}
+use Rattle.std.specs.List.{list_any, filter}
+use Rattle.std.proofs.lemmas.Bool.{not-false, cases_Bool}
 use Rattle.tap_rows.specs.declared.rows.Doc.{Doc}
-use Rattle.tql_tree.specs.declared.table.Table.{Table}
 use Rattle.tql_tree.specs.declared.table.Table.TheVariants.{Docs}
-use Rattle.tql_core.specs.declared.term.Var.{Var}
 use Rattle.tql_core.specs.declared.term.Base.{Base}
 use Rattle.tql_core.specs.declared.term.Base.TheVariants.{Arrival, Date, Fixed, ArrivalDay, DateDay}
-use Rattle.tql_core.specs.declared.term.Term.{Term}
-use Rattle.tap_base.specs.declared.numbers.Op.{Op}
-use Rattle.tap_base.specs.declared.numbers.Op.TheVariants.{Eq, Ne, Lt, Le, Gt, Ge}
-use Rattle.tql_core.specs.declared.atom.NumExpr.{NumExpr}
-use Rattle.tql_core.specs.declared.atom.NumExpr.TheVariants.{Literal, Field}
-use Rattle.tql_core.specs.declared.atom.Atom.{Atom}
-use Rattle.tql_core.specs.declared.atom.Atom.TheVariants.{Numbers, Times}
-use Rattle.tql_core.specs.Condition.{Condition, Always, Never, Plain, NowAtLeast, NowBefore, All, Either, Not, Exists}
-use Rattle.tql_core.specs.Row.{Row, OfDoc, arrival, date, rows_of}
+use Rattle.tql_core.specs.Condition.{Condition, Never}
+use Rattle.tql_core.specs.Row.{Row, OfDoc, arrival, date}
 use Rattle.tap_rows.specs.declared.tables.Tables.{Tables}
-use Rattle.tap_rows.specs.Results.{visible, hit_of, in_order}
-use Rattle.tql_core.specs.Values.{Env, bind, lookup, on_row, up, day_of, base_value, plus_to, value, both, compare, true_atom}
+use Rattle.tap_rows.specs.Results.{in_order}
+use Rattle.tql_core.specs.Values.{Env, bind, lookup, on_row, up, day_of, base_value, plus_to, value}
 use Rattle.tql_core.specs.Holds.{truth, asked_of}
-use Rattle.tql_core.specs.Scope.{In, BaseIn, NumIn, AtomIn, Scoped, IsQuery}
+use Rattle.tql_core.specs.Scope.{In, BaseIn, IsQuery}
 use Rattle.time_marks.specs.declared.mark.Step.{Step}
 use Rattle.time_marks.specs.declared.mark.Mark.{Mark}
-use Rattle.time_marks.specs.Marks.{copied, copy, copy_base, copy_term, arrival_term, step_of, after, mark_if, marks, m, marks_from, rising_from, body}
-use Rattle.monotone_rewrite.specs.Folding.{Known, Yes, No, Open, known, is_no, constant, same_base, is_there, fold_atom, fold_all, fold_either, fold_not, fold_exists, fold}
+use Rattle.time_marks.specs.Marks.{copy_base, copy_term, step_of, after, m, marks_from, rising_from, body}
+use Rattle.monotone_rewrite.specs.Folding.{known, is_no, fold}
 use Rattle.time_marks.specs.Probes.{Probe, least, choices, some_rows, is_value, guards_true, come_by, fits, finds, found}
-use Rattle.time_marks.specs.declared.window.Window.{Window}
 use Rattle.time_marks.specs.Distinct.{same_probe, distinct_probes}
 use Rattle.time_marks.proofs.Repeats.{probe_is, distinct_found}
 use Rattle.monotone_rewrite.specs.Query.{fold_probe, can_find, probe_of, unfolded, window}
-use Rattle.time_marks.proofs.Lists.{any_same, any_in, in_any, map_in, append_in}
-use Rattle.time_marks.proofs.Envs.{bind_same, bind_other, base_stays}
-use Rattle.monotone_rewrite.proofs.Finding.{Apart, Fine, fine, fine_from}
+use Rattle.time_marks.proofs.Lists.{any_same, map_in}
+use Rattle.time_marks.proofs.Envs.{bind_other}
+use Rattle.monotone_rewrite.proofs.Finding.{Apart, Fine, fine_from}
 use Rattle.time_marks.proofs.Orders.{is_value_of}
-use Rattle.monotone_rewrite.proofs.Folds.{Bounds, body_named, fold_truth, no_is, is_no_is, same_base_is}
+use Rattle.monotone_rewrite.proofs.Folds.{Bounds, body_named, fold_truth, no_is, is_no_is}
 use Rattle.monotone_rewrite.specs.Laws.{IsUnionOf, WindowIsUnion, DistinctIsUnion}
-use Rattle.time_marks.proofs.Asked.{hits, first, count_between}
+use Rattle.time_marks.proofs.Asked.{first, count_between}
 use Rattle.monotone_rewrite.proofs.Union.{unfolded_is_union, hits_same}
 use Rattle.tap_rows.specs.Seconds.{first_from}
-use Rattle.std.proofs.lemmas.List.Folds.{list_any-append}
 
 and_last : (g v c t t' : Bool) → (v ≡ true → t ≡ t') → (g && v && c && t) ≡ (g && v && c && t')
 and_last true true true t t' h = h refl

@@ -1,6 +1,6 @@
 -- The window query of a condition.
-use Rattle.std.specs.Prelude.{ℤ, Bool, not, List, [], ◌∷◌, ◌++◌, map, if◌then◌else◌}
-use Rattle.std.specs.List.{list_any, filter}
+use Rattle.std.specs.Prelude.{ℤ, Bool, not, List, map}
+use Rattle.std.specs.List.{filter}
 use Rattle.tql_core.specs.Condition.{Condition}
 use Rattle.time_marks.specs.declared.mark.Mark.{Mark}
 use Rattle.time_marks.specs.Marks.{rising_from, body}

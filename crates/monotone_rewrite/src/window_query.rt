@@ -2,12 +2,10 @@ ghost use Rattle.std.specs.Prelude.{◌≡◌, ◌<◌, pos, ◌≤ℤ◌, [], �
 ghost use Rattle.std.specs.List.{filter};
 ghost use Rattle.tql_core.specs.Bounds.{are_bounded, is_bounded};
 ghost use Rattle.tql_core.specs.Condition.{condition};
-ghost use Rattle.tql_core.specs.Scope.{In, IsQuery};
+ghost use Rattle.tql_core.specs.Scope.{IsQuery};
 ghost use Rattle.tql_core.specs.Trees.{tree_at};
-ghost use Rattle.time_marks.specs.Found.{IsProbe};
 ghost use Rattle.time_marks.specs.Kept.{are_kept};
-ghost use Rattle.time_marks.specs.Probes.{Probe as ProbeView};
-ghost use Rattle.time_marks.specs.Views.{probe_in, probes_in, probes_of};
+ghost use Rattle.time_marks.specs.Views.{probes_in, probes_of};
 ghost use Rattle.monotone_rewrite.specs.Folding.{known, is_no};
 ghost use Rattle.monotone_rewrite.specs.Query.{can_find, fold_probe, probe_of, window};
 ghost use Rattle.monotone_rewrite.specs.Laws.{IsUnionOf, AreProbes};

@@ -1,22 +1,21 @@
 -- A probe finds a document just where there is a row for each step, in any order.
-use Rattle.std.proofs.Common.{◌≡◌, ℕ, zero, suc, ◌+◌, ◌≤◌, ◌<◌, ℤ, pos, Bool, true, false, not, Option, Some, None, List, [], ◌∷◌, ◌++◌, refl, sym, ap, ◌∙◌, subst, inl, inr, arith}
-use Rattle.std.specs.Prelude.{◌⊎◌, ◌&&◌, ◌||◌, map, int_le}
-use Rattle.std.specs.List.{list_any, list_all}
+use Rattle.std.proofs.Common.{◌≡◌, ℕ, ℤ, pos, Bool, true, not, Option, Some, None, List, [], ◌∷◌, refl, sym, ap, ◌∙◌, subst, inl, inr}
+use Rattle.std.specs.Prelude.{int_le}
+use Rattle.std.specs.List.{list_all}
 use Rattle.std.proofs.lemmas.Bool.{cases_eq, and_parts, and_from, false≢true}
 use Rattle.std.proofs.lemmas.Bool.Decides.{Decides-int_eq}
 use Rattle.tap_rows.specs.declared.rows.Doc.{Doc}
-use Rattle.tql_core.specs.declared.atom.Atom.{Atom}
 use Rattle.tql_core.specs.Condition.{Condition, Always, Never, Plain, NowAtLeast, NowBefore, All, Either, Not, Exists}
 use Rattle.tql_core.specs.Row.{Row, arrival, rows_of}
 use Rattle.tap_rows.specs.declared.tables.Tables.{Tables}
-use Rattle.tql_core.specs.Values.{Bound, Env, bind, lookup, value, true_atom}
+use Rattle.tql_core.specs.Values.{Env, bind, lookup, value, true_atom}
 use Rattle.tql_core.specs.Holds.{truth}
-use Rattle.tql_core.specs.Scope.{In, BaseIn, AtomIn}
+use Rattle.tql_core.specs.Scope.{In}
 use Rattle.time_marks.specs.declared.mark.Step.{Step}
-use Rattle.time_marks.specs.Probes.{Probe, choices, some_rows, is_value, guards_true, come_by, fits, finds}
+use Rattle.time_marks.specs.Probes.{Probe, choices, some_rows, is_value, come_by, fits, finds}
 use Rattle.time_marks.specs.Found.{vars_of, Distinct, Named, IsProbe, Finds, FoundInAnyOrder}
 use Rattle.time_marks.specs.Laws.{Same}
-use Rattle.time_marks.proofs.Lists.{any_in, in_any, any_same, all_in, in_map}
+use Rattle.time_marks.proofs.Lists.{any_in, in_any, any_same, all_in}
 use Rattle.time_marks.proofs.Envs.{bind_same, bind_other, same_bind, value_same, atom_same}
 
 pub is_value_of : (o : Option ℤ) (b : ℤ) → is_value o b ≡ true → o ≡ Some b

@@ -1,6 +1,6 @@
 -- Probes that equal earlier ones find nothing new.
-use Rattle.std.proofs.Common.{◌≡◌, ◌∙◌, refl, sym, ap, subst, ℤ, Bool, true, false, List, [], ◌∷◌, ◌++◌, inl, inr}
-use Rattle.std.specs.Prelude.{◌&&◌, ◌||◌, not}
+use Rattle.std.proofs.Common.{◌≡◌, ◌∙◌, refl, sym, ap, subst, ℤ, Bool, true, false, List, [], ◌∷◌, ◌++◌, inl, inr, if◌then◌else◌}
+use Rattle.std.specs.Prelude.{◌⊎◌, ◌||◌, not}
 use Rattle.std.specs.List.{list_any, filter}
 use Rattle.std.specs.Cmp.Lexicographic.{pointwise, lists_equiv}
 use Rattle.std.proofs.lemmas.Bool.{cases_Bool, and_parts, and_from, false≢true}
@@ -9,20 +9,17 @@ use Rattle.tap_rows.specs.declared.rows.Doc.{Doc}
 use Rattle.tap_rows.specs.declared.tables.Tables.{Tables}
 use Rattle.tap_rows.specs.Results.{hits_by}
 use Rattle.tap_rows.specs.Seconds.{least_second}
-use Rattle.tql_tree.specs.contracts.table.TableEq.TheImpl.Laws as table
-use Rattle.tql_core.specs.declared.atom.Atom.{Atom}
-use Rattle.tql_core.specs.contracts.term.TermPartialEq.TheImpl as term
 use Rattle.tql_core.specs.contracts.term.TermEq.TheImpl.Laws as term_laws
 use Rattle.tql_core.specs.contracts.atom.AtomPartialEq.TheImpl as atom
 use Rattle.tql_core.specs.Exact.{var_is, table_is, term_is, atom_is}
+use Rattle.tql_core.specs.Scope.{In}
 use Rattle.tql_core.proofs.Equal.{condition_is, itself}
 use Rattle.time_marks.specs.declared.mark.Step.{Step}
 use Rattle.time_marks.specs.contracts.mark.StepPartialEq.TheImpl as step
 use Rattle.time_marks.specs.contracts.mark.StepEq.TheImpl.Laws as step_laws
-use Rattle.time_marks.specs.declared.window.Window.{Window}
-use Rattle.time_marks.specs.Probes.{Probe, finds, found, least, window_meaning, meaning_without}
-use Rattle.time_marks.specs.Distinct.{distinct_onto, distinct, same_probe, SameProbeIsEqual, distinct_probes, HasSameMeaning, RepeatsFindNothingNew}
-use Rattle.time_marks.proofs.Lists.{any_in, in_any}
+use Rattle.time_marks.specs.Probes.{Probe, finds, found}
+use Rattle.time_marks.specs.Distinct.{kept_with, distinct_onto, same_probe, SameProbeIsEqual, distinct_probes, RepeatsFindNothingNew, DistinctAreAmong}
+use Rattle.time_marks.proofs.Lists.{any_in, in_any, append_in}
 
 list_is : {A : Type 0} (eq : A → A → Bool) → ((x y : A) → eq x y ≡ true → x ≡ y) → (xs ys : List A) → pointwise eq xs ys ≡ true → xs ≡ ys
 list_is eq exact [] [] h = refl
@@ -88,3 +85,18 @@ repeats_find_nothing X = record {
   whole = λ T w i. hits_by (λ d. least_second (λ b. same_found X T d b i) w.low w.high) T.docs;
   without = λ seen T w i. hits_by (λ d. least_second (λ b. same_found X T d b i) w.low w.high) (filter (λ d. not (seen d)) T.docs);
 }
+
+onto_among : (kept X : List Probe) (p : Probe) → In p (distinct_onto same_probe kept X) → In p kept ⊎ In p X
+onto_among kept [] p i = inl i
+onto_among kept (x ∷ xs) p i = go (list_any (same_probe x) kept) (onto_among (kept_with same_probe kept x) xs p i) where
+  go : (b : Bool) → In p (if b then kept else kept ++ x ∷ []) ⊎ In p xs → In p kept ⊎ In p (x ∷ xs)
+  go b (inr j) = inr (inr j)
+  go true (inl j) = inl j
+  go false (inl j) = elim (append_in kept (x ∷ []) p j) [
+    | inl k ↦ inl k
+    | inr (inl e) ↦ inr (inl e)
+    | inr (inr n) ↦ absurd n
+  ]
+
+pub distinct_among : DistinctAreAmong
+distinct_among X p i = elim (onto_among [] X p i) [ inl n ↦ absurd n | inr j ↦ j ]

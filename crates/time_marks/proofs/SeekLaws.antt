@@ -1,20 +1,19 @@
 -- Marks by the stored seconds of their driving rows.
-use Rattle.std.proofs.Common.{◌≡◌, ◌∙◌, sym, ap, refl, arith, ℤ, pos, negsuc, Bool, true, false, Option, Some, None}
-use Rattle.std.specs.Prelude.{◌+ℤ◌, ◌-ℤ◌, neg_ℤ, ◌&&◌, ◌≤ℤ◌, int_le}
+use Rattle.std.proofs.Common.{◌≡◌, ◌∙◌, sym, ap, refl, arith, ℤ, pos, negsuc, true, Option, Some, None}
+use Rattle.std.specs.Prelude.{◌+ℤ◌, ◌-ℤ◌, neg_ℤ, ◌≤ℤ◌, int_le}
 use Rattle.std.proofs.lemmas.Bool.{and_parts}
 use Rattle.std.proofs.lemmas.Bool.Decides.{Decides-int_eq}
 use Rattle.std.proofs.lemmas.Int.{ints}
 use Rattle.tql_core.specs.declared.term.Var.{Var}
 use Rattle.tql_core.specs.declared.term.Base.{Base}
 use Rattle.tql_core.specs.declared.term.Base.TheVariants as B
-use Rattle.tql_core.specs.declared.term.Term.{Term}
-use Rattle.tql_core.specs.Bounds.{is_bounded, is_bounded_base, is_near}
+use Rattle.tql_core.specs.Bounds.{is_bounded_base, is_near}
 use Rattle.tql_core.specs.Row.{Row, arrival, date}
-use Rattle.tql_core.specs.Values.{Env, lookup, on_row, up, day_of, plus_to, base_value, value}
+use Rattle.tql_core.specs.Values.{Env, lookup, on_row, up, day_of, plus_to, base_value}
 use Rattle.time_marks.specs.declared.seek.Seek.{Seek}
 use Rattle.time_marks.specs.declared.seek.Seek.TheVariants.{Arrived, Dated, Fixed, ArrivedDay, DatedDay}
 use Rattle.time_marks.specs.declared.window.Window.{Window}
-use Rattle.time_marks.specs.Windows.{is_within, moved, days_window}
+use Rattle.time_marks.specs.Windows.{is_within, days_window}
 use Rattle.time_marks.specs.Seeks.{seek_from, seek_of, stored, marked_at, seek_window, lies_in, SeeksSolveMarks}
 use Rattle.time_marks.proofs.WindowLaws.{moved-within, days-within}
 

@@ -1,11 +1,12 @@
 -- Probes without repeats.
-use Rattle.std.specs.Prelude.{◌≡◌, ◌↔◌, ℤ, Bool, true, ◌&&◌, List, [], ◌∷◌, ◌++◌, if◌then◌else◌}
+use Rattle.std.specs.Prelude.{◌≡◌, ◌↔◌, Bool, true, ◌&&◌, List, [], ◌∷◌, ◌++◌, if◌then◌else◌}
 use Rattle.std.specs.List.{list_any}
 use Rattle.std.specs.Cmp.Lexicographic.{pointwise}
 use Rattle.tap_rows.specs.declared.rows.Doc.{Doc}
 use Rattle.tap_rows.specs.declared.tables.Tables.{Tables}
 use Rattle.tql_core.specs.contracts.term.TermPartialEq.TheImpl as term
 use Rattle.tql_core.specs.Same.{same_condition}
+use Rattle.tql_core.specs.Scope.{In}
 use Rattle.time_marks.specs.contracts.mark.StepPartialEq.TheImpl as step
 use Rattle.time_marks.specs.declared.window.Window.{Window}
 use Rattle.time_marks.specs.Probes.{Probe, window_meaning, meaning_without}
@@ -44,3 +45,7 @@ pub record HasSameMeaning (X Y : List Probe) : Type 0 where
 -- repeats find nothing new
 abbrev pub RepeatsFindNothingNew : Type 0
 RepeatsFindNothingNew = (X : List Probe) → HasSameMeaning (distinct_probes X) X
+
+-- each distinct probe is one of the probes
+abbrev pub DistinctAreAmong : Type 0
+DistinctAreAmong = (X : List Probe) (p : Probe) → In p (distinct_probes X) → In p X

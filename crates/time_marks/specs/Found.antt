@@ -1,5 +1,6 @@
 -- What every probe of a window query keeps, and what it is to find a document, in any order of its rows.
-use Rattle.std.specs.Prelude.{◌≡◌, ℕ, ◌<◌, ◌≤◌, ℤ, pos, true, ◌⊎◌, ◌↔◌, Some, List, [], ◌∷◌, map, int_le}
+use Rattle.std.specs.Prelude.{◌≡◌, ℕ, suc, ◌+◌, ◌<◌, ◌≤◌, ℤ, pos, true, ◌⊎◌, ◌↔◌, Some, List, [], ◌∷◌, length, map, int_le, nat_le, if◌then◌else◌}
+use Rattle.tql_tree.specs.declared.table.Table.TheVariants.{Docs}
 use Rattle.tap_rows.specs.declared.rows.Doc.{Doc}
 use Rattle.tql_core.specs.declared.atom.Atom.{Atom}
 use Rattle.tql_core.specs.Condition.{Condition, Always, Never, Plain, NowAtLeast, NowBefore, All, Either, Not, Exists}
@@ -9,6 +10,7 @@ use Rattle.tql_core.specs.Values.{Env, lookup, value, true_atom}
 use Rattle.tql_core.specs.Holds.{truth}
 use Rattle.tql_core.specs.Scope.{In, BaseIn, AtomIn}
 use Rattle.time_marks.specs.declared.mark.Step.{Step}
+use Rattle.time_marks.specs.Marks.{m}
 use Rattle.time_marks.specs.Probes.{Probe, choices, finds}
 
 abbrev pub vars_of : List Step → List ℕ
@@ -31,8 +33,22 @@ Named scope (Either l r) = Named scope l × Named scope r
 Named scope (Not x) = Named scope x
 Named scope (Exists v t x) = (1 ≤ v.0) × (v.0 ≤ 5) × Named (v.0 ∷ scope) x
 
--- the path binds each variable once, m or a copy, and the parts of the probe name these
+abbrev pub higher : ℕ → ℕ → ℕ
+higher a b = if nat_le a b then b else a
+
+-- how many EXISTS stand in one another
+abbrev pub nested : Condition → ℕ
+nested (All l r) = higher (nested l) (nested r)
+nested (Either l r) = higher (nested l) (nested r)
+nested (Not x) = nested x
+nested (Exists v t x) = suc (nested x)
+nested _ = 0
+
+-- the first row of the path is the document, its variables and those of the body have room, it binds each variable once, m
+-- or a copy, and the parts of the probe name these
 pub record IsProbe (p : Probe) : Type 0 where
+  pub asked : (guards : List Atom) × (rest : List Step) × (p.path ≡ record { var = m; table = Docs; guards = guards } ∷ rest)
+  pub room : length p.path + nested p.body ≤ 16
   pub once : Distinct (vars_of p.path)
   pub apart : (k : ℕ) → In k (vars_of p.path) → (k ≡ 0) ⊎ (5 < k)
   pub guards : (step : Step) → In step p.path → (a : Atom) → In a step.guards → AtomIn (vars_of p.path) a

@@ -1,5 +1,5 @@
 -- What every window query keeps.
-use Rattle.std.specs.Prelude.{ℕ, Bool, ◌&&◌, List, length, nat_lt}
+use Rattle.std.specs.Prelude.{Bool, ◌&&◌, List, length, nat_lt}
 use Rattle.std.specs.List.{list_all}
 use Rattle.tql_core.specs.declared.tnode.TNode.{TNode}
 use Rattle.tql_core.specs.Bounds.{is_bounded}

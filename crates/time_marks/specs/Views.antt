@@ -3,7 +3,6 @@ use Rattle.std.specs.Prelude.{List, map}
 use Rattle.tql_core.specs.declared.tnode.TNode.{TNode}
 use Rattle.tql_core.specs.Trees.{tree_at}
 use Rattle.time_marks.specs.declared.probe.Probe.{Probe as CodeProbe}
-use Rattle.time_marks.specs.declared.ranged.Ranged.{Ranged}
 use Rattle.time_marks.specs.declared.window_query.WindowQuery.{WindowQuery}
 use Rattle.time_marks.specs.declared.ranged_query.RangedQuery.{RangedQuery}
 use Rattle.time_marks.specs.Probes.{Probe}

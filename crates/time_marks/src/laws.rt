@@ -1,6 +1,6 @@
 //! Laws of marks, bodies and probes.
 ghost use Rattle.time_marks.specs.Laws.{ChangesAtMarks, BodiesHoldAtMarks};
-ghost use Rattle.time_marks.specs.Distinct.{SameProbeIsEqual, RepeatsFindNothingNew};
+ghost use Rattle.time_marks.specs.Distinct.{SameProbeIsEqual, RepeatsFindNothingNew, DistinctAreAmong};
 ghost use Rattle.time_marks.specs.Found.{FoundInAnyOrder};
 ghost use Rattle.time_marks.specs.Seeks.{SeeksSolveMarks};
 
@@ -32,4 +32,9 @@ pub fn the_test_is_equality()
 /// Probes that equal earlier ones find nothing new.
 pub fn repeats_find_nothing_new()
     ensures { RepeatsFindNothingNew }
+{}
+
+/// Each distinct probe is one of the probes, so that what all of them keep the distinct ones keep.
+pub fn distinct_probes_are_among()
+    ensures { DistinctAreAmong }
 {}

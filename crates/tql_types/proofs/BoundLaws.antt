@@ -1,6 +1,6 @@
 -- Each time of a condition that typing gives adds no more than so many seconds, and nothing to a day.
 use Rattle.std.proofs.Common.{◌≡◌, ◌∙◌, sym, ap, refl, arith, ℕ, zero, suc, ℤ, pos, negsuc, Bool, true, false, Option, Some, None, List, if◌then◌else◌, inl, inr}
-use Rattle.std.specs.Prelude.{Result, Ok, Err, ◌&&◌, ◌≤ℤ◌, ◌+ℤ◌, neg_ℤ, int_le, unwrap_or}
+use Rattle.std.specs.Prelude.{Ok, ◌&&◌, ◌≤ℤ◌, ◌+ℤ◌, neg_ℤ, int_le}
 use Rattle.std.proofs.lemmas.Bool.{cases_Bool, and_parts, and_from}
 use Rattle.std.proofs.lemmas.Int.{ints}
 use Rattle.tap_base.specs.declared.numbers.Op.{Op}
@@ -25,7 +25,6 @@ use Rattle.tql_types.specs.declared.sort.Sort.{Sort}
 use Rattle.tql_types.specs.declared.sort.Sort.TheVariants.{Number, Text}
 use Rattle.tql_types.specs.declared.clock.Clock.{Clock}
 use Rattle.tql_types.specs.declared.clock.Clock.TheVariants.{At, Now, Today}
-use Rattle.tql_types.specs.declared.fault.TypeFault.{TypeFault}
 use Rattle.tql_types.specs.declared.spans.TheConstants.{SPAN_LIMIT}
 use Rattle.tql_types.specs.Scopes.{variable_named, first_scope, next_variable, variables_after}
 use Rattle.tql_types.specs.Sorts.{field_in, sort_of}

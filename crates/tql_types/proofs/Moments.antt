@@ -1,6 +1,6 @@
 -- A moment text that is read.
 use Rattle.std.proofs.Common.{◌≡◌, ℤ, true, false, Option, Some, None, refl}
-use Rattle.std.specs.Prelude.{Result, Ok, Err, is_some, pos, ◌≤ℤ◌}
+use Rattle.std.specs.Prelude.{Ok, Err, is_some}
 use Rattle.std.specs.Result.{result_ok}
 use Rattle.tap_base.specs.declared.numbers.MomentFault.{MomentFault}
 use Rattle.tap_base.specs.Numbers.{moment_result}

@@ -1,5 +1,5 @@
 -- The range of the seconds that moment texts have.
-use Rattle.std.proofs.Common.{◌≡◌, ◌∙◌, sym, ap, refl, arith, ℕ, ℤ, pos, negsuc, Bool, true, false, Option, Some, None, List, if◌then◌else◌, inl, inr}
+use Rattle.std.proofs.Common.{◌≡◌, arith, ℕ, ℤ, pos, true, false, Option, Some, None, List, if◌then◌else◌, inl, inr}
 use Rattle.std.specs.Prelude.{Result, Ok, Err, ◌&&◌, ◌≤ℤ◌, nat_le, int_le, int_div, unwrap_or, not, ◌==◌, length}
 use Rattle.std.specs.Str.{all_ascii_digits}
 use Rattle.std.specs.Str.Parse.{digits_value}

@@ -1,5 +1,5 @@
 -- The condition of a query without a fault names only variables that are in scope, and each EXISTS binds a new one.
-use Rattle.std.proofs.Common.{◌≡◌, ◌∙◌, sym, ap, refl, arith, ℕ, ◌+◌, ◌≤◌, ◌<◌, ℤ, Bool, true, false, Option, Some, None, List, [], ◌∷◌, ◌++◌, if◌then◌else◌, inl, inr}
+use Rattle.std.proofs.Common.{◌≡◌, sym, ap, refl, arith, ℕ, ◌+◌, ◌≤◌, ◌<◌, Bool, true, false, Option, Some, None, List, [], ◌∷◌, ◌++◌, if◌then◌else◌, inl, inr}
 use Rattle.std.specs.Prelude.{◌⊎◌, nat_lt, nat_le, find, is_some, Result, Ok, Err}
 use Rattle.std.proofs.lemmas.Bool.{cases_Bool}
 use Rattle.tap_base.specs.declared.numbers.Op.{Op}
@@ -15,7 +15,7 @@ use Rattle.tql_core.specs.declared.term.Var.{Var}
 use Rattle.tql_core.specs.declared.atom.TextExpr.{TextExpr}
 use Rattle.tql_core.specs.declared.atom.TextExpr.TheVariants as X
 use Rattle.tql_core.specs.Condition.{Condition}
-use Rattle.tql_core.specs.Scope.{In, BaseIn, NumIn, TextIn, AtomIn, Scoped, IsQuery}
+use Rattle.tql_core.specs.Scope.{In, BaseIn, NumIn, TextIn, Scoped, IsQuery}
 use Rattle.tql_types.specs.declared.scope.Variable.{Variable}
 use Rattle.tql_types.specs.declared.field.Field.{Field}
 use Rattle.tql_types.specs.declared.field.Field.TheVariants as F
@@ -26,9 +26,9 @@ use Rattle.tql_types.specs.declared.clock.Clock.TheVariants as K
 use Rattle.tql_types.specs.declared.fault.TypeFault.{TypeFault}
 use Rattle.tql_types.specs.Scopes.{is_named, variable_named, first_scope, entered, next_variable, variables_after}
 use Rattle.tql_types.specs.Faults.{sooner, place_of}
-use Rattle.tql_types.specs.Sorts.{field_in, expr_fault, sort_of}
-use Rattle.tql_types.specs.Clocks.{base_of, base_in, clock_of, later, day, day_of_term, turned, half_line, now_core, today_core, constant, times_core}
-use Rattle.tql_types.specs.Core.{binder_fault, inner_scope, first_fault, num_field, num_of, text_field, text_of, lowered, has_field, has_core, compare_core, core, nodes, sized, unless_fault, typed}
+use Rattle.tql_types.specs.Sorts.{field_in, sort_of}
+use Rattle.tql_types.specs.Clocks.{base_of, base_in, clock_of, later, day, day_of_term, turned, half_line, times_core}
+use Rattle.tql_types.specs.Core.{binder_fault, inner_scope, first_fault, num_field, num_of, text_field, text_of, lowered, has_field, has_core, compare_core, core, nodes, unless_fault, typed}
 use Rattle.tql_types.specs.declared.checker.TheConstants.{NODE_LIMIT}
 
 -- the numbers of a scope's variables are among these

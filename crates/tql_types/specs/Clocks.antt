@@ -3,7 +3,6 @@ use Rattle.std.specs.Prelude.{ℕ, ℤ, pos, neg_ℤ, ◌+ℤ◌, List, Option, 
 use Rattle.tap_base.specs.declared.numbers.Op.{Op}
 use Rattle.tap_base.specs.declared.numbers.Op.TheVariants.{Eq, Ne, Lt, Le, Gt, Ge}
 use Rattle.tap_base.specs.Numbers.{moment_of}
-use Rattle.tql_tree.specs.declared.shift.Shift.{Shift}
 use Rattle.tql_tree.specs.declared.expr.Expr.{Expr}
 use Rattle.tql_tree.specs.declared.expr.Expr.TheVariants as E
 use Rattle.tql_core.specs.declared.term.Var.{Var}

@@ -1,18 +1,15 @@
 -- The first fault of a query, and the condition that it is where it has none.
-use Rattle.std.specs.Prelude.{ℕ, ◌+◌, pos, List, [], ◌∷◌, Bool, nat_le, nat_lt, Option, Some, None, Result, Ok, Err, is_some, if◌then◌else◌}
+use Rattle.std.specs.Prelude.{ℕ, ◌+◌, pos, List, [], nat_le, nat_lt, Option, Some, None, Result, Ok, Err, is_some, if◌then◌else◌}
 use Rattle.std.specs.Str.{str_to_ascii_lowercase}
 use Rattle.tap_base.specs.declared.numbers.Op.{Op}
 use Rattle.tql_tree.specs.declared.table.Table.{Table}
 use Rattle.tql_tree.specs.declared.expr.Expr.{Expr}
 use Rattle.tql_tree.specs.declared.expr.Expr.TheVariants as E
 use Rattle.tql_tree.specs.Syntax.{Syntax, True, False, Or, And, Not, Exists, Compare, Has}
-use Rattle.tql_core.specs.declared.term.Var.{Var}
 use Rattle.tql_core.specs.declared.atom.NumExpr.{NumExpr}
 use Rattle.tql_core.specs.declared.atom.NumExpr.TheVariants as N
 use Rattle.tql_core.specs.declared.atom.TextExpr.{TextExpr}
 use Rattle.tql_core.specs.declared.atom.TextExpr.TheVariants as X
-use Rattle.tql_core.specs.declared.atom.ListField.{ListField}
-use Rattle.tql_core.specs.declared.atom.Atom.{Atom}
 use Rattle.tql_core.specs.declared.atom.Atom.TheVariants as A
 use Rattle.tql_core.specs.Condition as C
 use Rattle.tql_core.specs.Condition.{Condition, Always, Never, Plain, NowAtLeast, NowBefore, All, Either}
@@ -20,7 +17,7 @@ use Rattle.tql_types.specs.declared.scope.Variable.{Variable}
 use Rattle.tql_types.specs.declared.field.Field.{Field}
 use Rattle.tql_types.specs.declared.field.Field.TheVariants as F
 use Rattle.tql_types.specs.declared.sort.Sort.{Sort}
-use Rattle.tql_types.specs.declared.sort.Sort.TheVariants.{Number, Text, Time, List as Texts, Now, Today}
+use Rattle.tql_types.specs.declared.sort.Sort.TheVariants.{Number, Text}
 use Rattle.tql_types.specs.declared.fault.TypeFault.{TypeFault}
 use Rattle.tql_types.specs.declared.fault.TypeFault.TheVariants.{Shadow, ManyVars, ManyNodes}
 use Rattle.tql_types.specs.declared.checker.TheConstants.{NODE_LIMIT}

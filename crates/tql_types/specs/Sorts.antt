@@ -1,8 +1,6 @@
 -- What an expression is, and its faults.
 use Rattle.std.specs.Prelude.{ℕ, List, Bool, true, false, Option, Some, None, is_some, ◌||◌, if◌then◌else◌}
-use Rattle.std.specs.Option.{option_and_then}
 use Rattle.tap_base.specs.Numbers.{moment_of}
-use Rattle.tql_tree.specs.declared.table.Table.{Table}
 use Rattle.tql_tree.specs.declared.shift.Shift.{Shift}
 use Rattle.tql_tree.specs.declared.expr.Expr.{Expr}
 use Rattle.tql_tree.specs.declared.expr.Expr.TheVariants as E

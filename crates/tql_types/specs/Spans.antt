@@ -1,5 +1,5 @@
 -- Durations: how far a time is shifted.
-use Rattle.std.specs.Prelude.{ℕ, ℤ, pos, neg_ℤ, ◌*ℤ◌, Bool, ◌&&◌, int_le, int_lt, Option, Some, None, if◌then◌else◌}
+use Rattle.std.specs.Prelude.{ℕ, ℤ, pos, neg_ℤ, ◌*ℤ◌, ◌&&◌, int_le, int_lt, Option, Some, None, if◌then◌else◌}
 use Rattle.tql_tree.specs.declared.shift.Unit.{Unit}
 use Rattle.tql_tree.specs.declared.shift.Unit.TheVariants.{Seconds, Minutes, Hours, Days}
 use Rattle.tql_tree.specs.declared.shift.Shift.{Shift}

@@ -1,5 +1,5 @@
-use Rattle.std.proofs.Common.{◌≡◌, sym, subst}
-use Rattle.time_marks.specs.Distinct.{distinct_probes, HasSameMeaning}
+use Rattle.std.proofs.Common.{sym, subst}
+use Rattle.time_marks.specs.Distinct.{HasSameMeaning}
 use Rattle.time_marks.specs.Views.{probes_of}
 use Rattle.time_marks.proofs.Repeats.{repeats_find_nothing}
 use Rattle.incremental_rewrite.proofs.Kept.{solved_kept, solved_probes}

@@ -1,6 +1,4 @@
-use Rattle.std.proofs.Common.{◌≡◌, ◌∙◌, sym, true, false}
-use Rattle.std.specs.List.{list_any}
-use Rattle.incremental_rewrite.specs.Solved.{same_numbers, part_probes}
+use Rattle.std.proofs.Common.{◌∙◌, sym}
 use Rattle.incremental_rewrite.proofs.Kept.{kept_there, kept_new}
 use Rattle.incremental_rewrite.proofs.ranges.keep.Goals as goal
 

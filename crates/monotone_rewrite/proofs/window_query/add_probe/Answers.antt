@@ -1,12 +1,7 @@
-use Rattle.std.proofs.Common.{◌≡◌, ◌∙◌, rules, ap, true, [], ◌∷◌, ◌++◌}
-use Rattle.std.specs.List.{filter}
 use Rattle.tql_core.specs.Condition.{condition}
-use Rattle.tql_core.specs.Trees.{tree_at}
 use Rattle.time_marks.specs.Marks.{body}
-use Rattle.time_marks.specs.Views.{probes_in}
 use Rattle.monotone_rewrite.specs.Folding.{fold}
-use Rattle.monotone_rewrite.specs.Query.{can_find}
-use Rattle.monotone_rewrite.proofs.SharedNodes.{all_kept, same_probes, probe_added}
+use Rattle.monotone_rewrite.proofs.SharedNodes.{all_kept, probe_added}
 use Rattle.monotone_rewrite.proofs.window_query.add_probe.Goals as goal
 
 pub push_probe-requires-clause-kept : goal.push_probe-requires-clause-kept

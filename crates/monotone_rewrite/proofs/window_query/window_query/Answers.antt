@@ -1,11 +1,10 @@
-use Rattle.std.proofs.Common.{◌≡◌, ◌∙◌, rules, refl, true, drop, drop-cons, add-one, ap, sym, subst, ◌∷◌, ◌+◌}
+use Rattle.std.proofs.Common.{◌≡◌, rules, refl, true, drop, drop-cons, sym, subst, ◌∷◌, ◌+◌}
 use Rattle.std.proofs.lemmas.Bool.{and_parts}
 use Rattle.tql_core.specs.Condition.{condition}
-use Rattle.time_marks.specs.Kept.{are_kept}
 use Rattle.time_marks.specs.Marks.{rising_from}
 use Rattle.time_marks.specs.Views.{probes_in}
 use Rattle.monotone_rewrite.proofs.Bounded.{bounded_marks, rising_bounded}
-use Rattle.monotone_rewrite.proofs.ProbeLists.{probes_for, next_mark}
+use Rattle.monotone_rewrite.proofs.ProbeLists.{next_mark}
 use Rattle.monotone_rewrite.proofs.window_query.window_query.Goals as goal
 
 pub loop-mark-init : goal.loop-mark-init
