@@ -1,0 +1,9 @@
+pub mod Casts
+pub mod Steps
+pub mod InsertTexts
+pub mod InsertDoc
+pub mod InsertNote
+pub mod InsertQuery
+pub mod InsertRun
+pub mod InsertPick
+pub mod InsertFilter

@@ -1,0 +1,98 @@
+-- How a database holds the rows of the store, and what the calls of this crate do to it.
+use Rattle.std.specs.Prelude.{◌≡◌, ◌⊎◌, ℕ, ℤ, pos, List, [], ◌∷◌, map, IsTrue, Bool, true, false, Result, Ok, Err}
+use Rattle.tap_rows.specs.declared.tables.Tables.{Tables}
+use Rattle.tap_rows.specs.Tables.{no_rows}
+use Rattle.sqlite_value.specs.declared.value.Value.TheVariants.{Null, Int}
+use Rattle.sqlite_value.specs.Order.{Row}
+use Rattle.sqlite_trees.specs.Tree.{Trees, put_row}
+use Rattle.sqlite_keyed.specs.Keyed.{IsKeyedBy}
+use Rattle.sqlite.specs.Effect.{Database, IsDatabase}
+use Rattle.sqlite.specs.State.{State, HasCleanDisk}
+use Rattle.keeper_sql.specs.Schema.{store_schema, no_schema}
+pub use Rattle.keeper_sql.specs.RowsAsValues.{only, tables_in, tables_of}
+
+-- the rows of a tree, after these were put one by one
+abbrev pub put_all : List Row → List Row → List Row
+put_all [] tree = tree
+put_all (row ∷ rows) tree = put_all rows (put_row row tree)
+
+-- these rows were put into the trees of the store
+pub record Puts (rows : ℕ → List Row) (old new : Database) : Type 0 where
+  pub sound : IsDatabase old → IsDatabase new
+  pub schema : new.schema ≡ store_schema
+  pub meta : new.trees 0 ≡ put_all (rows 0) (old.trees 0)
+  pub docs : new.trees 1 ≡ put_all (rows 1) (old.trees 1)
+  pub notes : new.trees 2 ≡ put_all (rows 2) (old.trees 2)
+  pub queries : new.trees 3 ≡ put_all (rows 3) (old.trees 3)
+  pub runs : new.trees 4 ≡ put_all (rows 4) (old.trees 4)
+  pub picks : new.trees 5 ≡ put_all (rows 5) (old.trees 5)
+  pub filters : new.trees 6 ≡ put_all (rows 6) (old.trees 6)
+
+-- ---- within a transaction
+
+-- the transaction goes on, and these rows were put
+pub record Went (rows : ℕ → List Row) (old new : State) : Type 0 where
+  pub was_open : IsTrue new.is_open → IsTrue old.is_open
+  pub is_open : IsTrue old.is_open → IsTrue new.is_open
+  pub mode : new.in_transaction ≡ true
+  pub committed : new.committed ≡ old.committed
+  pub puts : old.now.schema ≡ store_schema → Puts rows old.now new.now
+
+-- a statement was refused, or a failure ended the transaction: nothing is committed
+pub record Undone (old new : State) : Type 0 where
+  pub was_open : IsTrue new.is_open → IsTrue old.is_open
+  pub committed : IsTrue new.is_open → new.committed ≡ old.committed
+
+-- ---- the tables that a store tells
+
+-- a row by its key and the rest
+abbrev pub Cells : Type 0
+Cells = ℤ × Row
+
+abbrev pub as_row : Cells → Row
+as_row x = Int x.0 ∷ x.1
+
+-- the rows stand in order of their keys
+abbrev pub AreKeyed : List Row → Type 0
+AreKeyed rows = (xs : List Cells) × (rows ≡ map as_row xs) × IsKeyedBy (λ (x : Cells). x.0) xs
+
+-- it has the store's tables, each in order of its keys
+pub record HoldsStore (db : Database) : Type 0 where
+  pub sound : IsDatabase db
+  pub schema : db.schema ≡ store_schema
+  pub docs : AreKeyed (db.trees 1)
+  pub notes : AreKeyed (db.trees 2)
+  pub queries : AreKeyed (db.trees 3)
+  pub runs : AreKeyed (db.trees 4)
+  pub picks : AreKeyed (db.trees 5)
+  pub filters : AreKeyed (db.trees 6)
+
+-- the store is clean and open, and holds these tables
+pub record Tells (s : State) (t : Tables) : Type 0 where
+  pub clean : HasCleanDisk s
+  pub is_open : IsTrue s.is_open
+  pub holds : HoldsStore s.now
+  pub tables : t ≡ tables_of s.now.trees
+
+-- it is clean and open, and has no table
+pub record TellsNone (s : State) (t : Tables) : Type 0 where
+  pub clean : HasCleanDisk s
+  pub is_open : IsTrue s.is_open
+  pub sound : IsDatabase s.now
+  pub schema : s.now.schema ≡ no_schema
+  pub tables : t ≡ tables_of s.now.trees
+
+-- before the store is attached, it may have no tables yet
+abbrev pub TellsAs : Bool → State → Tables → Type 0
+TellsAs true s t = Tells s t
+TellsAs false s t = Tells s t ⊎ TellsNone s t
+
+-- a crash may leave these tables
+abbrev pub MayLeave : State → Tables → Type 0
+MayLeave s t = (db : Trees) × s.may_leave db × (t ≡ tables_of db)
+
+-- it tells this version
+pub record HasVersion (s : State) (v : ℤ) : Type 0 where
+  pub clean : HasCleanDisk s
+  pub is_open : IsTrue s.is_open
+  pub row : ((s.now.schema ≡ no_schema) × (v ≡ pos 2)) ⊎ ((s.now.schema ≡ store_schema) × (s.now.trees 0 ≡ (Int (pos 1) ∷ Null ∷ Int v ∷ []) ∷ []))

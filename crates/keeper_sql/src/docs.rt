@@ -1,0 +1,52 @@
+//! The table `docs`.
+
+ghost use Rattle.std.specs.Prelude.{◌≡◌, [], ◌∷◌, map, IsTrue, OnOk, OnErr};
+ghost use Rattle.sqlite.specs.Held.{state};
+ghost use Rattle.sqlite.specs.State.{HasCleanDisk, Survives};
+ghost use Rattle.sqlite.specs.Values.{bound};
+ghost use Rattle.keeper_sql.specs.RowsAsValues.{given_doc, as_kept};
+ghost use Rattle.keeper_sql.specs.Store.{only, Went, Undone};
+
+use sqlite::types::ValueRef;
+use sqlite::{Alter, Error, Transaction};
+use tap_rows::Doc;
+
+fn doc_values(doc: &Doc) -> [ValueRef<'_>; 3]
+    ensures { bound result ≡ given_doc doc.now }
+{
+    [
+        ValueRef::Int(i64::from(doc.num.0)),
+        ValueRef::Int(doc.arrival),
+        ValueRef::Blob(doc.text.as_slice()),
+    ]
+}
+
+/// Adds a document.
+pub fn insert_doc<S: Alter>(tx: &mut Transaction<'_, S>, doc: &Doc) -> Result<(), Error>
+    ensures same_reference { tx.new.conn.ghost_name ≡ tx.old.conn.ghost_name }
+    ensures ok { HasCleanDisk (state S.Store tx.new.conn.now) → IsTrue (state S.Store tx.old.conn.now).in_transaction → OnOk result (Went (only 1 (as_kept (given_doc doc.now) ∷ [])) (state S.Store tx.old.conn.now) (state S.Store tx.new.conn.now)) }
+    ensures err { HasCleanDisk (state S.Store tx.new.conn.now) → IsTrue (state S.Store tx.old.conn.now).in_transaction → OnErr result (Undone (state S.Store tx.old.conn.now) (state S.Store tx.new.conn.now)) }
+    ensures survives { Survives (state S.Store tx.old.conn.now) (state S.Store tx.new.conn.now) (λ _. ⊥) }
+{
+    let values = doc_values(doc);
+    match tx.execute(
+        "INSERT INTO docs (num, arrival, body) VALUES (?1, ?2, ?3)",
+        &values,
+    ) {
+        Ok(_) => Ok(()),
+        Err(error) => Err(error),
+    }
+}
+
+/// Adds the documents, in their order.
+pub fn insert_docs<S: Alter>(tx: &mut Transaction<'_, S>, docs: &[Doc]) -> Result<(), Error>
+    ensures same_reference { tx.new.conn.ghost_name ≡ tx.old.conn.ghost_name }
+    ensures ok { HasCleanDisk (state S.Store tx.new.conn.now) → IsTrue (state S.Store tx.old.conn.now).in_transaction → OnOk result (Went (only 1 (map (λ x. as_kept (given_doc x)) docs.now)) (state S.Store tx.old.conn.now) (state S.Store tx.new.conn.now)) }
+    ensures err { HasCleanDisk (state S.Store tx.new.conn.now) → IsTrue (state S.Store tx.old.conn.now).in_transaction → OnErr result (Undone (state S.Store tx.old.conn.now) (state S.Store tx.new.conn.now)) }
+    ensures survives { Survives (state S.Store tx.old.conn.now) (state S.Store tx.new.conn.now) (λ _. ⊥) }
+{
+    'adds: for doc in docs {
+        insert_doc(tx, doc)?;
+    }
+    Ok(())
+}
