@@ -1,5 +1,6 @@
 pub mod Casts
 pub mod Steps
+pub mod ReadBack
 pub mod InsertTexts
 pub mod InsertDoc
 pub mod InsertNote

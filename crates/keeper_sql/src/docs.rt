@@ -1,10 +1,10 @@
 //! The table `docs`.
 
-ghost use Rattle.std.specs.Prelude.{◌≡◌, [], ◌∷◌, map, IsTrue, OnOk, OnErr};
+ghost use Rattle.std.specs.Prelude.{◌≡◌, ◌<◌, ◌^◌, [], ◌∷◌, map, IsTrue, OnOk, OnErr};
 ghost use Rattle.sqlite.specs.Held.{state};
 ghost use Rattle.sqlite.specs.State.{HasCleanDisk, Survives};
 ghost use Rattle.sqlite.specs.Values.{bound};
-ghost use Rattle.keeper_sql.specs.RowsAsValues.{given_doc, as_kept};
+ghost use Rattle.keeper_sql.specs.RowsAsValues.{given_doc, doc_in, as_kept};
 ghost use Rattle.keeper_sql.specs.Store.{only, Went, Undone};
 
 use sqlite::types::ValueRef;
@@ -12,7 +12,8 @@ use sqlite::{Alter, Error, Transaction};
 use tap_rows::Doc;
 
 fn doc_values(doc: &Doc) -> [ValueRef<'_>; 3]
-    ensures { bound result ≡ given_doc doc.now }
+    ensures given { bound result ≡ given_doc doc.now }
+    ensures range { doc.now.num.0 < 2 ^ 32 }
 {
     [
         ValueRef::Int(i64::from(doc.num.0)),
@@ -27,6 +28,7 @@ pub fn insert_doc<S: Alter>(tx: &mut Transaction<'_, S>, doc: &Doc) -> Result<()
     ensures ok { HasCleanDisk (state S.Store tx.new.conn.now) → IsTrue (state S.Store tx.old.conn.now).in_transaction → OnOk result (Went (only 1 (as_kept (given_doc doc.now) ∷ [])) (state S.Store tx.old.conn.now) (state S.Store tx.new.conn.now)) }
     ensures err { HasCleanDisk (state S.Store tx.new.conn.now) → IsTrue (state S.Store tx.old.conn.now).in_transaction → OnErr result (Undone (state S.Store tx.old.conn.now) (state S.Store tx.new.conn.now)) }
     ensures survives { Survives (state S.Store tx.old.conn.now) (state S.Store tx.new.conn.now) (λ _. ⊥) }
+    ensures read { OnOk result (doc_in (as_kept (given_doc doc.now)) ≡ doc.now) }
 {
     let values = doc_values(doc);
     match tx.execute(
@@ -44,6 +46,7 @@ pub fn insert_docs<S: Alter>(tx: &mut Transaction<'_, S>, docs: &[Doc]) -> Resul
     ensures ok { HasCleanDisk (state S.Store tx.new.conn.now) → IsTrue (state S.Store tx.old.conn.now).in_transaction → OnOk result (Went (only 1 (map (λ x. as_kept (given_doc x)) docs.now)) (state S.Store tx.old.conn.now) (state S.Store tx.new.conn.now)) }
     ensures err { HasCleanDisk (state S.Store tx.new.conn.now) → IsTrue (state S.Store tx.old.conn.now).in_transaction → OnErr result (Undone (state S.Store tx.old.conn.now) (state S.Store tx.new.conn.now)) }
     ensures survives { Survives (state S.Store tx.old.conn.now) (state S.Store tx.new.conn.now) (λ _. ⊥) }
+    ensures read { OnOk result (map doc_in (map (λ x. as_kept (given_doc x)) docs.now) ≡ docs.now) }
 {
     'adds: for doc in docs {
         insert_doc(tx, doc)?;

@@ -1,10 +1,10 @@
 //! The table `filters`.
 
-ghost use Rattle.std.specs.Prelude.{◌≡◌, [], ◌∷◌, map, IsTrue, OnOk, OnErr};
+ghost use Rattle.std.specs.Prelude.{◌≡◌, ◌<◌, ◌^◌, [], ◌∷◌, map, IsTrue, OnOk, OnErr};
 ghost use Rattle.sqlite.specs.Held.{state};
 ghost use Rattle.sqlite.specs.State.{HasCleanDisk, Survives};
 ghost use Rattle.sqlite.specs.Values.{bound};
-ghost use Rattle.keeper_sql.specs.RowsAsValues.{given_filter, as_kept};
+ghost use Rattle.keeper_sql.specs.RowsAsValues.{given_filter, filter_in, as_kept};
 ghost use Rattle.keeper_sql.specs.Store.{only, Went, Undone};
 
 use sqlite::types::ValueRef;
@@ -12,7 +12,8 @@ use sqlite::{Alter, Error, Transaction};
 use tap_rows::FilterRow;
 
 fn filter_values(filter: &FilterRow) -> [ValueRef<'_>; 4]
-    ensures { bound result ≡ given_filter filter.now }
+    ensures given { bound result ≡ given_filter filter.now }
+    ensures range { filter.now.num < 2 ^ 32 }
 {
     [
         ValueRef::Int(i64::from(filter.num)),
@@ -28,6 +29,7 @@ pub fn insert_filter<S: Alter>(tx: &mut Transaction<'_, S>, filter: &FilterRow) 
     ensures ok { HasCleanDisk (state S.Store tx.new.conn.now) → IsTrue (state S.Store tx.old.conn.now).in_transaction → OnOk result (Went (only 6 (as_kept (given_filter filter.now) ∷ [])) (state S.Store tx.old.conn.now) (state S.Store tx.new.conn.now)) }
     ensures err { HasCleanDisk (state S.Store tx.new.conn.now) → IsTrue (state S.Store tx.old.conn.now).in_transaction → OnErr result (Undone (state S.Store tx.old.conn.now) (state S.Store tx.new.conn.now)) }
     ensures survives { Survives (state S.Store tx.old.conn.now) (state S.Store tx.new.conn.now) (λ _. ⊥) }
+    ensures read { OnOk result (filter_in (as_kept (given_filter filter.now)) ≡ filter.now) }
 {
     let values = filter_values(filter);
     match tx.execute(

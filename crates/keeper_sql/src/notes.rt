@@ -1,10 +1,10 @@
 //! The table `notes`.
 
-ghost use Rattle.std.specs.Prelude.{◌≡◌, [], ◌∷◌, map, IsTrue, OnOk, OnErr};
+ghost use Rattle.std.specs.Prelude.{◌≡◌, ◌<◌, ◌^◌, [], ◌∷◌, map, IsTrue, OnOk, OnErr};
 ghost use Rattle.sqlite.specs.Held.{state};
 ghost use Rattle.sqlite.specs.State.{HasCleanDisk, Survives};
 ghost use Rattle.sqlite.specs.Values.{bound};
-ghost use Rattle.keeper_sql.specs.RowsAsValues.{given_note, as_kept};
+ghost use Rattle.keeper_sql.specs.RowsAsValues.{given_note, note_in, as_kept};
 ghost use Rattle.keeper_sql.specs.Store.{only, Went, Undone};
 
 use sqlite::types::ValueRef;
@@ -12,7 +12,8 @@ use sqlite::{Alter, Error, Transaction};
 use tap_rows::Note;
 
 fn note_values(note: &Note) -> [ValueRef<'_>; 7]
-    ensures { bound result ≡ given_note note.now }
+    ensures given { bound result ≡ given_note note.now }
+    ensures range { (note.now.num.0 < 2 ^ 32) × (note.now.doc.0 < 2 ^ 32) }
 {
     [
         ValueRef::Int(i64::from(note.num.0)),
@@ -31,6 +32,7 @@ pub fn insert_note<S: Alter>(tx: &mut Transaction<'_, S>, note: &Note) -> Result
     ensures ok { HasCleanDisk (state S.Store tx.new.conn.now) → IsTrue (state S.Store tx.old.conn.now).in_transaction → OnOk result (Went (only 2 (as_kept (given_note note.now) ∷ [])) (state S.Store tx.old.conn.now) (state S.Store tx.new.conn.now)) }
     ensures err { HasCleanDisk (state S.Store tx.new.conn.now) → IsTrue (state S.Store tx.old.conn.now).in_transaction → OnErr result (Undone (state S.Store tx.old.conn.now) (state S.Store tx.new.conn.now)) }
     ensures survives { Survives (state S.Store tx.old.conn.now) (state S.Store tx.new.conn.now) (λ _. ⊥) }
+    ensures read { OnOk result (note_in (as_kept (given_note note.now)) ≡ note.now) }
 {
     let values = note_values(note);
     match tx.execute(

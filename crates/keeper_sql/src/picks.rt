@@ -1,10 +1,10 @@
 //! The table `picks`.
 
-ghost use Rattle.std.specs.Prelude.{◌≡◌, [], ◌∷◌, map, IsTrue, OnOk, OnErr};
+ghost use Rattle.std.specs.Prelude.{◌≡◌, ◌<◌, ◌^◌, [], ◌∷◌, map, IsTrue, OnOk, OnErr};
 ghost use Rattle.sqlite.specs.Held.{state};
 ghost use Rattle.sqlite.specs.State.{HasCleanDisk, Survives};
 ghost use Rattle.sqlite.specs.Values.{bound};
-ghost use Rattle.keeper_sql.specs.RowsAsValues.{given_pick, as_kept};
+ghost use Rattle.keeper_sql.specs.RowsAsValues.{given_pick, pick_in, as_kept};
 ghost use Rattle.keeper_sql.specs.Store.{only, Went, Undone};
 
 use sqlite::types::ValueRef;
@@ -12,7 +12,8 @@ use sqlite::{Alter, Error, Transaction};
 use tap_rows::Pick;
 
 fn pick_values(pick: &Pick) -> [ValueRef<'_>; 5]
-    ensures { bound result ≡ given_pick pick.now }
+    ensures given { bound result ≡ given_pick pick.now }
+    ensures range { (pick.now.num < 2 ^ 32) × (pick.now.query.0 < 2 ^ 32) × (pick.now.run < 2 ^ 32) × (pick.now.doc.0 < 2 ^ 32) }
 {
     [
         ValueRef::Int(i64::from(pick.num)),
@@ -29,6 +30,7 @@ pub fn insert_pick<S: Alter>(tx: &mut Transaction<'_, S>, pick: &Pick) -> Result
     ensures ok { HasCleanDisk (state S.Store tx.new.conn.now) → IsTrue (state S.Store tx.old.conn.now).in_transaction → OnOk result (Went (only 5 (as_kept (given_pick pick.now) ∷ [])) (state S.Store tx.old.conn.now) (state S.Store tx.new.conn.now)) }
     ensures err { HasCleanDisk (state S.Store tx.new.conn.now) → IsTrue (state S.Store tx.old.conn.now).in_transaction → OnErr result (Undone (state S.Store tx.old.conn.now) (state S.Store tx.new.conn.now)) }
     ensures survives { Survives (state S.Store tx.old.conn.now) (state S.Store tx.new.conn.now) (λ _. ⊥) }
+    ensures read { OnOk result (pick_in (as_kept (given_pick pick.now)) ≡ pick.now) }
 {
     let values = pick_values(pick);
     match tx.execute(
@@ -46,6 +48,7 @@ pub fn insert_picks<S: Alter>(tx: &mut Transaction<'_, S>, picks: &[Pick]) -> Re
     ensures ok { HasCleanDisk (state S.Store tx.new.conn.now) → IsTrue (state S.Store tx.old.conn.now).in_transaction → OnOk result (Went (only 5 (map (λ x. as_kept (given_pick x)) picks.now)) (state S.Store tx.old.conn.now) (state S.Store tx.new.conn.now)) }
     ensures err { HasCleanDisk (state S.Store tx.new.conn.now) → IsTrue (state S.Store tx.old.conn.now).in_transaction → OnErr result (Undone (state S.Store tx.old.conn.now) (state S.Store tx.new.conn.now)) }
     ensures survives { Survives (state S.Store tx.old.conn.now) (state S.Store tx.new.conn.now) (λ _. ⊥) }
+    ensures read { OnOk result (map pick_in (map (λ x. as_kept (given_pick x)) picks.now) ≡ picks.now) }
 {
     'adds: for pick in picks {
         insert_pick(tx, pick)?;

@@ -6,8 +6,9 @@ use Rattle.sqlite.specs.Held.{state}
 use Rattle.sqlite.specs.State.{HasCleanDisk, Survives}
 use Rattle.sqlite.proofs.StateLemmas.{survives_then}
 use Rattle.tap_rows.specs.declared.rows.Doc.{Doc}
-use Rattle.keeper_sql.specs.RowsAsValues.{given_doc, as_kept, only}
-use Rattle.keeper_sql.proofs.Steps.{went_then, went_undone, only_both}
+use Rattle.keeper_sql.specs.RowsAsValues.{given_doc, doc_in, as_kept, only}
+use Rattle.keeper_sql.proofs.Steps.{went_then, only_both}
+use Rattle.keeper_sql.proofs.ReadBack.{read_more}
 use Rattle.keeper_sql.proofs.docs.insert_docs.Goals as goal
 
 pub adds-preserved : goal.adds-preserved
@@ -20,8 +21,12 @@ adds-preserved g c =
     let first : List Doc = take c.adds.doc-index c.args.docs.now in
     let item : Doc = c.doc-item.result in
     let more : take (c.adds.doc-index + 1) c.args.docs.now ≡ first ++ item ∷ [] = grind (arith, common_steps) in
-    let rows : map f (take (c.adds.doc-index + 1) c.args.docs.now) ≡ map f first ++ f item ∷ [] = ap (map f) more ∙ map-append f first (item ∷ []) in
-    (c.insert_doc.ensures.same_reference ∙ c.adds.invariant.0, survives, λ clean inside.
-        let early : HasCleanDisk mid = omega (arith, c.insert_doc.ensures.survives.clean) in
-        let was = c.adds.invariant.2 early inside in
-        went_then (only 1 (map f first)) (only 1 (f item ∷ [])) _ old mid new (only_both 1 (map f first) (f item ∷ []) _ rows) was (c.in_ok-insert_doc.ensures.ok clean was.mode))
+    let rows : map f (take (c.adds.doc-index + 1) c.args.docs.now) ≡ map f first ++ f item ∷ [] = ap (map f) more ∙ map-append f first (item ∷ []) in (
+      c.insert_doc.ensures.same_reference ∙ c.adds.invariant.0,
+      survives,
+      λ clean inside.
+          let early : HasCleanDisk mid = omega (arith, c.insert_doc.ensures.survives.clean) in
+          let was = c.adds.invariant.2 early inside in
+          went_then (only 1 (map f first)) (only 1 (f item ∷ [])) _ old mid new (only_both 1 (map f first) (f item ∷ []) _ rows) was (c.in_ok-insert_doc.ensures.ok clean was.mode),
+      read_more doc_in f first item _ _ rows more c.adds.invariant.3 c.in_ok-insert_doc.ensures.read,
+    )
