@@ -1,5 +1,5 @@
 -- The rows of the store as a statement is given them, as a tree keeps them, and as they are read from it.
-use Rattle.std.specs.Prelude.{◌+◌, ◌-◌, ◌^◌, ℕ, ℤ, pos, negsuc, nat_lt, if◌then◌else◌, ◌==◌, List, [], ◌∷◌, ◌++◌, map, filter}
+use Rattle.std.specs.Prelude.{◌≡◌, ◌+◌, ◌-◌, ◌^◌, ℕ, ℤ, pos, negsuc, nat_lt, if◌then◌else◌, ◌==◌, List, [], ◌∷◌, ◌++◌, map, filter}
 use Rattle.tap_rows.specs.declared.rows.Doc.{Doc}
 use Rattle.tap_rows.specs.declared.rows.Note.{Note}
 use Rattle.tap_rows.specs.declared.rows.QueryRow.{QueryRow}
@@ -130,9 +130,21 @@ tables_of db = tables_listed (filter is_table_row (db catalog_tree)) db
 abbrev pub only : ℕ → List Row → ℕ → List Row
 only tree rows t = if t == tree then rows else []
 
+-- the rows of two writes, one after the other
+abbrev pub both : (ℕ → List Row) → (ℕ → List Row) → ℕ → List Row
+both first second t = first t ++ second t
+
 abbrev pub rows_of : Change → ℕ → List Row
-rows_of (Docs docs) t = only 1 (map (λ d. as_kept (given_doc d)) docs) t
-rows_of (OneNote note) t = only 2 (as_kept (given_note note) ∷ []) t
-rows_of (OneQuery query) t = only 3 (as_kept (given_query query) ∷ []) t
-rows_of (RunDone run picks) t = only 4 (as_kept (given_run run) ∷ []) t ++ only 5 (map (λ p. as_kept (given_pick p)) picks) t
-rows_of (OneFilter filter) t = only 6 (as_kept (given_filter filter) ∷ []) t
+rows_of (Docs docs) = only 1 (map (λ d. as_kept (given_doc d)) docs)
+rows_of (OneNote note) = only 2 (as_kept (given_note note) ∷ [])
+rows_of (OneQuery query) = only 3 (as_kept (given_query query) ∷ [])
+rows_of (RunDone run picks) = both (only 4 (as_kept (given_run run) ∷ [])) (only 5 (map (λ p. as_kept (given_pick p)) picks))
+rows_of (OneFilter filter) = only 6 (as_kept (given_filter filter) ∷ [])
+
+-- the rows of a change are read back as they were written
+abbrev pub IsReadBack : Change → Type 0
+IsReadBack (Docs docs) = map doc_in (map (λ d. as_kept (given_doc d)) docs) ≡ docs
+IsReadBack (OneNote note) = note_in (as_kept (given_note note)) ≡ note
+IsReadBack (OneQuery query) = query_in (as_kept (given_query query)) ≡ query
+IsReadBack (RunDone run picks) = (run_in (as_kept (given_run run)) ≡ run) × (map pick_in (map (λ p. as_kept (given_pick p)) picks) ≡ picks)
+IsReadBack (OneFilter filter) = filter_in (as_kept (given_filter filter)) ≡ filter

@@ -43,6 +43,23 @@ pub record Undone (old new : State) : Type 0 where
   pub was_open : IsTrue new.is_open → IsTrue old.is_open
   pub committed : IsTrue new.is_open → new.committed ≡ old.committed
 
+-- ---- a whole transaction
+
+-- these rows were put and committed
+pub record Commits (rows : ℕ → List Row) (old new : State) : Type 0 where
+  pub was_open : IsTrue old.is_open
+  pub is_open : IsTrue new.is_open
+  pub committed : new.committed ≡ new.now
+  pub puts : old.now.schema ≡ store_schema → Puts rows old.now new.now
+
+-- trees of a database into which these rows were put
+abbrev pub IsAfter : (ℕ → List Row) → State → Trees → Type 0
+IsAfter rows old trees = (db : Database) × (old.now.schema ≡ store_schema → Puts rows old.now db) × (trees ≡ db.trees)
+
+-- a crash leaves these trees alone
+abbrev pub LeavesAlone : State → Trees → Type 0
+LeavesAlone s db = (trees : Trees) → s.may_leave trees → trees ≡ db
+
 -- ---- the tables that a store tells
 
 -- a row by its key and the rest

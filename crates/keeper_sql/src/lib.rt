@@ -1,6 +1,7 @@
 //! The keeper over SQL.
 #![tactic(auto)]
 
+mod change;
 mod docs;
 mod filters;
 mod notes;
