@@ -1,6 +1,8 @@
 pub mod Casts
 pub mod Steps
 pub mod ReadBack
+pub mod Appending
+pub mod Numbered
 pub mod InsertTexts
 pub mod InsertDoc
 pub mod InsertNote
