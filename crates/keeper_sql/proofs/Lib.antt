@@ -3,6 +3,7 @@ pub mod Steps
 pub mod ReadBack
 pub mod Appending
 pub mod Numbered
+pub mod TablesAfter
 pub mod InsertTexts
 pub mod InsertDoc
 pub mod InsertNote
