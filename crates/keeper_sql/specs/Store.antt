@@ -10,6 +10,8 @@ use Rattle.sqlite.specs.Effect.{Database, IsDatabase}
 use Rattle.sqlite.specs.State.{State, HasCleanDisk}
 use Rattle.keeper_sql.specs.Schema.{store_schema, no_schema}
 pub use Rattle.keeper_sql.specs.RowsAsValues.{only, tables_in, tables_of}
+use Rattle.keeper_sql.specs.RowsAsValues.{rows_of, IsReadBack}
+use Rattle.tap_rows.specs.declared.change.Change.{Change}
 
 -- the rows of a tree, after these were put one by one
 abbrev pub put_all : List Row → List Row → List Row
@@ -52,9 +54,12 @@ pub record Commits (rows : ℕ → List Row) (old new : State) : Type 0 where
   pub committed : new.committed ≡ new.now
   pub puts : old.now.schema ≡ store_schema → Puts rows old.now new.now
 
--- trees of a database into which these rows were put
-abbrev pub IsAfter : (ℕ → List Row) → State → Trees → Type 0
-IsAfter rows old trees = (db : Database) × (old.now.schema ≡ store_schema → Puts rows old.now db) × (trees ≡ db.trees)
+-- trees of a database into which the rows of a change were put
+pub record IsAfter (change : Change) (old : State) (trees : Trees) : Type 0 where
+  pub read : IsReadBack change
+  pub db : Database
+  pub puts : old.now.schema ≡ store_schema → Puts (rows_of change) old.now db
+  pub is : trees ≡ db.trees
 
 -- a crash leaves these trees alone
 abbrev pub LeavesAlone : State → Trees → Type 0

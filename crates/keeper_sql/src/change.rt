@@ -60,7 +60,7 @@ pub fn commit_change<S: Alter>(conn: &mut Connection<S>, change: &Change) -> Res
     ensures settled { HasCleanDisk (state S.Store conn.new) → OnOk result (LeavesAlone (state S.Store conn.new) (state S.Store conn.new).now.trees) }
     ensures was_open { HasCleanDisk (state S.Store conn.new) → OnErr result (IsTrue (state S.Store conn.new).is_open → IsTrue (state S.Store conn.old).is_open) }
     ensures undone { HasCleanDisk (state S.Store conn.new) → OnErr result (IsTrue (state S.Store conn.new).is_open → (state S.Store conn.new).now ≡ (state S.Store conn.old).committed) }
-    ensures survives { Survives (state S.Store conn.old) (state S.Store conn.new) (IsAfter (rows_of change.now) (state S.Store conn.old)) }
+    ensures survives { Survives (state S.Store conn.old) (state S.Store conn.new) (IsAfter change.now (state S.Store conn.old)) }
     ensures read { OnOk result (IsReadBack change.now) }
 {
     let mut tx = conn.transaction();

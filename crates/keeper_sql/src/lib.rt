@@ -4,6 +4,7 @@
 mod change;
 mod docs;
 mod filters;
+mod keep;
 mod notes;
 mod picks;
 mod queries;
