@@ -4,6 +4,7 @@ pub mod ReadBack
 pub mod Appending
 pub mod Numbered
 pub mod TablesAfter
+pub mod KeepLemmas
 pub mod InsertTexts
 pub mod InsertDoc
 pub mod InsertNote

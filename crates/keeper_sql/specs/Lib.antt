@@ -1,3 +1,4 @@
 pub mod Schema
 pub mod RowsAsValues
 pub mod Store
+pub mod Telling

@@ -9,3 +9,6 @@ mod notes;
 mod picks;
 mod queries;
 mod runs;
+mod sql_keeper;
+
+pub use sql_keeper::SqlKeeper;
