@@ -49,13 +49,13 @@ pub trait Keeper {
         ensures cause { result ≡ Err AttachFault.Failed → Rose (faults self.old) (faults self.new) }
         ensures honest { honest self.new → honest self.old }
 
-        // The tables: what it tells is what it gives, and what it told before unless it failed.
-        ensures given { IfOk result (λ given. (s : TableRows) → tells self.new s → (s ≡ given) × Holds (tells self.new) (may_leave self.new) s) }
+        // The tables that it told: it gives them, and still tells them unless it failed.
+        ensures given { IfOk result (λ given. honest self.new → (s : TableRows) → tells self.old s → s ≡ given) }
         ensures kept { honest self.new → (s : TableRows) → tells self.old s → stopped self.new ≡ false → Holds (tells self.new) (may_leave self.new) s }
         ensures crash { honest self.new → (s : TableRows) → tells self.old s → (x : TableRows) → may_leave self.new x → x ≡ s }
 
         // The version.
-        ensures version { OnOk result ((s : TableRows) → tells self.new s → has_version self.new (pos 2)) }
+        ensures version { OnOk result (honest self.new → (s : TableRows) → tells self.old s → has_version self.new (pos 2)) }
         ensures known { honest self.new → (v : ℤ) → has_version self.old v → OnOk result ((v ≡ pos 1) ⊎ (v ≡ pos 2)) }
         ensures alien { IfAlien result (λ v. (v ≢ pos 1) × (v ≢ pos 2) × ((w : ℤ) → has_version self.new w → w ≡ v)) }
         ensures same { IfAlien result (λ v. honest self.new → (w : ℤ) → has_version self.old w → (w ≡ v) × has_version self.new w) }
