@@ -5,6 +5,10 @@ pub mod Appending
 pub mod Numbered
 pub mod TablesAfter
 pub mod KeepLemmas
+pub mod SelectTexts
+pub mod ShownRows
+pub mod CreateTexts
+pub mod Creates
 pub mod InsertTexts
 pub mod InsertDoc
 pub mod InsertNote

@@ -22,7 +22,7 @@ use Rattle.sqlite_catalog.specs.Listing.{IsSound, IsTableRow}
 use Rattle.sqlite.specs.Effect.{Database}
 use Rattle.keeper_sql.specs.Schema.{store_schema}
 use Rattle.keeper_sql.specs.RowsAsValues.{tables_in, tables_listed, tables_of, rows_of, IsReadBack, as_kept, given_doc, doc_in, given_note, note_in, given_query, query_in, given_run, run_in, given_pick, pick_in, given_filter, filter_in}
-use Rattle.keeper_sql.specs.Store.{Puts, HoldsStore, AreKeyed, put_all}
+use Rattle.keeper_sql.specs.Store.{Puts, HoldsStore, AreKeyed, IsMeta, put_all}
 use Rattle.keeper_sql.proofs.Appending.{NumberedBy, key_number, numbered_map, append_rows, read_appended, back_numbers}
 use Rattle.keeper_sql.proofs.Numbered.{two, docs_numbered, note_numbered, notes_numbered, query_numbered, queries_numbered, run_numbered, runs_numbered, picks_numbered, filter_numbered, filters_numbered}
 
@@ -134,20 +134,20 @@ pub rows_after : (change : Change) (old new : Database) → HoldsStore old → i
     → HoldsStore new × (tables_in new.trees ≡ after (tables_in old.trees) change)
 rows_after (Docs docs) old new holds formed fit back puts =
     let docs = docs_appended old new docs holds formed (docs_numbered _ _ docs fit) back puts.docs in
-    (record { sound = puts.sound holds.sound; schema = puts.schema; docs = docs.0; notes = subst AreKeyed (sym puts.notes) holds.notes; queries = subst AreKeyed (sym puts.queries) holds.queries; runs = subst AreKeyed (sym puts.runs) holds.runs; picks = subst AreKeyed (sym puts.picks) holds.picks; filters = subst AreKeyed (sym puts.filters) holds.filters }, λ i. record { docs = docs.1 i; notes = map note_in (puts.notes i); queries = map query_in (puts.queries i); runs = map run_in (puts.runs i); picks = map pick_in (puts.picks i); filters = map filter_in (puts.filters i) })
+    (record { sound = puts.sound holds.sound; schema = puts.schema; meta = subst IsMeta (sym puts.meta) holds.meta; docs = docs.0; notes = subst AreKeyed (sym puts.notes) holds.notes; queries = subst AreKeyed (sym puts.queries) holds.queries; runs = subst AreKeyed (sym puts.runs) holds.runs; picks = subst AreKeyed (sym puts.picks) holds.picks; filters = subst AreKeyed (sym puts.filters) holds.filters }, λ i. record { docs = docs.1 i; notes = map note_in (puts.notes i); queries = map query_in (puts.queries i); runs = map run_in (puts.runs i); picks = map pick_in (puts.picks i); filters = map filter_in (puts.filters i) })
 rows_after (OneNote note) old new holds formed fit back puts =
     let notes = notes_appended old new (note ∷ []) holds formed (note_numbered _ _ _ note fit, tt) (ap (λ x. x ∷ []) back) puts.notes in
-    (record { sound = puts.sound holds.sound; schema = puts.schema; docs = subst AreKeyed (sym puts.docs) holds.docs; notes = notes.0; queries = subst AreKeyed (sym puts.queries) holds.queries; runs = subst AreKeyed (sym puts.runs) holds.runs; picks = subst AreKeyed (sym puts.picks) holds.picks; filters = subst AreKeyed (sym puts.filters) holds.filters }, λ i. record { docs = map doc_in (puts.docs i); notes = notes.1 i; queries = map query_in (puts.queries i); runs = map run_in (puts.runs i); picks = map pick_in (puts.picks i); filters = map filter_in (puts.filters i) })
+    (record { sound = puts.sound holds.sound; schema = puts.schema; meta = subst IsMeta (sym puts.meta) holds.meta; docs = subst AreKeyed (sym puts.docs) holds.docs; notes = notes.0; queries = subst AreKeyed (sym puts.queries) holds.queries; runs = subst AreKeyed (sym puts.runs) holds.runs; picks = subst AreKeyed (sym puts.picks) holds.picks; filters = subst AreKeyed (sym puts.filters) holds.filters }, λ i. record { docs = map doc_in (puts.docs i); notes = notes.1 i; queries = map query_in (puts.queries i); runs = map run_in (puts.runs i); picks = map pick_in (puts.picks i); filters = map filter_in (puts.filters i) })
 rows_after (OneQuery query) old new holds formed fit back puts =
     let queries = queries_appended old new (query ∷ []) holds formed (query_numbered _ _ _ query fit, tt) (ap (λ x. x ∷ []) back) puts.queries in
-    (record { sound = puts.sound holds.sound; schema = puts.schema; docs = subst AreKeyed (sym puts.docs) holds.docs; notes = subst AreKeyed (sym puts.notes) holds.notes; queries = queries.0; runs = subst AreKeyed (sym puts.runs) holds.runs; picks = subst AreKeyed (sym puts.picks) holds.picks; filters = subst AreKeyed (sym puts.filters) holds.filters }, λ i. record { docs = map doc_in (puts.docs i); notes = map note_in (puts.notes i); queries = queries.1 i; runs = map run_in (puts.runs i); picks = map pick_in (puts.picks i); filters = map filter_in (puts.filters i) })
+    (record { sound = puts.sound holds.sound; schema = puts.schema; meta = subst IsMeta (sym puts.meta) holds.meta; docs = subst AreKeyed (sym puts.docs) holds.docs; notes = subst AreKeyed (sym puts.notes) holds.notes; queries = queries.0; runs = subst AreKeyed (sym puts.runs) holds.runs; picks = subst AreKeyed (sym puts.picks) holds.picks; filters = subst AreKeyed (sym puts.filters) holds.filters }, λ i. record { docs = map doc_in (puts.docs i); notes = map note_in (puts.notes i); queries = queries.1 i; runs = map run_in (puts.runs i); picks = map pick_in (puts.picks i); filters = map filter_in (puts.filters i) })
 rows_after (RunDone run picked) old new holds formed fit back puts =
     let runs = runs_appended old new (run ∷ []) holds formed (run_numbered _ _ _ run (two _ _ fit).0, tt) (ap (λ x. x ∷ []) back.0) puts.runs in
     let picks = picks_appended old new picked holds formed (picks_numbered _ _ _ _ _ picked (two _ _ fit).1) back.1 puts.picks in
-    (record { sound = puts.sound holds.sound; schema = puts.schema; docs = subst AreKeyed (sym puts.docs) holds.docs; notes = subst AreKeyed (sym puts.notes) holds.notes; queries = subst AreKeyed (sym puts.queries) holds.queries; runs = runs.0; picks = picks.0; filters = subst AreKeyed (sym puts.filters) holds.filters }, λ i. record { docs = map doc_in (puts.docs i); notes = map note_in (puts.notes i); queries = map query_in (puts.queries i); runs = runs.1 i; picks = picks.1 i; filters = map filter_in (puts.filters i) })
+    (record { sound = puts.sound holds.sound; schema = puts.schema; meta = subst IsMeta (sym puts.meta) holds.meta; docs = subst AreKeyed (sym puts.docs) holds.docs; notes = subst AreKeyed (sym puts.notes) holds.notes; queries = subst AreKeyed (sym puts.queries) holds.queries; runs = runs.0; picks = picks.0; filters = subst AreKeyed (sym puts.filters) holds.filters }, λ i. record { docs = map doc_in (puts.docs i); notes = map note_in (puts.notes i); queries = map query_in (puts.queries i); runs = runs.1 i; picks = picks.1 i; filters = map filter_in (puts.filters i) })
 rows_after (OneFilter filter) old new holds formed fit back puts =
     let filters = filters_appended old new (filter ∷ []) holds formed (filter_numbered _ _ filter fit, tt) (ap (λ x. x ∷ []) back) puts.filters in
-    (record { sound = puts.sound holds.sound; schema = puts.schema; docs = subst AreKeyed (sym puts.docs) holds.docs; notes = subst AreKeyed (sym puts.notes) holds.notes; queries = subst AreKeyed (sym puts.queries) holds.queries; runs = subst AreKeyed (sym puts.runs) holds.runs; picks = subst AreKeyed (sym puts.picks) holds.picks; filters = filters.0 }, λ i. record { docs = map doc_in (puts.docs i); notes = map note_in (puts.notes i); queries = map query_in (puts.queries i); runs = map run_in (puts.runs i); picks = map pick_in (puts.picks i); filters = filters.1 i })
+    (record { sound = puts.sound holds.sound; schema = puts.schema; meta = subst IsMeta (sym puts.meta) holds.meta; docs = subst AreKeyed (sym puts.docs) holds.docs; notes = subst AreKeyed (sym puts.notes) holds.notes; queries = subst AreKeyed (sym puts.queries) holds.queries; runs = subst AreKeyed (sym puts.runs) holds.runs; picks = subst AreKeyed (sym puts.picks) holds.picks; filters = filters.0 }, λ i. record { docs = map doc_in (puts.docs i); notes = map note_in (puts.notes i); queries = map query_in (puts.queries i); runs = map run_in (puts.runs i); picks = map pick_in (puts.picks i); filters = filters.1 i })
 
 -- the tables of a store after the rows of a change were put
 pub tables_after : (change : Change) (s : Tables) (old new : Database) → HoldsStore old → s ≡ tables_of old.trees → is_well_formed s ≡ true → fits s change ≡ true → IsReadBack change → Puts (rows_of change) old new

@@ -105,6 +105,67 @@ pick_in r = record {
 abbrev pub filter_in : Row → FilterRow
 filter_in r = record { num = number_of (column r 0); owner = bytes_of (column r 2); source = bytes_of (column r 3); arrival = integer_of (column r 4) }
 
+-- ---- as a query shows them
+
+abbrev pub show_version : Row → Row
+show_version r = column r 0 ∷ column r 2 ∷ []
+
+abbrev pub show_doc : Row → Row
+show_doc r = column r 0 ∷ column r 2 ∷ column r 3 ∷ []
+
+abbrev pub show_note : Row → Row
+show_note r = column r 0 ∷ column r 2 ∷ column r 3 ∷ column r 4 ∷ column r 5 ∷ column r 6 ∷ column r 7 ∷ []
+
+abbrev pub show_query : Row → Row
+show_query r = column r 0 ∷ column r 2 ∷ column r 3 ∷ column r 4 ∷ column r 5 ∷ []
+
+abbrev pub show_run : Row → Row
+show_run r = column r 0 ∷ column r 2 ∷ column r 3 ∷ []
+
+abbrev pub show_pick : Row → Row
+show_pick r = column r 0 ∷ column r 2 ∷ column r 3 ∷ column r 4 ∷ column r 5 ∷ []
+
+abbrev pub show_filter : Row → Row
+show_filter r = column r 0 ∷ column r 2 ∷ column r 3 ∷ column r 4 ∷ []
+
+abbrev pub doc_shown : Row → Doc
+doc_shown r = record { num = record { 0 = number_of (column r 0) }; arrival = integer_of (column r 1); text = bytes_of (column r 2) }
+
+abbrev pub note_shown : Row → Note
+note_shown r = record {
+  num = record { 0 = number_of (column r 0) };
+  doc = record { 0 = number_of (column r 1) };
+  author = bytes_of (column r 2);
+  kind = bytes_of (column r 3);
+  value = integer_of (column r 4);
+  arrival = integer_of (column r 5);
+  text = bytes_of (column r 6);
+}
+
+abbrev pub query_shown : Row → QueryRow
+query_shown r = record {
+  num = record { 0 = number_of (column r 0) };
+  owner = bytes_of (column r 1);
+  name = bytes_of (column r 2);
+  source = bytes_of (column r 3);
+  arrival = integer_of (column r 4);
+}
+
+abbrev pub run_shown : Row → RunRow
+run_shown r = record { num = number_of (column r 0); query = record { 0 = number_of (column r 1) }; moment = integer_of (column r 2) }
+
+abbrev pub pick_shown : Row → Pick
+pick_shown r = record {
+  num = number_of (column r 0);
+  query = record { 0 = number_of (column r 1) };
+  run = number_of (column r 2);
+  doc = record { 0 = number_of (column r 3) };
+  first = integer_of (column r 4);
+}
+
+abbrev pub filter_shown : Row → FilterRow
+filter_shown r = record { num = number_of (column r 0); owner = bytes_of (column r 1); source = bytes_of (column r 2); arrival = integer_of (column r 3) }
+
 -- the tables that the trees of the store's schema hold
 abbrev pub tables_in : Trees → Tables
 tables_in db = record {

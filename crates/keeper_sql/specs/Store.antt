@@ -1,10 +1,11 @@
 -- How a database holds the rows of the store, and what the calls of this crate do to it.
-use Rattle.std.specs.Prelude.{◌≡◌, ◌⊎◌, ℕ, ℤ, pos, List, [], ◌∷◌, map, IsTrue, Bool, true, false, Result, Ok, Err}
+use Rattle.std.specs.Prelude.{zero, suc, ◌+◌, ◌≡◌, ◌⊎◌, ℕ, ℤ, pos, List, [], ◌∷◌, map, IsTrue, Bool, true, false, Result, Ok, Err}
 use Rattle.tap_rows.specs.declared.tables.Tables.{Tables}
 use Rattle.tap_rows.specs.Tables.{no_rows}
 use Rattle.sqlite_value.specs.declared.value.Value.TheVariants.{Null, Int}
 use Rattle.sqlite_value.specs.Order.{Row}
 use Rattle.sqlite_trees.specs.Tree.{Trees, put_row}
+use Rattle.sqlite_schema.specs.declared.schema.Schema.{Schema}
 use Rattle.sqlite_keyed.specs.Keyed.{IsKeyedBy}
 use Rattle.sqlite.specs.Effect.{Database, IsDatabase}
 use Rattle.sqlite.specs.State.{State, HasCleanDisk}
@@ -30,6 +31,16 @@ pub record Puts (rows : ℕ → List Row) (old new : Database) : Type 0 where
   pub picks : new.trees 5 ≡ put_all (rows 5) (old.trees 5)
   pub filters : new.trees 6 ≡ put_all (rows 6) (old.trees 6)
 
+-- these trees are empty, from this one on
+abbrev pub AreEmpty : ℕ → ℕ → Trees → Type 0
+AreEmpty zero tree db = Unit {0}
+AreEmpty (suc n) tree db = (db tree ≡ []) × AreEmpty n (tree + 1) db
+
+-- so many of the tables are made, and empty
+pub record IsMade (made : Schema) (tables : ℕ) (db : Database) : Type 0 where
+  pub schema : db.schema ≡ made
+  pub empty : AreEmpty tables 0 db.trees
+
 -- ---- within a transaction
 
 -- the transaction goes on, and these rows were put
@@ -39,6 +50,23 @@ pub record Went (rows : ℕ → List Row) (old new : State) : Type 0 where
   pub mode : new.in_transaction ≡ true
   pub committed : new.committed ≡ old.committed
   pub puts : old.now.schema ≡ store_schema → Puts rows old.now new.now
+
+-- the transaction goes on, and tables that weren't there were made; where all were there, nothing is changed
+pub record Makes (before : Schema) (n : ℕ) (after : Schema) (m : ℕ) (old new : State) : Type 0 where
+  pub was_open : IsTrue new.is_open → IsTrue old.is_open
+  pub is_open : IsTrue old.is_open → IsTrue new.is_open
+  pub mode : new.in_transaction ≡ true
+  pub committed : new.committed ≡ old.committed
+  pub made : IsMade before n old.now → IsMade after m new.now
+  pub kept : old.now.schema ≡ store_schema → new.now ≡ old.now
+
+-- the transaction goes on, and where all tables are there, nothing is changed
+pub record Rests (old new : State) : Type 0 where
+  pub was_open : IsTrue new.is_open → IsTrue old.is_open
+  pub is_open : IsTrue old.is_open → IsTrue new.is_open
+  pub mode : new.in_transaction ≡ true
+  pub committed : new.committed ≡ old.committed
+  pub kept : old.now.schema ≡ store_schema → new.now ≡ old.now
 
 -- a statement was refused, or a failure ended the transaction: nothing is committed
 pub record Undone (old new : State) : Type 0 where
@@ -78,10 +106,18 @@ as_row x = Int x.0 ∷ x.1
 abbrev pub AreKeyed : List Row → Type 0
 AreKeyed rows = (xs : List Cells) × (rows ≡ map as_row xs) × IsKeyedBy (λ (x : Cells). x.0) xs
 
+-- the row of the version, or none yet
+abbrev pub meta_row : ℤ → Row
+meta_row version = Int (pos 1) ∷ Null ∷ Int version ∷ []
+
+abbrev pub IsMeta : List Row → Type 0
+IsMeta rows = (rows ≡ []) ⊎ ((version : ℤ) × (rows ≡ meta_row version ∷ []))
+
 -- it has the store's tables, each in order of its keys
 pub record HoldsStore (db : Database) : Type 0 where
   pub sound : IsDatabase db
   pub schema : db.schema ≡ store_schema
+  pub meta : IsMeta (db.trees 0)
   pub docs : AreKeyed (db.trees 1)
   pub notes : AreKeyed (db.trees 2)
   pub queries : AreKeyed (db.trees 3)
@@ -117,4 +153,4 @@ MayLeave s t = (db : Trees) × s.may_leave db × (t ≡ tables_of db)
 pub record HasVersion (s : State) (v : ℤ) : Type 0 where
   pub clean : HasCleanDisk s
   pub is_open : IsTrue s.is_open
-  pub row : ((s.now.schema ≡ no_schema) × (v ≡ pos 2)) ⊎ ((s.now.schema ≡ store_schema) × (s.now.trees 0 ≡ (Int (pos 1) ∷ Null ∷ Int v ∷ []) ∷ []))
+  pub row : ((s.now.schema ≡ no_schema) × (v ≡ pos 2)) ⊎ ((s.now.schema ≡ store_schema) × (s.now.trees 0 ≡ meta_row v ∷ []))

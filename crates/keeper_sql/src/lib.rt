@@ -2,6 +2,7 @@
 #![tactic(auto)]
 
 mod change;
+mod create;
 mod docs;
 mod filters;
 mod keep;
