@@ -9,6 +9,7 @@ pub mod SelectTexts
 pub mod ShownRows
 pub mod CreateTexts
 pub mod Creates
+pub mod QueryLemmas
 pub mod InsertTexts
 pub mod InsertDoc
 pub mod InsertNote

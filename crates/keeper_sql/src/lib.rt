@@ -9,6 +9,7 @@ mod keep;
 mod notes;
 mod picks;
 mod queries;
+mod reading;
 mod runs;
 mod sql_keeper;
 

@@ -1,14 +1,18 @@
 //! The table `picks`.
 
-ghost use Rattle.std.specs.Prelude.{◌≡◌, ◌<◌, ◌^◌, [], ◌∷◌, map, IsTrue, OnOk, OnErr};
+ghost use Rattle.std.specs.Prelude.{◌≡◌, ◌<◌, ◌^◌, [], ◌∷◌, map, IsTrue, IfOk, OnOk, OnErr};
 ghost use Rattle.sqlite.specs.Held.{state};
-ghost use Rattle.sqlite.specs.State.{HasCleanDisk, Survives};
+ghost use Rattle.sqlite.specs.State.{HasCleanDisk, Survives, IsUnchanged};
 ghost use Rattle.sqlite.specs.Values.{bound};
-ghost use Rattle.keeper_sql.specs.RowsAsValues.{given_pick, pick_in, as_kept};
-ghost use Rattle.keeper_sql.specs.Store.{only, Went, Undone};
+ghost use Rattle.keeper_sql.specs.RowsAsValues.{given_pick, pick_in, pick_shown, as_kept};
+ghost use Rattle.keeper_sql.specs.Store.{only, Went, Undone, AreKeyed};
+ghost use Rattle.keeper_sql.specs.Schema.{store_schema};
 
+use crate::reading::{integer, no_memory, number};
 use sqlite::types::ValueRef;
-use sqlite::{Alter, Error, Transaction};
+use sqlite::{Alter, Error, Row, Transaction};
+use std::alloc::Global;
+use tap_base::{DocNum, QueryNum, Rows};
 use tap_rows::Pick;
 
 fn pick_values(pick: &Pick) -> [ValueRef<'_>; 5]
@@ -54,4 +58,48 @@ pub fn insert_picks<S: Alter>(tx: &mut Transaction<'_, S>, picks: &[Pick]) -> Re
         insert_pick(tx, pick)?;
     }
     Ok(())
+}
+
+fn pick_of(row: &Row) -> Result<Pick, Error>
+    ensures { IfOk result (λ x. x ≡ pick_shown row.now) }
+{
+    let num = number(row, 0)?;
+    let query = QueryNum(number(row, 1)?);
+    let run = number(row, 2)?;
+    let doc = DocNum(number(row, 3)?);
+    let first = integer(row, 4)?;
+    Ok(Pick {
+        num,
+        query,
+        run,
+        doc,
+        first,
+    })
+}
+
+fn picks_of(alloc: Global, shown: &[Row]) -> Result<Rows<Pick>, Error>
+    ensures { IfOk result (λ rows. rows ≡ map pick_shown shown.now) }
+{
+    let mut rows = Rows::new(alloc);
+    for row in shown {
+        rows.push(pick_of(row)?).map_err(no_memory)?;
+    }
+    Ok(rows)
+}
+
+/// Reads the delivered documents, in order of their numbers.
+pub fn read_picks<S: Alter>(alloc: Global, tx: &mut Transaction<'_, S>) -> Result<Rows<Pick>, Error>
+    ensures same_reference { tx.new.conn.ghost_name ≡ tx.old.conn.ghost_name }
+    ensures same { HasCleanDisk (state S.Store tx.new.conn.now) → (state S.Store tx.old.conn.now).now.schema ≡ store_schema → OnOk result (IsUnchanged (state S.Store tx.old.conn.now) (state S.Store tx.new.conn.now)) }
+    ensures read { HasCleanDisk (state S.Store tx.new.conn.now) → (state S.Store tx.old.conn.now).now.schema ≡ store_schema → IfOk result (λ rows. AreKeyed ((state S.Store tx.old.conn.now).now.trees 5) → rows ≡ map pick_in ((state S.Store tx.old.conn.now).now.trees 5)) }
+    ensures err { HasCleanDisk (state S.Store tx.new.conn.now) → (state S.Store tx.old.conn.now).now.schema ≡ store_schema → OnErr result (Undone (state S.Store tx.old.conn.now) (state S.Store tx.new.conn.now)) }
+    ensures survives { Survives (state S.Store tx.old.conn.now) (state S.Store tx.new.conn.now) (λ _. ⊥) }
+{
+    match tx.query_all(
+        "SELECT num, query, run, doc, second FROM picks ORDER BY num",
+        &[],
+    ) {
+        Ok(shown) => picks_of(alloc, shown.as_slice()),
+        Err(error) => Err(error),
+    }
 }
