@@ -10,6 +10,7 @@ pub mod ShownRows
 pub mod CreateTexts
 pub mod Creates
 pub mod QueryLemmas
+pub mod MetaLemmas
 pub mod InsertTexts
 pub mod InsertDoc
 pub mod InsertNote

@@ -8,6 +8,7 @@ use Rattle.sqlite.specs.State.{State, IsUnchanged, IsRolledBack, Fails, IsNotRun
 use Rattle.sqlite.specs.Listing.{understood}
 use Rattle.sqlite.proofs.Callers.{IsPlain}
 use Rattle.keeper_sql.specs.Schema.{store_schema}
+use Rattle.keeper_sql.specs.RowsAsValues.{version_shown, version_in, show_version}
 use Rattle.keeper_sql.specs.Store.{Undone}
 
 pub unchanged_undone : (old new : State) → IsUnchanged old new → Undone old new
@@ -54,3 +55,7 @@ always_err (Err e) p = p
 pub map_twice : {X Y : Type 0} (read : Row → Y) (f : X → Row) (xs : List X) → map read (map f xs) ≡ map (λ x. read (f x)) xs
 map_twice read f [] = refl
 map_twice read f (x ∷ xs) = ap (λ l. read (f x) ∷ l) (map_twice read f xs)
+
+pub version_as_shown : (rows : List Row) → version_shown (map show_version rows) ≡ version_in rows
+version_as_shown [] = refl
+version_as_shown (r ∷ rows) = refl

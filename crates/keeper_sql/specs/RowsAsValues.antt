@@ -1,5 +1,5 @@
 -- The rows of the store as a statement is given them, as a tree keeps them, and as they are read from it.
-use Rattle.std.specs.Prelude.{◌≡◌, ◌+◌, ◌-◌, ◌^◌, ℕ, ℤ, pos, negsuc, nat_lt, if◌then◌else◌, ◌==◌, List, [], ◌∷◌, ◌++◌, map, filter}
+use Rattle.std.specs.Prelude.{◌≡◌, ◌+◌, ◌-◌, ◌^◌, ℕ, ℤ, pos, negsuc, nat_lt, if◌then◌else◌, ◌==◌, List, [], ◌∷◌, ◌++◌, map, filter, Option, Some, None}
 use Rattle.tap_rows.specs.declared.rows.Doc.{Doc}
 use Rattle.tap_rows.specs.declared.rows.Note.{Note}
 use Rattle.tap_rows.specs.declared.rows.QueryRow.{QueryRow}
@@ -104,6 +104,15 @@ pick_in r = record {
 
 abbrev pub filter_in : Row → FilterRow
 filter_in r = record { num = number_of (column r 0); owner = bytes_of (column r 2); source = bytes_of (column r 3); arrival = integer_of (column r 4) }
+
+-- the version in the row of `meta`, if there is one
+abbrev pub version_in : List Row → Option ℤ
+version_in [] = None
+version_in (r ∷ rs) = Some (integer_of (column r 2))
+
+abbrev pub version_shown : List Row → Option ℤ
+version_shown [] = None
+version_shown (r ∷ rs) = Some (integer_of (column r 1))
 
 -- ---- as a query shows them
 

@@ -41,6 +41,26 @@ pub record IsMade (made : Schema) (tables : ℕ) (db : Database) : Type 0 where
   pub schema : db.schema ≡ made
   pub empty : AreEmpty tables 0 db.trees
 
+-- ---- the version
+
+-- the row of the version, or none yet
+abbrev pub meta_row : ℤ → Row
+meta_row version = Int (pos 1) ∷ Null ∷ Int version ∷ []
+
+abbrev pub IsMeta : List Row → Type 0
+IsMeta rows = (rows ≡ []) ⊎ ((version : ℤ) × (rows ≡ meta_row version ∷ []))
+
+-- the version is 2 now, and nothing else is changed
+pub record WritesVersion (old new : Database) : Type 0 where
+  pub schema : new.schema ≡ store_schema
+  pub meta : new.trees 0 ≡ meta_row (pos 2) ∷ []
+  pub docs : new.trees 1 ≡ old.trees 1
+  pub notes : new.trees 2 ≡ old.trees 2
+  pub queries : new.trees 3 ≡ old.trees 3
+  pub runs : new.trees 4 ≡ old.trees 4
+  pub picks : new.trees 5 ≡ old.trees 5
+  pub filters : new.trees 6 ≡ old.trees 6
+
 -- ---- within a transaction
 
 -- the transaction goes on, and these rows were put
@@ -60,13 +80,13 @@ pub record Makes (before : Schema) (n : ℕ) (after : Schema) (m : ℕ) (old new
   pub made : IsMade before n old.now → IsMade after m new.now
   pub kept : old.now.schema ≡ store_schema → new.now ≡ old.now
 
--- the transaction goes on, and where all tables are there, nothing is changed
-pub record Rests (old new : State) : Type 0 where
+-- the transaction goes on, and the version is 2 now
+pub record Raises (old new : State) : Type 0 where
   pub was_open : IsTrue new.is_open → IsTrue old.is_open
   pub is_open : IsTrue old.is_open → IsTrue new.is_open
   pub mode : new.in_transaction ≡ true
   pub committed : new.committed ≡ old.committed
-  pub kept : old.now.schema ≡ store_schema → new.now ≡ old.now
+  pub writes : old.now.schema ≡ store_schema → IsMeta (old.now.trees 0) → WritesVersion old.now new.now
 
 -- a statement was refused, or a failure ended the transaction: nothing is committed
 pub record Undone (old new : State) : Type 0 where
@@ -105,13 +125,6 @@ as_row x = Int x.0 ∷ x.1
 -- the rows stand in order of their keys
 abbrev pub AreKeyed : List Row → Type 0
 AreKeyed rows = (xs : List Cells) × (rows ≡ map as_row xs) × IsKeyedBy (λ (x : Cells). x.0) xs
-
--- the row of the version, or none yet
-abbrev pub meta_row : ℤ → Row
-meta_row version = Int (pos 1) ∷ Null ∷ Int version ∷ []
-
-abbrev pub IsMeta : List Row → Type 0
-IsMeta rows = (rows ≡ []) ⊎ ((version : ℤ) × (rows ≡ meta_row version ∷ []))
 
 -- it has the store's tables, each in order of its keys
 pub record HoldsStore (db : Database) : Type 0 where

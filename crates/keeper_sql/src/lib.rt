@@ -11,6 +11,4 @@ mod picks;
 mod queries;
 mod reading;
 mod runs;
-mod sql_keeper;
-
-pub use sql_keeper::SqlKeeper;
+mod version;
