@@ -11,6 +11,7 @@ pub mod CreateTexts
 pub mod Creates
 pub mod QueryLemmas
 pub mod MetaLemmas
+pub mod Settling
 pub mod InsertTexts
 pub mod InsertDoc
 pub mod InsertNote

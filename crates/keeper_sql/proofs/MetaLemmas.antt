@@ -131,7 +131,7 @@ written limit keys db w meta h =
     ] in
     subst (IsWritten db) (sym (all ∙ done)) here
 
-pub writes_version : (old new : State) (count : ℕ) → old.now.schema ≡ store_schema → IsMeta (old.now.trees 0) → Executes replace_meta [] old new (Ok count) → WritesVersion old.now new.now
+pub writes_version : (old new : State) (count : ℕ) → old.now.schema ≡ store_schema → IsMeta (old.now.trees 0) → Executes replace_meta [] old new (Ok count) → WritesVersion (pos 2) old.now new.now
 writes_version old new count has meta h =
     let command = InsertOr 0 Replace (Values (lit (Int (pos 1)) ∷ lit Null ∷ lit (Int (pos 2)) ∷ []) 3) [] in
     let w = runs_as replace_meta [] old new store_schema has command meta_replaced meta_plain count h in

@@ -50,10 +50,10 @@ meta_row version = Int (pos 1) ∷ Null ∷ Int version ∷ []
 abbrev pub IsMeta : List Row → Type 0
 IsMeta rows = (rows ≡ []) ⊎ ((version : ℤ) × (rows ≡ meta_row version ∷ []))
 
--- the version is 2 now, and nothing else is changed
-pub record WritesVersion (old new : Database) : Type 0 where
+-- this is the version now, and nothing else is changed
+pub record WritesVersion (version : ℤ) (old new : Database) : Type 0 where
   pub schema : new.schema ≡ store_schema
-  pub meta : new.trees 0 ≡ meta_row (pos 2) ∷ []
+  pub meta : new.trees 0 ≡ meta_row version ∷ []
   pub docs : new.trees 1 ≡ old.trees 1
   pub notes : new.trees 2 ≡ old.trees 2
   pub queries : new.trees 3 ≡ old.trees 3
@@ -86,7 +86,16 @@ pub record Raises (old new : State) : Type 0 where
   pub is_open : IsTrue old.is_open → IsTrue new.is_open
   pub mode : new.in_transaction ≡ true
   pub committed : new.committed ≡ old.committed
-  pub writes : old.now.schema ≡ store_schema → IsMeta (old.now.trees 0) → WritesVersion old.now new.now
+  pub writes : old.now.schema ≡ store_schema → IsMeta (old.now.trees 0) → WritesVersion (pos 2) old.now new.now
+
+-- the transaction goes on over a store with this version: 2 where there was none or 1, else as it was
+pub record Settles (version : ℤ) (old new : State) : Type 0 where
+  pub was_open : IsTrue new.is_open → IsTrue old.is_open
+  pub is_open : IsTrue old.is_open → IsTrue new.is_open
+  pub mode : new.in_transaction ≡ true
+  pub committed : new.committed ≡ old.committed
+  pub writes : WritesVersion version old.now new.now
+  pub was : (w : ℤ) → old.now.trees 0 ≡ meta_row w ∷ [] → (w ≡ version) ⊎ ((w ≡ pos 1) × (version ≡ pos 2))
 
 -- a statement was refused, or a failure ended the transaction: nothing is committed
 pub record Undone (old new : State) : Type 0 where
@@ -125,6 +134,15 @@ as_row x = Int x.0 ∷ x.1
 -- the rows stand in order of their keys
 abbrev pub AreKeyed : List Row → Type 0
 AreKeyed rows = (xs : List Cells) × (rows ≡ map as_row xs) × IsKeyedBy (λ (x : Cells). x.0) xs
+
+-- the rows of each table stand in order of their keys
+pub record AreAllKeyed (db : Database) : Type 0 where
+  pub docs : AreKeyed (db.trees 1)
+  pub notes : AreKeyed (db.trees 2)
+  pub queries : AreKeyed (db.trees 3)
+  pub runs : AreKeyed (db.trees 4)
+  pub picks : AreKeyed (db.trees 5)
+  pub filters : AreKeyed (db.trees 6)
 
 -- it has the store's tables, each in order of its keys
 pub record HoldsStore (db : Database) : Type 0 where

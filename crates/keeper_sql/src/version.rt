@@ -5,7 +5,7 @@ ghost use Rattle.sqlite.specs.Held.{state};
 ghost use Rattle.sqlite.specs.State.{HasCleanDisk, Survives, IsUnchanged};
 ghost use Rattle.keeper_sql.specs.RowsAsValues.{version_in, version_shown};
 ghost use Rattle.keeper_sql.specs.Schema.{store_schema};
-ghost use Rattle.keeper_sql.specs.Store.{Undone, Raises, AreKeyed};
+ghost use Rattle.keeper_sql.specs.Store.{Undone, Raises, Settles, AreKeyed, IsMeta};
 
 use crate::reading::integer;
 use sqlite::{Alter, Error, Row, Transaction};
@@ -46,5 +46,35 @@ pub fn write_version<S: Alter>(tx: &mut Transaction<'_, S>) -> Result<(), Error>
     ) {
         Ok(_) => Ok(()),
         Err(error) => Err(error),
+    }
+}
+
+// Makes the version 2, and gives it.
+fn raise_version<S: Alter>(tx: &mut Transaction<'_, S>) -> Result<i64, Error>
+    ensures same_reference { tx.new.conn.ghost_name ≡ tx.old.conn.ghost_name }
+    ensures ok { HasCleanDisk (state S.Store tx.new.conn.now) → IsTrue (state S.Store tx.old.conn.now).in_transaction → IfOk result (λ version. (version ≡ pos 2) × Raises (state S.Store tx.old.conn.now) (state S.Store tx.new.conn.now)) }
+    ensures two { IfOk result (λ version. version ≡ pos 2) }
+    ensures err { HasCleanDisk (state S.Store tx.new.conn.now) → IsTrue (state S.Store tx.old.conn.now).in_transaction → OnErr result (Undone (state S.Store tx.old.conn.now) (state S.Store tx.new.conn.now)) }
+    ensures survives { Survives (state S.Store tx.old.conn.now) (state S.Store tx.new.conn.now) (λ _. ⊥) }
+{
+    match write_version(tx) {
+        Ok(()) => Ok(2),
+        Err(error) => Err(error),
+    }
+}
+
+/// The version of a store, which becomes 2 where there is none or 1.
+pub fn settle_version<S: Alter>(tx: &mut Transaction<'_, S>) -> Result<i64, Error>
+    ensures same_reference { tx.new.conn.ghost_name ≡ tx.old.conn.ghost_name }
+    ensures never { IfOk result (λ version. version ≢ pos 1) }
+    ensures ok { HasCleanDisk (state S.Store tx.new.conn.now) → IsTrue (state S.Store tx.old.conn.now).in_transaction → (state S.Store tx.old.conn.now).now.schema ≡ store_schema → IsMeta ((state S.Store tx.old.conn.now).now.trees 0) → IfOk result (λ version. Settles version (state S.Store tx.old.conn.now) (state S.Store tx.new.conn.now)) }
+    ensures err { HasCleanDisk (state S.Store tx.new.conn.now) → IsTrue (state S.Store tx.old.conn.now).in_transaction → (state S.Store tx.old.conn.now).now.schema ≡ store_schema → OnErr result (Undone (state S.Store tx.old.conn.now) (state S.Store tx.new.conn.now)) }
+    ensures survives { Survives (state S.Store tx.old.conn.now) (state S.Store tx.new.conn.now) (λ _. ⊥) }
+{
+    match read_version(tx) {
+        Err(error) => Err(error),
+        Ok(None) => raise_version(tx),
+        Ok(Some(1)) => raise_version(tx),
+        Ok(Some(version)) => Ok(version),
     }
 }
