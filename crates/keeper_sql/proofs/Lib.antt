@@ -12,6 +12,7 @@ pub mod Creates
 pub mod QueryLemmas
 pub mod MetaLemmas
 pub mod Settling
+pub mod OpeningLemmas
 pub mod InsertTexts
 pub mod InsertDoc
 pub mod InsertNote

@@ -31,6 +31,7 @@ settle_same v old new inside has meta same read =
       committed = same.0.committed_is;
       writes = record { schema = ap (λ (d : Database). d.schema) now ∙ has; meta = at 0 ∙ row; docs = at 1; notes = at 2; queries = at 3; runs = at 4; picks = at 5; filters = at 6 };
       was = λ w is. let e : Some v ≡ Some w = read ∙ ap version_in is in let same' : w ≡ v = cc in inl same';
+      fresh = λ none. absurd (let e : ◌≡◌ {A = Option ℤ} (Some v) None = read ∙ ap version_in none in cc);
     }
 
 pub settle_raised : (version : Option ℤ) (old mid new : State) → old.now.schema ≡ store_schema → IsMeta (old.now.trees 0) → IsUnchanged old mid → version ≡ version_in (old.now.trees 0) → ((v : ℤ) → version ≡ Some v → v ≡ pos 1) → Raises mid new → Settles (pos 2) old new
@@ -45,6 +46,7 @@ settle_raised version old mid new has meta same read one raised =
       committed = raised.committed ∙ same.0.committed_is;
       writes = record { schema = wrote.schema; meta = wrote.meta; docs = wrote.docs ∙ at 1; notes = wrote.notes ∙ at 2; queries = wrote.queries ∙ at 3; runs = wrote.runs ∙ at 4; picks = wrote.picks ∙ at 5; filters = wrote.filters ∙ at 6 };
       was = λ w is. inr (one w (read ∙ ap version_in is), refl);
+      fresh = λ none. refl;
     }
 
 pub undone_after : (old mid new : State) → IsUnchanged old mid → Undone mid new → Undone old new

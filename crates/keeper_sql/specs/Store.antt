@@ -96,6 +96,7 @@ pub record Settles (version : ℤ) (old new : State) : Type 0 where
   pub committed : new.committed ≡ old.committed
   pub writes : WritesVersion version old.now new.now
   pub was : (w : ℤ) → old.now.trees 0 ≡ meta_row w ∷ [] → (w ≡ version) ⊎ ((w ≡ pos 1) × (version ≡ pos 2))
+  pub fresh : old.now.trees 0 ≡ [] → version ≡ pos 2
 
 -- a statement was refused, or a failure ended the transaction: nothing is committed
 pub record Undone (old new : State) : Type 0 where
@@ -143,6 +144,32 @@ pub record AreAllKeyed (db : Database) : Type 0 where
   pub runs : AreKeyed (db.trees 4)
   pub picks : AreKeyed (db.trees 5)
   pub filters : AreKeyed (db.trees 6)
+
+-- a database of ours: it has the store's tables, or none yet
+abbrev pub IsOurs : Database → Type 0
+IsOurs db = ((db.schema ≡ store_schema) × IsMeta (db.trees 0)) ⊎ (db.schema ≡ no_schema)
+
+-- a store with all its tables and this version was made of ours
+pub record OpensTo (version : ℤ) (old new : Database) : Type 0 where
+  pub schema : new.schema ≡ store_schema
+  pub meta : new.trees 0 ≡ meta_row version ∷ []
+  pub store : old.schema ≡ store_schema → WritesVersion version old new
+  pub was : old.schema ≡ store_schema → (w : ℤ) → old.trees 0 ≡ meta_row w ∷ [] → (w ≡ version) ⊎ ((w ≡ pos 1) × (version ≡ pos 2))
+  pub none : old.schema ≡ no_schema → (version ≡ pos 2) × AreEmpty 6 1 new.trees
+
+-- the transaction goes on over such a store
+pub record OpensAt (version : ℤ) (old new : State) : Type 0 where
+  pub was_open : IsTrue new.is_open → IsTrue old.is_open
+  pub is_open : IsTrue old.is_open → IsTrue new.is_open
+  pub mode : new.in_transaction ≡ true
+  pub committed : new.committed ≡ old.committed
+  pub to : OpensTo version old.now new.now
+
+-- trees of such a store
+pub record IsAfterOpen (old : State) (trees : Trees) : Type 0 where
+  pub db : Database
+  pub to : IsOurs old.now → OpensTo (pos 2) old.now db
+  pub is : trees ≡ db.trees
 
 -- it has the store's tables, each in order of its keys
 pub record HoldsStore (db : Database) : Type 0 where

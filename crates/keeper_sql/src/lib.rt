@@ -7,6 +7,7 @@ mod docs;
 mod filters;
 mod keep;
 mod notes;
+mod opened;
 mod opening;
 mod picks;
 mod queries;
