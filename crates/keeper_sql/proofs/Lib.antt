@@ -13,6 +13,7 @@ pub mod QueryLemmas
 pub mod MetaLemmas
 pub mod Settling
 pub mod OpeningLemmas
+pub mod AttachLemmas
 pub mod InsertTexts
 pub mod InsertDoc
 pub mod InsertNote

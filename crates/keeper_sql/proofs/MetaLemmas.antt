@@ -141,6 +141,7 @@ writes_version old new count has meta h =
     let put = written old.step_limit (mode_of old).keys old.now.trees done.0 meta done.1 in
     let at : (t : ℕ) → new.now.trees t ≡ done.0.trees t = λ t. ap (λ (d : Database). d.trees t) now in
     record {
+      sound = λ _. w.sound;
       schema = ap (λ (d : Database). d.schema) now;
       meta = at 0 ∙ put.0;
       docs = at 1 ∙ put.1.0;

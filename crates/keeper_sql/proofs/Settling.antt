@@ -2,7 +2,7 @@
 use Rattle.std.proofs.Common.{◌≡◌, ◌⊎◌, inl, inr, ℕ, ℤ, pos, List, [], ◌∷◌, Option, Some, None, true, refl, sym, ap, subst, ◌∙◌}
 use Rattle.sqlite_value.specs.declared.value.Value.TheVariants.{Null, Int}
 use Rattle.sqlite_value.specs.Order.{Row}
-use Rattle.sqlite.specs.Effect.{Database}
+use Rattle.sqlite.specs.Effect.{Database, IsDatabase}
 use Rattle.sqlite.specs.State.{State, IsUnchanged}
 use Rattle.keeper_sql.specs.Schema.{store_schema}
 use Rattle.keeper_sql.specs.RowsAsValues.{version_in}
@@ -29,7 +29,7 @@ settle_same v old new inside has meta same read =
       is_open = λ _. same.0.is_open;
       mode = same.0.mode ∙ inside;
       committed = same.0.committed_is;
-      writes = record { schema = ap (λ (d : Database). d.schema) now ∙ has; meta = at 0 ∙ row; docs = at 1; notes = at 2; queries = at 3; runs = at 4; picks = at 5; filters = at 6 };
+      writes = record { sound = λ was. subst IsDatabase (sym now) was; schema = ap (λ (d : Database). d.schema) now ∙ has; meta = at 0 ∙ row; docs = at 1; notes = at 2; queries = at 3; runs = at 4; picks = at 5; filters = at 6 };
       was = λ w is. let e : Some v ≡ Some w = read ∙ ap version_in is in let same' : w ≡ v = cc in inl same';
       fresh = λ none. absurd (let e : ◌≡◌ {A = Option ℤ} (Some v) None = read ∙ ap version_in none in cc);
     }
@@ -44,7 +44,7 @@ settle_raised version old mid new has meta same read one raised =
       is_open = λ _. raised.is_open same.0.is_open;
       mode = raised.mode;
       committed = raised.committed ∙ same.0.committed_is;
-      writes = record { schema = wrote.schema; meta = wrote.meta; docs = wrote.docs ∙ at 1; notes = wrote.notes ∙ at 2; queries = wrote.queries ∙ at 3; runs = wrote.runs ∙ at 4; picks = wrote.picks ∙ at 5; filters = wrote.filters ∙ at 6 };
+      writes = record { sound = λ was. wrote.sound (subst IsDatabase (sym now) was); schema = wrote.schema; meta = wrote.meta; docs = wrote.docs ∙ at 1; notes = wrote.notes ∙ at 2; queries = wrote.queries ∙ at 3; runs = wrote.runs ∙ at 4; picks = wrote.picks ∙ at 5; filters = wrote.filters ∙ at 6 };
       was = λ w is. inr (one w (read ∙ ap version_in is), refl);
       fresh = λ none. refl;
     }

@@ -3,6 +3,9 @@ use Rattle.std.specs.Prelude.{◌≡◌, ◌≢◌, ℤ, pos, IsTrue, Result, Ok
 use Rattle.sqlite.specs.State.{State}
 use Rattle.keeper_sql.specs.declared.opened.Opened.{Opened}
 use Rattle.keeper_sql.specs.declared.opened.Opened.TheVariants.{Held, Alien}
+use Rattle.tap_rows.specs.declared.tables.Tables.{Tables}
+use Rattle.keeper_core.specs.declared.fault.AttachFault.{AttachFault}
+use Rattle.keeper_core.specs.declared.fault.AttachFault.TheVariants as fault
 use Rattle.keeper_sql.specs.RowsAsValues.{tables_in}
 use Rattle.keeper_sql.specs.Store.{OpensTo, OpensAt, AreAllKeyed}
 use Rattle.sqlite.specs.Effect.{Database}
@@ -29,3 +32,14 @@ abbrev pub UnlessHeld : Result Opened Error → Type 0 → Type 0
 UnlessHeld (Ok (Held tables)) P = Unit {0}
 UnlessHeld (Ok (Alien version)) P = P
 UnlessHeld (Err e) P = P
+
+-- the store was opened so
+abbrev pub IsHeld : State → State → Tables → Type 0
+IsHeld old new tables = IsStored old new (Held tables)
+
+-- this holds where no call of the store failed
+abbrev pub UnlessFailed : {T : Type 0} → Result T AttachFault → Type 0 → Type 0
+UnlessFailed (Ok given) P = Unit {0}
+UnlessFailed (Err (fault.Alien version)) P = P
+UnlessFailed (Err fault.Failed) P = Unit {0}
+UnlessFailed (Err fault.Memory) P = P

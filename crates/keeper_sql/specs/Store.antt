@@ -52,6 +52,7 @@ IsMeta rows = (rows ≡ []) ⊎ ((version : ℤ) × (rows ≡ meta_row version �
 
 -- this is the version now, and nothing else is changed
 pub record WritesVersion (version : ℤ) (old new : Database) : Type 0 where
+  pub sound : IsDatabase old → IsDatabase new
   pub schema : new.schema ≡ store_schema
   pub meta : new.trees 0 ≡ meta_row version ∷ []
   pub docs : new.trees 1 ≡ old.trees 1

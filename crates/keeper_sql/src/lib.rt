@@ -13,4 +13,7 @@ mod picks;
 mod queries;
 mod reading;
 mod runs;
+mod sql_keeper;
 mod version;
+
+pub use sql_keeper::SqlKeeper;

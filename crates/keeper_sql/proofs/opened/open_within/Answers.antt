@@ -18,3 +18,6 @@ returns-in-Ok-read_tables-clause-ok g c clean inside ours =
     let same : IsUnchanged mid new = c.in-Ok-read_tables.ensures.same clean at.to.schema in
     let now = same.0.now_is in
     (opens_still (pos 2) old mid new at same, λ keyed. c.in-Ok-read_tables.ensures.read clean at.to.schema (subst AreAllKeyed now keyed) ∙ ap (λ (d : Database). tables_in d.trees) (sym now))
+
+pub returns-in-Ok-clause-ok : goal.returns-in-Ok-clause-ok
+returns-in-Ok-clause-ok g c clean inside ours = let by = c.in-Ok.ensures.ok clean inside ours in search (rules, by)
