@@ -57,7 +57,7 @@ pub trait Keeper {
         // The version.
         ensures version { OnOk result (honest self.new → (s : TableRows) → tells self.old s → has_version self.new (pos 2)) }
         ensures known { honest self.new → (v : ℤ) → has_version self.old v → OnOk result ((v ≡ pos 1) ⊎ (v ≡ pos 2)) }
-        ensures alien { IfAlien result (λ v. (v ≢ pos 1) × (v ≢ pos 2) × ((w : ℤ) → has_version self.new w → w ≡ v)) }
+        ensures alien { IfAlien result (λ v. (v ≢ pos 1) × (v ≢ pos 2)) }
         ensures same { IfAlien result (λ v. honest self.new → (w : ℤ) → has_version self.old w → (w ≡ v) × has_version self.new w) }
         ensures migrated { result ≡ Err AttachFault.Memory → honest self.new → (w : ℤ) → has_version self.old w → has_version self.new w ⊎ ((w ≡ pos 1) × has_version self.new (pos 2)) };
 
