@@ -1,5 +1,5 @@
 -- Rows whose numbers are the next places go to the end of their tree.
-use Rattle.std.proofs.Common.{◌≡◌, ◌+◌, ◌<◌, ◌≤◌, ◌^◌, ℕ, ℤ, pos, negsuc, List, [], ◌∷◌, ◌++◌, Bool, true, false, nat_lt, map, length, inl, inr, refl, sym, ap, subst, ◌∙◌, arith, append_assoc, append-nil, Less, int_cmp, if◌then◌else◌, length-append}
+use Rattle.std.proofs.Common.{◌≡◌, ◌+◌, ◌<◌, ◌≤◌, ◌^◌, ℕ, ℤ, pos, negsuc, List, [], ◌∷◌, ◌++◌, nat_lt, map, length, inl, inr, refl, sym, ap, subst, ◌∙◌, arith, append_assoc, append-nil, Less, int_cmp, length-append}
 use Rattle.std.proofs.lemmas.Int.{ints}
 use Rattle.std.proofs.lemmas.Bool.{cases_Bool}
 use Rattle.std.proofs.lemmas.List.{map-append, length-map}
@@ -9,7 +9,6 @@ use Rattle.sqlite_value.specs.declared.value.Value.TheVariants.{Int}
 use Rattle.sqlite_value.specs.Order.{Row, column, value_cmp}
 use Rattle.sqlite_value.proofs.OrderLemmas.{value_cmp-Int}
 use Rattle.sqlite_trees.specs.Tree.{IsAscending, rowid, put_row}
-use Rattle.sqlite_keyed.specs.Keyed.{IsKeyedBy}
 use Rattle.keeper_sql.specs.RowsAsValues.{number_of}
 use Rattle.keeper_sql.specs.Store.{Cells, as_row, AreKeyed, put_all}
 

@@ -1,5 +1,5 @@
 -- What an attach makes of the tables and the version that a store tells.
-use Rattle.std.proofs.Common.{◌≡◌, ◌≢◌, ◌⊎◌, inl, inr, ℤ, pos, List, [], ◌∷◌, map, filter, Bool, true, false, IsTrue, refl, sym, ap, subst, ◌∙◌}
+use Rattle.std.proofs.Common.{◌≡◌, ◌≢◌, ◌⊎◌, inl, inr, ℤ, pos, List, [], ◌∷◌, map, filter, true, false, IsTrue, refl, sym, ap, subst, ◌∙◌}
 use Rattle.std.specs.List.{AllZip}
 use Rattle.tap_rows.specs.declared.tables.Tables.{Tables}
 use Rattle.tap_rows.specs.Tables.{no_rows}
@@ -11,9 +11,9 @@ use Rattle.sqlite_trees.specs.Objects.{catalog_tree}
 use Rattle.sqlite_catalog.specs.Listing.{IsSound, IsTableRow, is_table_row}
 use Rattle.sqlite.specs.Effect.{Database, IsDatabase}
 use Rattle.sqlite.specs.State.{State, HasCleanDisk, IsLive}
-use Rattle.keeper_sql.specs.Schema.{store_schema, no_schema}
+use Rattle.keeper_sql.specs.Schema.{no_schema}
 use Rattle.keeper_sql.specs.RowsAsValues.{tables_in, tables_listed, tables_of, doc_in, note_in, query_in, run_in, pick_in, filter_in}
-use Rattle.keeper_sql.specs.Store.{IsOurs, IsMeta, WritesVersion, OpensTo, IsAfterOpen, AreAllKeyed, AreKeyed, AreEmpty, HoldsStore, Tells, TellsNone, TellsAs, MayLeave, HasVersion, LeavesAlone}
+use Rattle.keeper_sql.specs.Store.{IsOurs, WritesVersion, OpensTo, IsAfterOpen, AreAllKeyed, AreKeyed, AreEmpty, HoldsStore, TellsAs, MayLeave, HasVersion, LeavesAlone}
 use Rattle.keeper_sql.specs.Opening.{IsHeld}
 use Rattle.keeper_sql.proofs.TablesAfter.{listed}
 

@@ -1,13 +1,11 @@
 -- What the statements that make the tables mean, while the tables are made and once all are there.
-use Rattle.std.proofs.Common.{◌≡◌, Ok, refl, false}
+use Rattle.std.proofs.Common.{◌≡◌, Ok, refl}
 use Rattle.sqlite_tied.specs.Compute.{everything}
 use Rattle.sqlite_resolve.specs.Compile.{table_defined_by}
 use Rattle.sqlite.specs.Listing.{understood}
-use Rattle.sqlite.specs.Does.{lacks_sequence}
 use Rattle.sqlite.proofs.Callers.{IsPlain, command_of, statement_of}
-use Rattle.sqlite_catalog.specs.Change.{created}
 use Rattle.sqlite_schema.specs.declared.command.Command.TheVariants.{CreateTable, Nothing}
-use Rattle.keeper_sql.specs.Schema.{store_schema, first_0, first_1, first_2, first_3, first_4, first_5, first_6, first_7, create_meta, create_docs, create_notes, create_queries, create_runs, create_picks, create_filters, meta_at, docs_at, notes_at, queries_at, runs_at, picks_at, filters_at}
+use Rattle.keeper_sql.specs.Schema.{store_schema, first_0, first_1, first_2, first_3, first_4, first_5, first_6, create_meta, create_docs, create_notes, create_queries, create_runs, create_picks, create_filters, meta_at, docs_at, notes_at, queries_at, runs_at, picks_at, filters_at}
 
 pub meta_made : (command_of (understood first_0 create_meta) ≡ CreateTable) × (statement_of create_meta (understood first_0 create_meta) ≡ create_meta) × (table_defined_by create_meta ≡ Ok (meta_at 0))
 unfolding understood everything

@@ -1,11 +1,9 @@
 -- What the statements that make the tables do.
-use Rattle.std.proofs.Common.{◌≡◌, ℕ, List, [], ◌∷◌, Ok, None, Result, false, refl, sym, ap, subst, ◌∙◌}
-use Rattle.sqlite_value.specs.Order.{Row}
+use Rattle.std.proofs.Common.{◌≡◌, ℕ, List, [], Ok, None, false, refl, sym, ap, subst, ◌∙◌}
 use Rattle.sqlite_schema.specs.declared.schema.Table.{Table}
 use Rattle.sqlite_schema.specs.declared.schema.Schema.{Schema}
 use Rattle.sqlite_schema.specs.declared.command.Command.TheVariants.{CreateTable, Nothing}
 use Rattle.sqlite_resolve.specs.Compile.{table_defined_by}
-use Rattle.sqlite_trees.specs.Tree.{Trees}
 use Rattle.sqlite_catalog.specs.Change.{created, next_tree, KeepsRows}
 use Rattle.sqlite.specs.Does.{Tally, Does, lacks_sequence}
 use Rattle.sqlite.specs.Effect.{Database}

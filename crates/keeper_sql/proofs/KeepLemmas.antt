@@ -1,5 +1,5 @@
 -- What a commit makes of the tables that a store tells.
-use Rattle.std.proofs.Common.{◌≡◌, ◌⊎◌, inl, inr, ℤ, List, [], ◌∷◌, Bool, true, false, IsTrue, refl, sym, ap, subst, ◌∙◌}
+use Rattle.std.proofs.Common.{◌≡◌, ◌⊎◌, inl, inr, ℤ, [], Bool, true, false, IsTrue, refl, sym, ap, subst, ◌∙◌}
 use Rattle.tap_rows.specs.declared.tables.Tables.{Tables}
 use Rattle.tap_rows.specs.declared.change.Change.{Change}
 use Rattle.tap_rows.specs.declared.change.Change.TheVariants.{Docs, OneNote, OneQuery, RunDone, OneFilter}
@@ -7,7 +7,6 @@ use Rattle.tap_rows.specs.Tables.{after}
 use Rattle.tap_rows.specs.WellFormed.{is_well_formed}
 use Rattle.tap_rows.specs.Fits.{fits}
 use Rattle.keeper_core.specs.Keeping.{Holds}
-use Rattle.sqlite_value.specs.Order.{Row}
 use Rattle.sqlite_trees.specs.Tree.{Trees}
 use Rattle.sqlite_schema.specs.declared.schema.Schema.{Schema}
 use Rattle.sqlite.specs.Effect.{Database}

@@ -1,11 +1,10 @@
 -- What the statement that writes the version does.
-use Rattle.std.proofs.Common.{◌≡◌, ◌⊎◌, inl, inr, ℕ, ℤ, pos, List, [], ◌∷◌, Bool, true, false, Some, None, Option, Ok, Err, Result, refl, sym, ap, subst, ◌∙◌, arith, fold}
+use Rattle.std.proofs.Common.{◌≡◌, ◌⊎◌, inl, inr, ℕ, ℤ, pos, List, [], ◌∷◌, true, Some, None, Option, Ok, refl, sym, ap, subst, ◌∙◌, arith}
 use Rattle.sqlite_value.specs.declared.value.Value.TheVariants.{Null, Int}
 use Rattle.sqlite_value.specs.Order.{Row, value_cmp}
 use Rattle.sqlite_value.proofs.OrderLemmas.{value_cmp-Int}
 use Rattle.sqlite_sql.specs.Ops.{binary}
-use Rattle.sqlite_sql.specs.Term.{Term, lit}
-use Rattle.sqlite_schema.specs.declared.schema.Schema.{Schema}
+use Rattle.sqlite_sql.specs.Term.{lit}
 use Rattle.sqlite_schema.specs.declared.schema.Keys.{Keys}
 use Rattle.sqlite_schema.specs.declared.command.Command.TheVariants.{InsertOr}
 use Rattle.sqlite_schema.specs.declared.command.Source.TheVariants.{Values}

@@ -1,11 +1,10 @@
 -- How a store is opened.
-use Rattle.std.proofs.Common.{◌≡◌, ◌⊎◌, inl, inr, ℕ, ℤ, pos, List, [], ◌∷◌, refl, sym, ap, subst, ◌∙◌}
-use Rattle.sqlite_value.specs.Order.{Row}
+use Rattle.std.proofs.Common.{◌≡◌, inl, inr, ℤ, sym, ap, subst, ◌∙◌}
 use Rattle.sqlite_schema.specs.declared.schema.Schema.{Schema}
 use Rattle.sqlite.specs.Effect.{Database}
 use Rattle.sqlite.specs.State.{State, IsUnchanged}
 use Rattle.keeper_sql.specs.Schema.{store_schema, no_schema, first_0, first_7}
-use Rattle.keeper_sql.specs.Store.{IsMeta, meta_row, IsMade, Makes, Settles, OpensTo, OpensAt, IsOurs, WritesVersion, Undone, AreEmpty}
+use Rattle.keeper_sql.specs.Store.{IsMeta, Makes, Settles, OpensTo, OpensAt, IsOurs, WritesVersion, Undone}
 
 bare : store_schema ≡ no_schema → ⊥
 bare e = let tables = ap (λ (s : Schema). s.tables) e in cc

@@ -1,6 +1,5 @@
 -- What is written is read back as it was.
-use Rattle.std.proofs.Common.{◌≡◌, ◌<◌, ◌^◌, sym, ℕ, List, [], ◌∷◌, ◌++◌, map, true, nat_lt, pos, refl, ap, ◌∙◌, arith, if◌then◌else◌}
-use Rattle.std.proofs.lemmas.Grind.{common_steps}
+use Rattle.std.proofs.Common.{◌≡◌, ◌<◌, ◌^◌, sym, ℕ, List, [], ◌∷◌, ◌++◌, map, pos, ap, ◌∙◌, arith}
 use Rattle.std.proofs.lemmas.Bool.Decides.{nat_tests}
 use Rattle.std.proofs.lemmas.List.{map-append}
 use Rattle.tap_rows.specs.declared.rows.Doc.{Doc}

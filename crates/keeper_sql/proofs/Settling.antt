@@ -1,12 +1,12 @@
 -- How the version of a store is settled.
-use Rattle.std.proofs.Common.{◌≡◌, ◌⊎◌, inl, inr, ℕ, ℤ, pos, List, [], ◌∷◌, Option, Some, None, true, refl, sym, ap, subst, ◌∙◌}
+use Rattle.std.proofs.Common.{◌≡◌, inl, inr, ℕ, ℤ, pos, List, [], ◌∷◌, Option, Some, None, true, refl, sym, ap, subst, ◌∙◌}
 use Rattle.sqlite_value.specs.declared.value.Value.TheVariants.{Null, Int}
 use Rattle.sqlite_value.specs.Order.{Row}
 use Rattle.sqlite.specs.Effect.{Database, IsDatabase}
 use Rattle.sqlite.specs.State.{State, IsUnchanged}
 use Rattle.keeper_sql.specs.Schema.{store_schema}
 use Rattle.keeper_sql.specs.RowsAsValues.{version_in}
-use Rattle.keeper_sql.specs.Store.{IsMeta, meta_row, WritesVersion, Raises, Settles, AreKeyed, Cells, as_row, Undone}
+use Rattle.keeper_sql.specs.Store.{IsMeta, meta_row, Raises, Settles, AreKeyed, Undone}
 
 pub meta_keyed : (rows : List Row) → IsMeta rows → AreKeyed rows
 meta_keyed rows (inl none) = ([], none, tt)

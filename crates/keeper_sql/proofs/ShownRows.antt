@@ -1,13 +1,13 @@
 -- What the statements that read the tables show.
-use Rattle.std.proofs.Common.{◌≡◌, ℕ, ℤ, List, [], ◌∷◌, map, map-id, filter, Bool, true, refl, sym, ap, ◌∙◌, Ordering, Less, Equal, Greater, int_cmp}
+use Rattle.std.proofs.Common.{◌≡◌, List, [], ◌∷◌, map, map-id, filter, true, refl, sym, ap, ◌∙◌, Ordering, Less, Equal, Greater, int_cmp}
 use Rattle.std.specs.Ordering.{ordering_then}
-use Rattle.sqlite_value.specs.declared.value.Value.TheVariants.{Null, Int}
-use Rattle.sqlite_value.specs.Order.{Row, column}
+use Rattle.sqlite_value.specs.declared.value.Value.TheVariants.{Null}
+use Rattle.sqlite_value.specs.Order.{Row}
 use Rattle.sqlite_value.proofs.OrderLemmas.{value_cmp-Int}
 use Rattle.sqlite_sql.specs.Program.{overlay}
-use Rattle.sqlite_sql.specs.Term.{Term, lit, col}
+use Rattle.sqlite_sql.specs.Term.{col}
 use Rattle.sqlite_typed.proofs.AnswerLemmas.{last_table, at_end, answer_by_keys}
-use Rattle.sqlite.specs.State.{State, Shown, IsUnchanged}
+use Rattle.sqlite.specs.State.{State, Shown}
 use Rattle.sqlite.proofs.Callers.{reads_as}
 use Rattle.keeper_sql.specs.Schema.{store_schema, select_meta, select_docs, select_notes, select_queries, select_runs, select_picks, select_filters}
 use Rattle.keeper_sql.specs.RowsAsValues.{show_version, show_doc, show_note, show_query, show_run, show_pick, show_filter}

@@ -1,5 +1,5 @@
 -- What an open store gives.
-use Rattle.std.specs.Prelude.{◌≡◌, ◌≢◌, ℤ, pos, IsTrue, Result, Ok, Err}
+use Rattle.std.specs.Prelude.{◌≡◌, ◌≢◌, pos, IsTrue, Result, Ok, Err}
 use Rattle.sqlite.specs.State.{State}
 use Rattle.keeper_sql.specs.declared.opened.Opened.{Opened}
 use Rattle.keeper_sql.specs.declared.opened.Opened.TheVariants.{Held, Alien}

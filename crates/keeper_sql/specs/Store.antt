@@ -1,7 +1,6 @@
 -- How a database holds the rows of the store, and what the calls of this crate do to it.
-use Rattle.std.specs.Prelude.{zero, suc, ◌+◌, ◌≡◌, ◌⊎◌, ℕ, ℤ, pos, List, [], ◌∷◌, map, IsTrue, Bool, true, false, Result, Ok, Err}
+use Rattle.std.specs.Prelude.{zero, suc, ◌+◌, ◌≡◌, ◌⊎◌, ℕ, ℤ, pos, List, [], ◌∷◌, map, IsTrue, Bool, true, false}
 use Rattle.tap_rows.specs.declared.tables.Tables.{Tables}
-use Rattle.tap_rows.specs.Tables.{no_rows}
 use Rattle.sqlite_value.specs.declared.value.Value.TheVariants.{Null, Int}
 use Rattle.sqlite_value.specs.Order.{Row}
 use Rattle.sqlite_trees.specs.Tree.{Trees, put_row}

@@ -1,5 +1,4 @@
 use Rattle.sqlite.specs.Held.{state}
-use Rattle.keeper_sql.specs.Schema.{replace_meta}
 use Rattle.keeper_sql.proofs.MetaLemmas.{writes_version}
 use Rattle.keeper_sql.proofs.version.write_version.Goals as goal
 

@@ -1,6 +1,5 @@
-use Rattle.std.proofs.Common.{rules, ◌≡◌, false, subst}
+use Rattle.std.proofs.Common.{false, subst}
 use Rattle.sqlite.specs.Held.{state}
-use Rattle.keeper_core.specs.Keeping.{IfAlien}
 use Rattle.keeper_sql.specs.Store.{TellsAs}
 use Rattle.keeper_sql.proofs.AttachLemmas.{told_ours, held_told, left_still}
 use Rattle.keeper_sql.proofs.sql_keeper.SqlKeeperKeeper.attach.Goals as goal
