@@ -1,5 +1,6 @@
 ghost use Rattle.std.specs.Prelude.{◌≡◌, ◌≢◌, ◌⊎◌, ◌↔◌, ◌≤◌, ℕ, ℤ, pos, List, Bool, true, false, Err, IsOk, IfOk, OnOk};
 ghost use Rattle.tap_rows.specs.Tables.{after};
+ghost use Rattle.tap_rows.specs.WellFormed.{is_well_formed};
 ghost use Rattle.tap_rows.specs.Fits.{fits};
 ghost use Rattle.tap_rows.specs.declared.tables.Tables.{Tables as TableRows};
 ghost use Rattle.keeper_core.specs.Keeping.{Rose, Holds, IfAlien};
@@ -48,15 +49,15 @@ pub trait Keeper {
         ensures cause { result ≡ Err AttachFault.Failed → Rose (faults self.old) (faults self.new) }
         ensures honest { honest self.new → honest self.old }
 
-        // The tables: what it tells is what it gives, and what it told before unless it failed.
-        ensures given { IfOk result (λ given. (s : TableRows) → tells self.new s → (s ≡ given) × Holds (tells self.new) (may_leave self.new) s) }
+        // The tables that it told: it gives them, and still tells them unless it failed.
+        ensures given { IfOk result (λ given. honest self.new → (s : TableRows) → tells self.old s → s ≡ given) }
         ensures kept { honest self.new → (s : TableRows) → tells self.old s → stopped self.new ≡ false → Holds (tells self.new) (may_leave self.new) s }
         ensures crash { honest self.new → (s : TableRows) → tells self.old s → (x : TableRows) → may_leave self.new x → x ≡ s }
 
         // The version.
-        ensures version { OnOk result ((s : TableRows) → tells self.new s → has_version self.new (pos 2)) }
+        ensures version { OnOk result (honest self.new → (s : TableRows) → tells self.old s → has_version self.new (pos 2)) }
         ensures known { honest self.new → (v : ℤ) → has_version self.old v → OnOk result ((v ≡ pos 1) ⊎ (v ≡ pos 2)) }
-        ensures alien { IfAlien result (λ v. (v ≢ pos 1) × (v ≢ pos 2) × ((w : ℤ) → has_version self.new w → w ≡ v)) }
+        ensures alien { IfAlien result (λ v. (v ≢ pos 1) × (v ≢ pos 2)) }
         ensures same { IfAlien result (λ v. honest self.new → (w : ℤ) → has_version self.old w → (w ≡ v) × has_version self.new w) }
         ensures migrated { result ≡ Err AttachFault.Memory → honest self.new → (w : ℤ) → has_version self.old w → has_version self.new w ⊎ ((w ≡ pos 1) × has_version self.new (pos 2)) };
 
@@ -70,11 +71,11 @@ pub trait Keeper {
         ensures cause { result ≡ Err CommitFault.Failed → Rose (faults self.old) (faults self.new) }
         ensures honest { honest self.new → honest self.old }
 
-        // The tables, where the rows of the change stand in order behind those that are there.
-        ensures ok { honest self.new → (s : TableRows) → tells self.old s → fits s change.now ≡ true → OnOk result (Holds (tells self.new) (may_leave self.new) (after s change.now)) }
+        // The tables, where they stand in order and the rows of the change stand in order behind them.
+        ensures ok { honest self.new → (s : TableRows) → tells self.old s → is_well_formed s ≡ true → fits s change.now ≡ true → OnOk result (Holds (tells self.new) (may_leave self.new) (after s change.now)) }
         ensures memory { honest self.new → (s : TableRows) → tells self.old s → result ≡ Err CommitFault.Memory → Holds (tells self.new) (may_leave self.new) s }
-        ensures crash { honest self.new → (s : TableRows) → tells self.old s → fits s change.now ≡ true → (x : TableRows) → may_leave self.new x → (x ≡ s) ⊎ (x ≡ after s change.now) }
-        ensures version { honest self.new → (s : TableRows) → tells self.old s → fits s change.now ≡ true → (v : ℤ) → has_version self.old v → stopped self.new ≡ false → has_version self.new v };
+        ensures crash { honest self.new → (s : TableRows) → tells self.old s → is_well_formed s ≡ true → fits s change.now ≡ true → (x : TableRows) → may_leave self.new x → (x ≡ s) ⊎ (x ≡ after s change.now) }
+        ensures version { honest self.new → (s : TableRows) → tells self.old s → is_well_formed s ≡ true → fits s change.now ≡ true → (v : ℤ) → has_version self.old v → stopped self.new ≡ false → has_version self.new v };
 
     // It tells one tables at most.
     ghost one: { (k : Self) (s t : TableRows) → tells k s → tells k t → s ≡ t };

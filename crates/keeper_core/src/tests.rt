@@ -1,5 +1,6 @@
 ghost use Rattle.std.specs.Prelude.{◌≡◌, ◌≢◌, ◌⊎◌, ◌↔◌, ℤ, pos, true, false, codes, IfOk};
 ghost use Rattle.tap_rows.specs.Tables.{after};
+ghost use Rattle.tap_rows.specs.WellFormed.{is_well_formed};
 ghost use Rattle.tap_rows.specs.Fits.{fits};
 ghost use Rattle.tap_rows.specs.declared.tables.Tables.{Tables as TableRows};
 ghost use Rattle.keeper_core.specs.Keeping.{Rose, Holds};
@@ -19,9 +20,9 @@ fn keep_two<P: Keeper>(alloc: Global, keeper: &mut P, one: &Change, two: &Change
     ensures cause { result ≡ 5 → Rose (P.faults keeper.old) (P.faults keeper.new) }
     ensures placed { (P.place keeper.new ≡ codes "store") ⊎ (result ≡ 7) }
     ensures known { P.honest keeper.new → (v : ℤ) → P.has_version keeper.old v → (v ≡ pos 1) ⊎ (v ≡ pos 2) → result ≢ 6 }
-    ensures done { result ≡ 0 → P.honest keeper.new → (s : TableRows) → P.tells keeper.old s → fits s one.now ≡ true → fits (after s one.now) two.now ≡ true → Holds (P.tells keeper.new) (P.may_leave keeper.new) (after (after s one.now) two.now) }
+    ensures done { result ≡ 0 → P.honest keeper.new → (s : TableRows) → P.tells keeper.old s → is_well_formed s ≡ true → fits s one.now ≡ true → is_well_formed (after s one.now) ≡ true → fits (after s one.now) two.now ≡ true → Holds (P.tells keeper.new) (P.may_leave keeper.new) (after (after s one.now) two.now) }
     ensures refused { result ≡ 6 → P.honest keeper.new → (s : TableRows) → P.tells keeper.old s → Holds (P.tells keeper.new) (P.may_leave keeper.new) s }
-    ensures crash { P.honest keeper.new → (s : TableRows) → P.tells keeper.old s → fits s one.now ≡ true → fits (after s one.now) two.now ≡ true → (x : TableRows) → P.may_leave keeper.new x → (x ≡ s) ⊎ ((x ≡ after s one.now) ⊎ (x ≡ after (after s one.now) two.now)) }
+    ensures crash { P.honest keeper.new → (s : TableRows) → P.tells keeper.old s → is_well_formed s ≡ true → fits s one.now ≡ true → is_well_formed (after s one.now) ≡ true → fits (after s one.now) two.now ≡ true → (x : TableRows) → P.may_leave keeper.new x → (x ≡ s) ⊎ ((x ≡ after s one.now) ⊎ (x ≡ after (after s one.now) two.now)) }
 {
     match keeper.attach(alloc, "store") {
         Ok(_tables) => {}

@@ -1,0 +1,26 @@
+-- Casts of values that have their column's type already, and the answers of a statement's parts.
+use Rattle.std.proofs.Common.{◌≡◌, ℤ, cond, Bool, true, false, Ok, Err, Result, ◌⊎◌, inl, inr, refl}
+use Rattle.sqlite_value.specs.declared.value.Value.{Value}
+use Rattle.sqlite_value.specs.declared.value.Value.TheVariants.{Null, Int}
+use Rattle.sqlite_sql.specs.Ops.{unary}
+use Rattle.sqlite_schema.specs.declared.schema.Kind.TheVariants.{Integer}
+use Rattle.sqlite_rules.specs.Cast.{cast}
+
+either : (b : Bool) (x : Value) → cond b x x ≡ x
+either true x = refl
+either false x = refl
+
+pub cast_int : (n : ℤ) → cast Integer (Int n) ≡ Int n
+unfolding unary
+cast_int n = either _ (Int n)
+
+pub cast_null : cast Integer Null ≡ Null
+unfolding unary
+cast_null = either _ Null
+
+pub same_value : {B E : Type 0} {a b : B} → ◌≡◌ {A = Result B E} (Ok a) (Ok b) → a ≡ b
+same_value e = cc
+
+pub went : {B E R : Type 0} {b : B} {Stops : E → Type 0} → ((stop : E) × Stops stop × (Ok b ≡ Err stop)) ⊎ R → R
+went (inl stopped) = absurd (let e = stopped.2 in cc)
+went (inr on) = on

@@ -1,0 +1,48 @@
+-- What the statement that inserts a row of runs does.
+use Rattle.std.proofs.Common.{◌≡◌, ℕ, ℤ, [], ◌∷◌, Ok, None, refl, ap, subst, ◌∙◌, arith}
+use Rattle.sqlite_value.specs.declared.value.Value.TheVariants.{Null, Int}
+use Rattle.sqlite_value.specs.Order.{Row}
+use Rattle.sqlite_schema.specs.declared.command.Command.TheVariants.{Insert}
+use Rattle.sqlite_schema.specs.declared.command.Source.TheVariants.{Values}
+use Rattle.sqlite_rules.specs.declared.error.Rowids.TheVariants.{Chosen}
+use Rattle.sqlite_rules.specs.Edit.{edit_of, edited}
+use Rattle.sqlite_trees.specs.Tree.{Trees, put_row}
+use Rattle.sqlite.specs.Does.{Tally, Does}
+use Rattle.sqlite.specs.Rows.{Written}
+use Rattle.sqlite.specs.Effect.{Database}
+use Rattle.sqlite.specs.Listing.{understood}
+use Rattle.sqlite.specs.State.{State, mode_of, Executes}
+use Rattle.sqlite.proofs.Callers.{statement_of, runs_as, one_step}
+use Rattle.keeper_sql.specs.Schema.{runs_at, store_schema, insert_run}
+use Rattle.keeper_sql.specs.Store.{only, Puts}
+use Rattle.keeper_sql.proofs.Casts.{cast_int, cast_null, same_value, went}
+use Rattle.keeper_sql.proofs.InsertTexts.{run_terms, run_inserted, run_plain}
+
+pub puts_run : (old new : State) (x0 : ℤ) (x1 : ℤ) (x2 : ℤ) (count : ℕ) → old.now.schema ≡ store_schema
+    → Executes insert_run (Int x0 ∷ Int x1 ∷ Int x2 ∷ []) old new (Ok count) → Puts (only 4 ((Int x0 ∷ Null ∷ Int x1 ∷ Int x2 ∷ []) ∷ [])) old.now new.now
+puts_run old new x0 x1 x2 count has h =
+    let params : Row = Int x0 ∷ Int x1 ∷ Int x2 ∷ [] in
+    let db = old.now.trees in
+    let command = Insert 4 (Values run_terms 4) in
+    let w = runs_as insert_run params old new store_schema has command run_inserted run_plain count h in
+    let text = statement_of insert_run (understood store_schema insert_run) in
+    let done = went (subst (λ s. Does old.step_limit (mode_of old) params (record old.now { schema = s }) text None command (Ok (w.tally, new.now))) has w.changed) in
+    let now = ap (λ (p : Tally × Database). p.1) (same_value (went (went done.2).2).2) in
+    let given = went done.1 in
+    let written = went (went given.2).2 in
+    let counted = went written.2 in
+    let trees : done.0.trees ≡ written.0 = ap (λ (it : Written). it.trees) (same_value counted.2) ∙ same_value counted.1 in
+    let step = one_step store_schema _ db written.0 (edit_of db (runs_at 4) [] Chosen 0 given.0) refl written.1 in
+    let edit : edited db (edit_of db (runs_at 4) [] Chosen 0 given.0) ≡ put_row (Int x0 ∷ Null ∷ Int x1 ∷ Int x2 ∷ []) (db 4) = ap (λ all. edited db (edit_of db (runs_at 4) [] Chosen 0 all)) given.1.1 ∙ rw (cast_int x0, cast_null, cast_int x1, cast_int x2) refl in
+    let tree : (t : ℕ) → new.now.trees t ≡ written.0 t = λ t. ap (λ (d : Database). d.trees t) now ∙ ap (λ (all : Trees). all t) trees in
+    record {
+      sound = λ _. w.sound;
+      schema = ap (λ (d : Database). d.schema) now;
+      meta = tree 0 ∙ step.tables.0 (omega arith);
+      docs = tree 1 ∙ step.tables.1.0 (omega arith);
+      notes = tree 2 ∙ step.tables.1.1.0 (omega arith);
+      queries = tree 3 ∙ step.tables.1.1.1.0 (omega arith);
+      runs = tree 4 ∙ step.rows ∙ edit;
+      picks = tree 5 ∙ step.tables.1.1.1.1.1.0 (omega arith);
+      filters = tree 6 ∙ step.tables.1.1.1.1.1.1.0 (omega arith);
+    }

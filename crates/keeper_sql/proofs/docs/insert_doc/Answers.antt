@@ -1,0 +1,16 @@
+use Rattle.sqlite.specs.Held.{state}
+use Rattle.keeper_sql.specs.RowsAsValues.{given_doc}
+use Rattle.keeper_sql.specs.Schema.{insert_doc}
+use Rattle.keeper_sql.proofs.Steps.{went_by}
+use Rattle.keeper_sql.proofs.ReadBack.{read_doc}
+use Rattle.keeper_sql.proofs.InsertDoc.{puts_doc}
+use Rattle.keeper_sql.proofs.docs.insert_doc.Goals as goal
+
+pub returns-in-Ok-clause-ok : goal.returns-in-Ok-clause-ok
+returns-in-Ok-clause-ok g c clean inside =
+    let old = state g.S.Store c.args.tx.now.conn.now in
+    let new = state g.S.Store c.execute.new.self.conn.now in
+    went_by _ old new insert_doc (given_doc c.args.doc.now) c.in-Ok.field-0 (rw c.doc_values-values.ensures.given at (c.in-Ok.ensures.runs clean inside)) (λ has ran. puts_doc old new _ _ _ c.in-Ok.field-0 has ran)
+
+pub returns-in-Ok-clause-read : goal.returns-in-Ok-clause-read
+returns-in-Ok-clause-read g c = read_doc c.args.doc.now c.doc_values-values.ensures.range

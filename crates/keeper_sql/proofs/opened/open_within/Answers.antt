@@ -1,0 +1,23 @@
+use Rattle.std.proofs.Common.{rules, ◌≡◌, ◌∙◌, sym, ap, subst, arith, pos}
+use Rattle.sqlite.specs.Held.{state}
+use Rattle.sqlite.specs.Effect.{Database}
+use Rattle.sqlite.specs.State.{HasCleanDisk, IsUnchanged}
+use Rattle.keeper_sql.specs.RowsAsValues.{tables_in}
+use Rattle.keeper_sql.specs.Store.{OpensAt, AreAllKeyed}
+use Rattle.keeper_sql.proofs.OpeningLemmas.{opens_still}
+use Rattle.keeper_sql.proofs.opened.open_within.Goals as goal
+
+pub returns-in-Ok-read_tables-clause-ok : goal.returns-in-Ok-read_tables-clause-ok
+returns-in-Ok-read_tables-clause-ok g c clean inside ours =
+    let old = state g.S.Store c.args.tx.now.conn.now in
+    let mid = state g.S.Store c.prepare.new.tx.conn.now in
+    let new = state g.S.Store c.read_tables.new.tx.conn.now in
+    let early : HasCleanDisk mid = omega (arith, c.read_tables.ensures.survives.clean) in
+    let is_two : c.in-Ok-eq2.field-0 ≡ pos 2 = search rules in
+    let at : OpensAt (pos 2) old mid = subst (λ v. OpensAt v old mid) is_two (c.in-Ok-eq2.ensures.ok early inside ours) in
+    let same : IsUnchanged mid new = c.in-Ok-read_tables.ensures.same clean at.to.schema in
+    let now = same.0.now_is in
+    (opens_still (pos 2) old mid new at same, λ keyed. c.in-Ok-read_tables.ensures.read clean at.to.schema (subst AreAllKeyed now keyed) ∙ ap (λ (d : Database). tables_in d.trees) (sym now))
+
+pub returns-in-Ok-clause-ok : goal.returns-in-Ok-clause-ok
+returns-in-Ok-clause-ok g c clean inside ours = let by = c.in-Ok.ensures.ok clean inside ours in search (rules, by)

@@ -1,0 +1,5 @@
+pub mod Schema
+pub mod RowsAsValues
+pub mod Store
+pub mod Telling
+pub mod Opening

@@ -1,0 +1,45 @@
+-- What an open store gives.
+use Rattle.std.specs.Prelude.{◌≡◌, ◌≢◌, pos, IsTrue, Result, Ok, Err}
+use Rattle.sqlite.specs.State.{State}
+use Rattle.keeper_sql.specs.declared.opened.Opened.{Opened}
+use Rattle.keeper_sql.specs.declared.opened.Opened.TheVariants.{Held, Alien}
+use Rattle.tap_rows.specs.declared.tables.Tables.{Tables}
+use Rattle.keeper_core.specs.declared.fault.AttachFault.{AttachFault}
+use Rattle.keeper_core.specs.declared.fault.AttachFault.TheVariants as fault
+use Rattle.keeper_sql.specs.RowsAsValues.{tables_in}
+use Rattle.keeper_sql.specs.Store.{OpensTo, OpensAt, AreAllKeyed}
+use Rattle.sqlite.specs.Effect.{Database}
+use Rattle.sqlite.specs.declared.error.Error.{Error}
+
+-- the store is open in the transaction, and its tables are these; or it has this version
+abbrev pub IsOpened : State → State → Opened → Type 0
+IsOpened old new (Held tables) = OpensAt (pos 2) old new × (AreAllKeyed new.now → tables ≡ tables_in new.now.trees)
+IsOpened old new (Alien version) = OpensAt version old new
+
+-- only a version that isn't known is refused
+abbrev pub IsRefusedAt : Opened → Type 0
+IsRefusedAt (Held tables) = Unit {0}
+IsRefusedAt (Alien version) = (version ≢ pos 1) × (version ≢ pos 2)
+
+-- the store was opened so, and that was committed; or it has this version
+abbrev pub IsStored : State → State → Opened → Type 0
+IsStored old new (Held tables) =
+    IsTrue old.is_open × IsTrue new.is_open × (new.committed ≡ new.now) × OpensTo (pos 2) old.now new.now × (AreAllKeyed new.now → tables ≡ tables_in new.now.trees)
+IsStored old new (Alien version) = (db : Database) × OpensTo version old.now db
+
+-- this holds where the store was not opened
+abbrev pub UnlessHeld : Result Opened Error → Type 0 → Type 0
+UnlessHeld (Ok (Held tables)) P = Unit {0}
+UnlessHeld (Ok (Alien version)) P = P
+UnlessHeld (Err e) P = P
+
+-- the store was opened so
+abbrev pub IsHeld : State → State → Tables → Type 0
+IsHeld old new tables = IsStored old new (Held tables)
+
+-- this holds where no call of the store failed
+abbrev pub UnlessFailed : {T : Type 0} → Result T AttachFault → Type 0 → Type 0
+UnlessFailed (Ok given) P = Unit {0}
+UnlessFailed (Err (fault.Alien version)) P = P
+UnlessFailed (Err fault.Failed) P = Unit {0}
+UnlessFailed (Err fault.Memory) P = P

@@ -1,0 +1,92 @@
+//! The table `docs`.
+
+ghost use Rattle.std.specs.Prelude.{◌≡◌, ◌<◌, ◌^◌, [], ◌∷◌, map, IsTrue, IfOk, OnOk, OnErr};
+ghost use Rattle.sqlite.specs.Held.{state};
+ghost use Rattle.sqlite.specs.State.{HasCleanDisk, Survives, IsUnchanged};
+ghost use Rattle.sqlite.specs.Values.{bound};
+ghost use Rattle.keeper_sql.specs.RowsAsValues.{given_doc, doc_in, doc_shown, as_kept};
+ghost use Rattle.keeper_sql.specs.Store.{only, Went, Undone, AreKeyed};
+ghost use Rattle.keeper_sql.specs.Schema.{store_schema};
+
+use crate::reading::{bytes, integer, no_memory, number};
+use sqlite::types::ValueRef;
+use sqlite::{Alter, Error, Row, Transaction};
+use std::alloc::Global;
+use tap_base::{DocNum, Rows};
+use tap_rows::Doc;
+
+fn doc_values(doc: &Doc) -> [ValueRef<'_>; 3]
+    ensures given { bound result ≡ given_doc doc.now }
+    ensures range { doc.now.num.0 < 2 ^ 32 }
+{
+    [
+        ValueRef::Int(i64::from(doc.num.0)),
+        ValueRef::Int(doc.arrival),
+        ValueRef::Blob(doc.text.as_slice()),
+    ]
+}
+
+/// Adds a document.
+pub fn insert_doc<S: Alter>(tx: &mut Transaction<'_, S>, doc: &Doc) -> Result<(), Error>
+    ensures same_reference { tx.new.conn.ghost_name ≡ tx.old.conn.ghost_name }
+    ensures ok { HasCleanDisk (state S.Store tx.new.conn.now) → IsTrue (state S.Store tx.old.conn.now).in_transaction → OnOk result (Went (only 1 (as_kept (given_doc doc.now) ∷ [])) (state S.Store tx.old.conn.now) (state S.Store tx.new.conn.now)) }
+    ensures err { HasCleanDisk (state S.Store tx.new.conn.now) → IsTrue (state S.Store tx.old.conn.now).in_transaction → OnErr result (Undone (state S.Store tx.old.conn.now) (state S.Store tx.new.conn.now)) }
+    ensures survives { Survives (state S.Store tx.old.conn.now) (state S.Store tx.new.conn.now) (λ _. ⊥) }
+    ensures read { OnOk result (doc_in (as_kept (given_doc doc.now)) ≡ doc.now) }
+{
+    let values = doc_values(doc);
+    match tx.execute(
+        "INSERT INTO docs (num, arrival, body) VALUES (?1, ?2, ?3)",
+        &values,
+    ) {
+        Ok(_) => Ok(()),
+        Err(error) => Err(error),
+    }
+}
+
+/// Adds the documents, in their order.
+pub fn insert_docs<S: Alter>(tx: &mut Transaction<'_, S>, docs: &[Doc]) -> Result<(), Error>
+    ensures same_reference { tx.new.conn.ghost_name ≡ tx.old.conn.ghost_name }
+    ensures ok { HasCleanDisk (state S.Store tx.new.conn.now) → IsTrue (state S.Store tx.old.conn.now).in_transaction → OnOk result (Went (only 1 (map (λ x. as_kept (given_doc x)) docs.now)) (state S.Store tx.old.conn.now) (state S.Store tx.new.conn.now)) }
+    ensures err { HasCleanDisk (state S.Store tx.new.conn.now) → IsTrue (state S.Store tx.old.conn.now).in_transaction → OnErr result (Undone (state S.Store tx.old.conn.now) (state S.Store tx.new.conn.now)) }
+    ensures survives { Survives (state S.Store tx.old.conn.now) (state S.Store tx.new.conn.now) (λ _. ⊥) }
+    ensures read { OnOk result (map doc_in (map (λ x. as_kept (given_doc x)) docs.now) ≡ docs.now) }
+{
+    'adds: for doc in docs {
+        insert_doc(tx, doc)?;
+    }
+    Ok(())
+}
+
+fn doc_of(alloc: Global, row: &Row) -> Result<Doc, Error>
+    ensures { IfOk result (λ x. x ≡ doc_shown row.now) }
+{
+    let num = DocNum(number(row, 0)?);
+    let arrival = integer(row, 1)?;
+    let text = bytes(alloc, row, 2)?;
+    Ok(Doc { num, arrival, text })
+}
+
+fn docs_of(alloc: Global, shown: &[Row]) -> Result<Rows<Doc>, Error>
+    ensures { IfOk result (λ rows. rows ≡ map doc_shown shown.now) }
+{
+    let mut rows = Rows::new(alloc);
+    for row in shown {
+        rows.push(doc_of(alloc, row)?).map_err(no_memory)?;
+    }
+    Ok(rows)
+}
+
+/// Reads the documents, in order of their numbers.
+pub fn read_docs<S: Alter>(alloc: Global, tx: &mut Transaction<'_, S>) -> Result<Rows<Doc>, Error>
+    ensures same_reference { tx.new.conn.ghost_name ≡ tx.old.conn.ghost_name }
+    ensures same { HasCleanDisk (state S.Store tx.new.conn.now) → (state S.Store tx.old.conn.now).now.schema ≡ store_schema → OnOk result (IsUnchanged (state S.Store tx.old.conn.now) (state S.Store tx.new.conn.now)) }
+    ensures read { HasCleanDisk (state S.Store tx.new.conn.now) → (state S.Store tx.old.conn.now).now.schema ≡ store_schema → IfOk result (λ rows. AreKeyed ((state S.Store tx.old.conn.now).now.trees 1) → rows ≡ map doc_in ((state S.Store tx.old.conn.now).now.trees 1)) }
+    ensures err { HasCleanDisk (state S.Store tx.new.conn.now) → (state S.Store tx.old.conn.now).now.schema ≡ store_schema → OnErr result (Undone (state S.Store tx.old.conn.now) (state S.Store tx.new.conn.now)) }
+    ensures survives { Survives (state S.Store tx.old.conn.now) (state S.Store tx.new.conn.now) (λ _. ⊥) }
+{
+    match tx.query_all("SELECT num, arrival, body FROM docs ORDER BY num", &[]) {
+        Ok(shown) => docs_of(alloc, shown.as_slice()),
+        Err(error) => Err(error),
+    }
+}

@@ -1,0 +1,77 @@
+//! A commit, and what it leaves where it fails.
+
+ghost use Rattle.std.specs.Prelude.{◌≡◌, ◌⊎◌, ◌↔◌, false, IsTrue, OnOk, Err};
+ghost use Rattle.sqlite.specs.Held.{state};
+ghost use Rattle.sqlite.specs.State.{HasCleanDisk, Survives, IsUnchanged, IsLive};
+ghost use Rattle.sqlite_trees.specs.Tree.{Trees};
+ghost use Rattle.keeper_sql.specs.RowsAsValues.{rows_of, IsReadBack};
+ghost use Rattle.keeper_sql.specs.Store.{Commits, IsAfter, LeavesAlone};
+
+use crate::change::commit_change;
+use keeper_core::CommitFault;
+use sqlite::{Alter, Connection, Error, ErrorCode};
+use tap_rows::Change;
+
+// Does the error name want of memory?
+pub fn is_memory(error: &Error) -> bool
+    ensures { IsTrue result ↔ (error.now ≡ Error.SqliteFailure ErrorCode.OutOfMemory) }
+{
+    matches!(error, Error::SqliteFailure(ErrorCode::OutOfMemory))
+}
+
+// Between two calls a crash leaves what the connection shows.
+pub fn look<S: Alter>(conn: &Connection<S>) -> bool
+    requires { (state S.Store conn.now).in_transaction ≡ false }
+    ensures live { IsLive (state S.Store conn.now) }
+    ensures committed { IsTrue (state S.Store conn.now).is_open → (state S.Store conn.now).now ≡ (state S.Store conn.now).committed }
+    ensures alone { IsTrue (state S.Store conn.now).is_open → LeavesAlone (state S.Store conn.now) (state S.Store conn.now).now.trees }
+{
+    let _schema = conn.schema();
+    conn.is_autocommit()
+}
+
+// Is the store still open?
+pub fn stands<S: Alter>(conn: &mut Connection<S>) -> bool
+    requires { (state S.Store conn.old).in_transaction ≡ false }
+    ensures ended { (state S.Store conn.new).in_transaction ≡ false }
+    ensures same { HasCleanDisk (state S.Store conn.new) → IsTrue result → IsUnchanged (state S.Store conn.old) (state S.Store conn.new) }
+    ensures alone { HasCleanDisk (state S.Store conn.new) → IsTrue result → LeavesAlone (state S.Store conn.new) (state S.Store conn.new).now.trees }
+    ensures survives { Survives (state S.Store conn.old) (state S.Store conn.new) (λ _. ⊥) }
+{
+    conn.prepare("SELECT 1").is_ok() && look(conn)
+}
+
+// Was memory wanting, and is the store as it was?
+pub fn is_only_memory<S: Alter>(conn: &mut Connection<S>, error: &Error) -> bool
+    requires { (state S.Store conn.old).in_transaction ≡ false }
+    ensures ended { (state S.Store conn.new).in_transaction ≡ false }
+    ensures same { HasCleanDisk (state S.Store conn.new) → IsTrue result → IsUnchanged (state S.Store conn.old) (state S.Store conn.new) }
+    ensures alone { HasCleanDisk (state S.Store conn.new) → IsTrue result → LeavesAlone (state S.Store conn.new) (state S.Store conn.new).now.trees }
+    ensures survives { Survives (state S.Store conn.old) (state S.Store conn.new) (λ _. ⊥) }
+{
+    is_memory(error) && stands(conn)
+}
+
+/// Commits a change: all its rows or none.
+pub fn keep<S: Alter>(conn: &mut Connection<S>, change: &Change) -> Result<(), CommitFault>
+    requires { (state S.Store conn.old).in_transaction ≡ false }
+    ensures ended { (state S.Store conn.new).in_transaction ≡ false }
+    ensures honest { HasCleanDisk (state S.Store conn.new) → HasCleanDisk (state S.Store conn.old) }
+    ensures ok { HasCleanDisk (state S.Store conn.new) → OnOk result (Commits (rows_of change.now) (state S.Store conn.old) (state S.Store conn.new)) }
+    ensures read { OnOk result (IsReadBack change.now) }
+    ensures alone { HasCleanDisk (state S.Store conn.new) → OnOk result (LeavesAlone (state S.Store conn.new) (state S.Store conn.new).now.trees) }
+    ensures memory { HasCleanDisk (state S.Store conn.new) → result ≡ Err CommitFault.Memory → IsTrue (state S.Store conn.new).is_open × ((state S.Store conn.new).now ≡ (state S.Store conn.old).now) × LeavesAlone (state S.Store conn.new) (state S.Store conn.new).now.trees }
+    ensures crash { HasCleanDisk (state S.Store conn.new) → IsTrue (state S.Store conn.old).is_open → (db : Trees) → (state S.Store conn.new).may_leave db → (db ≡ (state S.Store conn.old).now.trees) ⊎ IsAfter change.now (state S.Store conn.old) db }
+{
+    let _settled = look(conn);
+    match commit_change(conn, change) {
+        Ok(()) => Ok(()),
+        Err(error) => {
+            if is_only_memory(conn, &error) {
+                Err(CommitFault::Memory)
+            } else {
+                Err(CommitFault::Failed)
+            }
+        }
+    }
+}

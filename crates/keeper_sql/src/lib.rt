@@ -1,0 +1,19 @@
+//! The keeper over SQL.
+#![tactic(auto)]
+
+mod change;
+mod create;
+mod docs;
+mod filters;
+mod keep;
+mod notes;
+mod opened;
+mod opening;
+mod picks;
+mod queries;
+mod reading;
+mod runs;
+mod sql_keeper;
+mod version;
+
+pub use sql_keeper::SqlKeeper;

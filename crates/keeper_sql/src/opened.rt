@@ -1,0 +1,116 @@
+//! How a store is opened, in a transaction.
+
+ghost use Rattle.std.specs.Prelude.{◌≡◌, ◌≢◌, ◌⊎◌, pos, false, IsTrue, IfOk, OnOk, OnErr};
+ghost use Rattle.keeper_core.specs.Keeping.{IfAlien};
+ghost use Rattle.sqlite_trees.specs.Tree.{Trees};
+ghost use Rattle.sqlite.specs.Effect.{Database};
+ghost use Rattle.sqlite.specs.Held.{state};
+ghost use Rattle.sqlite.specs.State.{HasCleanDisk, Survives, IsLive};
+ghost use Rattle.keeper_sql.specs.Store.{Undone, IsOurs, OpensTo, OpensAt, IsAfterOpen, LeavesAlone};
+ghost use Rattle.keeper_sql.specs.Opening.{IsOpened, IsRefusedAt, IsStored, IsHeld, UnlessHeld, UnlessFailed};
+
+use crate::create::create_all;
+use crate::keep::{is_only_memory, look, stands};
+use crate::opening::read_tables;
+use crate::version::settle_version;
+use keeper_core::AttachFault;
+use sqlite::{Alter, Connection, Error, Transaction};
+use std::alloc::Global;
+use tap_rows::Tables;
+
+/// What a store gives as it is opened: its tables, or a version that isn't known.
+#[derive(Drop)]
+pub enum Opened {
+    Held(Tables),
+    Alien(i64),
+}
+
+// Makes the tables that aren't there, and settles the version.
+fn prepare<S: Alter>(tx: &mut Transaction<'_, S>) -> Result<i64, Error>
+    ensures same_reference { tx.new.conn.ghost_name ≡ tx.old.conn.ghost_name }
+    ensures never { IfOk result (λ version. version ≢ pos 1) }
+    ensures ok { HasCleanDisk (state S.Store tx.new.conn.now) → IsTrue (state S.Store tx.old.conn.now).in_transaction → IsOurs (state S.Store tx.old.conn.now).now → IfOk result (λ version. OpensAt version (state S.Store tx.old.conn.now) (state S.Store tx.new.conn.now)) }
+    ensures err { HasCleanDisk (state S.Store tx.new.conn.now) → IsTrue (state S.Store tx.old.conn.now).in_transaction → IsOurs (state S.Store tx.old.conn.now).now → OnErr result (Undone (state S.Store tx.old.conn.now) (state S.Store tx.new.conn.now)) }
+    ensures survives { Survives (state S.Store tx.old.conn.now) (state S.Store tx.new.conn.now) (λ _. ⊥) }
+{
+    match create_all(tx) {
+        Ok(()) => settle_version(tx),
+        Err(error) => Err(error),
+    }
+}
+
+/// Opens a store in a transaction, and reads its tables.
+pub fn open_within<S: Alter>(alloc: Global, tx: &mut Transaction<'_, S>) -> Result<Opened, Error>
+    ensures same_reference { tx.new.conn.ghost_name ≡ tx.old.conn.ghost_name }
+    ensures never { IfOk result IsRefusedAt }
+    ensures ok { HasCleanDisk (state S.Store tx.new.conn.now) → IsTrue (state S.Store tx.old.conn.now).in_transaction → IsOurs (state S.Store tx.old.conn.now).now → IfOk result (IsOpened (state S.Store tx.old.conn.now) (state S.Store tx.new.conn.now)) }
+    ensures err { HasCleanDisk (state S.Store tx.new.conn.now) → IsTrue (state S.Store tx.old.conn.now).in_transaction → IsOurs (state S.Store tx.old.conn.now).now → OnErr result (Undone (state S.Store tx.old.conn.now) (state S.Store tx.new.conn.now)) }
+    ensures survives { Survives (state S.Store tx.old.conn.now) (state S.Store tx.new.conn.now) (λ _. ⊥) }
+{
+    match prepare(tx) {
+        Err(error) => Err(error),
+        Ok(2) => match read_tables(alloc, tx) {
+            Ok(tables) => Ok(Opened::Held(tables)),
+            Err(error) => Err(error),
+        },
+        Ok(version) => Ok(Opened::Alien(version)),
+    }
+}
+
+/// Opens a store in one transaction.
+pub fn open_store<S: Alter>(alloc: Global, conn: &mut Connection<S>) -> Result<Opened, Error>
+    requires { (state S.Store conn.old).in_transaction ≡ false }
+    ensures ended { (state S.Store conn.new).in_transaction ≡ false }
+    ensures never { IfOk result IsRefusedAt }
+    ensures ok { HasCleanDisk (state S.Store conn.new) → IsOurs (state S.Store conn.old).now → IfOk result (IsStored (state S.Store conn.old) (state S.Store conn.new)) }
+    ensures was_open { HasCleanDisk (state S.Store conn.new) → IsOurs (state S.Store conn.old).now → UnlessHeld result (IsTrue (state S.Store conn.new).is_open → IsTrue (state S.Store conn.old).is_open) }
+    ensures undone { HasCleanDisk (state S.Store conn.new) → IsOurs (state S.Store conn.old).now → UnlessHeld result (IsTrue (state S.Store conn.new).is_open → (state S.Store conn.new).now ≡ (state S.Store conn.old).committed) }
+    ensures survives { Survives (state S.Store conn.old) (state S.Store conn.new) (IsAfterOpen (state S.Store conn.old)) }
+{
+    let mut tx = conn.transaction();
+    match open_within(alloc, &mut tx) {
+        Err(error) => Err(error),
+        Ok(Opened::Alien(version)) => Ok(Opened::Alien(version)),
+        Ok(Opened::Held(tables)) => match tx.commit() {
+            Ok(()) => Ok(Opened::Held(tables)),
+            Err(error) => Err(error),
+        },
+    }
+}
+
+/// Opens a store, which is as it was unless its tables are given or a call failed.
+pub fn open_kept<S: Alter>(alloc: Global, conn: &mut Connection<S>) -> Result<Tables, AttachFault>
+    requires { (state S.Store conn.old).in_transaction ≡ false }
+    ensures ended { (state S.Store conn.new).in_transaction ≡ false }
+    ensures honest { HasCleanDisk (state S.Store conn.new) → HasCleanDisk (state S.Store conn.old) }
+    ensures never { IfAlien result (λ v. (v ≢ pos 1) × (v ≢ pos 2)) }
+    ensures ok { HasCleanDisk (state S.Store conn.new) → IsOurs (state S.Store conn.old).now → IfOk result (IsHeld (state S.Store conn.old) (state S.Store conn.new)) }
+    ensures live { OnOk result (IsLive (state S.Store conn.new)) }
+    ensures given_alone { HasCleanDisk (state S.Store conn.new) → IsOurs (state S.Store conn.old).now → OnOk result (LeavesAlone (state S.Store conn.new) (state S.Store conn.new).now.trees) }
+    ensures alone { HasCleanDisk (state S.Store conn.new) → UnlessFailed result (LeavesAlone (state S.Store conn.new) (state S.Store conn.new).now.trees) }
+    ensures still { HasCleanDisk (state S.Store conn.new) → IsOurs (state S.Store conn.old).now → UnlessFailed result (IsTrue (state S.Store conn.new).is_open × IsTrue (state S.Store conn.old).is_open × ((state S.Store conn.new).now ≡ (state S.Store conn.old).now)) }
+    ensures alien { HasCleanDisk (state S.Store conn.new) → IsOurs (state S.Store conn.old).now → IfAlien result (λ v. (db : Database) × OpensTo v (state S.Store conn.old).now db) }
+    ensures crash { HasCleanDisk (state S.Store conn.new) → IsTrue (state S.Store conn.old).is_open → (db : Trees) → (state S.Store conn.new).may_leave db → (db ≡ (state S.Store conn.old).now.trees) ⊎ IsAfterOpen (state S.Store conn.old) db }
+{
+    let _settled = look(conn);
+    match open_store(alloc, conn) {
+        Ok(Opened::Held(tables)) => {
+            let _alone = look(conn);
+            Ok(tables)
+        }
+        Ok(Opened::Alien(version)) => {
+            if stands(conn) {
+                Err(AttachFault::Alien { version })
+            } else {
+                Err(AttachFault::Failed)
+            }
+        }
+        Err(error) => {
+            if is_only_memory(conn, &error) {
+                Err(AttachFault::Memory)
+            } else {
+                Err(AttachFault::Failed)
+            }
+        }
+    }
+}

@@ -1,0 +1,81 @@
+//! The table `runs`.
+
+ghost use Rattle.std.specs.Prelude.{◌≡◌, ◌<◌, ◌^◌, [], ◌∷◌, map, IsTrue, IfOk, OnOk, OnErr};
+ghost use Rattle.sqlite.specs.Held.{state};
+ghost use Rattle.sqlite.specs.State.{HasCleanDisk, Survives, IsUnchanged};
+ghost use Rattle.sqlite.specs.Values.{bound};
+ghost use Rattle.keeper_sql.specs.RowsAsValues.{given_run, run_in, run_shown, as_kept};
+ghost use Rattle.keeper_sql.specs.Store.{only, Went, Undone, AreKeyed};
+ghost use Rattle.keeper_sql.specs.Schema.{store_schema};
+
+use crate::reading::{integer, no_memory, number};
+use sqlite::types::ValueRef;
+use sqlite::{Alter, Error, Row, Transaction};
+use std::alloc::Global;
+use tap_base::{QueryNum, Rows};
+use tap_rows::RunRow;
+
+fn run_values(run: &RunRow) -> [ValueRef<'_>; 3]
+    ensures given { bound result ≡ given_run run.now }
+    ensures range { (run.now.num < 2 ^ 32) × (run.now.query.0 < 2 ^ 32) }
+{
+    [
+        ValueRef::Int(i64::from(run.num)),
+        ValueRef::Int(i64::from(run.query.0)),
+        ValueRef::Int(run.moment),
+    ]
+}
+
+/// Adds a run.
+pub fn insert_run<S: Alter>(tx: &mut Transaction<'_, S>, run: &RunRow) -> Result<(), Error>
+    ensures same_reference { tx.new.conn.ghost_name ≡ tx.old.conn.ghost_name }
+    ensures ok { HasCleanDisk (state S.Store tx.new.conn.now) → IsTrue (state S.Store tx.old.conn.now).in_transaction → OnOk result (Went (only 4 (as_kept (given_run run.now) ∷ [])) (state S.Store tx.old.conn.now) (state S.Store tx.new.conn.now)) }
+    ensures err { HasCleanDisk (state S.Store tx.new.conn.now) → IsTrue (state S.Store tx.old.conn.now).in_transaction → OnErr result (Undone (state S.Store tx.old.conn.now) (state S.Store tx.new.conn.now)) }
+    ensures survives { Survives (state S.Store tx.old.conn.now) (state S.Store tx.new.conn.now) (λ _. ⊥) }
+    ensures read { OnOk result (run_in (as_kept (given_run run.now)) ≡ run.now) }
+{
+    let values = run_values(run);
+    match tx.execute(
+        "INSERT INTO runs (num, query, moment) VALUES (?1, ?2, ?3)",
+        &values,
+    ) {
+        Ok(_) => Ok(()),
+        Err(error) => Err(error),
+    }
+}
+
+fn run_of(row: &Row) -> Result<RunRow, Error>
+    ensures { IfOk result (λ x. x ≡ run_shown row.now) }
+{
+    let num = number(row, 0)?;
+    let query = QueryNum(number(row, 1)?);
+    let moment = integer(row, 2)?;
+    Ok(RunRow { num, query, moment })
+}
+
+fn runs_of(alloc: Global, shown: &[Row]) -> Result<Rows<RunRow>, Error>
+    ensures { IfOk result (λ rows. rows ≡ map run_shown shown.now) }
+{
+    let mut rows = Rows::new(alloc);
+    for row in shown {
+        rows.push(run_of(row)?).map_err(no_memory)?;
+    }
+    Ok(rows)
+}
+
+/// Reads the runs, in order of their numbers.
+pub fn read_runs<S: Alter>(
+    alloc: Global,
+    tx: &mut Transaction<'_, S>,
+) -> Result<Rows<RunRow>, Error>
+    ensures same_reference { tx.new.conn.ghost_name ≡ tx.old.conn.ghost_name }
+    ensures same { HasCleanDisk (state S.Store tx.new.conn.now) → (state S.Store tx.old.conn.now).now.schema ≡ store_schema → OnOk result (IsUnchanged (state S.Store tx.old.conn.now) (state S.Store tx.new.conn.now)) }
+    ensures read { HasCleanDisk (state S.Store tx.new.conn.now) → (state S.Store tx.old.conn.now).now.schema ≡ store_schema → IfOk result (λ rows. AreKeyed ((state S.Store tx.old.conn.now).now.trees 4) → rows ≡ map run_in ((state S.Store tx.old.conn.now).now.trees 4)) }
+    ensures err { HasCleanDisk (state S.Store tx.new.conn.now) → (state S.Store tx.old.conn.now).now.schema ≡ store_schema → OnErr result (Undone (state S.Store tx.old.conn.now) (state S.Store tx.new.conn.now)) }
+    ensures survives { Survives (state S.Store tx.old.conn.now) (state S.Store tx.new.conn.now) (λ _. ⊥) }
+{
+    match tx.query_all("SELECT num, query, moment FROM runs ORDER BY num", &[]) {
+        Ok(shown) => runs_of(alloc, shown.as_slice()),
+        Err(error) => Err(error),
+    }
+}

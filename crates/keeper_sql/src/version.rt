@@ -1,0 +1,80 @@
+//! The version of a store.
+
+ghost use Rattle.std.specs.Prelude.{◌≡◌, ◌≢◌, pos, IsTrue, IfOk, OnOk, OnErr};
+ghost use Rattle.sqlite.specs.Held.{state};
+ghost use Rattle.sqlite.specs.State.{HasCleanDisk, Survives, IsUnchanged};
+ghost use Rattle.keeper_sql.specs.RowsAsValues.{version_in, version_shown};
+ghost use Rattle.keeper_sql.specs.Schema.{store_schema};
+ghost use Rattle.keeper_sql.specs.Store.{Undone, Raises, Settles, AreKeyed, IsMeta};
+
+use crate::reading::integer;
+use sqlite::{Alter, Error, Row, Transaction};
+
+fn version_of(shown: &[Row]) -> Result<Option<i64>, Error>
+    ensures { IfOk result (λ version. version ≡ version_shown shown.now) }
+{
+    match shown.first() {
+        None => Ok(None),
+        Some(row) => Ok(Some(integer(row, 1)?)),
+    }
+}
+
+/// Reads the version, if there is one.
+pub fn read_version<S: Alter>(tx: &mut Transaction<'_, S>) -> Result<Option<i64>, Error>
+    ensures same_reference { tx.new.conn.ghost_name ≡ tx.old.conn.ghost_name }
+    ensures same { HasCleanDisk (state S.Store tx.new.conn.now) → (state S.Store tx.old.conn.now).now.schema ≡ store_schema → OnOk result (IsUnchanged (state S.Store tx.old.conn.now) (state S.Store tx.new.conn.now)) }
+    ensures read { HasCleanDisk (state S.Store tx.new.conn.now) → (state S.Store tx.old.conn.now).now.schema ≡ store_schema → IfOk result (λ version. AreKeyed ((state S.Store tx.old.conn.now).now.trees 0) → version ≡ version_in ((state S.Store tx.old.conn.now).now.trees 0)) }
+    ensures err { HasCleanDisk (state S.Store tx.new.conn.now) → (state S.Store tx.old.conn.now).now.schema ≡ store_schema → OnErr result (Undone (state S.Store tx.old.conn.now) (state S.Store tx.new.conn.now)) }
+    ensures survives { Survives (state S.Store tx.old.conn.now) (state S.Store tx.new.conn.now) (λ _. ⊥) }
+{
+    match tx.query_all("SELECT id, version FROM meta ORDER BY id", &[]) {
+        Ok(shown) => version_of(shown.as_slice()),
+        Err(error) => Err(error),
+    }
+}
+
+/// Makes the version 2.
+pub fn write_version<S: Alter>(tx: &mut Transaction<'_, S>) -> Result<(), Error>
+    ensures same_reference { tx.new.conn.ghost_name ≡ tx.old.conn.ghost_name }
+    ensures ok { HasCleanDisk (state S.Store tx.new.conn.now) → IsTrue (state S.Store tx.old.conn.now).in_transaction → OnOk result (Raises (state S.Store tx.old.conn.now) (state S.Store tx.new.conn.now)) }
+    ensures err { HasCleanDisk (state S.Store tx.new.conn.now) → IsTrue (state S.Store tx.old.conn.now).in_transaction → OnErr result (Undone (state S.Store tx.old.conn.now) (state S.Store tx.new.conn.now)) }
+    ensures survives { Survives (state S.Store tx.old.conn.now) (state S.Store tx.new.conn.now) (λ _. ⊥) }
+{
+    match tx.execute(
+        "INSERT OR REPLACE INTO meta (id, version) VALUES (1, 2)",
+        &[],
+    ) {
+        Ok(_) => Ok(()),
+        Err(error) => Err(error),
+    }
+}
+
+// Makes the version 2, and gives it.
+fn raise_version<S: Alter>(tx: &mut Transaction<'_, S>) -> Result<i64, Error>
+    ensures same_reference { tx.new.conn.ghost_name ≡ tx.old.conn.ghost_name }
+    ensures ok { HasCleanDisk (state S.Store tx.new.conn.now) → IsTrue (state S.Store tx.old.conn.now).in_transaction → IfOk result (λ version. (version ≡ pos 2) × Raises (state S.Store tx.old.conn.now) (state S.Store tx.new.conn.now)) }
+    ensures two { IfOk result (λ version. version ≡ pos 2) }
+    ensures err { HasCleanDisk (state S.Store tx.new.conn.now) → IsTrue (state S.Store tx.old.conn.now).in_transaction → OnErr result (Undone (state S.Store tx.old.conn.now) (state S.Store tx.new.conn.now)) }
+    ensures survives { Survives (state S.Store tx.old.conn.now) (state S.Store tx.new.conn.now) (λ _. ⊥) }
+{
+    match write_version(tx) {
+        Ok(()) => Ok(2),
+        Err(error) => Err(error),
+    }
+}
+
+/// The version of a store, which becomes 2 where there is none or 1.
+pub fn settle_version<S: Alter>(tx: &mut Transaction<'_, S>) -> Result<i64, Error>
+    ensures same_reference { tx.new.conn.ghost_name ≡ tx.old.conn.ghost_name }
+    ensures never { IfOk result (λ version. version ≢ pos 1) }
+    ensures ok { HasCleanDisk (state S.Store tx.new.conn.now) → IsTrue (state S.Store tx.old.conn.now).in_transaction → (state S.Store tx.old.conn.now).now.schema ≡ store_schema → IsMeta ((state S.Store tx.old.conn.now).now.trees 0) → IfOk result (λ version. Settles version (state S.Store tx.old.conn.now) (state S.Store tx.new.conn.now)) }
+    ensures err { HasCleanDisk (state S.Store tx.new.conn.now) → IsTrue (state S.Store tx.old.conn.now).in_transaction → (state S.Store tx.old.conn.now).now.schema ≡ store_schema → OnErr result (Undone (state S.Store tx.old.conn.now) (state S.Store tx.new.conn.now)) }
+    ensures survives { Survives (state S.Store tx.old.conn.now) (state S.Store tx.new.conn.now) (λ _. ⊥) }
+{
+    match read_version(tx) {
+        Err(error) => Err(error),
+        Ok(None) => raise_version(tx),
+        Ok(Some(1)) => raise_version(tx),
+        Ok(Some(version)) => Ok(version),
+    }
+}
