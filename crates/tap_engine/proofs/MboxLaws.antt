@@ -116,6 +116,7 @@ stands-docs e t moment texts stands there = rw (docs-change t (next_docs t momen
       (sum_by-append (λ doc. length doc.text) t.docs (next_docs t moment texts) ∙ ap (λ n. sum_by (λ doc. length doc.text) t.docs + n) (docs-bytes (length t.docs + 1) moment texts));
   users = stands.users;
   owners = stands.owners;
+  filters = stands.filters;
   greatest = λ none. absurd (there none);
 }) where
   more : (a b c d a' n k : ℕ) → n ≡ a + b + c + d → a' ≡ a + k → n + k ≡ a' + b + c + d

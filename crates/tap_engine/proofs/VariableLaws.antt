@@ -1,5 +1,5 @@
 -- The EXISTS of a condition that is read bind at most five variables.
-use Rattle.std.proofs.Common.{◌≡◌, ap, refl, arith, ℕ, ◌+◌, ◌≤◌, Bool, true, false, Option, Some, None, List, inl, inr, if◌then◌else◌}
+use Rattle.std.proofs.Common.{◌≡◌, ◌∙◌, ap, refl, arith, ℕ, ◌+◌, ◌≤◌, Bool, true, false, Option, Some, None, List, inl, inr, if◌then◌else◌}
 use Rattle.std.specs.Prelude.{nat_lt, nat_le, is_some, Result, Ok, Err}
 use Rattle.std.proofs.lemmas.Bool.{cases_Bool}
 use Rattle.tap_base.specs.declared.numbers.Op.{Op}

@@ -34,7 +34,9 @@ fn cut_block(alloc: Global, block: &Block) -> Result<Texts, Memory>
 fn are_short(texts: &[Text]) -> bool
     ensures { result ≡ are_short texts.now }
 {
-    texts.iter().all(|text| text.len() <= MESSAGE_LIMIT as usize)
+    texts
+        .iter()
+        .all(|text| text.len() <= MESSAGE_LIMIT as usize)
 }
 
 // Refuses messages of which one is too long.
