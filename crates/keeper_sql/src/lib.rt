@@ -17,3 +17,6 @@ mod sql_keeper;
 mod version;
 
 pub use sql_keeper::SqlKeeper;
+
+#[cfg(test)]
+mod tests;
