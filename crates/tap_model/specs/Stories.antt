@@ -1,9 +1,10 @@
 -- What a list of commands does, one after another.
-use Rattle.std.specs.Prelude.{◌≡◌, ◌⊎◌, List, [], ◌∷◌, false, Some}
+use Rattle.std.specs.Prelude.{◌≡◌, ◌⊎◌, List, [], ◌∷◌, false, Some, if◌then◌else◌}
 use Rattle.tap_rows.specs.declared.tables.Tables.{Tables}
 use Rattle.script_lang.specs.declared.command.Command.{Command}
 use Rattle.script_lang.specs.declared.reply.Reply.{Reply}
 use Rattle.script_lang.specs.declared.reply.Reply.TheVariants.{No}
+use Rattle.script_lang.specs.Replies.{is_accepted}
 use Rattle.script_lang.specs.declared.refusal.Refusal.{Refusal}
 use Rattle.script_lang.specs.declared.refusal.Refusal.TheVariants.{Memory}
 use Rattle.tap_model.specs.declared.session.Session.{Session}
@@ -22,6 +23,10 @@ pub record GivesUp (tables : Tables) (session : Session) (command : Command) (re
   pub tables_are : tables' ≡ tables
   pub session_is : session' ≡ session
   pub not_spared : is_spared command session tables ≡ false
+
+-- the tables after a command with this reply: with the rows that it adds, where it was accepted
+abbrev pub next_tables : Command → Reply → Session → Tables → Tables
+next_tables command reply session tables = if is_accepted reply then tables_after (answer_of command session tables).change tables else tables
 
 -- one step of a story
 abbrev pub Step : Tables → Session → Command → Reply → Tables → Session → Type 0
