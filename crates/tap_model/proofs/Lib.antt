@@ -1,4 +1,9 @@
 pub mod AnswerLaws
+pub mod RowLaws
+pub mod RunFits
+pub mod HeldLaws
+pub mod FitLaws
+pub mod TextLaws
 pub mod SoundLaws
 pub mod ViewLaws
 pub mod CoreLaws

@@ -36,7 +36,7 @@ Step tables session command reply tables' session' = Follows tables session comm
 abbrev pub Story : Tables → Session → List Command → List Reply → Tables → Session → Type 0
 Story tables session [] [] tables' session' = (tables' ≡ tables) × (session' ≡ session)
 Story tables session (command ∷ commands) (reply ∷ replies) tables' session' =
-    (mid : Tables) × (then : Session) × Step tables session command reply mid then × Story mid then commands replies tables' session'
+    (mid : Tables) × (next : Session) × Step tables session command reply mid next × Story mid next commands replies tables' session'
 Story tables session [] (reply ∷ replies) tables' session' = ⊥
 Story tables session (command ∷ commands) [] tables' session' = ⊥
 
