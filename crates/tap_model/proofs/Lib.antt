@@ -12,3 +12,4 @@ pub mod PrivateLaws
 pub mod StepLaws
 pub mod OtherLaws
 pub mod TaleLaws
+pub mod WindowLaws

@@ -1,5 +1,6 @@
 //! Laws of stories.
 ghost use Rattle.tap_model.specs.Laws.{StepsAreSound, AcceptedChangesFit, SessionsLeaveStores};
+ghost use Rattle.tap_model.specs.WindowRuns.{RunsAreWindows};
 ghost use Rattle.tap_model.specs.PrivacyLaws.{SameDeedSameReply, OthersLeaveTheView, SameDeedsSameReplies};
 
 /// Each step keeps what holds of the tables and the session at every point of a story, and above all that what each query
@@ -39,4 +40,10 @@ pub fn others_leave_the_view()
 /// others do in between.
 pub fn equal_deeds_get_equal_replies()
     ensures { SameDeedsSameReplies }
+{}
+
+/// A run delivers what the query's window query finds over the seconds since its last run, without what it has delivered:
+/// no second needs to be tried.
+pub fn runs_are_windows()
+    ensures { RunsAreWindows }
 {}

@@ -1,0 +1,36 @@
+-- Runs by the window query.
+use Rattle.std.specs.Prelude.{◌≡◌, ℤ, ◌≤ℤ◌, List, Bool, nat_eq}
+use Rattle.std.specs.List.{list_any}
+use Rattle.tap_rows.specs.declared.tables.Tables.{Tables}
+use Rattle.tap_rows.specs.declared.rows.Doc.{Doc}
+use Rattle.tap_rows.specs.declared.rows.QueryRow.{QueryRow}
+use Rattle.tap_rows.specs.declared.results.Entry.{Entry}
+use Rattle.tap_rows.specs.declared.results.Hit.{Hit}
+use Rattle.tap_rows.specs.Tables.{no_rows}
+use Rattle.tap_rows.specs.Results.{covered}
+use Rattle.tap_rows.specs.Deliveries.{delivered}
+use Rattle.tap_rows.specs.Kept.{In}
+use Rattle.time_marks.specs.Probes.{meaning_without}
+use Rattle.tap_model.specs.declared.session.Session.{Session}
+use Rattle.tap_model.specs.Queries.{start_of, probes_in, hits_of}
+use Rattle.tap_model.specs.Sound.{Sound}
+
+-- is the document among these deliveries?
+abbrev pub is_delivered : List Entry → Doc → Bool
+is_delivered entries doc = list_any (λ (e : Entry). nat_eq doc.num.0 e.doc.0) entries
+
+-- tables of the documents and notes alone, which are all that a condition looks at
+abbrev pub asked_rows : Tables → Tables
+asked_rows tables = record no_rows { docs = tables.docs; notes = tables.notes }
+
+-- what the query's window query finds over the seconds from its last run up to a moment, without what was delivered
+abbrev pub found_since : QueryRow → Tables → ℤ → List Hit
+found_since query tables moment =
+    meaning_without (is_delivered (delivered query.num.0 tables)) (probes_in query) (asked_rows tables)
+    (record { low = covered (start_of query) query.num.0 tables.runs; high = moment })
+
+-- a run at a moment that is not before the last delivers what the window query finds
+abbrev pub RunsAreWindows : Type 0
+RunsAreWindows =
+    (tables : Tables) (session : Session) (query : QueryRow) (moment : ℤ) → Sound tables session → In query tables.queries
+    → covered (start_of query) query.num.0 tables.runs ≤ℤ moment → found_since query tables moment ≡ hits_of query tables moment
