@@ -30,7 +30,8 @@ answer-formed command session tables sound = go (answer_of command session table
   go None fit = sound.formed
   go (Some change) fit = fits-is tables change sound.formed ∙ fit change refl
 
-answer-sound : (command : Command) (session : Session) (tables : Tables) → Sound tables session → Sound (tables_after (answer_of command session tables).change tables) (answer_of command session tables).session
+-- what an answer leaves is sound
+pub answer-sound : (command : Command) (session : Session) (tables : Tables) → Sound tables session → Sound (tables_after (answer_of command session tables).change tables) (answer_of command session tables).session
 answer-sound command session tables sound =
     let held = answer-held command session tables (record { kept = sound.kept; now = sound.now }) in
     let read = answer-read command session tables (record { sources = sound.sources; rules = sound.rules; user = sound.user }) in
@@ -60,3 +61,7 @@ sound-start = record { kept = kept-empty truth_of start_of truth-of-second; now 
 -- a session leaves tables that another may begin with
 pub sound-store : (tables : Tables) (session : Session) → Sound tables session → IsStore tables
 sound-store tables session sound = record { kept = sound.kept; now = tt; formed = sound.formed; sources = sound.sources; rules = sound.rules; user = tt }
+
+-- so do the tables after a command, whoever is told of it
+pub answer-store : (command : Command) (session : Session) (tables : Tables) → Sound tables session → IsStore (tables_after (answer_of command session tables).change tables)
+answer-store command session tables sound = sound-store (tables_after (answer_of command session tables).change tables) (answer_of command session tables).session (answer-sound command session tables sound)
