@@ -1,5 +1,5 @@
 -- Each step keeps what holds of the tables and the session, a session may begin so, and it leaves tables to begin with.
-use Rattle.std.proofs.Common.{◌≡◌, ◌∙◌, sym, ap, refl, arith, ℤ, pos, true, false, Option, Some, None, inl, inr, if◌then◌else◌}
+use Rattle.std.proofs.Common.{◌≡◌, ◌∙◌, refl, arith, ℤ, pos, true, false, Option, Some, None, inl, inr, if◌then◌else◌}
 use Rattle.std.proofs.lemmas.Int.{ints}
 use Rattle.tap_rows.specs.declared.tables.Tables.{Tables}
 use Rattle.tap_rows.specs.declared.change.Change.{Change}
@@ -19,9 +19,9 @@ use Rattle.tap_model.specs.Replies.{answer_of, tables_after}
 use Rattle.tap_model.specs.Stories.{Step}
 use Rattle.tap_model.specs.Sound.{Sound, IsStore, IsNow, IsMoment}
 use Rattle.tap_model.proofs.AnswerLaws.{truth-of-second}
-use Rattle.tap_model.proofs.HeldLaws.{Held, answer-held}
+use Rattle.tap_model.proofs.HeldLaws.{answer-held}
 use Rattle.tap_model.proofs.FitLaws.{accepted_fits}
-use Rattle.tap_model.proofs.TextLaws.{Readable, answer-read}
+use Rattle.tap_model.proofs.TextLaws.{answer-read}
 
 -- the rows stand in order after a command
 answer-formed : (command : Command) (session : Session) (tables : Tables) → Sound tables session → is_well_formed (tables_after (answer_of command session tables).change tables) ≡ true

@@ -1,5 +1,5 @@
 -- What a session may begin with: rows that stand in order, and texts that can be read.
-use Rattle.std.proofs.Common.{◌≡◌, ◌∙◌, sym, ap, refl, ℕ, List, [], ◌∷◌, Bool, true, false, Option, Some, None, if◌then◌else◌}
+use Rattle.std.proofs.Common.{◌≡◌, refl, ℕ, List, [], ◌∷◌, Bool, true, false, None, if◌then◌else◌}
 use Rattle.std.specs.Prelude.{Result, Ok, Err, IsOk, nat_le, length}
 use Rattle.tap_rows.specs.declared.tables.Tables.{Tables}
 use Rattle.tap_rows.specs.Kept.{Each}
@@ -20,7 +20,6 @@ use Rattle.appraiser.specs.declared.read.TheConstants.{RULE_LIMIT}
 use Rattle.appraiser.specs.Rules.{Rule}
 use Rattle.appraiser.specs.RuleLines.{rule_of}
 use Rattle.appraiser.specs.RuleTexts.{rules_of, rules_at, rule_lines, with_rule}
-use Rattle.script_lang.specs.declared.refusal.Refusal.{Refusal}
 use Rattle.script_lang.specs.declared.refusal.Refusal.TheVariants as refusal
 use Rattle.restart_core.specs.Starts.{condition_text}
 use Rattle.tap_model.specs.Verdicts.{text_fault, reading_refusal, filter_fault, rules_refusal}
