@@ -1,7 +1,7 @@
 -- The rows that a command adds stand in order behind those of the tables.
-use Rattle.std.proofs.Common.{◌≡◌, ◌∙◌, sym, ap, refl, subst, arith, ℕ, ◌+◌, ◌≤◌, ℤ, pos, List, [], ◌∷◌, length, Bool, true, false, Option, Some, None, if◌then◌else◌}
+use Rattle.std.proofs.Common.{◌≡◌, sym, ap, refl, subst, arith, ℕ, ◌+◌, ◌≤◌, ℤ, pos, List, [], ◌∷◌, length, Bool, true, false, Option, Some, None, if◌then◌else◌}
 use Rattle.std.specs.Prelude.{◌==◌, ◌&&◌, ◌≤ℤ◌, not, nat_le, int_le, is_none, find}
-use Rattle.std.specs.List.{list_any, list_all}
+use Rattle.std.specs.List.{list_any}
 use Rattle.std.proofs.lemmas.Bool.{and_parts, and_from}
 use Rattle.std.proofs.lemmas.Int.{ints}
 use Rattle.tap_base.specs.Names.{is_name}
@@ -33,7 +33,7 @@ use Rattle.tap_model.specs.Verdicts.{verdict, checks, first_refusal, missing, un
 use Rattle.tap_model.specs.Replies.{Answer, answer_of, answer_by, accepted, set_moment, docs_from, next_docs, some_docs, next_note, next_query, next_filter, run_query, show_box, show_list, show_lines, ask_at}
 use Rattle.tap_model.specs.Sound.{Sound, IsMoment, IsUser}
 use Rattle.tap_model.proofs.AnswerLaws.{some-none, find-in}
-use Rattle.tap_model.proofs.HeldLaws.{Held, Present, present-by, now-at}
+use Rattle.tap_model.proofs.HeldLaws.{Held, present-by, now-at}
 use Rattle.tap_model.proofs.RowLaws.{some-same, low-by, row-within}
 use Rattle.tap_model.proofs.RunFits.{run-fits}
 

@@ -5,6 +5,8 @@ pub mod HeldLaws
 pub mod FitLaws
 pub mod TextLaws
 pub mod SoundLaws
+pub mod NextLaws
+pub mod StoreLaws
 pub mod ViewLaws
 pub mod CoreLaws
 pub mod AlikeLaws

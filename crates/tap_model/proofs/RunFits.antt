@@ -1,10 +1,10 @@
 -- The rows of a run stand in order behind those of the tables: each document that it picks is picked for the first time.
-use Rattle.std.proofs.Common.{◌≡◌, ◌∙◌, sym, ap, refl, subst, arith, ℕ, zero, suc, ◌+◌, ◌≤◌, ◌<◌, ℤ, pos, Bool, true, false, Option, Some, None, List, [], ◌∷◌, ◌++◌, length, map, inl, inr, if◌then◌else◌}
+use Rattle.std.proofs.Common.{◌≡◌, ◌∙◌, sym, ap, refl, subst, arith, ℕ, zero, suc, ◌+◌, ◌≤◌, ◌<◌, ℤ, pos, Bool, true, false, Option, Some, None, List, [], ◌∷◌, ◌++◌, length, inl, inr, if◌then◌else◌}
 use Rattle.std.specs.Prelude.{◌⊎◌, ◌==◌, ◌&&◌, ◌||◌, not, nat_lt, ◌+ℤ◌, ◌≤ℤ◌, ◌<ℤ◌, int_le, int_lt, filter}
 use Rattle.std.specs.List.{filter_map, cons_option, list_any}
 use Rattle.std.specs.Option.{option_or}
 use Rattle.std.specs.Int.{int_gap}
-use Rattle.std.proofs.lemmas.Bool.{and_parts, and_from, cases_Bool}
+use Rattle.std.proofs.lemmas.Bool.{and_parts, and_from}
 use Rattle.std.proofs.lemmas.Int.{ints}
 use Rattle.tap_base.specs.declared.moments.TheConstants.{LAST_MOMENT}
 use Rattle.tap_base.specs.declared.numbers.QueryNum.{QueryNum}
@@ -14,12 +14,11 @@ use Rattle.tap_rows.specs.declared.rows.QueryRow.{QueryRow}
 use Rattle.tap_rows.specs.declared.rows.RunRow.{RunRow}
 use Rattle.tap_rows.specs.declared.rows.Pick.{Pick}
 use Rattle.tap_rows.specs.declared.results.Hit.{Hit}
-use Rattle.tap_rows.specs.declared.results.Entry.{Entry}
 use Rattle.tap_rows.specs.Arrivals.{Arrived}
 use Rattle.tap_rows.specs.Seconds.{first_from, least_second}
 use Rattle.tap_rows.specs.Results.{Truth, is_given, first_second, hit_of, at_least, put_in, is_before, in_order, run_of, entry_at, entries_of, entries_from, runs_of, run_moments, last_or, covered, union_until, fresh_in, box_of}
 use Rattle.tap_rows.specs.Deliveries.{delivered, picked, picks_of, pick_rows, next_run, run_hits, run_change}
-use Rattle.tap_rows.specs.WellFormed.{may_follow, row_at, is_row, was_defined, run_stands, is_picked, comes_after, pick_stands, picks_stand}
+use Rattle.tap_rows.specs.WellFormed.{may_follow, row_at, was_defined, is_picked, comes_after, picks_stand}
 use Rattle.tap_rows.specs.Fits.{last_row, low_of, fits}
 use Rattle.tap_rows.specs.Kept.{Each, In, HasRun, RunsFrom, Rising, KeptQuery, IsKept, IsBy}
 use Rattle.tap_rows.proofs.LaterLaws.{each-map, each-append}

@@ -1,5 +1,5 @@
 -- Each step keeps what holds of the tables and the session, a session may begin so, and it leaves tables to begin with.
-use Rattle.std.proofs.Common.{◌≡◌, ◌∙◌, sym, ap, refl, arith, ℤ, pos, true, false, Option, Some, None, inl, inr, if◌then◌else◌}
+use Rattle.std.proofs.Common.{◌≡◌, ◌∙◌, refl, arith, ℤ, pos, true, false, Option, Some, None, inl, inr, if◌then◌else◌}
 use Rattle.std.proofs.lemmas.Int.{ints}
 use Rattle.tap_rows.specs.declared.tables.Tables.{Tables}
 use Rattle.tap_rows.specs.declared.change.Change.{Change}
@@ -19,9 +19,9 @@ use Rattle.tap_model.specs.Replies.{answer_of, tables_after}
 use Rattle.tap_model.specs.Stories.{Step}
 use Rattle.tap_model.specs.Sound.{Sound, IsStore, IsNow, IsMoment}
 use Rattle.tap_model.proofs.AnswerLaws.{truth-of-second}
-use Rattle.tap_model.proofs.HeldLaws.{Held, answer-held}
+use Rattle.tap_model.proofs.HeldLaws.{answer-held}
 use Rattle.tap_model.proofs.FitLaws.{accepted_fits}
-use Rattle.tap_model.proofs.TextLaws.{Readable, answer-read}
+use Rattle.tap_model.proofs.TextLaws.{answer-read}
 
 -- the rows stand in order after a command
 answer-formed : (command : Command) (session : Session) (tables : Tables) → Sound tables session → is_well_formed (tables_after (answer_of command session tables).change tables) ≡ true
@@ -30,7 +30,8 @@ answer-formed command session tables sound = go (answer_of command session table
   go None fit = sound.formed
   go (Some change) fit = fits-is tables change sound.formed ∙ fit change refl
 
-answer-sound : (command : Command) (session : Session) (tables : Tables) → Sound tables session → Sound (tables_after (answer_of command session tables).change tables) (answer_of command session tables).session
+-- what an answer leaves is sound
+pub answer-sound : (command : Command) (session : Session) (tables : Tables) → Sound tables session → Sound (tables_after (answer_of command session tables).change tables) (answer_of command session tables).session
 answer-sound command session tables sound =
     let held = answer-held command session tables (record { kept = sound.kept; now = sound.now }) in
     let read = answer-read command session tables (record { sources = sound.sources; rules = sound.rules; user = sound.user }) in
@@ -60,3 +61,7 @@ sound-start = record { kept = kept-empty truth_of start_of truth-of-second; now 
 -- a session leaves tables that another may begin with
 pub sound-store : (tables : Tables) (session : Session) → Sound tables session → IsStore tables
 sound-store tables session sound = record { kept = sound.kept; now = tt; formed = sound.formed; sources = sound.sources; rules = sound.rules; user = tt }
+
+-- so do the tables after a command, whoever is told of it
+pub answer-store : (command : Command) (session : Session) (tables : Tables) → Sound tables session → IsStore (tables_after (answer_of command session tables).change tables)
+answer-store command session tables sound = sound-store (tables_after (answer_of command session tables).change tables) (answer_of command session tables).session (answer-sound command session tables sound)

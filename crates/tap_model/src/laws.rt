@@ -1,5 +1,5 @@
 //! Laws of stories.
-ghost use Rattle.tap_model.specs.Laws.{StepsAreSound, AcceptedChangesFit, SessionsLeaveStores};
+ghost use Rattle.tap_model.specs.Laws.{StepsAreSound, AcceptedChangesFit, SessionsLeaveStores, StepsLeadToNextTables, StoresCanBeRead};
 ghost use Rattle.tap_model.specs.WindowRuns.{RunsAreWindows};
 ghost use Rattle.tap_model.specs.PrivacyLaws.{SameDeedSameReply, OthersLeaveTheView, SameDeedsSameReplies};
 
@@ -20,6 +20,17 @@ pub fn accepted_changes_fit()
 /// session.
 pub fn sessions_leave_stores()
     ensures { SessionsLeaveStores }
+{}
+
+/// Each step leads to the tables after its reply: a command that isn't accepted adds no rows.
+pub fn steps_lead_to_next_tables()
+    ensures { StepsLeadToNextTables }
+{}
+
+/// The tables that a session may begin with stand in order, the text of each of their queries is one of a condition, and
+/// that of each filter is one of rules.
+pub fn stores_can_be_read()
+    ensures { StoresCanBeRead }
 {}
 
 /// What a user is answered depends on what the user sees alone: at two sound points that look alike to the user and have a
