@@ -1,5 +1,6 @@
 -- Through which access of the index the rows of a variable are reached, and which rows an access reaches.
-use Rattle.std.specs.Prelude.{ℕ, Bool, true, not, ◌&&◌, Option, Some, None, option_or, option_map, unwrap_or, List, [], ◌∷◌, nat_eq, if◌then◌else◌}
+use Rattle.std.specs.Prelude.{ℕ, Bool, true, not, ◌&&◌, Option, Some, None, option_map, unwrap_or, List, [], ◌∷◌, nat_eq, if◌then◌else◌}
+use Rattle.std.specs.Option.{option_or}
 use Rattle.std.specs.List.{list_any}
 use Rattle.tap_base.specs.declared.numbers.Op.TheVariants.{Eq}
 use Rattle.tql_tree.specs.declared.table.Table.{Table}

@@ -1,5 +1,6 @@
 -- In which order the rows of a path are looked for.
-use Rattle.std.specs.Prelude.{ℕ, zero, suc, Option, Some, None, option_or, option_map, List, [], ◌∷◌, ◌++◌, map, length, if◌then◌else◌}
+use Rattle.std.specs.Prelude.{ℕ, zero, suc, Option, Some, None, option_map, List, [], ◌∷◌, ◌++◌, map, length, if◌then◌else◌}
+use Rattle.std.specs.Option.{option_or}
 use Rattle.tql_core.specs.declared.term.Var.{Var}
 use Rattle.tql_core.specs.declared.term.Base.{Base}
 use Rattle.tql_core.specs.declared.term.Base.TheVariants.{Arrival, Date, Fixed, ArrivalDay, DateDay}
