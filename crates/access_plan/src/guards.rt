@@ -117,9 +117,8 @@ fn first_access<'a>(known: Known, var: Var, kind: Kind, guards: &'a [Atom]) -> O
     ensures { option_access result ≡ first_some (guard_access (is_known known.entry) var kind) guards.now }
 {
     for guard in guards {
-        let found = guard_access(known, var, kind, guard);
-        if found.is_some() {
-            return found;
+        if let Some(access) = guard_access(known, var, kind, guard) {
+            return Some(access);
         }
     }
     None
@@ -137,9 +136,8 @@ pub fn index_access<'a>(
     ensures { option_access result ≡ index_access (is_known known.entry) var table guards.now }
 {
     for kind in kinds(table) {
-        let found = first_access(known, var, *kind, guards);
-        if found.is_some() {
-            return found;
+        if let Some(access) = first_access(known, var, *kind, guards) {
+            return Some(access);
         }
     }
     None

@@ -21,7 +21,7 @@ fn first_inner<'a>(pool: &'a Pool<TNode>, id: NodeId, var: Var, kind: Kind) -> O
         TNode::Plain(guard) => guard_access(Known::AllBut(var), var, kind, guard),
         TNode::All(l, r) => match first_inner(pool, *l, var, kind) {
             None => first_inner(pool, *r, var, kind),
-            found => found,
+            Some(access) => Some(access),
         },
         _ => None,
     }
@@ -38,9 +38,8 @@ fn inner_index<'a>(
     ensures { option_access result ≡ index_access (is_other var) var table (guards_of (tree_at pool.now id.0)) }
 {
     for kind in kinds(table) {
-        let found = first_inner(pool, id, var, *kind);
-        if found.is_some() {
-            return found;
+        if let Some(access) = first_inner(pool, id, var, *kind) {
+            return Some(access);
         }
     }
     None

@@ -66,9 +66,8 @@ fn first_by_index<'a>(path: &'a [Step], bound: &[Var]) -> Option<ReachRef<'a>>
     ensures { option_reach result ≡ first_some (by_index bound.now) path.now }
 {
     for step in path {
-        let found = by_index(bound, step);
-        if found.is_some() {
-            return found;
+        if let Some(reach) = by_index(bound, step) {
+            return Some(reach);
         }
     }
     None
@@ -79,9 +78,8 @@ fn first_by_table<'a>(path: &'a [Step], bound: &[Var]) -> Option<ReachRef<'a>>
     ensures { option_reach result ≡ first_some (by_table bound.now) path.now }
 {
     for step in path {
-        let found = by_table(bound, step);
-        if found.is_some() {
-            return found;
+        if let Some(reach) = by_table(bound, step) {
+            return Some(reach);
         }
     }
     None
