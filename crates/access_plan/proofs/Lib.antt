@@ -1,1 +1,4 @@
 pub mod Firsts
+pub mod Fields
+pub mod Admits
+pub mod Enough

@@ -7,6 +7,7 @@ mod guards;
 mod inner;
 mod kind;
 mod known;
+pub mod laws;
 mod orders;
 mod query_plan;
 mod reach;
