@@ -44,8 +44,8 @@ count_all p (x ∷ xs) = go (p x) refl (count_all p xs) where
 -- none passes where there are none that pass
 pub count_none : {A : Type 0} (p : A → Bool) (xs : List A) (x : A) → length (filter p xs) ≤ 0 → In x xs → p x ≡ false
 count_none p [] x h i = absurd i
-count_none p (y ∷ ys) x h i = go (p y) refl i where
-  go : (b : Bool) → p y ≡ b → In x (y ∷ ys) → p x ≡ false
-  go true e i = absurd (let k : length (filter p (y ∷ ys)) ≡ suc (length (filter p ys)) = rw e refl in omega arith)
-  go false e (inl i) = ap p i ∙ e
-  go false e (inr i) = count_none p ys x (let k : length (filter p (y ∷ ys)) ≡ length (filter p ys) = rw e refl in omega arith) i
+count_none p (y ∷ ys) x h i = go (count_none p ys x) (p y) refl i where
+  go : (length (filter p ys) ≤ 0 → In x ys → p x ≡ false) → (b : Bool) → p y ≡ b → In x (y ∷ ys) → p x ≡ false
+  go rest true e i = absurd (let k : length (filter p (y ∷ ys)) ≡ suc (length (filter p ys)) = rw e refl in omega arith)
+  go rest false e (inl i) = ap p i ∙ e
+  go rest false e (inr i) = rest (let k : length (filter p (y ∷ ys)) ≡ length (filter p ys) = rw e refl in omega arith) i
