@@ -1,5 +1,5 @@
 -- A guard that is true admits the row by the access that it gives.
-use Rattle.std.proofs.Common.{◌≡◌, ◌∙◌, refl, sym, ap, subst, inl, inr, ℕ, Bool, true, false, Option, Some, None, List, [], ◌∷◌, if◌then◌else◌}
+use Rattle.std.proofs.Common.{◌≡◌, ◌∙◌, refl, ap, subst, inl, inr, ℕ, Bool, true, Option, Some, None}
 use Rattle.std.specs.Prelude.{◌⊎◌, ◌&&◌, option_map}
 use Rattle.std.specs.Option.{option_or}
 use Rattle.std.proofs.lemmas.Bool.{and_parts}

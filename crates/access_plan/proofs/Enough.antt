@@ -1,6 +1,6 @@
 -- The accesses that guards give are enough.
-use Rattle.std.proofs.Common.{◌≡◌, ◌∙◌, refl, sym, ap, subst, inl, inr, ℕ, ℤ, Bool, true, false, not, Option, Some, None, List, [], ◌∷◌, ◌++◌}
-use Rattle.std.specs.Prelude.{◌⊎◌, ◌&&◌, unwrap_or, nat_eq}
+use Rattle.std.proofs.Common.{◌≡◌, ◌∙◌, refl, sym, ap, inl, inr, ℕ, ℤ, Bool, true, not, Option, Some, None, List, [], ◌∷◌, ◌++◌}
+use Rattle.std.specs.Prelude.{◌⊎◌, unwrap_or}
 use Rattle.std.specs.Option.{option_or}
 use Rattle.std.proofs.lemmas.Bool.{and_parts, eq-eqb, false≢true}
 use Rattle.std.proofs.lemmas.Option.{none-some}
@@ -11,9 +11,9 @@ use Rattle.tql_core.specs.declared.atom.NumField.TheVariants.{Id, DocOf}
 use Rattle.tql_core.specs.declared.atom.TextField.TheVariants.{From, MsgId, InReplyTo}
 use Rattle.tql_core.specs.declared.atom.Atom.{Atom}
 use Rattle.tap_rows.specs.declared.tables.Tables.{Tables}
-use Rattle.tql_core.specs.Condition.{Condition, Always, Never, Plain, NowAtLeast, NowBefore, All, Either, Not, Exists}
+use Rattle.tql_core.specs.Condition.{Condition, Plain, All}
 use Rattle.tql_core.specs.Row.{Row}
-use Rattle.tql_core.specs.Values.{Env, bind, lookup, true_atom}
+use Rattle.tql_core.specs.Values.{Env, bind, true_atom}
 use Rattle.tql_core.specs.Holds.{truth}
 use Rattle.tql_core.specs.Scope.{In}
 use Rattle.time_marks.specs.Marks.{guards_of}
@@ -22,7 +22,7 @@ use Rattle.access_plan.specs.declared.access.Access.{Access}
 use Rattle.access_plan.specs.declared.access.Access.TheVariants.{ById, ByMsgId, ByParent, BySender, ByWord, NotesOf}
 use Rattle.access_plan.specs.declared.kind.Kind.{Kind}
 use Rattle.access_plan.specs.declared.kind.Kind.TheVariants as K
-use Rattle.access_plan.specs.Accesses.{admits, table_of, number_side, text_side, word_side, first_some, guard_access, kinds, index_access, whole, access_of, is_other, inner_access}
+use Rattle.access_plan.specs.Accesses.{admits, table_of, number_side, text_side, word_side, first_some, guard_access, kinds, index_access, whole, access_of, is_other}
 use Rattle.access_plan.specs.Laws.{AreSame, AccessesAreEnough, InnerAccessesAreEnough, AccessesKeepTables}
 use Rattle.access_plan.proofs.Admits.{made_of, guard_admits}
 

@@ -1,12 +1,10 @@
 -- Each order binds every variable once, by an access that its guards give.
-use Rattle.std.proofs.Common.{◌≡◌, ◌∙◌, refl, sym, ap, subst, inl, inr, arith, ℕ, zero, suc, ◌≤◌, ◌<◌, Bool, true, false, not, Option, Some, None, List, [], ◌∷◌, ◌++◌, length, map, nat_eq, if◌then◌else◌}
-use Rattle.std.specs.Prelude.{◌⊎◌, ◌||◌, option_map, unwrap_or}
+use Rattle.std.proofs.Common.{◌≡◌, ◌∙◌, refl, sym, ap, subst, inl, inr, arith, ℕ, zero, suc, ◌≤◌, ◌<◌, Bool, true, false, not, Option, Some, None, List, [], ◌∷◌, ◌++◌, length, nat_eq, if◌then◌else◌}
+use Rattle.std.specs.Prelude.{◌⊎◌, option_map, unwrap_or}
 use Rattle.std.specs.Option.{option_or}
-use Rattle.std.specs.List.{filter, list_any}
+use Rattle.std.specs.List.{filter}
 use Rattle.std.proofs.lemmas.Bool.{false≢true, cases_Bool, or_cases, eqb-true, eq-eqb}
 use Rattle.std.proofs.lemmas.Option.{none-some, cond_some}
-use Rattle.tql_tree.specs.declared.table.Table.{Table}
-use Rattle.tql_tree.specs.declared.table.Table.TheVariants.{Docs, Notes}
 use Rattle.tql_core.specs.declared.term.Var.{Var}
 use Rattle.tql_core.specs.declared.term.Base.{Base}
 use Rattle.tql_core.specs.declared.term.Base.TheVariants.{Arrival, Date, Fixed, ArrivalDay, DateDay}
@@ -18,7 +16,7 @@ use Rattle.access_plan.specs.declared.access.Access.{Access}
 use Rattle.access_plan.specs.declared.reach.Reach.{Reach}
 use Rattle.access_plan.specs.Accesses.{first_some, is_bound, index_access, access_of, whole}
 use Rattle.access_plan.specs.Orders.{driven, reach_of, by_index, by_table, next_reach, and_then, order_from, order_of}
-use Rattle.access_plan.specs.Laws.{order_vars, numbers_of, ServesStep, IsServed, IsOrder, OrdersServe}
+use Rattle.access_plan.specs.Laws.{order_vars, numbers_of, ServesStep, IsServed, OrdersServe}
 use Rattle.access_plan.proofs.Counts.{count_<, count_all, count_none}
 use Rattle.access_plan.proofs.Admits.{made_of}
 use Rattle.access_plan.proofs.Enough.{first_of}
@@ -128,10 +126,11 @@ served (suc n) path bound = go (served n path) (apart (suc n) path bound) (next_
       → (o : Option Reach) → next_reach path bound ≡ o → IsServed path bound (and_then o (λ r. order_from n path (bound ++ r.var ∷ [])))
   go rest far None e = tt
   go rest far (Some r) e =
-      let x = next_known path bound r e in
-      ((x.step, x.is_step, x.serves),
-      (λ k h i. far k h (subst (λ o. In k (order_vars (and_then o (λ r. order_from n path (bound ++ r.var ∷ []))))) (sym e) i)),
-      rest (bound ++ r.var ∷ []))
+      let x = next_known path bound r e in (
+        (x.step, x.is_step, x.serves),
+        (λ k h i. far k h (subst (λ o. In k (order_vars (and_then o (λ r. order_from n path (bound ++ r.var ∷ []))))) (sym e) i)),
+        rest (bound ++ r.var ∷ []),
+      )
 
 -- fewer steps are left when the next one is bound
 fewer_left : (path : List Step) (bound : List Var) (r : Reach) → IsNext path bound r
