@@ -1,0 +1,6 @@
+pub mod Firsts
+pub mod Fields
+pub mod Admits
+pub mod Enough
+pub mod Counts
+pub mod Served

@@ -1,0 +1,4 @@
+pub mod Accesses
+pub mod Orders
+pub mod Views
+pub mod Laws

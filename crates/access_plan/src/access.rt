@@ -1,0 +1,38 @@
+ghost use Rattle.std.specs.Prelude.{◌≡◌};
+ghost use Rattle.access_plan.specs.Views.{access_at};
+
+use crate::AccessRef;
+use tql_core::{NumExpr, TextExpr};
+
+/// How the rows of a variable are reached: the document of a number, the documents whose Message-ID, In-Reply-To or sender
+/// (RFC 5322 3.6) is a text, those of which a text is a word, the notes on the document of a number, or all rows of the
+/// table.
+#[derive(PartialEq, Eq, Drop)]
+pub enum Access {
+    ById(NumExpr),
+    ByMsgId(TextExpr),
+    ByParent(TextExpr),
+    BySender(TextExpr),
+    ByWord(TextExpr),
+    NotesOf(NumExpr),
+    AllDocs,
+    AllNotes,
+}
+
+impl Access {
+    /// The same access, borrowed.
+    pub fn as_ref(&self) -> AccessRef<'_>
+        ensures { access_at result ≡ self.now }
+    {
+        match self {
+            Access::ById(e) => AccessRef::ById(*e),
+            Access::ByMsgId(e) => AccessRef::ByMsgId(e),
+            Access::ByParent(e) => AccessRef::ByParent(e),
+            Access::BySender(e) => AccessRef::BySender(e),
+            Access::ByWord(e) => AccessRef::ByWord(e),
+            Access::NotesOf(e) => AccessRef::NotesOf(*e),
+            Access::AllDocs => AccessRef::AllDocs,
+            Access::AllNotes => AccessRef::AllNotes,
+        }
+    }
+}

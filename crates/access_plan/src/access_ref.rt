@@ -1,0 +1,49 @@
+ghost use Rattle.std.specs.Prelude.{◌≡◌, IfOk};
+ghost use Rattle.access_plan.specs.Accesses.{whole};
+ghost use Rattle.access_plan.specs.Views.{access_at};
+
+use crate::Access;
+use tap_base::{Copied, Memory};
+use tql_core::{NumExpr, TextExpr};
+use tql_tree::Table;
+
+/// An access whose other side is borrowed, so that it takes no memory.
+#[derive(Clone, Copy)]
+pub enum AccessRef<'a> {
+    ById(NumExpr),
+    ByMsgId(&'a TextExpr),
+    ByParent(&'a TextExpr),
+    BySender(&'a TextExpr),
+    ByWord(&'a TextExpr),
+    NotesOf(NumExpr),
+    AllDocs,
+    AllNotes,
+}
+
+// All rows of a table.
+pub(crate) fn whole<'a>(table: Table) -> AccessRef<'a>
+    ensures { access_at result ≡ whole table }
+{
+    match table {
+        Table::Docs => AccessRef::AllDocs,
+        Table::Notes => AccessRef::AllNotes,
+    }
+}
+
+impl<'a> AccessRef<'a> {
+    /// The access with a copy of its other side.
+    pub fn to_access(self) -> Result<Access, Memory>
+        ensures { IfOk result (λ access. access ≡ access_at self.entry) }
+    {
+        match self {
+            AccessRef::ById(e) => Ok(Access::ById(e)),
+            AccessRef::ByMsgId(e) => Ok(Access::ByMsgId(e.copied()?)),
+            AccessRef::ByParent(e) => Ok(Access::ByParent(e.copied()?)),
+            AccessRef::BySender(e) => Ok(Access::BySender(e.copied()?)),
+            AccessRef::ByWord(e) => Ok(Access::ByWord(e.copied()?)),
+            AccessRef::NotesOf(e) => Ok(Access::NotesOf(e)),
+            AccessRef::AllDocs => Ok(Access::AllDocs),
+            AccessRef::AllNotes => Ok(Access::AllNotes),
+        }
+    }
+}

@@ -1,0 +1,58 @@
+ghost use Rattle.std.specs.Prelude.{◌≡◌, ◌<◌, length, Option};
+ghost use Rattle.tql_core.specs.Trees.{tree_at};
+ghost use Rattle.time_marks.specs.Marks.{guards_of};
+ghost use Rattle.access_plan.specs.Accesses.{first_some, is_other, guard_access, index_access, inner_access};
+ghost use Rattle.access_plan.specs.Views.{access_at, option_access};
+
+use crate::access_ref::whole;
+use crate::guards::guard_access;
+use crate::kind::kinds;
+use crate::{AccessRef, Kind, Known};
+use node_pool::{NodeId, Pool};
+use tql_core::{TNode, Var, node_at};
+use tql_tree::Table;
+
+// The access of this kind that the first such guard of the condition at the number gives.
+fn first_inner<'a>(pool: &'a Pool<TNode>, id: NodeId, var: Var, kind: Kind) -> Option<AccessRef<'a>>
+    requires { id.0 < length pool.now }
+    ensures { option_access result ≡ first_some (guard_access (is_other var) var kind) (guards_of (tree_at pool.now id.0)) }
+{
+    match node_at(pool, id) {
+        TNode::Plain(guard) => guard_access(Known::AllBut(var), var, kind, guard),
+        TNode::All(l, r) => match first_inner(pool, *l, var, kind) {
+            None => first_inner(pool, *r, var, kind),
+            Some(access) => Some(access),
+        },
+        _ => None,
+    }
+}
+
+// The access of the index that the guards of the condition at the number give.
+fn inner_index<'a>(
+    pool: &'a Pool<TNode>,
+    id: NodeId,
+    var: Var,
+    table: Table,
+) -> Option<AccessRef<'a>>
+    requires { id.0 < length pool.now }
+    ensures { option_access result ≡ index_access (is_other var) var table (guards_of (tree_at pool.now id.0)) }
+{
+    for kind in kinds(table) {
+        if let Some(access) = first_inner(pool, id, var, *kind) {
+            return Some(access);
+        }
+    }
+    None
+}
+
+/// The access to the rows of an EXISTS whose inner condition is at the number: by the index where a guard of the inner
+/// condition gives one, else all rows of the table. The rows of all other variables are known there. It takes no memory.
+pub fn inner_access<'a>(pool: &'a Pool<TNode>, id: NodeId, var: Var, table: Table) -> AccessRef<'a>
+    requires { id.0 < length pool.now }
+    ensures { access_at result ≡ inner_access var table (tree_at pool.now id.0) }
+{
+    match inner_index(pool, id, var, table) {
+        None => whole(table),
+        Some(access) => access,
+    }
+}

@@ -1,0 +1,31 @@
+ghost use Rattle.std.specs.Prelude.{◌≡◌};
+ghost use Rattle.access_plan.specs.Accesses.{kinds};
+
+use tql_tree::Table;
+
+/// A kind of access of the index.
+#[derive(Clone, Copy, Debug, PartialEq, Eq)]
+pub enum Kind {
+    ById,
+    ByMsgId,
+    ByParent,
+    BySender,
+    ByWord,
+    NotesOf,
+}
+
+// The kinds of access to a table's rows, in the order in which they are tried.
+pub(crate) fn kinds(table: Table) -> &'static [Kind]
+    ensures { result.now ≡ kinds table }
+{
+    match table {
+        Table::Docs => &[
+            Kind::ById,
+            Kind::ByMsgId,
+            Kind::ByParent,
+            Kind::BySender,
+            Kind::ByWord,
+        ],
+        Table::Notes => &[Kind::NotesOf],
+    }
+}

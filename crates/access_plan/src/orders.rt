@@ -1,0 +1,135 @@
+ghost use Rattle.std.specs.Prelude.{◌≡◌, IfOk, Option};
+ghost use Rattle.access_plan.specs.Accesses.{first_some};
+ghost use Rattle.access_plan.specs.Orders.{driven, by_index, by_table, next_reach, order_of, orders_of};
+ghost use Rattle.access_plan.specs.Views.{option_reach};
+
+use crate::access_ref::whole;
+use crate::guards::index_access;
+use crate::known::is_bound;
+use crate::{Known, Plan, Reach, ReachRef};
+use std::alloc::Global;
+use tap_base::{Memory, Rows};
+use time_marks::{Ranged, RangedQuery, Step};
+use tql_core::{Base, Var};
+
+// The variable of the driving row, where there is one.
+fn driven(alloc: Global, base: Base) -> Result<Rows<Var>, Memory>
+    ensures { IfOk result (λ vars. vars ≡ driven base) }
+{
+    let mut vars = Rows::new(alloc);
+    match base {
+        Base::Arrival(var) => vars.push(var)?,
+        Base::Date(var) => vars.push(var)?,
+        Base::Fixed => (),
+        Base::ArrivalDay(var, _) => vars.push(var)?,
+        Base::DateDay(var, _) => vars.push(var)?,
+    }
+    Ok(vars)
+}
+
+// The step, where it is still to be bound and has an access of the index.
+fn by_index<'a>(bound: &[Var], step: &'a Step) -> Option<ReachRef<'a>>
+    ensures { option_reach result ≡ by_index bound.now step.now }
+{
+    if is_bound(bound, step.var) {
+        return None;
+    }
+    let access = index_access(
+        Known::Bound(bound),
+        step.var,
+        step.table,
+        step.guards.as_slice(),
+    )?;
+    Some(ReachRef {
+        var: step.var,
+        table: step.table,
+        access,
+    })
+}
+
+// The step by all rows of its table, where it is still to be bound.
+fn by_table<'a>(bound: &[Var], step: &'a Step) -> Option<ReachRef<'a>>
+    ensures { option_reach result ≡ by_table bound.now step.now }
+{
+    if is_bound(bound, step.var) {
+        return None;
+    }
+    Some(ReachRef {
+        var: step.var,
+        table: step.table,
+        access: whole(step.table),
+    })
+}
+
+// The first step that is still to be bound and has an access of the index.
+fn first_by_index<'a>(path: &'a [Step], bound: &[Var]) -> Option<ReachRef<'a>>
+    ensures { option_reach result ≡ first_some (by_index bound.now) path.now }
+{
+    for step in path {
+        if let Some(reach) = by_index(bound, step) {
+            return Some(reach);
+        }
+    }
+    None
+}
+
+// The first step that is still to be bound.
+fn first_by_table<'a>(path: &'a [Step], bound: &[Var]) -> Option<ReachRef<'a>>
+    ensures { option_reach result ≡ first_some (by_table bound.now) path.now }
+{
+    for step in path {
+        if let Some(reach) = by_table(bound, step) {
+            return Some(reach);
+        }
+    }
+    None
+}
+
+// Which step is bound next.
+fn next_reach<'a>(path: &'a [Step], bound: &[Var]) -> Option<ReachRef<'a>>
+    ensures { option_reach result ≡ next_reach path.now bound.now }
+{
+    match first_by_index(path, bound) {
+        None => first_by_table(path, bound),
+        found => found,
+    }
+}
+
+// The order in which the steps of a path are bound after the driving row.
+pub(crate) fn order_of(alloc: Global, path: &[Step], base: Base) -> Result<Rows<Reach>, Memory>
+    ensures { IfOk result (λ order. order ≡ order_of path.now base) }
+{
+    let mut bound = driven(alloc, base)?;
+    let mut order = Rows::new(alloc);
+    for _turn in path {
+        match next_reach(path, bound.as_slice()) {
+            None => return Ok(order),
+            Some(reach) => {
+                bound.push(reach.var)?;
+                order.push(reach.to_reach()?)?;
+            }
+        }
+    }
+    Ok(order)
+}
+
+// The order of each probe.
+fn orders_of(alloc: Global, parts: &[Ranged]) -> Result<Rows<Rows<Reach>>, Memory>
+    ensures { IfOk result (λ orders. orders ≡ orders_of parts.now) }
+{
+    let mut orders = Rows::new(alloc);
+    for part in parts {
+        orders.push(order_of(alloc, part.probe.path.as_slice(), part.probe.at.base)?)?;
+    }
+    Ok(orders)
+}
+
+/// The query as it is, and for each probe the order of its variables and the access to each one's rows: after the driving
+/// row again and again the first step of the path that has an access of the index, else the first one.
+pub fn plan(alloc: Global, query: RangedQuery) -> Result<Plan, Memory>
+    ensures query { IfOk result (λ plan. plan.query ≡ query) }
+    ensures orders { IfOk result (λ plan. plan.orders ≡ orders_of query.parts) }
+{
+    let orders = orders_of(alloc, query.parts.as_slice())?;
+    Ok(Plan { query, orders })
+}

@@ -1,0 +1,11 @@
+use crate::Access;
+use tql_core::Var;
+use tql_tree::Table;
+
+/// A variable of a path, its table, and how its rows are reached.
+#[derive(PartialEq, Eq, Drop)]
+pub struct Reach {
+    pub var: Var,
+    pub table: Table,
+    pub access: Access,
+}
