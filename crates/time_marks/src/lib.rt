@@ -4,7 +4,6 @@
 mod copies;
 pub mod laws;
 mod mark;
-mod plan;
 mod probe;
 mod ranged;
 mod ranged_query;
@@ -14,7 +13,6 @@ mod window;
 mod window_query;
 
 pub use mark::{Mark, Step};
-pub use plan::{Access, Plan, Reach};
 pub use probe::Probe;
 pub use ranged::Ranged;
 pub use ranged_query::RangedQuery;
