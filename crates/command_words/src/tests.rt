@@ -1,10 +1,16 @@
+ghost use Rattle.std.specs.Prelude.{IfOk};
+ghost use Rattle.std.specs.List.{All};
+ghost use Rattle.std.specs.Str.{IsUtf8};
+
 use crate::{WordFault, read_words};
 use std::alloc::Global;
 use std::test::Fail;
 use tap_base::{Memory, Text, Texts, put_decimal};
 
 // The words of a line, one blank between them.
-fn words_in(alloc: Global, line: &str) -> Result<Texts, Memory> {
+fn words_in(alloc: Global, line: &str) -> Result<Texts, Memory>
+    ensures { IfOk result (λ words. All IsUtf8 words) }
+{
     let mut words = Texts::new(alloc);
     for word in line.split(' ') {
         words.push(Text::from_slice(alloc, word.as_bytes())?)?;
@@ -13,7 +19,9 @@ fn words_in(alloc: Global, line: &str) -> Result<Texts, Memory> {
 }
 
 // Shows what words ask for: the place, a blank and the number, or why they are not read.
-fn shown(alloc: Global, words: &Texts) -> Result<Text, Memory> {
+fn shown(alloc: Global, words: &Texts) -> Result<Text, Memory>
+    requires { All IsUtf8 words.now }
+{
     match read_words(alloc, words) {
         Ok(asked) => {
             let mut text = asked.place.copy()?;
