@@ -1,17 +1,17 @@
 -- The numbers that texts write.
-use Rattle.std.proofs.Common.{◌≡◌, ◌≢◌, ◌≤◌, ◌<◌, ◌^◌, ℕ, List, [], ◌∷◌, Bool, true, false, refl, Option, Some, None, pos, ◌==◌, ◌&&◌, arith, ap, ◌∙◌, sym, subst, slice_index, drop, length}
-use Rattle.std.specs.Prelude.{nat_le, nat_lt, int_le, cond, if◌then◌else◌}
+use Rattle.std.proofs.Common.{◌≡◌, ◌≤◌, ◌<◌, ◌^◌, ℕ, List, [], ◌∷◌, Bool, true, false, refl, Some, None, pos, ◌==◌, arith, ap, sym, slice_index, length}
+use Rattle.std.specs.Prelude.{nat_le, nat_lt, if◌then◌else◌}
 use Rattle.std.specs.List.{list_all}
 use Rattle.std.specs.Char.{digit_value}
 use Rattle.std.specs.Fmt.{decimal}
-use Rattle.std.specs.Str.Parse.{AllDigits, IsNumeral, digits_value, without_leading_plus, starts_with_minus}
-use Rattle.std.proofs.lemmas.Bool.{lt-ltb, le-leb, ltb-true, leb-true, ne_eqb}
+use Rattle.std.specs.Str.Parse.{AllDigits, IsNumeral, digits_value, without_leading_plus}
+use Rattle.std.proofs.lemmas.Bool.{lt-ltb, le-leb, ne_eqb}
 use Rattle.std.proofs.lemmas.Fmt.{decimal_is_IsNumeral, first_decimal}
 use Rattle.clap.specs.ValueTests.{is_numeral, is_signed_in, is_unsigned_in}
 use Rattle.clap.proofs.ValueTestLemmas.{accepts-Accepts, Accepts-accepts}
 use Rattle.clap.specs.declared.builder.value_parser.ValueParser.TheVariants as vp
 use Rattle.command_words.specs.Words.{number_in}
-use Rattle.command_words.proofs.Taken.{IsPlainWord, IsCountWord, plain_from_head}
+use Rattle.command_words.proofs.Taken.{IsCountWord, plain_from_head}
 
 digits_back : (ds : List ℕ) → AllDigits 10 ds → list_all (λ d. nat_lt (digit_value d) 10) ds ≡ true
 digits_back [] h = refl

@@ -1,5 +1,5 @@
 -- Well worded words are taken, and ask for what they name.
-use Rattle.std.proofs.Common.{◌≡◌, ◌≤◌, ◌⊎◌, inl, inr, ℕ, List, [], ◌∷◌, ◌++◌, codes, true, false, refl, Option, Some, None, ap, ◌∙◌, sym, subst, not}
+use Rattle.std.proofs.Common.{◌≡◌, inl, inr, ℕ, List, [], ◌∷◌, ◌++◌, true, refl, Option, Some, None, ap, ◌∙◌, sym, subst}
 use Rattle.std.specs.Prelude.{unwrap_or, option_and_then}
 use Rattle.std.specs.Fmt.{decimal}
 use Rattle.std.proofs.lemmas.Bool.{not-true}

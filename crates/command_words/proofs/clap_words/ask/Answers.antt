@@ -1,7 +1,6 @@
-use Rattle.std.proofs.Common.{rules, ap, ap₂, refl, codes, true, ◌≡◌, ◌∙◌, Some, sym, subst}
-use Rattle.clap.specs.Words.{App, app_of, first_of, takes, fault_of, is_simple, is_simple_and_free, kind_of, found_of}
+use Rattle.std.proofs.Common.{ap, codes, ◌∙◌, sym}
+use Rattle.clap.specs.Words.{App, first_of, takes, fault_of, is_simple, is_simple_and_free, found_of}
 use Rattle.clap.specs.Simple.{matches_of}
-use Rattle.command_words.specs.Options.{app}
 use Rattle.command_words.specs.Words.{texts_of}
 use Rattle.command_words.proofs.Values.{first_row}
 use Rattle.command_words.proofs.Taken.{is_simple_app, is_free}

@@ -1,10 +1,10 @@
-use Rattle.std.proofs.Common.{rules, ap, ap₂, refl, codes, true, ◌≡◌, ◌∙◌, Some, None, Option, pos}
+use Rattle.std.proofs.Common.{rules, ap, ap₂, true, ◌≡◌, ◌∙◌, Some, None, Option, pos}
 use Rattle.clap.specs.declared.builder.value_parser.ValueParser.{ValueParser}
 use Rattle.clap.specs.declared.builder.value_parser.ValueParser.TheVariants as parser
 use Rattle.std.proofs.lemmas.Result.{IfOk-weaker}
-use Rattle.clap.specs.Words.{App, Rule, app_of, new_app, rule_of, with_rule}
+use Rattle.clap.specs.Words.{App, Rule, app_of, rule_of, with_rule}
 use Rattle.clap.specs.Simple.{app_of_fields}
-use Rattle.command_words.specs.Options.{app, bare_app, store_rule, sample_rule}
+use Rattle.command_words.specs.Options.{bare_app, store_rule, sample_rule}
 use Rattle.command_words.proofs.clap_words.options.Goals as goal
 
 pub returns : goal.returns

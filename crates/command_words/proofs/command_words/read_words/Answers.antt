@@ -1,4 +1,4 @@
-use Rattle.std.proofs.Common.{rules, ◌≡◌, ◌∙◌, ℕ, List, true, Option, IfErr}
+use Rattle.std.proofs.Common.{rules, ◌≡◌, ◌∙◌, true, IfErr}
 use Rattle.clap.specs.Words.{takes}
 use Rattle.command_words.specs.declared.fault.WordFault.TheVariants as fault
 use Rattle.command_words.specs.Options.{app}

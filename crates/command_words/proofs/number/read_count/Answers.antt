@@ -1,4 +1,4 @@
-use Rattle.std.proofs.Common.{◌≡◌, arith, sym}
+use Rattle.std.proofs.Common.{arith, sym}
 use Rattle.command_words.proofs.Numbers.{a_number, no_number}
 use Rattle.command_words.proofs.number.read_count.Goals as goal
 
