@@ -21,45 +21,45 @@ draw i = state_after i / 65536
 
 -- the word of message i
 abbrev pub word_of : ℕ → List ℕ
-word_of h = if h % 4 == 0 then codes "alpha" else if h % 4 == 1 then codes "beta" else if h % 4 == 2 then codes "gamma" else codes "delta"
+word_of drawn = if drawn % 4 == 0 then codes "alpha" else if drawn % 4 == 1 then codes "beta" else if drawn % 4 == 2 then codes "gamma" else codes "delta"
 
 unfoldable pub message_id : ℕ → List ℕ
 message_id i = codes "<m" ++ decimal i ++ codes "@parc>"
 
 -- does message i answer an earlier one? About a third of them do
 unfoldable pub is_answer : ℕ → ℕ → Bool
-is_answer i h = nat_lt 1 i && h % 3 == 0
+is_answer i drawn = nat_lt 1 i && drawn % 3 == 0
 
 -- the earlier message that it answers
 abbrev pub parent_of : ℕ → ℕ → ℕ
-parent_of i h = h % (i - 1) + 1
+parent_of i drawn = drawn % (i - 1) + 1
 
 -- the line that says that a message answers message j
 abbrev pub answer_line : ℕ → List ℕ
 answer_line j = line (codes "In-Reply-To: " ++ message_id j)
 
 abbrev pub parent_line : ℕ → ℕ → List ℕ
-parent_line i h = if is_answer i h then answer_line (parent_of i h) else []
+parent_line i drawn = if is_answer i drawn then answer_line (parent_of i drawn) else []
 
--- the text of message i, for which h is drawn
+-- the text of message i, for which drawn is drawn
 unfoldable pub message_text : ℕ → ℕ → List ℕ
-message_text i h =
-    line (codes "From: user@parc") ++ line (codes "Message-ID: " ++ message_id i) ++ parent_line i h ++ line (codes "Subject: " ++ word_of h) ++ line [] ++ line (codes "about " ++ word_of h)
+message_text i drawn =
+    line (codes "From: user@parc") ++ line (codes "Message-ID: " ++ message_id i) ++ parent_line i drawn ++ line (codes "Subject: " ++ word_of drawn) ++ line [] ++ line (codes "about " ++ word_of drawn)
 
 abbrev pub both_runs : List Command
 both_runs = Run (codes "q1") ∷ Run (codes "q2") ∷ []
 
 -- each fifth message gets a note
 abbrev pub note_after : ℕ → ℕ → List Command
-note_after i h = if i % 5 == 0 then AddNote i (codes "score") (pos (h % 10)) (codes "good") ∷ [] else []
+note_after i drawn = if i % 5 == 0 then AddNote i (codes "score") (pos (drawn % 10)) (codes "good") ∷ [] else []
 
 -- and after each tenth both queries run
 abbrev pub runs_after : ℕ → List Command
 runs_after i = if i % 10 == 0 then both_runs else []
 
--- the commands of message i, for which h is drawn
+-- the commands of message i, for which drawn is drawn
 abbrev pub commands_of_message : ℕ → ℕ → List Command
-commands_of_message i h = At (decimal (1000 + 10 * i)) ∷ Mail (Whole (message_text i h)) ∷ note_after i h ++ runs_after i
+commands_of_message i drawn = At (decimal (1000 + 10 * i)) ∷ Mail (Whole (message_text i drawn)) ∷ note_after i drawn ++ runs_after i
 
 -- those of the first n messages
 abbrev pub commands_of_messages : ℕ → List Command

@@ -1,6 +1,8 @@
-ghost use Rattle.std.specs.Prelude.{◌≡◌, ◌≤◌, ◌<◌, ◌+◌, ◌*◌, ◌++◌, ◌∷◌, [], ℕ, OnOk, IfOk, codes};
+ghost use Rattle.std.specs.Prelude.{◌≡◌, ◌≤◌, ◌<◌, ◌+◌, ◌*◌, ◌++◌, ◌∷◌, [], true, OnOk, IfOk};
 ghost use Rattle.std.specs.Fmt.{decimal};
+ghost use Rattle.std.specs.List.{list_all};
 ghost use Rattle.script_lang.specs.declared.command.Command.{Command};
+ghost use Rattle.script_lang.specs.Proper.{is_proper};
 ghost use Rattle.sample_gen.specs.Samples.{commands_of_message, commands_of_messages, opening, both_runs, note_after, runs_after, sample_of};
 
 use crate::generator::next_state;
@@ -45,8 +47,8 @@ fn push_runs(alloc: Global, commands: &mut Rows<Command>) -> Result<(), Memory>
 }
 
 // Appends the note on message `i`, if it gets one.
-fn push_note(alloc: Global, commands: &mut Rows<Command>, i: u32, h: u32) -> Result<(), Memory>
-    ensures { OnOk result (commands.new ≡ commands.old ++ note_after i h) }
+fn push_note(alloc: Global, commands: &mut Rows<Command>, i: u32, drawn: u32) -> Result<(), Memory>
+    ensures { OnOk result (commands.new ≡ commands.old ++ note_after i drawn) }
 {
     if i % 5 != 0 {
         return Ok(());
@@ -54,7 +56,7 @@ fn push_note(alloc: Global, commands: &mut Rows<Command>, i: u32, h: u32) -> Res
     commands.push(Command::AddNote {
         doc: i,
         kind: Text::from_slice(alloc, b"score")?,
-        value: (h % 10) as i64,
+        value: (drawn % 10) as i64,
         text: Text::from_slice(alloc, b"good")?,
     })
 }
@@ -69,14 +71,19 @@ fn push_runs_after(alloc: Global, commands: &mut Rows<Command>, i: u32) -> Resul
     push_runs(alloc, commands)
 }
 
-// Appends the commands of message `i`, for which `h` is drawn.
-fn push_message(alloc: Global, commands: &mut Rows<Command>, i: u32, h: u32) -> Result<(), Memory>
+// Appends the commands of message `i`, for which `drawn` is drawn.
+fn push_message(
+    alloc: Global,
+    commands: &mut Rows<Command>,
+    i: u32,
+    drawn: u32,
+) -> Result<(), Memory>
     requires { i ≤ 100000 }
-    ensures { OnOk result (commands.new ≡ commands.old ++ commands_of_message i h) }
+    ensures { OnOk result (commands.new ≡ commands.old ++ commands_of_message i drawn) }
 {
     push_moment(alloc, commands, 1000 + 10 * i)?;
-    commands.push(Command::Mail(Block::Whole(message_text(alloc, i, h)?)))?;
-    push_note(alloc, commands, i, h)?;
+    commands.push(Command::Mail(Block::Whole(message_text(alloc, i, drawn)?)))?;
+    push_note(alloc, commands, i, drawn)?;
     push_runs_after(alloc, commands, i)
 }
 
@@ -117,7 +124,8 @@ fn open_sample(alloc: Global) -> Result<Rows<Command>, Memory>
 pub fn sample(alloc: Global, n: u32) -> Result<Rows<Command>, Memory>
     requires some { 1 ≤ n }
     requires few { n ≤ SAMPLE_LIMIT }
-    ensures { IfOk result (λ commands. commands ≡ sample_of n) }
+    ensures value { IfOk result (λ commands. commands ≡ sample_of n) }
+    ensures proper { IfOk result (λ commands. list_all is_proper commands ≡ true) }
 {
     let mut commands = open_sample(alloc)?;
     push_messages(alloc, &mut commands, n)?;

@@ -5,11 +5,11 @@ ghost use Rattle.sample_gen.specs.Samples.{word_of, message_id, is_answer, paren
 use std::alloc::Global;
 use tap_base::{Memory, Text};
 
-// The word of a message for which `h` is drawn.
-fn word_of(h: u32) -> &'static [u8]
-    ensures { result.now ≡ word_of h }
+// The word of a message for which `drawn` is drawn.
+fn word_of(drawn: u32) -> &'static [u8]
+    ensures { result.now ≡ word_of drawn }
 {
-    match h % 4 {
+    match drawn % 4 {
         0 => b"alpha",
         1 => b"beta",
         2 => b"gamma",
@@ -48,32 +48,32 @@ fn push_id_line(alloc: Global, into: &mut Text, name: &[u8], i: u32) -> Result<(
 
 // Does message `i` answer an earlier one?
 #[tactic(auto, unfolding(crate::specs::Samples::is_answer))]
-fn is_answer(i: u32, h: u32) -> bool
-    ensures value { result ≡ is_answer i h }
+fn is_answer(i: u32, drawn: u32) -> bool
+    ensures value { result ≡ is_answer i drawn }
     ensures later { result ≡ true → 1 < i }
 {
-    i > 1 && h % 3 == 0
+    i > 1 && drawn % 3 == 0
 }
 
 // Appends the line that says which message is answered, if one is.
-fn push_parent(alloc: Global, into: &mut Text, i: u32, h: u32) -> Result<(), Memory>
-    ensures { OnOk result (into.new ≡ into.old ++ parent_line i h) }
+fn push_parent(alloc: Global, into: &mut Text, i: u32, drawn: u32) -> Result<(), Memory>
+    ensures { OnOk result (into.new ≡ into.old ++ parent_line i drawn) }
 {
-    if !is_answer(i, h) {
+    if !is_answer(i, drawn) {
         return Ok(());
     }
-    push_id_line(alloc, into, b"In-Reply-To: ", h % (i - 1) + 1)
+    push_id_line(alloc, into, b"In-Reply-To: ", drawn % (i - 1) + 1)
 }
 
-/// The text of message `i`, for which `h` is drawn.
+/// The text of message `i`, for which `drawn` is drawn.
 #[tactic(auto, unfolding(crate::specs::Samples::message_text))]
-pub fn message_text(alloc: Global, i: u32, h: u32) -> Result<Text, Memory>
-    ensures { IfOk result (λ text. text ≡ message_text i h) }
+pub fn message_text(alloc: Global, i: u32, drawn: u32) -> Result<Text, Memory>
+    ensures { IfOk result (λ text. text ≡ message_text i drawn) }
 {
-    let word = word_of(h);
+    let word = word_of(drawn);
     let mut text = Text::from_slice(alloc, b"From: user@parc\n")?;
     push_id_line(alloc, &mut text, b"Message-ID: ", i)?;
-    push_parent(alloc, &mut text, i, h)?;
+    push_parent(alloc, &mut text, i, drawn)?;
     push_line(&mut text, b"Subject: ", word)?;
     push_line(&mut text, b"", b"")?;
     push_line(&mut text, b"about ", word)?;
