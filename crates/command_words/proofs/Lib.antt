@@ -1,0 +1,4 @@
+pub mod Taken
+pub mod Values
+pub mod Numbers
+pub mod Worded

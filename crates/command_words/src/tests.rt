@@ -1,0 +1,77 @@
+ghost use Rattle.std.specs.Prelude.{IfOk};
+ghost use Rattle.std.specs.List.{All};
+ghost use Rattle.std.specs.Str.{IsUtf8};
+
+use crate::{WordFault, read_words};
+use std::alloc::Global;
+use std::test::Fail;
+use tap_base::{Memory, Text, Texts, put_decimal};
+
+// The words of a line, one blank between them.
+fn words_in(alloc: Global, line: &str) -> Result<Texts, Memory>
+    ensures { IfOk result (λ words. All IsUtf8 words) }
+{
+    let mut words = Texts::new(alloc);
+    for word in line.split(' ') {
+        words.push(Text::from_slice(alloc, word.as_bytes())?)?;
+    }
+    Ok(words)
+}
+
+// Shows what words ask for: the place, a blank and the number, or why they are not read.
+fn shown(alloc: Global, words: &Texts) -> Result<Text, Memory>
+    requires { All IsUtf8 words.now }
+{
+    match read_words(alloc, words) {
+        Ok(asked) => {
+            let mut text = asked.place.copy()?;
+            if let Some(n) = asked.sample {
+                text.push_slice(b" ")?;
+                put_decimal(alloc, n as i64, &mut text)?;
+            }
+            Ok(text)
+        }
+        Err(WordFault::Refused) => Text::from_slice(alloc, b"refused"),
+        Err(WordFault::Memory) => Err(Memory),
+    }
+}
+
+#[test]
+fn no_words_ask_for_a_store_in_memory(rt: HostRuntime) -> Result<(), Fail> {
+    let words = Texts::new(rt.alloc());
+    let text = shown(rt.alloc(), &words)?;
+    assert_eq!(rt; text.as_slice(), b":memory:".as_slice());
+    Ok(())
+}
+
+#[test]
+fn words_are_read(rt: HostRuntime) -> Result<(), Fail> {
+    let alloc = rt.alloc();
+    let rows: [(&str, &[u8]); 20] = [
+        ("--store p", b"p"),
+        ("--store :memory:", b":memory:"),
+        ("--sample 10", b":memory: 10"),
+        ("--sample 1", b":memory: 1"),
+        ("--sample 100000", b":memory: 100000"),
+        ("--store a/b.db --sample 10", b"a/b.db 10"),
+        ("--sample 10 --store a/b.db", b"a/b.db 10"),
+        ("--store=p --sample=7", b"p 7"),
+        ("--sample 007", b":memory: 7"),
+        ("--sample +5", b":memory: 5"),
+        ("--bogus", b"refused"),
+        ("p", b"refused"),
+        ("--sample 0", b"refused"),
+        ("--sample 100001", b"refused"),
+        ("--sample 1x", b"refused"),
+        ("--sample", b"refused"),
+        ("--store", b"refused"),
+        ("--store -p", b"refused"),
+        ("--store p --store q", b"refused"),
+        ("--help", b"refused"),
+    ];
+    for (line, want) in rows {
+        let text = shown(alloc, &words_in(alloc, line)?)?;
+        assert_eq!(rt; text.as_slice(), want);
+    }
+    Ok(())
+}

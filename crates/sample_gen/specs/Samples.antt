@@ -1,0 +1,77 @@
+-- The commands of a sample: two queries, messages that answer one another, notes and runs.
+use Rattle.std.specs.Prelude.{ℕ, zero, suc, pos, ◌+◌, ◌-◌, ◌*◌, ◌/◌, ◌%◌, List, [], ◌∷◌, ◌++◌, Bool, ◌&&◌, ◌==◌, nat_lt, codes, if◌then◌else◌}
+use Rattle.std.specs.Fmt.{decimal}
+use Rattle.mail_lines.specs.declared.block.Block.TheVariants.{Whole}
+use Rattle.script_lang.specs.Replies.{line}
+use Rattle.script_lang.specs.declared.command.Command.{Command}
+use Rattle.script_lang.specs.declared.command.Command.TheVariants.{At, AsUser, Mail, AddNote, Define, Run}
+
+-- the next number of the generator
+abbrev pub next_state : ℕ → ℕ
+next_state x = (x * 1103515245 + 12345) % 2147483648
+
+-- the generator's number after i steps from 1
+abbrev pub state_after : ℕ → ℕ
+state_after zero = 1
+state_after (suc i) = next_state (state_after i)
+
+-- what is drawn for message i: the number without its lower 16 bits
+abbrev pub draw : ℕ → ℕ
+draw i = state_after i / 65536
+
+-- the word of message i
+abbrev pub word_of : ℕ → List ℕ
+word_of drawn = if drawn % 4 == 0 then codes "alpha" else if drawn % 4 == 1 then codes "beta" else if drawn % 4 == 2 then codes "gamma" else codes "delta"
+
+unfoldable pub message_id : ℕ → List ℕ
+message_id i = codes "<m" ++ decimal i ++ codes "@parc>"
+
+-- does message i answer an earlier one? About a third of them do
+unfoldable pub is_answer : ℕ → ℕ → Bool
+is_answer i drawn = nat_lt 1 i && drawn % 3 == 0
+
+-- the earlier message that it answers
+abbrev pub parent_of : ℕ → ℕ → ℕ
+parent_of i drawn = drawn % (i - 1) + 1
+
+-- the line that says that a message answers message j
+abbrev pub answer_line : ℕ → List ℕ
+answer_line j = line (codes "In-Reply-To: " ++ message_id j)
+
+abbrev pub parent_line : ℕ → ℕ → List ℕ
+parent_line i drawn = if is_answer i drawn then answer_line (parent_of i drawn) else []
+
+-- the text of message i, for which drawn is drawn
+unfoldable pub message_text : ℕ → ℕ → List ℕ
+message_text i drawn =
+    line (codes "From: user@parc") ++ line (codes "Message-ID: " ++ message_id i) ++ parent_line i drawn ++ line (codes "Subject: " ++ word_of drawn) ++ line [] ++ line (codes "about " ++ word_of drawn)
+
+abbrev pub both_runs : List Command
+both_runs = Run (codes "q1") ∷ Run (codes "q2") ∷ []
+
+-- each fifth message gets a note
+abbrev pub note_after : ℕ → ℕ → List Command
+note_after i drawn = if i % 5 == 0 then AddNote i (codes "score") (pos (drawn % 10)) (codes "good") ∷ [] else []
+
+-- and after each tenth both queries run
+abbrev pub runs_after : ℕ → List Command
+runs_after i = if i % 10 == 0 then both_runs else []
+
+-- the commands of message i, for which drawn is drawn
+abbrev pub commands_of_message : ℕ → ℕ → List Command
+commands_of_message i drawn = At (decimal (1000 + 10 * i)) ∷ Mail (Whole (message_text i drawn)) ∷ note_after i drawn ++ runs_after i
+
+-- those of the first n messages
+abbrev pub commands_of_messages : ℕ → List Command
+commands_of_messages zero = []
+commands_of_messages (suc i) = commands_of_messages i ++ commands_of_message (suc i) (draw (suc i))
+
+-- the user and the two queries
+abbrev pub opening : List Command
+opening =
+    At (decimal 1000) ∷ AsUser (codes "alice") ∷ Define (codes "q1") (codes "m.words HAS 'alpha'")
+    ∷ Define (codes "q2") (codes "now >= m.ts + 60 SECONDS AND NOT EXISTS (r: DOC WHERE r.inreplyto = m.msgid)") ∷ []
+
+-- the sample with n messages
+abbrev pub sample_of : ℕ → List Command
+sample_of n = opening ++ commands_of_messages n ++ At (decimal (1000 + 10 * n + 1000)) ∷ both_runs

@@ -1,0 +1,9 @@
+ghost use Rattle.std.specs.Prelude.{◌≡◌};
+ghost use Rattle.sample_gen.specs.Samples.{next_state};
+
+/// The next number of the generator, which is linear and congruential.
+pub fn next_state(x: u32) -> u32
+    ensures { result ≡ next_state x }
+{
+    ((x as u64 * 1103515245 + 12345) % 2147483648) as u32
+}
