@@ -1,6 +1,7 @@
 pub mod AccessLists
 pub mod AccessTables
 pub mod HitOrder
+pub mod Inner
 pub mod LeastSeconds
 pub mod Lows
 pub mod Meanings
