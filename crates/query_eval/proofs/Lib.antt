@@ -7,3 +7,4 @@ pub mod Lows
 pub mod Meanings
 pub mod PlacedLaws
 pub mod SortedHits
+pub mod Steps

@@ -2,11 +2,13 @@
 #![tactic(auto)]
 
 mod bodies;
+mod drivers;
 mod hit_order;
 mod hits;
 mod kept_hits;
 pub mod laws;
 mod nested;
+mod parts;
 mod row_walk;
 mod rows_by;
 
