@@ -1,5 +1,5 @@
 -- A guard that is true admits the row by the access that it gives.
-use Rattle.std.proofs.Common.{◌≡◌, ◌∙◌, refl, sym, ap, subst, inl, inr, ℕ, Bool, true, false, Option, Some, None, List, [], ◌∷◌, if◌then◌else◌}
+use Rattle.std.proofs.Common.{◌≡◌, ◌∙◌, refl, ap, subst, inl, inr, ℕ, Bool, true, Option, Some, None}
 use Rattle.std.specs.Prelude.{◌⊎◌, ◌&&◌, option_map}
 use Rattle.std.specs.Option.{option_or}
 use Rattle.std.proofs.lemmas.Bool.{and_parts}
@@ -36,7 +36,7 @@ one_of None y e h = inr h
 one_of (Some x) y e h = inl h
 
 -- what an answer was made of
-made_of : {A B : Type 0} (f : A → B) (x : Option A) (b : B) → option_map f x ≡ Some b → (a : A) × (x ≡ Some a) × (f a ≡ b)
+pub made_of : {A B : Type 0} (f : A → B) (x : Option A) (b : B) → option_map f x ≡ Some b → (a : A) × (x ≡ Some a) × (f a ≡ b)
 made_of f None b h = absurd (none-some b h)
 made_of f (Some a) b h = (a, refl, (cond_some true (f a) b h).1)
 

@@ -1,26 +1,30 @@
 -- The accesses that guards give are enough.
-use Rattle.std.proofs.Common.{◌≡◌, ◌∙◌, refl, sym, ap, subst, inl, inr, ℕ, ℤ, Bool, true, false, not, Option, Some, None, List, [], ◌∷◌, ◌++◌}
-use Rattle.std.specs.Prelude.{◌⊎◌, ◌&&◌, unwrap_or, nat_eq}
+use Rattle.std.proofs.Common.{◌≡◌, ◌∙◌, refl, sym, ap, inl, inr, ℕ, ℤ, Bool, true, not, Option, Some, None, List, [], ◌∷◌, ◌++◌}
+use Rattle.std.specs.Prelude.{◌⊎◌, unwrap_or}
 use Rattle.std.specs.Option.{option_or}
 use Rattle.std.proofs.lemmas.Bool.{and_parts, eq-eqb, false≢true}
 use Rattle.std.proofs.lemmas.Option.{none-some}
 use Rattle.tql_tree.specs.declared.table.Table.{Table}
 use Rattle.tql_tree.specs.declared.table.Table.TheVariants.{Docs, Notes}
 use Rattle.tql_core.specs.declared.term.Var.{Var}
+use Rattle.tql_core.specs.declared.atom.NumField.TheVariants.{Id, DocOf}
+use Rattle.tql_core.specs.declared.atom.TextField.TheVariants.{From, MsgId, InReplyTo}
 use Rattle.tql_core.specs.declared.atom.Atom.{Atom}
 use Rattle.tap_rows.specs.declared.tables.Tables.{Tables}
-use Rattle.tql_core.specs.Condition.{Condition, Always, Never, Plain, NowAtLeast, NowBefore, All, Either, Not, Exists}
+use Rattle.tql_core.specs.Condition.{Condition, Plain, All}
 use Rattle.tql_core.specs.Row.{Row}
-use Rattle.tql_core.specs.Values.{Env, bind, lookup, true_atom}
+use Rattle.tql_core.specs.Values.{Env, bind, true_atom}
 use Rattle.tql_core.specs.Holds.{truth}
 use Rattle.tql_core.specs.Scope.{In}
 use Rattle.time_marks.specs.Marks.{guards_of}
 use Rattle.time_marks.proofs.Envs.{bind_same, bind_other}
 use Rattle.access_plan.specs.declared.access.Access.{Access}
+use Rattle.access_plan.specs.declared.access.Access.TheVariants.{ById, ByMsgId, ByParent, BySender, ByWord, NotesOf}
 use Rattle.access_plan.specs.declared.kind.Kind.{Kind}
-use Rattle.access_plan.specs.Accesses.{admits, first_some, guard_access, kinds, index_access, whole, access_of, is_other, inner_access}
-use Rattle.access_plan.specs.Laws.{AreSame, AccessesAreEnough, InnerAccessesAreEnough}
-use Rattle.access_plan.proofs.Admits.{guard_admits}
+use Rattle.access_plan.specs.declared.kind.Kind.TheVariants as K
+use Rattle.access_plan.specs.Accesses.{admits, table_of, number_side, text_side, word_side, first_some, guard_access, kinds, index_access, whole, access_of, is_other}
+use Rattle.access_plan.specs.Laws.{AreSame, AccessesAreEnough, InnerAccessesAreEnough, AccessesKeepTables}
+use Rattle.access_plan.proofs.Admits.{made_of, guard_admits}
 
 module _ {A B : Type 0} (f : A → Option B) where
   -- what gave the first answer
@@ -43,6 +47,42 @@ accesses_are_enough known v t guards env final row same here guards_true = go (i
       let kind = first_of (λ kind. first_some (guard_access known v kind) guards) (kinds t) access e in
       let a = first_of (guard_access known v kind.0) guards access kind.2 in
       ap (λ o. admits (unwrap_or o (whole t)) env row) e ∙ guard_admits known v env final row same here kind.0 a.0 access a.2 (guards_true a.0 a.1)
+
+-- the table that a kind of access is of
+abbrev kind_table : Kind → Table
+kind_table K.NotesOf = Notes
+kind_table _ = Docs
+
+guard_table : (known : ℕ → Bool) (v : Var) (kind : Kind) (a : Atom) (access : Access) → guard_access known v kind a ≡ Some access → table_of access ≡ kind_table kind
+guard_table known v K.ById a access h = let m = made_of ById (number_side known v Id a) access h in ap table_of (sym m.2)
+guard_table known v K.ByMsgId a access h = let m = made_of ByMsgId (text_side known v MsgId a) access h in ap table_of (sym m.2)
+guard_table known v K.ByParent a access h = let m = made_of ByParent (text_side known v InReplyTo a) access h in ap table_of (sym m.2)
+guard_table known v K.BySender a access h = let m = made_of BySender (text_side known v From a) access h in ap table_of (sym m.2)
+guard_table known v K.ByWord a access h = let m = made_of ByWord (word_side known v a) access h in ap table_of (sym m.2)
+guard_table known v K.NotesOf a access h = let m = made_of NotesOf (number_side known v DocOf a) access h in ap table_of (sym m.2)
+
+kinds_table : (t : Table) (kind : Kind) → In kind (kinds t) → kind_table kind ≡ t
+kinds_table Docs kind (inl e) = ap kind_table e
+kinds_table Docs kind (inr (inl e)) = ap kind_table e
+kinds_table Docs kind (inr (inr (inl e))) = ap kind_table e
+kinds_table Docs kind (inr (inr (inr (inl e)))) = ap kind_table e
+kinds_table Docs kind (inr (inr (inr (inr (inl e))))) = ap kind_table e
+kinds_table Docs kind (inr (inr (inr (inr (inr i))))) = absurd i
+kinds_table Notes kind (inl e) = ap kind_table e
+kinds_table Notes kind (inr i) = absurd i
+
+whole_table : (t : Table) → table_of (whole t) ≡ t
+whole_table Docs = refl
+whole_table Notes = refl
+
+pub accesses_keep_tables : AccessesKeepTables
+accesses_keep_tables known v t guards = go (index_access known v t guards) refl where
+  go : (o : Option Access) → index_access known v t guards ≡ o → table_of (access_of known v t guards) ≡ t
+  go None e = ap (λ o. table_of (unwrap_or o (whole t))) e ∙ whole_table t
+  go (Some access) e =
+      let kind = first_of (λ kind. first_some (guard_access known v kind) guards) (kinds t) access e in
+      let a = first_of (guard_access known v kind.0) guards access kind.2 in
+      ap (λ o. table_of (unwrap_or o (whole t))) e ∙ guard_table known v kind.0 a.0 access a.2 ∙ kinds_table t kind.0 kind.1
 
 in_either : {A : Type 0} (xs ys : List A) (x : A) → In x (xs ++ ys) → In x xs ⊎ In x ys
 in_either [] ys x i = inr i

@@ -1,7 +1,6 @@
 -- Sides of an equation: which one is a variable's field, and that an equation may be turned round.
 use Rattle.std.proofs.Common.{◌≡◌, ◌∙◌, refl, sym, ap, subst, true, ℤ, pos, ℕ, List, [], Option, Some, None}
 use Rattle.std.specs.Ordering.{int_eq, is_eq}
-use Rattle.std.specs.Str.{bytes_eq}
 use Rattle.std.specs.Cmp.Lexicographic.{bytes_decides}
 use Rattle.std.proofs.lemmas.Bool.{false≢true}
 use Rattle.std.proofs.lemmas.Bool.Decides.{Decides-int_eq}

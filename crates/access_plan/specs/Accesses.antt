@@ -40,6 +40,17 @@ admits (NotesOf e) env row = both Eq (field DocOf row) (number e env)
 admits AllDocs env row = true
 admits AllNotes env row = true
 
+-- the table whose rows an access reaches
+abbrev pub table_of : Access → Table
+table_of (ById e) = Docs
+table_of (ByMsgId e) = Docs
+table_of (ByParent e) = Docs
+table_of (BySender e) = Docs
+table_of (ByWord e) = Docs
+table_of (NotesOf e) = Notes
+table_of AllDocs = Docs
+table_of AllNotes = Notes
+
 -- the first answer
 abbrev pub first_some : {A B : Type 0} → (A → Option B) → List A → Option B
 first_some f [] = None

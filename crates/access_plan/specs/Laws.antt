@@ -11,9 +11,9 @@ use Rattle.tql_core.specs.Values.{Env, bind, lookup, true_atom}
 use Rattle.tql_core.specs.Holds.{truth}
 use Rattle.tql_core.specs.Scope.{In}
 use Rattle.time_marks.specs.declared.mark.Step.{Step}
-use Rattle.time_marks.specs.Found.{vars_of, Distinct}
+use Rattle.time_marks.specs.Found.{Distinct}
 use Rattle.access_plan.specs.declared.reach.Reach.{Reach}
-use Rattle.access_plan.specs.Accesses.{admits, is_bound, access_of, inner_access}
+use Rattle.access_plan.specs.Accesses.{admits, table_of, is_bound, access_of, inner_access}
 use Rattle.access_plan.specs.Orders.{driven, order_of}
 
 -- both environments have the same for the known variables
@@ -30,24 +30,31 @@ AccessesAreEnough =
 abbrev pub InnerAccessesAreEnough : Type 0
 InnerAccessesAreEnough = (T : Tables) (v : Var) (t : Table) (x : Condition) (env : Env) (row : Row) (s : ℤ) → truth T s x (bind v row env) ≡ true → admits (inner_access v t x) env row ≡ true
 
+-- an access reaches rows of its variable's table
+abbrev pub AccessesKeepTables : Type 0
+AccessesKeepTables = (known : ℕ → Bool) (v : Var) (t : Table) (guards : List Atom) → table_of (access_of known v t guards) ≡ t
+
 abbrev pub order_vars : List Reach → List ℕ
 order_vars order = map (λ r. r.var.0) order
 
 abbrev pub numbers_of : List Var → List ℕ
 numbers_of vars = map (λ v. v.0) vars
 
--- the reach of a step, by the access that its guards give where these variables are bound
+-- the reach is that of a step, by the access that its guards give where these variables are bound
 pub record ServesStep (bound : List Var) (r : Reach) (step : Step) : Type 0 where
   pub var : r.var ≡ step.var
   pub table : r.table ≡ step.table
   pub access : r.access ≡ access_of (is_bound bound) step.var step.table step.guards
 
--- each reach is that of a step of the path, and of none that is bound before
+-- each reach is that of a step of the path, and no variable that is bound comes once more
 abbrev pub IsServed : List Step → List Var → List Reach → Type 0
 IsServed path bound [] = Unit {0}
-IsServed path bound (r ∷ rs) = ((step : Step) × In step path × ServesStep bound r step) × (In r.var.0 (numbers_of bound) → ⊥) × IsServed path (bound ++ r.var ∷ []) rs
+IsServed path bound (r ∷ rs) =
+    ((step : Step) × In step path × ServesStep bound r step)
+    × ((k : ℕ) → is_bound bound k ≡ true → In k (order_vars (r ∷ rs)) → ⊥)
+    × IsServed path (bound ++ r.var ∷ []) rs
 
--- the order of a path binds each variable but the driver once, by an access that its guards give where those before it are bound
+-- the driver and the order bind each variable of the path, each one once, by an access that its guards give where those before it are bound
 pub record IsOrder (path : List Step) (base : Base) (order : List Reach) : Type 0 where
   pub served : IsServed path (driven base) order
   pub once : Distinct (numbers_of (driven base) ++ order_vars order)

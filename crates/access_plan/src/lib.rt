@@ -23,3 +23,6 @@ pub use orders::plan;
 pub use query_plan::Plan;
 pub use reach::Reach;
 pub use reach_ref::ReachRef;
+
+#[cfg(test)]
+mod tests;

@@ -96,7 +96,7 @@ fn next_reach<'a>(path: &'a [Step], bound: &[Var]) -> Option<ReachRef<'a>>
 }
 
 // The order in which the steps of a path are bound after the driving row.
-fn order_of(alloc: Global, path: &[Step], base: Base) -> Result<Rows<Reach>, Memory>
+pub(crate) fn order_of(alloc: Global, path: &[Step], base: Base) -> Result<Rows<Reach>, Memory>
     ensures { IfOk result (λ order. order ≡ order_of path.now base) }
 {
     let mut bound = driven(alloc, base)?;

@@ -1,8 +1,8 @@
-use Rattle.std.proofs.Common.{◌≡◌, ◌∙◌, refl, ap, Some}
+use Rattle.std.proofs.Common.{◌≡◌, ◌∙◌, ap, Some}
 use Rattle.tql_core.specs.Condition.{All}
 use Rattle.tql_core.specs.Trees.{tree_at, node_tree}
 use Rattle.access_plan.specs.Accesses.{is_other, guard_access}
-use Rattle.access_plan.specs.Views.{access_at, option_access}
+use Rattle.access_plan.specs.Views.{option_access}
 use Rattle.access_plan.proofs.Firsts.{first_left, first_right}
 use Rattle.access_plan.proofs.inner.+first_inner.Goals as goal
 
