@@ -1,10 +1,15 @@
 pub mod AccessLists
 pub mod AccessTables
+pub mod DriverLaws
+pub mod Finding
+pub mod Founds
 pub mod HitOrder
 pub mod Inner
 pub mod LeastSeconds
 pub mod Lows
 pub mod Meanings
+pub mod Members
+pub mod Nesting
 pub mod PlacedLaws
 pub mod SortedHits
 pub mod Steps

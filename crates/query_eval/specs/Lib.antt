@@ -6,4 +6,5 @@ pub mod RowWalks
 pub mod Work
 pub mod Nested
 pub mod Drivers
+pub mod Runs
 pub mod Laws

@@ -3,29 +3,17 @@ use Rattle.std.specs.Prelude.{ℕ, ◌+◌, ◌≤◌, ℤ, Bool, List, [], ◌�
 use Rattle.tap_rows.specs.declared.tables.Tables.{Tables}
 use Rattle.tap_rows.specs.Kept.{Each}
 use Rattle.tql_tree.specs.declared.table.Table.{Table}
-use Rattle.tql_tree.specs.declared.table.Table.TheVariants as Table
 use Rattle.tql_core.specs.declared.term.Var.{Var}
 use Rattle.tql_core.specs.Condition.{Condition, Always, Never, Plain, NowAtLeast, NowBefore, All, Either, Not, Exists}
 use Rattle.tql_core.specs.Row.{Row, arrival, rows_of}
 use Rattle.tql_core.specs.Values.{Env, bind}
 use Rattle.access_plan.specs.declared.access.Access.{Access}
-use Rattle.access_plan.specs.declared.access.Access.TheVariants.{ById, ByMsgId, ByParent, BySender, ByWord, NotesOf, AllDocs, AllNotes}
-use Rattle.access_plan.specs.Accesses.{admits, inner_access}
+use Rattle.access_plan.specs.declared.access.Access.TheVariants.{AllDocs, AllNotes}
+use Rattle.access_plan.specs.Accesses.{table_of, admits, inner_access}
 
 -- the documents that notes are on have numbers of 32 bits
 abbrev pub AreNumbered : Tables → Type 0
 AreNumbered T = Each (λ note. note.doc.0 ≤ 4294967295) T.notes
-
--- the table whose rows an access reaches
-abbrev pub table_of : Access → Table
-table_of (ById e) = Table.Docs
-table_of (ByMsgId e) = Table.Docs
-table_of (ByParent e) = Table.Docs
-table_of (BySender e) = Table.Docs
-table_of (ByWord e) = Table.Docs
-table_of (NotesOf e) = Table.Notes
-table_of AllDocs = Table.Docs
-table_of AllNotes = Table.Notes
 
 -- the rows that an access reaches, of a whole table those that have come by a second
 abbrev pub admits_by : ℤ → Access → Env → Row → Bool
