@@ -87,7 +87,7 @@ order_of_in : (x : Doc) (ds : List Doc) → In x ds → has_date x ≡ true → 
 order_of_in x ds i h = fold_in x [] (filter has_date ds) (inr (to_filter has_date ds x i h))
 
 -- a date in a window
-date_lies : (w : Window) (d : Doc) → lies_in w (date (OfDoc d)) ≡ (has_date d && is_within w (stored_date d))
+pub date_lies : (w : Window) (d : Doc) → lies_in w (date (OfDoc d)) ≡ (has_date d && is_within w (stored_date d))
 unfolding fields texts.fields
 date_lies w d = go (fields d).date
   where

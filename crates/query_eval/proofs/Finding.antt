@@ -71,7 +71,7 @@ marked_parts entries T w p order env h i = go (mark_in w (value p.at env)) refl 
     go (Some b) e i = let k = mark_parts w (value p.at env) b e in (b, k.0, k.1, i)
 
 -- the base names the driver alone
-base_driven : (base : Base) → BaseIn (numbers_of (driven base)) base
+pub base_driven : (base : Base) → BaseIn (numbers_of (driven base)) base
 base_driven (B.Arrival v) = inl refl
 base_driven (B.Date v) = inl refl
 base_driven B.Fixed = tt
@@ -99,7 +99,7 @@ driven_is at = go at.base at.plus
     go (B.ArrivalDay v n) plus = refl
     go (B.DateDay v n) plus = refl
 
-apart_left : (xs ys : List ℕ) → Distinct (xs ++ ys) → (k : ℕ) → In k xs → In k ys → ⊥
+pub apart_left : (xs ys : List ℕ) → Distinct (xs ++ ys) → (k : ℕ) → In k xs → In k ys → ⊥
 apart_left [] ys d k i j = i
 apart_left (x ∷ xs) ys d k (inl e) j = d.0 (in_right xs ys x (subst (λ z. In z ys) e j))
 apart_left (x ∷ xs) ys d k (inr i) j = apart_left xs ys d.1 k i j
@@ -118,11 +118,11 @@ doc_in d ds i = let k = map_in OfDoc ds (OfDoc d) i in subst (λ z. In z ds) (sy
     same : {x y : Doc} → OfDoc x ≡ OfDoc y → x ≡ y
     same e = cc
 
-module _ (entries : List Entry) (T : Tables) (w : Window) (p : Probe) (order : List Reach) (k : IsProbe p) (o : IsOrder p.path p.at.base order) where
-  -- the table of the document that is asked about
-  asked_table : table_in p.path 0 ≡ Docs
-  asked_table = ap (λ z. table_in z 0) k.asked.2
+-- the table of the document that is asked about
+pub asked_table : (p : Probe) → IsProbe p → table_in p.path 0 ≡ Docs
+asked_table p k = ap (λ z. table_in z 0) k.asked.2
 
+module _ (entries : List Entry) (T : Tables) (w : Window) (p : Probe) (order : List Reach) (k : IsProbe p) (o : IsOrder p.path p.at.base order) where
   asked_in : In 0 (vars_of p.path)
   asked_in = subst (λ z. In 0 (vars_of z)) (sym k.asked.2) (inl refl)
 
@@ -179,7 +179,7 @@ module _ (entries : List Entry) (T : Tables) (w : Window) (p : Probe) (order : L
           own same =
               let x = bound same 0 asked_in in
               let e : x.0 ≡ OfDoc d = some_same (sym x.2 ∙ q) in
-              doc_in d T.docs (subst (λ z. In z (map OfDoc T.docs)) e (subst (λ t. In x.0 (rows_of t T)) asked_table x.1))
+              doc_in d T.docs (subst (λ z. In z (map OfDoc T.docs)) e (subst (λ t. In x.0 (rows_of t T)) (asked_table p k) x.1))
 
   -- each mark that the probe finds is a hit beside the driving rows with which it is found
   module _ (h : Hit) (g : IsFoundBy entries p T w h) where
@@ -204,7 +204,7 @@ module _ (entries : List Entry) (T : Tables) (w : Window) (p : Probe) (order : L
         within step i row c (inl e) =
             let z = nat_is step.var.0 0 e in
             let q = asked_row step z row c in
-            subst (λ t. In row (rows_of t T)) (sym (ap (table_in p.path) z ∙ asked_table)) (subst (λ r. In r (map OfDoc T.docs)) (sym q) (in_map OfDoc T.docs g.doc g.is_row))
+            subst (λ t. In row (rows_of t T)) (sym (ap (table_in p.path) z ∙ asked_table p k)) (subst (λ r. In r (map OfDoc T.docs)) (sym q) (in_map OfDoc T.docs g.doc g.is_row))
         within step i row c (inr e) = subst (λ t. In row (rows_of t T)) (sym (table_is p.path step k.once i)) (rw e at c)
 
     asked : lookup 0 f.env ≡ Some (OfDoc g.doc)

@@ -71,7 +71,7 @@ length_append [] ys = omega arith
 length_append (x ∷ xs) ys = let k = length_append xs ys in omega (arith, k)
 
 -- the variables of the order are some of the path
-ordered : (path : List Step) (rs : List Reach) (bound : List Var) → IsServed path bound rs → (j : ℕ) → In j (order_vars rs) → In j (vars_of path)
+pub ordered : (path : List Step) (rs : List Reach) (bound : List Var) → IsServed path bound rs → (j : ℕ) → In j (order_vars rs) → In j (vars_of path)
 ordered path [] bound s j i = absurd i
 ordered path (r ∷ rs) bound s j (inl e) =
     let q : s.0.0.var.0 ≡ j = ap (λ (v : Var). v.0) (sym s.0.2.var) ∙ sym e in
@@ -102,11 +102,11 @@ module _ (q : RangedQuery) where
   kept_part : (part : Ranged) → In part q.parts → is_kept q.pool part.probe ≡ true
   kept_part part i = all_in (λ (part : Ranged). is_kept q.pool part.probe) q.parts part q.kept i
 
-  part_bounded : (part : Ranged) → In part q.parts → is_bounded part.probe.at ≡ true
+  pub part_bounded : (part : Ranged) → In part q.parts → is_bounded part.probe.at ≡ true
   part_bounded part i = (and_parts (nat_lt part.probe.body.0 (length q.pool)) (is_bounded part.probe.at) (kept_part part i)).1
 
   module _ (ps : AreProbes q) where
-    part_probe : (part : Ranged) → In part q.parts → IsProbe (probe_in q.pool part.probe)
+    pub part_probe : (part : Ranged) → In part q.parts → IsProbe (probe_in q.pool part.probe)
     part_probe part i = ps (probe_in q.pool part.probe) (in_map (λ (part : Ranged). probe_in q.pool part.probe) q.parts part i)
 
     pub part_fits : (part : Ranged) → In part q.parts → IsFit q.pool part

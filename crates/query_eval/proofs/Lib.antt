@@ -1,6 +1,8 @@
 pub mod AccessLists
 pub mod AccessTables
+pub mod Costs
 pub mod DriverLaws
+pub mod Dues
 pub mod Finding
 pub mod Founds
 pub mod HitOrder
@@ -11,5 +13,6 @@ pub mod Meanings
 pub mod Members
 pub mod Nesting
 pub mod PlacedLaws
+pub mod Plans
 pub mod SortedHits
 pub mod Steps

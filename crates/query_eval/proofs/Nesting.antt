@@ -114,12 +114,12 @@ by_both b (NotesOf e) env row h k = h
 abbrev pub Bindings : Tables → List Step → List ℕ → Env → Type 0
 Bindings T path vars final = (k : ℕ) → In k vars → (row : Row) × In row (rows_of (table_in path k) T) × (lookup k final ≡ Some row)
 
-module _ (entries : List Entry) (T : Tables) (p : Probe) (b : ℤ) (once : Distinct (vars_of p.path)) where
-  -- the table of a reach
-  reach_table : (bound : List Var) (r : Reach) (step : Step) → In step p.path → ServesStep bound r step → table_of r.access ≡ table_in p.path r.var.0
-  reach_table bound r step i s =
-      ap table_of s.access ∙ accesses_keep_tables (is_bound bound) step.var step.table step.guards ∙ sym (table_is p.path step once i) ∙ ap (λ (v : Var). table_in p.path v.0) (sym s.var)
+-- the table of a reach
+pub reach_table : (p : Probe) → Distinct (vars_of p.path) → (bound : List Var) (r : Reach) (step : Step) → In step p.path → ServesStep bound r step → table_of r.access ≡ table_in p.path r.var.0
+reach_table p once bound r step i s =
+    ap table_of s.access ∙ accesses_keep_tables (is_bound bound) step.var step.table step.guards ∙ sym (table_is p.path step once i) ∙ ap (λ (v : Var). table_in p.path v.0) (sym s.var)
 
+module _ (entries : List Entry) (T : Tables) (p : Probe) (b : ℤ) (once : Distinct (vars_of p.path)) where
   pub walked_to : (rs : List Reach) (bound : List Var) (env : Env) (h : Hit) → IsServed p.path bound rs → Distinct (order_vars rs) → In h (hits_over entries T p b rs env)
       → (final : Env) × (hit_here entries T p b final ≡ Some h) × Bindings T p.path (order_vars rs) final × ((k : ℕ) → (In k (order_vars rs) → ⊥) → lookup k final ≡ lookup k env)
   walked_to [] bound env h s u i = (env, only_one (hit_here entries T p b env) h i, (λ k j. absurd j), (λ k n. refl))
@@ -128,7 +128,7 @@ module _ (entries : List Entry) (T : Tables) (p : Probe) (b : ℤ) (once : Disti
       let x = walked_to rs (bound ++ r.var ∷ []) (bind r.var k.0 env) h s.2 u.1 k.2 in
       let here : lookup r.var.0 x.0 ≡ Some k.0 = x.3 r.var.0 u.0 ∙ bind_same r.var k.0 env in
       let row = (in_filter (admits_by b r.access env) (rows_of (table_of r.access) T) k.0 k.1).0 in
-      let t = reach_table bound r s.0.0 s.0.1 s.0.2 in
+      let t = reach_table p once bound r s.0.0 s.0.1 s.0.2 in
       (x.0, x.1, each k.0 x.0 (subst (λ z. In k.0 (rows_of z T)) t row) here x.2, (λ j n. x.3 j (λ q. n (inr q)) ∙ bind_other j r.var k.0 env (λ e. n (inl e))))
     where
       each : (row : Row) (final : Env) → In row (rows_of (table_in p.path r.var.0) T) → lookup r.var.0 final ≡ Some row → Bindings T p.path (order_vars rs) final → Bindings T p.path (order_vars (r ∷ rs)) final
@@ -147,7 +147,7 @@ module _ (entries : List Entry) (T : Tables) (p : Probe) (b : ℤ) (once : Disti
       let serves = s.0.2 in
       let here : lookup step.var.0 whole ≡ Some x.0 = ap (λ (v : Var). lookup v.0 whole) (sym serves.var) ∙ x.2 in
       let a : admits r.access env x.0 ≡ true = ap (λ z. admits z env x.0) serves.access ∙ accesses_are_enough (is_bound bound) step.var step.table step.guards env whole x.0 same here (λ g j. guards step s.0.1 g j) in
-      let t : In x.0 (rows_of (table_of r.access) T) = subst (λ z. In x.0 (rows_of z T)) (sym (reach_table bound r step s.0.1 serves)) x.1 in
+      let t : In x.0 (rows_of (table_of r.access) T) = subst (λ z. In x.0 (rows_of z T)) (sym (reach_table p once bound r step s.0.1 serves)) x.1 in
       to_flat (λ row. hits_over entries T p b rs (bind r.var row env)) (rows_by b r.access env T) x.0 h
       (to_filter (admits_by b r.access env) (rows_of (table_of r.access) T) x.0 t (by_both b r.access env x.0 a x.3))
       (walk_to rs (bound ++ r.var ∷ []) (bind r.var x.0 env) whole h s.2 u.1 (and_from _ _ x.3 c) (same_more bound r.var x.0 env whole same x.2) (λ k i. rows k (inr i)) guards

@@ -8,13 +8,13 @@ ghost use Rattle.query_eval.specs.Hits.{HitsWithRoom};
 use crate::kept_hits::KeptHits;
 use std::alloc::Global;
 use std::marker::Model;
-use tap_base::Memory;
+use tap_base::{Memory, Rows};
 use tap_rows::Hit;
 
 /// A list of hits, with room for a hit of each document up to a number.
 #[derive(Drop)]
 pub struct Hits {
-    kept: KeptHits,
+    pub(crate) kept: KeptHits,
 }
 
 impl Model for Hits {
@@ -61,6 +61,15 @@ impl Hits {
         ensures { option_copied result ≡ slice_get self.now.hits i }
     {
         self.kept.hits.get(i as usize)
+    }
+
+    /// The hits as a list.
+    pub(crate) fn into_rows(self) -> Rows<Hit>
+        ensures { result ≡ self.hits }
+    {
+        let Hits { kept } = self;
+        let KeptHits { hits, .. } = kept;
+        Rows::from_vec(hits)
     }
 
     /// Makes the room at least `n`, and changes nothing else. At Err nothing has changed.

@@ -135,6 +135,7 @@ impl KeptHits {
         requires placed { IsPlaced self.old.hits.items self.old.places.items }
         requires room { HasRoom self.old }
         ensures meaning { (seen : Doc → Bool) (X : List Probe) (T : Tables) (w : Window) (hits : List Hit) → self.old.hits.items ≡ lowest [] hits → Arrived 1 (pos 0) T.docs → AreFound seen X T w hits → self.new.hits.items ≡ meaning_without seen X T w }
+        ensures count { length self.new.hits.items ≡ length self.old.hits.items }
         ensures room { HasRoom self.new }
         ensures places { self.new.places.items ≡ self.old.places.items }
     {

@@ -11,8 +11,10 @@ mod nested;
 mod parts;
 mod row_walk;
 mod rows_by;
+mod runs;
 
 pub use hits::Hits;
+pub use runs::{run, run_into};
 
 #[cfg(test)]
 mod tests;

@@ -26,6 +26,7 @@ use time_marks::{Probe, Step};
 use tql_core::{Atom, Env, RowRef, TNode, Var, true_atom};
 
 /// A probe, and where it is looked for.
+#[derive(Drop)]
 pub(crate) struct Search<'a> {
     pub(crate) pool: &'a Pool<TNode>,
     pub(crate) probe: &'a Probe,
