@@ -98,6 +98,7 @@ none_numbered q n (d ∷ ds) h f =
   where
     here : (a n l : ℕ) → a ≡ n → a < n + suc l
     here a n l e = omega (arith, e)
+
     further : (a n l : ℕ) → a < n + 1 + l → a < n + suc l
     further a n l h = omega (arith, h)
 
@@ -115,6 +116,7 @@ notes_picked notes o k e =
     or_false : (b : Bool) → (b || false) ≡ b
     or_false true = refl
     or_false false = refl
+
     turned : (k a : ℕ) → (nat_eq k a || false) ≡ int_eq (pos a) (pos k)
     turned k a = or_false (nat_eq k a) ∙ both_same (nat_eq k a) (nat_eq a k) (λ e. is_eq_nat a k (sym (eq_is k a e))) (λ e. is_eq_nat k a (sym (eq_is a k e))) ∙ same_number a k
 

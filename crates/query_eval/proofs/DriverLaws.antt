@@ -65,6 +65,7 @@ in_fold x acc (d ∷ ds) i = go (in_fold x (put_dated d acc) ds i)
     first : (x ≡ d) ⊎ In x acc → In x acc ⊎ In x (d ∷ ds)
     first (inl q) = inr (inl q)
     first (inr j) = inl j
+
     go : In x (put_dated d acc) ⊎ In x ds → In x acc ⊎ In x (d ∷ ds)
     go (inl j) = first (in_put x d acc j)
     go (inr j) = inr (inr j)

@@ -126,27 +126,34 @@ module _ (T : Tables) (w : Window) (p : Probe) (order : List Reach) (k : IsProbe
       where
         v_in : In v.0 (numbers_of (driven p.at.base))
         v_in = subst (λ vs. In v.0 (numbers_of vs)) (sym (driven_is p.at ∙ ap option_to_list e)) (inl refl)
+
         v_is : v ≡ m
         v_is = var_is v (is_asked v.0 (driven_in p.at.base (vars_of p.path) k.at v.0 v_in))
+
         zero_in : In 0 (numbers_of (driven p.at.base))
         zero_in = subst (λ z. In z (numbers_of (driven p.at.base))) (is_asked v.0 (driven_in p.at.base (vars_of p.path) k.at v.0 v_in)) v_in
+
         no_order : (rs : List Reach) → rs ≡ order → rs ≡ []
         no_order [] q = refl
         no_order (r ∷ rs) q =
             let i : In r.var.0 (order_vars order) = subst (λ z. In r.var.0 (order_vars z)) q (inl refl) in
             absurd (apart_left (numbers_of (driven p.at.base)) (order_vars order) o.once r.var.0 (subst (λ z. In z (numbers_of (driven p.at.base))) (sym (in_order r.var.0 i)) zero_in) i)
+
         e_m : seek_var (seek_of p.at) ≡ Some m
         e_m = e ∙ ap Some v_is
+
         less : total (λ row. 1 + cost_at T w p order (bind m row [])) (driving T w p (seek_of p.at) m) ≤ total (λ row. 1 + work T p.body (bind m row [])) (driving T w p (seek_of p.at) m)
         less = total_less _ _ (driving T w p (seek_of p.at) m) (λ row. one row (subst (λ z. cost_at T w p z (bind m row []) ≤ work T p.body (bind m row [])) (sym (no_order order refl)) (cost_less (bind m row []))))
           where
             one : (row : Row) → cost_at T w p order (bind m row []) ≤ work T p.body (bind m row []) → 1 + cost_at T w p order (bind m row []) ≤ 1 + work T p.body (bind m row [])
             one row h = omega (arith, h)
+
         same : total (λ row. 1 + work T p.body (bind m row [])) (driving T w p (seek_of p.at) m) ≡ rows_due T w p
         same =
             ap (λ t. total (λ row. 1 + work T p.body (bind m row [])) (stored_rows (seek_of p.at) t (seek_window w (seek_of p.at)) T)) (asked_table p k)
             ∙ stored_total (λ row. 1 + work T p.body (bind m row [])) (seek_window w (seek_of p.at)) T (seek_of p.at) e_m
             ∙ ap (total due) (filter_same (λ d. lies_in (seek_window w (seek_of p.at)) (stored (seek_of p.at) (asked_of d))) (λ d. lies_in w (value p.at (asked_of d))) T.docs (λ d. sym (solved p.at w (asked_of d) bounded)))
+
         by_m : total (λ row. 1 + cost_at T w p order (bind m row [])) (driving T w p (seek_of p.at) m) ≤ rows_due T w p
         by_m = subst (λ z. total (λ row. 1 + cost_at T w p order (bind m row [])) (driving T w p (seek_of p.at) m) ≤ z) same less
 
@@ -155,32 +162,40 @@ module _ (T : Tables) (w : Window) (p : Probe) (order : List Reach) (k : IsProbe
       where
         none_driven : driven p.at.base ≡ []
         none_driven = driven_is p.at ∙ ap option_to_list e
+
         bound_zero : In 0 (order_vars order)
         bound_zero =
             let s = map_in (λ (s : Step). s.var.0) p.path 0 asked_var in
             subst (λ vs. In 0 (numbers_of vs ++ order_vars order)) none_driven (subst (λ z. In z (numbers_of (driven p.at.base) ++ order_vars order)) (sym s.2) (o.steps s.0 s.1))
+
         once : Distinct (order_vars order)
         once = subst (λ vs. Distinct (numbers_of vs ++ order_vars order)) none_driven o.once
+
         every : (b : ℤ) → value p.at [] ≡ Some b → lies_in w (value p.at []) ≡ true → filter (λ d. lies_in w (value p.at (asked_of d))) T.docs ≡ T.docs
         every b v l = filter_all _ T.docs (λ d i. ap (lies_in w) (value_same (numbers_of (driven p.at.base)) [] (asked_of d) (λ j z. absurd (subst (λ vs. In j (numbers_of vs)) none_driven z)) p.at (base_driven p.at.base)) ∙ l)
+
         walk : (b : ℤ) (rs : List Reach) (bound : List Var) → IsServed p.path bound rs → Distinct (order_vars rs) → In 0 (order_vars rs) → work_over T p b rs [] ≤ total due T.docs
         walk b [] bound s u i = absurd i
         walk b (r ∷ rs) bound s u i = subst (λ z. work_over T p b (r ∷ z) [] ≤ total due T.docs) (sym (alone rs s.2 u)) one
           where
             r_zero : r.var.0 ≡ 0
             r_zero = is_asked r.var.0 (ordered p.path (r ∷ rs) bound s r.var.0 (inl refl))
+
             alone : (rs : List Reach) → IsServed p.path (bound ++ r.var ∷ []) rs → Distinct (r.var.0 ∷ order_vars rs) → rs ≡ []
             alone [] s u = refl
             alone (x ∷ xs) s u =
                 let z = is_asked x.var.0 (ordered p.path (x ∷ xs) (bound ++ r.var ∷ []) s x.var.0 (inl refl)) in
                 absurd (u.0 (inl (r_zero ∙ sym z)))
+
             all : total (λ row. 1 + work T p.body (bind r.var row [])) (rows_of (table_of r.access) T) ≡ total due T.docs
             all =
                 ap (λ t. total (λ row. 1 + work T p.body (bind r.var row [])) (rows_of t T)) (reach_table p k.once bound r s.0.0 s.0.1 s.0.2 ∙ ap (table_in p.path) r_zero ∙ asked_table p k)
                 ∙ total_map (λ row. 1 + work T p.body (bind r.var row [])) OfDoc T.docs
                 ∙ total_same _ _ T.docs (λ d. ap (λ (v : Var). 1 + work T p.body (bind v (OfDoc d) [])) (var_is r.var r_zero))
+
             one : total (λ row. 1 + work T p.body (bind r.var row [])) (rows_by b r.access [] T) ≤ total due T.docs
             one = subst (λ z. total (λ row. 1 + work T p.body (bind r.var row [])) (rows_by b r.access [] T) ≤ z) all (total_filter _ (admits_by b r.access []) (rows_of (table_of r.access) T))
+
         go : (x : Option ℤ) → mark_in w (value p.at []) ≡ x → marked_cost T w p order [] x ≤ rows_due T w p
         go None q = omega arith
         go (Some b) q =

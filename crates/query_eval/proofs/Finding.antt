@@ -225,9 +225,9 @@ module _ (entries : List Entry) (T : Tables) (w : Window) (p : Probe) (order : L
     beside_complete env same come =
         let v : value p.at env ≡ Some h.first = sym (value_same (numbers_of (driven p.at.base)) env f.env same p.at (base_driven p.at.base)) ∙ f.at in
         let i = walk_to entries T p h.first k.once order (driven p.at.base) env f.env h o.served (distinct_right (numbers_of (driven p.at.base)) (order_vars order) o.once) come
-          (λ j b. same j (bound_is (driven p.at.base) j b))
-          (λ j i. path_row j (ordered order (driven p.at.base) o.served j i))
-          f.guards leaf in
+        (λ j b. same j (bound_is (driven p.at.base) j b))
+        (λ j i. path_row j (ordered order (driven p.at.base) o.served j i))
+        f.guards leaf in
         subst (λ z. In h (marked_hits entries T w p order env z)) (sym (to_mark w (value p.at env) h.first v g.within)) i
       where
         leaf : (final : Env) → come_by h.first final ≡ true → ((j : ℕ) → In j (order_vars order) → lookup j final ≡ lookup j f.env) → ((j : ℕ) → (In j (order_vars order) → ⊥) → lookup j final ≡ lookup j env) → hit_here entries T p h.first final ≡ Some h
@@ -239,10 +239,13 @@ module _ (entries : List Entry) (T : Tables) (w : Window) (p : Probe) (order : L
                 go : In j (numbers_of (driven p.at.base)) ⊎ In j (order_vars order) → lookup j final ≡ lookup j f.env
                 go (inl z) = keep j (λ y. apart_left (numbers_of (driven p.at.base)) (order_vars order) o.once j z y) ∙ sym (same j z)
                 go (inr z) = agree j z
+
             guards : guards_true p.path final ≡ true
             guards = all_from (λ (s : Step). list_all (λ a. true_atom a final) s.guards) p.path (λ s i. all_from (λ a. true_atom a final) s.guards (λ a j. atom_same (vars_of p.path) f.env final every a (k.guards s i a j) ∙ f.guards s i a j))
+
             body : truth T (pos 0) p.body final ≡ true
             body = truth_same T (pos 0) p.body (vars_of p.path) f.env final k.body every ∙ f.body
+
             passed : passes T p h.first final ≡ true
             passed = and_from _ _ (and_from _ _ guards c) body
 
@@ -273,6 +276,7 @@ module _ (entries : List Entry) (T : Tables) (w : Window) (p : Probe) (order : L
       where
         driver : In v.0 (vars_of p.path)
         driver = driven_in p.at.base (vars_of p.path) k.at v.0 (subst (λ vs. In v.0 (numbers_of vs)) (sym (driven_is p.at ∙ ap option_to_list e)) (inl refl))
+
         driver_same : (row : Row) → lookup v.0 (f h g).env ≡ Some row → (j : ℕ) → In j (numbers_of (driven p.at.base)) → lookup j (f h g).env ≡ lookup j (bind v row [])
         driver_same row l j z = go (subst (λ vs. In j (numbers_of vs)) (driven_is p.at ∙ ap option_to_list e) z)
           where

@@ -95,6 +95,7 @@ bound_fit p k =
     within : IsOrder p.path p.at.base (order_of p.path p.at.base) → (j : ℕ) → In j (numbers_of (driven p.at.base)) ⊎ In j (order_vars (order_of p.path p.at.base)) → In j (vars_of p.path)
     within o j (inl i) = driven_in p.at.base (vars_of p.path) k.at j i
     within o j (inr i) = ordered p.path (order_of p.path p.at.base) (driven p.at.base) o.served j i
+
     sums : (all vs os vars ds os' path sv : ℕ) → all ≤ vars → all ≡ vs + os → vs ≡ ds → os ≡ os' → vars ≡ path → ds ≡ sv → sv + os' ≤ path
     sums all vs os vars ds os' path sv l a b c d e = omega (arith, l, a, b, c, d, e)
 
@@ -123,6 +124,7 @@ module _ (q : RangedQuery) where
       where
         below : (a n : ℕ) → nat_lt a n ≡ true → a < n
         below a n h = grind arith
+
         sum : (a b n p : ℕ) → a + b ≤ p → p + n ≤ 16 → a + b + n ≤ 16
         sum a b n p h k = omega (arith, h, k)
 

@@ -104,6 +104,7 @@ in_without x k (y ∷ ys) i n =
     rest : x ≡ y → (k ≡ y) ⊎ In k ys → In k ys
     rest e (inl q) = absurd (n (q ∙ sym e))
     rest e (inr j) = j
+
     other : (k ≡ y) ⊎ In k ys → (In k ys → In k (without x ys)) → (k ≡ y) ⊎ In k (without x ys)
     other (inl q) f = inl q
     other (inr j) f = inr (f j)

@@ -74,6 +74,7 @@ table_is (x ∷ xs) step u (inr i) = go (cases_eq x.var.0 step.var.0) (table_is 
   where
     ne : (a b : ℕ) → (a ≡ b → ⊥) → nat_eq a b ≡ false
     ne a b h = grind arith
+
     go : (x.var.0 ≡ step.var.0) ⊎ (x.var.0 ≡ step.var.0 → ⊥) → table_in xs step.var.0 ≡ step.table → table_in (x ∷ xs) step.var.0 ≡ step.table
     go (inl e) k = absurd (u.0 (subst (λ z. In z (vars_of xs)) (sym e) (in_map (λ (s : Step). s.var.0) xs step i)))
     go (inr n) k = let q : nat_eq x.var.0 step.var.0 ≡ false = ne x.var.0 step.var.0 n in rw q k
@@ -96,6 +97,7 @@ same_more bound v row env whole s e k h = go (cases_eq k v.0)
     known : (k ≡ v.0 → ⊥) → (k ≡ v.0) ⊎ (is_bound bound k ≡ true) → is_bound bound k ≡ true
     known n (inl q) = absurd (n q)
     known n (inr q) = q
+
     go : (k ≡ v.0) ⊎ (k ≡ v.0 → ⊥) → lookup k whole ≡ lookup k (bind v row env)
     go (inl q) = subst (λ j. lookup j whole ≡ lookup j (bind v row env)) (sym q) (e ∙ sym (bind_same v row env))
     go (inr n) = s k (known n (bound_parts bound v k h)) ∙ sym (bind_other k v row env n)
@@ -164,10 +166,13 @@ module _ (entries : List Entry) (T : Tables) (p : Probe) (b : ℤ) (once : Disti
     where
       none : None ≡ Some h → ⊥
       none e = cc
+
       num : (d : Doc) → Some (record { doc = d.num; first = b }) ≡ Some h → h.doc ≡ d.num
       num d e = ap (λ (z : Hit). z.doc) (sym (some_same e))
+
       first : (d : Doc) → Some (record { doc = d.num; first = b }) ≡ Some h → h.first ≡ b
       first d e = ap (λ (z : Hit). z.first) (sym (some_same e))
+
       go : (o : Option Row) → lookup 0 env ≡ o → hit_if (passes T p b env) b (unseen entries o) ≡ Some h → (d : Doc) × (lookup 0 env ≡ Some (OfDoc d)) × (was_seen entries d ≡ false) × (h.doc ≡ d.num) × (h.first ≡ b) × (passes T p b env ≡ true)
       go None q e = absurd (none e)
       go (Some (OfNote n)) q e = absurd (none e)

@@ -59,11 +59,13 @@ hits_kept q entries T w n ks now ps num room none k =
       where
         low : (doc : ℕ) → 1 ≤ doc → nat_lt 0 doc ≡ true
         low doc h = grind arith
+
         high : (doc : ℕ) → doc < 1 + length T.docs → nat_le doc n ≡ true
         high doc h = le doc (omega (arith, h, room))
           where
             le : (doc : ℕ) → doc ≤ n → nat_le doc n ≡ true
             le doc h = grind arith
+
     placed : (h : Hit) → kept.In h (query_hits entries T w q) → has_place n h.doc.0 ≡ true
     placed h i =
         let f = (query_found q ps entries T w).sound h i in
