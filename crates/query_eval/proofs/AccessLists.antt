@@ -120,9 +120,12 @@ notes_picked notes o k e =
     turned : (k a : ℕ) → (nat_eq k a || false) ≡ int_eq (pos a) (pos k)
     turned k a = or_false (nat_eq k a) ∙ both_same (nat_eq k a) (nat_eq a k) (λ e. is_eq_nat a k (sym (eq_is k a e))) (λ e. is_eq_nat k a (sym (eq_is a k e))) ∙ same_number a k
 
-pub no_note : (notes : List Note) (o : Option ℤ) → ((k : ℕ) → k ≤ 4294967295 → both Eq (Some (pos k)) o ≡ false) → Each (λ note. note.doc.0 ≤ 4294967295) notes → [] ≡ filter (λ row. both Eq (field DocOf row) o) (map OfNote notes)
+pub no_note : (notes : List Note) (o : Option ℤ) → ((k : ℕ) → k ≤ 4294967295 → both Eq (Some (pos k)) o ≡ false) → Each (λ note. note.doc.0 < 4294967296) notes → [] ≡ filter (λ row. both Eq (field DocOf row) o) (map OfNote notes)
 no_note [] o out r = refl
-no_note (n ∷ ns) o out r = rw (out n.doc.0 r.0) (no_note ns o out r.1)
+no_note (n ∷ ns) o out r = rw (out n.doc.0 (small n.doc.0 r.0)) (no_note ns o out r.1)
+  where
+    small : (a : ℕ) → a < 4294967296 → a ≤ 4294967295
+    small a h = omega (arith, h)
 
 same_text : (x text : List ℕ) → bytes_eq text x ≡ is_eq (text_cmp x text)
 same_text x text = turned ∙ sym (is_eq-slice_cmp x text)

@@ -1,7 +1,6 @@
 -- The rows that the conditions of a body look at, and how many steps that may take.
-use Rattle.std.specs.Prelude.{ℕ, ◌+◌, ◌≤◌, ℤ, Bool, List, [], ◌∷◌, filter, int_le}
+use Rattle.std.specs.Prelude.{ℕ, ◌+◌, ℤ, Bool, List, [], ◌∷◌, filter, int_le}
 use Rattle.tap_rows.specs.declared.tables.Tables.{Tables}
-use Rattle.tap_rows.specs.Kept.{Each}
 use Rattle.tql_tree.specs.declared.table.Table.{Table}
 use Rattle.tql_core.specs.declared.term.Var.{Var}
 use Rattle.tql_core.specs.Condition.{Condition, Always, Never, Plain, NowAtLeast, NowBefore, All, Either, Not, Exists}
@@ -10,10 +9,6 @@ use Rattle.tql_core.specs.Values.{Env, bind}
 use Rattle.access_plan.specs.declared.access.Access.{Access}
 use Rattle.access_plan.specs.declared.access.Access.TheVariants.{AllDocs, AllNotes}
 use Rattle.access_plan.specs.Accesses.{table_of, admits, inner_access}
-
--- the documents that notes are on have numbers of 32 bits
-abbrev pub AreNumbered : Tables → Type 0
-AreNumbered T = Each (λ note. note.doc.0 ≤ 4294967295) T.notes
 
 -- the rows that an access reaches, of a whole table those that have come by a second
 abbrev pub admits_by : ℤ → Access → Env → Row → Bool

@@ -6,7 +6,7 @@ ghost use Rattle.tql_core.specs.Trees.{tree_at, node_tree, kids_of};
 ghost use Rattle.tql_core.specs.Holds.{truth};
 ghost use Rattle.tql_core.specs.Values.{bind};
 ghost use Rattle.time_marks.specs.Found.{nested};
-ghost use Rattle.query_eval.specs.Work.{AreNumbered, reached, work};
+ghost use Rattle.query_eval.specs.Work.{reached, work};
 
 use crate::rows_by::inner_rows;
 use node_pool::{NodeId, Pool};
@@ -24,7 +24,6 @@ pub(crate) fn body_holds<'a, L: Ledger>(
     steps: &mut Steps<L>,
 ) -> bool
     requires node { body.0 < length pool.now }
-    requires notes { AreNumbered index.now }
     requires room { length env.now + nested (tree_at pool.now body.0) ≤ 16 }
     ensures truth { result ≡ truth index.now (pos 0) (tree_at pool.now body.0) env.now }
     ensures steps { steps.new ≤ steps.old + work index.now (tree_at pool.now body.0) env.now }

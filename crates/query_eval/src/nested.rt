@@ -9,7 +9,7 @@ ghost use Rattle.time_marks.specs.Probes.{guards_true};
 ghost use Rattle.time_marks.specs.Views.{probe_in};
 ghost use Rattle.query_eval.specs.Lowest.{keeping};
 ghost use Rattle.query_eval.specs.Placed.{IsReady};
-ghost use Rattle.query_eval.specs.Work.{AreNumbered, work};
+ghost use Rattle.query_eval.specs.Work.{work};
 ghost use Rattle.query_eval.specs.Nested.{new_doc, unseen, passes, hit_here, hits_over, work_over};
 
 use crate::bodies::body_holds;
@@ -81,7 +81,6 @@ fn passes<'a, L: Ledger>(
     steps: &mut Steps<L>,
 ) -> bool
     requires node { search.now.probe.now.body.0 < length search.now.pool.now }
-    requires notes { AreNumbered search.now.index.now }
     requires room { length env.now + nested (tree_at search.now.pool.now search.now.probe.now.body.0) ≤ 16 }
     ensures passes { result ≡ passes search.now.index.now (probe_in search.now.pool.now search.now.probe.now) mark env.now }
     ensures steps { steps.new ≤ steps.old + work search.now.index.now (tree_at search.now.pool.now search.now.probe.now.body.0) env.now }
@@ -100,7 +99,6 @@ fn hit_here<'a, L: Ledger>(
     steps: &mut Steps<L>,
 ) -> Option<Hit>
     requires node { search.now.probe.now.body.0 < length search.now.pool.now }
-    requires notes { AreNumbered search.now.index.now }
     requires room { length env.now + nested (tree_at search.now.pool.now search.now.probe.now.body.0) ≤ 16 }
     ensures hit { result ≡ hit_here search.now.seen.now search.now.index.now (probe_in search.now.pool.now search.now.probe.now) mark env.now }
     ensures steps { steps.new ≤ steps.old + work search.now.index.now (tree_at search.now.pool.now search.now.probe.now.body.0) env.now }
@@ -126,7 +124,6 @@ fn keep_here<'a, L: Ledger>(
     steps: &mut Steps<L>,
 )
     requires node { search.now.probe.now.body.0 < length search.now.pool.now }
-    requires notes { AreNumbered search.now.index.now }
     requires room { length env.now + nested (tree_at search.now.pool.now search.now.probe.now.body.0) ≤ 16 }
     requires ready { IsReady into.old }
     ensures hits { into.new.hits.items ≡ keeping (length into.old.places.items) into.old.hits.items (option_to_list (hit_here search.now.seen.now search.now.index.now (probe_in search.now.pool.now search.now.probe.now) mark env.now)) }
@@ -150,7 +147,6 @@ pub(crate) fn keep_hits<'a, L: Ledger>(
     steps: &mut Steps<L>,
 )
     requires node { search.now.probe.now.body.0 < length search.now.pool.now }
-    requires notes { AreNumbered search.now.index.now }
     requires room { length env.now + length order.now + nested (tree_at search.now.pool.now search.now.probe.now.body.0) ≤ 16 }
     requires ready { IsReady into.old }
     ensures hits { into.new.hits.items ≡ keeping (length into.old.places.items) into.old.hits.items (hits_over search.now.seen.now search.now.index.now (probe_in search.now.pool.now search.now.probe.now) mark order.now env.now) }

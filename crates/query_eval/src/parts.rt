@@ -12,7 +12,6 @@ ghost use Rattle.time_marks.specs.Seeks.{seek_plus};
 ghost use Rattle.time_marks.specs.Views.{probe_in};
 ghost use Rattle.query_eval.specs.Lowest.{keeping};
 ghost use Rattle.query_eval.specs.Placed.{IsReady};
-ghost use Rattle.query_eval.specs.Work.{AreNumbered};
 ghost use Rattle.query_eval.specs.Drivers.{seek_var, hits_at, seek_hits, cost_at, seek_cost, driving};
 
 use crate::drivers::{mark_in, seek_var, stored_rows, table_in};
@@ -35,7 +34,6 @@ fn keep_at<'a, L: Ledger>(
     steps: &mut Steps<L>,
 )
     requires node { search.now.probe.now.body.0 < length search.now.pool.now }
-    requires notes { AreNumbered search.now.index.now }
     requires room { length env.now + length order.now + nested (tree_at search.now.pool.now search.now.probe.now.body.0) ≤ 16 }
     requires ready { IsReady into.old }
     ensures hits { into.new.hits.items ≡ keeping (length into.old.places.items) into.old.hits.items (hits_at search.now.seen.now search.now.index.now w (probe_in search.now.pool.now search.now.probe.now) order.now env.now) }
@@ -74,7 +72,6 @@ fn keep_driven<'a, L: Ledger>(
     requires low { IsWithin 500000000000 w.low }
     requires high { IsWithin 500000000000 w.high }
     requires node { search.now.probe.now.body.0 < length search.now.pool.now }
-    requires notes { AreNumbered search.now.index.now }
     requires room { 1 + length order.now + nested (tree_at search.now.pool.now search.now.probe.now.body.0) ≤ 16 }
     requires ready { IsReady into.old }
     ensures hits { into.new.hits.items ≡ keeping (length into.old.places.items) into.old.hits.items (flat_map (λ row. hits_at search.now.seen.now search.now.index.now w (probe_in search.now.pool.now search.now.probe.now) order.now (bind var row [])) (driving search.now.index.now w (probe_in search.now.pool.now search.now.probe.now) seek var)) }
@@ -102,7 +99,6 @@ pub(crate) fn keep_part<'a, L: Ledger>(
     requires low { IsWithin 500000000000 w.low }
     requires high { IsWithin 500000000000 w.high }
     requires node { search.now.probe.now.body.0 < length search.now.pool.now }
-    requires notes { AreNumbered search.now.index.now }
     requires room { length (option_to_list (seek_var seek)) + length order.now + nested (tree_at search.now.pool.now search.now.probe.now.body.0) ≤ 16 }
     requires ready { IsReady into.old }
     ensures hits { into.new.hits.items ≡ keeping (length into.old.places.items) into.old.hits.items (seek_hits search.now.seen.now search.now.index.now w (probe_in search.now.pool.now search.now.probe.now) order.now seek (seek_var seek)) }

@@ -9,7 +9,7 @@ ghost use Rattle.tql_core.specs.Row.{OfDoc, OfNote};
 ghost use Rattle.tql_core.specs.Values.{field, both, text_field, both_texts, list_field, has};
 ghost use Rattle.tql_core.specs.Trees.{tree_at};
 ghost use Rattle.access_plan.specs.Views.{access_at};
-ghost use Rattle.query_eval.specs.Work.{AreNumbered, rows_by, reached};
+ghost use Rattle.query_eval.specs.Work.{rows_by, reached};
 
 use crate::row_walk::RowWalk;
 use access_plan::{AccessRef, inner_access};
@@ -83,9 +83,9 @@ fn with_word<'a>(text: Option<&[u8]>, index: &'a RowIndex) -> RowWalk<'a>
 
 // The notes on the document of this number.
 fn with_doc(num: Option<i128>, index: &RowIndex) -> RowWalk<'_>
-    requires { AreNumbered index.now }
     ensures { result ≡ filter (λ row. both Eq (field DocOf row) num) (map OfNote index.now.notes) }
 {
+    let _notes = index.notes();
     match short(num) {
         None => RowWalk::none(),
         Some(num) => RowWalk::of_notes(index.notes_of(DocNum(num))),
@@ -99,7 +99,6 @@ pub(crate) fn rows_by<'a>(
     env: &Env<'a>,
     index: &'a RowIndex,
 ) -> RowWalk<'a>
-    requires { AreNumbered index.now }
     ensures { result ≡ rows_by last (access_at access.entry) env.now index.now }
 {
     match access {
@@ -123,8 +122,7 @@ pub(crate) fn inner_rows<'a>(
     env: &Env<'a>,
     index: &'a RowIndex,
 ) -> RowWalk<'a>
-    requires node { inner.0 < length pool.now }
-    requires notes { AreNumbered index.now }
+    requires { inner.0 < length pool.now }
     ensures { result ≡ reached index.now var table (tree_at pool.now inner.0) env.now }
 {
     let _docs = index.docs();

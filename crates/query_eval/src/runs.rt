@@ -8,7 +8,7 @@ ghost use Rattle.time_marks.specs.Probes.{Probe, meaning_without};
 ghost use Rattle.time_marks.specs.Views.{ranged_probes};
 ghost use Rattle.query_eval.specs.Lowest.{keeping};
 ghost use Rattle.query_eval.specs.Placed.{IsReady};
-ghost use Rattle.query_eval.specs.Work.{AreNumbered, total};
+ghost use Rattle.query_eval.specs.Work.{total};
 ghost use Rattle.query_eval.specs.Nested.{was_seen};
 ghost use Rattle.query_eval.specs.Runs.{AreProbes, IsQuiet, IsAlone, rows_due, part_order, query_hits, query_cost};
 
@@ -47,7 +47,6 @@ fn keep_parts<L: Ledger>(
     requires low { IsWithin 500000000000 w.low }
     requires high { IsWithin 500000000000 w.high }
     requires probes { AreProbes plan.now.query }
-    requires notes { AreNumbered index.now }
     requires ready { IsReady into.old }
     ensures hits { into.new.hits.items ≡ keeping (length into.old.places.items) into.old.hits.items (query_hits seen.now index.now w plan.now.query) }
     ensures ready { IsReady into.new }
@@ -82,7 +81,6 @@ pub fn run_into<L: Ledger>(
     requires high { IsWithin 500000000000 w.high }
     requires room { length index.now.docs ≤ into.old.room }
     requires probes { AreProbes plan.now.query }
-    requires notes { AreNumbered index.now }
     ensures hits { into.new.hits ≡ meaning_without (was_seen seen.now) (ranged_probes plan.now.query) index.now w }
     ensures room { into.new.room ≡ into.old.room }
     ensures quiet { ((p : Probe) → In p (ranged_probes plan.now.query) → IsQuiet index.now w p) → steps.new ≡ steps.old }
@@ -106,7 +104,6 @@ pub fn run<L: Ledger>(
     requires low { IsWithin 500000000000 w.low }
     requires high { IsWithin 500000000000 w.high }
     requires probes { AreProbes plan.now.query }
-    requires notes { AreNumbered index.now }
     ensures hits { IfOk result (λ hits. hits ≡ meaning_without (was_seen seen.now) (ranged_probes plan.now.query) index.now w) }
     ensures quiet { ((p : Probe) → In p (ranged_probes plan.now.query) → IsQuiet index.now w p) → steps.new ≡ steps.old }
     ensures due { ((p : Probe) → In p (ranged_probes plan.now.query) → IsAlone p) → steps.new ≤ steps.old + total (rows_due index.now w) (ranged_probes plan.now.query) }

@@ -5,7 +5,7 @@ use Rattle.query_eval.proofs.AccessLists.{no_note, notes_picked}
 use Rattle.query_eval.proofs.rows_by.with_doc.Goals as goal
 
 pub returns-in-None : goal.returns-in-None
-returns-in-None c = c.none.ensures ∙ no_note c.args.index.now.notes c.args.num (c.short.ensures.none c.in-None.is) c.requires
+returns-in-None c = c.none.ensures ∙ no_note c.args.index.now.notes c.args.num (c.short.ensures.none c.in-None.is) c.notes-notes.ensures.documents
 
 pub returns-in-Some : goal.returns-in-Some
 returns-in-Some c =
