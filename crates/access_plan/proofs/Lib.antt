@@ -4,3 +4,4 @@ pub mod Admits
 pub mod Enough
 pub mod Counts
 pub mod Served
+pub mod Reached

@@ -44,7 +44,7 @@ pub now_bound : (bound : List Var) (v : Var) → is_bound (bound ++ v ∷ []) v.
 now_bound [] v = or_left (nat_eq v.0 v.0) false (eq-eqb v.0 v.0 refl)
 now_bound (w ∷ bound) v = or_right (nat_eq w.0 v.0) (is_bound (bound ++ v ∷ []) v.0) (now_bound bound v)
 
-was_bound : (bound : List Var) (v : Var) (k : ℕ) → is_bound (bound ++ v ∷ []) k ≡ true → (is_bound bound k ≡ true) ⊎ (k ≡ v.0)
+pub was_bound : (bound : List Var) (v : Var) (k : ℕ) → is_bound (bound ++ v ∷ []) k ≡ true → (is_bound bound k ≡ true) ⊎ (k ≡ v.0)
 was_bound [] v k h = elim (or_cases (nat_eq v.0 k) false h) [ inl e ↦ inr (sym (eqb-true v.0 k e)) | inr e ↦ absurd (false≢true e) ]
 was_bound (w ∷ bound) v k h =
     elim (or_cases (nat_eq w.0 k) (is_bound (bound ++ v ∷ []) k) h) [

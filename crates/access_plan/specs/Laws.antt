@@ -12,6 +12,7 @@ use Rattle.tql_core.specs.Holds.{truth}
 use Rattle.tql_core.specs.Scope.{In}
 use Rattle.time_marks.specs.declared.mark.Step.{Step}
 use Rattle.time_marks.specs.Found.{Distinct}
+use Rattle.time_marks.specs.Probes.{guards_true}
 use Rattle.access_plan.specs.declared.reach.Reach.{Reach}
 use Rattle.access_plan.specs.Accesses.{admits, table_of, is_bound, access_of, inner_access}
 use Rattle.access_plan.specs.Orders.{driven, order_of}
@@ -62,3 +63,16 @@ pub record IsOrder (path : List Step) (base : Base) (order : List Reach) : Type 
 
 abbrev pub OrdersServe : Type 0
 OrdersServe = (path : List Step) (base : Base) → IsOrder path base (order_of path base)
+
+-- a row with which all guards of a path are true in the end is admitted by the next reach of its order, which is of its table
+abbrev pub ReachesAreEnough : Type 0
+ReachesAreEnough =
+    (path : List Step) (bound : List Var) (r : Reach) (rs : List Reach) (env final : Env) (row : Row) → IsServed path bound (r ∷ rs)
+    → AreSame (is_bound bound) env final → lookup r.var.0 final ≡ Some row → guards_true path final ≡ true
+    → (admits r.access env row ≡ true) × (table_of r.access ≡ r.table)
+
+-- binding that row keeps this up
+abbrev pub BindingKeepsSame : Type 0
+BindingKeepsSame =
+    (bound : List Var) (v : Var) (env final : Env) (row : Row) → AreSame (is_bound bound) env final → lookup v.0 final ≡ Some row
+    → AreSame (is_bound (bound ++ v ∷ [])) (bind v row env) final

@@ -1,5 +1,5 @@
 //! Laws of accesses and orders.
-ghost use Rattle.access_plan.specs.Laws.{AccessesAreEnough, InnerAccessesAreEnough, AccessesKeepTables, OrdersServe};
+ghost use Rattle.access_plan.specs.Laws.{AccessesAreEnough, InnerAccessesAreEnough, AccessesKeepTables, OrdersServe, ReachesAreEnough, BindingKeepsSame};
 
 /// A row with which all guards of its variable are true in the end is admitted by the variable's access before, in
 /// whatever order the other rows come.
@@ -21,4 +21,11 @@ pub fn accesses_keep_tables()
 /// guards give where the variables before it are bound, so that its other side is a literal or a field of one of these.
 pub fn orders_serve()
     ensures { OrdersServe }
+{}
+
+/// Where the rows of a path make all its guards true, each reach of its order admits its row at the moment at which it is
+/// looked for: when the rows before it are bound.
+pub fn reaches_are_enough()
+    ensures enough { ReachesAreEnough }
+    ensures next { BindingKeepsSame }
 {}
