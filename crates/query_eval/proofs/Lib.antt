@@ -16,3 +16,4 @@ pub mod PlacedLaws
 pub mod Plans
 pub mod SortedHits
 pub mod Steps
+pub mod TestPlans
