@@ -7,7 +7,7 @@ use Rattle.row_index.specs.declared.doc_places.DocPlaces.{DocPlaces}
 use Rattle.row_index.specs.Orders.{InPlace, IsMoment, doc_number, doc_arrival, note_number, note_arrival}
 use Rattle.row_index.specs.Places.{posted, unposted}
 use Rattle.row_index.specs.Texts.{IsNext}
-use Rattle.row_index.specs.Held.{DocPosts, IsHeld, noted}
+use Rattle.row_index.specs.Held.{DocPosts, IsHeld, AreOnDocs, noted}
 use Rattle.row_index.proofs.InPlaces.{in_place_more, in_place_less, number_of_last}
 use Rattle.row_index.proofs.PostLaws.{posts_more, posts_less}
 
@@ -30,6 +30,7 @@ held_doc_more docs more doc p old new notes on_doc h e w m a q f s = subst (λ z
   notes_stand = h.notes_stand;
   docs_found = f docs (next_doc docs doc p h.docs_stand e q) h.docs_found;
   notes_found = h.notes_found;
+  notes_on_docs = h.notes_on_docs;
 })
 
 pub held_doc_same : (docs : List Doc) (doc : Doc) (p : ℕ) (old new : DocPlaces) (notes : List Note) (on_doc : List (ℕ × List ℕ))
@@ -41,6 +42,7 @@ held_doc_same docs doc p old new notes on_doc h e q f = record {
   notes_stand = h.notes_stand;
   docs_found = f docs (next_doc docs doc p h.docs_stand e q) h.docs_found;
   notes_found = h.notes_found;
+  notes_on_docs = h.notes_on_docs;
 }
 
 pub held_doc_less : (docs all : List Doc) (doc : Doc) (p : ℕ) (old new : DocPlaces) (notes : List Note) (on_doc : List (ℕ × List ℕ))
@@ -55,19 +57,29 @@ held_doc_less docs all doc p old new notes on_doc h s q f =
       notes_stand = h'.notes_stand;
       docs_found = f docs (record { numbered = stand.numbered; number = number_of_last doc_number doc_arrival docs doc h'.docs_stand; behind = q }) h'.docs_found;
       notes_found = h'.notes_found;
+      notes_on_docs = h'.notes_on_docs;
     }
 
+on_docs_more : (notes : List Note) (note : Note) → AreOnDocs notes → note.doc.0 < 2 ^ 32 → AreOnDocs (notes ++ note ∷ [])
+on_docs_more [] note h d = (d, tt)
+on_docs_more (n ∷ ns) note h d = (h.0, on_docs_more ns note h.1 d)
+
+on_docs_less : (notes : List Note) (note : Note) → AreOnDocs (notes ++ note ∷ []) → AreOnDocs notes
+on_docs_less [] note h = tt
+on_docs_less (n ∷ ns) note h = (h.0, on_docs_less ns note h.1)
+
 pub held_note_more : (docs : List Doc) (places : DocPlaces) (notes more : List Note) (note : Note) (p : ℕ) (old new : List (ℕ × List ℕ))
-    → IsHeld docs places notes old → note.num.0 ≡ length notes + 1 → note.num.0 < 2 ^ 32 → IsMoment note.arrival → Each (λ other. other.arrival ≤ℤ note.arrival) notes
+    → IsHeld docs places notes old → note.num.0 ≡ length notes + 1 → note.num.0 < 2 ^ 32 → note.doc.0 < 2 ^ 32 → IsMoment note.arrival → Each (λ other. other.arrival ≤ℤ note.arrival) notes
     → p ≡ note.num.0 - 1 → new ≡ posted nat_eq note.doc.0 p old → more ≡ notes ++ note ∷ []
     → IsHeld docs places more new
-held_note_more docs places notes more note p old new h e w m a q f s =
+held_note_more docs places notes more note p old new h e w d m a q f s =
     let b : p ≡ length notes = place_behind p note.num.0 (length notes) q e in
     subst (λ z. IsHeld docs places z new) (sym s) (record {
       docs_stand = h.docs_stand;
       notes_stand = in_place_more note_number note_arrival notes note h.notes_stand e w m a;
       docs_found = h.docs_found;
       notes_found = posts_more nat_eq same_nat noted note_number notes note old new h.notes_stand.numbered e (f ∙ ap (λ k. posted nat_eq note.doc.0 k old) b) h.notes_found;
+      notes_on_docs = on_docs_more notes note h.notes_on_docs d;
     })
 
 pub held_note_less : (docs : List Doc) (places : DocPlaces) (notes all : List Note) (note : Note) (p : ℕ) (old new : List (ℕ × List ℕ))
@@ -81,4 +93,5 @@ held_note_less docs places notes all note p old new h s q f =
       notes_stand = stand;
       docs_found = h'.docs_found;
       notes_found = posts_less nat_eq same_nat noted note_number notes note old new stand.numbered (number_of_last note_number note_arrival notes note h'.notes_stand) (f ∙ ap (λ k. unposted nat_eq note.doc.0 k old) q) h'.notes_found;
+      notes_on_docs = on_docs_less notes note h'.notes_on_docs;
     }

@@ -1,7 +1,8 @@
 -- What an index holds besides its rows.
-use Rattle.std.specs.Prelude.{ℕ, List, [], ◌∷◌, nat_eq}
+use Rattle.std.specs.Prelude.{ℕ, ◌<◌, ◌^◌, List, [], ◌∷◌, nat_eq}
 use Rattle.tap_rows.specs.declared.rows.Doc.{Doc}
 use Rattle.tap_rows.specs.declared.rows.Note.{Note}
+use Rattle.tap_rows.specs.Kept.{Each}
 use Rattle.row_index.specs.declared.doc_places.DocPlaces.{DocPlaces}
 use Rattle.row_index.specs.Orders.{InPlace, doc_number, doc_arrival, note_number, note_arrival}
 use Rattle.row_index.specs.Posts.{Posts, with_key}
@@ -21,9 +22,14 @@ noted note = note.doc.0 ∷ []
 abbrev pub notes_on : ℕ → List Note → List Note
 notes_on doc notes = with_key nat_eq noted doc notes
 
+-- each note is on a document whose number has 32 bits
+abbrev pub AreOnDocs : List Note → Type 0
+AreOnDocs notes = Each (λ note. note.doc.0 < 2 ^ 32) notes
+
 -- rows in their places, and what finds them
 pub record IsHeld (docs : List Doc) (places : DocPlaces) (notes : List Note) (on_doc : List (ℕ × List ℕ)) : Type 0 where
   pub docs_stand : InPlace doc_number doc_arrival docs
   pub notes_stand : InPlace note_number note_arrival notes
   pub docs_found : DocPosts docs places
   pub notes_found : Posts nat_eq noted note_number notes on_doc
+  pub notes_on_docs : AreOnDocs notes

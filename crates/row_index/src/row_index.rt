@@ -12,7 +12,7 @@ ghost use Rattle.tap_rows.specs.Tables.{no_rows, after};
 ghost use Rattle.row_index.specs.Orders.{InPlace, IsMoment, doc_number, doc_arrival, note_number, note_arrival, in_window, up_to};
 ghost use Rattle.row_index.specs.Texts.{with_text, msgids, parents, senders, words_in};
 ghost use Rattle.row_index.specs.Dates.{dated_in};
-ghost use Rattle.row_index.specs.Held.{notes_on};
+ghost use Rattle.row_index.specs.Held.{notes_on, AreOnDocs};
 ghost use Rattle.row_index.specs.Rows.{without_last_doc, without_last_note};
 
 use crate::arrivals::{docs_up_to, docs_within, notes_up_to, notes_within};
@@ -68,9 +68,11 @@ impl RowIndex {
         self.docs.len() as u32
     }
 
-    /// How many notes there are. Their numbers are their places, from 1, and their arrivals never fall.
+    /// How many notes there are. Their numbers are their places, from 1, and their arrivals never fall. The numbers of the
+    /// documents that they are on have 32 bits.
     pub fn notes(&self) -> u32
         ensures count { result ≡ length self.now.notes }
+        ensures documents { AreOnDocs self.now.notes }
         ensures places { InPlace note_number note_arrival self.now.notes }
     {
         self.notes.len() as u32

@@ -1,0 +1,154 @@
+-- What a run of a plan keeps, and what it costs.
+use Rattle.std.proofs.Common.{◌≡◌, ℕ, zero, suc, ◌+◌, ◌-◌, ◌<◌, ◌≤◌, ℤ, pos, Bool, true, false, List, [], ◌∷◌, Option, Some, None, length, refl, sym, ap, ◌∙◌, subst, inl, inr, arith, map}
+use Rattle.std.specs.Prelude.{◌⊎◌, ◌&&◌, nat_lt, nat_le, slice_get, if◌then◌else◌}
+use Rattle.tap_base.specs.declared.numbers.DocNum.{DocNum}
+use Rattle.tap_rows.specs.declared.rows.Doc.{Doc}
+use Rattle.tap_rows.specs.declared.tables.Tables.{Tables}
+use Rattle.tap_rows.specs.declared.results.Hit.{Hit}
+use Rattle.tap_rows.specs.declared.results.Entry.{Entry}
+use Rattle.tap_rows.specs.Kept as kept
+use Rattle.tql_core.specs.declared.term.Var.{Var}
+use Rattle.tql_core.specs.Scope.{In}
+use Rattle.row_index.specs.Orders.{Numbered, doc_number}
+use Rattle.time_marks.specs.declared.ranged.Ranged.{Ranged}
+use Rattle.time_marks.specs.declared.ranged_query.RangedQuery.{RangedQuery}
+use Rattle.time_marks.specs.declared.window.Window.{Window}
+use Rattle.time_marks.specs.Found.{Distinct}
+use Rattle.time_marks.specs.Probes.{Probe}
+use Rattle.time_marks.specs.Seeks.{seek_of}
+use Rattle.time_marks.specs.Views.{probe_in, ranged_probes}
+use Rattle.time_marks.proofs.Lists.{in_map}
+use Rattle.access_plan.proofs.Served.{orders_serve}
+use Rattle.query_eval.specs.Lowest.{lowered, lowest, has_place, kept_with, keeping}
+use Rattle.query_eval.specs.Placed.{IsPlaced}
+use Rattle.query_eval.specs.Work.{total}
+use Rattle.query_eval.specs.Nested.{was_seen}
+use Rattle.query_eval.specs.Drivers.{seek_var, seek_cost}
+use Rattle.query_eval.specs.Runs.{part_order, part_hits, part_cost, query_hits, query_cost, AreProbes, IsQuiet, IsAlone, rows_due}
+use Rattle.query_eval.proofs.Members.{of_kept, no_more}
+use Rattle.query_eval.proofs.Costs.{total_none, total_map}
+use Rattle.query_eval.proofs.Dues.{quiet_cost, alone_cost}
+use Rattle.query_eval.proofs.Founds.{part_probe, part_bounded, query_found}
+
+-- hits whose documents all have places are kept as by the lowering alone
+all_placed : (n : ℕ) (ks hs : List Hit) → ((h : Hit) → kept.In h hs → has_place n h.doc.0 ≡ true) → keeping n ks hs ≡ lowest ks hs
+all_placed n ks [] f = refl
+all_placed n ks (h ∷ hs) f =
+    let e : kept_with n ks h ≡ lowered ks h = ap (λ b. if b then lowered ks h else ks) (f h (inl refl)) in
+    ap (λ z. keeping n z hs) e ∙ all_placed n (lowered ks h) hs (λ x i. f x (inr i))
+
+number_within : (n : ℕ) (docs : List Doc) (d : Doc) → Numbered doc_number n docs → kept.In d docs → (n ≤ d.num.0) × (d.num.0 < n + length docs)
+number_within n [] d h i = absurd i
+number_within n (x ∷ xs) d h (inl e) =
+    let q : d.num.0 ≡ n = ap (λ (z : Doc). z.num.0) e ∙ h.0 in
+    (omega (arith, q), omega (arith, q))
+number_within n (x ∷ xs) d h (inr i) =
+    let k = number_within (n + 1) xs d h.1 i in
+    (omega (arith, k.0), omega (arith, k.1))
+
+-- hits that the list of a plan's hits gives are kept
+pub hits_kept : (q : RangedQuery) (entries : List Entry) (T : Tables) (w : Window) (n : ℕ) (ks now : List Hit) → AreProbes q → Numbered doc_number 1 T.docs → length T.docs ≤ n → ks ≡ [] → now ≡ keeping n ks (query_hits entries T w q) → now ≡ lowest [] (query_hits entries T w q)
+hits_kept q entries T w n ks now ps num room none k =
+    k ∙ ap (λ z. keeping n z (query_hits entries T w q)) none ∙ all_placed n [] (query_hits entries T w q) placed
+  where
+    place : (doc : ℕ) → (1 ≤ doc) × (doc < 1 + length T.docs) → has_place n doc ≡ true
+    place doc b =
+        let l : nat_lt 0 doc ≡ true = low doc b.0 in
+        let h : nat_le doc n ≡ true = high doc b.1 in
+        rw (l, h) refl
+      where
+        low : (doc : ℕ) → 1 ≤ doc → nat_lt 0 doc ≡ true
+        low doc h = grind arith
+
+        high : (doc : ℕ) → doc < 1 + length T.docs → nat_le doc n ≡ true
+        high doc h = le doc (omega (arith, h, room))
+          where
+            le : (doc : ℕ) → doc ≤ n → nat_le doc n ≡ true
+            le doc h = grind arith
+
+    placed : (h : Hit) → kept.In h (query_hits entries T w q) → has_place n h.doc.0 ≡ true
+    placed h i =
+        let f = (query_found q ps entries T w).sound h i in
+        place h.doc.0 (subst (λ (z : DocNum). (1 ≤ z.0) × (z.0 < 1 + length T.docs)) (sym f.num) (number_within 1 T.docs f.doc num f.is_row))
+
+-- the numbers below one
+abbrev below : ℕ → List ℕ
+below zero = []
+below (suc n) = n ∷ below n
+
+below_length : (n : ℕ) → length (below n) ≡ n
+below_length zero = refl
+below_length (suc n) = ap suc (below_length n)
+
+below_is : (n k : ℕ) → In k (below n) → k < n
+below_is zero k i = absurd i
+below_is (suc n) k (inl e) = omega (arith, e)
+below_is (suc n) k (inr i) = let h = below_is n k i in omega (arith, h)
+
+below_distinct : (n : ℕ) → Distinct (below n)
+below_distinct zero = tt
+below_distinct (suc n) = ((λ i. let h = below_is n n i in omega (arith, h)), below_distinct n)
+
+pub get_in : {A : Type 0} (xs : List A) (j : ℕ) (x : A) → slice_get xs j ≡ Some x → In x xs
+get_in [] j x e = absurd cc
+get_in (y ∷ ys) zero x e = inl (same e)
+  where
+    same : Some y ≡ Some x → x ≡ y
+    same e = cc
+get_in (y ∷ ys) (suc j) x e = inr (get_in ys j x e)
+
+get_some : {A : Type 0} (xs : List A) (j : ℕ) → j < length xs → (x : A) × (slice_get xs j ≡ Some x)
+get_some [] j h = absurd (omega (arith, h))
+get_some (y ∷ ys) zero h = (y, refl)
+get_some (y ∷ ys) (suc j) h = get_some ys j (less j (length ys) h)
+  where
+    less : (j l : ℕ) → suc j < suc l → j < l
+    less j l h = omega (arith, h)
+
+-- there are no more hits than places
+pub placed_fit : (hs : List Hit) (ps : List ℕ) → IsPlaced hs ps → length hs ≤ length ps
+placed_fit hs ps h =
+    let l = below_length (length hs) in
+    let r = no_more (below (length hs)) ps (below_distinct (length hs)) (λ k i. there k (below_is (length hs) k i)) in
+    omega (arith, l, r)
+  where
+    there : (k : ℕ) → k < length hs → In k ps
+    there k l = let x = get_some hs k l in let e = h k x.0 x.1 in get_in ps (x.0.doc.0 - 1) k e.2
+
+total_less_in : {A : Type 0} (f g : A → ℕ) (xs : List A) → ((x : A) → In x xs → f x ≤ g x) → total f xs ≤ total g xs
+total_less_in f g [] h = omega arith
+total_less_in f g (x ∷ xs) h =
+    let a = h x (inl refl) in
+    let b = total_less_in f g xs (λ y i. h y (inr i)) in
+    omega (arith, a, b)
+
+module _ (q : RangedQuery) (ps : AreProbes q) (T : Tables) (w : Window) where
+  probe_of : Ranged → Probe
+  probe_of part = probe_in q.pool part.probe
+
+  quiet_part : (part : Ranged) → In part q.parts → IsQuiet T w (probe_in q.pool part.probe) → part_cost T w q.pool part ≡ 0
+  quiet_part part i h =
+      let p = probe_in q.pool part.probe in
+      ap (λ s. seek_cost T w p (part_order part) s (seek_var s)) part.solved
+      ∙ quiet_cost T w p (part_order part) (part_probe q ps part i) (orders_serve p.path p.at.base) (part_bounded q part i) (seek_var (seek_of p.at)) refl h
+
+  alone_part : (part : Ranged) → In part q.parts → IsAlone (probe_in q.pool part.probe) → part_cost T w q.pool part ≤ rows_due T w (probe_in q.pool part.probe)
+  alone_part part i h =
+      let p = probe_in q.pool part.probe in
+      subst (λ s. seek_cost T w p (part_order part) s (seek_var s) ≤ rows_due T w p) (sym part.solved)
+      (alone_cost T w p (part_order part) (part_probe q ps part i) (orders_serve p.path p.at.base) (part_bounded q part i) h (seek_var (seek_of p.at)) refl)
+
+  query_quiet : ((p : Probe) → In p (ranged_probes q) → IsQuiet T w p) → query_cost T w q ≡ 0
+  query_quiet h = total_none (part_cost T w q.pool) q.parts (λ part i. quiet_part part i (h (probe_in q.pool part.probe) (in_map (λ (part : Ranged). probe_in q.pool part.probe) q.parts part i)))
+
+  query_due : ((p : Probe) → In p (ranged_probes q) → IsAlone p) → query_cost T w q ≤ total (rows_due T w) (ranged_probes q)
+  query_due h =
+      subst (λ z. query_cost T w q ≤ z) (sym (total_map (rows_due T w) (λ (part : Ranged). probe_in q.pool part.probe) q.parts))
+      (total_less_in (part_cost T w q.pool) (λ (part : Ranged). rows_due T w (probe_in q.pool part.probe)) q.parts (λ part i. alone_part part i (h (probe_in q.pool part.probe) (in_map (λ (part : Ranged). probe_in q.pool part.probe) q.parts part i))))
+
+  -- the steps that were taken
+  pub taken_quiet : (old now : ℕ) → now ≤ old + query_cost T w q → old ≤ now → ((p : Probe) → In p (ranged_probes q) → IsQuiet T w p) → now ≡ old
+  taken_quiet old now h k quiet = let z = query_quiet quiet in omega (arith, h, k, z)
+
+  pub taken_due : (old now : ℕ) → now ≤ old + query_cost T w q → ((p : Probe) → In p (ranged_probes q) → IsAlone p) → now ≤ old + total (rows_due T w) (ranged_probes q)
+  taken_due old now h alone = let z = query_due alone in omega (arith, h, z)

@@ -1,0 +1,10 @@
+pub mod Lowest
+pub mod Placed
+pub mod Found
+pub mod Hits
+pub mod RowWalks
+pub mod Work
+pub mod Nested
+pub mod Drivers
+pub mod Runs
+pub mod Laws

@@ -1,0 +1,26 @@
+-- Hits with the places of their documents among them.
+use Rattle.std.specs.Prelude.{◌≡◌, ℕ, ◌-◌, ◌<◌, ◌≤◌, Bool, false, Option, Some, None, List, length, nat_eq, slice_get, vec_capacity, ◌^◌}
+use Rattle.query_eval.specs.declared.kept_hits.KeptHits.{KeptHits}
+use Rattle.tap_rows.specs.declared.results.Hit.{Hit}
+
+-- is the hit there, and of this document?
+abbrev pub is_of : ℕ → Option Hit → Bool
+is_of doc None = false
+is_of doc (Some hit) = nat_eq hit.doc.0 doc
+
+abbrev pub has_at : List Hit → ℕ → ℕ → Bool
+has_at hits place doc = is_of doc (slice_get hits place)
+
+-- under the number of each hit's document stands the hit's place
+abbrev pub IsPlaced : List Hit → List ℕ → Type 0
+IsPlaced hits places = (k : ℕ) (hit : Hit) → slice_get hits k ≡ Some hit → (0 < hit.doc.0) × (hit.doc.0 ≤ length places) × (slice_get places (hit.doc.0 - 1) ≡ Some k)
+
+-- there is room for a hit of each document that has a place
+pub record HasRoom (kept : KeptHits) : Type 0 where
+  pub room : length kept.places.items ≤ vec_capacity kept.hits
+  pub counted : length kept.places.items < 2 ^ 32
+
+-- hits may be kept
+pub record IsReady (kept : KeptHits) : Type 0 where
+  pub placed : IsPlaced kept.hits.items kept.places.items
+  pub room : HasRoom kept

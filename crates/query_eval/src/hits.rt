@@ -1,0 +1,87 @@
+// A run's hits, in room that was taken before.
+
+ghost use Rattle.std.specs.Prelude.{◌≡◌, ◌≤◌, ◌<◌, [], length, slice_get, option_copied, IfOk, OnOk, OnErr};
+ghost use Rattle.tap_rows.specs.declared.results.Hit.{Hit};
+ghost use Rattle.query_eval.specs.Lowest.{lowered};
+ghost use Rattle.query_eval.specs.Hits.{HitsWithRoom};
+
+use crate::kept_hits::KeptHits;
+use std::alloc::Global;
+use std::marker::Model;
+use tap_base::{Memory, Rows};
+use tap_rows::Hit;
+
+/// A list of hits, with room for a hit of each document up to a number.
+#[derive(Drop)]
+pub struct Hits {
+    pub(crate) kept: KeptHits,
+}
+
+impl Model for Hits {
+    ghost use Rattle.std.specs.Prelude.{length, ◌≤◌};
+    ghost use Rattle.query_eval.specs.Hits.{HitsWithRoom};
+    ghost use Rattle.query_eval.specs.Placed.{HasRoom};
+
+    ghost Value = { HitsWithRoom };
+
+    ghost view = { λ h. record { hits = h.kept.hits.items; room = length h.kept.places.items } };
+
+    ghost invariant = { λ h. HasRoom h.kept × (length h.kept.hits.items ≤ length h.kept.places.items) };
+}
+
+impl Hits {
+    /// No hits, with room for `n`.
+    pub fn with_room(alloc: Global, n: u32) -> Result<Hits, Memory>
+        ensures { IfOk result (λ h. h ≡ record { hits = []; room = n }) }
+    {
+        let hits = Vec::with_capacity(alloc, n as usize)?;
+        let mut places = Vec::new(alloc);
+        places.resize(n as usize, 0)?;
+        Ok(Hits {
+            kept: KeptHits { hits, places },
+        })
+    }
+
+    /// How many hits there is room for. It takes no memory, and neither do `len` and `get`.
+    pub fn room(&self) -> u32
+        ensures { result ≡ self.now.room }
+    {
+        self.kept.places.len() as u32
+    }
+
+    /// How many hits there are.
+    pub fn len(&self) -> u32
+        ensures { result ≡ length self.now.hits }
+    {
+        self.kept.hits.len() as u32
+    }
+
+    /// The hit at this place, from 0. None exactly where there is no such place.
+    pub fn get(&self, i: u32) -> Option<&Hit>
+        ensures { option_copied result ≡ slice_get self.now.hits i }
+    {
+        self.kept.hits.get(i as usize)
+    }
+
+    /// The hits as a list.
+    pub(crate) fn into_rows(self) -> Rows<Hit>
+        ensures { result ≡ self.hits }
+    {
+        let Hits { kept } = self;
+        let KeptHits { hits, .. } = kept;
+        Rows::from_vec(hits)
+    }
+
+    /// Makes the room at least `n`, and changes nothing else. At Err nothing has changed.
+    pub fn grow(&mut self, n: u32) -> Result<(), Memory>
+        ensures hits { self.new.hits ≡ self.old.hits }
+        ensures room { self.old.room ≤ self.new.room }
+        ensures ok { OnOk result (n ≤ self.new.room) }
+        ensures err { OnErr result (self.new ≡ self.old) }
+    {
+        if n <= self.room() {
+            return Ok(());
+        }
+        self.kept.grow_to(n)
+    }
+}

@@ -1,0 +1,116 @@
+// Walks over rows of either table.
+
+ghost use Rattle.std.specs.Prelude.{◌≡◌, ◌+◌, [], ◌++◌, None, length, map, nat_eq, option_to_list};
+ghost use Rattle.std.specs.List.{find};
+ghost use Rattle.tql_core.specs.Row.{OfDoc, OfNote};
+ghost use Rattle.query_eval.specs.RowWalks.{rows_left, row_list};
+
+use row_index::{DocWalk, NoteWalk, RowIndex};
+use std::marker::Model;
+use std::sync::ledger::Ledger;
+use tap_base::{DocNum, Steps};
+use tql_core::RowRef;
+
+// The document of a number.
+#[derive(Drop)]
+struct One<'a> {
+    index: &'a RowIndex,
+    num: DocNum,
+}
+
+#[derive(Drop)]
+enum Left<'a> {
+    Docs(DocWalk<'a>),
+    Notes(NoteWalk<'a>),
+    One(One<'a>),
+    Nothing,
+}
+
+/// The rows of one table that are still to be handed out.
+#[derive(Drop)]
+pub(crate) struct RowWalk<'a> {
+    left: Left<'a>,
+}
+
+impl<'a> Model for RowWalk<'a> {
+    ghost use Rattle.std.specs.Prelude.{List};
+    ghost use Rattle.tql_core.specs.Row.{Row};
+    ghost use Rattle.query_eval.specs.RowWalks.{rows_left};
+
+    ghost Value = { List Row };
+
+    ghost view = { λ walk. rows_left walk.left };
+}
+
+// The document of a number, with a step where there is one.
+fn doc_of<'a, L: Ledger>(one: &One<'a>, steps: &mut Steps<L>) -> Option<RowRef<'a>>
+    ensures row { row_list result ≡ map OfDoc (option_to_list (find (λ doc. nat_eq doc.num.0 one.now.num.0) one.now.index.now.docs)) }
+    ensures steps { steps.new ≡ steps.old + length (row_list result) }
+{
+    match one.index.doc(one.num, steps) {
+        None => None,
+        Some(doc) => Some(RowRef::OfDoc(doc)),
+    }
+}
+
+impl<'a> RowWalk<'a> {
+    /// A walk over no rows.
+    pub(crate) fn none() -> RowWalk<'a>
+        ensures { result ≡ [] }
+    {
+        RowWalk {
+            left: Left::Nothing,
+        }
+    }
+
+    /// A walk over documents.
+    pub(crate) fn of_docs(docs: DocWalk<'a>) -> RowWalk<'a>
+        ensures { result ≡ map OfDoc docs.entry }
+    {
+        RowWalk {
+            left: Left::Docs(docs),
+        }
+    }
+
+    /// A walk over notes.
+    pub(crate) fn of_notes(notes: NoteWalk<'a>) -> RowWalk<'a>
+        ensures { result ≡ map OfNote notes.entry }
+    {
+        RowWalk {
+            left: Left::Notes(notes),
+        }
+    }
+
+    /// The document of this number, if there is one.
+    pub(crate) fn of_one(index: &'a RowIndex, num: DocNum) -> RowWalk<'a>
+        ensures { result ≡ map OfDoc (option_to_list (find (λ doc. nat_eq doc.num.0 num.0) index.now.docs)) }
+    {
+        RowWalk {
+            left: Left::One(One { index, num }),
+        }
+    }
+
+    /// The next row, with one step. None exactly at the end, and then there is no step.
+    pub(crate) fn next<L: Ledger>(&mut self, steps: &mut Steps<L>) -> Option<RowRef<'a>>
+        ensures rows { self.old ≡ row_list result ++ self.new }
+        ensures end { result ≡ None → self.old ≡ [] }
+        ensures steps { steps.new ≡ steps.old + length (row_list result) }
+    {
+        match &mut self.left {
+            Left::Docs(docs) => match docs.next(steps) {
+                None => None,
+                Some(doc) => Some(RowRef::OfDoc(doc)),
+            },
+            Left::Notes(notes) => match notes.next(steps) {
+                None => None,
+                Some(note) => Some(RowRef::OfNote(note)),
+            },
+            Left::One(one) => {
+                let found = doc_of(one, steps);
+                self.left = Left::Nothing;
+                found
+            }
+            Left::Nothing => None,
+        }
+    }
+}
