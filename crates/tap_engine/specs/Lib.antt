@@ -1,5 +1,6 @@
 pub mod Fresh
 pub mod Keeping
 pub mod Standing
+pub mod Ready
 pub mod FilterChecks
 pub mod Lists

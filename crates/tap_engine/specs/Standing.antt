@@ -21,13 +21,16 @@ use Rattle.tap_model.specs.Verdicts.{missing, unless, first_refusal, no_moment, 
 use Rattle.restart_core.specs.Starts.{condition_text, stored_source}
 use Rattle.tap_engine.specs.Keeping.{kept_query, named_in, owned_in}
 
--- the engine stands for the tables: it keeps their documents, queries and filters, how many bytes they store, and who owns a
--- query or a filter; before the session has a moment it also keeps the greatest moment of the tables
+-- the engine stands for the tables: it keeps their documents, notes, queries and filters, how many runs and picks there are,
+-- how many bytes they store, and who owns a query or a filter; before the session has a moment it also keeps the greatest
+-- moment of the tables
 pub record StandsFor (engine : Engine) (tables : Tables) : Type 0 where
   pub docs : engine.docs ≡ tables.docs
   pub queries : engine.queries ≡ map (kept_query tables) tables.queries
-  pub notes : engine.notes ≡ length tables.notes
+  pub notes : engine.notes ≡ tables.notes
   pub filters : engine.filters ≡ tables.filters
+  pub run_count : engine.run_count ≡ length tables.runs
+  pub pick_count : engine.pick_count ≡ length tables.picks
   pub bytes : engine.bytes ≡ stored_bytes tables
   pub users : length engine.owners ≡ different (owners_in tables)
   pub owners : (user : List ℕ) → holds engine.owners user ≡ holds (owners_in tables) user
@@ -71,7 +74,7 @@ mbox_refusal engine block = option_or (no_moment engine.session) (mbox_bounds en
 -- the bounds of a note on this document and of so many bytes, by what is kept
 unfoldable pub note_bounds : Engine → ℕ → ℕ → Option Refusal
 note_bounds engine doc len =
-    first_refusal (no_doc doc (length engine.docs) ∷ long_note len ∷ passes Notes NOTE_LIMIT engine.notes 1 ∷ passes Store STORE_LIMIT engine.bytes len ∷ [])
+    first_refusal (no_doc doc (length engine.docs) ∷ long_note len ∷ passes Notes NOTE_LIMIT (length engine.notes) 1 ∷ passes Store STORE_LIMIT engine.bytes len ∷ [])
 
 -- why a note is refused, by what is kept
 abbrev pub note_refusal : Engine → ℕ → List ℕ → List ℕ → Option Refusal
