@@ -4,6 +4,8 @@ mod TextLaws
 mod SlowLaws
 mod SettledLaws
 mod FreshLaws
+mod AnswerTurns
+mod ReadyLaws
 mod CheckLaws
 mod StandingLaws
 mod ArrivalLaws
