@@ -4,6 +4,7 @@ mod TextLaws
 mod SlowLaws
 mod SettledLaws
 mod FreshLaws
+mod FitStubs
 mod AnswerTurns
 mod ReadyLaws
 mod CheckLaws

@@ -52,7 +52,7 @@ found-at p num runs (x ∷ queries) kept from e = go (p x) refl (found-at p (suc
         low = omega (arith, is);
         high = omega (arith, is);
         few = subst (λ k. k.runs ≤ runs) same from.1;
-        at = λ i d at. elim i as (λ i. kept.row.num.0 ≡ num + i → slice_index_or (x ∷ queries) i d ≡ kept) [ zero ↦ λ at. same | suc i _ ↦ λ at. absurd (omega (arith, is, at)) ] at;
+        at = λ i d at. elim i as (λ i. kept.row.num.0 ≡ num + i → slice_index_or (x ∷ queries) i d ≡ kept) [ zero ↦ λ at. same | suc i ↦ λ at. absurd (omega (arith, is, at)) ] at;
       }
 
   later : KeptAt (suc num) runs queries kept → KeptAt num runs (x ∷ queries) kept
@@ -60,7 +60,7 @@ found-at p num runs (x ∷ queries) kept from e = go (p x) refl (found-at p (suc
     low = omega (arith, rest.low);
     high = omega (arith, rest.high);
     few = rest.few;
-    at = λ i d at. elim i as (λ i. kept.row.num.0 ≡ num + i → slice_index_or (x ∷ queries) i d ≡ kept) [ zero ↦ λ at. absurd (omega (arith, rest.low, at)) | suc i _ ↦ λ at. rest.at i d (omega (arith, at)) ] at;
+    at = λ i d at. elim i as (λ i. kept.row.num.0 ≡ num + i → slice_index_or (x ∷ queries) i d ≡ kept) [ zero ↦ λ at. absurd (omega (arith, rest.low, at)) | suc i ↦ λ at. rest.at i d (omega (arith, at)) ] at;
   }
 
   go : (b : Bool) → p x ≡ b → (find p queries ≡ Some kept → KeptAt (suc num) runs queries kept) → KeptAt num runs (x ∷ queries) kept
@@ -133,10 +133,10 @@ undo-run e e' i m entries runs picks d lt is = rw is (record {
 })
 
 -- the run at a place is taken back by writing what is kept there
-pub without-set : (i covered runs entries : ℕ) (c : ℤ) (queries : List KeptQuery) (d : KeptQuery) → i < length queries → slice_set queries i (before_run c runs entries (slice_index_or queries i d)) ≡ without_run i c runs entries queries
-without-set i covered runs entries c [] d lt = absurd (omega (arith, lt))
-without-set zero covered runs entries c (kept ∷ queries) d lt = refl
-without-set (suc i) covered runs entries c (kept ∷ queries) d lt = ap (λ l. kept ∷ l) (without-set i covered runs entries c queries d (omega (arith, lt)))
+pub without-set : (i runs entries : ℕ) (covered : ℤ) (queries : List KeptQuery) (d : KeptQuery) → i < length queries → slice_set queries i (before_run covered runs entries (slice_index_or queries i d)) ≡ without_run i covered runs entries queries
+without-set i runs entries covered [] d lt = absurd (omega (arith, lt))
+without-set zero runs entries covered (kept ∷ queries) d lt = refl
+without-set (suc i) runs entries covered (kept ∷ queries) d lt = ap (λ l. kept ∷ l) (without-set i runs entries covered queries d (omega (arith, lt)))
 
 -- documents more, that arrive at the session's moment
 arrived-from : (num : ℕ) (low moment : ℤ) (texts : List (List ℕ)) → low ≤ℤ moment → Arrived num low (docs_from num moment texts)

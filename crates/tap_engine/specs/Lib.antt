@@ -1,4 +1,5 @@
 pub mod Fresh
+pub mod Next
 pub mod Keeping
 pub mod Standing
 pub mod Ready

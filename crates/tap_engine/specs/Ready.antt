@@ -11,7 +11,7 @@ use Rattle.tap_engine.specs.declared.engine.Engine.{Engine}
 -- the queries have their places as numbers, from this one on, and none had more runs than there were of all
 abbrev pub KeptFrom : ℕ → ℕ → List KeptQuery → Type 0
 KeptFrom num runs [] = Unit {0}
-KeptFrom num runs (kept ∷ queries) = (kept.row.num.0 ≡ num) × ((kept.runs ≤ runs) × KeptFrom (suc num) runs queries)
+KeptFrom num runs (kept ∷ queries) = (kept.row.num.0 ≡ num) × (kept.runs ≤ runs) × KeptFrom (suc num) runs queries
 
 -- no document arrived after this moment; without one there is no document
 abbrev pub DocsBy : Option ℤ → List Doc → Type 0

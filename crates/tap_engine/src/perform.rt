@@ -4,7 +4,8 @@ ghost use Rattle.keeper_core.specs.Keeping.{Rose, Holds};
 ghost use Rattle.script_lang.specs.Replies.{HasShortNames, is_accepted};
 ghost use Rattle.tap_model.specs.Replies.{answer_of, tables_after};
 ghost use Rattle.tap_model.specs.Sound.{Sound};
-ghost use Rattle.tap_model.specs.Stories.{Refuses, Step, next_tables};
+ghost use Rattle.tap_model.specs.Stories.{Refuses, Step};
+ghost use Rattle.tap_engine.specs.Next.{next_tables};
 ghost use Rattle.tap_model.specs.Verdicts.{verdict};
 
 use crate::engine::Engine;

@@ -1,12 +1,11 @@
 -- What a list of commands does, one after another.
-use Rattle.std.specs.Prelude.{◌≡◌, ◌⊎◌, List, [], ◌∷◌, false, Some, if◌then◌else◌}
+use Rattle.std.specs.Prelude.{◌≡◌, ◌⊎◌, List, [], ◌∷◌, false, Some}
 use Rattle.tap_rows.specs.declared.tables.Tables.{Tables}
 use Rattle.script_lang.specs.declared.command.Command.{Command}
 use Rattle.script_lang.specs.declared.reply.Reply.{Reply}
 use Rattle.script_lang.specs.declared.reply.Reply.TheVariants.{No}
 use Rattle.script_lang.specs.declared.refusal.Refusal.{Refusal}
 use Rattle.script_lang.specs.declared.refusal.Refusal.TheVariants.{Memory}
-use Rattle.script_lang.specs.Replies.{is_accepted}
 use Rattle.tap_model.specs.declared.session.Session.{Session}
 use Rattle.tap_model.specs.Verdicts.{verdict, is_spared}
 use Rattle.tap_model.specs.Replies.{answer_of, tables_after}
@@ -39,7 +38,3 @@ Story tables session (command ∷ commands) [] tables' session' = ⊥
 -- the command is refused so: by its verdict, or for want of memory where it isn't one that takes none
 abbrev pub Refuses : Refusal → Command → Session → Tables → Type 0
 Refuses refusal command session tables = (verdict command session tables ≡ Some refusal) ⊎ ((refusal ≡ Memory) × (is_spared command session tables ≡ false))
-
--- the tables after a command with this reply: with its rows where it was accepted
-abbrev pub next_tables : Command → Reply → Session → Tables → Tables
-next_tables command reply session tables = if is_accepted reply then tables_after (answer_of command session tables).change tables else tables
