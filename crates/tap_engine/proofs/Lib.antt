@@ -12,6 +12,7 @@ mod StandingLaws
 mod ArrivalLaws
 mod AskLaws
 mod DueLaws
+mod PerformLaws
 mod NoteLaws
 mod MboxLaws
 mod VariableLaws

@@ -1,9 +1,10 @@
-use Rattle.std.proofs.Common.{rules, arith, ◌≡◌, ◌∙◌, sym, ap, subst, ◌+◌, ◌-◌, length, map}
+use Rattle.std.proofs.Common.{rules, arith, ◌≡◌, ◌∙◌, sym, ap, subst, ◌+◌, ◌-◌, ◌<◌, length, map, None}
 use Rattle.std.specs.Prelude.{slice_index_or, slice_set}
+use Rattle.tap_rows.specs.Results.{entry_at}
 use Rattle.tap_engine.specs.Keeping.{new_kept, after_run}
 use Rattle.tap_engine.proofs.CheckLaws.{run-verdict, run-refuses, run-moment}
 use Rattle.tap_engine.proofs.ReadyLaws.{due-at, kept-run, undo-run}
-use Rattle.tap_engine.proofs.DueLaws.{due-is, stands-run, answers-run}
+use Rattle.tap_engine.proofs.DueLaws.{due-is, stands-run, answers-run, run_rows}
 use Rattle.tap_engine.proofs.engine.Engine.run.Goals as goal
 
 pub returns-in_err-due-clause-refusal : goal.returns-in_err-due-clause-refusal
