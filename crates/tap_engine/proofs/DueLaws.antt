@@ -180,7 +180,7 @@ stands-run e t name due e' stands kept d there is-e =
     let engine : e' ≡ record e { queries = slice_set e.queries i (after_run (present e.session) (map (entry_at (length (run_moments q.num.0 t.runs) + 1)) (hits_of q t (present e.session))) (slice_index_or e.queries i x)); run_count = e.run_count + 1; pick_count = e.pick_count + length (hits_of q t (present e.session)) } =
     is-e x ∙ ap (λ y. record e { queries = slice_set e.queries i (after_run y.moment (map (entry_at (y.runs + 1)) y.hits) (slice_index_or e.queries i x)); run_count = e.run_count + 1; pick_count = e.pick_count + length y.hits }) d.is in
     let rows : run_rows e.run_count e.pick_count due ≡ run_change (truth_of q) (start_of q) t q.num (present e.session) = rows-are e t name due stands d in
-    rw (engine, rows) (stands-placed e t q i (present e.session) (slice_index_or e.queries i x) stands kept d.has (omega (arith, num, bounds.0)) there (due-kept e t due q x stands kept d.has num))
+    subst (λ change. StandsFor e' (after t change)) (sym rows) (subst (λ k. StandsFor k (after t (run_change (truth_of q) (start_of q) t q.num (present e.session)))) (sym engine) (stands-placed e t q i (present e.session) (slice_index_or e.queries i x) stands kept d.has (omega (arith, num, bounds.0)) there (due-kept e t due q x stands kept d.has num)))
 
 -- a run that isn't refused
 pub answers-run : (e : Engine) (t : Tables) (name : List ℕ) (due : Due) (s' : Session) → StandsFor e t → verdict (Run name) e.session t ≡ None → (d : IsDue e t name due) → s' ≡ e.session

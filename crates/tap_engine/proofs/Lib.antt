@@ -4,7 +4,6 @@ mod TextLaws
 mod SlowLaws
 mod SettledLaws
 mod FreshLaws
-mod FitStubs
 mod AnswerTurns
 mod ReadyLaws
 mod CheckLaws

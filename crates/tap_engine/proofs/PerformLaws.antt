@@ -1,6 +1,8 @@
 -- What a command does once its rows are committed, or aren't.
 use Rattle.std.proofs.Common.{◌≡◌, ◌∙◌, sym, refl, ap, subst, List, Bool, true, false, ℤ, Option, Some, None, inl, inr, if◌then◌else◌}
-use Rattle.std.specs.Prelude.{◌⊎◌}
+use Rattle.std.specs.Prelude.{◌⊎◌, Result, Ok, Err, IfOk, OnErr, OnSome}
+use Rattle.keeper_core.specs.declared.fault.CommitFault.{CommitFault}
+use Rattle.keeper_core.specs.declared.fault.CommitFault.TheVariants as C
 use Rattle.tap_base.specs.Numbers.{moment_of}
 use Rattle.tap_rows.specs.declared.tables.Tables.{Tables}
 use Rattle.tap_rows.specs.declared.change.Change.{Change}
@@ -16,29 +18,15 @@ use Rattle.script_lang.specs.Replies.{is_accepted}
 use Rattle.tap_model.specs.declared.session.Session.{Session}
 use Rattle.tap_model.specs.Verdicts.{verdict, is_early, is_spared}
 use Rattle.tap_model.specs.Replies.{Answer, answer_of, answer_by, accepted, tables_after, set_moment}
-use Rattle.tap_model.specs.Stories.{Step, Refuses}
+use Rattle.tap_model.specs.Stories.{Step, Refuses, next_tables}
 use Rattle.tap_model.specs.Sound.{Sound}
 use Rattle.tap_model.proofs.AnswerLaws.{some-none}
-use Rattle.tap_engine.specs.Next.{next_tables}
-use Rattle.tap_engine.specs.Answering.{Answers}
-use Rattle.tap_engine.proofs.FitStubs.{accepted-changes-fit}
-
--- a command that is refused
-pub refused-step : (t : Tables) (s : Session) (c : Command) (refusal : Refusal) → Refuses refusal c s t → Step t s c (No refusal) t s
-refused-step t s c refusal (inl e) = inl (record {
-  reply_is = sym (ap (λ v. (answer_by v c s t).reply) e);
-  tables_are = sym (ap (λ v. tables_after (answer_by v c s t).change t) e);
-  session_is = sym (ap (λ v. (answer_by v c s t).session) e);
-})
-refused-step t s c refusal (inr both) = inr (record { reply_is = ap No both.0; tables_are = refl; session_is = refl; not_spared = both.1 })
-
--- the tables after a command that is answered
-pub next-is : (t : Tables) (s : Session) (c : Command) (reply : Reply) (change : Option Change) (s' : Session) → Answers t s c reply change s' → is_accepted reply ≡ true → tables_after change t ≡ next_tables c reply s t
-next-is t s c reply change s' answers ok = ap (λ change. tables_after change t) answers.change_is ∙ sym (ap (λ b. if b then tables_after (answer_of c s t).change t else t) ok)
-
--- a command that is answered
-pub answered-step : (t : Tables) (s : Session) (c : Command) (reply : Reply) (change : Option Change) (s' : Session) → Answers t s c reply change s' → is_accepted reply ≡ true → Step t s c reply (next_tables c reply s t) s'
-answered-step t s c reply change s' answers ok = inl (record { reply_is = answers.reply_is; tables_are = ap (λ b. if b then tables_after (answer_of c s t).change t else t) ok; session_is = answers.session_is })
+use Rattle.tap_model.proofs.FitLaws.{accepted_fits}
+use Rattle.tap_model.proofs.NextLaws.{next-is}
+use Rattle.tap_engine.specs.declared.engine.Engine.{Engine}
+use Rattle.tap_engine.specs.declared.fault.EngineFault.{EngineFault}
+use Rattle.tap_engine.specs.declared.undo.Undo.{Undo}
+use Rattle.tap_engine.specs.Answering.{Answers, TakesBack, fault_answer, fault_engine}
 
 no-change : (change : Change) → None ≡ Some change → ⊥
 no-change change e = cc
@@ -72,4 +60,27 @@ memory-step t s c reply change s' answers = inr (record { reply_is = refl; table
 
 -- the rows of a command stand in order behind those of the tables
 pub rows-fit : (t : Tables) (s : Session) (c : Command) (reply : Reply) (change : Change) (s' : Session) → Sound t s → Answers t s c reply (Some change) s' → fits t change ≡ true
-rows-fit t s c reply change s' sound answers = accepted-changes-fit t s c change sound (sym answers.change_is)
+rows-fit t s c reply change s' sound answers = accepted_fits t s c change sound (sym answers.change_is)
+
+-- the tables with the rows of a command
+pub rows-next : (t : Tables) (s : Session) (c : Command) (reply : Reply) (change : Change) (s' : Session) → Answers t s c reply (Some change) s' → after t change ≡ next_tables c reply s t
+rows-next t s c reply change s' answers = ap (λ change. tables_after change t) answers.change_is ∙ sym (next-is c reply s t answers.reply_is)
+
+-- the step where the keeper didn't commit
+pub fault-step : (fault : CommitFault) (t : Tables) (e e' : Engine) (c : Command) (result : Result Reply EngineFault) → result ≡ fault_answer fault → e' ≡ fault_engine fault e → Step t e.session c (No Memory) t e.session
+    → IfOk result (λ reply. Step t e.session c reply (next_tables c reply e.session t) e'.session)
+fault-step C.Memory t e e' c result is to step = subst (λ r. IfOk r (λ reply. Step t e.session c reply (next_tables c reply e.session t) e'.session)) (sym is) (subst (λ k. Step t e.session c (No Memory) t k.session) (sym to) step)
+fault-step C.Failed t e e' c result is to step = subst (λ r. IfOk r (λ reply. Step t e.session c reply (next_tables c reply e.session t) e'.session)) (sym is) tt
+
+-- what holds whatever the result is
+pub on-err : {P : Type 0} (result : Result Reply EngineFault) → P → OnErr result P
+on-err (Ok reply) p = tt
+on-err (Err fault) p = p
+
+-- the tables before the command or those with its rows
+pub one-of : (t x : Tables) (s : Session) (c : Command) (reply : Reply) (change : Change) (s' : Session) → Answers t s c reply (Some change) s' → (x ≡ t) ⊎ (x ≡ after t change) → (x ≡ t) ⊎ (x ≡ tables_after (answer_of c s t).change t)
+one-of t x s c reply change s' answers (inl e) = inl e
+one-of t x s c reply change s' answers (inr e) = inr (e ∙ ap (λ change. tables_after change t) answers.change_is)
+
+pub taken-there : (undo : Undo) (new old : Engine) (change : Option Change) (rows : Change) → change ≡ Some rows → OnSome change (TakesBack undo new old) → TakesBack undo new old
+taken-there undo new old change rows is takes = subst (λ change. OnSome change (TakesBack undo new old)) is takes
