@@ -1,6 +1,6 @@
 -- Mailbox files: why one is refused, and what the engine keeps after one.
 use Rattle.std.proofs.Common.{◌≡◌, ◌∙◌, sym, refl, ap, subst, arith, ℕ, ℤ, List, [], ◌∷◌, ◌++◌, ◌+◌, ◌*◌, ◌≤◌, suc, length, Bool, true, false, Option, Some, None, inl, inr}
-use Rattle.std.specs.Prelude.{◌&&◌, nat_le, sum_by}
+use Rattle.std.specs.Prelude.{◌&&◌, ◌==◌, nat_le, sum_by}
 use Rattle.std.specs.Option.{option_or}
 use Rattle.std.proofs.lemmas.List.{append-nil}
 use Rattle.std.proofs.lemmas.List.Sums.{sum_by-append, sum_by-cons}
@@ -151,6 +151,6 @@ answers-mail t s block text n num moment change s' none is at is-n is-num is-cha
     doc-num num n e = ap (λ n. record { 0 = n }) e
 
 -- documents that there are
-pub docs-there : (num : ℕ) (moment : ℤ) (texts : List (List ℕ)) → (texts ≡ [] → ⊥) → Some (Docs (docs_from num moment texts)) ≡ some_docs (docs_from num moment texts)
-docs-there num moment [] there = absurd (there refl)
-docs-there num moment (text ∷ texts) there = refl
+pub docs-there : (num : ℕ) (moment : ℤ) (texts : List (List ℕ)) → (length texts == 0) ≡ false → Some (Docs (docs_from num moment texts)) ≡ some_docs (docs_from num moment texts)
+docs-there num moment [] some = absurd cc
+docs-there num moment (text ∷ texts) some = refl

@@ -2,7 +2,7 @@ use Rattle.std.proofs.Common.{◌≡◌, ◌∙◌, sym, ap, subst, Some}
 use Rattle.std.specs.Prelude.{◌⊎◌}
 use Rattle.keeper_core.specs.Keeping.{Holds}
 use Rattle.tap_engine.specs.Answering.{Answers, fault_engine}
-use Rattle.tap_engine.proofs.PerformLaws.{memory-step, rows-fit, rows-next, fault-step, on-err, one-of, taken-there}
+use Rattle.tap_engine.proofs.PerformLaws.{memory-step, rows-fit, rows-next, fault-step, fault-kept, on-err, one-of, taken-there}
 use Rattle.tap_engine.proofs.engine.Engine.perform.Goals as goal
 
 pub returns-in_default-clause-halted : goal.returns-in_default-clause-halted
@@ -26,3 +26,8 @@ returns-in-Err-commit-clause-crash g c = λ t stands sound honest holds.
     let answers : Answers t c.args.self.now.session c.args.command c.in-Ok.prepared.reply (Some c.in-Some.change) c.prepare.new.self.session = subst (λ change. Answers t c.args.self.now.session c.args.command c.in-Ok.prepared.reply change c.prepare.new.self.session) c.in-Some.is (c.in-Ok.ensures.ok t stands sound) in
     let fit = rows-fit t c.args.self.now.session c.args.command c.in-Ok.prepared.reply c.in-Some.change c.prepare.new.self.session sound answers in
     on-err c.not_committed.result (answers.fine, λ x leaves. one-of t x c.args.self.now.session c.args.command c.in-Ok.prepared.reply c.in-Some.change c.prepare.new.self.session answers (c.in-Err-commit.ensures.crash honest t holds.told sound.formed fit x leaves))
+
+pub returns-in-Err-commit-clause-kept : goal.returns-in-Err-commit-clause-kept
+returns-in-Err-commit-clause-kept g c = λ t stands sound honest holds.
+    fault-kept c.in-Err-commit.fault (Holds (g.P.Keeper.tells c.commit.new.self) (g.P.Keeper.may_leave c.commit.new.self)) t c.args.self.now.session c.args.command c.not_committed.result c.not_committed.ensures.0
+    (c.in-Err-commit.ensures.memory honest t holds.told)

@@ -3,7 +3,10 @@ use Rattle.std.specs.Prelude.{slice_index_or, slice_set}
 use Rattle.script_lang.specs.declared.refusal.Refusal.TheVariants.{Memory}
 use Rattle.tap_rows.specs.Results.{entry_at}
 use Rattle.tap_engine.specs.Keeping.{new_kept, after_run}
+use Rattle.tap_rows.specs.Tables.{after}
 use Rattle.tap_engine.specs.Standing.{StandsFor}
+use Rattle.tap_engine.specs.Ready.{IsReady}
+use Rattle.tap_engine.specs.Answering.{TakesBack}
 use Rattle.tap_engine.proofs.AnswerTurns.{for-memory}
 use Rattle.tap_engine.proofs.CheckLaws.{run-verdict, run-refuses, run-moment}
 use Rattle.tap_engine.proofs.ReadyLaws.{due-at, kept-run, undo-run}
@@ -44,10 +47,33 @@ pub returns-clause-ok : goal.returns-clause-ok
 returns-clause-ok c = λ t stands sound.
     let none = sym (run-verdict c.args.self.now t c.args.name.now stands) ∙ c.in_ok-due.ensures.verdict in
     let d = due-is c.args.self.now t c.args.name.now c.in_ok-due.due stands c.in_ok-due.ensures.due in
-    rw c.in_ok-change.ensures.change (answers-run c.args.self.now t c.args.name.now c.in_ok-due.due c.deliver.new.self.session stands none d (ap (λ e. e.session) (c.in_ok-change.ensures.engine (new_kept d.q))))
+    let change : c.in_ok-change.change ≡ run_rows c.args.self.now.run_count c.args.self.now.pick_count c.in_ok-due.due = search rules in
+    let answers = answers-run c.args.self.now t c.args.name.now c.in_ok-due.due c.in_ok-change.change c.deliver.new.self.session stands none d change (ap (λ e. e.session) (c.in_ok-change.ensures.engine (new_kept d.q))) in search (rules, answers)
 
 pub returns-clause-stands : goal.returns-clause-stands
 returns-clause-stands c = λ t stands sound.
     let d = due-is c.args.self.now t c.args.name.now c.in_ok-due.due stands c.in_ok-due.ensures.due in
-    let run = stands-run c.args.self.now t c.args.name.now c.in_ok-due.due c.deliver.new.self stands sound.kept d (run-moment c.args.self.now c.args.name.now c.in_ok-due.ensures.verdict) (search rules) in
-    rw c.in_ok-change.ensures.change run
+    let change : c.in_ok-change.change ≡ run_rows c.args.self.now.run_count c.args.self.now.pick_count c.in_ok-due.due = search rules in
+    subst (λ change. StandsFor c.deliver.new.self (after t change)) (sym change)
+    (stands-run c.args.self.now t c.args.name.now c.in_ok-due.due c.deliver.new.self stands sound.kept d (run-moment c.args.self.now c.args.name.now c.in_ok-due.ensures.verdict) (search rules))
+
+pub returns-clause-undo : goal.returns-clause-undo
+returns-clause-undo c =
+    let d = due-at c.args.self.now c.args.name.now c.in_ok-due.due c.requires.ready c.in_ok-due.ensures.due in
+    let place : c.in_ok-due.due.query.0 - 1 < length c.args.self.now.queries = omega (arith, ap (λ x. x.query.0) d.is, d.at.low, d.at.high) in
+    subst (λ undo. TakesBack undo c.deliver.new.self c.args.self.now) (sym (c.undo_run-undo.ensures d.kept)) (undo-run c.args.self.now c.deliver.new.self (c.in_ok-due.due.query.0 - 1) _ _ _ _ d.kept place (c.in_ok-change.ensures.engine d.kept))
+
+pub returns-clause-ready : goal.returns-clause-ready
+returns-clause-ready c =
+    let d = due-at c.args.self.now c.args.name.now c.in_ok-due.due c.requires.ready c.in_ok-due.ensures.due in
+    subst IsReady (sym (c.in_ok-change.ensures.engine d.kept)) (record {
+      docs = c.requires.ready.docs;
+      by = c.requires.ready.by;
+      queries = kept-run 1 c.args.self.now.run_count (c.in_ok-due.due.query.0 - 1) c.args.self.now.queries _ _ d.kept c.requires.ready.queries;
+      moment = c.requires.ready.moment;
+    })
+
+pub returns-clause-running : goal.returns-clause-running
+returns-clause-running c =
+    let d = due-at c.args.self.now c.args.name.now c.in_ok-due.due c.requires.ready c.in_ok-due.ensures.due in
+    ap (λ e. e.stopped) (c.in_ok-change.ensures.engine d.kept)
