@@ -72,8 +72,11 @@ pub fault-step : (fault : CommitFault) (t : Tables) (e e' : Engine) (c : Command
 fault-step C.Memory t e e' c result is to step = subst (λ r. IfOk r (λ reply. Step t e.session c reply (next_tables c reply e.session t) e'.session)) (sym is) (subst (λ k. Step t e.session c (No Memory) t k.session) (sym to) step)
 fault-step C.Failed t e e' c result is to step = subst (λ r. IfOk r (λ reply. Step t e.session c reply (next_tables c reply e.session t) e'.session)) (sym is) tt
 
+abbrev not_done : CommitFault → Result (Unit {0}) CommitFault
+not_done fault = Err fault
+
 -- what the keeper tells where it had no memory
-pub fault-kept : (fault : CommitFault) (P : Tables → Type 0) (t : Tables) (s : Session) (c : Command) (result : Result Reply EngineFault) → result ≡ fault_answer fault → (Err {T = Unit {0}} fault ≡ Err C.Memory → P t) → IfOk result (λ reply. P (next_tables c reply s t))
+pub fault-kept : (fault : CommitFault) (P : Tables → Type 0) (t : Tables) (s : Session) (c : Command) (result : Result Reply EngineFault) → result ≡ fault_answer fault → (not_done fault ≡ not_done C.Memory → P t) → IfOk result (λ reply. P (next_tables c reply s t))
 fault-kept C.Memory P t s c result is kept = subst (λ r. IfOk r (λ reply. P (next_tables c reply s t))) (sym is) (kept refl)
 fault-kept C.Failed P t s c result is kept = subst (λ r. IfOk r (λ reply. P (next_tables c reply s t))) (sym is) tt
 
