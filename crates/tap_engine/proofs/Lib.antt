@@ -4,11 +4,14 @@ mod TextLaws
 mod SlowLaws
 mod SettledLaws
 mod FreshLaws
+mod AnswerTurns
+mod ReadyLaws
 mod CheckLaws
 mod StandingLaws
 mod ArrivalLaws
 mod AskLaws
 mod DueLaws
+mod PerformLaws
 mod NoteLaws
 mod MboxLaws
 mod VariableLaws

@@ -1,5 +1,7 @@
 pub mod Fresh
 pub mod Keeping
 pub mod Standing
+pub mod Ready
+pub mod Answering
 pub mod FilterChecks
 pub mod Lists
