@@ -4,6 +4,9 @@ mod TextLaws
 mod SlowLaws
 mod SettledLaws
 mod FreshLaws
+mod FitStubs
+mod AnswerTurns
+mod ReadyLaws
 mod CheckLaws
 mod StandingLaws
 mod ArrivalLaws
