@@ -6,3 +6,4 @@ pub mod Ready
 pub mod Answering
 pub mod FilterChecks
 pub mod Lists
+pub mod Starting
