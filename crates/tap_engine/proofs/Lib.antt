@@ -16,3 +16,7 @@ mod NoteLaws
 mod MboxLaws
 mod VariableLaws
 mod FilterLaws
+pub mod FormedLaws
+pub mod SumLaws
+pub mod DeliveryLaws
+pub mod StartedLaws

@@ -4,6 +4,7 @@ ghost use Rattle.std.specs.Str.{bytes_eq};
 ghost use Rattle.tap_model.specs.Queries.{is_named};
 ghost use Rattle.tap_engine.specs.declared.kept_query.KeptQuery.{KeptQuery};
 ghost use Rattle.tap_engine.specs.Keeping.{after_run, without_run, named_in, owned_in};
+ghost use Rattle.tap_engine.specs.Starting.{with_entry};
 
 use crate::kept_query::KeptQuery;
 use std::alloc::Global;
@@ -116,5 +117,14 @@ impl KeptQueries {
         ensures { self.new ≡ without_run place covered runs entries self.old }
     {
         self.items[place].take_back(covered, runs, entries);
+    }
+
+    // Adds an entry to what the query at this place has delivered.
+    pub(crate) fn add_entry(&mut self, place: usize, entry: Entry) -> Result<(), Memory>
+        requires { place < length self.old }
+        ensures kept { OnOk result ((d : KeptQuery) → self.new ≡ slice_set self.old place (with_entry entry (slice_index_or self.old place d))) }
+        ensures err { OnErr result (self.new ≡ self.old) }
+    {
+        self.items[place].add_entry(entry)
     }
 }

@@ -17,6 +17,7 @@ pub struct KeptQuery {
 impl KeptQuery {
     ghost use Rattle.tap_model.specs.Queries.{start_of};
     ghost use Rattle.tap_engine.specs.Keeping.{new_kept, after_run, before_run};
+    ghost use Rattle.tap_engine.specs.Starting.{with_entry};
 
     // A query that was never run.
     pub(crate) fn new(row: KeptRow, entries: Rows<Entry>) -> KeptQuery
@@ -51,5 +52,13 @@ impl KeptQuery {
         self.covered = covered;
         self.runs = runs;
         self.entries.cut(entries);
+    }
+
+    // Adds an entry to what it has delivered.
+    pub(crate) fn add_entry(&mut self, entry: Entry) -> Result<(), Memory>
+        ensures kept { OnOk result (self.new ≡ with_entry entry self.old) }
+        ensures err { OnErr result (self.new ≡ self.old) }
+    {
+        self.entries.push(entry)
     }
 }
