@@ -33,5 +33,6 @@ pub use kept_filter::KeptFilter;
 pub use kept_queries::KeptQueries;
 pub use kept_query::KeptQuery;
 pub use kept_row::KeptRow;
-pub use prepared::Prepared;
-pub use undo::Undo;
+
+#[cfg(test)]
+mod tests;
