@@ -1,0 +1,7 @@
+//! The keeper over a file, or over memory where the place is `:memory:`.
+#![tactic(auto)]
+
+mod file_keeper;
+mod open_store;
+
+pub use file_keeper::FileKeeper;
