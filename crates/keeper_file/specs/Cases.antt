@@ -1,84 +1,83 @@
--- What a keeper over an open store tells: what the keeper over its connection does.
-use Rattle.std.specs.Prelude.{◌≡◌, ℕ, ℤ, pos, List, [], Bool, true, false, Option, Some, None, unwrap_or}
+-- What a keeper tells that opens its store as it is attached: what the keeper over the open store does.
+use Rattle.std.specs.Prelude.{◌≡◌, ℕ, ℤ, pos, List, [], Bool, true, false, unwrap_or}
 use Rattle.tap_rows.specs.declared.tables.Tables.{Tables}
 use Rattle.tap_rows.specs.Tables.{no_rows}
 use Rattle.keeper_core.specs.Keeping.{Holds}
 use Rattle.sqlite.specs.Held.{state}
 use Rattle.sqlite.specs.Steps.{over_memory}
 use Rattle.sqlite.specs.Files.{file_state}
-use Rattle.sqlite.specs.State.{HasCleanDisk, State}
-use Rattle.keeper_sql.specs.Store.{TellsAs, HasVersion, MayLeave}
+use Rattle.sqlite.specs.State.{State, HasCleanDisk}
+use Rattle.keeper_sql.specs.Store as sql
 use Rattle.keeper_sql.specs.Telling.{tells_one}
-use Rattle.keeper_file.specs.declared.open_store.OpenStore.{OpenStore}
-use Rattle.keeper_file.specs.declared.open_store.OpenStore.TheVariants.{Memory, File}
+use Rattle.keeper_file.specs.declared.inner.Inner.{Inner}
+use Rattle.keeper_file.specs.declared.inner.Inner.TheVariants.{Unopened, Failed, Memory, File}
 
--- the state of its store
-abbrev pub state_in : OpenStore → State
-state_in (Memory k) = state over_memory k.connection
-state_in (File k) = file_state k.connection
+-- its tables; none where nothing is open
+abbrev pub Tells : Inner → Tables → Type 0
+Tells Unopened t = ⊥
+Tells Failed t = ⊥
+Tells (Memory k) t = sql.TellsAs k.attached (state over_memory k.connection) t
+Tells (File k) t = sql.TellsAs k.attached (file_state k.connection) t
 
-abbrev pub attached_in : OpenStore → Bool
-attached_in (Memory k) = k.attached
-attached_in (File k) = k.attached
+abbrev pub HasVersion : Inner → ℤ → Type 0
+HasVersion Unopened v = ⊥
+HasVersion Failed v = ⊥
+HasVersion (Memory k) v = sql.HasVersion (state over_memory k.connection) v
+HasVersion (File k) v = sql.HasVersion (file_state k.connection) v
 
-abbrev pub stopped_in : OpenStore → Bool
-stopped_in (Memory k) = k.stopped
-stopped_in (File k) = k.stopped
+-- what was opened has returned what was written to it
+abbrev pub IsHonest : Inner → Type 0
+IsHonest Unopened = Unit {0}
+IsHonest Failed = Unit {0}
+IsHonest (Memory k) = HasCleanDisk (state over_memory k.connection)
+IsHonest (File k) = HasCleanDisk (file_state k.connection)
 
-abbrev pub place_in : OpenStore → List ℕ
-place_in (Memory k) = unwrap_or k.place []
-place_in (File k) = unwrap_or k.place []
+-- a crash may leave these tables; where nothing is open, nothing is said of that
+abbrev pub MayLeave : Inner → Tables → Type 0
+MayLeave Unopened t = Unit {0}
+MayLeave Failed t = Unit {0}
+MayLeave (Memory k) t = sql.MayLeave (state over_memory k.connection) t
+MayLeave (File k) t = sql.MayLeave (file_state k.connection) t
 
-abbrev pub faults_in : OpenStore → ℕ
-faults_in (Memory k) = k.faults
-faults_in (File k) = k.faults
+-- a store is open
+abbrev pub is_open : Inner → Bool
+is_open Unopened = false
+is_open Failed = false
+is_open (Memory k) = true
+is_open (File k) = true
 
--- these tables
-abbrev pub tells_in : OpenStore → Tables → Type 0
-tells_in k = TellsAs (attached_in k) (state_in k)
+abbrev pub is_in_memory : Inner → Bool
+is_in_memory Unopened = false
+is_in_memory Failed = false
+is_in_memory (Memory k) = true
+is_in_memory (File k) = false
 
-pub tells_one_in : (k : OpenStore) (s t : Tables) → tells_in k s → tells_in k t → s ≡ t
-tells_one_in k s t = tells_one (attached_in k) (state_in k) s t
+abbrev pub is_attached : Inner → Bool
+is_attached Unopened = false
+is_attached Failed = false
+is_attached (Memory k) = k.attached
+is_attached (File k) = k.attached
 
--- is it in memory?
-abbrev pub is_memory_in : OpenStore → Bool
-is_memory_in (Memory k) = true
-is_memory_in (File k) = false
+abbrev pub is_stopped : Inner → Bool
+is_stopped Unopened = false
+is_stopped Failed = true
+is_stopped (Memory k) = k.stopped
+is_stopped (File k) = k.stopped
 
--- it is attached, and no call has failed
-pub record Runs (k : OpenStore) : Type 0 where
-  pub attached : attached_in k ≡ true
-  pub running : stopped_in k ≡ false
+-- an attach that failed is one failure
+abbrev pub faults_of : Inner → ℕ
+faults_of Unopened = 0
+faults_of Failed = 1
+faults_of (Memory k) = k.faults
+faults_of (File k) = k.faults
 
--- it has no tables, and tells that
-pub record TellsEmpty (k : OpenStore) : Type 0 where
-  pub clean : HasCleanDisk (state_in k)
-  pub tells : tells_in k no_rows
+-- a store of version 2 that holds no rows, and of which a crash leaves none
+pub record HoldsNoRows (inner : Inner) : Type 0 where
+  pub holds : Holds (Tells inner) (MayLeave inner) no_rows
+  pub version : HasVersion inner (pos 2)
 
--- it holds no rows, and a crash leaves none
-pub record HoldsEmpty (k : OpenStore) : Type 0 where
-  pub holds : Holds (tells_in k) (MayLeave (state_in k)) no_rows
-  pub version : HasVersion (state_in k) (pos 2)
-
--- ---- where there may be no store yet
-
-abbrev pub tells_at : Option OpenStore → Tables → Type 0
-tells_at None t = ⊥
-tells_at (Some k) t = tells_in k t
-
-abbrev pub has_version_at : Option OpenStore → ℤ → Type 0
-has_version_at None v = ⊥
-has_version_at (Some k) v = HasVersion (state_in k) v
-
-abbrev pub is_honest_at : Option OpenStore → Type 0
-is_honest_at None = Unit {0}
-is_honest_at (Some k) = HasCleanDisk (state_in k)
-
--- nothing is said of what a crash leaves where no store is open
-abbrev pub may_leave_at : Option OpenStore → Tables → Type 0
-may_leave_at None t = Unit {0}
-may_leave_at (Some k) t = MayLeave (state_in k) t
-
-pub tells_one_at : (k : Option OpenStore) (s t : Tables) → tells_at k s → tells_at k t → s ≡ t
-tells_one_at None s t told again = absurd told
-tells_one_at (Some k) s t told again = tells_one_in k s t told again
+pub tells_one_at : (inner : Inner) (s t : Tables) → Tells inner s → Tells inner t → s ≡ t
+tells_one_at Unopened s t told again = absurd told
+tells_one_at Failed s t told again = absurd told
+tells_one_at (Memory k) s t told again = tells_one k.attached _ s t told again
+tells_one_at (File k) s t told again = tells_one k.attached _ s t told again

@@ -2,6 +2,6 @@
 #![tactic(auto)]
 
 mod file_keeper;
-mod open_store;
+mod inner;
 
 pub use file_keeper::FileKeeper;
