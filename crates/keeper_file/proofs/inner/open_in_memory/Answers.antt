@@ -1,4 +1,6 @@
 use Rattle.std.proofs.Common.{◌≡◌, false, rules, sym, subst}
+use Rattle.tap_rows.specs.declared.tables.Tables.{Tables}
+use Rattle.keeper_file.specs.declared.inner.Opened.{Opened}
 use Rattle.sqlite.specs.Held.{state}
 use Rattle.sqlite.specs.Steps.{over_memory, IsEmpty}
 use Rattle.sqlite.proofs.Callers.{memory_is_clean}
@@ -19,4 +21,6 @@ returns-in-Err-clause-known c =
     let keeper = c.adopt-keeper.result in
     let empty = subst (λ h. IsEmpty (state over_memory h)) (sym c.adopt-keeper.ensures.same) c.in-Ok.ensures.empty in
     let two = empty_version (state over_memory keeper.connection) (memory_is_clean keeper.connection) empty in
-    never_alien c.in-Err.fault c.in-Err.ensures.alien c.in-Err.ensures.same (memory_is_clean c.attach.new.self.connection) two
+    let old = state over_memory keeper.connection in
+    let new = state over_memory c.attach.new.self.connection in
+    never_alien Tables Opened old new c.in-Err.fault c.in-Err.ensures.alien c.in-Err.ensures.same (memory_is_clean c.attach.new.self.connection) two
