@@ -59,7 +59,7 @@ impl Keeper for FileKeeper<'_> {
         requires running { is_stopped self.old.inner ≡ false }
         ensures attached { (is_open self.new.inner ≡ true) ↔ IsOk result }
         ensures stopped { (is_stopped self.new.inner ≡ true) ↔ (result ≡ Err AttachFault.Failed) }
-        ensures placed { (unwrap_or self.new.place [] ≡ at.now) ⊎ ((result ≡ Err AttachFault.Memory) × (self.new.place ≡ self.old.place)) }
+        ensures placed { (unwrap_or self.new.place [] ≡ at.now) ⊎ ((result ≡ Err AttachFault.Memory) × (unwrap_or self.new.place [] ≡ unwrap_or self.old.place [])) }
         ensures later { faults_of self.old.inner ≤ faults_of self.new.inner }
         ensures cause { result ≡ Err AttachFault.Failed → Rose (faults_of self.old.inner) (faults_of self.new.inner) }
         ensures alien { IfAlien result (λ v. (v ≢ pos 1) × (v ≢ pos 2)) }
