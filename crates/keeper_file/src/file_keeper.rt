@@ -24,6 +24,7 @@ pub struct FileKeeper<'a> {
 impl<'a> FileKeeper<'a> {
     /// A keeper that has opened nothing, and is neither attached nor stopped.
     pub fn new(rt: &'a HostRuntime) -> FileKeeper<'a>
+        ensures free { (is_open result.inner ≡ false) × (is_stopped result.inner ≡ false) }
         ensures unopened { result.inner ≡ Inner.Unopened }
     {
         FileKeeper {

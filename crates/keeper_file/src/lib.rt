@@ -5,3 +5,6 @@ mod file_keeper;
 mod inner;
 
 pub use file_keeper::FileKeeper;
+
+#[cfg(test)]
+mod tests;
