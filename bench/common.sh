@@ -1,24 +1,26 @@
-# What the measurements share: the program, and a clock.
+# What the measurements share: the program, and a clock. `name` is the program, tapestry_mem where it isn't set.
 set -eu
 top="$(cd "$(dirname "$0")/.." && pwd)"
-program="$top/crates/tapestry_mem/out/tapestry_mem"
+name="${name:-tapestry_mem}"
+program="$top/crates/$name/out/$name"
 scratch="$(mktemp -d)"
 trap 'rm -rf "$scratch"' EXIT
-[ -x "$program" ] || "$top/run" </dev/null >/dev/null
+[ -x "$program" ] || (cd "$top/crates/$name" && rt run </dev/null >/dev/null)
 
-# Runs the program on a script and prints a line with its name, size, seconds and memory.
+# Runs the program, with the words that follow, on a script and prints a line with its name, size, seconds and memory.
 measure() {
-  local name="$1" script="$2" bytes start end memory
+  local title="$1" script="$2" bytes start end memory
+  shift 2
   bytes=$(wc -c <"$script")
   if [ -x /usr/bin/time ]; then
-    /usr/bin/time -f '%e %M' -o "$scratch/time" "$program" <"$script" >"$scratch/replies" || true
+    /usr/bin/time -f '%e %M' -o "$scratch/time" "$program" "$@" <"$script" >"$scratch/replies" || true
     read -r seconds memory < <(tail -n 1 "$scratch/time")
   else
     start=$(date +%s.%N)
-    "$program" <"$script" >"$scratch/replies" || true
+    "$program" "$@" <"$script" >"$scratch/replies" || true
     end=$(date +%s.%N)
     seconds=$(awk "BEGIN { printf \"%.2f\", $end - $start }")
     memory='?'
   fi
-  printf '%-28s %12s bytes %8s s %10s KB  last reply: %s\n' "$name" "$bytes" "$seconds" "$memory" "$(tail -n 1 "$scratch/replies")"
+  printf '%-36s %12s bytes %8s s %10s KB  last reply: %s\n' "$title" "$bytes" "$seconds" "$memory" "$(tail -n 1 "$scratch/replies")"
 }

@@ -1,0 +1,10 @@
+//! The keeper over a file, or over memory where the place is `:memory:`.
+#![tactic(auto)]
+
+mod file_keeper;
+mod inner;
+
+pub use file_keeper::FileKeeper;
+
+#[cfg(test)]
+mod tests;
