@@ -1,9 +1,12 @@
-//! The mail filter's top call: commands are performed as they come, each reply before the next command.
+//! The mail filter's top call: commands are performed over a keeper as they come, each reply before the next command.
 #![tactic(auto)]
 
 mod feed;
+mod open;
+mod store_fault;
 mod top;
 
+pub use store_fault::StoreFault;
 pub use top::{PIECE, SCRIPT_LIMIT, tapestry};
 
 #[cfg(test)]
