@@ -177,7 +177,7 @@ pub fn tapestry<S: Source, K: Sink, P: Keeper, L: Ledger>(
     // A store is refused exactly for its version or its rows.
     ensures refused { (t : Tables) → P.honest keeper.new → Holds (P.tells keeper.old) (P.may_leave keeper.old) t → (v : ℤ) → P.has_version keeper.old v → (fault : StoreFaultOf) → fault_of v t ≡ Some fault → Refused result fault (S.left source.old) (S.left source.new) (K.out sink.old) (K.out sink.new) (P.tells keeper.new) (P.may_leave keeper.new) t }
     ensures fine { (t : Tables) → P.honest keeper.new → Holds (P.tells keeper.old) (P.may_leave keeper.old) t → (v : ℤ) → P.has_version keeper.old v → fault_of v t ≡ None → result ≢ 6 }
-    ensures store { (t : Tables) → IsStore t → (v : ℤ) → (v ≡ pos 1) ⊎ (v ≡ pos 2) → fault_of v t ≡ None }
+    ensures known { (t : Tables) → P.honest keeper.new → Holds (P.tells keeper.old) (P.may_leave keeper.old) t → IsStore t → (v : ℤ) → P.has_version keeper.old v → (v ≡ pos 1) ⊎ (v ≡ pos 2) → result ≢ 6 }
 
     // When each status comes.
     ensures words { (result ≡ 2) ↔ (0 < length words.now) }
