@@ -1,3 +1,6 @@
+mod Assumed
 mod Stories
 mod Steps
 mod Runs
+mod Refusals
+mod Crashes

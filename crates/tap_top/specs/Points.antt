@@ -8,7 +8,8 @@ use Rattle.tap_model.specs.declared.session.Session.{Session}
 use Rattle.tap_model.specs.Sound.{Sound}
 use Rattle.tap_model.specs.Stories.{Story}
 use Rattle.tap_engine.specs.declared.engine.Engine.{Engine}
-use Rattle.tap_engine.specs.Standing.{StandsFor, IsReady}
+use Rattle.tap_engine.specs.Standing.{StandsFor}
+use Rattle.tap_engine.specs.Ready.{IsReady}
 
 -- the tables and the session are sound at each point of a story: before each command, and at the end
 abbrev pub SoundAlong : (tables : Tables) (session : Session) (commands : List Command) (replies : List Reply) (tables' : Tables) (session' : Session) → Story tables session commands replies tables' session' → Type 0
@@ -21,7 +22,7 @@ SoundAlong tables session (command ∷ commands) [] tables' session' story = ⊥
 pub record CanPerform (engine : Engine) (attached stopped : Bool) : Type 0 where
   pub ready : IsReady engine
   pub running : engine.stopped ≡ false
-  pub attached : attached ≡ true
+  pub reachable : attached ≡ true
   pub keeping : stopped ≡ false
 
 -- the engine stands for these tables, which are sound in its session; the keeper tells them, and a crash leaves these alone

@@ -13,7 +13,7 @@ use Rattle.restart_core.specs.declared.fault.TableName.TheVariants.{Docs, Notes,
 use Rattle.restart_core.specs.declared.fault.Why.{Why}
 use Rattle.restart_core.specs.declared.fault.Why.TheVariants.{Number, Moment, Reference, Name, Twice, Text, Second, Order}
 use Rattle.restart_core.specs.Damages.{damage_of}
-use Rattle.tap_engine.specs.Standing.{unreadable_filter}
+use Rattle.tap_engine.specs.Starting.{first_unread}
 use Rattle.tap_top.specs.declared.store_fault.StoreFault.{StoreFault}
 use Rattle.tap_top.specs.declared.store_fault.StoreFault.TheVariants.{Version, Damaged}
 
@@ -53,7 +53,7 @@ unread_by (Some num) = Some (Damaged Filters num Text)
 
 -- why tables are refused: for the first damaged row, else for the first filter whose text can't be read
 abbrev pub row_fault : Tables → Option StoreFault
-row_fault tables = option_or (damaged_by (damage_of tables)) (unread_by (unreadable_filter tables))
+row_fault tables = option_or (damaged_by (damage_of tables)) (unread_by (first_unread tables.filters))
 
 -- why a store of this version with these tables is refused
 abbrev pub fault_of : ℤ → Tables → Option StoreFault

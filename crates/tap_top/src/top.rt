@@ -15,7 +15,7 @@ ghost use Rattle.tap_top.specs.Crashes.{LeavesPrefix};
 
 use crate::StoreFault;
 use crate::feed::{Stop, feed, finish};
-use crate::open::{OpenFault, open};
+use crate::opening::{OpenFault, open_store};
 use keeper_core::Keeper;
 use script_lang::ScriptReader;
 use std::alloc::Global;
@@ -194,7 +194,7 @@ pub fn tapestry<S: Source, K: Sink, P: Keeper, L: Ledger>(
     if words.len() > 0 {
         return 2;
     }
-    match open(alloc, keeper) {
+    match open_store(alloc, keeper) {
         Ok(mut engine) => run(alloc, source, sink, &mut engine, keeper, steps),
         Err(OpenFault::Refused(fault)) => refuse(fault, sink),
         Err(OpenFault::Keeper) => 5,

@@ -6,7 +6,7 @@ ghost use Rattle.tap_engine.specs.Standing.{StandsFor};
 ghost use Rattle.tap_top.specs.Points.{CanPerform};
 ghost use Rattle.tap_top.specs.Refusals.{row_fault, fault_of};
 ghost use Rattle.tap_top.specs.Opened.{IfRefused};
-ghost use Rattle.tap_top.specs.declared.open.OpenFault.{OpenFault};
+ghost use Rattle.tap_top.specs.declared.opening.OpenFault.{OpenFault};
 
 use crate::StoreFault;
 use keeper_core::{AttachFault, Keeper};
@@ -51,7 +51,7 @@ fn start(alloc: Global, tables: Tables) -> Result<Engine, OpenFault>
 }
 
 /// Attaches the store in memory, checks its tables, and starts an engine over them.
-pub fn open<P: Keeper>(alloc: Global, keeper: &mut P) -> Result<Engine, OpenFault>
+pub fn open_store<P: Keeper>(alloc: Global, keeper: &mut P) -> Result<Engine, OpenFault>
     requires free { P.attached keeper.old ≡ false }
     requires running { P.stopped keeper.old ≡ false }
     ensures can { IfOk result (λ engine. CanPerform engine (P.attached keeper.new) (P.stopped keeper.new)) }
