@@ -2,9 +2,7 @@
 use Rattle.std.proofs.Common.{◌≡◌, ◌≢◌, ◌∙◌, sym, ap, refl, subst, arith, ℕ, ℤ, pos, List, [], length, take, Bool, true, false, Option, Some, None, inl, inr, ◌≤◌, if◌then◌else◌}
 use Rattle.std.specs.Prelude.{◌⊎◌, ◌||◌}
 use Rattle.std.specs.Option.{option_or}
-use Rattle.std.specs.Ordering.{int_eq}
 use Rattle.std.specs.Io.KnownBytes.{Appends}
-use Rattle.std.proofs.lemmas.Bool.Decides.{Decides-int_eq}
 use Rattle.std.proofs.Math.Seq.{take-length}
 use Rattle.keeper_core.specs.Stored.{is_known}
 use Rattle.script_lang.proofs.Puts.{Appends-none}
@@ -12,7 +10,6 @@ use Rattle.tap_rows.specs.declared.tables.Tables.{Tables}
 use Rattle.tap_model.specs.Sessions.{no_session}
 use Rattle.tap_model.specs.Sound.{IsStore}
 use Rattle.tap_top.specs.declared.store_fault.StoreFault.{StoreFault}
-use Rattle.tap_top.specs.declared.store_fault.StoreFault.TheVariants.{Version}
 use Rattle.tap_top.specs.Refusals.{stop_line, damaged_by, unread_by, row_fault, fault_of, CutLine, Refused}
 use Rattle.tap_top.proofs.Assumed.{sound-undamaged, sound-read}
 
@@ -20,13 +17,6 @@ use Rattle.tap_top.proofs.Assumed.{sound-undamaged, sound-read}
 pub known-fault : (v : ℤ) (t : Tables) → (v ≡ pos 1) ⊎ (v ≡ pos 2) → fault_of v t ≡ row_fault t
 known-fault v t (inl one) = rw one refl
 known-fault v t (inr two) = rw two refl
-
--- every other is
-pub alien-fault : (v : ℤ) (t : Tables) → v ≢ pos 1 → v ≢ pos 2 → fault_of v t ≡ Some (Version v)
-alien-fault v t not-one not-two = rw (off (int_eq v (pos 1)) (λ e. not-one (Decides-int_eq v (pos 1) .holds e)), off (int_eq v (pos 2)) (λ e. not-two (Decides-int_eq v (pos 2) .holds e))) refl where
-  off : (b : Bool) → (b ≡ true → ⊥) → b ≡ false
-  off true no = absurd (no refl)
-  off false no = refl
 
 -- the tables that a session left have none
 pub store-fault : (t : Tables) → IsStore t → row_fault t ≡ None
@@ -37,9 +27,6 @@ fine-store t v store known = known-fault v t known ∙ store-fault t store
 
 pub some-or-none : (found : Option StoreFault) (fault : StoreFault) → found ≡ Some fault → found ≡ None → ⊥
 some-or-none found fault some none = cc
-
-pub same-fault : (found : Option StoreFault) (a b : StoreFault) → found ≡ Some a → found ≡ Some b → a ≡ b
-same-fault found a b one two = cc
 
 -- a line that was put whole
 pub CutLine-whole : (status : ℕ) (text : List ℕ) (out out' : Option (List ℕ)) → Appends out out' text → CutLine status text out out'

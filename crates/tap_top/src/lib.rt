@@ -2,12 +2,10 @@
 #![tactic(auto)]
 
 mod feed;
-mod open;
+mod opening;
 mod store_fault;
 mod top;
 
 pub use store_fault::StoreFault;
 pub use top::{PIECE, SCRIPT_LIMIT, tapestry};
 
-#[cfg(test)]
-mod tests;
