@@ -1,5 +1,5 @@
 -- When a store is refused, and the line that is put then.
-use Rattle.std.proofs.Common.{◌≡◌, ◌≢◌, ◌∙◌, sym, ap, refl, subst, arith, ℕ, ℤ, pos, List, [], length, take, Bool, true, false, Option, Some, None, inl, inr, ◌≤◌, if◌then◌else◌}
+use Rattle.std.proofs.Common.{◌≡◌, ◌≢◌, ◌∙◌, sym, ap, refl, subst, arith, ℕ, ℤ, pos, List, [], length, take, Bool, true, false, Option, Some, None, Err, inl, inr, ◌≤◌, if◌then◌else◌}
 use Rattle.std.specs.Prelude.{◌⊎◌, ◌||◌}
 use Rattle.std.specs.Option.{option_or}
 use Rattle.std.specs.Io.KnownBytes.{Appends}
@@ -9,7 +9,11 @@ use Rattle.script_lang.proofs.Puts.{Appends-none}
 use Rattle.tap_rows.specs.declared.tables.Tables.{Tables}
 use Rattle.tap_model.specs.Sessions.{no_session}
 use Rattle.tap_model.specs.Sound.{IsStore}
+use Rattle.tap_engine.specs.declared.engine.Engine.{Engine}
 use Rattle.tap_top.specs.declared.store_fault.StoreFault.{StoreFault}
+use Rattle.tap_top.specs.declared.opening.OpenFault.{OpenFault}
+use Rattle.tap_top.specs.declared.opening.OpenFault.TheVariants.{Refused as RefusedStore}
+use Rattle.tap_top.specs.Opened.{IfRefused}
 use Rattle.tap_top.specs.Refusals.{stop_line, damaged_by, unread_by, row_fault, fault_of, CutLine, Refused}
 use Rattle.tap_top.proofs.Assumed.{sound-undamaged, sound-read}
 
@@ -45,5 +49,9 @@ Refused-none status fault left left' out out' tells leaves t is six unread unwri
 
 -- a keeper that isn't stopped
 pub not-stopped : {A : Type 0} (b : Bool) → (b ≡ true → A) → (A → ⊥) → b ≡ false
-not-stopped true stops no = absurd (no (stops refl))
-not-stopped false stops no = refl
+not-stopped true stops never = absurd (never (stops refl))
+not-stopped false stops never = refl
+
+-- what holds of the fault of a refused store
+pub refused-for : (P : StoreFault → Type 0) (end : OpenFault) (fault : StoreFault) → IfRefused {T = Engine} (Err end) P → end ≡ RefusedStore fault → P fault
+refused-for P end fault holds is = subst (λ x. IfRefused {T = Engine} (Err x) P) is holds

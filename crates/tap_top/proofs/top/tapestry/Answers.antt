@@ -2,7 +2,7 @@ use Rattle.std.proofs.Common.{refl, sym, subst, inl, inr, take}
 use Rattle.std.specs.Prelude.{◌==◌}
 use Rattle.tap_model.specs.Sound.{IsStore}
 use Rattle.tap_top.specs.Refusals.{stop_line, fault_of}
-use Rattle.tap_top.proofs.Refusals.{fine-store, some-or-none, Refused-none, not-stopped}
+use Rattle.tap_top.proofs.Refusals.{fine-store, some-or-none, Refused-none, refused-for, not-stopped}
 use Rattle.tap_top.proofs.Crashes.{nothing-leaves, none-leaves, run-leaves, leaves-stores, opened-at, Starved-none}
 use Rattle.tap_top.proofs.top.tapestry.Goals as goal
 
@@ -22,13 +22,13 @@ pub returns-in-Ok-clause-kept : goal.returns-in-Ok-clause-kept
 returns-in-Ok-clause-kept g c = λ t honest holds store x may. leaves-stores t _ _ _ _ _ store (returns-in-Ok-clause-crash g c t honest holds store) x may
 
 pub returns-in-Err-Refused-clause-put : goal.returns-in-Err-Refused-clause-put
-returns-in-Err-Refused-clause-put g c = λ _ t honest holds store v version known. absurd (some-or-none (fault_of v t) c.in-Err-Refused.fault (c.in-Err-Refused.ensures.refused honest t holds.told v version) (fine-store t v store known))
+returns-in-Err-Refused-clause-put g c = λ _ t honest holds store v version known. absurd (some-or-none (fault_of v t) c.in-Err-Refused.fault (refused-for _ _ c.in-Err-Refused.fault c.in-Err-Refused.ensures.refused c.in-Err-Refused.field-0-is honest t holds.told v version) (fine-store t v store known))
 
 pub returns-in-Err-Refused-clause-crash : goal.returns-in-Err-Refused-clause-crash
 returns-in-Err-Refused-clause-crash g c = λ t honest holds store. none-leaves t _ _ _ _ _ _ refl c.refuse.ensures.line.written (c.in-Err-Refused.ensures.crash honest t holds.told)
 
 pub returns-in-Err-Refused-clause-known : goal.returns-in-Err-Refused-clause-known
-returns-in-Err-Refused-clause-known g c = λ t honest holds store v version known _. absurd (some-or-none (fault_of v t) c.in-Err-Refused.fault (c.in-Err-Refused.ensures.refused honest t holds.told v version) (fine-store t v store known))
+returns-in-Err-Refused-clause-known g c = λ t honest holds store v version known _. absurd (some-or-none (fault_of v t) c.in-Err-Refused.fault (refused-for _ _ c.in-Err-Refused.fault c.in-Err-Refused.ensures.refused c.in-Err-Refused.field-0-is honest t holds.told v version) (fine-store t v store known))
 
 pub returns-in-Err-Keeper-clause-crash : goal.returns-in-Err-Keeper-clause-crash
 returns-in-Err-Keeper-clause-crash g c = λ t honest holds store. nothing-leaves t _ _ _ _ _ refl refl (c.in-Err-Keeper.ensures.crash honest t holds.told)
