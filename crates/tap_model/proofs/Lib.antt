@@ -1,5 +1,12 @@
 pub mod AnswerLaws
+pub mod RowLaws
+pub mod RunFits
+pub mod HeldLaws
+pub mod FitLaws
+pub mod TextLaws
 pub mod SoundLaws
+pub mod NextLaws
+pub mod StoreLaws
 pub mod ViewLaws
 pub mod CoreLaws
 pub mod AlikeLaws

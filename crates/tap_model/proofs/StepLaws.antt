@@ -4,6 +4,7 @@ use Rattle.std.specs.Prelude.{◌⊎◌}
 use Rattle.tap_base.specs.Numbers.{moment_of}
 use Rattle.tap_rows.specs.declared.tables.Tables.{Tables}
 use Rattle.tap_rows.specs.Kept.{IsKept}
+use Rattle.tap_rows.specs.WellFormed.{is_well_formed}
 use Rattle.script_lang.specs.declared.command.Command.{Command}
 use Rattle.script_lang.specs.declared.command.Command.TheVariants.{At, Mail, Mbox}
 use Rattle.script_lang.specs.declared.refusal.Refusal.{Refusal}
@@ -86,9 +87,17 @@ ends-same user c s s' t t' m at by same giver-is sound sound' =
     let session : s' ≡ session_by s.moment s'.user = ap (λ m. session_by m s'.user) moment in
     let kept : IsKept truth_of start_of (twin t t') = subst (λ t'. IsKept truth_of start_of t') tables sound'.kept in
     let now : IsNow s.moment (twin t t') = subst (λ m. IsNow m (twin t t')) moment (subst (λ t'. IsNow s'.moment t') tables sound'.now) in
+    let there : Sound (twin t t') s = record {
+      kept = kept;
+      now = now;
+      formed = subst (λ t'. is_well_formed t' ≡ true) tables sound'.formed;
+      sources = sound'.sources;
+      rules = sound'.rules;
+      user = sound.user;
+    } in
     let twins : AreTwins user t t' = record { queries = ap (λ (b : Brief). b.queries) same; filter = ap (λ (b : Brief). b.filter) same } in
     let gives : giver (session_by s.moment s.user) c ≡ giver (session_by s.moment s'.user) c = giver-is ∙ ap (λ s. giver s c) session in
-    let ends : Ends user c s t (session_by s.moment s'.user) (twin t t') = ends-giver user c s t s.moment s.user s'.user (twin t t') gives (told-alike c user s t t' m at by twins sound (record { kept = kept; now = now })) in
+    let ends : Ends user c s t (session_by s.moment s'.user) (twin t t') = ends-giver user c s t s.moment s.user s'.user (twin t t') gives (told-alike c user s t t' m at by twins sound there) in
     subst (λ s'. Ends user c s t s' t') (sym session) (subst (λ t'. Ends user c s t (session_by s.moment s'.user) t') (sym tables) ends)
 
 -- a shared verdict is a shared reply

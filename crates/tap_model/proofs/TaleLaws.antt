@@ -16,7 +16,8 @@ use Rattle.tap_model.specs.Replies.{answer_by, accepted, set_moment, run_query, 
 use Rattle.tap_model.specs.Stories.{Step, Story}
 use Rattle.tap_model.specs.Sound.{Sound}
 use Rattle.tap_model.specs.Privacy.{view_of, is_shared_reply, concerns, Deed, deed_of, Act, Move, Tale, acts_along, acts_of, deeds, replies_in}
-use Rattle.tap_model.proofs.SoundLaws.{Present, step-sound}
+use Rattle.tap_model.proofs.HeldLaws.{Present}
+use Rattle.tap_model.proofs.SoundLaws.{step-sound}
 use Rattle.tap_model.proofs.StepLaws.{step-same}
 use Rattle.tap_model.proofs.OtherLaws.{step-other}
 

@@ -1,10 +1,15 @@
 -- What holds of the tables and the session at every point of a story.
-use Rattle.std.specs.Prelude.{ℤ, pos, ◌≤ℤ◌, Option, Some, None}
+use Rattle.std.specs.Prelude.{ℕ, ◌≡◌, ℤ, pos, ◌≤ℤ◌, List, true, Option, Some, None}
+use Rattle.tap_base.specs.Names.{is_name}
 use Rattle.tap_base.specs.declared.moments.TheConstants.{LAST_MOMENT}
 use Rattle.tap_rows.specs.declared.tables.Tables.{Tables}
-use Rattle.tap_rows.specs.Kept.{IsKept, IsBy}
+use Rattle.tap_rows.specs.Kept.{Each, IsKept, IsBy}
+use Rattle.tap_rows.specs.WellFormed.{is_well_formed}
+use Rattle.restart_core.specs.Starts.{condition_text}
 use Rattle.tap_model.specs.declared.session.Session.{Session}
+use Rattle.tap_model.specs.Sessions.{no_session}
 use Rattle.tap_model.specs.Queries.{truth_of, start_of}
+use Rattle.tap_model.specs.Verdicts.{text_fault, filter_fault}
 
 -- a second that a moment may be
 abbrev pub IsMoment : ℤ → Type 0
@@ -15,7 +20,21 @@ abbrev pub IsNow : Option ℤ → Tables → Type 0
 IsNow None tables = Unit {0}
 IsNow (Some moment) tables = IsMoment moment × IsBy start_of moment tables
 
--- the tables are kept, with each query's deliveries equal to its box, and the session's moment is not below their rows
+-- no user, or a name
+abbrev pub IsUser : Option (List ℕ) → Type 0
+IsUser None = Unit {0}
+IsUser (Some name) = is_name name ≡ true
+
+-- the rows stand in order, with each query's deliveries equal to its box; the session's moment is not below them; the texts
+-- of queries and filters can be read; and the session's user is a name
 pub record Sound (tables : Tables) (session : Session) : Type 0 where
   pub kept : IsKept truth_of start_of tables
   pub now : IsNow session.moment tables
+  pub formed : is_well_formed tables ≡ true
+  pub sources : Each (λ query. text_fault (condition_text query.source) ≡ None) tables.queries
+  pub rules : Each (λ filter. filter_fault filter.source ≡ None) tables.filters
+  pub user : IsUser session.user
+
+-- tables that a session may begin with: those that one left
+abbrev pub IsStore : Tables → Type 0
+IsStore tables = Sound tables no_session

@@ -1,9 +1,10 @@
 -- What a list of commands does, one after another.
-use Rattle.std.specs.Prelude.{◌≡◌, ◌⊎◌, List, [], ◌∷◌, false, Some}
+use Rattle.std.specs.Prelude.{◌≡◌, ◌⊎◌, List, [], ◌∷◌, false, Some, if◌then◌else◌}
 use Rattle.tap_rows.specs.declared.tables.Tables.{Tables}
 use Rattle.script_lang.specs.declared.command.Command.{Command}
 use Rattle.script_lang.specs.declared.reply.Reply.{Reply}
 use Rattle.script_lang.specs.declared.reply.Reply.TheVariants.{No}
+use Rattle.script_lang.specs.Replies.{is_accepted}
 use Rattle.script_lang.specs.declared.refusal.Refusal.{Refusal}
 use Rattle.script_lang.specs.declared.refusal.Refusal.TheVariants.{Memory}
 use Rattle.tap_model.specs.declared.session.Session.{Session}
@@ -23,6 +24,10 @@ pub record GivesUp (tables : Tables) (session : Session) (command : Command) (re
   pub session_is : session' ≡ session
   pub not_spared : is_spared command session tables ≡ false
 
+-- the tables after a command with this reply: with the rows that it adds, where it was accepted
+abbrev pub next_tables : Command → Reply → Session → Tables → Tables
+next_tables command reply session tables = if is_accepted reply then tables_after (answer_of command session tables).change tables else tables
+
 -- one step of a story
 abbrev pub Step : Tables → Session → Command → Reply → Tables → Session → Type 0
 Step tables session command reply tables' session' = Follows tables session command reply tables' session' ⊎ GivesUp tables session command reply tables' session'
@@ -31,7 +36,7 @@ Step tables session command reply tables' session' = Follows tables session comm
 abbrev pub Story : Tables → Session → List Command → List Reply → Tables → Session → Type 0
 Story tables session [] [] tables' session' = (tables' ≡ tables) × (session' ≡ session)
 Story tables session (command ∷ commands) (reply ∷ replies) tables' session' =
-    (mid : Tables) × (then : Session) × Step tables session command reply mid then × Story mid then commands replies tables' session'
+    (mid : Tables) × (next : Session) × Step tables session command reply mid next × Story mid next commands replies tables' session'
 Story tables session [] (reply ∷ replies) tables' session' = ⊥
 Story tables session (command ∷ commands) [] tables' session' = ⊥
 
