@@ -1,1 +1,4 @@
 pub mod StartLaws
+pub mod DamageLaws
+pub mod EarlierLaws
+pub mod QueryLaws

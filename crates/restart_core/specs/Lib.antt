@@ -1,2 +1,5 @@
 pub mod Starts
+pub mod Damages
+pub mod Readings
+pub mod Earlier
 pub mod Laws

@@ -19,10 +19,11 @@ use Rattle.snapshot_meaning.specs.Seen.{seen}
 use Rattle.tap_model.specs.declared.session.Session.{Session}
 use Rattle.tap_model.specs.Queries.{condition_in}
 use Rattle.tap_model.specs.Verdicts.{first_refusal, verdict, missing, unless, no_moment, text_fault, not_over}
-use Rattle.tap_model.specs.Replies.{ask_at, tables_after}
-use Rattle.tap_model.specs.Stories.{Refuses, Follows}
+use Rattle.tap_model.specs.Replies.{ask_at}
+use Rattle.tap_model.specs.Stories.{Refuses}
 use Rattle.tap_engine.proofs.TextLaws.{read-fine}
-use Rattle.tap_model.proofs.AnswerLaws.{follows-accepted}
+use Rattle.tap_engine.specs.Answering.{Answers}
+use Rattle.tap_engine.proofs.AnswerTurns.{answers-accepted}
 
 one : (x : Option Refusal) → first_refusal (x ∷ []) ≡ x
 one None = refl
@@ -58,17 +59,18 @@ module _ (t : Tables) (s : Session) (moment source : List ℕ) (m now : ℤ) (is
       (λ doc. ap (λ b. int_le doc.arrival m && b) (of-the-second c t (seen t.docs t.notes) doc m refl refl))
 
   -- a question that isn't refused
-  pub follows-ask : (c : Condition) (docs : List Doc) (notes : List Note) (nums : List DocNum) → condition_of source ≡ Ok c → None ≡ unless (int_lt m now) (NotOver now) → docs ≡ t.docs → notes ≡ t.notes
-      → nums ≡ map (λ doc. doc.num) (snapshot (Holds.truth_of c) (seen docs notes) m) → Follows t s (Ask moment source) (Asked m nums) t s
-  follows-ask c docs notes nums e over is-docs is-notes is =
-      let follows = follows-accepted t s (Ask moment source) (fine c e ∙ sym over) in
+  pub answers-ask : (c : Condition) (docs : List Doc) (notes : List Note) (nums : List DocNum) → condition_of source ≡ Ok c → None ≡ unless (int_lt m now) (NotOver now) → docs ≡ t.docs → notes ≡ t.notes
+      → nums ≡ map (λ doc. doc.num) (snapshot (Holds.truth_of c) (seen docs notes) m) → Answers t s (Ask moment source) (Asked m nums) None s
+  answers-ask c docs notes nums e over is-docs is-notes is =
+      let accepted = answers-accepted t s (Ask moment source) (fine c e ∙ sym over) in
       let same : nums ≡ map (λ doc. doc.num) (snapshot (Holds.truth_of (condition_in source)) t m) =
       is ∙ ap (λ docs. map (λ doc. doc.num) (snapshot (Holds.truth_of c) (seen docs notes) m)) is-docs
       ∙ ap (λ notes. map (λ doc. doc.num) (snapshot (Holds.truth_of c) (seen t.docs notes) m)) is-notes
       ∙ ap (map (λ doc. doc.num)) (seen-same c)
       ∙ ap (λ c. map (λ doc. doc.num) (snapshot (Holds.truth_of c) t m)) (sym (read-fine source c e).0) in
       record {
-        reply_is = ap (Asked m) same ∙ sym (ap (λ o. (ask_at o source s t).reply) is-m) ∙ follows.reply_is;
-        tables_are = sym (ap (λ o. tables_after (ask_at o source s t).change t) is-m) ∙ follows.tables_are;
-        session_is = sym (ap (λ o. (ask_at o source s t).session) is-m) ∙ follows.session_is;
+        fine = accepted.fine;
+        reply_is = ap (Asked m) same ∙ sym (ap (λ o. (ask_at o source s t).reply) is-m) ∙ accepted.reply_is;
+        change_is = sym (ap (λ o. (ask_at o source s t).change) is-m) ∙ accepted.change_is;
+        session_is = sym (ap (λ o. (ask_at o source s t).session) is-m) ∙ accepted.session_is;
       }

@@ -7,14 +7,13 @@ use Rattle.std.proofs.lemmas.Bool.{cases_Bool}
 use Rattle.std.proofs.lemmas.List.{length-map}
 use Rattle.tap_rows.specs.declared.tables.Tables.{Tables}
 use Rattle.tap_rows.specs.declared.rows.QueryRow.{QueryRow}
-use Rattle.tap_rows.specs.declared.rows.Note.{Note}
 use Rattle.tap_rows.specs.declared.results.Hit.{Hit}
 use Rattle.tap_base.specs.Words.{holds}
 use Rattle.tql_core.specs.Condition.{Condition}
 use Rattle.tql_text.specs.declared.fault.TextFault.{TextFault}
 use Rattle.tql_text.specs.declared.fault.TextFault.TheVariants as T
 use Rattle.tql_text.specs.Texts.{condition_of}
-use Rattle.tap_model.proofs.AnswerLaws.{some-none, find-in, truth-of-second, follows-accepted}
+use Rattle.tap_model.proofs.AnswerLaws.{some-none, find-in, truth-of-second}
 use Rattle.tap_engine.proofs.FreshLaws.{fresh-seen}
 use Rattle.script_lang.specs.declared.refusal.Refusal.{Refusal}
 use Rattle.script_lang.specs.declared.refusal.Refusal.TheVariants.{NoQuery, NoMoment, Taken, Memory, Limit}
@@ -34,14 +33,16 @@ use Rattle.tap_model.specs.Verdicts.{first_refusal, verdict, missing, unless, no
 use Rattle.tap_engine.specs.Keeping.{kept_query, named_in, owned_in}
 use Rattle.tap_engine.specs.Standing.{StandsFor, name_refusal, query_limits, define_refusal, look_refusal, run_refusal, kept_named, hits_kept, wide_kept, entries_kept, RefusedBy}
 use Rattle.tap_model.specs.Sound.{Sound}
-use Rattle.tap_model.specs.Stories.{Refuses, Follows}
-use Rattle.tap_model.specs.Replies.{tables_after, next_query, show_box}
+use Rattle.tap_model.specs.Stories.{Refuses}
+use Rattle.tap_engine.specs.Answering.{Answers}
+use Rattle.tap_engine.proofs.AnswerTurns.{answers-accepted}
+use Rattle.tap_model.specs.Replies.{next_query, show_box}
 use Rattle.tap_rows.specs.Deliveries.{delivered}
 use Rattle.tap_rows.specs.declared.results.Entry.{Entry}
 use Rattle.tap_rows.proofs.KeptLaws.{box-is}
 use Rattle.script_lang.specs.declared.reply.Reply.TheVariants.{Defined, BoxOf as Boxed}
+use Rattle.tap_rows.specs.declared.change.Change.{Change}
 use Rattle.tap_rows.specs.declared.change.Change.TheVariants.{OneQuery}
-use Rattle.tap_rows.specs.Tables.{after}
 
 named-find : (t : Tables) (owner name : List ℕ) (qs : List QueryRow) → find (λ kept. is_named owner name kept.row) (map (kept_query t) qs) ≡ option_map (kept_query t) (find (is_named owner name) qs)
 named-find t owner name [] = refl
@@ -125,9 +126,9 @@ pub box-refuses : (e : Engine) (t : Tables) (name : List ℕ) (refusal : Refusal
 box-refuses e t name refusal stands by = subst (λ v. RefusedBy v refusal) (box-verdict e t name stands) by
 
 -- what a run of a query delivers, by what is kept
-pub hits-is : (e : Engine) (t : Tables) (o : Option QueryRow) → StandsFor e t → hits_kept e t.notes (option_map (kept_query t) o) ≡ hits_found o t (present e.session)
+pub hits-is : (e : Engine) (t : Tables) (o : Option QueryRow) → StandsFor e t → hits_kept e (option_map (kept_query t) o) ≡ hits_found o t (present e.session)
 hits-is e t None stands = refl
-hits-is e t (Some q) stands = rw stands.docs (fresh-seen q t (covered (start_of q) q.num.0 t.runs) (present e.session))
+hits-is e t (Some q) stands = rw (stands.docs, stands.notes) (fresh-seen q t (covered (start_of q) q.num.0 t.runs) (present e.session))
 
 wide-is : (e : Engine) (t : Tables) (o : Option QueryRow) → StandsFor e t → wide_kept e (option_map (kept_query t) o) ≡ too_wide o t.docs (present e.session)
 wide-is e t None stands = refl
@@ -139,42 +140,38 @@ run_checks e runs picks found wide hits =
     option_or (no_moment e.session) (option_or found (option_or wide (option_or (passes Runs RUN_LIMIT runs 1) (passes Picks PICK_LIMIT picks (length hits)))))
 
 -- a run is refused as its verdict says
-pub run-verdict : (e : Engine) (t : Tables) (name : List ℕ) → StandsFor e t → run_refusal e t.notes (length t.runs) (length t.picks) name ≡ verdict (Run name) e.session t
+pub run-verdict : (e : Engine) (t : Tables) (name : List ℕ) → StandsFor e t → run_refusal e name ≡ verdict (Run name) e.session t
 unfolding look_refusal
 run-verdict e t name stands =
     let o = query_named (user_of e.session) name t in
     let look : Option KeptQuery → Option Refusal = λ k. option_or (no_user e.session) (option_or (bad_name name) (missing NoQuery k)) in
-    ap (λ k. run_checks e (length t.runs) (length t.picks) (look k) (wide_kept e k) (hits_kept e t.notes k)) (named-is e t name stands)
-    ∙ ap (λ m. run_checks e (length t.runs) (length t.picks) (option_or (no_user e.session) (option_or (bad_name name) m)) (wide_kept e (option_map (kept_query t) o)) (hits_kept e t.notes (option_map (kept_query t) o))) (missing-map t o)
-    ∙ ap (λ w. run_checks e (length t.runs) (length t.picks) (option_or (no_user e.session) (option_or (bad_name name) (missing NoQuery o))) w (hits_kept e t.notes (option_map (kept_query t) o))) (wide-is e t o stands)
-    ∙ ap (run_checks e (length t.runs) (length t.picks) (option_or (no_user e.session) (option_or (bad_name name) (missing NoQuery o))) (too_wide o t.docs (present e.session))) (hits-is e t o stands)
+    ap (λ k. run_checks e e.run_count e.pick_count (look k) (wide_kept e k) (hits_kept e k)) (named-is e t name stands)
+    ∙ ap (λ m. run_checks e e.run_count e.pick_count (option_or (no_user e.session) (option_or (bad_name name) m)) (wide_kept e (option_map (kept_query t) o)) (hits_kept e (option_map (kept_query t) o))) (missing-map t o)
+    ∙ ap (λ w. run_checks e e.run_count e.pick_count (option_or (no_user e.session) (option_or (bad_name name) (missing NoQuery o))) w (hits_kept e (option_map (kept_query t) o))) (wide-is e t o stands)
+    ∙ ap (run_checks e e.run_count e.pick_count (option_or (no_user e.session) (option_or (bad_name name) (missing NoQuery o))) (too_wide o t.docs (present e.session))) (hits-is e t o stands)
+    ∙ ap (λ n. run_checks e n e.pick_count (option_or (no_user e.session) (option_or (bad_name name) (missing NoQuery o))) (too_wide o t.docs (present e.session)) (hits_found o t (present e.session))) stands.run_count
+    ∙ ap (λ n. run_checks e (length t.runs) n (option_or (no_user e.session) (option_or (bad_name name) (missing NoQuery o))) (too_wide o t.docs (present e.session)) (hits_found o t (present e.session))) stands.pick_count
     ∙ seven (no_moment e.session) (no_user e.session) (bad_name name) (missing NoQuery o) (too_wide o t.docs (present e.session)) (passes Runs RUN_LIMIT (length t.runs) 1) (passes Picks PICK_LIMIT (length t.picks) (length (hits_found o t (present e.session))))
 
-run-is : (e : Engine) (t : Tables) (name : List ℕ) (notes : List Note) (runs picks : ℕ) → StandsFor e t → notes ≡ t.notes → runs ≡ length t.runs → picks ≡ length t.picks → run_refusal e notes runs picks name ≡ verdict (Run name) e.session t
-run-is e t name notes runs picks stands is-notes is-runs is-picks =
-    ap (λ notes. run_refusal e notes runs picks name) is-notes ∙ ap (λ n. run_refusal e t.notes n picks name) is-runs ∙ ap (λ n. run_refusal e t.notes (length t.runs) n name) is-picks ∙ run-verdict e t name stands
-
-pub run-refuses : (e : Engine) (t : Tables) (name : List ℕ) (notes : List Note) (runs picks : ℕ) (refusal : Refusal) → StandsFor e t → notes ≡ t.notes → runs ≡ length t.runs → picks ≡ length t.picks → RefusedBy (run_refusal e notes runs picks name) refusal → Refuses refusal (Run name) e.session t
-run-refuses e t name notes runs picks refusal stands is-notes is-runs is-picks by = subst (λ v. RefusedBy v refusal) (run-is e t name notes runs picks stands is-notes is-runs is-picks) by
-
-pub run-none : (e : Engine) (t : Tables) (name : List ℕ) (notes : List Note) (runs picks : ℕ) → StandsFor e t → notes ≡ t.notes → runs ≡ length t.runs → picks ≡ length t.picks → run_refusal e notes runs picks name ≡ None → verdict (Run name) e.session t ≡ None
-run-none e t name notes runs picks stands is-notes is-runs is-picks none = sym (run-is e t name notes runs picks stands is-notes is-runs is-picks) ∙ none
+pub run-refuses : (e : Engine) (t : Tables) (name : List ℕ) (refusal : Refusal) → StandsFor e t → RefusedBy (run_refusal e name) refusal → Refuses refusal (Run name) e.session t
+run-refuses e t name refusal stands by = subst (λ v. RefusedBy v refusal) (run-verdict e t name stands) by
 
 -- a query isn't defined without a moment
 pub define-moment : (e : Engine) (name source : List ℕ) → define_refusal e name source ≡ None → e.session.moment ≡ None → ⊥
 define-moment e name source none no_m = some-none NoMoment (sym (ap (λ m. option_or (missing NoMoment m) (option_or (no_user e.session) (option_or (name_refusal e (user_of e.session) name) (option_or (text_fault (condition_text source)) (first_refusal (query_limits e (user_of e.session) (length (stored_source source)))))))) no_m) ∙ none)
 
 -- a query is defined
-pub follows-define : (t : Tables) (s : Session) (name source shown : List ℕ) (n : ℕ) (row : QueryRow) (t' : Tables) (s' : Session) → verdict (Define name source) s t ≡ None → n ≡ length t.queries
-    → row ≡ record { num = record { 0 = n + 1 }; owner = user_of s; name = name; source = stored_source source; arrival = present s } → shown ≡ row.name → t' ≡ after t (OneQuery row) → s' ≡ s
-    → Follows t s (Define name source) (Defined shown) t' s'
-follows-define t s name source shown n row t' s' none count is-row is-shown is-t is-s =
-    let follows = follows-accepted t s (Define name source) none in
+pub answers-define : (t : Tables) (s : Session) (name source shown : List ℕ) (n : ℕ) (row : QueryRow) (change : Change) (s' : Session) → verdict (Define name source) s t ≡ None → n ≡ length t.queries
+    → row ≡ record { num = record { 0 = n + 1 }; owner = user_of s; name = name; source = stored_source source; arrival = present s } → shown ≡ row.name → change ≡ OneQuery row → s' ≡ s
+    → Answers t s (Define name source) (Defined shown) (Some change) s'
+answers-define t s name source shown n row change s' none count is-row is-shown is-change is-s =
+    let accepted = answers-accepted t s (Define name source) none in
     let same : row ≡ next_query t s name (stored_source source) = is-row ∙ ap (λ n. record { num = record { 0 = n + 1 }; owner = user_of s; name = name; source = stored_source source; arrival = present s }) count in
     record {
-      reply_is = ap Defined (is-shown ∙ ap (λ r. r.name) same) ∙ follows.reply_is;
-      tables_are = is-t ∙ ap (λ r. after t (OneQuery r)) same ∙ follows.tables_are;
-      session_is = is-s ∙ follows.session_is;
+      fine = none;
+      reply_is = ap Defined (is-shown ∙ ap (λ r. r.name) same) ∙ accepted.reply_is;
+      change_is = ap Some is-change ∙ ap (λ r. Some (OneQuery r)) same ∙ accepted.change_is;
+      session_is = is-s ∙ accepted.session_is;
     }
 
 text-late : (source : List ℕ) (rest : List (Option Refusal)) → is_early (first_refusal rest) ≡ false → is_early (option_or (text_fault source) (first_refusal rest)) ≡ false
@@ -218,25 +215,26 @@ text-refused e name source refusal moment user named by =
     ]
 
 -- a box that isn't refused is of a query that there is
-pub follows-box : (e : Engine) (t : Tables) (name : List ℕ) (entries : List Entry) → StandsFor e t → Sound t e.session → look_refusal e name ≡ None → Some entries ≡ entries_kept (kept_named e name) → Follows t e.session (BoxOf name) (Boxed name entries) t e.session
-follows-box e t name entries stands sound none is = go (query_named (user_of e.session) name t) refl where
-  follows : Follows t e.session (BoxOf name) (show_box (query_named (user_of e.session) name t) name e.session t).reply (tables_after (show_box (query_named (user_of e.session) name t) name e.session t).change t) (show_box (query_named (user_of e.session) name t) name e.session t).session
-  follows = follows-accepted t e.session (BoxOf name) (sym (box-verdict e t name stands) ∙ none)
+pub answers-box : (e : Engine) (t : Tables) (name : List ℕ) (entries : List Entry) → StandsFor e t → Sound t e.session → look_refusal e name ≡ None → Some entries ≡ entries_kept (kept_named e name) → Answers t e.session (BoxOf name) (Boxed name entries) None e.session
+answers-box e t name entries stands sound none is = go (query_named (user_of e.session) name t) refl where
+  accepted : Answers t e.session (BoxOf name) (show_box (query_named (user_of e.session) name t) name e.session t).reply (show_box (query_named (user_of e.session) name t) name e.session t).change (show_box (query_named (user_of e.session) name t) name e.session t).session
+  accepted = answers-accepted t e.session (BoxOf name) (sym (box-verdict e t name stands) ∙ none)
 
   kept : Some entries ≡ entries_kept (option_map (kept_query t) (query_named (user_of e.session) name t))
   kept = is ∙ ap entries_kept (named-is e t name stands)
 
-  go : (o : Option QueryRow) → query_named (user_of e.session) name t ≡ o → Follows t e.session (BoxOf name) (Boxed name entries) t e.session
+  go : (o : Option QueryRow) → query_named (user_of e.session) name t ≡ o → Answers t e.session (BoxOf name) (Boxed name entries) None e.session
   go None none' = absurd (some-entries entries (kept ∙ ap (λ o. entries_kept (option_map (kept_query t) o)) none'))
   go (Some q) some =
       let same : entries ≡ delivered q.num.0 t = some-same entries (delivered q.num.0 t) (kept ∙ ap (λ o. entries_kept (option_map (kept_query t) o)) some) in
       let box = box-is truth_of start_of truth-of-second t q t.queries (find-in (is_named (user_of e.session) name) t.queries q some) sound.kept.each in
       record {
-        reply_is = ap (Boxed name) (same ∙ box.box) ∙ sym (ap (λ o. (show_box o name e.session t).reply) some) ∙ follows.reply_is;
-        tables_are = sym (ap (λ o. tables_after (show_box o name e.session t).change t) some) ∙ follows.tables_are;
-        session_is = sym (ap (λ o. (show_box o name e.session t).session) some) ∙ follows.session_is;
+        fine = accepted.fine;
+        reply_is = ap (Boxed name) (same ∙ box.box) ∙ sym (ap (λ o. (show_box o name e.session t).reply) some) ∙ accepted.reply_is;
+        change_is = sym (ap (λ o. (show_box o name e.session t).change) some) ∙ accepted.change_is;
+        session_is = sym (ap (λ o. (show_box o name e.session t).session) some) ∙ accepted.session_is;
       }
 
 -- a query isn't run without a moment
-pub run-moment : (e : Engine) (notes : List Note) (runs picks : ℕ) (name : List ℕ) → run_refusal e notes runs picks name ≡ None → e.session.moment ≡ None → ⊥
-run-moment e notes runs picks name none no_m = some-none NoMoment (sym (ap (λ m. option_or (missing NoMoment m) (option_or (look_refusal e name) (option_or (wide_kept e (kept_named e name)) (option_or (passes Runs RUN_LIMIT runs 1) (passes Picks PICK_LIMIT picks (length (hits_kept e notes (kept_named e name)))))))) no_m) ∙ none)
+pub run-moment : (e : Engine) (name : List ℕ) → run_refusal e name ≡ None → e.session.moment ≡ None → ⊥
+run-moment e name none no_m = some-none NoMoment (sym (ap (λ m. option_or (missing NoMoment m) (option_or (look_refusal e name) (option_or (wide_kept e (kept_named e name)) (option_or (passes Runs RUN_LIMIT e.run_count 1) (passes Picks PICK_LIMIT e.pick_count (length (hits_kept e (kept_named e name)))))))) no_m) ∙ none)

@@ -7,7 +7,9 @@ use Rattle.std.proofs.lemmas.List.Elements.{filter-append}
 use Rattle.tap_rows.specs.declared.tables.Tables.{Tables}
 use Rattle.tap_rows.specs.declared.rows.QueryRow.{QueryRow}
 use Rattle.tap_rows.specs.declared.rows.RunRow.{RunRow}
-use Rattle.tap_rows.specs.declared.rows.Note.{Note}
+use Rattle.tap_base.specs.declared.numbers.QueryNum.{QueryNum}
+use Rattle.tap_rows.specs.declared.results.Hit.{Hit}
+use Rattle.tap_rows.specs.declared.change.Change.{Change}
 use Rattle.tap_rows.specs.declared.results.Entry.{Entry}
 use Rattle.tap_rows.specs.declared.change.Change.TheVariants.{RunDone}
 use Rattle.tap_rows.specs.Tables.{after}
@@ -28,9 +30,10 @@ use Rattle.tap_model.specs.Queries.{is_named, query_named, hits_of, truth_of, st
 use Rattle.tap_model.specs.Verdicts.{verdict}
 use Rattle.tap_engine.specs.Keeping.{kept_query, after_run}
 use Rattle.tap_engine.specs.Standing.{StandsFor, kept_named, hits_kept, due_of}
-use Rattle.tap_model.specs.Stories.{Follows}
-use Rattle.tap_model.specs.Replies.{run_query, tables_after}
-use Rattle.tap_model.proofs.AnswerLaws.{find-in, follows-accepted}
+use Rattle.tap_model.specs.Replies.{run_query}
+use Rattle.tap_model.proofs.AnswerLaws.{find-in}
+use Rattle.tap_engine.specs.Answering.{Answers}
+use Rattle.tap_engine.proofs.AnswerTurns.{answers-accepted}
 use Rattle.tap_engine.proofs.CheckLaws.{named-is, hits-is}
 
 -- what is due is due to a query that there is
@@ -46,18 +49,18 @@ no-due due e = cc
 same-due : (x y : Due) → Some x ≡ Some y → x ≡ y
 same-due x y e = cc
 
-pub due-is : (e : Engine) (t : Tables) (name : List ℕ) (notes : List Note) (due : Due) → StandsFor e t → notes ≡ t.notes → Some due ≡ due_of e notes (kept_named e name) → IsDue e t name due
-due-is e t name notes due stands is-notes is = go (query_named (user_of e.session) name t) refl where
-  kept : Some due ≡ due_of e t.notes (option_map (kept_query t) (query_named (user_of e.session) name t))
-  kept = is ∙ ap (λ notes. due_of e notes (kept_named e name)) is-notes ∙ ap (due_of e t.notes) (named-is e t name stands)
+pub due-is : (e : Engine) (t : Tables) (name : List ℕ) (due : Due) → StandsFor e t → Some due ≡ due_of e (kept_named e name) → IsDue e t name due
+due-is e t name due stands is = go (query_named (user_of e.session) name t) refl where
+  kept : Some due ≡ due_of e (option_map (kept_query t) (query_named (user_of e.session) name t))
+  kept = is ∙ ap (due_of e) (named-is e t name stands)
 
   go : (o : Option QueryRow) → query_named (user_of e.session) name t ≡ o → IsDue e t name due
-  go None none = absurd (no-due due (kept ∙ ap (λ o. due_of e t.notes (option_map (kept_query t) o)) none))
+  go None none = absurd (no-due due (kept ∙ ap (λ o. due_of e (option_map (kept_query t) o)) none))
   go (Some q) some = record {
     q = q;
     some = some;
     has = find-in (is_named (user_of e.session) name) t.queries q some;
-    is = same-due due (record { query = q.num; moment = present e.session; runs = length (run_moments q.num.0 t.runs); hits = hits_kept e t.notes (Some (kept_query t q)) }) (kept ∙ ap (λ o. due_of e t.notes (option_map (kept_query t) o)) some)
+    is = same-due due (record { query = q.num; moment = present e.session; runs = length (run_moments q.num.0 t.runs); hits = hits_kept e (Some (kept_query t q)) }) (kept ∙ ap (λ o. due_of e (option_map (kept_query t) o)) some)
         ∙ ap (λ hits. record { query = q.num; moment = present e.session; runs = length (run_moments q.num.0 t.runs); hits = hits }) (hits-is e t (Some q) stands);
   }
 
@@ -136,13 +139,21 @@ due-kept e t due q x stands kept has is =
     let bounds = query-bounds 1 t.queries q kept.queries has in
     rw stands.queries (placed (kept_query t) 1 (due.query.0 - 1) t.queries q x kept.queries has (omega (arith, is, bounds.0)))
 
+-- as many picks as hits
+rows-many : (num : ℕ) (query : QueryNum) (run : ℕ) (hits : List Hit) → length (pick_rows num query run hits) ≡ length hits
+rows-many num query run [] = refl
+rows-many num query run (hit ∷ hits) = ap suc (rows-many (num + 1) query run hits)
+
 -- a run more
 stands-placed : (e : Engine) (t : Tables) (q : QueryRow) (i : ℕ) (m : ℤ) (kept : KeptQuery) → StandsFor e t → IsKept truth_of start_of t → In q t.queries → q.num.0 ≡ 1 + i → (e.session.moment ≡ None → ⊥) → kept ≡ kept_query t q
-    → StandsFor (record e { queries = slice_set e.queries i (after_run m (map (entry_at (length (run_moments q.num.0 t.runs) + 1)) (hits_of q t m)) kept) }) (after t (run_change (truth_of q) (start_of q) t q.num m))
+    → StandsFor (record e { queries = slice_set e.queries i (after_run m (map (entry_at (length (run_moments q.num.0 t.runs) + 1)) (hits_of q t m)) kept); run_count = e.run_count + 1; pick_count = e.pick_count + length (hits_of q t m) }) (after t (run_change (truth_of q) (start_of q) t q.num m))
 stands-placed e t q i m kept stands is-kept has at there is = record {
   docs = stands.docs;
   queries = rw (stands.queries, is, sym (own-after t q m is-kept)) (placed-set (kept_query t) (kept_query (after t (run_change (truth_of q) (start_of q) t q.num m))) 1 i t.queries q is-kept.queries has at (λ other differs. other-after t q other m is-kept differs));
   notes = stands.notes;
+  run_count = ap (λ n. n + 1) stands.run_count ∙ sym (length-append t.runs (next_run t q.num m ∷ []));
+  pick_count = ap (λ n. n + length (hits_of q t m)) stands.pick_count ∙ ap (λ n. length t.picks + n) (sym (rows-many (length t.picks + 1) q.num (length t.runs + 1) (hits_of q t m)))
+      ∙ sym (length-append t.picks (pick_rows (length t.picks + 1) q.num (length t.runs + 1) (hits_of q t m)));
   bytes = stands.bytes;
   users = stands.users;
   owners = stands.owners;
@@ -150,32 +161,36 @@ stands-placed e t q i m kept stands is-kept has at there is = record {
   greatest = λ none. absurd (there none);
 }
 
-pub stands-run : (e : Engine) (t : Tables) (name : List ℕ) (due : Due) (e' : Engine) (t' : Tables) → StandsFor e t → IsKept truth_of start_of t → (d : IsDue e t name due) → (e.session.moment ≡ None → ⊥)
-    → ((x : KeptQuery) → e' ≡ record e { queries = slice_set e.queries (due.query.0 - 1) (after_run due.moment (map (entry_at (due.runs + 1)) due.hits) (slice_index_or e.queries (due.query.0 - 1) x)) })
-    → t' ≡ after t (RunDone (record { num = length t.runs + 1; query = due.query; moment = due.moment }) (pick_rows (length t.picks + 1) due.query (length t.runs + 1) due.hits))
-    → StandsFor e' t'
-stands-run e t name due e' t' stands kept d there is-e is-t =
+-- the rows of a run, where so many runs and picks were made before
+abbrev pub run_rows : ℕ → ℕ → Due → Change
+run_rows runs picks due = RunDone (record { num = runs + 1; query = due.query; moment = due.moment }) (pick_rows (picks + 1) due.query (runs + 1) due.hits)
+
+rows-are : (e : Engine) (t : Tables) (name : List ℕ) (due : Due) → StandsFor e t → (d : IsDue e t name due) → run_rows e.run_count e.pick_count due ≡ run_change (truth_of d.q) (start_of d.q) t d.q.num (present e.session)
+rows-are e t name due stands d = ap (λ n. run_rows n e.pick_count due) stands.run_count ∙ ap (λ n. run_rows (length t.runs) n due) stands.pick_count ∙ ap (run_rows (length t.runs) (length t.picks)) d.is
+
+pub stands-run : (e : Engine) (t : Tables) (name : List ℕ) (due : Due) (e' : Engine) → StandsFor e t → IsKept truth_of start_of t → (d : IsDue e t name due) → (e.session.moment ≡ None → ⊥)
+    → ((x : KeptQuery) → e' ≡ record e { queries = slice_set e.queries (due.query.0 - 1) (after_run due.moment (map (entry_at (due.runs + 1)) due.hits) (slice_index_or e.queries (due.query.0 - 1) x)); run_count = e.run_count + 1; pick_count = e.pick_count + length due.hits })
+    → StandsFor e' (after t (run_rows e.run_count e.pick_count due))
+stands-run e t name due e' stands kept d there is-e =
     let q = d.q in
     let num : due.query.0 ≡ q.num.0 = ap (λ x. x.query.0) d.is in
     let x : KeptQuery = kept_query t q in
     let i : ℕ = due.query.0 - 1 in
     let bounds = query-bounds 1 t.queries q kept.queries d.has in
-    let engine : e' ≡ record e { queries = slice_set e.queries i (after_run (present e.session) (map (entry_at (length (run_moments q.num.0 t.runs) + 1)) (hits_of q t (present e.session))) (slice_index_or e.queries i x)) } =
-    is-e x ∙ ap (λ y. record e { queries = slice_set e.queries i (after_run y.moment (map (entry_at (y.runs + 1)) y.hits) (slice_index_or e.queries i x)) }) d.is in
-    let tables : t' ≡ after t (run_change (truth_of q) (start_of q) t q.num (present e.session)) =
-    is-t ∙ ap (λ y. after t (RunDone (record { num = length t.runs + 1; query = y.query; moment = y.moment }) (pick_rows (length t.picks + 1) y.query (length t.runs + 1) y.hits))) d.is in
-    rw (engine, tables) (stands-placed e t q i (present e.session) (slice_index_or e.queries i x) stands kept d.has (omega (arith, num, bounds.0)) there (due-kept e t due q x stands kept d.has num))
+    let engine : e' ≡ record e { queries = slice_set e.queries i (after_run (present e.session) (map (entry_at (length (run_moments q.num.0 t.runs) + 1)) (hits_of q t (present e.session))) (slice_index_or e.queries i x)); run_count = e.run_count + 1; pick_count = e.pick_count + length (hits_of q t (present e.session)) } =
+    is-e x ∙ ap (λ y. record e { queries = slice_set e.queries i (after_run y.moment (map (entry_at (y.runs + 1)) y.hits) (slice_index_or e.queries i x)); run_count = e.run_count + 1; pick_count = e.pick_count + length y.hits }) d.is in
+    let rows : run_rows e.run_count e.pick_count due ≡ run_change (truth_of q) (start_of q) t q.num (present e.session) = rows-are e t name due stands d in
+    rw (engine, rows) (stands-placed e t q i (present e.session) (slice_index_or e.queries i x) stands kept d.has (omega (arith, num, bounds.0)) there (due-kept e t due q x stands kept d.has num))
 
 -- a run that isn't refused
-pub follows-run : (e : Engine) (t : Tables) (name : List ℕ) (due : Due) (t' : Tables) (s' : Session) → verdict (Run name) e.session t ≡ None → (d : IsDue e t name due)
-    → t' ≡ after t (RunDone (record { num = length t.runs + 1; query = due.query; moment = due.moment }) (pick_rows (length t.picks + 1) due.query (length t.runs + 1) due.hits)) → s' ≡ e.session
-    → Follows t e.session (Run name) (Ran (due.runs + 1) due.moment due.hits) t' s'
-follows-run e t name due t' s' none d is-t is-s =
-    let follows = follows-accepted t e.session (Run name) none in
+pub answers-run : (e : Engine) (t : Tables) (name : List ℕ) (due : Due) (s' : Session) → StandsFor e t → verdict (Run name) e.session t ≡ None → (d : IsDue e t name due) → s' ≡ e.session
+    → Answers t e.session (Run name) (Ran (due.runs + 1) due.moment due.hits) (Some (run_rows e.run_count e.pick_count due)) s'
+answers-run e t name due s' stands none d is-s =
+    let accepted = answers-accepted t e.session (Run name) none in
     let q = d.q in
     record {
-      reply_is = ap (λ due. Ran (due.runs + 1) due.moment due.hits) d.is ∙ sym (ap (λ o. (run_query o e.session t).reply) d.some) ∙ follows.reply_is;
-      tables_are = is-t ∙ ap (λ due. after t (RunDone (record { num = length t.runs + 1; query = due.query; moment = due.moment }) (pick_rows (length t.picks + 1) due.query (length t.runs + 1) due.hits))) d.is
-          ∙ sym (ap (λ o. tables_after (run_query o e.session t).change t) d.some) ∙ follows.tables_are;
-      session_is = is-s ∙ sym (ap (λ o. (run_query o e.session t).session) d.some) ∙ follows.session_is;
+      fine = none;
+      reply_is = ap (λ due. Ran (due.runs + 1) due.moment due.hits) d.is ∙ sym (ap (λ o. (run_query o e.session t).reply) d.some) ∙ accepted.reply_is;
+      change_is = ap Some (rows-are e t name due stands d) ∙ sym (ap (λ o. (run_query o e.session t).change) d.some) ∙ accepted.change_is;
+      session_is = is-s ∙ sym (ap (λ o. (run_query o e.session t).session) d.some) ∙ accepted.session_is;
     }

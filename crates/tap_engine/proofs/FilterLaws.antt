@@ -18,6 +18,7 @@ use Rattle.tap_base.specs.Names.{is_name}
 use Rattle.appraiser.proofs.Classes.{Named, IfRules, Classed, text-named, sorted-named}
 use Rattle.tap_rows.specs.declared.rows.FilterRow.{FilterRow}
 use Rattle.tap_rows.specs.declared.results.Listed.{Listed}
+use Rattle.tap_rows.specs.declared.change.Change.{Change}
 use Rattle.tap_rows.specs.declared.change.Change.TheVariants.{OneFilter}
 use Rattle.tap_rows.specs.Tables.{after}
 use Rattle.tap_rows.specs.Deliveries.{delivered}
@@ -41,16 +42,18 @@ use Rattle.tap_model.specs.Sessions.{user_of, present}
 use Rattle.tap_model.specs.Filters.{or_none, rules_in_text, last_filter, filter_rules, rules_of_user}
 use Rattle.tap_model.specs.Queries.{is_named, query_named, truth_of, start_of, box_in, lines_of}
 use Rattle.tap_model.specs.Verdicts.{first_refusal, verdict, missing, no_moment, no_user, long_filter, rule_refusal, rules_refusal, filter_fault, text_of, is_early}
-use Rattle.tap_model.specs.Replies.{next_filter, show_list, show_lines, tables_after}
+use Rattle.tap_model.specs.Replies.{next_filter, show_list, show_lines}
 use Rattle.tap_model.specs.Sound.{Sound}
-use Rattle.tap_model.specs.Stories.{Refuses, Follows}
-use Rattle.tap_model.proofs.AnswerLaws.{some-none, find-in, truth-of-second, follows-accepted}
+use Rattle.tap_model.specs.Stories.{Refuses}
+use Rattle.tap_model.proofs.AnswerLaws.{some-none, find-in, truth-of-second}
 use Rattle.tap_engine.specs.declared.engine.Engine.{Engine}
 use Rattle.tap_engine.specs.declared.kept_query.KeptQuery.{KeptQuery}
 use Rattle.tap_engine.specs.Keeping.{kept_query, with_owner}
 use Rattle.tap_engine.specs.Standing.{StandsFor, RefusedBy, look_refusal, kept_named}
 use Rattle.tap_engine.specs.FilterChecks.{filter_limits, filter_refusal}
 use Rattle.tap_engine.specs.Lists.{rows_kept, lines_kept}
+use Rattle.tap_engine.specs.Answering.{Answers}
+use Rattle.tap_engine.proofs.AnswerTurns.{answers-accepted}
 use Rattle.tap_engine.proofs.OwnerLaws.{users-more, owners-more}
 use Rattle.tap_engine.proofs.CheckLaws.{named-is, box-verdict, passes-late, late-first}
 
@@ -104,16 +107,17 @@ text-refused e block refusal moment user long limits by =
     ]
 
 -- a filter is added
-pub follows-filter : (t : Tables) (s : Session) (block : Block) (n count : ℕ) (row : FilterRow) (t' : Tables) (s' : Session) → verdict (Filter block) s t ≡ None → n ≡ length t.filters
-    → row ≡ record { num = n + 1; owner = user_of s; source = text_of block; arrival = present s } → count ≡ length (rules_in_text (text_of block)) → t' ≡ after t (OneFilter row) → s' ≡ s
-    → Follows t s (Filter block) (FilterAdded count) t' s'
-follows-filter t s block n count row t' s' none at is-row is-count is-t is-s =
-    let follows = follows-accepted t s (Filter block) none in
+pub answers-filter : (t : Tables) (s : Session) (block : Block) (n count : ℕ) (row : FilterRow) (change : Change) (s' : Session) → verdict (Filter block) s t ≡ None → n ≡ length t.filters
+    → row ≡ record { num = n + 1; owner = user_of s; source = text_of block; arrival = present s } → count ≡ length (rules_in_text (text_of block)) → change ≡ OneFilter row → s' ≡ s
+    → Answers t s (Filter block) (FilterAdded count) (Some change) s'
+answers-filter t s block n count row change s' none at is-row is-count is-change is-s =
+    let accepted = answers-accepted t s (Filter block) none in
     let same : row ≡ next_filter t s (text_of block) = is-row ∙ ap (λ n. record { num = n + 1; owner = user_of s; source = text_of block; arrival = present s }) at in
     record {
-      reply_is = ap FilterAdded is-count ∙ follows.reply_is;
-      tables_are = is-t ∙ ap (λ row. after t (OneFilter row)) same ∙ follows.tables_are;
-      session_is = is-s ∙ follows.session_is;
+      fine = none;
+      reply_is = ap FilterAdded is-count ∙ accepted.reply_is;
+      change_is = ap Some is-change ∙ ap (λ row. Some (OneFilter row)) same ∙ accepted.change_is;
+      session_is = is-s ∙ accepted.session_is;
     }
 
 -- a filter more
@@ -123,6 +127,8 @@ stands-filter e t row stands there = record {
   docs = stands.docs;
   queries = stands.queries;
   notes = stands.notes;
+  run_count = stands.run_count;
+  pick_count = stands.pick_count;
   filters = ap (λ fs. fs ++ row ∷ []) stands.filters;
   bytes = more (sum_by (λ doc. length doc.text) t.docs) (sum_by (λ note. length note.text) t.notes) (sum_by (λ query. length query.source) t.queries) (sum_by (λ filter. length filter.source) t.filters) _ _ (length row.source) stands.bytes (sum_by-append (λ filter. length filter.source) t.filters (row ∷ []));
   users = users-more e.owners names [] row.owner (stands.users ∙ ap different (sym none-after)) (stands.owners row.owner ∙ ap (λ texts. holds texts row.owner) (sym none-after)) ∙ ap different (sym all);
@@ -178,10 +184,10 @@ some-same : (xs ys : List Listed) → Some xs ≡ Some ys → xs ≡ ys
 some-same xs ys e = cc
 
 -- a list that isn't refused is of a query that there is
-pub follows-list : (e : Engine) (t : Tables) (name : List ℕ) (rows : List Listed) → StandsFor e t → Sound t e.session → look_refusal e name ≡ None → Some rows ≡ rows_kept e (kept_named e name) → Follows t e.session (ListOf name) (Listing name rows) t e.session
-follows-list e t name rows stands sound none is = go (query_named (user_of e.session) name t) refl where
-  shown : Option QueryRow → Follows t e.session (ListOf name) (show_list (query_named (user_of e.session) name t) name e.session t).reply (tables_after (show_list (query_named (user_of e.session) name t) name e.session t).change t) (show_list (query_named (user_of e.session) name t) name e.session t).session
-  shown o = follows-accepted t e.session (ListOf name) (sym (box-verdict e t name stands) ∙ none)
+pub answers-list : (e : Engine) (t : Tables) (name : List ℕ) (rows : List Listed) → StandsFor e t → Sound t e.session → look_refusal e name ≡ None → Some rows ≡ rows_kept e (kept_named e name) → Answers t e.session (ListOf name) (Listing name rows) None e.session
+answers-list e t name rows stands sound none is = go (query_named (user_of e.session) name t) refl where
+  accepted : Answers t e.session (ListOf name) (show_list (query_named (user_of e.session) name t) name e.session t).reply (show_list (query_named (user_of e.session) name t) name e.session t).change (show_list (query_named (user_of e.session) name t) name e.session t).session
+  accepted = answers-accepted t e.session (ListOf name) (sym (box-verdict e t name stands) ∙ none)
 
   rules : List Rule
   rules = rules_of_user (user_of e.session) t
@@ -189,10 +195,9 @@ follows-list e t name rows stands sound none is = go (query_named (user_of e.ses
   kept : Some rows ≡ rows_kept e (option_map (kept_query t) (query_named (user_of e.session) name t))
   kept = is ∙ ap (rows_kept e) (named-is e t name stands)
 
-  go : (o : Option QueryRow) → query_named (user_of e.session) name t ≡ o → Follows t e.session (ListOf name) (Listing name rows) t e.session
+  go : (o : Option QueryRow) → query_named (user_of e.session) name t ≡ o → Answers t e.session (ListOf name) (Listing name rows) None e.session
   go None none' = absurd (some-rows rows (kept ∙ ap (λ o. rows_kept e (option_map (kept_query t) o)) none'))
   go (Some q) some =
-      let follows = shown (Some q) in
       let by-kept : Some rows ≡ Some (listing_of (filter_rules (last_filter (user_of e.session) e.filters)) e.docs (delivered q.num.0 t)) = kept ∙ ap (λ o. rows_kept e (option_map (kept_query t) o)) some in
       let same : rows ≡ listing_of (filter_rules (last_filter (user_of e.session) e.filters)) e.docs (delivered q.num.0 t) = some-same rows _ by-kept in
       let box = box-is truth_of start_of truth-of-second t q t.queries (find-in (is_named (user_of e.session) name) t.queries q some) sound.kept.each in
@@ -200,9 +205,10 @@ follows-list e t name rows stands sound none is = go (query_named (user_of e.ses
       same ∙ ap (λ fs. listing_of (filter_rules (last_filter (user_of e.session) fs)) e.docs (delivered q.num.0 t)) stands.filters
       ∙ ap (λ docs. listing_of rules docs (delivered q.num.0 t)) stands.docs ∙ ap (listing_of rules t.docs) box.box in
       record {
-        reply_is = ap (Listing name) whole ∙ sym (ap (λ o. (show_list o name e.session t).reply) some) ∙ follows.reply_is;
-        tables_are = sym (ap (λ o. tables_after (show_list o name e.session t).change t) some) ∙ follows.tables_are;
-        session_is = sym (ap (λ o. (show_list o name e.session t).session) some) ∙ follows.session_is;
+        fine = accepted.fine;
+        reply_is = ap (Listing name) whole ∙ sym (ap (λ o. (show_list o name e.session t).reply) some) ∙ accepted.reply_is;
+        change_is = sym (ap (λ o. (show_list o name e.session t).change) some) ∙ accepted.change_is;
+        session_is = sym (ap (λ o. (show_list o name e.session t).session) some) ∙ accepted.session_is;
       }
 
 -- an explanation is refused as a box is
@@ -216,20 +222,21 @@ lines-same : (xs ys : List (List ℕ)) → Some xs ≡ Some ys → xs ≡ ys
 lines-same xs ys e = cc
 
 -- an explanation that isn't refused is of a query that there is
-pub follows-lines : (e : Engine) (t : Tables) (name : List ℕ) (lines : List (List ℕ)) → StandsFor e t → look_refusal e name ≡ None → Some lines ≡ lines_kept (kept_named e name) → Follows t e.session (Explain name) (Explained name lines) t e.session
-follows-lines e t name lines stands none is = go (query_named (user_of e.session) name t) refl where
-  follows : Follows t e.session (Explain name) (show_lines (query_named (user_of e.session) name t) name e.session t).reply (tables_after (show_lines (query_named (user_of e.session) name t) name e.session t).change t) (show_lines (query_named (user_of e.session) name t) name e.session t).session
-  follows = follows-accepted t e.session (Explain name) (sym (box-verdict e t name stands) ∙ none)
+pub answers-lines : (e : Engine) (t : Tables) (name : List ℕ) (lines : List (List ℕ)) → StandsFor e t → look_refusal e name ≡ None → Some lines ≡ lines_kept (kept_named e name) → Answers t e.session (Explain name) (Explained name lines) None e.session
+answers-lines e t name lines stands none is = go (query_named (user_of e.session) name t) refl where
+  accepted : Answers t e.session (Explain name) (show_lines (query_named (user_of e.session) name t) name e.session t).reply (show_lines (query_named (user_of e.session) name t) name e.session t).change (show_lines (query_named (user_of e.session) name t) name e.session t).session
+  accepted = answers-accepted t e.session (Explain name) (sym (box-verdict e t name stands) ∙ none)
 
   kept : Some lines ≡ lines_kept (option_map (kept_query t) (query_named (user_of e.session) name t))
   kept = is ∙ ap lines_kept (named-is e t name stands)
 
-  go : (o : Option QueryRow) → query_named (user_of e.session) name t ≡ o → Follows t e.session (Explain name) (Explained name lines) t e.session
+  go : (o : Option QueryRow) → query_named (user_of e.session) name t ≡ o → Answers t e.session (Explain name) (Explained name lines) None e.session
   go None none' = absurd (some-lines lines (kept ∙ ap (λ o. lines_kept (option_map (kept_query t) o)) none'))
   go (Some q) some =
       let same : lines ≡ lines_of q = lines-same lines (lines_of q) (kept ∙ ap (λ o. lines_kept (option_map (kept_query t) o)) some) in
       record {
-        reply_is = ap (Explained name) same ∙ sym (ap (λ o. (show_lines o name e.session t).reply) some) ∙ follows.reply_is;
-        tables_are = sym (ap (λ o. tables_after (show_lines o name e.session t).change t) some) ∙ follows.tables_are;
-        session_is = sym (ap (λ o. (show_lines o name e.session t).session) some) ∙ follows.session_is;
+        fine = accepted.fine;
+        reply_is = ap (Explained name) same ∙ sym (ap (λ o. (show_lines o name e.session t).reply) some) ∙ accepted.reply_is;
+        change_is = sym (ap (λ o. (show_lines o name e.session t).change) some) ∙ accepted.change_is;
+        session_is = sym (ap (λ o. (show_lines o name e.session t).session) some) ∙ accepted.session_is;
       }

@@ -4,6 +4,9 @@ mod TextLaws
 mod SlowLaws
 mod SettledLaws
 mod FreshLaws
+mod FitStubs
+mod AnswerTurns
+mod ReadyLaws
 mod CheckLaws
 mod StandingLaws
 mod ArrivalLaws
@@ -13,3 +16,7 @@ mod NoteLaws
 mod MboxLaws
 mod VariableLaws
 mod FilterLaws
+pub mod FormedLaws
+pub mod SumLaws
+pub mod DeliveryLaws
+pub mod StartedLaws

@@ -6,6 +6,8 @@ use Rattle.std.proofs.lemmas.List.{append-nil}
 use Rattle.std.proofs.lemmas.List.Sums.{sum_by-append, sum_by-cons}
 use Rattle.tap_rows.specs.declared.tables.Tables.{Tables}
 use Rattle.tap_rows.specs.declared.rows.Doc.{Doc}
+use Rattle.tap_base.specs.declared.numbers.DocNum.{DocNum}
+use Rattle.tap_rows.specs.declared.change.Change.{Change}
 use Rattle.tap_rows.specs.declared.change.Change.TheVariants.{Docs}
 use Rattle.tap_rows.specs.Tables.{after}
 use Rattle.mail_lines.specs.declared.block.Block.{Block}
@@ -13,16 +15,18 @@ use Rattle.mail_lines.specs.declared.block.Block.TheVariants.{Whole, Long}
 use Rattle.script_lang.specs.declared.refusal.Refusal.{Refusal}
 use Rattle.script_lang.specs.declared.refusal.Refusal.TheVariants.{NoMoment, Memory, Limit}
 use Rattle.script_lang.specs.declared.refusal.LimitName.TheVariants.{Message, Documents, Store}
-use Rattle.script_lang.specs.declared.command.Command.TheVariants.{Mbox}
-use Rattle.script_lang.specs.declared.reply.Reply.TheVariants.{Docs as DocsAdded}
+use Rattle.script_lang.specs.declared.command.Command.TheVariants.{Mail, Mbox}
+use Rattle.script_lang.specs.declared.reply.Reply.TheVariants.{OneDoc, Docs as DocsAdded}
 use Rattle.tap_model.specs.declared.limits.TheConstants.{DOCUMENT_LIMIT, STORE_LIMIT}
 use Rattle.tap_model.specs.declared.session.Session.{Session}
 use Rattle.tap_model.specs.Sessions.{present}
 use Rattle.tap_model.specs.Limits.{passes}
-use Rattle.tap_model.specs.Verdicts.{first_refusal, verdict, missing, unless, no_moment, messages_of, are_short, long_message, long_block, bytes_of, is_early}
+use Rattle.tap_model.specs.Verdicts.{first_refusal, verdict, missing, unless, no_moment, messages_of, are_short, long_message, long_block, bytes_of, text_of, is_early}
 use Rattle.tap_model.specs.Replies.{docs_from, next_docs, some_docs, tables_after}
-use Rattle.tap_model.specs.Stories.{Refuses, Follows}
-use Rattle.tap_model.proofs.AnswerLaws.{some-none, follows-accepted}
+use Rattle.tap_model.specs.Stories.{Refuses}
+use Rattle.tap_model.proofs.AnswerLaws.{some-none}
+use Rattle.tap_engine.specs.Answering.{Answers}
+use Rattle.tap_engine.proofs.AnswerTurns.{answers-accepted}
 use Rattle.tap_engine.specs.declared.engine.Engine.{Engine}
 use Rattle.tap_engine.specs.Standing.{StandsFor, mbox_bounds, mbox_refusal, RefusedBy}
 use Rattle.tap_engine.proofs.CheckLaws.{late-first, passes-late}
@@ -95,14 +99,15 @@ docs-bytes num moment (text ∷ texts) =
     ∙ ap (λ n. length text + n) (docs-bytes (num + 1) moment texts) ∙ sym (sum_by-cons length text texts)
 
 -- the messages are added
-pub follows-mbox : (t : Tables) (s : Session) (block : Block) (texts : List (List ℕ)) (count first : ℕ) (moment : ℤ) (t' : Tables) (s' : Session) → verdict (Mbox block) s t ≡ None → texts ≡ messages_of block → moment ≡ present s
-    → count ≡ length texts → first ≡ length t.docs + 1 → t' ≡ tables_after (some_docs (next_docs t moment texts)) t → s' ≡ s → Follows t s (Mbox block) (DocsAdded count first) t' s'
-follows-mbox t s block texts count first moment t' s' none is at is-count is-first is-t is-s =
-    let follows = follows-accepted t s (Mbox block) none in
+pub answers-mbox : (t : Tables) (s : Session) (block : Block) (texts : List (List ℕ)) (count first : ℕ) (n : ℕ) (moment : ℤ) (change : Option Change) (s' : Session) → verdict (Mbox block) s t ≡ None → texts ≡ messages_of block → moment ≡ present s
+    → count ≡ length texts → n ≡ length t.docs → first ≡ n + 1 → change ≡ some_docs (docs_from (n + 1) moment texts) → s' ≡ s → Answers t s (Mbox block) (DocsAdded count first) change s'
+answers-mbox t s block texts count first n moment change s' none is at is-count is-n is-first is-change is-s =
+    let accepted = answers-accepted t s (Mbox block) none in
     record {
-      reply_is = ap (λ n. DocsAdded n first) (is-count ∙ ap length is) ∙ ap (DocsAdded (length (messages_of block))) is-first ∙ follows.reply_is;
-      tables_are = is-t ∙ ap (λ m. tables_after (some_docs (next_docs t m texts)) t) at ∙ ap (λ texts. tables_after (some_docs (next_docs t (present s) texts)) t) is ∙ follows.tables_are;
-      session_is = is-s ∙ follows.session_is;
+      fine = none;
+      reply_is = ap (λ n. DocsAdded n first) (is-count ∙ ap length is) ∙ ap (DocsAdded (length (messages_of block))) (is-first ∙ ap (λ n. n + 1) is-n) ∙ accepted.reply_is;
+      change_is = is-change ∙ ap (λ m. some_docs (docs_from (n + 1) m texts)) at ∙ ap (λ texts. some_docs (docs_from (n + 1) (present s) texts)) is ∙ ap (λ n. some_docs (docs_from (n + 1) (present s) (messages_of block))) is-n ∙ accepted.change_is;
+      session_is = is-s ∙ accepted.session_is;
     }
 
 -- documents more
@@ -112,6 +117,8 @@ stands-docs e t moment texts stands there = rw (docs-change t (next_docs t momen
   docs = ap (λ docs. docs ++ next_docs t moment texts) stands.docs;
   queries = stands.queries;
   notes = stands.notes;
+  run_count = stands.run_count;
+  pick_count = stands.pick_count;
   bytes = more (sum_by (λ doc. length doc.text) t.docs) (sum_by (λ note. length note.text) t.notes) (sum_by (λ query. length query.source) t.queries) (sum_by (λ filter. length filter.source) t.filters) _ _ (bytes_of texts) stands.bytes
       (sum_by-append (λ doc. length doc.text) t.docs (next_docs t moment texts) ∙ ap (λ n. sum_by (λ doc. length doc.text) t.docs + n) (docs-bytes (length t.docs + 1) moment texts));
   users = stands.users;
@@ -121,3 +128,24 @@ stands-docs e t moment texts stands there = rw (docs-change t (next_docs t momen
 }) where
   more : (a b c d a' n k : ℕ) → n ≡ a + b + c + d → a' ≡ a + k → n + k ≡ a' + b + c + d
   more a b c d a' n k is e = omega (arith, is, e)
+
+-- the same, by how many documents are kept
+pub stands-more : (e : Engine) (t : Tables) (moment : ℤ) (texts : List (List ℕ)) → StandsFor e t → (e.session.moment ≡ None → ⊥)
+    → StandsFor (record e { docs = e.docs ++ docs_from (length e.docs + 1) moment texts; bytes = e.bytes + bytes_of texts }) (tables_after (some_docs (docs_from (length e.docs + 1) moment texts)) t)
+stands-more e t moment texts stands there =
+    subst (λ n. StandsFor (record e { docs = e.docs ++ docs_from (n + 1) moment texts; bytes = e.bytes + bytes_of texts }) (tables_after (some_docs (docs_from (n + 1) moment texts)) t)) (sym (ap length stands.docs)) (stands-docs e t moment texts stands there)
+
+-- a message is refused or added
+pub answers-mail : (t : Tables) (s : Session) (block : Block) (text : List ℕ) (n : ℕ) (num : DocNum) (moment : ℤ) (change : Change) (s' : Session) → verdict (Mail block) s t ≡ None → text ≡ text_of block → moment ≡ present s
+    → n ≡ length t.docs → num.0 ≡ n + 1 → change ≡ Docs (docs_from (n + 1) moment (text ∷ [])) → s' ≡ s → Answers t s (Mail block) (OneDoc num) (Some change) s'
+answers-mail t s block text n num moment change s' none is at is-n is-num is-change is-s =
+    let accepted = answers-accepted t s (Mail block) none in
+    record {
+      fine = none;
+      reply_is = ap OneDoc (doc-num num (length t.docs + 1) (is-num ∙ ap (λ n. n + 1) is-n)) ∙ accepted.reply_is;
+      change_is = ap Some is-change ∙ ap (λ m. Some (Docs (docs_from (n + 1) m (text ∷ [])))) at ∙ ap (λ text. Some (Docs (docs_from (n + 1) (present s) (text ∷ [])))) is ∙ ap (λ n. Some (Docs (docs_from (n + 1) (present s) (text_of block ∷ [])))) is-n ∙ accepted.change_is;
+      session_is = is-s ∙ accepted.session_is;
+    }
+  where
+    doc-num : (num : DocNum) (n : ℕ) → num.0 ≡ n → num ≡ record { 0 = n }
+    doc-num num n e = ap (λ n. record { 0 = n }) e

@@ -1,11 +1,11 @@
 -- Notes: why one is refused, and what the engine keeps after one.
-use Rattle.std.proofs.Common.{◌≡◌, ◌∙◌, sym, refl, ap, subst, arith, ℕ, ℤ, List, [], ◌∷◌, ◌+◌, length, Option, Some, None}
+use Rattle.std.proofs.Common.{◌≡◌, ◌∙◌, sym, refl, ap, subst, arith, ℕ, ℤ, List, [], ◌∷◌, ◌++◌, ◌+◌, length, Option, Some, None}
 use Rattle.std.specs.Prelude.{sum_by}
 use Rattle.std.specs.Option.{option_or}
-use Rattle.std.proofs.lemmas.List.{length-append}
 use Rattle.std.proofs.lemmas.List.Sums.{sum_by-append}
 use Rattle.tap_rows.specs.declared.tables.Tables.{Tables}
 use Rattle.tap_rows.specs.declared.rows.Note.{Note}
+use Rattle.tap_rows.specs.declared.change.Change.{Change}
 use Rattle.tap_rows.specs.declared.change.Change.TheVariants.{OneNote}
 use Rattle.tap_rows.specs.Tables.{after}
 use Rattle.script_lang.specs.declared.refusal.Refusal.{Refusal}
@@ -21,8 +21,10 @@ use Rattle.tap_model.specs.Sessions.{user_of, present}
 use Rattle.tap_model.specs.Verdicts.{first_refusal, verdict, missing, no_moment, no_user, bad_name, no_doc, long_note}
 use Rattle.tap_model.specs.Replies.{next_note}
 use Rattle.tap_engine.specs.Standing.{StandsFor, note_bounds, note_refusal, RefusedBy}
-use Rattle.tap_model.specs.Stories.{Refuses, Follows}
-use Rattle.tap_model.proofs.AnswerLaws.{some-none, follows-accepted}
+use Rattle.tap_model.specs.Stories.{Refuses}
+use Rattle.tap_model.proofs.AnswerLaws.{some-none}
+use Rattle.tap_engine.specs.Answering.{Answers}
+use Rattle.tap_engine.proofs.AnswerTurns.{answers-accepted}
 
 four : (a b c : Option Refusal) (rest : List (Option Refusal)) → option_or a (option_or b (option_or c (first_refusal rest))) ≡ first_refusal (a ∷ b ∷ c ∷ rest)
 four (Some x) b c rest = refl
@@ -34,7 +36,7 @@ four None None None rest = refl
 pub note-verdict : (e : Engine) (t : Tables) (doc : ℕ) (kind : List ℕ) (value : ℤ) (text : List ℕ) → StandsFor e t → note_refusal e doc kind text ≡ verdict (AddNote doc kind value text) e.session t
 unfolding note_bounds
 note-verdict e t doc kind value text stands =
-    four (no_moment e.session) (no_user e.session) (bad_name kind) (no_doc doc (length e.docs) ∷ long_note (length text) ∷ passes Notes NOTE_LIMIT e.notes 1 ∷ passes Store STORE_LIMIT e.bytes (length text) ∷ [])
+    four (no_moment e.session) (no_user e.session) (bad_name kind) (no_doc doc (length e.docs) ∷ long_note (length text) ∷ passes Notes NOTE_LIMIT (length e.notes) 1 ∷ passes Store STORE_LIMIT e.bytes (length text) ∷ [])
     ∙ rw (stands.docs, stands.notes, stands.bytes) refl
 
 pub note-refuses : (e : Engine) (t : Tables) (doc : ℕ) (kind : List ℕ) (value : ℤ) (text : List ℕ) (refusal : Refusal) → StandsFor e t → RefusedBy (note_refusal e doc kind text) refusal → Refuses refusal (AddNote doc kind value text) e.session t
@@ -45,24 +47,27 @@ pub note-moment : (e : Engine) (doc : ℕ) (kind text : List ℕ) → note_refus
 note-moment e doc kind text none no_m = some-none NoMoment (sym (ap (λ m. option_or (missing NoMoment m) (option_or (no_user e.session) (option_or (bad_name kind) (note_bounds e doc (length text))))) no_m) ∙ none)
 
 -- a note is added
-pub follows-note : (t : Tables) (s : Session) (doc : ℕ) (kind : List ℕ) (value : ℤ) (text : List ℕ) (n : ℕ) (note : Note) (t' : Tables) (s' : Session) → verdict (AddNote doc kind value text) s t ≡ None → n ≡ length t.notes
-    → note ≡ record { num = record { 0 = n + 1 }; doc = record { 0 = doc }; author = user_of s; kind = kind; value = value; arrival = present s; text = text } → t' ≡ after t (OneNote note) → s' ≡ s
-    → Follows t s (AddNote doc kind value text) (NoteAdded note.num) t' s'
-follows-note t s doc kind value text n note t' s' none count is-note is-t is-s =
-    let follows = follows-accepted t s (AddNote doc kind value text) none in
+pub answers-note : (t : Tables) (s : Session) (doc : ℕ) (kind : List ℕ) (value : ℤ) (text : List ℕ) (n : ℕ) (note : Note) (change : Change) (s' : Session) → verdict (AddNote doc kind value text) s t ≡ None → n ≡ length t.notes
+    → note ≡ record { num = record { 0 = n + 1 }; doc = record { 0 = doc }; author = user_of s; kind = kind; value = value; arrival = present s; text = text } → change ≡ OneNote note → s' ≡ s
+    → Answers t s (AddNote doc kind value text) (NoteAdded note.num) (Some change) s'
+answers-note t s doc kind value text n note change s' none count is-note is-change is-s =
+    let accepted = answers-accepted t s (AddNote doc kind value text) none in
     let same : note ≡ next_note t s doc kind value text = is-note ∙ ap (λ n. record { num = record { 0 = n + 1 }; doc = record { 0 = doc }; author = user_of s; kind = kind; value = value; arrival = present s; text = text }) count in
     record {
-      reply_is = ap (λ note. NoteAdded note.num) same ∙ follows.reply_is;
-      tables_are = is-t ∙ ap (λ note. after t (OneNote note)) same ∙ follows.tables_are;
-      session_is = is-s ∙ follows.session_is;
+      fine = none;
+      reply_is = ap (λ note. NoteAdded note.num) same ∙ accepted.reply_is;
+      change_is = ap Some is-change ∙ ap (λ note. Some (OneNote note)) same ∙ accepted.change_is;
+      session_is = is-s ∙ accepted.session_is;
     }
 
 -- a note more
-pub stands-note : (e : Engine) (t : Tables) (note : Note) → StandsFor e t → (e.session.moment ≡ None → ⊥) → StandsFor (record e { notes = e.notes + 1; bytes = e.bytes + length note.text }) (after t (OneNote note))
+pub stands-note : (e : Engine) (t : Tables) (note : Note) → StandsFor e t → (e.session.moment ≡ None → ⊥) → StandsFor (record e { notes = e.notes ++ note ∷ []; bytes = e.bytes + length note.text }) (after t (OneNote note))
 stands-note e t note stands there = record {
   docs = stands.docs;
   queries = stands.queries;
-  notes = ap (λ n. n + 1) stands.notes ∙ sym (length-append t.notes (note ∷ []));
+  notes = ap (λ notes. notes ++ note ∷ []) stands.notes;
+  run_count = stands.run_count;
+  pick_count = stands.pick_count;
   bytes = more (sum_by (λ doc. length doc.text) t.docs) (sum_by (λ note. length note.text) t.notes) (sum_by (λ query. length query.source) t.queries) (sum_by (λ filter. length filter.source) t.filters) _ _ (length note.text) stands.bytes (sum_by-append (λ note. length note.text) t.notes (note ∷ []));
   users = stands.users;
   owners = stands.owners;

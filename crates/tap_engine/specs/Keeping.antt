@@ -1,5 +1,5 @@
 -- What is kept of queries and their owners.
-use Rattle.std.specs.Prelude.{ℕ, ℤ, ◌+◌, List, [], ◌∷◌, ◌++◌, length, filter, find, Option, if◌then◌else◌}
+use Rattle.std.specs.Prelude.{ℕ, zero, suc, ℤ, ◌+◌, List, [], ◌∷◌, ◌++◌, length, take, filter, find, Option, if◌then◌else◌}
 use Rattle.std.specs.Str.{bytes_eq}
 use Rattle.tap_base.specs.Words.{holds}
 use Rattle.tap_rows.specs.declared.tables.Tables.{Tables}
@@ -34,6 +34,16 @@ new_kept query = record { row = query; covered = start_of query; runs = 0; entri
 -- a query after one more run at this moment, which delivered these
 abbrev pub after_run : ℤ → List Entry → KeptQuery → KeptQuery
 after_run moment entries kept = record { row = kept.row; covered = moment; runs = kept.runs + 1; entries = kept.entries ++ entries }
+
+-- a query as it was before its last run: the second that it had covered up to, how many runs it had, and how many entries
+abbrev pub before_run : ℤ → ℕ → ℕ → KeptQuery → KeptQuery
+before_run second runs entries kept = record { row = kept.row; covered = second; runs = runs; entries = take entries kept.entries }
+
+-- the queries, where that at a place is as it was before its last run
+abbrev pub without_run : ℕ → ℤ → ℕ → ℕ → List KeptQuery → List KeptQuery
+without_run place second runs entries [] = []
+without_run zero second runs entries (kept ∷ queries) = before_run second runs entries kept ∷ queries
+without_run (suc place) second runs entries (kept ∷ queries) = kept ∷ without_run place second runs entries queries
 
 -- the owners, with one that may be among them
 abbrev pub with_owner : List (List ℕ) → List ℕ → List (List ℕ)

@@ -1,5 +1,9 @@
 pub mod Fresh
+pub mod Next
 pub mod Keeping
 pub mod Standing
+pub mod Ready
+pub mod Answering
 pub mod FilterChecks
 pub mod Lists
+pub mod Starting

@@ -3,7 +3,6 @@ use Rattle.std.specs.Prelude.{ℕ, ◌≡◌, ◌⊎◌, List, [], ◌∷◌, le
 use Rattle.std.specs.Option.{option_or}
 use Rattle.tap_base.specs.Words.{holds}
 use Rattle.tap_rows.specs.declared.tables.Tables.{Tables}
-use Rattle.tap_rows.specs.declared.rows.Note.{Note}
 use Rattle.tap_rows.specs.declared.results.Hit.{Hit}
 use Rattle.tap_rows.specs.declared.results.Entry.{Entry}
 use Rattle.mail_lines.specs.declared.block.Block.{Block}
@@ -21,13 +20,16 @@ use Rattle.tap_model.specs.Verdicts.{missing, unless, first_refusal, no_moment, 
 use Rattle.restart_core.specs.Starts.{condition_text, stored_source}
 use Rattle.tap_engine.specs.Keeping.{kept_query, named_in, owned_in}
 
--- the engine stands for the tables: it keeps their documents, queries and filters, how many bytes they store, and who owns a
--- query or a filter; before the session has a moment it also keeps the greatest moment of the tables
+-- the engine stands for the tables: it keeps their documents, notes, queries and filters, how many runs and picks there are,
+-- how many bytes they store, and who owns a query or a filter; before the session has a moment it also keeps the greatest
+-- moment of the tables
 pub record StandsFor (engine : Engine) (tables : Tables) : Type 0 where
   pub docs : engine.docs ≡ tables.docs
   pub queries : engine.queries ≡ map (kept_query tables) tables.queries
-  pub notes : engine.notes ≡ length tables.notes
+  pub notes : engine.notes ≡ tables.notes
   pub filters : engine.filters ≡ tables.filters
+  pub run_count : engine.run_count ≡ length tables.runs
+  pub pick_count : engine.pick_count ≡ length tables.picks
   pub bytes : engine.bytes ≡ stored_bytes tables
   pub users : length engine.owners ≡ different (owners_in tables)
   pub owners : (user : List ℕ) → holds engine.owners user ≡ holds (owners_in tables) user
@@ -71,7 +73,7 @@ mbox_refusal engine block = option_or (no_moment engine.session) (mbox_bounds en
 -- the bounds of a note on this document and of so many bytes, by what is kept
 unfoldable pub note_bounds : Engine → ℕ → ℕ → Option Refusal
 note_bounds engine doc len =
-    first_refusal (no_doc doc (length engine.docs) ∷ long_note len ∷ passes Notes NOTE_LIMIT engine.notes 1 ∷ passes Store STORE_LIMIT engine.bytes len ∷ [])
+    first_refusal (no_doc doc (length engine.docs) ∷ long_note len ∷ passes Notes NOTE_LIMIT (length engine.notes) 1 ∷ passes Store STORE_LIMIT engine.bytes len ∷ [])
 
 -- why a note is refused, by what is kept
 abbrev pub note_refusal : Engine → ℕ → List ℕ → List ℕ → Option Refusal
@@ -82,10 +84,10 @@ note_refusal engine doc kind text =
 unfoldable pub look_refusal : Engine → List ℕ → Option Refusal
 look_refusal engine name = option_or (no_user engine.session) (option_or (bad_name name) (missing NoQuery (kept_named engine name)))
 
--- what a run of this query delivers, by what is kept and these notes
-abbrev pub hits_kept : Engine → List Note → Option KeptQuery → List Hit
-hits_kept engine notes None = []
-hits_kept engine notes (Some kept) = fresh_of kept.row engine.docs notes kept.covered (present engine.session) engine.docs
+-- what a run of this query delivers, by what is kept
+abbrev pub hits_kept : Engine → Option KeptQuery → List Hit
+hits_kept engine None = []
+hits_kept engine (Some kept) = fresh_of kept.row engine.docs engine.notes kept.covered (present engine.session) engine.docs
 
 -- why a run of this query is refused for the seconds that it would try, by what is kept
 abbrev pub wide_kept : Engine → Option KeptQuery → Option Refusal
@@ -98,18 +100,18 @@ entries_kept None = None
 entries_kept (Some kept) = Some kept.entries
 
 -- what a run of this query is about to deliver
-abbrev pub due_of : Engine → List Note → Option KeptQuery → Option Due
-due_of engine notes None = None
-due_of engine notes (Some kept) = Some (record { query = kept.row.num; moment = present engine.session; runs = kept.runs; hits = hits_kept engine notes (Some kept) })
+abbrev pub due_of : Engine → Option KeptQuery → Option Due
+due_of engine None = None
+due_of engine (Some kept) = Some (record { query = kept.row.num; moment = present engine.session; runs = kept.runs; hits = hits_kept engine (Some kept) })
 
--- why a run is refused, by what is kept, by these notes and by how many runs and deliveries there are
-abbrev pub run_refusal : Engine → List Note → ℕ → ℕ → List ℕ → Option Refusal
-run_refusal engine notes runs picks name =
+-- why a run is refused, by what is kept
+abbrev pub run_refusal : Engine → List ℕ → Option Refusal
+run_refusal engine name =
     option_or (no_moment engine.session)
     (option_or (look_refusal engine name)
     (option_or (wide_kept engine (kept_named engine name))
-    (option_or (passes Runs RUN_LIMIT runs 1)
-    (passes Picks PICK_LIMIT picks (length (hits_kept engine notes (kept_named engine name)))))))
+    (option_or (passes Runs RUN_LIMIT engine.run_count 1)
+    (passes Picks PICK_LIMIT engine.pick_count (length (hits_kept engine (kept_named engine name)))))))
 
 -- refused so, or for want of memory where it isn't refused for want of a moment, of a user or of a name
 abbrev pub RefusedBy : Option Refusal → Refusal → Type 0

@@ -1,9 +1,11 @@
-ghost use Rattle.std.specs.Prelude.{◌≡◌, true, int_lt, IfOk, IfErr};
+ghost use Rattle.std.specs.Prelude.{◌≡◌, None, true, int_lt, IfOk, IfErr};
 ghost use Rattle.std.specs.Result.{result_err};
+ghost use Rattle.tap_rows.specs.declared.tables.Tables.{Tables};
 ghost use Rattle.script_lang.specs.declared.command.Command.{Command};
 ghost use Rattle.script_lang.specs.declared.refusal.Refusal.{Refusal};
 ghost use Rattle.script_lang.specs.Replies.{HasShortNames, is_accepted};
-ghost use Rattle.tap_model.specs.Stories.{Follows, Refuses};
+ghost use Rattle.tap_model.specs.Sound.{Sound};
+ghost use Rattle.tap_model.specs.Stories.{Refuses};
 ghost use Rattle.tap_model.specs.Verdicts.{unless};
 
 use crate::engine::Engine;
@@ -12,7 +14,6 @@ use crate::text::read_text;
 use script_lang::{Refusal, Reply};
 use snapshot_meaning::gives;
 use std::alloc::Global;
-use tap_rows::Tables;
 
 // Refuses a second that isn't over.
 fn refuse_open(second: i64, now: i64) -> Result<(), Refusal>
@@ -27,18 +28,17 @@ fn refuse_open(second: i64, now: i64) -> Result<(), Refusal>
 
 impl Engine {
     ghost use Rattle.tap_engine.specs.Standing.{StandsFor};
+    ghost use Rattle.tap_engine.specs.Answering.{Answers};
 
     // Lists the documents that a condition gives at a second that is over.
     pub(crate) fn ask(
         &self,
         alloc: Global,
-        tables: &Tables,
         moment: &[u8],
         source: &[u8],
     ) -> Result<Reply, Refusal>
-        requires { StandsFor self.now tables.now }
-        ensures ok { IfOk result (λ reply. Follows tables.now self.now.session (Command.Ask moment.now source.now) reply tables.now self.now.session) }
-        ensures refusal { IfErr result (λ refusal. Refuses refusal (Command.Ask moment.now source.now) self.now.session tables.now) }
+        ensures ok { IfOk result (λ reply. (t : Tables) → StandsFor self.now t → Sound t self.now.session → Answers t self.now.session (Command.Ask moment.now source.now) reply None self.now.session) }
+        ensures refusal { IfErr result (λ refusal. (t : Tables) → StandsFor self.now t → Refuses refusal (Command.Ask moment.now source.now) self.now.session t) }
         ensures short { IfOk result (λ reply. HasShortNames reply) }
         ensures accepted { IfOk result (λ reply. is_accepted reply ≡ true) }
     {
@@ -54,7 +54,7 @@ impl Engine {
             alloc,
             &cond,
             self.docs.as_slice(),
-            tables.notes.as_slice(),
+            self.notes.as_slice(),
             second,
         )?;
         Ok(Reply::Asked {

@@ -2,14 +2,15 @@ ghost use Rattle.std.specs.Prelude.{◌≡◌, None, Some, true, OnOk, IfOk, IfE
 ghost use Rattle.script_lang.specs.declared.command.Command.{Command};
 ghost use Rattle.script_lang.specs.Replies.{HasShortNames, is_accepted};
 ghost use Rattle.tap_base.specs.Names.{is_name};
+ghost use Rattle.tap_rows.specs.declared.tables.Tables.{Tables};
 ghost use Rattle.tap_model.specs.Sound.{Sound};
-ghost use Rattle.tap_model.specs.Stories.{Follows, Refuses};
+ghost use Rattle.tap_model.specs.Stories.{Refuses};
 
 use crate::engine::Engine;
 use script_lang::{Refusal, Reply};
 use std::alloc::Global;
 use tap_base::{Memory, Rows, Text};
-use tap_rows::{Entry, Tables};
+use tap_rows::Entry;
 
 // These entries once more.
 fn copy_entries(alloc: Global, entries: &[Entry]) -> Result<Rows<Entry>, Memory>
@@ -20,6 +21,7 @@ fn copy_entries(alloc: Global, entries: &[Entry]) -> Result<Rows<Entry>, Memory>
 
 impl Engine {
     ghost use Rattle.tap_engine.specs.Standing.{StandsFor, look_refusal, kept_named, entries_kept, RefusedBy};
+    ghost use Rattle.tap_engine.specs.Answering.{Answers};
 
     // The deliveries of the user's query of this name.
     fn entries_named(&self, alloc: Global, name: &[u8]) -> Result<Rows<Entry>, Refusal>
@@ -33,16 +35,9 @@ impl Engine {
     }
 
     // Lists the deliveries of the user's query of this name.
-    pub(crate) fn show_box(
-        &self,
-        alloc: Global,
-        tables: &Tables,
-        name: Text,
-    ) -> Result<Reply, Refusal>
-        requires stands { StandsFor self.now tables.now }
-        requires sound { Sound tables.now self.now.session }
-        ensures ok { IfOk result (λ reply. Follows tables.now self.now.session (Command.BoxOf name) reply tables.now self.now.session) }
-        ensures refusal { IfErr result (λ refusal. Refuses refusal (Command.BoxOf name) self.now.session tables.now) }
+    pub(crate) fn show_box(&self, alloc: Global, name: Text) -> Result<Reply, Refusal>
+        ensures ok { IfOk result (λ reply. (t : Tables) → StandsFor self.now t → Sound t self.now.session → Answers t self.now.session (Command.BoxOf name) reply None self.now.session) }
+        ensures refusal { IfErr result (λ refusal. (t : Tables) → StandsFor self.now t → Refuses refusal (Command.BoxOf name) self.now.session t) }
         ensures short { IfOk result (λ reply. HasShortNames reply) }
         ensures accepted { IfOk result (λ reply. is_accepted reply ≡ true) }
     {

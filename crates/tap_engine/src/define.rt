@@ -1,8 +1,8 @@
-ghost use Rattle.std.specs.Prelude.{◌≡◌, ◌<◌, ◌≤◌, ◌+◌, ◌^◌, ◌++◌, [], ◌∷◌, length, Some, None, true, is_none, if◌then◌else◌, OnOk, OnErr, IfOk, IfErr};
+ghost use Rattle.std.specs.Prelude.{◌≡◌, ◌<◌, ◌≤◌, ◌+◌, ◌^◌, ◌++◌, [], ◌∷◌, length, Some, None, true, is_none, if◌then◌else◌, OnOk, OnErr, IfOk, IfErr, OnSome};
 ghost use Rattle.std.specs.Result.{result_err};
 ghost use Rattle.tap_base.specs.Words.{holds};
-ghost use Rattle.tap_rows.specs.declared.change.Change.{Change};
-ghost use Rattle.tap_rows.specs.Tables.{after};
+ghost use Rattle.tap_rows.specs.declared.change.Change.{Change as RowChange};
+ghost use Rattle.tap_rows.specs.declared.tables.Tables.{Tables};
 ghost use Rattle.script_lang.specs.declared.command.Command.{Command};
 ghost use Rattle.script_lang.specs.Replies.{HasShortNames, is_accepted};
 ghost use Rattle.tap_model.specs.Verdicts.{unless, first_refusal};
@@ -17,20 +17,23 @@ ghost use Rattle.tap_engine.specs.Keeping.{new_kept, with_owner, named_in};
 ghost use Rattle.tap_model.specs.Sessions.{present, user_of};
 ghost use Rattle.tap_model.specs.Sound.{Sound, IsMoment};
 ghost use Rattle.tap_base.specs.Names.{is_name};
-ghost use Rattle.tap_model.specs.Stories.{Follows, Refuses};
+ghost use Rattle.tap_model.specs.Replies.{tables_after};
+ghost use Rattle.tap_model.specs.Stories.{Refuses};
 
 use crate::engine::Engine;
 use crate::kept_queries::KeptQueries;
 use crate::kept_query::KeptQuery;
 use crate::kept_row::KeptRow;
 use crate::limits::refuse_more;
+use crate::prepared::Prepared;
 use crate::sessions::refuse_name;
 use crate::text::keep_source;
+use crate::undo::Undo;
 use script_lang::{LimitName, Refusal, Reply};
 use std::alloc::Global;
-use tap_base::{Memory, QueryNum, Rows, Text, Texts};
+use tap_base::{Copied, Memory, QueryNum, Rows, Text, Texts};
 use tap_model::{QUERY_LIMIT, STORE_LIMIT, USER_LIMIT, USER_QUERY_LIMIT};
-use tap_rows::{Change, QueryRow, Tables};
+use tap_rows::{Change, QueryRow};
 use tql_core::Cond;
 
 // Adds an owner that may be there.
@@ -45,97 +48,50 @@ pub(crate) fn push_owner(owners: &mut Texts, owner: Text) -> Result<(), Memory>
     }
 }
 
-// Adds a query to the tables and to those that are kept, and its owner.
+// Adds a query and its owner to those that are kept.
 fn push_query(
     queries: &mut KeptQueries,
     owners: &mut Texts,
-    tables: &mut Tables,
     kept: KeptQuery,
     owner: Text,
-    row: QueryRow,
 ) -> Result<(), Memory>
     ensures queries { OnOk result (queries.new ≡ queries.old ++ kept ∷ []) }
     ensures owners { OnOk result (owners.new ≡ with_owner owners.old owner) }
-    ensures tables { OnOk result (tables.new ≡ after tables.old (Change.OneQuery row)) }
-    ensures err { OnErr result ((queries.new ≡ queries.old) × ((owners.new ≡ owners.old) × (tables.new ≡ tables.old))) }
+    ensures err { OnErr result ((queries.new ≡ queries.old) × (owners.new ≡ owners.old)) }
 {
     let len = owners.len();
     push_owner(owners, owner)?;
-    let done = push_kept(queries, tables, kept, row);
+    let done = queries.push(kept);
     if done.is_err() {
         owners.cut(len);
     }
     done
 }
 
-// Adds a query to the tables and to those that are kept.
-fn push_kept(
-    queries: &mut KeptQueries,
-    tables: &mut Tables,
-    kept: KeptQuery,
-    row: QueryRow,
-) -> Result<(), Memory>
-    ensures queries { OnOk result (queries.new ≡ queries.old ++ kept ∷ []) }
-    ensures tables { OnOk result (tables.new ≡ after tables.old (Change.OneQuery row)) }
-    ensures err { OnErr result ((queries.new ≡ queries.old) × (tables.new ≡ tables.old)) }
-{
-    let len = queries.len();
-    queries.push(kept)?;
-    let done = tables.apply(Change::OneQuery(row));
-    if done.is_err() {
-        queries.cut(len);
-    }
-    done
-}
-
-// The same row once more.
-fn copy_query(row: &QueryRow) -> Result<QueryRow, Memory>
-    ensures { IfOk result (λ copy. copy ≡ row.now) }
-{
-    Ok(QueryRow {
-        num: row.num,
-        owner: row.owner.copy()?,
-        name: row.name.copy()?,
-        source: row.source.copy()?,
-        arrival: row.arrival,
-    })
-}
-
 impl Engine {
     ghost use Rattle.tap_engine.specs.Standing.{StandsFor, name_refusal, query_limits, define_refusal, RefusedBy};
+    ghost use Rattle.tap_engine.specs.Ready.{IsReady};
+    ghost use Rattle.tap_engine.specs.Answering.{Answers, TakesBack};
 
-    // Adds a query.
-    fn add_query(
-        &mut self,
-        alloc: Global,
-        tables: &mut Tables,
-        row: QueryRow,
-        cond: Cond,
-    ) -> Result<(), Memory>
+    // Adds a query, and gives it as a change.
+    fn add_query(&mut self, alloc: Global, row: QueryRow, cond: Cond) -> Result<Change, Memory>
         requires cond { condition cond ≡ condition_by row }
         requires few { exists_in (condition cond) ≤ 15 }
         requires scoped { IsQuery (condition cond) }
         requires bounded { are_bounded (condition cond) ≡ true }
         requires arrival { IsMoment row.arrival }
         requires bytes { self.old.bytes + length row.source < 2 ^ 64 }
-        ensures tables { OnOk result (tables.new ≡ after tables.old (Change.OneQuery row)) }
+        ensures change { IfOk result (λ change. change ≡ RowChange.OneQuery row) }
         ensures engine { OnOk result (self.new ≡ record self.old { queries = self.old.queries ++ new_kept row ∷ []; owners = with_owner self.old.owners row.owner; bytes = self.old.bytes + length row.source }) }
-        ensures err { OnErr result ((self.new ≡ self.old) × (tables.new ≡ tables.old)) }
+        ensures err { OnErr result (self.new ≡ self.old) }
     {
         let len = row.source.len();
         let owner = row.owner.copy()?;
-        let kept_row = KeptRow::new(alloc, copy_query(&row)?, cond)?;
+        let kept_row = KeptRow::new(alloc, row.copied()?, cond)?;
         let kept = KeptQuery::new(kept_row, Rows::new(alloc));
-        push_query(
-            &mut self.queries,
-            &mut self.owners,
-            tables,
-            kept,
-            owner,
-            row,
-        )?;
+        push_query(&mut self.queries, &mut self.owners, kept, owner)?;
         self.bytes += len;
-        Ok(())
+        Ok(Change::OneQuery(row))
     }
 
     // Refuses a name that the user has used.
@@ -229,22 +185,31 @@ impl Engine {
     pub(crate) fn define(
         &mut self,
         alloc: Global,
-        tables: &mut Tables,
         name: Text,
         source: Text,
-    ) -> Result<Reply, Refusal>
-        requires stands { StandsFor self.old tables.old }
-        requires sound { Sound tables.old self.old.session }
-        ensures ok { IfOk result (λ reply. Follows tables.old self.old.session (Command.Define name source) reply tables.new self.new.session) }
-        ensures stands { OnOk result (StandsFor self.new tables.new) }
-        ensures refusal { IfErr result (λ refusal. Refuses refusal (Command.Define name source) self.old.session tables.old) }
-        ensures err { OnErr result ((self.new ≡ self.old) × (tables.new ≡ tables.old)) }
-        ensures short { IfOk result (λ reply. HasShortNames reply) }
-        ensures accepted { IfOk result (λ reply. is_accepted reply ≡ true) }
+    ) -> Result<Prepared, Refusal>
+        requires ready { IsReady self.old }
+        ensures ok { IfOk result (λ made. (t : Tables) → StandsFor self.old t → Sound t self.old.session → Answers t self.old.session (Command.Define name source) made.reply made.change self.new.session) }
+        ensures stands { IfOk result (λ made. (t : Tables) → StandsFor self.old t → Sound t self.old.session → StandsFor self.new (tables_after made.change t)) }
+        ensures refusal { IfErr result (λ refusal. (t : Tables) → StandsFor self.old t → Refuses refusal (Command.Define name source) self.old.session t) }
+        ensures err { OnErr result (self.new ≡ self.old) }
+        ensures undo { IfOk result (λ made. OnSome made.change (TakesBack made.undo self.new self.old)) }
+        ensures ready { OnOk result (IsReady self.new) }
+        ensures short { IfOk result (λ made. HasShortNames made.reply) }
+        ensures accepted { IfOk result (λ made. is_accepted made.reply ≡ true) }
     {
+        let undo = Undo::Query {
+            len: self.queries.len(),
+            owners: self.owners.len(),
+            bytes: self.bytes,
+        };
         let (row, cond) = self.new_query(alloc, name, source)?;
         let shown = row.name.copy()?;
-        self.add_query(alloc, tables, row, cond)?;
-        Ok(Reply::Defined(shown))
+        let change = self.add_query(alloc, row, cond)?;
+        Ok(Prepared {
+            reply: Reply::Defined(shown),
+            change: Some(change),
+            undo,
+        })
     }
 }

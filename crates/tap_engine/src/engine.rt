@@ -1,4 +1,4 @@
-ghost use Rattle.std.specs.Prelude.{◌≡◌, length};
+ghost use Rattle.std.specs.Prelude.{◌≡◌, false, length};
 ghost use Rattle.tap_rows.specs.Tables.{no_rows};
 
 use crate::kept_filter::KeptFilter;
@@ -6,39 +6,49 @@ use crate::kept_queries::KeptQueries;
 use std::alloc::Global;
 use tap_base::{Rows, Texts};
 use tap_model::Session;
-use tap_rows::KeptDoc;
+use tap_rows::{KeptDoc, Note};
 
-/// What is kept of the tables, so that a command is answered at the cost of what it looks at.
+/// What is kept of the tables, so that a command is answered at the cost of what it looks at. It is stopped once its keeper
+/// has failed.
 #[derive(Drop)]
 pub struct Engine {
     pub session: Session,
     pub(crate) docs: Rows<KeptDoc>,
-    pub(crate) notes: usize,
+    pub(crate) notes: Rows<Note>,
     pub(crate) queries: KeptQueries,
     pub(crate) filters: Rows<KeptFilter>,
+    pub(crate) run_count: usize,
+    pub(crate) pick_count: usize,
     pub(crate) bytes: usize,
     pub(crate) owners: Texts,
     pub(crate) greatest: Option<i64>,
+    pub(crate) stopped: bool,
 }
 
 impl Engine {
     ghost use Rattle.tap_model.specs.Sessions.{no_session};
     ghost use Rattle.tap_engine.specs.Standing.{StandsFor};
+    ghost use Rattle.tap_engine.specs.Ready.{IsReady};
 
     /// An engine with a new session that stands for the empty tables.
     pub fn new(alloc: Global) -> Engine
         ensures stands { StandsFor result no_rows }
         ensures session { result.session ≡ no_session }
+        ensures running { result.stopped ≡ false }
+        ensures ready { IsReady result }
     {
         Engine {
             session: Session::new(),
             docs: Rows::new(alloc),
-            notes: 0,
+            notes: Rows::new(alloc),
             queries: KeptQueries::new(alloc),
             filters: Rows::new(alloc),
+            run_count: 0,
+            pick_count: 0,
             bytes: 0,
             owners: Texts::new(alloc),
             greatest: None,
+            stopped: false,
         }
     }
 
@@ -51,8 +61,15 @@ impl Engine {
 
     /// How many notes there are.
     pub fn notes(&self) -> usize
-        ensures { result ≡ self.now.notes }
+        ensures { result ≡ length self.now.notes }
     {
-        self.notes
+        self.notes.len()
+    }
+
+    /// Has the keeper failed?
+    pub fn stopped(&self) -> bool
+        ensures { result ≡ self.now.stopped }
+    {
+        self.stopped
     }
 }

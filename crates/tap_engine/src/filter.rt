@@ -1,7 +1,7 @@
-ghost use Rattle.std.specs.Prelude.{◌≡◌, ◌⊎◌, ◌≤◌, ◌<◌, ◌+◌, ◌^◌, ◌++◌, [], ◌∷◌, length, Some, None, true, OnOk, OnErr, IfOk, IfErr};
+ghost use Rattle.std.specs.Prelude.{◌≡◌, ◌⊎◌, ◌≤◌, ◌<◌, ◌+◌, ◌^◌, ◌++◌, [], ◌∷◌, length, Some, None, true, OnOk, OnErr, IfOk, IfErr, OnSome};
 ghost use Rattle.std.specs.Result.{result_err};
-ghost use Rattle.tap_rows.specs.declared.change.Change.{Change};
-ghost use Rattle.tap_rows.specs.Tables.{after};
+ghost use Rattle.tap_rows.specs.declared.change.Change.{Change as RowChange};
+ghost use Rattle.tap_rows.specs.declared.tables.Tables.{Tables};
 ghost use Rattle.script_lang.specs.declared.command.Command.{Command};
 ghost use Rattle.script_lang.specs.declared.refusal.Refusal.{Refusal};
 ghost use Rattle.script_lang.specs.Replies.{HasShortNames, is_accepted};
@@ -10,7 +10,8 @@ ghost use Rattle.appraiser.specs.RuleTexts.{IsWithin};
 ghost use Rattle.tap_model.specs.Filters.{rules_in_text};
 ghost use Rattle.tap_model.specs.Sessions.{present, user_of};
 ghost use Rattle.tap_model.specs.Sound.{Sound};
-ghost use Rattle.tap_model.specs.Stories.{Follows, Refuses};
+ghost use Rattle.tap_model.specs.Replies.{tables_after};
+ghost use Rattle.tap_model.specs.Stories.{Refuses};
 ghost use Rattle.tap_model.specs.Verdicts.{first_refusal, rule_refusal, filter_fault, long_filter, text_of};
 ghost use Rattle.tap_engine.specs.Keeping.{with_owner};
 
@@ -18,13 +19,15 @@ use crate::define::push_owner;
 use crate::engine::Engine;
 use crate::kept_filter::KeptFilter;
 use crate::limits::refuse_more;
+use crate::prepared::Prepared;
+use crate::undo::Undo;
 use appraiser::{RULE_LIMIT, RuleFault, Rules, read_rules};
 use mail_lines::Block;
 use script_lang::{FILTER_LIMIT, LimitName, Refusal, Reply};
 use std::alloc::Global;
-use tap_base::{Memory, Rows, Text, Texts};
+use tap_base::{Copied, Memory, Rows, Text, Texts};
 use tap_model::{FILTER_ROW_LIMIT, STORE_LIMIT, USER_LIMIT};
-use tap_rows::{Change, FilterRow, Tables};
+use tap_rows::{Change, FilterRow};
 
 // The text of a block that isn't too long.
 fn text_in(block: Block) -> Result<Text, Refusal>
@@ -68,55 +71,20 @@ fn keep_rules(alloc: Global, source: &[u8]) -> Result<Rules, Refusal>
     }
 }
 
-// The same row once more.
-fn copy_filter(row: &FilterRow) -> Result<FilterRow, Memory>
-    ensures { IfOk result (λ copy. copy ≡ row.now) }
-{
-    Ok(FilterRow {
-        num: row.num,
-        owner: row.owner.copy()?,
-        source: row.source.copy()?,
-        arrival: row.arrival,
-    })
-}
-
-// Adds a filter to the tables and to those that are kept.
-fn push_kept(
-    filters: &mut Rows<KeptFilter>,
-    tables: &mut Tables,
-    kept: KeptFilter,
-    row: FilterRow,
-) -> Result<(), Memory>
-    ensures filters { OnOk result (filters.new ≡ filters.old ++ kept ∷ []) }
-    ensures tables { OnOk result (tables.new ≡ after tables.old (Change.OneFilter row)) }
-    ensures err { OnErr result ((filters.new ≡ filters.old) × (tables.new ≡ tables.old)) }
-{
-    let len = filters.len();
-    filters.push(kept)?;
-    let done = tables.apply(Change::OneFilter(row));
-    if done.is_err() {
-        filters.cut(len);
-    }
-    done
-}
-
-// Adds a filter to the tables and to those that are kept, and its owner.
+// Adds a filter and its owner to those that are kept.
 fn push_filter(
     filters: &mut Rows<KeptFilter>,
     owners: &mut Texts,
-    tables: &mut Tables,
     kept: KeptFilter,
     owner: Text,
-    row: FilterRow,
 ) -> Result<(), Memory>
     ensures filters { OnOk result (filters.new ≡ filters.old ++ kept ∷ []) }
     ensures owners { OnOk result (owners.new ≡ with_owner owners.old owner) }
-    ensures tables { OnOk result (tables.new ≡ after tables.old (Change.OneFilter row)) }
-    ensures err { OnErr result ((filters.new ≡ filters.old) × ((owners.new ≡ owners.old) × (tables.new ≡ tables.old))) }
+    ensures err { OnErr result ((filters.new ≡ filters.old) × (owners.new ≡ owners.old)) }
 {
     let len = owners.len();
     push_owner(owners, owner)?;
-    let done = push_kept(filters, tables, kept, row);
+    let done = filters.push(kept);
     if done.is_err() {
         owners.cut(len);
     }
@@ -125,6 +93,8 @@ fn push_filter(
 
 impl Engine {
     ghost use Rattle.tap_engine.specs.Standing.{StandsFor, RefusedBy};
+    ghost use Rattle.tap_engine.specs.Ready.{IsReady};
+    ghost use Rattle.tap_engine.specs.Answering.{Answers, TakesBack};
     ghost use Rattle.tap_engine.specs.FilterChecks.{filter_limits, filter_refusal};
 
     // Refuses a filter of this user and length that would pass a limit.
@@ -171,53 +141,46 @@ impl Engine {
         Ok((row, rules))
     }
 
-    // Adds a filter.
-    fn add_filter(
-        &mut self,
-        tables: &mut Tables,
-        row: FilterRow,
-        rules: Rules,
-    ) -> Result<(), Memory>
+    // Adds a filter, and gives it as a change.
+    fn add_filter(&mut self, row: FilterRow, rules: Rules) -> Result<Change, Memory>
         requires rules { rules_in rules ≡ rules_in_text row.source }
         requires bytes { self.old.bytes + length row.source < 2 ^ 64 }
-        ensures tables { OnOk result (tables.new ≡ after tables.old (Change.OneFilter row)) }
+        ensures change { IfOk result (λ change. change ≡ RowChange.OneFilter row) }
         ensures engine { OnOk result (self.new ≡ record self.old { filters = self.old.filters ++ row ∷ []; owners = with_owner self.old.owners row.owner; bytes = self.old.bytes + length row.source }) }
-        ensures err { OnErr result ((self.new ≡ self.old) × (tables.new ≡ tables.old)) }
+        ensures err { OnErr result (self.new ≡ self.old) }
     {
         let len = row.source.len();
         let owner = row.owner.copy()?;
-        let kept = KeptFilter::new(copy_filter(&row)?, rules);
-        push_filter(
-            &mut self.filters,
-            &mut self.owners,
-            tables,
-            kept,
-            owner,
-            row,
-        )?;
+        let kept = KeptFilter::new(row.copied()?, rules);
+        push_filter(&mut self.filters, &mut self.owners, kept, owner)?;
         self.bytes += len;
-        Ok(())
+        Ok(Change::OneFilter(row))
     }
 
     // Sets the user's filter.
-    pub(crate) fn filter(
-        &mut self,
-        alloc: Global,
-        tables: &mut Tables,
-        block: Block,
-    ) -> Result<Reply, Refusal>
-        requires stands { StandsFor self.old tables.old }
-        requires sound { Sound tables.old self.old.session }
-        ensures ok { IfOk result (λ reply. Follows tables.old self.old.session (Command.Filter block) reply tables.new self.new.session) }
-        ensures stands { OnOk result (StandsFor self.new tables.new) }
-        ensures refusal { IfErr result (λ refusal. Refuses refusal (Command.Filter block) self.old.session tables.old) }
-        ensures err { OnErr result ((self.new ≡ self.old) × (tables.new ≡ tables.old)) }
-        ensures short { IfOk result (λ reply. HasShortNames reply) }
-        ensures accepted { IfOk result (λ reply. is_accepted reply ≡ true) }
+    pub(crate) fn filter(&mut self, alloc: Global, block: Block) -> Result<Prepared, Refusal>
+        requires ready { IsReady self.old }
+        ensures ok { IfOk result (λ made. (t : Tables) → StandsFor self.old t → Sound t self.old.session → Answers t self.old.session (Command.Filter block) made.reply made.change self.new.session) }
+        ensures stands { IfOk result (λ made. (t : Tables) → StandsFor self.old t → Sound t self.old.session → StandsFor self.new (tables_after made.change t)) }
+        ensures refusal { IfErr result (λ refusal. (t : Tables) → StandsFor self.old t → Refuses refusal (Command.Filter block) self.old.session t) }
+        ensures err { OnErr result (self.new ≡ self.old) }
+        ensures undo { IfOk result (λ made. OnSome made.change (TakesBack made.undo self.new self.old)) }
+        ensures ready { OnOk result (IsReady self.new) }
+        ensures short { IfOk result (λ made. HasShortNames made.reply) }
+        ensures accepted { IfOk result (λ made. is_accepted made.reply ≡ true) }
     {
+        let undo = Undo::Filter {
+            len: self.filters.len(),
+            owners: self.owners.len(),
+            bytes: self.bytes,
+        };
         let (row, rules) = self.new_filter(alloc, block)?;
         let count = rules.len() as u32;
-        self.add_filter(tables, row, rules)?;
-        Ok(Reply::Filter(count))
+        let change = self.add_filter(row, rules)?;
+        Ok(Prepared {
+            reply: Reply::Filter(count),
+            change: Some(change),
+            undo,
+        })
     }
 }

@@ -1,17 +1,16 @@
 ghost use Rattle.std.specs.Prelude.{◌≡◌, ◌<◌, ◌+◌, ◌^◌, ◌++◌, [], ◌∷◌, List, length, take, filter, find, slice_index_or, slice_set, OnOk, OnErr};
 ghost use Rattle.std.specs.Option.{option_copied};
 ghost use Rattle.std.specs.Str.{bytes_eq};
-ghost use Rattle.tap_rows.specs.Tables.{after};
-ghost use Rattle.tap_rows.specs.declared.change.Change.{Change};
 ghost use Rattle.tap_model.specs.Queries.{is_named};
 ghost use Rattle.tap_engine.specs.declared.kept_query.KeptQuery.{KeptQuery};
-ghost use Rattle.tap_engine.specs.Keeping.{after_run, named_in, owned_in};
+ghost use Rattle.tap_engine.specs.Keeping.{after_run, without_run, named_in, owned_in};
+ghost use Rattle.tap_engine.specs.Starting.{with_entry};
 
 use crate::kept_query::KeptQuery;
 use std::alloc::Global;
 use std::marker::Model;
 use tap_base::{Memory, Rows};
-use tap_rows::{Entry, Pick, QueryRow, RunRow, Tables};
+use tap_rows::{Entry, QueryRow};
 
 /// The queries that are kept, in order of their numbers. It is seen as a list.
 #[derive(Drop)]
@@ -47,6 +46,14 @@ impl KeptQueries {
         ensures { result ≡ length self.now }
     {
         self.items.len()
+    }
+
+    // The query at this place.
+    pub(crate) fn at(&self, place: usize) -> &KeptQuery
+        requires { place < length self.now }
+        ensures { (d : KeptQuery) → result.now ≡ slice_index_or self.now place d }
+    {
+        &self.items[place]
     }
 
     // The user's query of this name.
@@ -89,21 +96,35 @@ impl KeptQueries {
         self.items.truncate(len);
     }
 
-    // Adds a run of the query at this place, with its picks, to the tables, and here the entries that they are.
+    // Adds a run of the query at this place.
     pub(crate) fn add_run(
         &mut self,
         place: usize,
-        tables: &mut Tables,
-        run: RunRow,
-        picks: Rows<Pick>,
+        moment: i64,
         entries: Rows<Entry>,
     ) -> Result<(), Memory>
         requires place { place < length self.old }
         requires runs { (d : KeptQuery) → (slice_index_or self.old place d).runs + 1 < 2 ^ 64 }
-        ensures kept { OnOk result ((d : KeptQuery) → self.new ≡ slice_set self.old place (after_run run.moment entries (slice_index_or self.old place d))) }
-        ensures tables { OnOk result (tables.new ≡ after tables.old (Change.RunDone run picks)) }
-        ensures err { OnErr result ((self.new ≡ self.old) × (tables.new ≡ tables.old)) }
+        ensures kept { OnOk result ((d : KeptQuery) → self.new ≡ slice_set self.old place (after_run moment entries (slice_index_or self.old place d))) }
+        ensures err { OnErr result (self.new ≡ self.old) }
     {
-        self.items[place].add_run(tables, run, picks, entries)
+        self.items[place].add_run(moment, entries)
+    }
+
+    // Takes the last run of the query at this place back.
+    pub(crate) fn take_back(&mut self, place: usize, covered: i64, runs: usize, entries: usize)
+        requires { place < length self.old }
+        ensures { self.new ≡ without_run place covered runs entries self.old }
+    {
+        self.items[place].take_back(covered, runs, entries);
+    }
+
+    // Adds an entry to what the query at this place has delivered.
+    pub(crate) fn add_entry(&mut self, place: usize, entry: Entry) -> Result<(), Memory>
+        requires { place < length self.old }
+        ensures kept { OnOk result ((d : KeptQuery) → self.new ≡ slice_set self.old place (with_entry entry (slice_index_or self.old place d))) }
+        ensures err { OnErr result (self.new ≡ self.old) }
+    {
+        self.items[place].add_entry(entry)
     }
 }

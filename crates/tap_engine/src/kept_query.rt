@@ -1,10 +1,8 @@
 ghost use Rattle.std.specs.Prelude.{◌≡◌, ◌<◌, ◌+◌, ◌^◌, ◌++◌, [], List, OnOk, OnErr};
-ghost use Rattle.tap_rows.specs.Tables.{after};
-ghost use Rattle.tap_rows.specs.declared.change.Change.{Change};
 
 use crate::kept_row::KeptRow;
 use tap_base::{Memory, Rows};
-use tap_rows::{Change, Entry, Pick, RunRow, Tables};
+use tap_rows::Entry;
 
 /// What is kept of a query: its row, the second that it has covered up to, how many runs it had, and what it has
 /// delivered.
@@ -18,7 +16,8 @@ pub struct KeptQuery {
 
 impl KeptQuery {
     ghost use Rattle.tap_model.specs.Queries.{start_of};
-    ghost use Rattle.tap_engine.specs.Keeping.{new_kept, after_run};
+    ghost use Rattle.tap_engine.specs.Keeping.{new_kept, after_run, before_run};
+    ghost use Rattle.tap_engine.specs.Starting.{with_entry};
 
     // A query that was never run.
     pub(crate) fn new(row: KeptRow, entries: Rows<Entry>) -> KeptQuery
@@ -34,28 +33,32 @@ impl KeptQuery {
         }
     }
 
-    // Adds a run with its picks to the tables, and here the entries that they are.
-    pub(crate) fn add_run(
-        &mut self,
-        tables: &mut Tables,
-        run: RunRow,
-        picks: Rows<Pick>,
-        entries: Rows<Entry>,
-    ) -> Result<(), Memory>
+    // Adds a run at this moment, which delivered these.
+    pub(crate) fn add_run(&mut self, moment: i64, entries: Rows<Entry>) -> Result<(), Memory>
         requires { self.old.runs + 1 < 2 ^ 64 }
-        ensures kept { OnOk result (self.new ≡ after_run run.moment entries self.old) }
-        ensures tables { OnOk result (tables.new ≡ after tables.old (Change.RunDone run picks)) }
-        ensures err { OnErr result ((self.new ≡ self.old) × (tables.new ≡ tables.old)) }
+        ensures kept { OnOk result (self.new ≡ after_run moment entries self.old) }
+        ensures err { OnErr result (self.new ≡ self.old) }
     {
-        let len = self.entries.len();
         self.entries.append(entries)?;
-        let done = tables.apply(Change::RunDone(run, picks));
-        if done.is_ok() {
-            self.covered = run.moment;
-            self.runs += 1;
-        } else {
-            self.entries.cut(len);
-        }
-        done
+        self.covered = moment;
+        self.runs += 1;
+        Ok(())
+    }
+
+    // Takes the last run back.
+    pub(crate) fn take_back(&mut self, covered: i64, runs: usize, entries: usize)
+        ensures { self.new ≡ before_run covered runs entries self.old }
+    {
+        self.covered = covered;
+        self.runs = runs;
+        self.entries.cut(entries);
+    }
+
+    // Adds an entry to what it has delivered.
+    pub(crate) fn add_entry(&mut self, entry: Entry) -> Result<(), Memory>
+        ensures kept { OnOk result (self.new ≡ with_entry entry self.old) }
+        ensures err { OnErr result (self.new ≡ self.old) }
+    {
+        self.entries.push(entry)
     }
 }

@@ -2,6 +2,7 @@ ghost use Rattle.std.specs.Prelude.{◌≡◌, ◌≤◌, Some, None, true, leng
 ghost use Rattle.std.specs.List.{All};
 ghost use Rattle.std.specs.Option.{option_copied};
 ghost use Rattle.tap_base.specs.Names.{is_name};
+ghost use Rattle.tap_rows.specs.declared.tables.Tables.{Tables};
 ghost use Rattle.script_lang.specs.declared.command.Command.{Command};
 ghost use Rattle.script_lang.specs.Replies.{HasShortNames, is_accepted};
 ghost use Rattle.appraiser.specs.Rules.{rules_in};
@@ -9,7 +10,7 @@ ghost use Rattle.appraiser.specs.Listings.{listing_of};
 ghost use Rattle.tap_model.specs.Filters.{last_filter, filter_rules};
 ghost use Rattle.tap_model.specs.Sessions.{user_of};
 ghost use Rattle.tap_model.specs.Sound.{Sound};
-ghost use Rattle.tap_model.specs.Stories.{Follows, Refuses};
+ghost use Rattle.tap_model.specs.Stories.{Refuses};
 
 use crate::engine::Engine;
 use crate::kept_filter::KeptFilter;
@@ -17,7 +18,7 @@ use appraiser::{Rules, listing};
 use script_lang::{Refusal, Reply};
 use std::alloc::Global;
 use tap_base::{Memory, Rows, Text};
-use tap_rows::{Entry, KeptDoc, Listed, Tables};
+use tap_rows::{Entry, KeptDoc, Listed};
 
 // The last of the user's filters.
 fn last_filter<'a>(filters: &'a [KeptFilter], user: &[u8]) -> Option<&'a KeptFilter>
@@ -51,6 +52,7 @@ fn rate<'a>(
 impl Engine {
     ghost use Rattle.tap_engine.specs.Standing.{StandsFor, look_refusal, kept_named, RefusedBy};
     ghost use Rattle.tap_engine.specs.Lists.{rows_kept};
+    ghost use Rattle.tap_engine.specs.Answering.{Answers};
 
     // The session's user; empty where it has none.
     fn user_name(&self) -> &[u8]
@@ -77,16 +79,9 @@ impl Engine {
     }
 
     // Lists the deliveries of the user's query of this name in the order of their ratings.
-    pub(crate) fn show_list(
-        &self,
-        alloc: Global,
-        tables: &Tables,
-        name: Text,
-    ) -> Result<Reply, Refusal>
-        requires stands { StandsFor self.now tables.now }
-        requires sound { Sound tables.now self.now.session }
-        ensures ok { IfOk result (λ reply. Follows tables.now self.now.session (Command.ListOf name) reply tables.now self.now.session) }
-        ensures refusal { IfErr result (λ refusal. Refuses refusal (Command.ListOf name) self.now.session tables.now) }
+    pub(crate) fn show_list(&self, alloc: Global, name: Text) -> Result<Reply, Refusal>
+        ensures ok { IfOk result (λ reply. (t : Tables) → StandsFor self.now t → Sound t self.now.session → Answers t self.now.session (Command.ListOf name) reply None self.now.session) }
+        ensures refusal { IfErr result (λ refusal. (t : Tables) → StandsFor self.now t → Refuses refusal (Command.ListOf name) self.now.session t) }
         ensures short { IfOk result (λ reply. HasShortNames reply) }
         ensures accepted { IfOk result (λ reply. is_accepted reply ≡ true) }
     {

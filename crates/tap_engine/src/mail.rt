@@ -1,22 +1,25 @@
-ghost use Rattle.std.specs.Prelude.{◌≡◌, true, ◌≤◌, ◌<◌, ◌+◌, ◌^◌, ◌++◌, [], ◌∷◌, length, Some, OnOk, OnErr, IfOk, IfErr};
+ghost use Rattle.std.specs.Prelude.{◌≡◌, true, ◌≤◌, ◌<◌, ◌+◌, ◌^◌, ◌++◌, [], ◌∷◌, length, Some, OnOk, OnErr, IfOk, IfErr, OnSome};
 ghost use Rattle.std.specs.Result.{result_err, result_ok};
-ghost use Rattle.tap_rows.specs.declared.change.Change.{Change};
-ghost use Rattle.tap_rows.specs.Tables.{after};
+ghost use Rattle.tap_rows.specs.declared.change.Change.{Change as RowChange};
+ghost use Rattle.tap_rows.specs.declared.tables.Tables.{Tables};
 ghost use Rattle.script_lang.specs.declared.command.Command.{Command};
 ghost use Rattle.script_lang.specs.Replies.{HasShortNames, is_accepted};
 ghost use Rattle.tap_model.specs.Verdicts.{too_long, text_of};
-ghost use Rattle.tap_model.specs.Replies.{next_doc};
-ghost use Rattle.tap_model.specs.Stories.{Follows, Refuses};
+ghost use Rattle.tap_model.specs.Replies.{docs_from, tables_after};
+ghost use Rattle.tap_model.specs.Sound.{Sound};
+ghost use Rattle.tap_model.specs.Stories.{Refuses};
 
 use crate::engine::Engine;
 use crate::limits::refuse_more;
+use crate::prepared::Prepared;
+use crate::undo::Undo;
 use mail_fields::keep;
 use mail_lines::Block;
 use script_lang::{LimitName, MESSAGE_LIMIT, Refusal, Reply};
 use std::alloc::Global;
 use tap_base::{DocNum, Memory, Rows, Text};
 use tap_model::{DOCUMENT_LIMIT, STORE_LIMIT};
-use tap_rows::{Change, Doc, KeptDoc, Tables};
+use tap_rows::{Change, Doc, KeptDoc};
 
 // The text of a message that isn't too long.
 fn message_of(block: Block) -> Result<Text, Refusal>
@@ -30,27 +33,7 @@ fn message_of(block: Block) -> Result<Text, Refusal>
     }
 }
 
-// Adds documents to the tables and to those that are kept.
-pub(crate) fn push_docs(
-    docs: &mut Rows<KeptDoc>,
-    tables: &mut Tables,
-    kept: Rows<KeptDoc>,
-    rows: Rows<Doc>,
-) -> Result<(), Memory>
-    ensures docs { OnOk result (docs.new ≡ docs.old ++ kept) }
-    ensures tables { OnOk result (tables.new ≡ after tables.old (Change.Docs rows)) }
-    ensures err { OnErr result ((docs.new ≡ docs.old) × (tables.new ≡ tables.old)) }
-{
-    let len = docs.len();
-    docs.append(kept)?;
-    let done = tables.apply(Change::Docs(rows));
-    if done.is_err() {
-        docs.cut(len);
-    }
-    done
-}
-
-// A document for the tables, and the same with its fields.
+// A document as a row, and the same with its fields.
 fn make_doc(
     alloc: Global,
     num: DocNum,
@@ -82,46 +65,43 @@ fn make_doc(
 
 impl Engine {
     ghost use Rattle.tap_engine.specs.Standing.{StandsFor};
+    ghost use Rattle.tap_engine.specs.Ready.{IsReady};
+    ghost use Rattle.tap_engine.specs.Answering.{Answers, TakesBack};
 
-    // Adds a document that arrives at this moment.
+    // Adds a document that arrives at this moment, and gives its number, and it as a change.
     fn add_doc(
         &mut self,
         alloc: Global,
-        tables: &mut Tables,
         moment: i64,
         text: Text,
-    ) -> Result<DocNum, Memory>
-        requires docs { self.old.docs ≡ tables.old.docs }
+    ) -> Result<(DocNum, Change), Memory>
         requires few { length self.old.docs < DOCUMENT_LIMIT }
         requires text { length text ≤ MESSAGE_LIMIT }
         requires bytes { self.old.bytes + length text < 2 ^ 64 }
-        ensures num { IfOk result (λ num. num.0 ≡ length tables.old.docs + 1) }
-        ensures tables { OnOk result (tables.new ≡ after tables.old (Change.Docs (next_doc tables.old moment text ∷ []))) }
-        ensures engine { OnOk result (self.new ≡ record self.old { docs = self.old.docs ++ next_doc tables.old moment text ∷ []; bytes = self.old.bytes + length text }) }
-        ensures err { OnErr result ((self.new ≡ self.old) × (tables.new ≡ tables.old)) }
+        ensures num { IfOk result (λ made. made.0.0 ≡ length self.old.docs + 1) }
+        ensures change { IfOk result (λ made. made.1 ≡ RowChange.Docs (docs_from (length self.old.docs + 1) moment (text ∷ []))) }
+        ensures engine { OnOk result (self.new ≡ record self.old { docs = self.old.docs ++ docs_from (length self.old.docs + 1) moment (text ∷ []); bytes = self.old.bytes + length text }) }
+        ensures err { OnErr result (self.new ≡ self.old) }
     {
         let len = text.len();
         let num = DocNum(self.docs.len() as u32 + 1);
         let (rows, kept) = make_doc(alloc, num, moment, text)?;
-        push_docs(&mut self.docs, tables, kept, rows)?;
+        self.docs.append(kept)?;
         self.bytes += len;
-        Ok(num)
+        Ok((num, Change::Docs(rows)))
     }
 
     // Adds a message.
-    pub(crate) fn mail(
-        &mut self,
-        alloc: Global,
-        tables: &mut Tables,
-        block: Block,
-    ) -> Result<Reply, Refusal>
-        requires stands { StandsFor self.old tables.old }
-        ensures ok { IfOk result (λ reply. Follows tables.old self.old.session (Command.Mail block) reply tables.new self.new.session) }
-        ensures stands { OnOk result (StandsFor self.new tables.new) }
-        ensures refusal { IfErr result (λ refusal. Refuses refusal (Command.Mail block) self.old.session tables.old) }
-        ensures err { OnErr result ((self.new ≡ self.old) × (tables.new ≡ tables.old)) }
-        ensures short { IfOk result (λ reply. HasShortNames reply) }
-        ensures accepted { IfOk result (λ reply. is_accepted reply ≡ true) }
+    pub(crate) fn mail(&mut self, alloc: Global, block: Block) -> Result<Prepared, Refusal>
+        requires ready { IsReady self.old }
+        ensures ok { IfOk result (λ made. (t : Tables) → StandsFor self.old t → Sound t self.old.session → Answers t self.old.session (Command.Mail block) made.reply made.change self.new.session) }
+        ensures stands { IfOk result (λ made. (t : Tables) → StandsFor self.old t → Sound t self.old.session → StandsFor self.new (tables_after made.change t)) }
+        ensures refusal { IfErr result (λ refusal. (t : Tables) → StandsFor self.old t → Refuses refusal (Command.Mail block) self.old.session t) }
+        ensures err { OnErr result (self.new ≡ self.old) }
+        ensures undo { IfOk result (λ made. OnSome made.change (TakesBack made.undo self.new self.old)) }
+        ensures ready { OnOk result (IsReady self.new) }
+        ensures short { IfOk result (λ made. HasShortNames made.reply) }
+        ensures accepted { IfOk result (λ made. is_accepted made.reply ≡ true) }
     {
         let Some(moment) = self.session.moment else {
             return Err(Refusal::NoMoment);
@@ -129,6 +109,15 @@ impl Engine {
         let text = message_of(block)?;
         refuse_more(LimitName::Documents, DOCUMENT_LIMIT, self.docs.len(), 1)?;
         refuse_more(LimitName::Store, STORE_LIMIT, self.bytes, text.len())?;
-        Ok(Reply::OneDoc(self.add_doc(alloc, tables, moment, text)?))
+        let undo = Undo::Docs {
+            len: self.docs.len(),
+            bytes: self.bytes,
+        };
+        let (num, change) = self.add_doc(alloc, moment, text)?;
+        Ok(Prepared {
+            reply: Reply::OneDoc(num),
+            change: Some(change),
+            undo,
+        })
     }
 }

@@ -1,24 +1,25 @@
-ghost use Rattle.std.specs.Prelude.{◌≡◌, ◌≤◌, ◌<◌, ◌+◌, ◌^◌, ◌++◌, length, max, None, true, OnOk, OnErr, IfOk, IfErr};
+ghost use Rattle.std.specs.Prelude.{◌≡◌, ◌≤◌, ◌<◌, ◌+◌, ◌^◌, ◌++◌, length, max, None, true, OnOk, OnErr, IfOk, IfErr, OnSome};
 ghost use Rattle.std.specs.Result.{result_err};
-ghost use Rattle.tap_rows.specs.declared.change.Change.{Change};
-ghost use Rattle.tap_rows.specs.Tables.{after};
+ghost use Rattle.tap_rows.specs.declared.tables.Tables.{Tables};
 ghost use Rattle.script_lang.specs.declared.command.Command.{Command};
 ghost use Rattle.script_lang.specs.Replies.{HasShortNames, is_accepted};
 ghost use Rattle.tap_model.specs.Sessions.{present};
 ghost use Rattle.tap_model.specs.Verdicts.{messages_of, are_short, long_message, long_block, bytes_of};
-ghost use Rattle.tap_model.specs.Replies.{docs_from, next_docs, some_docs, tables_after};
-ghost use Rattle.tap_model.specs.Stories.{Follows, Refuses};
+ghost use Rattle.tap_model.specs.Replies.{docs_from, some_docs, tables_after};
+ghost use Rattle.tap_model.specs.Sound.{Sound};
+ghost use Rattle.tap_model.specs.Stories.{Refuses};
 
 use crate::engine::Engine;
 use crate::limits::refuse_more;
-use crate::mail::push_docs;
+use crate::prepared::Prepared;
+use crate::undo::Undo;
 use mail_fields::keep;
 use mail_lines::{Block, cut_mbox};
 use script_lang::{LimitName, MESSAGE_LIMIT, Refusal, Reply};
 use std::alloc::Global;
 use tap_base::{DocNum, Memory, Rows, Text, Texts};
 use tap_model::{DOCUMENT_LIMIT, STORE_LIMIT};
-use tap_rows::{Doc, KeptDoc, Tables};
+use tap_rows::{Change, Doc, KeptDoc};
 
 // The messages of a mailbox file; one that is too long has none.
 fn cut_block(alloc: Global, block: &Block) -> Result<Texts, Memory>
@@ -118,6 +119,8 @@ fn make_kept(
 
 impl Engine {
     ghost use Rattle.tap_engine.specs.Standing.{StandsFor, mbox_bounds, mbox_refusal, RefusedBy};
+    ghost use Rattle.tap_engine.specs.Ready.{IsReady};
+    ghost use Rattle.tap_engine.specs.Answering.{Answers, TakesBack};
 
     // Refuses these messages of a mailbox file.
     #[tactic(auto, unfolding(crate::specs::Standing::mbox_bounds))]
@@ -156,54 +159,58 @@ impl Engine {
         Ok((moment, texts))
     }
 
-    // Adds documents that arrive at this moment, all in one change; none change nothing.
+    // Adds documents that arrive at this moment, and gives them as one change; none change nothing.
     fn add_docs(
         &mut self,
         alloc: Global,
-        tables: &mut Tables,
         moment: i64,
         texts: &[Text],
-    ) -> Result<(), Memory>
-        requires docs { self.old.docs ≡ tables.old.docs }
+    ) -> Result<Option<Change>, Memory>
         requires few { length self.old.docs + length texts.now ≤ max (length self.old.docs) DOCUMENT_LIMIT }
         requires short { are_short texts.now ≡ true }
         requires bytes { self.old.bytes + bytes_of texts.now < 2 ^ 64 }
-        ensures tables { OnOk result (tables.new ≡ tables_after (some_docs (next_docs tables.old moment texts.now)) tables.old) }
-        ensures engine { OnOk result (self.new ≡ record self.old { docs = self.old.docs ++ next_docs tables.old moment texts.now; bytes = self.old.bytes + bytes_of texts.now }) }
-        ensures err { OnErr result ((self.new ≡ self.old) × (tables.new ≡ tables.old)) }
+        ensures change { IfOk result (λ change. change ≡ some_docs (docs_from (length self.old.docs + 1) moment texts.now)) }
+        ensures engine { OnOk result (self.new ≡ record self.old { docs = self.old.docs ++ docs_from (length self.old.docs + 1) moment texts.now; bytes = self.old.bytes + bytes_of texts.now }) }
+        ensures err { OnErr result (self.new ≡ self.old) }
     {
         if texts.is_empty() {
-            return Ok(());
+            return Ok(None);
         }
         let first = self.docs.len() + 1;
         let rows = make_rows(alloc, first, moment, texts)?;
         let kept = make_kept(alloc, first, moment, texts)?;
-        push_docs(&mut self.docs, tables, kept, rows)?;
+        self.docs.append(kept)?;
         self.bytes += total(texts);
-        Ok(())
+        Ok(Some(Change::Docs(rows)))
     }
 
     // Adds the messages of a mailbox file.
-    pub(crate) fn mbox(
-        &mut self,
-        alloc: Global,
-        tables: &mut Tables,
-        block: Block,
-    ) -> Result<Reply, Refusal>
-        requires stands { StandsFor self.old tables.old }
-        ensures ok { IfOk result (λ reply. Follows tables.old self.old.session (Command.Mbox block) reply tables.new self.new.session) }
-        ensures stands { OnOk result (StandsFor self.new tables.new) }
-        ensures refusal { IfErr result (λ refusal. Refuses refusal (Command.Mbox block) self.old.session tables.old) }
-        ensures err { OnErr result ((self.new ≡ self.old) × (tables.new ≡ tables.old)) }
-        ensures short { IfOk result (λ reply. HasShortNames reply) }
-        ensures accepted { IfOk result (λ reply. is_accepted reply ≡ true) }
+    pub(crate) fn mbox(&mut self, alloc: Global, block: Block) -> Result<Prepared, Refusal>
+        requires ready { IsReady self.old }
+        ensures ok { IfOk result (λ made. (t : Tables) → StandsFor self.old t → Sound t self.old.session → Answers t self.old.session (Command.Mbox block) made.reply made.change self.new.session) }
+        ensures stands { IfOk result (λ made. (t : Tables) → StandsFor self.old t → Sound t self.old.session → StandsFor self.new (tables_after made.change t)) }
+        ensures refusal { IfErr result (λ refusal. (t : Tables) → StandsFor self.old t → Refuses refusal (Command.Mbox block) self.old.session t) }
+        ensures err { OnErr result (self.new ≡ self.old) }
+        ensures undo { IfOk result (λ made. OnSome made.change (TakesBack made.undo self.new self.old)) }
+        ensures ready { OnOk result (IsReady self.new) }
+        ensures short { IfOk result (λ made. HasShortNames made.reply) }
+        ensures accepted { IfOk result (λ made. is_accepted made.reply ≡ true) }
     {
+        let undo = Undo::Docs {
+            len: self.docs.len(),
+            bytes: self.bytes,
+        };
         let (moment, texts) = self.new_messages(alloc, &block)?;
         let first = self.docs.as_slice().len() as u64 + 1;
-        self.add_docs(alloc, tables, moment, texts.as_slice())?;
-        Ok(Reply::Docs {
+        let change = self.add_docs(alloc, moment, texts.as_slice())?;
+        let reply = Reply::Docs {
             count: texts.len() as u32,
             first,
+        };
+        Ok(Prepared {
+            reply,
+            change,
+            undo,
         })
     }
 }

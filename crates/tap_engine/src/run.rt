@@ -1,11 +1,9 @@
-ghost use Rattle.std.specs.Prelude.{◌≡◌, ℤ, pos, ◌<ℤ◌, drop, Bool, true, ◌≤◌, ◌<◌, ◌+◌, ◌-◌, ◌^◌, ◌++◌, [], ◌∷◌, length, map, max, Some, None, ◌&&◌, int_le, int_lt, slice_index_or, slice_set, OnOk, OnErr, IfOk, IfErr};
+ghost use Rattle.std.specs.Prelude.{◌≡◌, ℤ, pos, ◌<ℤ◌, drop, Bool, true, ◌≤◌, ◌<◌, ◌+◌, ◌-◌, ◌^◌, ◌++◌, [], ◌∷◌, length, map, max, Some, None, ◌&&◌, int_le, int_lt, slice_index_or, slice_set, OnOk, OnErr, IfOk, IfErr, OnSome};
 ghost use Rattle.std.specs.List.{filter_map};
 ghost use Rattle.std.specs.Result.{result_err};
 ghost use Rattle.tap_rows.specs.declared.tables.Tables.{Tables};
-ghost use Rattle.tap_rows.specs.declared.rows.RunRow.{RunRow};
 ghost use Rattle.tap_rows.specs.declared.rows.Doc.{Doc};
-ghost use Rattle.tap_rows.specs.declared.change.Change.{Change};
-ghost use Rattle.tap_rows.specs.Tables.{after};
+ghost use Rattle.tap_rows.specs.declared.change.Change.{Change as RowChange};
 ghost use Rattle.tap_rows.specs.Arrivals.{Arrived};
 ghost use Rattle.tap_rows.specs.Deliveries.{pick_rows};
 ghost use Rattle.tap_rows.specs.Results.{entry_at};
@@ -21,17 +19,20 @@ ghost use Rattle.tap_engine.specs.declared.kept_query.KeptQuery.{KeptQuery};
 ghost use Rattle.tap_engine.specs.Keeping.{after_run};
 ghost use Rattle.tap_model.specs.Sessions.{present};
 ghost use Rattle.tap_model.specs.Sound.{Sound};
-ghost use Rattle.tap_model.specs.Stories.{Follows, Refuses};
+ghost use Rattle.tap_model.specs.Replies.{tables_after};
+ghost use Rattle.tap_model.specs.Stories.{Refuses};
 
 use crate::engine::Engine;
 use crate::kept_row::KeptRow;
 use crate::limits::refuse_more;
+use crate::prepared::Prepared;
 use crate::slow_run::{open_from, slow_hits};
+use crate::undo::Undo;
 use script_lang::{LimitName, Refusal, Reply};
 use std::alloc::Global;
 use tap_base::{Memory, QueryNum, Rows};
 use tap_model::{PICK_LIMIT, RUN_LIMIT, SECOND_LIMIT};
-use tap_rows::{Change, Entry, Hit, KeptDoc, Note, Pick, RunRow, Tables};
+use tap_rows::{Change, Entry, Hit, KeptDoc, Note, Pick, RunRow};
 
 /// What a run is about to deliver.
 #[derive(Drop)]
@@ -210,39 +211,34 @@ fn entries_at(alloc: Global, run: u32, hits: &[Hit]) -> Result<Rows<Entry>, Memo
 }
 
 impl Engine {
-    ghost use Rattle.tap_engine.specs.Standing.{StandsFor, run_refusal, kept_named, hits_kept, due_of, RefusedBy};
+    ghost use Rattle.tap_engine.specs.Standing.{StandsFor, run_refusal, kept_named, due_of, RefusedBy};
+    ghost use Rattle.tap_engine.specs.Ready.{IsReady};
+    ghost use Rattle.tap_engine.specs.Answering.{Answers, TakesBack, undo_run};
 
-    // What a run of the user's query of this name delivers, where there are these notes and so many runs and deliveries.
-    fn due_run(
-        &self,
-        alloc: Global,
-        notes: &[Note],
-        runs: usize,
-        picks: usize,
-        name: &[u8],
-    ) -> Result<Due, Refusal>
+    // What a run of the user's query of this name delivers.
+    fn due_run(&self, alloc: Global, name: &[u8]) -> Result<Due, Refusal>
         requires arrived { Arrived 1 (pos 0) self.now.docs }
-        ensures verdict { OnOk result (run_refusal self.now notes.now runs picks name.now ≡ None) }
-        ensures due { IfOk result (λ due. Some due ≡ due_of self.now notes.now (kept_named self.now name.now)) }
-        ensures refusal { IfErr result (λ refusal. RefusedBy (run_refusal self.now notes.now runs picks name.now) refusal) }
-        ensures few { OnOk result (runs < RUN_LIMIT) }
-        ensures room { IfOk result (λ due. picks + length due.hits ≤ max picks PICK_LIMIT) }
+        ensures verdict { OnOk result (run_refusal self.now name.now ≡ None) }
+        ensures due { IfOk result (λ due. Some due ≡ due_of self.now (kept_named self.now name.now)) }
+        ensures refusal { IfErr result (λ refusal. RefusedBy (run_refusal self.now name.now) refusal) }
+        ensures few { OnOk result (self.now.run_count < RUN_LIMIT) }
+        ensures room { IfOk result (λ due. self.now.pick_count + length due.hits ≤ max self.now.pick_count PICK_LIMIT) }
     {
         let Some(moment) = self.session.moment else {
             return Err(Refusal::NoMoment);
         };
         let kept = self.look(name)?;
         refuse_wide(&kept.row, self.docs.as_slice(), moment)?;
-        refuse_more(LimitName::Runs, RUN_LIMIT, runs, 1)?;
+        refuse_more(LimitName::Runs, RUN_LIMIT, self.run_count, 1)?;
         let hits = fresh_hits(
             alloc,
             &kept.row,
             self.docs.as_slice(),
-            notes,
+            self.notes.as_slice(),
             kept.covered,
             moment,
         )?;
-        refuse_more(LimitName::Picks, PICK_LIMIT, picks, hits.len())?;
+        refuse_more(LimitName::Picks, PICK_LIMIT, self.pick_count, hits.len())?;
         Ok(Due {
             query: kept.row.row().num,
             moment,
@@ -251,72 +247,79 @@ impl Engine {
         })
     }
 
-    // Adds a run with what it delivers.
+    // What takes the next run of the query at this place back.
+    fn undo_run(&self, place: usize) -> Undo
+        requires { place < length self.now.queries }
+        ensures { (d : KeptQuery) → result ≡ undo_run self.now place (slice_index_or self.now.queries place d) }
+    {
+        let kept = self.queries.at(place);
+        Undo::Run {
+            place,
+            covered: kept.covered,
+            runs: kept.runs,
+            entries: kept.entries.len(),
+            run_count: self.run_count,
+            pick_count: self.pick_count,
+        }
+    }
+
+    // Adds a run of the query at this place, which delivers these, and gives it as a change.
     fn deliver(
         &mut self,
         alloc: Global,
-        tables: &mut Tables,
         query: QueryNum,
         moment: i64,
         ordinal: u32,
         hits: &[Hit],
-    ) -> Result<(), Memory>
+    ) -> Result<Change, Memory>
         requires first { 0 < query.0 }
         requires place { query.0 ≤ length self.old.queries }
         requires runs { (d : KeptQuery) → (slice_index_or self.old.queries (query.0 - 1) d).runs + 1 < 2 ^ 64 }
-        requires few { length tables.old.runs < RUN_LIMIT }
-        requires room { length tables.old.picks + length hits.now ≤ max (length tables.old.picks) PICK_LIMIT }
-        ensures tables { OnOk result (tables.new ≡ after tables.old (Change.RunDone (record { num = length tables.old.runs + 1; query = query; moment = moment }) (pick_rows (length tables.old.picks + 1) query (length tables.old.runs + 1) hits.now))) }
-        ensures engine { OnOk result ((d : KeptQuery) → self.new ≡ record self.old { queries = slice_set self.old.queries (query.0 - 1) (after_run moment (map (entry_at ordinal) hits.now) (slice_index_or self.old.queries (query.0 - 1) d)) }) }
-        ensures err { OnErr result ((self.new ≡ self.old) × (tables.new ≡ tables.old)) }
+        requires few { self.old.run_count < RUN_LIMIT }
+        requires room { self.old.pick_count + length hits.now ≤ max self.old.pick_count PICK_LIMIT }
+        ensures change { IfOk result (λ change. change ≡ RowChange.RunDone (record { num = self.old.run_count + 1; query = query; moment = moment }) (pick_rows (self.old.pick_count + 1) query (self.old.run_count + 1) hits.now)) }
+        ensures engine { OnOk result ((d : KeptQuery) → self.new ≡ record self.old { queries = slice_set self.old.queries (query.0 - 1) (after_run moment (map (entry_at ordinal) hits.now) (slice_index_or self.old.queries (query.0 - 1) d)); run_count = self.old.run_count + 1; pick_count = self.old.pick_count + length hits.now }) }
+        ensures err { OnErr result (self.new ≡ self.old) }
     {
         let run = RunRow {
-            num: tables.runs.len() as u32 + 1,
+            num: self.run_count as u32 + 1,
             query,
             moment,
         };
-        let picks = picks_after(alloc, tables.picks.len(), query, run.num, hits)?;
+        let picks = picks_after(alloc, self.pick_count, query, run.num, hits)?;
         let entries = entries_at(alloc, ordinal, hits)?;
         self.queries
-            .add_run(query.0 as usize - 1, tables, run, picks, entries)
+            .add_run(query.0 as usize - 1, moment, entries)?;
+        self.run_count += 1;
+        self.pick_count += hits.len();
+        Ok(Change::RunDone(run, picks))
     }
 
     // Runs the user's query of this name.
-    pub(crate) fn run(
-        &mut self,
-        alloc: Global,
-        tables: &mut Tables,
-        name: &[u8],
-    ) -> Result<Reply, Refusal>
-        requires stands { StandsFor self.old tables.old }
-        requires sound { Sound tables.old self.old.session }
-        ensures ok { IfOk result (λ reply. Follows tables.old self.old.session (Command.Run name.now) reply tables.new self.new.session) }
-        ensures stands { OnOk result (StandsFor self.new tables.new) }
-        ensures refusal { IfErr result (λ refusal. Refuses refusal (Command.Run name.now) self.old.session tables.old) }
-        ensures err { OnErr result ((self.new ≡ self.old) × (tables.new ≡ tables.old)) }
-        ensures short { IfOk result (λ reply. HasShortNames reply) }
-        ensures accepted { IfOk result (λ reply. is_accepted reply ≡ true) }
+    pub(crate) fn run(&mut self, alloc: Global, name: &[u8]) -> Result<Prepared, Refusal>
+        requires ready { IsReady self.old }
+        ensures ok { IfOk result (λ made. (t : Tables) → StandsFor self.old t → Sound t self.old.session → Answers t self.old.session (Command.Run name.now) made.reply made.change self.new.session) }
+        ensures stands { IfOk result (λ made. (t : Tables) → StandsFor self.old t → Sound t self.old.session → StandsFor self.new (tables_after made.change t)) }
+        ensures refusal { IfErr result (λ refusal. (t : Tables) → StandsFor self.old t → Refuses refusal (Command.Run name.now) self.old.session t) }
+        ensures err { OnErr result (self.new ≡ self.old) }
+        ensures undo { IfOk result (λ made. OnSome made.change (TakesBack made.undo self.new self.old)) }
+        ensures ready { OnOk result (IsReady self.new) }
+        ensures short { IfOk result (λ made. HasShortNames made.reply) }
+        ensures accepted { IfOk result (λ made. is_accepted made.reply ≡ true) }
     {
-        let due = self.due_run(
-            alloc,
-            tables.notes.as_slice(),
-            tables.runs.len(),
-            tables.picks.len(),
-            name,
-        )?;
+        let due = self.due_run(alloc, name)?;
         let ordinal = due.runs as u32 + 1;
-        self.deliver(
-            alloc,
-            tables,
-            due.query,
-            due.moment,
-            ordinal,
-            due.hits.as_slice(),
-        )?;
-        Ok(Reply::Ran {
+        let undo = self.undo_run(due.query.0 as usize - 1);
+        let change = self.deliver(alloc, due.query, due.moment, ordinal, due.hits.as_slice())?;
+        let reply = Reply::Ran {
             ordinal,
             moment: due.moment,
             hits: due.hits,
+        };
+        Ok(Prepared {
+            reply,
+            change: Some(change),
+            undo,
         })
     }
 }

@@ -1,4 +1,4 @@
-ghost use Rattle.std.specs.Prelude.{◌≡◌, ℤ, Option, Some, true, OnOk, OnErr, IfOk, IfErr};
+ghost use Rattle.std.specs.Prelude.{◌≡◌, ℤ, Option, None, Some, true, OnOk, OnErr, IfOk, IfErr, OnSome};
 ghost use Rattle.std.specs.Option.{option_or};
 ghost use Rattle.std.specs.Result.{result_err};
 ghost use Rattle.tap_base.specs.Numbers.{moment_of};
@@ -6,10 +6,13 @@ ghost use Rattle.tap_base.specs.Names.{is_name};
 ghost use Rattle.tap_rows.specs.declared.tables.Tables.{Tables};
 ghost use Rattle.script_lang.specs.declared.command.Command.{Command};
 ghost use Rattle.script_lang.specs.Replies.{HasShortNames, is_accepted};
-ghost use Rattle.tap_model.specs.Verdicts.{is_back, bad_name, verdict};
-ghost use Rattle.tap_model.specs.Stories.{Follows, Refuses};
+ghost use Rattle.tap_model.specs.Verdicts.{is_back, bad_name};
+ghost use Rattle.tap_model.specs.Replies.{tables_after};
+ghost use Rattle.tap_model.specs.Sound.{Sound};
+ghost use Rattle.tap_model.specs.Stories.{Refuses};
 
 use crate::engine::Engine;
+use crate::prepared::Prepared;
 use script_lang::{Refusal, Reply};
 use tap_base::{Text, is_name, read_moment};
 
@@ -45,36 +48,44 @@ pub(crate) fn refuse_name(name: &[u8]) -> Result<(), Refusal>
 
 impl Engine {
     ghost use Rattle.tap_engine.specs.Standing.{StandsFor};
+    ghost use Rattle.tap_engine.specs.Ready.{IsReady};
+    ghost use Rattle.tap_engine.specs.Answering.{Answers, TakesBack};
 
     // Sets the session's moment.
-    pub(crate) fn at(&mut self, text: &[u8]) -> Result<Reply, Refusal>
-        ensures ok { IfOk result (λ reply. (tables : Tables) → StandsFor self.old tables → Follows tables self.old.session (Command.At text.now) reply tables self.new.session) }
-        ensures stands { OnOk result ((tables : Tables) → StandsFor self.old tables → StandsFor self.new tables) }
-        ensures refusal { IfErr result (λ refusal. (tables : Tables) → StandsFor self.old tables → verdict (Command.At text.now) self.old.session tables ≡ Some refusal) }
+    pub(crate) fn at(&mut self, text: &[u8]) -> Result<Prepared, Refusal>
+        requires ready { IsReady self.old }
+        ensures ok { IfOk result (λ made. (t : Tables) → StandsFor self.old t → Sound t self.old.session → Answers t self.old.session (Command.At text.now) made.reply made.change self.new.session) }
+        ensures stands { IfOk result (λ made. (t : Tables) → StandsFor self.old t → Sound t self.old.session → StandsFor self.new (tables_after made.change t)) }
+        ensures refusal { IfErr result (λ refusal. (t : Tables) → StandsFor self.old t → Refuses refusal (Command.At text.now) self.old.session t) }
         ensures err { OnErr result (self.new ≡ self.old) }
-        ensures short { IfOk result (λ reply. HasShortNames reply) }
-        ensures accepted { IfOk result (λ reply. is_accepted reply ≡ true) }
+        ensures undo { IfOk result (λ made. OnSome made.change (TakesBack made.undo self.new self.old)) }
+        ensures ready { OnOk result (IsReady self.new) }
+        ensures short { IfOk result (λ made. HasShortNames made.reply) }
+        ensures accepted { IfOk result (λ made. is_accepted made.reply ≡ true) }
     {
         let Some(second) = second_of(text) else {
             return Err(Refusal::BadMoment);
         };
         refuse_back(self.session.moment.or(self.greatest), second)?;
         self.session.moment = Some(second);
-        Ok(Reply::At(second))
+        Ok(Prepared::plain(Reply::At(second)))
     }
 
     // Sets the session's user.
-    pub(crate) fn as_user(&mut self, name: Text) -> Result<Reply, Refusal>
-        ensures ok { IfOk result (λ reply. (tables : Tables) → Follows tables self.old.session (Command.AsUser name) reply tables self.new.session) }
-        ensures stands { OnOk result ((tables : Tables) → StandsFor self.old tables → StandsFor self.new tables) }
-        ensures refusal { IfErr result (λ refusal. (tables : Tables) → Refuses refusal (Command.AsUser name) self.old.session tables) }
+    pub(crate) fn as_user(&mut self, name: Text) -> Result<Prepared, Refusal>
+        requires ready { IsReady self.old }
+        ensures ok { IfOk result (λ made. (t : Tables) → StandsFor self.old t → Sound t self.old.session → Answers t self.old.session (Command.AsUser name) made.reply made.change self.new.session) }
+        ensures stands { IfOk result (λ made. (t : Tables) → StandsFor self.old t → Sound t self.old.session → StandsFor self.new (tables_after made.change t)) }
+        ensures refusal { IfErr result (λ refusal. (t : Tables) → StandsFor self.old t → Refuses refusal (Command.AsUser name) self.old.session t) }
         ensures err { OnErr result (self.new ≡ self.old) }
-        ensures short { IfOk result (λ reply. HasShortNames reply) }
-        ensures accepted { IfOk result (λ reply. is_accepted reply ≡ true) }
+        ensures undo { IfOk result (λ made. OnSome made.change (TakesBack made.undo self.new self.old)) }
+        ensures ready { OnOk result (IsReady self.new) }
+        ensures short { IfOk result (λ made. HasShortNames made.reply) }
+        ensures accepted { IfOk result (λ made. is_accepted made.reply ≡ true) }
     {
         refuse_name(name.as_slice())?;
         let shown = name.copy()?;
         self.session.user = Some(name);
-        Ok(Reply::AsUser(shown))
+        Ok(Prepared::plain(Reply::AsUser(shown)))
     }
 }

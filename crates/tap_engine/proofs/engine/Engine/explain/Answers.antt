@@ -1,14 +1,14 @@
 use Rattle.std.proofs.Common.{rules, ◌∙◌, sym, ap, subst}
 use Rattle.tap_engine.specs.Standing.{look_refusal, kept_named, RefusedBy}
 use Rattle.tap_engine.specs.Lists.{lines_kept}
-use Rattle.tap_engine.proofs.FilterLaws.{lines-refuses, follows-lines}
+use Rattle.tap_engine.proofs.FilterLaws.{lines-refuses, answers-lines}
 use Rattle.tap_engine.proofs.engine.Engine.explain.Goals as goal
 
 pub returns-in_err-lines-clause-refusal : goal.returns-in_err-lines-clause-refusal
-returns-in_err-lines-clause-refusal c =
-    let by = lines-refuses c.args.self.now c.args.tables.now c.args.name c.in_err-lines.field-0.0 c.requires.stands (subst (λ n. RefusedBy (look_refusal c.args.self.now n) c.in_err-lines.field-0.0) c.as_slice.ensures c.in_err-lines.ensures.refusal) in search (rules, by)
+returns-in_err-lines-clause-refusal c = λ t stands.
+    let by = lines-refuses c.args.self.now t c.args.name c.in_err-lines.field-0.0 stands (subst (λ n. RefusedBy (look_refusal c.args.self.now n) c.in_err-lines.field-0.0) c.as_slice.ensures c.in_err-lines.ensures.refusal) in search (rules, by)
 
 pub returns-clause-ok : goal.returns-clause-ok
-returns-clause-ok c = follows-lines c.args.self.now c.args.tables.now c.args.name c.in_ok-lines.lines c.requires.stands
+returns-clause-ok c = λ t stands sound. answers-lines c.args.self.now t c.args.name c.in_ok-lines.lines stands
     (sym (ap (look_refusal c.args.self.now) c.as_slice.ensures) ∙ c.in_ok-lines.ensures.look)
     (c.in_ok-lines.ensures.lines ∙ ap (λ n. lines_kept (kept_named c.args.self.now n)) c.as_slice.ensures)

@@ -1,0 +1,54 @@
+ghost use Rattle.std.specs.Prelude.{◌≡◌, ◌++◌, ◌∷◌, [], List, not, map, true, IfOk};
+ghost use Rattle.std.specs.List.{list_any};
+ghost use Rattle.tap_rows.specs.declared.rows.QueryRow.{QueryRow};
+ghost use Rattle.tap_rows.specs.WellFormed.{is_query_of};
+ghost use Rattle.restart_core.specs.Earlier.{named_of};
+
+use indexmap::IndexSet;
+use std::alloc::Global;
+use std::marker::Model;
+use tap_base::{Memory, Text};
+use tap_rows::QueryRow;
+
+/// What a query may not say twice: its owner and its name.
+#[derive(PartialEq, Eq, Hash, Drop)]
+pub(crate) struct Named {
+    owner: Text,
+    name: Text,
+}
+
+/// The distinct owners and names of some queries, in order. A name of an owner is looked up once.
+#[derive(Drop)]
+pub(crate) struct Names {
+    set: IndexSet<Named>,
+}
+
+impl Model for Names {
+    ghost use Rattle.std.specs.Prelude.{List};
+    ghost use Rattle.restart_core.specs.declared.names.Named.{Named};
+
+    ghost Value = { List Named };
+
+    ghost view = { λ names. names.set.keys };
+}
+
+impl Names {
+    // No names.
+    pub(crate) fn new(alloc: Global) -> Names
+        ensures { result ≡ [] }
+    {
+        Names {
+            set: IndexSet::new(alloc),
+        }
+    }
+
+    // Adds the query's owner and name, and says whether they are new, where the names are those of some queries.
+    pub(crate) fn add(&mut self, query: &QueryRow) -> Result<bool, Memory>
+        ensures new { (queries : List QueryRow) → self.old ≡ map named_of queries → IfOk result (λ new. new ≡ not (list_any (is_query_of query.now.owner query.now.name) queries)) }
+        ensures names { (queries : List QueryRow) → self.old ≡ map named_of queries → IfOk result (λ new. new ≡ true → self.new ≡ map named_of (queries ++ query.now ∷ [])) }
+    {
+        let owner = query.owner.copy()?;
+        let name = query.name.copy()?;
+        Ok(self.set.insert(Named { owner, name })?)
+    }
+}

@@ -1,0 +1,57 @@
+ghost use Rattle.std.specs.Prelude.{◌≡◌, ◌++◌, ◌∷◌, [], List, not, map, true, IfOk};
+ghost use Rattle.std.specs.List.{list_any};
+ghost use Rattle.tap_rows.specs.declared.rows.Pick.{Pick};
+ghost use Rattle.restart_core.specs.Damages.{is_same_pick};
+ghost use Rattle.restart_core.specs.Earlier.{pair_of};
+
+use indexmap::IndexSet;
+use std::alloc::Global;
+use std::marker::Model;
+use tap_base::Memory;
+use tap_rows::Pick;
+
+/// What a pick may not say twice: a query and a document, by their numbers.
+#[derive(Clone, Copy, Debug, PartialEq, Eq, Hash)]
+pub(crate) struct Pair {
+    query: u32,
+    doc: u32,
+}
+
+/// The distinct pairs of a query and a document of some picks, in order. A pair is looked up once.
+#[derive(Drop)]
+pub(crate) struct Picked {
+    pairs: IndexSet<Pair>,
+}
+
+impl Model for Picked {
+    ghost use Rattle.std.specs.Prelude.{List};
+    ghost use Rattle.restart_core.specs.declared.picked.Pair.{Pair};
+
+    ghost Value = { List Pair };
+
+    ghost view = { λ picked. picked.pairs.keys };
+}
+
+impl Picked {
+    // No pairs.
+    pub(crate) fn new(alloc: Global) -> Picked
+        ensures { result ≡ [] }
+    {
+        Picked {
+            pairs: IndexSet::new(alloc),
+        }
+    }
+
+    // Adds the pick's pair, and says whether it is new, where the pairs are those of some picks.
+    pub(crate) fn add(&mut self, pick: &Pick) -> Result<bool, Memory>
+        ensures new { (picks : List Pick) → self.old ≡ map pair_of picks → IfOk result (λ new. new ≡ not (list_any (is_same_pick pick.now) picks)) }
+        ensures pairs { (picks : List Pick) → self.old ≡ map pair_of picks → IfOk result (λ new. new ≡ true → self.new ≡ map pair_of (picks ++ pick.now ∷ [])) }
+    {
+        Ok(
+            self.pairs.insert(Pair {
+                query: pick.query.0,
+                doc: pick.doc.0,
+            })?,
+        )
+    }
+}

@@ -1,0 +1,54 @@
+ghost use Rattle.std.specs.Prelude.{◌≡◌, Option};
+ghost use Rattle.std.specs.Option.{option_copied};
+ghost use Rattle.tap_rows.specs.WellFormed.{may_follow, row_at};
+ghost use Rattle.restart_core.specs.declared.fault.RestartFault.{RestartFault};
+ghost use Rattle.restart_core.specs.Damages.{number_of, row_damage};
+
+use crate::{RestartFault, TableName, Why};
+use tap_base::LAST_MOMENT;
+
+// The row of a number, counted from 1.
+pub(crate) fn row<T>(rows: &[T], num: u32) -> Option<&T>
+    ensures { option_copied result ≡ row_at num rows.now }
+{
+    if num == 0 {
+        None
+    } else {
+        rows.get(num as usize - 1)
+    }
+}
+
+// May a row of this moment follow one of the moment `low`?
+pub(crate) fn follows(low: i64, moment: i64) -> bool
+    ensures { result ≡ may_follow low moment }
+{
+    low <= moment && moment <= LAST_MOMENT as i64
+}
+
+// A row's place as a number of 32 bits.
+fn number_of(place: usize) -> u32
+    ensures { result ≡ number_of place }
+{
+    if place <= 4294967295 { place as u32 } else { 0 }
+}
+
+// The row at this place is damaged for this reason.
+pub(crate) fn damaged(table: TableName, place: usize, why: Why) -> RestartFault
+    ensures { result ≡ RestartFault.Damaged table (number_of place) why }
+{
+    RestartFault::Damaged {
+        table,
+        num: number_of(place),
+        why,
+    }
+}
+
+// The damage of the row at this place, if there is a reason.
+pub(crate) fn row_damage(table: TableName, place: usize, why: Option<Why>) -> Option<RestartFault>
+    ensures { result ≡ row_damage table place why }
+{
+    match why {
+        None => None,
+        Some(why) => Some(damaged(table, place, why)),
+    }
+}

@@ -1,0 +1,83 @@
+ghost use Rattle.std.specs.Prelude.{◌≡◌, ◌⊎◌, None, Some, true, OnOk, IfOk, IfErr};
+ghost use Rattle.tap_rows.specs.WellFormed.{is_well_formed};
+ghost use Rattle.restart_core.specs.declared.fault.RestartFault.{RestartFault};
+ghost use Rattle.restart_core.specs.Damages.{damage_of};
+ghost use Rattle.restart_core.specs.Readings.{readings_of, as_read};
+
+use crate::RestartFault;
+use crate::docs::docs_damage;
+use crate::filters::filters_damage;
+use crate::notes::notes_damage;
+use crate::picks::picks_damage;
+use crate::queries::read_queries;
+use crate::runs::runs_damage;
+use std::alloc::Global;
+use std::marker::Model;
+use tap_rows::Tables;
+use tql_core::Cond;
+
+/// Stored tables of which no row is damaged, with the conditions of their queries. It is seen as the tables.
+#[derive(Drop)]
+pub struct Sound {
+    tables: Tables,
+    conds: Vec<Cond>,
+}
+
+impl Model for Sound {
+    ghost use Rattle.std.specs.Prelude.{◌≡◌, None};
+    ghost use Rattle.restart_core.specs.Damages.{damage_of};
+    ghost use Rattle.restart_core.specs.Readings.{readings_of, as_read};
+    ghost use Rattle.tap_rows.specs.declared.tables.Tables.{Tables};
+
+    ghost Value = { Tables };
+
+    ghost view = { λ sound. sound.tables };
+
+    ghost invariant = { λ sound. (damage_of sound.tables ≡ None) × (readings_of sound.tables.queries ≡ as_read sound.conds.items) };
+}
+
+// No damage, or the damage as a fault.
+fn refuse(damage: Option<RestartFault>) -> Result<(), RestartFault>
+    ensures ok { OnOk result (damage ≡ None) }
+    ensures fault { IfErr result (λ fault. damage ≡ Some fault) }
+{
+    match damage {
+        None => Ok(()),
+        Some(fault) => Err(fault),
+    }
+}
+
+/// Looks at all rows of stored tables, in the order documents, notes, queries, runs, picks, filters, rows from the first,
+/// and answers the first damaged one with its first reason. The texts of queries are read, those of filters aren't. It
+/// takes one look-up for each query and each pick.
+#[tactic(auto, unfolding(crate::specs::Damages::damage_of))]
+pub fn check_tables(alloc: Global, tables: Tables) -> Result<Sound, RestartFault>
+    ensures tables { IfOk result (λ sound. sound ≡ tables) }
+    ensures sound { OnOk result (damage_of tables ≡ None) }
+    ensures fault { IfErr result (λ fault. (fault ≡ RestartFault.Memory) ⊎ (damage_of tables ≡ Some fault)) }
+{
+    refuse(docs_damage(tables.docs.as_slice()))?;
+    refuse(notes_damage(tables.docs.as_slice(), tables.notes.as_slice()))?;
+    let conds = read_queries(alloc, tables.queries.as_slice())?;
+    refuse(runs_damage(tables.queries.as_slice(), tables.runs.as_slice()))?;
+    refuse(picks_damage(
+        alloc,
+        tables.runs.as_slice(),
+        tables.docs.as_slice(),
+        tables.picks.as_slice(),
+    )?)?;
+    refuse(filters_damage(tables.filters.as_slice()))?;
+    Ok(Sound { tables, conds })
+}
+
+impl Sound {
+    /// The tables and the condition of each query, in order. It takes no memory.
+    pub fn into_parts(self) -> (Tables, Vec<Cond>)
+        ensures tables { result.0 ≡ self }
+        ensures sound { damage_of self ≡ None }
+        ensures formed { is_well_formed self ≡ true }
+        ensures conds { readings_of self.queries ≡ as_read result.1.items }
+    {
+        (self.tables, self.conds)
+    }
+}

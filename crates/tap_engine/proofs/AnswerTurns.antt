@@ -1,0 +1,65 @@
+-- What isn't refused is answered, and its rows are taken back.
+use Rattle.std.proofs.Common.{◌≡◌, ◌∙◌, sym, ap, ℕ, List, [], ◌∷◌, ◌++◌, length, take, true, false, Option, Some, None, if◌then◌else◌}
+use Rattle.std.proofs.Math.Seq.{take-append_seam}
+use Rattle.std.proofs.lemmas.List.{append-nil}
+use Rattle.std.specs.Prelude.{OnSome}
+use Rattle.tap_rows.specs.declared.tables.Tables.{Tables}
+use Rattle.tap_rows.specs.declared.change.Change.{Change}
+use Rattle.tap_rows.specs.declared.rows.Doc.{Doc}
+use Rattle.tap_rows.specs.declared.rows.Note.{Note}
+use Rattle.tap_rows.specs.declared.rows.FilterRow.{FilterRow}
+use Rattle.tap_base.specs.Words.{holds}
+use Rattle.script_lang.specs.declared.command.Command.{Command}
+use Rattle.tap_model.specs.declared.session.Session.{Session}
+use Rattle.tap_model.specs.Verdicts.{verdict}
+use Rattle.tap_model.specs.Replies.{answer_of, answer_by, accepted}
+use Rattle.tap_engine.specs.declared.kept_query.KeptQuery.{KeptQuery}
+use Rattle.tap_engine.specs.declared.engine.Engine.{Engine}
+use Rattle.tap_engine.specs.declared.undo.Undo.TheVariants.{Docs, Note as OneNote, Query, Filter}
+use Rattle.tap_engine.specs.Keeping.{with_owner}
+use Rattle.tap_engine.specs.Answering.{Answers, TakesBack}
+
+-- what isn't refused is accepted
+pub answers-accepted : (t : Tables) (s : Session) (c : Command) → verdict c s t ≡ None → Answers t s c (accepted c s t).reply (accepted c s t).change (accepted c s t).session
+answers-accepted t s c none =
+    let is : answer_of c s t ≡ accepted c s t = ap (λ v. answer_by v c s t) none in
+    record {
+      fine = none;
+      reply_is = sym (ap (λ a. a.reply) is);
+      change_is = sym (ap (λ a. a.change) is);
+      session_is = sym (ap (λ a. a.session) is);
+    }
+
+-- what holds whatever the rows are
+pub some-undo : {P : Type 0} (change : Option Change) → P → OnSome change P
+some-undo None p = tt
+some-undo (Some change) p = p
+
+-- documents are taken back
+pub undo-docs : (e : Engine) (docs : List Doc) (bytes : ℕ) → TakesBack (Docs (length e.docs) e.bytes) (record e { docs = e.docs ++ docs; bytes = bytes }) e
+undo-docs e docs bytes = record { there = tt; before_is = ap (λ l. record e { docs = l }) (take-append_seam e.docs docs) }
+
+-- a note is taken back
+pub undo-note : (e : Engine) (notes : List Note) (bytes : ℕ) → TakesBack (OneNote (length e.notes) e.bytes) (record e { notes = e.notes ++ notes; bytes = bytes }) e
+undo-note e notes bytes = record { there = tt; before_is = ap (λ l. record e { notes = l }) (take-append_seam e.notes notes) }
+
+-- an owner is taken back
+owner-back : (owners : List (List ℕ)) (owner : List ℕ) → take (length owners) (with_owner owners owner) ≡ owners
+owner-back owners owner = elim (holds owners owner) as (λ b. take (length owners) (if b then owners else owners ++ owner ∷ []) ≡ owners) [
+  | true ↦ ap (take (length owners)) (sym (append-nil owners)) ∙ take-append_seam owners []
+  | false ↦ take-append_seam owners (owner ∷ [])
+]
+
+-- a query is taken back
+pub undo-query : (e : Engine) (queries : List KeptQuery) (owner : List ℕ) (bytes : ℕ) → TakesBack (Query (length e.queries) (length e.owners) e.bytes) (record e { queries = e.queries ++ queries; owners = with_owner e.owners owner; bytes = bytes }) e
+undo-query e queries owner bytes = record {
+  there = tt;
+  before_is = ap (λ l. record e { queries = l; owners = take (length e.owners) (with_owner e.owners owner) }) (take-append_seam e.queries queries) ∙ ap (λ l. record e { owners = l }) (owner-back e.owners owner);
+}
+
+-- a filter is taken back
+pub undo-filter : (e : Engine) (filters : List FilterRow) (owner : List ℕ) (bytes : ℕ) → TakesBack (Filter (length e.filters) (length e.owners) e.bytes) (record e { filters = e.filters ++ filters; owners = with_owner e.owners owner; bytes = bytes }) e
+undo-filter e filters owner bytes = record {
+  there = tt;
+  before_is = ap (λ l. record e { filters = l; owners = take (length e.owners) (with_owner e.owners owner) }) (take-append_seam e.filters filters) ∙ ap (λ l. record e { owners = l }) (owner-back e.owners owner);
+}

@@ -1,0 +1,61 @@
+-- How a command is answered before its rows are committed, and how its rows are taken back.
+use Rattle.std.specs.Prelude.{ℕ, ⊤, ◌≡◌, ◌<◌, length, take, true, Option, None, Result, Ok, Err}
+use Rattle.tap_rows.specs.declared.tables.Tables.{Tables}
+use Rattle.tap_rows.specs.declared.change.Change.{Change}
+use Rattle.keeper_core.specs.declared.fault.CommitFault.{CommitFault}
+use Rattle.keeper_core.specs.declared.fault.CommitFault.TheVariants as C
+use Rattle.script_lang.specs.declared.command.Command.{Command}
+use Rattle.script_lang.specs.declared.reply.Reply.{Reply}
+use Rattle.script_lang.specs.declared.reply.Reply.TheVariants.{No}
+use Rattle.script_lang.specs.declared.refusal.Refusal.TheVariants.{Memory}
+use Rattle.tap_model.specs.declared.session.Session.{Session}
+use Rattle.tap_model.specs.Verdicts.{verdict}
+use Rattle.tap_model.specs.Replies.{answer_of}
+use Rattle.tap_engine.specs.declared.kept_query.KeptQuery.{KeptQuery}
+use Rattle.tap_engine.specs.Keeping.{without_run}
+use Rattle.tap_engine.specs.declared.engine.Engine.{Engine}
+use Rattle.tap_engine.specs.declared.fault.EngineFault.{EngineFault}
+use Rattle.tap_engine.specs.declared.fault.EngineFault.TheVariants.{KeeperFailed}
+use Rattle.tap_engine.specs.declared.undo.Undo.{Undo}
+use Rattle.tap_engine.specs.declared.undo.Undo.TheVariants.{Nothing, Docs, Note, Query, Filter, Run}
+
+-- the command isn't refused; its reply, the rows that it adds and the session after it are as its answer says
+pub record Answers (tables : Tables) (session : Session) (command : Command) (reply : Reply) (change : Option Change) (session' : Session) : Type 0 where
+  pub fine : verdict command session tables ≡ None
+  pub reply_is : reply ≡ (answer_of command session tables).reply
+  pub change_is : change ≡ (answer_of command session tables).change
+  pub session_is : session' ≡ (answer_of command session tables).session
+
+-- the engine without the rows of a command
+abbrev pub taken_back : Undo → Engine → Engine
+taken_back Nothing engine = engine
+taken_back (Docs len bytes) engine = record engine { docs = take len engine.docs; bytes = bytes }
+taken_back (Note len bytes) engine = record engine { notes = take len engine.notes; bytes = bytes }
+taken_back (Query len owners bytes) engine = record engine { queries = take len engine.queries; owners = take owners engine.owners; bytes = bytes }
+taken_back (Filter len owners bytes) engine = record engine { filters = take len engine.filters; owners = take owners engine.owners; bytes = bytes }
+taken_back (Run place covered runs entries run_count pick_count) engine =
+    record engine { queries = without_run place covered runs entries engine.queries; run_count = run_count; pick_count = pick_count }
+
+-- what takes the next run of the query at a place back, by what is kept of it
+abbrev pub undo_run : Engine → ℕ → KeptQuery → Undo
+undo_run engine place kept = Run place kept.covered kept.runs (length kept.entries) engine.run_count engine.pick_count
+
+-- the query whose run is taken back is there
+abbrev pub IsThere : Undo → Engine → Type 0
+IsThere (Run place covered runs entries run_count pick_count) engine = place < length engine.queries
+IsThere undo engine = ⊤
+
+-- the one engine is what is left of the other when the rows of a command are taken back
+pub record TakesBack (undo : Undo) (engine before : Engine) : Type 0 where
+  pub there : IsThere undo engine
+  pub before_is : taken_back undo engine ≡ before
+
+-- what is answered where the keeper didn't commit
+abbrev pub fault_answer : CommitFault → Result Reply EngineFault
+fault_answer C.Memory = Ok (No Memory)
+fault_answer C.Failed = Err KeeperFailed
+
+-- the engine is stopped where the keeper failed
+abbrev pub fault_engine : CommitFault → Engine → Engine
+fault_engine C.Memory engine = engine
+fault_engine C.Failed engine = record engine { stopped = true }

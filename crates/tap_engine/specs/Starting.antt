@@ -1,0 +1,53 @@
+-- What an engine makes of stored tables when it starts.
+use Rattle.std.specs.Prelude.{ℕ, ℤ, ◌+◌, ◌≤◌, List, [], ◌∷◌, ◌++◌, map, Bool, Option, Some, None, is_some, if◌then◌else◌}
+use Rattle.tap_rows.specs.declared.tables.Tables.{Tables}
+use Rattle.tap_rows.specs.declared.rows.QueryRow.{QueryRow}
+use Rattle.tap_rows.specs.declared.rows.RunRow.{RunRow}
+use Rattle.tap_rows.specs.declared.rows.Pick.{Pick}
+use Rattle.tap_rows.specs.declared.rows.FilterRow.{FilterRow}
+use Rattle.tap_rows.specs.declared.results.Entry.{Entry}
+use Rattle.tap_rows.specs.Tables.{no_rows}
+use Rattle.tap_rows.specs.Deliveries.{run_ordinal}
+use Rattle.tap_model.specs.Sessions.{later_of}
+use Rattle.tap_model.specs.Verdicts.{filter_fault}
+use Rattle.tap_engine.specs.declared.kept_query.KeptQuery.{KeptQuery}
+use Rattle.tap_engine.specs.declared.sums.Sums.{Sums}
+
+-- has the filter's text a fault?
+abbrev pub is_unread : FilterRow → Bool
+is_unread filter = is_some (filter_fault filter.source)
+
+-- the number of the first filter whose text has a fault
+abbrev pub first_unread : List FilterRow → Option ℕ
+first_unread [] = None
+first_unread (filter ∷ filters) = if is_unread filter then Some filter.num else first_unread filters
+
+-- the rows of queries that are kept
+abbrev pub rows_in : List KeptQuery → List QueryRow
+rows_in queries = map (λ kept. kept.row) queries
+
+-- tables of these runs and picks alone
+abbrev pub runs_alone : List RunRow → List Pick → Tables
+runs_alone runs picks = record no_rows { runs = runs; picks = picks }
+
+-- the ordinal of a run among its query's
+abbrev pub ordinal_in : List RunRow → RunRow → ℕ
+ordinal_in runs run = run_ordinal run.num run.query.0 runs
+
+-- a query that has delivered one document more
+abbrev pub with_entry : Entry → KeptQuery → KeptQuery
+with_entry entry kept = record { row = kept.row; covered = kept.covered; runs = kept.runs; entries = kept.entries ++ entry ∷ [] }
+
+-- the number of one of so many rows
+pub record IsOneOf (num count : ℕ) : Type 0 where
+  pub low : 1 ≤ num
+  pub high : num ≤ count
+
+-- with one row more, of this moment and so many bytes
+abbrev pub added : ℤ → ℕ → Sums → Sums
+added moment bytes sums = record { bytes = sums.bytes + bytes; greatest = Some (later_of moment sums.greatest) }
+
+-- with some rows more
+abbrev pub summed : {A : Type 0} → (A → ℤ) → (A → ℕ) → Sums → List A → Sums
+summed moment bytes sums [] = sums
+summed moment bytes sums (row ∷ rows) = summed moment bytes (added (moment row) (bytes row) sums) rows

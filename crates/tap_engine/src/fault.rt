@@ -1,0 +1,9 @@
+use thiserror::Error;
+
+/// Why a command was not answered.
+#[derive(Debug, Drop, Error)]
+pub enum EngineFault {
+    /// The keeper failed, and the engine is stopped.
+    #[error("store failed")]
+    KeeperFailed,
+}

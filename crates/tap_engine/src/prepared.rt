@@ -1,0 +1,27 @@
+ghost use Rattle.std.specs.Prelude.{◌≡◌, None};
+ghost use Rattle.tap_engine.specs.declared.undo.Undo.{Undo as UndoRows};
+
+use crate::undo::Undo;
+use script_lang::Reply;
+use tap_rows::Change;
+
+/// A command for which all memory is taken: its reply, the rows that are to be committed, and what takes them back.
+#[derive(Drop)]
+pub struct Prepared {
+    pub reply: Reply,
+    pub change: Option<Change>,
+    pub undo: Undo,
+}
+
+impl Prepared {
+    // A command that adds no rows.
+    pub(crate) fn plain(reply: Reply) -> Prepared
+        ensures { result ≡ record { reply = reply; change = None; undo = UndoRows.Nothing } }
+    {
+        Prepared {
+            reply,
+            change: None,
+            undo: Undo::Nothing,
+        }
+    }
+}

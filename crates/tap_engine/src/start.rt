@@ -1,0 +1,80 @@
+ghost use Rattle.std.specs.Prelude.{◌≡◌, ◌⊎◌, None, Some, false, length, OnOk, IfOk, IfErr};
+ghost use Rattle.std.specs.Option.{option_map};
+ghost use Rattle.tap_engine.specs.Starting.{first_unread};
+
+use crate::deliveries::deliver;
+use crate::engine::Engine;
+use crate::keep::{keep_docs, keep_filters, keep_queries, owners_of};
+use crate::sums::Sums;
+use restart_core::Sound;
+use std::alloc::Global;
+use tap_base::Memory;
+use tap_model::Session;
+use tap_rows::Tables;
+use thiserror::Error;
+
+/// Why no engine starts over sound tables: the text of the filter of this number has a fault, and it is the first such
+/// filter; or there is no memory.
+#[derive(Debug, Drop, Error)]
+pub enum StartFault {
+    #[error("unreadable rules of filter {num}")]
+    Rules { num: u32 },
+    #[error("no memory")]
+    Memory,
+}
+
+impl From<Memory> for StartFault {
+    ghost use Rattle.tap_engine.specs.declared.start.StartFault.{StartFault};
+
+    ghost from_gives = { λ _ fault. fault ≡ StartFault.Memory };
+
+    fn from(_memory: Memory) -> StartFault {
+        StartFault::Memory
+    }
+}
+
+impl Engine {
+    ghost use Rattle.tap_engine.specs.declared.start.StartFault.{StartFault as Fault};
+    ghost use Rattle.tap_model.specs.Sessions.{no_session};
+    ghost use Rattle.tap_engine.specs.Standing.{StandsFor};
+    ghost use Rattle.tap_engine.specs.Ready.{IsReady};
+
+    /// An engine with a new session that stands for sound tables. It looks at each row a fixed number of times.
+    pub fn start(alloc: Global, sound: Sound) -> Result<Engine, StartFault>
+        ensures stands { IfOk result (λ engine. StandsFor engine sound) }
+        ensures session { IfOk result (λ engine. engine.session ≡ no_session) }
+        ensures running { IfOk result (λ engine. engine.stopped ≡ false) }
+        ensures ready { IfOk result (λ engine. IsReady engine) }
+        ensures read { OnOk result (first_unread sound.filters ≡ None) }
+        ensures fault { IfErr result (λ fault. (fault ≡ Fault.Memory) ⊎ (option_map Fault.Rules (first_unread sound.filters) ≡ Some fault)) }
+    {
+        let (tables, conds) = sound.into_parts();
+        let sums = Sums::of(&tables)?;
+        let owners = owners_of(alloc, tables.queries.as_slice(), tables.filters.as_slice())?;
+        let Tables {
+            docs,
+            notes,
+            queries,
+            runs,
+            picks,
+            filters,
+        } = tables;
+        let mut queries = keep_queries(alloc, queries, conds)?;
+        deliver(alloc, &mut queries, runs.as_slice(), picks.as_slice())?;
+        let docs = keep_docs(alloc, docs)?;
+        let filters = keep_filters(alloc, filters)?;
+        Ok(Engine {
+            session: Session::new(),
+            docs,
+            notes,
+            queries,
+            filters,
+            run_count: runs.len(),
+            pick_count: picks.len(),
+            bytes: sums.bytes,
+            owners,
+            greatest: sums.greatest,
+            stopped: false,
+        })
+    }
+}
