@@ -17,6 +17,7 @@ use Rattle.tap_model.specs.Sessions.{no_session}
 use Rattle.tap_model.specs.Sound.{Sound, IsStore}
 use Rattle.tap_model.specs.Replies.{answer_of, tables_after}
 use Rattle.tap_model.specs.Stories.{Story}
+use Rattle.tap_model.proofs.SoundLaws.{sound-store}
 use Rattle.keeper_core.specs.Keeping.{Holds}
 use Rattle.tap_engine.specs.declared.engine.Engine.{Engine}
 use Rattle.tap_engine.specs.Standing.{StandsFor}
@@ -177,7 +178,7 @@ last-sound t s (c ∷ cs) [] t' s' story along = absurd story
 -- a story that begins with a store leads to one
 story-store : (t : Tables) (cs : List Command) (rs : List Reply) (t' : Tables) (s' : Session) → Story t no_session cs rs t' s' → IsStore t → IsStore t'
 story-store t cs rs t' s' story store =
-    let sound = last-sound t no_session cs rs t' s' story (Story-sound t no_session cs rs t' s' story store) in record { kept = sound.kept; now = tt; formed = sound.formed; sources = sound.sources; rules = sound.rules; user = tt }
+    let sound = last-sound t no_session cs rs t' s' story (Story-sound t no_session cs rs t' s' story store) in sound-store t' s' sound
 
 -- what a crash leaves is a store
 pub leaves-stores : (t : Tables) (left left' out out' : Option (List ℕ)) (leaves : Tables → Type 0) → IsStore t → LeavesPrefix t left left' out out' leaves → (x : Tables) → leaves x → IsStore x

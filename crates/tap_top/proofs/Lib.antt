@@ -1,4 +1,3 @@
-mod Assumed
 mod Stories
 mod Steps
 mod Runs

@@ -16,7 +16,7 @@ use Rattle.tap_model.specs.Sound.{Sound}
 use Rattle.tap_model.specs.Verdicts.{verdict}
 use Rattle.tap_model.specs.Replies.{answer_of, tables_after}
 use Rattle.tap_model.specs.Stories.{Step, Story}
-use Rattle.tap_top.proofs.Assumed.{step-sound}
+use Rattle.tap_model.proofs.SoundLaws.{step-sound}
 use Rattle.tap_top.specs.Points.{SoundAlong}
 use Rattle.tap_top.specs.Answers.{Answered, CutOff, MayAdd, Uncommitted}
 

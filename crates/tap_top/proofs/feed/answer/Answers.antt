@@ -1,5 +1,5 @@
 use Rattle.tap_model.specs.Stories.{next_tables}
-use Rattle.tap_top.proofs.Assumed.{step-sound}
+use Rattle.tap_model.proofs.SoundLaws.{step-sound}
 use Rattle.tap_top.specs.Points.{IsAt}
 use Rattle.tap_top.proofs.Stories.{Answered-one, CutOff-one, Uncommitted-one}
 use Rattle.tap_top.proofs.feed.answer.Goals as goal
