@@ -35,7 +35,7 @@ known-fault v t (inr two) = rw two refl
 
 is-condition : (reading : Result Condition TextFault) → IsOk reading → is_condition reading ≡ true
 is-condition (Ok condition) ok = refl
-is-condition (Err fault) ok = absurd ok
+is-condition (Err fault) ok = ok
 
 each-readable : (queries : List QueryRow) → Each (λ query. text_fault (condition_text query.source) ≡ None) queries → Each (λ query. is_readable query ≡ true) queries
 each-readable [] each = tt
