@@ -76,8 +76,9 @@ fn over<L: Ledger>(
 
 const FIRST: &[u8] =
     b"as ann\nat 100\nquery q m.words HAS 'hi'\nmail\nSubject: hi\n\n.\nat 101\nrun q\nat 110\nmail\nSubject: hi\n\n.\nat 111\nrun q\n";
-const SECOND: &[u8] =
-    b"as ann\nat 111\nat 120\nmail\nSubject: hi\n\n.\nat 121\nrun q\nbox q\n";
+
+const SECOND: &[u8] = b"as ann\nat 111\nat 120\nmail\nSubject: hi\n\n.\nat 121\nrun q\nbox q\n";
+
 const SECOND_REPLIES: &[u8] =
     b"ok 0 as ann\nok 0 at 111\nok 0 at 120\nok 0 doc 3\nok 0 at 121\nok 1 run 3 before 121\ndoc 3 first 120\nok 3 box q\ndoc 1 first 100 run 1\ndoc 2 first 110 run 2\ndoc 3 first 120 run 3\n";
 
@@ -87,7 +88,14 @@ fn first_left<L: Ledger>(alloc: Global, blank: Blank) -> Result<Ended, Memory>
     requires parts { blank.parts ≡ L.parts }
     requires some { 0 < blank.parts }
 {
-    over::<L>(alloc, blank, Tables::empty(alloc), 2, Vec::new(alloc), FIRST)
+    over::<L>(
+        alloc,
+        blank,
+        Tables::empty(alloc),
+        2,
+        Vec::new(alloc),
+        FIRST,
+    )
 }
 
 #[test]
@@ -242,7 +250,12 @@ fn stores_are_refused(rt: HostRuntime) -> Result<(), Fail> {
 fn a_store_may_fail_before_the_first_command(rt: HostRuntime) -> Result<(), Fail> {
     let alloc = rt.alloc();
     let empty = Tables::empty(alloc);
-    let fails = vec![in alloc; KeepPlan { call: 0, kept: true }]?;
+    let fails = vec![in alloc;
+        KeepPlan {
+            call: 0,
+            kept: true
+        },
+    ]?;
     let ended = over::<Brand>(alloc, Blank::new(1), empty, 2, fails, b"at 200\n")?;
     assert_eq!(rt; ended.status, 5);
     assert_eq!(rt; ended.written.as_slice(), b"".as_slice());

@@ -9,7 +9,6 @@ mod top;
 pub use store_fault::StoreFault;
 pub use top::{PIECE, SCRIPT_LIMIT, tapestry};
 
-
 #[cfg(test)]
 mod keeper_tests;
 #[cfg(test)]

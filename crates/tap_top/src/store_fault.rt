@@ -10,7 +10,9 @@ use restart_core::{TableName, Why};
 #[derive(Clone, Copy, Debug, PartialEq, Eq)]
 pub enum StoreFault {
     /// Its version isn't known.
-    Version { version: i64 },
+    Version {
+        version: i64,
+    },
     /// This is its first row that can't be used, with the row's place in its table from 1.
     Damaged {
         table: TableName,
