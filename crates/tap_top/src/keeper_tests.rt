@@ -11,6 +11,7 @@ use tap_edges::{MemSink, MemSource, PutPlan};
 use tap_rows::{Change, Doc, FilterRow, Pick, QueryRow, RunRow, Tables};
 
 // What a session did: its status, what was written, and the version of its store; and what a crash leaves then.
+#[derive(Drop)]
 struct Ended {
     status: u8,
     written: Text,
