@@ -1,5 +1,5 @@
 -- What isn't refused is answered, and its rows are taken back.
-use Rattle.std.proofs.Common.{◌≡◌, ◌∙◌, sym, ap, ℕ, List, [], ◌∷◌, ◌++◌, length, take, true, false, Option, Some, None, if◌then◌else◌}
+use Rattle.std.proofs.Common.{◌≡◌, ◌∙◌, sym, refl, ap, inr, ℕ, List, [], ◌∷◌, ◌++◌, length, take, true, false, Option, Some, None, if◌then◌else◌}
 use Rattle.std.proofs.Math.Seq.{take-append_seam}
 use Rattle.std.proofs.lemmas.List.{append-nil}
 use Rattle.std.specs.Prelude.{OnSome}
@@ -11,12 +11,15 @@ use Rattle.tap_rows.specs.declared.rows.FilterRow.{FilterRow}
 use Rattle.tap_base.specs.Words.{holds}
 use Rattle.script_lang.specs.declared.command.Command.{Command}
 use Rattle.tap_model.specs.declared.session.Session.{Session}
-use Rattle.tap_model.specs.Verdicts.{verdict}
+use Rattle.script_lang.specs.declared.refusal.Refusal.{Refusal}
+use Rattle.script_lang.specs.declared.refusal.Refusal.TheVariants.{Memory}
+use Rattle.tap_model.specs.Verdicts.{verdict, is_early}
 use Rattle.tap_model.specs.Replies.{answer_of, answer_by, accepted}
 use Rattle.tap_engine.specs.declared.kept_query.KeptQuery.{KeptQuery}
 use Rattle.tap_engine.specs.declared.engine.Engine.{Engine}
 use Rattle.tap_engine.specs.declared.undo.Undo.TheVariants.{Docs, Note as OneNote, Query, Filter}
 use Rattle.tap_engine.specs.Keeping.{with_owner}
+use Rattle.tap_engine.specs.Standing.{RefusedBy}
 use Rattle.tap_engine.specs.Answering.{Answers, TakesBack}
 
 -- what isn't refused is accepted
@@ -35,13 +38,17 @@ pub some-undo : {P : Type 0} (change : Option Change) → P → OnSome change P
 some-undo None p = tt
 some-undo (Some change) p = p
 
+-- for want of memory, where it isn't refused
+pub for-memory : (v : Option Refusal) → v ≡ None → RefusedBy v Memory
+for-memory v none = inr (refl, ap is_early none)
+
 -- documents are taken back
-pub undo-docs : (e : Engine) (docs : List Doc) (bytes : ℕ) → TakesBack (Docs (length e.docs) e.bytes) (record e { docs = e.docs ++ docs; bytes = bytes }) e
-undo-docs e docs bytes = record { there = tt; before_is = ap (λ l. record e { docs = l }) (take-append_seam e.docs docs) }
+pub undo-docs : (e : Engine) (docs : List Doc) (bytes n : ℕ) → n ≡ length e.docs → TakesBack (Docs n e.bytes) (record e { docs = e.docs ++ docs; bytes = bytes }) e
+undo-docs e docs bytes n is = record { there = tt; before_is = ap (λ n. record e { docs = take n (e.docs ++ docs) }) is ∙ ap (λ l. record e { docs = l }) (take-append_seam e.docs docs) }
 
 -- a note is taken back
-pub undo-note : (e : Engine) (notes : List Note) (bytes : ℕ) → TakesBack (OneNote (length e.notes) e.bytes) (record e { notes = e.notes ++ notes; bytes = bytes }) e
-undo-note e notes bytes = record { there = tt; before_is = ap (λ l. record e { notes = l }) (take-append_seam e.notes notes) }
+pub undo-note : (e : Engine) (notes : List Note) (bytes n : ℕ) → n ≡ length e.notes → TakesBack (OneNote n e.bytes) (record e { notes = e.notes ++ notes; bytes = bytes }) e
+undo-note e notes bytes n is = record { there = tt; before_is = ap (λ n. record e { notes = take n (e.notes ++ notes) }) is ∙ ap (λ l. record e { notes = l }) (take-append_seam e.notes notes) }
 
 -- an owner is taken back
 owner-back : (owners : List (List ℕ)) (owner : List ℕ) → take (length owners) (with_owner owners owner) ≡ owners
@@ -51,15 +58,19 @@ owner-back owners owner = elim (holds owners owner) as (λ b. take (length owner
 ]
 
 -- a query is taken back
-pub undo-query : (e : Engine) (queries : List KeptQuery) (owner : List ℕ) (bytes : ℕ) → TakesBack (Query (length e.queries) (length e.owners) e.bytes) (record e { queries = e.queries ++ queries; owners = with_owner e.owners owner; bytes = bytes }) e
-undo-query e queries owner bytes = record {
+pub undo-query : (e : Engine) (queries : List KeptQuery) (owner : List ℕ) (bytes n m : ℕ) → n ≡ length e.queries → m ≡ length e.owners → TakesBack (Query n m e.bytes) (record e { queries = e.queries ++ queries; owners = with_owner e.owners owner; bytes = bytes }) e
+undo-query e queries owner bytes n m is-n is-m = record {
   there = tt;
-  before_is = ap (λ l. record e { queries = l; owners = take (length e.owners) (with_owner e.owners owner) }) (take-append_seam e.queries queries) ∙ ap (λ l. record e { owners = l }) (owner-back e.owners owner);
+  before_is = ap (λ n. record e { queries = take n (e.queries ++ queries); owners = take m (with_owner e.owners owner) }) is-n
+      ∙ ap (λ l. record e { queries = l; owners = take m (with_owner e.owners owner) }) (take-append_seam e.queries queries)
+      ∙ ap (λ m. record e { owners = take m (with_owner e.owners owner) }) is-m ∙ ap (λ l. record e { owners = l }) (owner-back e.owners owner);
 }
 
 -- a filter is taken back
-pub undo-filter : (e : Engine) (filters : List FilterRow) (owner : List ℕ) (bytes : ℕ) → TakesBack (Filter (length e.filters) (length e.owners) e.bytes) (record e { filters = e.filters ++ filters; owners = with_owner e.owners owner; bytes = bytes }) e
-undo-filter e filters owner bytes = record {
+pub undo-filter : (e : Engine) (filters : List FilterRow) (owner : List ℕ) (bytes n m : ℕ) → n ≡ length e.filters → m ≡ length e.owners → TakesBack (Filter n m e.bytes) (record e { filters = e.filters ++ filters; owners = with_owner e.owners owner; bytes = bytes }) e
+undo-filter e filters owner bytes n m is-n is-m = record {
   there = tt;
-  before_is = ap (λ l. record e { filters = l; owners = take (length e.owners) (with_owner e.owners owner) }) (take-append_seam e.filters filters) ∙ ap (λ l. record e { owners = l }) (owner-back e.owners owner);
+  before_is = ap (λ n. record e { filters = take n (e.filters ++ filters); owners = take m (with_owner e.owners owner) }) is-n
+      ∙ ap (λ l. record e { filters = l; owners = take m (with_owner e.owners owner) }) (take-append_seam e.filters filters)
+      ∙ ap (λ m. record e { owners = take m (with_owner e.owners owner) }) is-m ∙ ap (λ l. record e { owners = l }) (owner-back e.owners owner);
 }

@@ -29,7 +29,7 @@ one : (x : Option Refusal) → first_refusal (x ∷ []) ≡ x
 one None = refl
 one (Some x) = refl
 
-module _ (t : Tables) (s : Session) (moment source : List ℕ) (m now : ℤ) (is-m : moment_of moment ≡ Some m) (is-now : s.moment ≡ Some now) where
+module _ (s : Session) (moment source : List ℕ) (m now : ℤ) (is-m : moment_of moment ≡ Some m) (is-now : s.moment ≡ Some now) (t : Tables) where
   -- the checks that are left once there are both moments
   left : verdict (Ask moment source) s t ≡ first_refusal (text_fault source ∷ unless (int_lt m now) (NotOver now) ∷ [])
   left =

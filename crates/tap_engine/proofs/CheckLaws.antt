@@ -81,8 +81,8 @@ define-verdict e t name source stands =
     ∙ rw (stands.queries, named-kept t (user_of e.session) name t.queries, none-map t (find (is_named (user_of e.session) name) t.queries), owned-kept t (user_of e.session) t.queries, length-map t.queries (kept_query t), stands.users, stands.owners (user_of e.session), stands.bytes) refl
 
 -- a command that is refused by its verdict, or for want of memory
-pub define-refuses : (e : Engine) (t : Tables) (name source : List ℕ) (refusal : Refusal) → StandsFor e t → RefusedBy (define_refusal e name source) refusal → Refuses refusal (Define name source) e.session t
-define-refuses e t name source refusal stands by = subst (λ v. RefusedBy v refusal) (define-verdict e t name source stands) by
+pub define-refuses : (e : Engine) (name source : List ℕ) (refusal : Refusal) → RefusedBy (define_refusal e name source) refusal → (t : Tables) → StandsFor e t → Refuses refusal (Define name source) e.session t
+define-refuses e name source refusal by t stands = subst (λ v. RefusedBy v refusal) (define-verdict e t name source stands) by
 
 -- what is kept of the user's query of this name
 pub named-is : (e : Engine) (t : Tables) (name : List ℕ) → StandsFor e t → kept_named e name ≡ option_map (kept_query t) (query_named (user_of e.session) name t)
@@ -122,8 +122,8 @@ box-verdict e t name stands =
     ∙ ap (λ c. option_or (no_user e.session) (option_or (bad_name name) c)) (missing-map t (query_named (user_of e.session) name t))
     ∙ three (no_user e.session) (bad_name name) (missing NoQuery (query_named (user_of e.session) name t))
 
-pub box-refuses : (e : Engine) (t : Tables) (name : List ℕ) (refusal : Refusal) → StandsFor e t → RefusedBy (look_refusal e name) refusal → Refuses refusal (BoxOf name) e.session t
-box-refuses e t name refusal stands by = subst (λ v. RefusedBy v refusal) (box-verdict e t name stands) by
+pub box-refuses : (e : Engine) (name : List ℕ) (refusal : Refusal) → RefusedBy (look_refusal e name) refusal → (t : Tables) → StandsFor e t → Refuses refusal (BoxOf name) e.session t
+box-refuses e name refusal by t stands = subst (λ v. RefusedBy v refusal) (box-verdict e t name stands) by
 
 -- what a run of a query delivers, by what is kept
 pub hits-is : (e : Engine) (t : Tables) (o : Option QueryRow) → StandsFor e t → hits_kept e (option_map (kept_query t) o) ≡ hits_found o t (present e.session)
@@ -153,8 +153,8 @@ run-verdict e t name stands =
     ∙ ap (λ n. run_checks e (length t.runs) n (option_or (no_user e.session) (option_or (bad_name name) (missing NoQuery o))) (too_wide o t.docs (present e.session)) (hits_found o t (present e.session))) stands.pick_count
     ∙ seven (no_moment e.session) (no_user e.session) (bad_name name) (missing NoQuery o) (too_wide o t.docs (present e.session)) (passes Runs RUN_LIMIT (length t.runs) 1) (passes Picks PICK_LIMIT (length t.picks) (length (hits_found o t (present e.session))))
 
-pub run-refuses : (e : Engine) (t : Tables) (name : List ℕ) (refusal : Refusal) → StandsFor e t → RefusedBy (run_refusal e name) refusal → Refuses refusal (Run name) e.session t
-run-refuses e t name refusal stands by = subst (λ v. RefusedBy v refusal) (run-verdict e t name stands) by
+pub run-refuses : (e : Engine) (name : List ℕ) (refusal : Refusal) → RefusedBy (run_refusal e name) refusal → (t : Tables) → StandsFor e t → Refuses refusal (Run name) e.session t
+run-refuses e name refusal by t stands = subst (λ v. RefusedBy v refusal) (run-verdict e t name stands) by
 
 -- a query isn't defined without a moment
 pub define-moment : (e : Engine) (name source : List ℕ) → define_refusal e name source ≡ None → e.session.moment ≡ None → ⊥

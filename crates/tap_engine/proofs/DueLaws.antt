@@ -1,5 +1,5 @@
 -- What a run delivers, and what the engine keeps after it.
-use Rattle.std.proofs.Common.{◌≡◌, ◌∙◌, sym, refl, ap, arith, ℕ, zero, suc, ◌+◌, ◌-◌, ◌≤◌, ◌<◌, ℤ, List, [], ◌∷◌, ◌++◌, length, map, Option, Some, None, true, false, inl, inr, if◌then◌else◌}
+use Rattle.std.proofs.Common.{◌≡◌, ◌∙◌, sym, refl, ap, subst, arith, ℕ, zero, suc, ◌+◌, ◌-◌, ◌≤◌, ◌<◌, ℤ, List, [], ◌∷◌, ◌++◌, length, map, Option, Some, None, true, false, inl, inr, if◌then◌else◌}
 use Rattle.std.specs.Prelude.{◌==◌, slice_index_or, slice_set}
 use Rattle.std.specs.Option.{option_map}
 use Rattle.std.proofs.lemmas.List.{length-append, map-append}
@@ -180,17 +180,17 @@ stands-run e t name due e' stands kept d there is-e =
     let engine : e' ≡ record e { queries = slice_set e.queries i (after_run (present e.session) (map (entry_at (length (run_moments q.num.0 t.runs) + 1)) (hits_of q t (present e.session))) (slice_index_or e.queries i x)); run_count = e.run_count + 1; pick_count = e.pick_count + length (hits_of q t (present e.session)) } =
     is-e x ∙ ap (λ y. record e { queries = slice_set e.queries i (after_run y.moment (map (entry_at (y.runs + 1)) y.hits) (slice_index_or e.queries i x)); run_count = e.run_count + 1; pick_count = e.pick_count + length y.hits }) d.is in
     let rows : run_rows e.run_count e.pick_count due ≡ run_change (truth_of q) (start_of q) t q.num (present e.session) = rows-are e t name due stands d in
-    rw (engine, rows) (stands-placed e t q i (present e.session) (slice_index_or e.queries i x) stands kept d.has (omega (arith, num, bounds.0)) there (due-kept e t due q x stands kept d.has num))
+    subst (λ change. StandsFor e' (after t change)) (sym rows) (subst (λ k. StandsFor k (after t (run_change (truth_of q) (start_of q) t q.num (present e.session)))) (sym engine) (stands-placed e t q i (present e.session) (slice_index_or e.queries i x) stands kept d.has (omega (arith, num, bounds.0)) there (due-kept e t due q x stands kept d.has num)))
 
 -- a run that isn't refused
-pub answers-run : (e : Engine) (t : Tables) (name : List ℕ) (due : Due) (s' : Session) → StandsFor e t → verdict (Run name) e.session t ≡ None → (d : IsDue e t name due) → s' ≡ e.session
-    → Answers t e.session (Run name) (Ran (due.runs + 1) due.moment due.hits) (Some (run_rows e.run_count e.pick_count due)) s'
-answers-run e t name due s' stands none d is-s =
+pub answers-run : (e : Engine) (t : Tables) (name : List ℕ) (due : Due) (change : Change) (s' : Session) → StandsFor e t → verdict (Run name) e.session t ≡ None → (d : IsDue e t name due)
+    → change ≡ run_rows e.run_count e.pick_count due → s' ≡ e.session → Answers t e.session (Run name) (Ran (due.runs + 1) due.moment due.hits) (Some change) s'
+answers-run e t name due change s' stands none d is-change is-s =
     let accepted = answers-accepted t e.session (Run name) none in
     let q = d.q in
     record {
       fine = none;
       reply_is = ap (λ due. Ran (due.runs + 1) due.moment due.hits) d.is ∙ sym (ap (λ o. (run_query o e.session t).reply) d.some) ∙ accepted.reply_is;
-      change_is = ap Some (rows-are e t name due stands d) ∙ sym (ap (λ o. (run_query o e.session t).change) d.some) ∙ accepted.change_is;
+      change_is = ap Some (is-change ∙ rows-are e t name due stands d) ∙ sym (ap (λ o. (run_query o e.session t).change) d.some) ∙ accepted.change_is;
       session_is = is-s ∙ sym (ap (λ o. (run_query o e.session t).session) d.some) ∙ accepted.session_is;
     }

@@ -74,8 +74,8 @@ filter-verdict e t block stands =
     seven (no_moment e.session) (no_user e.session) (long_filter block) (passes Users USER_LIMIT (length e.owners) (if holds e.owners (user_of e.session) then 0 else 1)) (passes Filters FILTER_ROW_LIMIT (length e.filters) 1) (passes Store STORE_LIMIT e.bytes (length (text_of block))) (filter_fault (text_of block))
     ∙ rw (stands.filters, stands.users, stands.owners (user_of e.session), stands.bytes) refl
 
-pub filter-refuses : (e : Engine) (t : Tables) (block : Block) (refusal : Refusal) → StandsFor e t → RefusedBy (filter_refusal e block) refusal → Refuses refusal (Filter block) e.session t
-filter-refuses e t block refusal stands by = subst (λ v. RefusedBy v refusal) (filter-verdict e t block stands) by
+pub filter-refuses : (e : Engine) (block : Block) (refusal : Refusal) → RefusedBy (filter_refusal e block) refusal → (t : Tables) → StandsFor e t → Refuses refusal (Filter block) e.session t
+filter-refuses e block refusal by t stands = subst (λ v. RefusedBy v refusal) (filter-verdict e t block stands) by
 
 -- a filter isn't added without a moment
 pub filter-moment : (e : Engine) (block : Block) → filter_refusal e block ≡ None → e.session.moment ≡ None → ⊥
@@ -174,8 +174,8 @@ listing_short o docs entries rows is =
     All-weaker Classed (λ row. length row.class ≤ 32) (λ row. short row.class) rows (subst (All Classed) (sym is) (sorted-named (filter_rules o) docs entries (filter-named o)))
 
 -- a list is refused as a box is
-pub list-refuses : (e : Engine) (t : Tables) (name : List ℕ) (refusal : Refusal) → StandsFor e t → RefusedBy (look_refusal e name) refusal → Refuses refusal (ListOf name) e.session t
-list-refuses e t name refusal stands by = subst (λ v. RefusedBy v refusal) (box-verdict e t name stands) by
+pub list-refuses : (e : Engine) (name : List ℕ) (refusal : Refusal) → RefusedBy (look_refusal e name) refusal → (t : Tables) → StandsFor e t → Refuses refusal (ListOf name) e.session t
+list-refuses e name refusal by t stands = subst (λ v. RefusedBy v refusal) (box-verdict e t name stands) by
 
 some-rows : (xs : List Listed) → Some xs ≡ None → ⊥
 some-rows xs e = cc
@@ -212,8 +212,8 @@ answers-list e t name rows stands sound none is = go (query_named (user_of e.ses
       }
 
 -- an explanation is refused as a box is
-pub lines-refuses : (e : Engine) (t : Tables) (name : List ℕ) (refusal : Refusal) → StandsFor e t → RefusedBy (look_refusal e name) refusal → Refuses refusal (Explain name) e.session t
-lines-refuses e t name refusal stands by = subst (λ v. RefusedBy v refusal) (box-verdict e t name stands) by
+pub lines-refuses : (e : Engine) (name : List ℕ) (refusal : Refusal) → RefusedBy (look_refusal e name) refusal → (t : Tables) → StandsFor e t → Refuses refusal (Explain name) e.session t
+lines-refuses e name refusal by t stands = subst (λ v. RefusedBy v refusal) (box-verdict e t name stands) by
 
 some-lines : (xs : List (List ℕ)) → Some xs ≡ None → ⊥
 some-lines xs e = cc

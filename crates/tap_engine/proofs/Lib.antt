@@ -4,7 +4,6 @@ mod TextLaws
 mod SlowLaws
 mod SettledLaws
 mod FreshLaws
-mod FitStubs
 mod AnswerTurns
 mod ReadyLaws
 mod CheckLaws
@@ -12,6 +11,7 @@ mod StandingLaws
 mod ArrivalLaws
 mod AskLaws
 mod DueLaws
+mod PerformLaws
 mod NoteLaws
 mod MboxLaws
 mod VariableLaws

@@ -1,6 +1,6 @@
 -- Mailbox files: why one is refused, and what the engine keeps after one.
 use Rattle.std.proofs.Common.{◌≡◌, ◌∙◌, sym, refl, ap, subst, arith, ℕ, ℤ, List, [], ◌∷◌, ◌++◌, ◌+◌, ◌*◌, ◌≤◌, suc, length, Bool, true, false, Option, Some, None, inl, inr}
-use Rattle.std.specs.Prelude.{◌&&◌, nat_le, sum_by}
+use Rattle.std.specs.Prelude.{◌&&◌, ◌==◌, nat_le, sum_by}
 use Rattle.std.specs.Option.{option_or}
 use Rattle.std.proofs.lemmas.List.{append-nil}
 use Rattle.std.proofs.lemmas.List.Sums.{sum_by-append, sum_by-cons}
@@ -42,8 +42,8 @@ mbox-verdict e t block stands =
     first-or (no_moment e.session) (long_message (messages_of block) ∷ long_block block ∷ passes Documents DOCUMENT_LIMIT (length e.docs) (length (messages_of block)) ∷ passes Store STORE_LIMIT e.bytes (bytes_of (messages_of block)) ∷ [])
     ∙ rw (stands.docs, stands.bytes) refl
 
-pub mbox-refuses : (e : Engine) (t : Tables) (block : Block) (refusal : Refusal) → StandsFor e t → RefusedBy (mbox_refusal e block) refusal → Refuses refusal (Mbox block) e.session t
-mbox-refuses e t block refusal stands by = subst (λ v. RefusedBy v refusal) (mbox-verdict e t block stands) by
+pub mbox-refuses : (e : Engine) (block : Block) (refusal : Refusal) → RefusedBy (mbox_refusal e block) refusal → (t : Tables) → StandsFor e t → Refuses refusal (Mbox block) e.session t
+mbox-refuses e block refusal by t stands = subst (λ v. RefusedBy v refusal) (mbox-verdict e t block stands) by
 
 -- none is added without a moment
 pub mbox-moment : (e : Engine) (block : Block) → mbox_refusal e block ≡ None → e.session.moment ≡ None → ⊥
@@ -149,3 +149,8 @@ answers-mail t s block text n num moment change s' none is at is-n is-num is-cha
   where
     doc-num : (num : DocNum) (n : ℕ) → num.0 ≡ n → num ≡ record { 0 = n }
     doc-num num n e = ap (λ n. record { 0 = n }) e
+
+-- documents that there are
+pub docs-there : (num : ℕ) (moment : ℤ) (texts : List (List ℕ)) → (length texts == 0) ≡ false → Some (Docs (docs_from num moment texts)) ≡ some_docs (docs_from num moment texts)
+docs-there num moment [] some = absurd cc
+docs-there num moment (text ∷ texts) some = refl

@@ -39,8 +39,8 @@ note-verdict e t doc kind value text stands =
     four (no_moment e.session) (no_user e.session) (bad_name kind) (no_doc doc (length e.docs) ∷ long_note (length text) ∷ passes Notes NOTE_LIMIT (length e.notes) 1 ∷ passes Store STORE_LIMIT e.bytes (length text) ∷ [])
     ∙ rw (stands.docs, stands.notes, stands.bytes) refl
 
-pub note-refuses : (e : Engine) (t : Tables) (doc : ℕ) (kind : List ℕ) (value : ℤ) (text : List ℕ) (refusal : Refusal) → StandsFor e t → RefusedBy (note_refusal e doc kind text) refusal → Refuses refusal (AddNote doc kind value text) e.session t
-note-refuses e t doc kind value text refusal stands by = subst (λ v. RefusedBy v refusal) (note-verdict e t doc kind value text stands) by
+pub note-refuses : (e : Engine) (doc : ℕ) (kind : List ℕ) (value : ℤ) (text : List ℕ) (refusal : Refusal) → RefusedBy (note_refusal e doc kind text) refusal → (t : Tables) → StandsFor e t → Refuses refusal (AddNote doc kind value text) e.session t
+note-refuses e doc kind value text refusal by t stands = subst (λ v. RefusedBy v refusal) (note-verdict e t doc kind value text stands) by
 
 -- a note isn't added without a moment
 pub note-moment : (e : Engine) (doc : ℕ) (kind text : List ℕ) → note_refusal e doc kind text ≡ None → e.session.moment ≡ None → ⊥

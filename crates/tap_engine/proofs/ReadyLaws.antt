@@ -203,3 +203,8 @@ present-moment e ready there = go e.session.moment refl where
   go : (o : Option ℤ) → e.session.moment ≡ o → IsMoment (present e.session)
   go None none = absurd (there none)
   go (Some m) is = subst IsMoment (sym (ap or_zero is)) (subst IsTime is ready.moment)
+
+pub some-moment : (moment : Option ℤ) (m : ℤ) → moment ≡ Some m → moment ≡ None → ⊥
+some-moment moment m is none = no-moment m (sym is ∙ none) where
+  no-moment : (m : ℤ) → Some m ≡ None → ⊥
+  no-moment m e = cc

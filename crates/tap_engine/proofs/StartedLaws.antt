@@ -97,13 +97,23 @@ by-greatest (doc ∷ docs) more = go (greatest_of (map (λ doc. doc.arrival) doc
   go None none = (later-self doc.arrival None, subst (λ l. Each (λ doc'. doc'.arrival ≤ℤ doc.arrival) l) (sym none) tt)
   go (Some n) each = (later-self doc.arrival (Some n), each-map (λ d. d.arrival ≤ℤ n) (λ d. d.arrival ≤ℤ later_of doc.arrival (Some n)) docs (λ d le. let up = later-known doc.arrival n in omega (arith, ints, le, up)) each)
 
+regrouped : (a b c d e : List ℤ) → a ++ (b ++ (c ++ (d ++ e))) ≡ a ++ b ++ c ++ d ++ e
+regrouped a b c d e = sym (append_assoc (a ++ b ++ c) d e ∙ append_assoc (a ++ b) c (d ++ e) ∙ append_assoc a b (c ++ (d ++ e)))
+
+by-moment : (t : Tables) → DocsBy (greatest_moment t) t.docs
+by-moment t =
+    let n = map (λ note. note.arrival) t.notes in
+    let q = map (λ query. query.arrival) t.queries in
+    let r = map (λ run. run.moment) t.runs in
+    let f = map (λ filter. filter.arrival) t.filters in
+    subst (λ all. DocsBy (greatest_of all) t.docs) (regrouped (map (λ doc. doc.arrival) t.docs) n q r f) (by-greatest t.docs (n ++ (q ++ (r ++ f))))
+
 pub ready-start : (e : Engine) (t : Tables) → IsStarted e t → Formed t → IsReady e
 ready-start e t is formed = record {
   docs = subst (λ docs. Arrived 1 (pos 0) docs) (sym is.docs) formed.arrived;
   by = subst (λ session. DocsBy (option_or session.moment e.greatest) e.docs) (sym is.session)
     (subst (λ known. DocsBy known e.docs) (sym is.greatest)
-    (subst (λ docs. DocsBy (greatest_moment t) docs) (sym is.docs)
-    (by-greatest t.docs (map (λ note. note.arrival) t.notes ++ (map (λ query. query.arrival) t.queries ++ (map (λ run. run.moment) t.runs ++ map (λ filter. filter.arrival) t.filters))))));
+    (subst (λ docs. DocsBy (greatest_moment t) docs) (sym is.docs) (by-moment t)));
   queries = subst (λ n. KeptFrom 1 n e.queries) (sym is.run_count) (subst (λ queries. KeptFrom 1 (length t.runs) queries) (sym is.queries) (kept-from t 1 t.queries formed.queries));
   moment = subst (λ session. IsTime session.moment) (sym is.session) tt;
 }

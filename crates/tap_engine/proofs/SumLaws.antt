@@ -3,19 +3,20 @@ use Rattle.std.proofs.Common.{◌≡◌, ◌∙◌, sym, ap, refl, arith, ℕ, �
 use Rattle.std.specs.Prelude.{int_le, sum_by}
 use Rattle.std.proofs.lemmas.Bool.{cases_Bool}
 use Rattle.std.proofs.lemmas.Int.{ints}
+use Rattle.std.proofs.lemmas.List.Sums.{sum_by-append}
 use Rattle.tap_rows.specs.declared.tables.Tables.{Tables}
 use Rattle.tap_model.specs.Limits.{stored_bytes}
 use Rattle.tap_model.specs.Sessions.{later_of, greatest_of, greatest_moment}
 use Rattle.tap_engine.specs.declared.sums.Sums.{Sums}
-use Rattle.tap_engine.specs.Starting.{added, summed}
+use Rattle.tap_engine.specs.Starting.{added, summed, sums_of}
 
 bytes-are : {A : Type 0} (moment : A → ℤ) (bytes : A → ℕ) (sums : Sums) (rows : List A) → (summed moment bytes sums rows).bytes ≡ sums.bytes + sum_by bytes rows
 bytes-are moment bytes sums [] = none sums.bytes where
   none : (n : ℕ) → n ≡ n + 0
   none n = omega arith
-bytes-are moment bytes sums (row ∷ rows) = bytes-are moment bytes (added (moment row) (bytes row) sums) rows ∙ more sums.bytes (bytes row) (sum_by bytes rows) where
-  more : (a b c : ℕ) → a + b + c ≡ a + (b + c)
-  more a b c = omega arith
+bytes-are moment bytes sums (row ∷ rows) = bytes-are moment bytes (added (moment row) (bytes row) sums) rows ∙ more sums.bytes (bytes row) (sum_by bytes rows) (sum_by bytes (row ∷ rows)) (sum_by-append bytes (row ∷ []) rows) where
+  more : (a b c d : ℕ) → d ≡ 0 + b + c → a + b + c ≡ a + d
+  more a b c d e = omega (arith, e)
 
 -- the greatest of a moment and some more
 abbrev joined : Option ℤ → Option ℤ → Option ℤ
@@ -57,19 +58,11 @@ both-greatest : (xs ys : List ℤ) → greatest_of (xs ++ ys) ≡ joined (greate
 both-greatest [] ys = refl
 both-greatest (x ∷ xs) ys = ap (λ o. Some (later_of x o)) (both-greatest xs ys) ∙ sym (joined-assoc (Some x) (greatest_of xs) (greatest_of ys))
 
-abbrev sums-of : Tables → Sums
-sums-of t =
-    summed (λ filter. filter.arrival) (λ filter. length filter.source)
-    (summed (λ run. run.moment) (λ run. 0)
-    (summed (λ query. query.arrival) (λ query. length query.source)
-    (summed (λ note. note.arrival) (λ note. length note.text)
-    (summed (λ doc. doc.arrival) (λ doc. length doc.text) (record { bytes = 0; greatest = None }) t.docs) t.notes) t.queries) t.runs) t.filters
-
 none-stored : {A : Type 0} (rows : List A) → sum_by (λ row. 0) rows ≡ 0
 none-stored [] = refl
 none-stored (row ∷ rows) = none-stored rows
 
-pub bytes-of : (t : Tables) → (sums-of t).bytes ≡ stored_bytes t
+pub bytes-of : (t : Tables) → (sums_of t).bytes ≡ stored_bytes t
 bytes-of t =
     let start : Sums = record { bytes = 0; greatest = None } in
     let docs = summed (λ doc. doc.arrival) (λ doc. length doc.text) start t.docs in
@@ -86,10 +79,7 @@ bytes-of t =
     all : (d n q f a b c e g : ℕ) → a ≡ 0 + d → b ≡ a + n → c ≡ b + q → e ≡ c + 0 → g ≡ e + f → g ≡ d + n + q + f
     all d n q f a b c e g is-a is-b is-c is-e is-g = omega (arith, is-a, is-b, is-c, is-e, is-g)
 
-five : (a b c d e : Option ℤ) → joined (joined (joined (joined a b) c) d) e ≡ joined a (joined b (joined c (joined d e)))
-five a b c d e = joined-assoc (joined (joined a b) c) d e ∙ joined-assoc (joined a b) c (joined d e) ∙ joined-assoc a b (joined c (joined d e))
-
-pub greatest-in : (t : Tables) → (sums-of t).greatest ≡ greatest_moment t
+pub greatest-in : (t : Tables) → (sums_of t).greatest ≡ greatest_moment t
 greatest-in t =
     let start : Sums = record { bytes = 0; greatest = None } in
     let docs = summed (λ doc. doc.arrival) (λ doc. length doc.text) start t.docs in
@@ -106,8 +96,7 @@ greatest-in t =
     ∙ ap (λ o. joined (joined o (greatest_of r)) (greatest_of f)) (greatest-is (λ query. query.arrival) (λ query. length query.source) notes t.queries)
     ∙ ap (λ o. joined (joined (joined o (greatest_of q)) (greatest_of r)) (greatest_of f)) (greatest-is (λ note. note.arrival) (λ note. length note.text) docs t.notes)
     ∙ ap (λ o. joined (joined (joined (joined o (greatest_of n)) (greatest_of q)) (greatest_of r)) (greatest_of f)) (greatest-is (λ doc. doc.arrival) (λ doc. length doc.text) start t.docs)
-    ∙ five (greatest_of d) (greatest_of n) (greatest_of q) (greatest_of r) (greatest_of f)
-    ∙ sym (both-greatest d (n ++ (q ++ (r ++ f)))
-      ∙ ap (joined (greatest_of d)) (both-greatest n (q ++ (r ++ f))
-      ∙ ap (joined (greatest_of n)) (both-greatest q (r ++ f)
-      ∙ ap (joined (greatest_of q)) (both-greatest r f))))
+    ∙ sym (both-greatest (d ++ n ++ q ++ r) f
+      ∙ ap (λ o. joined o (greatest_of f)) (both-greatest (d ++ n ++ q) r
+      ∙ ap (λ o. joined o (greatest_of r)) (both-greatest (d ++ n) q
+      ∙ ap (λ o. joined o (greatest_of q)) (both-greatest d n))))

@@ -1,5 +1,4 @@
 pub mod Fresh
-pub mod Next
 pub mod Keeping
 pub mod Standing
 pub mod Ready

@@ -1,5 +1,5 @@
 -- What an engine makes of stored tables when it starts.
-use Rattle.std.specs.Prelude.{ℕ, ℤ, ◌+◌, ◌≤◌, List, [], ◌∷◌, ◌++◌, map, Bool, Option, Some, None, is_some, if◌then◌else◌}
+use Rattle.std.specs.Prelude.{ℕ, ℤ, ◌+◌, ◌≤◌, List, [], ◌∷◌, ◌++◌, length, map, Bool, Option, Some, None, is_some, if◌then◌else◌}
 use Rattle.tap_rows.specs.declared.tables.Tables.{Tables}
 use Rattle.tap_rows.specs.declared.rows.QueryRow.{QueryRow}
 use Rattle.tap_rows.specs.declared.rows.RunRow.{RunRow}
@@ -51,3 +51,12 @@ added moment bytes sums = record { bytes = sums.bytes + bytes; greatest = Some (
 abbrev pub summed : {A : Type 0} → (A → ℤ) → (A → ℕ) → Sums → List A → Sums
 summed moment bytes sums [] = sums
 summed moment bytes sums (row ∷ rows) = summed moment bytes (added (moment row) (bytes row) sums) rows
+
+-- the sums of all rows; runs store no bytes
+abbrev pub sums_of : Tables → Sums
+sums_of tables =
+    summed (λ filter. filter.arrival) (λ filter. length filter.source)
+    (summed (λ run. run.moment) (λ run. 0)
+    (summed (λ query. query.arrival) (λ query. length query.source)
+    (summed (λ note. note.arrival) (λ note. length note.text)
+    (summed (λ doc. doc.arrival) (λ doc. length doc.text) (record { bytes = 0; greatest = None }) tables.docs) tables.notes) tables.queries) tables.runs) tables.filters

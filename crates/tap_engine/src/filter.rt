@@ -166,6 +166,7 @@ impl Engine {
         ensures err { OnErr result (self.new ≡ self.old) }
         ensures undo { IfOk result (λ made. OnSome made.change (TakesBack made.undo self.new self.old)) }
         ensures ready { OnOk result (IsReady self.new) }
+        ensures running { OnOk result (self.new.stopped ≡ self.old.stopped) }
         ensures short { IfOk result (λ made. HasShortNames made.reply) }
         ensures accepted { IfOk result (λ made. is_accepted made.reply ≡ true) }
     {

@@ -1,15 +1,16 @@
 ghost use Rattle.std.specs.Prelude.{◌≡◌, ◌⊎◌, ◌++◌, ◌≤◌, [], map, length, false, true, None, Some, Ok, OnOk, IfOk, IfErr};
 ghost use Rattle.std.specs.Option.{option_map};
 ghost use Rattle.tap_base.specs.Words.{with_new};
-ghost use Rattle.tap_rows.specs.Kept.{Each};
+ghost use Rattle.tap_rows.specs.Kept.{Each, HasRun, RunsFrom, QueriesFrom};
 ghost use Rattle.tql_core.specs.Condition.{condition};
 ghost use Rattle.restart_core.specs.Readings.{reading_of, readings_of, as_read};
 ghost use Rattle.tap_model.specs.Sound.{IsMoment};
 ghost use Rattle.tap_engine.specs.declared.start.StartFault.{StartFault as Fault};
-ghost use Rattle.tap_engine.specs.Keeping.{new_kept};
-ghost use Rattle.tap_engine.specs.Starting.{is_unread, first_unread};
+ghost use Rattle.tap_engine.specs.Keeping.{kept_query, new_kept};
+ghost use Rattle.tap_engine.specs.Starting.{is_unread, first_unread, runs_alone, IsOneOf};
 
 use crate::StartFault;
+use crate::deliveries::deliver;
 use crate::kept_filter::KeptFilter;
 use crate::kept_queries::KeptQueries;
 use crate::kept_query::KeptQuery;
@@ -18,7 +19,7 @@ use appraiser::{RuleFault, read_rules};
 use mail_fields::keep;
 use std::alloc::Global;
 use tap_base::{Memory, Rows, Texts, WordSet};
-use tap_rows::{Doc, FilterRow, KeptDoc, QueryRow};
+use tap_rows::{Doc, FilterRow, KeptDoc, Pick, QueryRow, RunRow};
 use tql_core::Cond;
 
 // The documents with their fields.
@@ -44,7 +45,7 @@ fn keep_query(alloc: Global, row: QueryRow, cond: Cond) -> Result<KeptQuery, Mem
 }
 
 // The queries, which were never run, with these conditions.
-pub(crate) fn keep_queries(
+fn keep_queries(
     alloc: Global,
     rows: Rows<QueryRow>,
     conds: Vec<Cond>,
@@ -57,6 +58,27 @@ pub(crate) fn keep_queries(
     for (row, cond) in rows.into_vec().into_iter().zip(conds) {
         queries.push(keep_query(alloc, row, cond)?)?;
     }
+    Ok(queries)
+}
+
+// The queries with these conditions, and with what these runs and picks say of each.
+pub(crate) fn keep_delivered(
+    alloc: Global,
+    rows: Rows<QueryRow>,
+    conds: Vec<Cond>,
+    runs: &[RunRow],
+    picks: &[Pick],
+) -> Result<KeptQueries, Memory>
+    requires conds { readings_of rows ≡ as_read conds.items }
+    requires arrivals { Each (λ row. IsMoment row.arrival) rows }
+    requires numbered { QueriesFrom 1 rows }
+    requires runs { RunsFrom 1 runs.now }
+    requires owned { Each (λ run. IsOneOf run.query.0 (length rows)) runs.now }
+    requires picked { Each (λ pick. HasRun pick.run pick.query.0 runs.now) picks.now }
+    ensures { IfOk result (λ queries. queries ≡ map (kept_query (runs_alone runs.now picks.now)) rows) }
+{
+    let mut queries = keep_queries(alloc, rows, conds)?;
+    deliver(alloc, &mut queries, runs, picks)?;
     Ok(queries)
 }
 

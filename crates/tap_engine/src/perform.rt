@@ -4,8 +4,7 @@ ghost use Rattle.keeper_core.specs.Keeping.{Rose, Holds};
 ghost use Rattle.script_lang.specs.Replies.{HasShortNames, is_accepted};
 ghost use Rattle.tap_model.specs.Replies.{answer_of, tables_after};
 ghost use Rattle.tap_model.specs.Sound.{Sound};
-ghost use Rattle.tap_model.specs.Stories.{Refuses, Step};
-ghost use Rattle.tap_engine.specs.Next.{next_tables};
+ghost use Rattle.tap_model.specs.Stories.{Refuses, Step, next_tables};
 ghost use Rattle.tap_model.specs.Verdicts.{verdict};
 
 use crate::engine::Engine;
@@ -31,6 +30,7 @@ impl Engine {
         ensures err { OnErr result (self.new ≡ self.old) }
         ensures undo { IfOk result (λ made. OnSome made.change (TakesBack made.undo self.new self.old)) }
         ensures ready { OnOk result (IsReady self.new) }
+        ensures running { OnOk result (self.new.stopped ≡ self.old.stopped) }
         ensures short { IfOk result (λ made. HasShortNames made.reply) }
         ensures accepted { IfOk result (λ made. is_accepted made.reply ≡ true) }
     {

@@ -2,9 +2,8 @@ ghost use Rattle.std.specs.Prelude.{◌≡◌, ◌⊎◌, None, Some, false, len
 ghost use Rattle.std.specs.Option.{option_map};
 ghost use Rattle.tap_engine.specs.Starting.{first_unread};
 
-use crate::deliveries::deliver;
 use crate::engine::Engine;
-use crate::keep::{keep_docs, keep_filters, keep_queries, owners_of};
+use crate::keep::{keep_docs, keep_delivered, keep_filters, owners_of};
 use crate::sums::Sums;
 use restart_core::Sound;
 use std::alloc::Global;
@@ -59,8 +58,7 @@ impl Engine {
             picks,
             filters,
         } = tables;
-        let mut queries = keep_queries(alloc, queries, conds)?;
-        deliver(alloc, &mut queries, runs.as_slice(), picks.as_slice())?;
+        let queries = keep_delivered(alloc, queries, conds, runs.as_slice(), picks.as_slice())?;
         let docs = keep_docs(alloc, docs)?;
         let filters = keep_filters(alloc, filters)?;
         Ok(Engine {

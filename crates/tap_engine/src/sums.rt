@@ -1,7 +1,6 @@
 ghost use Rattle.std.specs.Prelude.{◌≡◌, length, None, IfOk};
-ghost use Rattle.tap_model.specs.Sessions.{later_of, greatest_moment};
-ghost use Rattle.tap_model.specs.Limits.{stored_bytes};
-ghost use Rattle.tap_engine.specs.Starting.{added, summed};
+ghost use Rattle.tap_model.specs.Sessions.{later_of};
+ghost use Rattle.tap_engine.specs.Starting.{added, summed, sums_of};
 
 use tap_base::Memory;
 use tap_rows::{Doc, FilterRow, Note, QueryRow, RunRow, Tables};
@@ -111,8 +110,7 @@ impl Sums {
 
     // The sums of all rows.
     pub(crate) fn of(tables: &Tables) -> Result<Sums, Memory>
-        ensures bytes { IfOk result (λ sums. sums.bytes ≡ stored_bytes tables.now) }
-        ensures greatest { IfOk result (λ sums. sums.greatest ≡ greatest_moment tables.now) }
+        ensures { IfOk result (λ sums. sums ≡ sums_of tables.now) }
     {
         Sums::none()
             .add_docs(tables.docs.as_slice())?

@@ -1,25 +1,26 @@
 use Rattle.std.proofs.Common.{rules, arith, ◌≡◌, ◌∙◌, sym, ap, subst, length, ◌+◌, ◌∷◌, []}
 use Rattle.std.proofs.lemmas.List.{length-map}
 use Rattle.tap_engine.specs.Keeping.{kept_query, new_kept}
-use Rattle.tap_engine.proofs.AnswerTurns.{undo-query}
+use Rattle.script_lang.specs.declared.refusal.Refusal.TheVariants.{Memory}
+use Rattle.tap_engine.proofs.AnswerTurns.{for-memory, undo-query}
 use Rattle.tap_engine.proofs.ReadyLaws.{kept-more}
 use Rattle.tap_engine.proofs.CheckLaws.{define-verdict, define-refuses, answers-define, define-moment}
 use Rattle.tap_engine.proofs.StandingLaws.{stands-query}
 use Rattle.tap_engine.proofs.engine.Engine.define.Goals as goal
 
 pub returns-in_err-row-clause-refusal : goal.returns-in_err-row-clause-refusal
-returns-in_err-row-clause-refusal c = λ t stands. let by = define-refuses c.args.self.now t c.args.name c.args.source _ stands c.in_err-row.ensures.refusal in search (rules, by)
+returns-in_err-row-clause-refusal c = let by = define-refuses c.args.self.now c.args.name c.args.source _ c.in_err-row.ensures.refusal in search (rules, by)
 
 pub returns-in_err-shown-clause-refusal : goal.returns-in_err-shown-clause-refusal
-returns-in_err-shown-clause-refusal c = λ t stands. let none = sym (define-verdict c.args.self.now t c.args.name c.args.source stands) ∙ c.in_ok-row.ensures.checks in search (rules, none)
+returns-in_err-shown-clause-refusal c = let by = define-refuses c.args.self.now c.args.name c.args.source Memory (for-memory _ c.in_ok-row.ensures.checks) in search (rules, by)
 
 pub returns-in_err-change-clause-refusal : goal.returns-in_err-change-clause-refusal
-returns-in_err-change-clause-refusal c = λ t stands. let none = sym (define-verdict c.args.self.now t c.args.name c.args.source stands) ∙ c.in_ok-row.ensures.checks in search (rules, none)
+returns-in_err-change-clause-refusal c = let by = define-refuses c.args.self.now c.args.name c.args.source Memory (for-memory _ c.in_ok-row.ensures.checks) in search (rules, by)
 
 pub returns-clause-ok : goal.returns-clause-ok
 returns-clause-ok c = λ t stands sound.
     let none = sym (define-verdict c.args.self.now t c.args.name c.args.source stands) ∙ c.in_ok-row.ensures.checks in
-    answers-define t c.args.self.now.session c.args.name c.args.source c.in_ok-shown.shown (length c.args.self.now.queries) c.in_ok-row.row c.in_ok-change.change c.add_query-change.new.self.session none
+    answers-define t c.args.self.now.session c.args.name c.args.source c.in_ok-shown.shown (length c.args.self.now.queries) c.in_ok-row.row c.in_ok-change.change c.add_query.new.self.session none
     (ap length stands.queries ∙ length-map t.queries (kept_query t))
     c.in_ok-row.ensures.row c.in_ok-shown.ensures c.in_ok-change.ensures.change (ap (λ e. e.session) c.in_ok-change.ensures.engine)
 
@@ -30,7 +31,7 @@ returns-clause-stands c = λ t stands sound.
     (stands-query c.args.self.now t c.in_ok-row.row stands sound.kept (ap (λ r. r.num.0) c.in_ok-row.ensures.row ∙ ap (λ n. n + 1) count) (define-moment c.args.self.now c.args.name c.args.source c.in_ok-row.ensures.checks))
 
 pub returns-clause-undo : goal.returns-clause-undo
-returns-clause-undo c = rw c.in_ok-change.ensures.engine (undo-query c.args.self.now (new_kept c.in_ok-row.row ∷ []) c.in_ok-row.row.owner _)
+returns-clause-undo c = rw c.in_ok-change.ensures.engine (undo-query c.args.self.now (new_kept c.in_ok-row.row ∷ []) c.in_ok-row.row.owner _ c.len.result c.len-2.result c.len.ensures c.len-2.ensures)
 
 pub returns-clause-ready : goal.returns-clause-ready
 returns-clause-ready c =

@@ -1,0 +1,94 @@
+-- What a command does once its rows are committed, or aren't.
+use Rattle.std.proofs.Common.{◌≡◌, ◌∙◌, sym, refl, ap, subst, List, Bool, true, false, ℤ, Option, Some, None, inl, inr, if◌then◌else◌}
+use Rattle.std.specs.Prelude.{◌⊎◌, Result, Ok, Err, IfOk, OnErr, OnSome}
+use Rattle.keeper_core.specs.declared.fault.CommitFault.{CommitFault}
+use Rattle.keeper_core.specs.declared.fault.CommitFault.TheVariants as C
+use Rattle.tap_base.specs.Numbers.{moment_of}
+use Rattle.tap_rows.specs.declared.tables.Tables.{Tables}
+use Rattle.tap_rows.specs.declared.change.Change.{Change}
+use Rattle.tap_rows.specs.Tables.{after}
+use Rattle.tap_rows.specs.Fits.{fits}
+use Rattle.script_lang.specs.declared.command.Command.{Command}
+use Rattle.script_lang.specs.declared.command.Command.TheVariants.{At, AsUser, Mail, Mbox, AddNote, Define, Run, BoxOf, ListOf, Filter, Explain, Ask, Wake, ScoresOf, DigestOf, Bad}
+use Rattle.script_lang.specs.declared.refusal.Refusal.{Refusal}
+use Rattle.script_lang.specs.declared.refusal.Refusal.TheVariants.{Memory}
+use Rattle.script_lang.specs.declared.reply.Reply.{Reply}
+use Rattle.script_lang.specs.declared.reply.Reply.TheVariants.{No}
+use Rattle.script_lang.specs.Replies.{is_accepted}
+use Rattle.tap_model.specs.declared.session.Session.{Session}
+use Rattle.tap_model.specs.Verdicts.{verdict, is_early, is_spared}
+use Rattle.tap_model.specs.Replies.{Answer, answer_of, answer_by, accepted, tables_after, set_moment}
+use Rattle.tap_model.specs.Stories.{Step, Refuses, next_tables}
+use Rattle.tap_model.specs.Sound.{Sound}
+use Rattle.tap_model.proofs.AnswerLaws.{some-none}
+use Rattle.tap_model.proofs.FitLaws.{accepted_fits}
+use Rattle.tap_model.proofs.NextLaws.{next-is}
+use Rattle.tap_engine.specs.declared.engine.Engine.{Engine}
+use Rattle.tap_engine.specs.declared.fault.EngineFault.{EngineFault}
+use Rattle.tap_engine.specs.declared.undo.Undo.{Undo}
+use Rattle.tap_engine.specs.Answering.{Answers, TakesBack, fault_answer, fault_engine}
+
+no-change : (change : Change) → None ≡ Some change → ⊥
+no-change change e = cc
+
+moment-alone : (moment : Option ℤ) (s : Session) → (set_moment moment s).change ≡ None
+moment-alone None s = refl
+moment-alone (Some second) s = refl
+
+-- a command that adds rows takes memory
+unspared : (c : Command) (s : Session) (t : Tables) (change : Change) → verdict c s t ≡ None → (answer_of c s t).change ≡ Some change → is_spared c s t ≡ false
+unspared (At text) s t change none is = absurd (no-change change (sym (moment-alone (moment_of text) s) ∙ sym (ap (λ v. (answer_by v (At text) s t).change) none) ∙ is))
+unspared (Bad refusal) s t change none is = absurd (some-none refusal none)
+unspared (Ask moment source) s t change none is = refl
+unspared (AsUser name) s t change none is = ap is_early none
+unspared (Mail block) s t change none is = ap is_early none
+unspared (Mbox block) s t change none is = ap is_early none
+unspared (AddNote doc kind value text) s t change none is = ap is_early none
+unspared (Define name source) s t change none is = ap is_early none
+unspared (Run name) s t change none is = ap is_early none
+unspared (BoxOf name) s t change none is = ap is_early none
+unspared (ListOf name) s t change none is = ap is_early none
+unspared (Filter block) s t change none is = ap is_early none
+unspared (Explain name) s t change none is = ap is_early none
+unspared (Wake name) s t change none is = ap is_early none
+unspared (ScoresOf kind) s t change none is = ap is_early none
+unspared (DigestOf name ordinal) s t change none is = ap is_early none
+
+-- a command for whose rows the keeper has no memory
+pub memory-step : (t : Tables) (s : Session) (c : Command) (reply : Reply) (change : Change) (s' : Session) → Answers t s c reply (Some change) s' → Step t s c (No Memory) t s
+memory-step t s c reply change s' answers = inr (record { reply_is = refl; tables_are = refl; session_is = refl; not_spared = unspared c s t change answers.fine (sym answers.change_is) })
+
+-- the rows of a command stand in order behind those of the tables
+pub rows-fit : (t : Tables) (s : Session) (c : Command) (reply : Reply) (change : Change) (s' : Session) → Sound t s → Answers t s c reply (Some change) s' → fits t change ≡ true
+rows-fit t s c reply change s' sound answers = accepted_fits t s c change sound (sym answers.change_is)
+
+-- the tables with the rows of a command
+pub rows-next : (t : Tables) (s : Session) (c : Command) (reply : Reply) (change : Change) (s' : Session) → Answers t s c reply (Some change) s' → after t change ≡ next_tables c reply s t
+rows-next t s c reply change s' answers = ap (λ change. tables_after change t) answers.change_is ∙ sym (next-is c reply s t answers.reply_is)
+
+-- the step where the keeper didn't commit
+pub fault-step : (fault : CommitFault) (t : Tables) (e e' : Engine) (c : Command) (result : Result Reply EngineFault) → result ≡ fault_answer fault → e' ≡ fault_engine fault e → Step t e.session c (No Memory) t e.session
+    → IfOk result (λ reply. Step t e.session c reply (next_tables c reply e.session t) e'.session)
+fault-step C.Memory t e e' c result is to step = subst (λ r. IfOk r (λ reply. Step t e.session c reply (next_tables c reply e.session t) e'.session)) (sym is) (subst (λ k. Step t e.session c (No Memory) t k.session) (sym to) step)
+fault-step C.Failed t e e' c result is to step = subst (λ r. IfOk r (λ reply. Step t e.session c reply (next_tables c reply e.session t) e'.session)) (sym is) tt
+
+abbrev not_done : CommitFault → Result (Unit {0}) CommitFault
+not_done fault = Err fault
+
+-- what the keeper tells where it had no memory
+pub fault-kept : (fault : CommitFault) (P : Tables → Type 0) (t : Tables) (s : Session) (c : Command) (result : Result Reply EngineFault) → result ≡ fault_answer fault → (not_done fault ≡ not_done C.Memory → P t) → IfOk result (λ reply. P (next_tables c reply s t))
+fault-kept C.Memory P t s c result is kept = subst (λ r. IfOk r (λ reply. P (next_tables c reply s t))) (sym is) (kept refl)
+fault-kept C.Failed P t s c result is kept = subst (λ r. IfOk r (λ reply. P (next_tables c reply s t))) (sym is) tt
+
+-- what holds whatever the result is
+pub on-err : {P : Type 0} (result : Result Reply EngineFault) → P → OnErr result P
+on-err (Ok reply) p = tt
+on-err (Err fault) p = p
+
+-- the tables before the command or those with its rows
+pub one-of : (t x : Tables) (s : Session) (c : Command) (reply : Reply) (change : Change) (s' : Session) → Answers t s c reply (Some change) s' → (x ≡ t) ⊎ (x ≡ after t change) → (x ≡ t) ⊎ (x ≡ tables_after (answer_of c s t).change t)
+one-of t x s c reply change s' answers (inl e) = inl e
+one-of t x s c reply change s' answers (inr e) = inr (e ∙ ap (λ change. tables_after change t) answers.change_is)
+
+pub taken-there : (undo : Undo) (new old : Engine) (change : Option Change) (rows : Change) → change ≡ Some rows → OnSome change (TakesBack undo new old) → TakesBack undo new old
+taken-there undo new old change rows is takes = subst (λ change. OnSome change (TakesBack undo new old)) is takes

@@ -1,0 +1,12 @@
+use Rattle.std.proofs.Common.{rules, ◌≡◌, ◌∙◌, sym, ap, length, ◌+◌, Some, false}
+use Rattle.std.specs.Prelude.{◌==◌}
+use Rattle.tap_rows.specs.declared.change.Change.TheVariants.{Docs}
+use Rattle.tap_model.specs.Replies.{docs_from}
+use Rattle.tap_engine.proofs.MboxLaws.{docs-there}
+use Rattle.tap_engine.proofs.engine.Engine.add_docs.Goals as goal
+
+pub returns-clause-change : goal.returns-clause-change
+returns-clause-change c =
+    let rows : c.in_ok-rows.rows ≡ docs_from (length c.args.self.now.docs + 1) c.args.moment c.args.texts.now = search rules in
+    let some : (length c.args.texts.now == 0) ≡ false = search rules in
+    ap (λ docs. Some (Docs docs)) rows ∙ docs-there (length c.args.self.now.docs + 1) c.args.moment c.args.texts.now some
