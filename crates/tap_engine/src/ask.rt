@@ -31,12 +31,7 @@ impl Engine {
     ghost use Rattle.tap_engine.specs.Answering.{Answers};
 
     // Lists the documents that a condition gives at a second that is over.
-    pub(crate) fn ask(
-        &self,
-        alloc: Global,
-        moment: &[u8],
-        source: &[u8],
-    ) -> Result<Reply, Refusal>
+    pub(crate) fn ask(&self, alloc: Global, moment: &[u8], source: &[u8]) -> Result<Reply, Refusal>
         ensures ok { IfOk result (λ reply. (t : Tables) → StandsFor self.now t → Sound t self.now.session → Answers t self.now.session (Command.Ask moment.now source.now) reply None self.now.session) }
         ensures refusal { IfErr result (λ refusal. (t : Tables) → StandsFor self.now t → Refuses refusal (Command.Ask moment.now source.now) self.now.session t) }
         ensures short { IfOk result (λ reply. HasShortNames reply) }

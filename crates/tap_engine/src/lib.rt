@@ -40,3 +40,6 @@ pub use kept_row::KeptRow;
 pub use prepared::Prepared;
 pub use start::StartFault;
 pub use undo::Undo;
+
+#[cfg(test)]
+mod tests;

@@ -288,8 +288,7 @@ impl Engine {
         };
         let picks = picks_after(alloc, self.pick_count, query, run.num, hits)?;
         let entries = entries_at(alloc, ordinal, hits)?;
-        self.queries
-            .add_run(query.0 as usize - 1, moment, entries)?;
+        self.queries.add_run(query.0 as usize - 1, moment, entries)?;
         self.run_count += 1;
         self.pick_count += hits.len();
         Ok(Change::RunDone(run, picks))

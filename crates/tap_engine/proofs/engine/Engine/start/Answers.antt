@@ -77,4 +77,5 @@ returns c =
       ready = ready-start e t is (from-sound t c.args.sound c.into_parts-tables.ensures.tables c.into_parts-tables.ensures.formed);
       read = search rules;
       fault = tt;
+      kept = λ store. tt;
     }
