@@ -1,6 +1,6 @@
 -- Filters, lists and explanations: why one is refused, and what the engine keeps after one.
 use Rattle.std.proofs.Common.{◌≡◌, ◌∙◌, sym, refl, ap, subst, arith, ℕ, suc, List, [], ◌∷◌, ◌++◌, ◌+◌, length, map, take, get_or, ◌<◌, ◌≤◌, Bool, Option, Some, None, true, false, inl, inr, if◌then◌else◌}
-use Rattle.std.specs.Prelude.{◌⊎◌, ◌==◌, ◌||◌, nat_le, sum_by, find, reverse, Result, Ok, Err}
+use Rattle.std.specs.Prelude.{◌⊎◌, sum_by, find, reverse, Result, Ok, Err}
 use Rattle.std.specs.Option.{option_or, option_map}
 use Rattle.std.proofs.lemmas.List.{map-append, append_assoc, append-nil}
 use Rattle.std.specs.List.{All}
@@ -25,8 +25,7 @@ use Rattle.tap_rows.specs.Deliveries.{delivered}
 use Rattle.tap_rows.proofs.KeptLaws.{box-is}
 use Rattle.mail_lines.specs.declared.block.Block.{Block}
 use Rattle.script_lang.specs.declared.refusal.Refusal.{Refusal}
-use Rattle.script_lang.specs.declared.refusal.Refusal.TheVariants.{NoMoment, Memory, Limit}
-use Rattle.script_lang.specs.declared.refusal.LimitName.{LimitName}
+use Rattle.script_lang.specs.declared.refusal.Refusal.TheVariants.{NoMoment, Memory}
 use Rattle.script_lang.specs.declared.refusal.LimitName.TheVariants.{Users, Filters, Store}
 use Rattle.script_lang.specs.declared.command.Command.TheVariants.{Filter, ListOf, Explain}
 use Rattle.script_lang.specs.declared.reply.Reply.TheVariants.{Filter as FilterAdded, ListOf as Listing, Explain as Explained}
@@ -41,13 +40,12 @@ use Rattle.tap_model.specs.Limits.{passes, different}
 use Rattle.tap_model.specs.Sessions.{user_of, present}
 use Rattle.tap_model.specs.Filters.{or_none, rules_in_text, last_filter, filter_rules, rules_of_user}
 use Rattle.tap_model.specs.Queries.{is_named, query_named, truth_of, start_of, box_in, lines_of}
-use Rattle.tap_model.specs.Verdicts.{first_refusal, verdict, missing, no_moment, no_user, long_filter, rule_refusal, rules_refusal, filter_fault, text_of, is_early}
+use Rattle.tap_model.specs.Verdicts.{first_refusal, verdict, missing, no_moment, no_user, long_filter, rules_refusal, filter_fault, text_of, is_early}
 use Rattle.tap_model.specs.Replies.{next_filter, show_list, show_lines}
 use Rattle.tap_model.specs.Sound.{Sound}
 use Rattle.tap_model.specs.Stories.{Refuses}
 use Rattle.tap_model.proofs.AnswerLaws.{some-none, find-in, truth-of-second}
 use Rattle.tap_engine.specs.declared.engine.Engine.{Engine}
-use Rattle.tap_engine.specs.declared.kept_query.KeptQuery.{KeptQuery}
 use Rattle.tap_engine.specs.Keeping.{kept_query, with_owner}
 use Rattle.tap_engine.specs.Standing.{StandsFor, RefusedBy, look_refusal, kept_named}
 use Rattle.tap_engine.specs.FilterChecks.{filter_limits, filter_refusal}
@@ -55,7 +53,7 @@ use Rattle.tap_engine.specs.Lists.{rows_kept, lines_kept}
 use Rattle.tap_engine.specs.Answering.{Answers}
 use Rattle.tap_engine.proofs.AnswerTurns.{answers-accepted}
 use Rattle.tap_engine.proofs.OwnerLaws.{users-more, owners-more}
-use Rattle.tap_engine.proofs.CheckLaws.{named-is, box-verdict, passes-late, late-first}
+use Rattle.tap_engine.proofs.CheckLaws.{named-is, box-verdict}
 
 seven : (a b c x y z f : Option Refusal) → option_or a (option_or b (option_or c (option_or (first_refusal (x ∷ y ∷ z ∷ [])) f))) ≡ first_refusal (a ∷ b ∷ c ∷ x ∷ y ∷ z ∷ f ∷ [])
 seven (Some r) b c x y z f = refl

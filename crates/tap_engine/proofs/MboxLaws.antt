@@ -1,5 +1,5 @@
 -- Mailbox files: why one is refused, and what the engine keeps after one.
-use Rattle.std.proofs.Common.{◌≡◌, ◌∙◌, sym, refl, ap, subst, arith, ℕ, ℤ, List, [], ◌∷◌, ◌++◌, ◌+◌, ◌*◌, ◌≤◌, suc, length, Bool, true, false, Option, Some, None, inl, inr}
+use Rattle.std.proofs.Common.{◌≡◌, ◌∙◌, sym, refl, ap, subst, arith, ℕ, ℤ, List, [], ◌∷◌, ◌++◌, ◌+◌, ◌*◌, ◌≤◌, suc, length, Bool, true, false, Option, Some, None, inr}
 use Rattle.std.specs.Prelude.{◌&&◌, ◌==◌, nat_le, sum_by}
 use Rattle.std.specs.Option.{option_or}
 use Rattle.std.proofs.lemmas.List.{append-nil}

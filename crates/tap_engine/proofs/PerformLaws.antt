@@ -1,5 +1,5 @@
 -- What a command does once its rows are committed, or aren't.
-use Rattle.std.proofs.Common.{◌≡◌, ◌∙◌, sym, refl, ap, subst, List, Bool, true, false, ℤ, Option, Some, None, inl, inr, if◌then◌else◌}
+use Rattle.std.proofs.Common.{◌≡◌, ◌∙◌, sym, refl, ap, subst, true, false, ℤ, Option, Some, None, inl, inr}
 use Rattle.std.specs.Prelude.{◌⊎◌, Result, Ok, Err, IfOk, OnErr, OnSome}
 use Rattle.keeper_core.specs.declared.fault.CommitFault.{CommitFault}
 use Rattle.keeper_core.specs.declared.fault.CommitFault.TheVariants as C
@@ -10,15 +10,13 @@ use Rattle.tap_rows.specs.Tables.{after}
 use Rattle.tap_rows.specs.Fits.{fits}
 use Rattle.script_lang.specs.declared.command.Command.{Command}
 use Rattle.script_lang.specs.declared.command.Command.TheVariants.{At, AsUser, Mail, Mbox, AddNote, Define, Run, BoxOf, ListOf, Filter, Explain, Ask, Wake, ScoresOf, DigestOf, Bad}
-use Rattle.script_lang.specs.declared.refusal.Refusal.{Refusal}
 use Rattle.script_lang.specs.declared.refusal.Refusal.TheVariants.{Memory}
 use Rattle.script_lang.specs.declared.reply.Reply.{Reply}
 use Rattle.script_lang.specs.declared.reply.Reply.TheVariants.{No}
-use Rattle.script_lang.specs.Replies.{is_accepted}
 use Rattle.tap_model.specs.declared.session.Session.{Session}
 use Rattle.tap_model.specs.Verdicts.{verdict, is_early, is_spared}
-use Rattle.tap_model.specs.Replies.{Answer, answer_of, answer_by, accepted, tables_after, set_moment}
-use Rattle.tap_model.specs.Stories.{Step, Refuses, next_tables}
+use Rattle.tap_model.specs.Replies.{answer_of, answer_by, tables_after, set_moment}
+use Rattle.tap_model.specs.Stories.{Step, next_tables}
 use Rattle.tap_model.specs.Sound.{Sound}
 use Rattle.tap_model.proofs.AnswerLaws.{some-none}
 use Rattle.tap_model.proofs.FitLaws.{accepted_fits}

@@ -1,8 +1,7 @@
 -- The engine stays ready for its next step.
-use Rattle.std.proofs.Common.{◌≡◌, ◌∙◌, sym, refl, ap, subst, arith, ℕ, zero, suc, ◌+◌, ◌-◌, ◌≤◌, ◌<◌, ℤ, pos, List, [], ◌∷◌, ◌++◌, length, take, Bool, true, false, Option, Some, None, inl, inr, if◌then◌else◌}
+use Rattle.std.proofs.Common.{◌≡◌, ◌∙◌, sym, refl, ap, subst, arith, ℕ, zero, suc, ◌+◌, ◌≤◌, ◌<◌, ℤ, pos, List, [], ◌∷◌, ◌++◌, length, Bool, true, false, Option, Some, None, if◌then◌else◌}
 use Rattle.std.specs.Prelude.{◌≤ℤ◌, int_le, find, slice_index_or, slice_set}
 use Rattle.std.specs.Option.{option_or}
-use Rattle.std.proofs.lemmas.Bool.{cases_Bool}
 use Rattle.std.proofs.lemmas.Int.{ints}
 use Rattle.std.proofs.Math.Seq.{take-append_seam}
 use Rattle.tap_base.specs.Numbers.{moment_of}
@@ -12,7 +11,6 @@ use Rattle.tap_rows.specs.declared.rows.QueryRow.{QueryRow}
 use Rattle.tap_rows.specs.declared.results.Entry.{Entry}
 use Rattle.tap_rows.specs.Arrivals.{Arrived}
 use Rattle.tap_rows.specs.Kept.{Each}
-use Rattle.script_lang.specs.declared.refusal.Refusal.{Refusal}
 use Rattle.script_lang.specs.declared.refusal.Refusal.TheVariants.{Backwards}
 use Rattle.tap_model.specs.Queries.{is_named}
 use Rattle.tap_model.specs.Replies.{docs_from}

@@ -37,9 +37,9 @@ pub use kept_filter::KeptFilter;
 pub use kept_queries::KeptQueries;
 pub use kept_query::KeptQuery;
 pub use kept_row::KeptRow;
-pub use prepared::Prepared;
 pub use start::StartFault;
-pub use undo::Undo;
 
+#[cfg(test)]
+mod start_tests;
 #[cfg(test)]
 mod tests;

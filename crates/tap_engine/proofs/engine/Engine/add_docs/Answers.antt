@@ -1,4 +1,4 @@
-use Rattle.std.proofs.Common.{rules, ◌≡◌, ◌∙◌, sym, ap, length, ◌+◌, Some, false}
+use Rattle.std.proofs.Common.{rules, ◌≡◌, ◌∙◌, ap, length, ◌+◌, Some, false}
 use Rattle.std.specs.Prelude.{◌==◌}
 use Rattle.tap_rows.specs.declared.change.Change.TheVariants.{Docs}
 use Rattle.tap_model.specs.Replies.{docs_from}

@@ -1,4 +1,4 @@
-use Rattle.std.proofs.Common.{rules, ◌∙◌, sym, ap, length, ◌+◌, ◌∷◌, []}
+use Rattle.std.proofs.Common.{rules, ◌∙◌, sym, ap, length, ◌∷◌, []}
 use Rattle.script_lang.specs.declared.refusal.Refusal.TheVariants.{Memory}
 use Rattle.tap_engine.proofs.AnswerTurns.{for-memory, undo-filter}
 use Rattle.tap_engine.proofs.FilterLaws.{filter-verdict, filter-refuses, filter-moment, answers-filter, stands-filter}

@@ -1,4 +1,4 @@
-use Rattle.std.proofs.Common.{rules, ◌≡◌, ◌∙◌, sym, ap, subst, ◌+◌, ◌++◌, ◌∷◌, [], length, Some, None}
+use Rattle.std.proofs.Common.{rules, ◌≡◌, ◌+◌, ◌++◌, ◌∷◌, [], length, Some}
 use Rattle.tap_model.specs.Sessions.{present}
 use Rattle.tap_model.specs.Replies.{docs_from}
 use Rattle.tap_engine.proofs.ReadyLaws.{ready-docs, some-moment}

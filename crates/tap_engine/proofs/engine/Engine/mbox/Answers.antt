@@ -1,8 +1,7 @@
-use Rattle.std.proofs.Common.{rules, ◌≡◌, ◌∙◌, sym, ap, subst, ◌+◌, ◌++◌, length}
+use Rattle.std.proofs.Common.{rules, ◌≡◌, ◌∙◌, sym, ap, ◌+◌, ◌++◌, length}
 use Rattle.script_lang.specs.declared.refusal.Refusal.TheVariants.{Memory}
 use Rattle.tap_model.specs.Verdicts.{bytes_of}
 use Rattle.tap_model.specs.Replies.{docs_from, some_docs}
-use Rattle.tap_engine.specs.Ready.{IsReady}
 use Rattle.tap_engine.proofs.AnswerTurns.{for-memory, undo-docs, some-undo}
 use Rattle.tap_engine.proofs.ReadyLaws.{ready-docs}
 use Rattle.tap_engine.proofs.MboxLaws.{mbox-verdict, mbox-refuses, mbox-moment, answers-mbox, stands-more}

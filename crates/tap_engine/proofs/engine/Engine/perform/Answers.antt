@@ -1,5 +1,4 @@
-use Rattle.std.proofs.Common.{◌≡◌, ◌∙◌, sym, ap, subst, Some}
-use Rattle.std.specs.Prelude.{◌⊎◌}
+use Rattle.std.proofs.Common.{◌∙◌, sym, ap, subst, Some}
 use Rattle.keeper_core.specs.Keeping.{Holds}
 use Rattle.tap_engine.specs.Answering.{Answers, fault_engine}
 use Rattle.tap_engine.proofs.PerformLaws.{memory-step, rows-fit, rows-next, fault-step, fault-kept, on-err, one-of, taken-there}

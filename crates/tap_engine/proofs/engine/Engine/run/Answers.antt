@@ -1,8 +1,7 @@
-use Rattle.std.proofs.Common.{rules, arith, ◌≡◌, ◌∙◌, sym, ap, subst, ◌+◌, ◌-◌, ◌≤◌, ◌<◌, length, map, None, Some}
-use Rattle.std.specs.Prelude.{slice_index_or, slice_set}
+use Rattle.std.proofs.Common.{rules, arith, ◌≡◌, ◌∙◌, sym, ap, subst, ◌-◌, ◌<◌, length}
+use Rattle.std.specs.Prelude.{slice_index_or}
 use Rattle.script_lang.specs.declared.refusal.Refusal.TheVariants.{Memory}
-use Rattle.tap_rows.specs.Results.{entry_at}
-use Rattle.tap_engine.specs.Keeping.{new_kept, after_run}
+use Rattle.tap_engine.specs.Keeping.{new_kept}
 use Rattle.tap_rows.specs.Tables.{after}
 use Rattle.tap_engine.specs.Standing.{StandsFor}
 use Rattle.tap_engine.specs.Ready.{IsReady}
