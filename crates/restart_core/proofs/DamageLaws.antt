@@ -1,9 +1,9 @@
 -- No row is damaged just where the tables are well formed and each query's source can be read.
 use Rattle.std.proofs.Common.{◌≡◌, ◌∙◌, sym, ap, refl, ℕ, ◌+◌, ℤ, pos, Bool, true, false, Option, Some, None, List, [], ◌∷◌, ◌++◌, length}
-use Rattle.std.specs.Prelude.{◌&&◌, ◌==◌, is_none, not, nat_le, int_lt, int_le}
+use Rattle.std.specs.Prelude.{◌&&◌, ◌==◌, is_none, not, nat_le, int_lt, int_le, Result, Ok, Err, IsOk}
 use Rattle.std.specs.List.{list_any, list_all}
 use Rattle.std.specs.Option.{option_or}
-use Rattle.std.proofs.lemmas.Bool.{and_parts, and_from}
+use Rattle.std.proofs.lemmas.Bool.{and_parts, and_from, false≢true}
 use Rattle.tap_base.specs.Names.{is_name}
 use Rattle.tap_rows.specs.declared.tables.Tables.{Tables}
 use Rattle.tap_rows.specs.declared.tables.TheConstants.{MESSAGE_LIMIT}
@@ -15,12 +15,15 @@ use Rattle.tap_rows.specs.declared.rows.Pick.{Pick}
 use Rattle.tap_rows.specs.declared.rows.FilterRow.{FilterRow}
 use Rattle.tap_rows.specs.Kept.{Each}
 use Rattle.tap_rows.specs.WellFormed.{may_follow, row_at, docs_stand, doc_stands, has_arrived, note_stands, notes_stand, is_query_of, query_stands, queries_stand, was_defined, run_stands, runs_stand, is_picked, comes_after, pick_stands, picks_stand, filter_stands, filters_stand, is_well_formed}
+use Rattle.tql_core.specs.Condition.{Condition}
+use Rattle.tql_text.specs.declared.fault.TextFault.{TextFault}
+use Rattle.restart_core.specs.Readings.{reading_of}
 use Rattle.restart_core.specs.declared.fault.TableName.{TableName}
 use Rattle.restart_core.specs.declared.fault.TableName.TheVariants.{Docs, Notes, Queries, Runs, Picks, Filters}
 use Rattle.restart_core.specs.declared.fault.Why.{Why}
 use Rattle.restart_core.specs.declared.fault.Why.TheVariants.{Number, Moment, Reference, Name, Twice, Text, Second, Order}
 use Rattle.restart_core.specs.declared.fault.RestartFault.{RestartFault}
-use Rattle.restart_core.specs.Damages.{unless, first_of, row_damage, is_readable, doc_reason, note_reason, query_reason, run_reason, refers, is_within, is_same_pick, pick_reason, filter_reason, docs_damage, notes_damage, queries_damage, runs_damage, picks_damage, filters_damage, damage_of}
+use Rattle.restart_core.specs.Damages.{unless, first_of, row_damage, is_condition, is_readable, doc_reason, note_reason, query_reason, run_reason, refers, is_within, is_same_pick, pick_reason, filter_reason, docs_damage, notes_damage, queries_damage, runs_damage, picks_damage, filters_damage, damage_of}
 
 -- reasons, and what they deny
 three : (a b c : Bool) (x y z : Why) → is_none (first_of (unless a x ∷ unless b y ∷ unless c z ∷ [])) ≡ (a && b && c)
@@ -159,13 +162,21 @@ none-is tables =
     (either-none (picks_damage tables.runs tables.docs [] 1 None tables.picks) (filters_damage 1 (pos 0) tables.filters) (picks_stand tables.runs tables.docs [] 1 None tables.picks) (filters_stand 1 (pos 0) tables.filters) (picks-none tables.runs tables.docs [] 1 None tables.picks) (filters-none 1 (pos 0) tables.filters)))))
     ∙ six (docs_stand 1 (pos 0) tables.docs) (notes_stand tables.docs 1 (pos 0) tables.notes) (queries_stand [] 1 (pos 0) tables.queries) (list_all is_readable tables.queries) (runs_stand tables.queries 1 (pos 0) tables.runs) (picks_stand tables.runs tables.docs [] 1 None tables.picks) (filters_stand 1 (pos 0) tables.filters)
 
-all-each : (queries : List QueryRow) → list_all is_readable queries ≡ true → Each (λ query. is_readable query ≡ true) queries
-all-each [] e = tt
-all-each (query ∷ queries) e = let parts = and_parts (is_readable query) (list_all is_readable queries) e in (parts.0, all-each queries parts.1)
+read-ok : (reading : Result Condition TextFault) → is_condition reading ≡ true → IsOk reading
+read-ok (Ok condition) e = refl
+read-ok (Err fault) e = absurd (false≢true e)
 
-each-all : (queries : List QueryRow) → Each (λ query. is_readable query ≡ true) queries → list_all is_readable queries ≡ true
+ok-read : (reading : Result Condition TextFault) → IsOk reading → is_condition reading ≡ true
+ok-read (Ok condition) ok = refl
+ok-read (Err fault) ok = absurd (false≢true ok)
+
+all-each : (queries : List QueryRow) → list_all is_readable queries ≡ true → Each (λ query. IsOk (reading_of query)) queries
+all-each [] e = tt
+all-each (query ∷ queries) e = let parts = and_parts (is_readable query) (list_all is_readable queries) e in (read-ok (reading_of query) parts.0, all-each queries parts.1)
+
+each-all : (queries : List QueryRow) → Each (λ query. IsOk (reading_of query)) queries → list_all is_readable queries ≡ true
 each-all [] each = refl
-each-all (query ∷ queries) each = and_from _ _ each.0 (each-all queries each.1)
+each-all (query ∷ queries) each = and_from _ _ (ok-read (reading_of query) each.0) (each-all queries each.1)
 
 is-none : (damage : Option RestartFault) → is_none damage ≡ true → damage ≡ None
 is-none None e = refl
@@ -179,8 +190,8 @@ none-parts tables e = and_parts (is_well_formed tables) (list_all is_readable ta
 pub formed : (tables : Tables) → damage_of tables ≡ None → is_well_formed tables ≡ true
 formed tables e = (none-parts tables e).0
 
-pub readable : (tables : Tables) → damage_of tables ≡ None → Each (λ query. is_readable query ≡ true) tables.queries
+pub readable : (tables : Tables) → damage_of tables ≡ None → Each (λ query. IsOk (reading_of query)) tables.queries
 readable tables e = all-each tables.queries (none-parts tables e).1
 
-pub undamaged : (tables : Tables) → is_well_formed tables ≡ true → Each (λ query. is_readable query ≡ true) tables.queries → damage_of tables ≡ None
+pub undamaged : (tables : Tables) → is_well_formed tables ≡ true → Each (λ query. IsOk (reading_of query)) tables.queries → damage_of tables ≡ None
 undamaged tables f each = is-none (damage_of tables) (none-is tables ∙ and_from _ _ f (each-all tables.queries each))

@@ -1,10 +1,11 @@
 -- Laws of sources, and of what is damaged.
-use Rattle.std.specs.Prelude.{◌≡◌, ℕ, List, true, None}
+use Rattle.std.specs.Prelude.{◌≡◌, ℕ, List, true, None, IsOk}
 use Rattle.tap_rows.specs.declared.tables.Tables.{Tables}
 use Rattle.tap_rows.specs.Kept.{Each}
 use Rattle.tap_rows.specs.WellFormed.{is_well_formed}
 use Rattle.restart_core.specs.Starts.{is_from_now, condition_text, stored_source}
-use Rattle.restart_core.specs.Damages.{is_readable, damage_of}
+use Rattle.restart_core.specs.Damages.{damage_of}
+use Rattle.restart_core.specs.Readings.{reading_of}
 
 -- what is stored of a source is from now where that is, and has its text
 pub record StoredSourcesSayTheSame : Type 0 where
@@ -14,5 +15,5 @@ pub record StoredSourcesSayTheSame : Type 0 where
 -- no row is damaged exactly where the tables are well formed and each query's source can be read
 pub record SoundTablesAreUndamaged : Type 0 where
   pub formed : (tables : Tables) → damage_of tables ≡ None → is_well_formed tables ≡ true
-  pub readable : (tables : Tables) → damage_of tables ≡ None → Each (λ query. is_readable query ≡ true) tables.queries
-  pub undamaged : (tables : Tables) → is_well_formed tables ≡ true → Each (λ query. is_readable query ≡ true) tables.queries → damage_of tables ≡ None
+  pub readable : (tables : Tables) → damage_of tables ≡ None → Each (λ query. IsOk (reading_of query)) tables.queries
+  pub undamaged : (tables : Tables) → is_well_formed tables ≡ true → Each (λ query. IsOk (reading_of query)) tables.queries → damage_of tables ≡ None

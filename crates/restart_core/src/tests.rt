@@ -164,15 +164,107 @@ fn fault_of(alloc: Global, stored: &Stored) -> Result<Option<RestartFault>, Memo
     }
 }
 
-// Is this the first damage of what is stored?
+// One change to sound tables.
+#[derive(Clone, Copy)]
+enum Edit {
+    DocNumber,
+    LongDoc,
+    NoteDoc,
+    EarlyNote,
+    Author,
+    QueryName,
+    SecondQuery,
+    Source,
+    LineEnd,
+    LateRun,
+    EarlyRun,
+    PickRun,
+    LatePick,
+    EarlyPick,
+    SecondPick,
+    PickOrder,
+    Owner,
+}
+
+// What is stored after the change.
+fn edited(edit: Edit) -> Stored {
+    match edit {
+        Edit::DocNumber => Stored {
+            doc_num: 2,
+            ..SOUND
+        },
+        Edit::LongDoc => Stored {
+            long: true,
+            ..SOUND
+        },
+        Edit::NoteDoc => Stored {
+            note_doc: 2,
+            ..SOUND
+        },
+        Edit::EarlyNote => Stored {
+            note_arrival: 99,
+            ..SOUND
+        },
+        Edit::Author => Stored {
+            author: b"Ann",
+            ..SOUND
+        },
+        Edit::QueryName => Stored {
+            query_name: b"Q",
+            ..SOUND
+        },
+        Edit::SecondQuery => Stored {
+            queries: 2,
+            ..SOUND
+        },
+        Edit::Source => Stored {
+            source: b"m.size =",
+            ..SOUND
+        },
+        Edit::LineEnd => Stored {
+            source: b"FROM NOW\nTRUE",
+            ..SOUND
+        },
+        Edit::LateRun => Stored {
+            run_moment: 250000000001,
+            ..SOUND
+        },
+        Edit::EarlyRun => Stored {
+            run_moment: 99,
+            ..SOUND
+        },
+        Edit::PickRun => Stored {
+            pick_run: 2,
+            ..SOUND
+        },
+        Edit::LatePick => Stored {
+            first: 101,
+            ..SOUND
+        },
+        Edit::EarlyPick => Stored { first: 99, ..SOUND },
+        Edit::SecondPick => Stored { picks: 2, ..SOUND },
+        Edit::PickOrder => Stored {
+            docs: 2,
+            picks: 2,
+            first_doc: 2,
+            ..SOUND
+        },
+        Edit::Owner => Stored {
+            owner: b"",
+            ..SOUND
+        },
+    }
+}
+
+// Is this the first damage after the change?
 fn has_damage(
     alloc: Global,
-    stored: &Stored,
+    edit: Edit,
     table: TableName,
     num: u32,
     why: Why,
 ) -> Result<bool, Memory> {
-    let fault = fault_of(alloc, stored)?;
+    let fault = fault_of(alloc, &edited(edit))?;
     Ok(fault == Some(RestartFault::Damaged { table, num, why }))
 }
 
@@ -194,156 +286,27 @@ fn sound_tables_give_their_rows_and_conditions(rt: HostRuntime) -> Result<(), Me
 #[test]
 fn the_first_damage_is_found(rt: HostRuntime) -> Result<(), Memory> {
     let alloc = rt.alloc();
-    let two_docs = Stored {
-        docs: 2,
-        picks: 2,
-        first_doc: 2,
-        ..SOUND
-    };
-    let rows: [(Stored, TableName, u32, Why); 16] = [
-        (
-            Stored {
-                doc_num: 2,
-                ..SOUND
-            },
-            TableName::Docs,
-            1,
-            Why::Number,
-        ),
-        (
-            Stored {
-                long: true,
-                ..SOUND
-            },
-            TableName::Docs,
-            1,
-            Why::Text,
-        ),
-        (
-            Stored {
-                note_doc: 2,
-                ..SOUND
-            },
-            TableName::Notes,
-            1,
-            Why::Reference,
-        ),
-        (
-            Stored {
-                note_arrival: 99,
-                ..SOUND
-            },
-            TableName::Notes,
-            1,
-            Why::Reference,
-        ),
-        (
-            Stored {
-                author: b"Ann",
-                ..SOUND
-            },
-            TableName::Notes,
-            1,
-            Why::Name,
-        ),
-        (
-            Stored {
-                query_name: b"Q",
-                ..SOUND
-            },
-            TableName::Queries,
-            1,
-            Why::Name,
-        ),
-        (
-            Stored {
-                queries: 2,
-                ..SOUND
-            },
-            TableName::Queries,
-            2,
-            Why::Twice,
-        ),
-        (
-            Stored {
-                source: b"m.size =",
-                ..SOUND
-            },
-            TableName::Queries,
-            1,
-            Why::Text,
-        ),
-        (
-            Stored {
-                source: b"FROM NOW\nTRUE",
-                ..SOUND
-            },
-            TableName::Queries,
-            1,
-            Why::Text,
-        ),
-        (
-            Stored {
-                run_moment: 250000000001,
-                ..SOUND
-            },
-            TableName::Runs,
-            1,
-            Why::Moment,
-        ),
-        (
-            Stored {
-                run_moment: 99,
-                ..SOUND
-            },
-            TableName::Runs,
-            1,
-            Why::Reference,
-        ),
-        (
-            Stored {
-                pick_run: 2,
-                ..SOUND
-            },
-            TableName::Picks,
-            1,
-            Why::Reference,
-        ),
-        (
-            Stored {
-                first: 101,
-                ..SOUND
-            },
-            TableName::Picks,
-            1,
-            Why::Second,
-        ),
-        (
-            Stored { first: 99, ..SOUND },
-            TableName::Picks,
-            1,
-            Why::Second,
-        ),
-        (two_docs, TableName::Picks, 2, Why::Order),
-        (
-            Stored {
-                owner: b"",
-                ..SOUND
-            },
-            TableName::Filters,
-            1,
-            Why::Name,
-        ),
+    let rows = [
+        (Edit::DocNumber, TableName::Docs, 1, Why::Number),
+        (Edit::LongDoc, TableName::Docs, 1, Why::Text),
+        (Edit::NoteDoc, TableName::Notes, 1, Why::Reference),
+        (Edit::EarlyNote, TableName::Notes, 1, Why::Reference),
+        (Edit::Author, TableName::Notes, 1, Why::Name),
+        (Edit::QueryName, TableName::Queries, 1, Why::Name),
+        (Edit::SecondQuery, TableName::Queries, 2, Why::Twice),
+        (Edit::Source, TableName::Queries, 1, Why::Text),
+        (Edit::LineEnd, TableName::Queries, 1, Why::Text),
+        (Edit::LateRun, TableName::Runs, 1, Why::Moment),
+        (Edit::EarlyRun, TableName::Runs, 1, Why::Reference),
+        (Edit::PickRun, TableName::Picks, 1, Why::Reference),
+        (Edit::LatePick, TableName::Picks, 1, Why::Second),
+        (Edit::EarlyPick, TableName::Picks, 1, Why::Second),
+        (Edit::SecondPick, TableName::Picks, 2, Why::Twice),
+        (Edit::PickOrder, TableName::Picks, 2, Why::Order),
+        (Edit::Owner, TableName::Filters, 1, Why::Name),
     ];
-    for (stored, table, num, why) in rows {
-        assert!(rt; has_damage(alloc, &stored, table, num, why)?);
+    for (edit, table, num, why) in rows {
+        assert!(rt; has_damage(alloc, edit, table, num, why)?);
     }
-    Ok(())
-}
-
-#[test]
-fn a_document_is_picked_once(rt: HostRuntime) -> Result<(), Memory> {
-    let twice = Stored { picks: 2, ..SOUND };
-    assert!(rt; has_damage(rt.alloc(), &twice, TableName::Picks, 2, Why::Twice)?);
     Ok(())
 }

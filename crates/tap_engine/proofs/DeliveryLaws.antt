@@ -90,9 +90,9 @@ own-run : (before : List RunRow) (run : RunRow) (q : QueryRow) → run.query.0 �
 own-run before run q of =
     let moments = moments-new q.num.0 before run of in
     kept-as q (last_or (start_of q) (run_moments q.num.0 (before ++ run ∷ []))) run.moment (length (run_moments q.num.0 (before ++ run ∷ []))) (length (run_moments q.num.0 before) + 1) [] []
-      (ap (last_or (start_of q)) moments ∙ last-more (start_of q) run.moment (run_moments q.num.0 before))
-      (ap length moments ∙ length-append (run_moments q.num.0 before) (run.moment ∷ []))
-      refl
+    (ap (last_or (start_of q)) moments ∙ last-more (start_of q) run.moment (run_moments q.num.0 before))
+    (ap length moments ∙ length-append (run_moments q.num.0 before) (run.moment ∷ []))
+    refl
 
 other-run : (before : List RunRow) (run : RunRow) (other : QueryRow) → (run.query.0 ≡ other.num.0 → ⊥) → kept_query (runs_alone (before ++ run ∷ []) []) other ≡ kept_query (runs_alone before []) other
 other-run before run other differs =
@@ -122,9 +122,9 @@ own-pick runs before pick q run of is =
     let yes' = same-yes pick.query.0 q.num.0 of in
     let one : picks_of q.num.0 (pick ∷ []) ≡ pick ∷ [] = rw yes' refl in
     kept-as q (last_or (start_of q) (run_moments q.num.0 runs)) (last_or (start_of q) (run_moments q.num.0 runs)) (length (run_moments q.num.0 runs)) (length (run_moments q.num.0 runs)) (map (picked runs) (picks_of q.num.0 (before ++ pick ∷ []))) (map (picked runs) (picks_of q.num.0 before) ++ entry-of pick run ∷ []) refl refl
-      (ap (map (picked runs)) (filter-append (λ pick. pick.query.0 == q.num.0) before (pick ∷ []) ∙ ap (λ more. picks_of q.num.0 before ++ more) one)
-      ∙ map-append (picked runs) (picks_of q.num.0 before) (pick ∷ [])
-      ∙ ap (λ n. map (picked runs) (picks_of q.num.0 before) ++ entry-of pick n ∷ []) (sym is))
+    (ap (map (picked runs)) (filter-append (λ pick. pick.query.0 == q.num.0) before (pick ∷ []) ∙ ap (λ more. picks_of q.num.0 before ++ more) one)
+    ∙ map-append (picked runs) (picks_of q.num.0 before) (pick ∷ [])
+    ∙ ap (λ n. map (picked runs) (picks_of q.num.0 before) ++ entry-of pick n ∷ []) (sym is))
 
 other-pick : (runs : List RunRow) (before : List Pick) (pick : Pick) (other : QueryRow) → (pick.query.0 ≡ other.num.0 → ⊥) → kept_query (runs_alone runs (before ++ pick ∷ [])) other ≡ kept_query (runs_alone runs before) other
 other-pick runs before pick other differs =
@@ -165,7 +165,7 @@ pick-joins rows runs before pick queries new ordinals from numbered one has is n
     let low = has-bounds 1 pick.run pick.query.0 runs numbered has in
     let place : pick.run ≡ 1 + (pick.run - 1) = omega (arith, low.0) in
     let ordinal : slice_index_or ordinals (pick.run - 1) 0 ≡ run_ordinal pick.run pick.query.0 runs =
-      ap (λ l. slice_index_or l (pick.run - 1) 0) noted ∙ ordinal-at runs 1 pick.run pick.query.0 (pick.run - 1) runs numbered has place in
+    ap (λ l. slice_index_or l (pick.run - 1) 0) noted ∙ ordinal-at runs 1 pick.run pick.query.0 (pick.run - 1) runs numbered has place in
     let kept : slice_index_or (map f rows) (pick.query.0 - 1) d ≡ f t.q = kept-there f pick.query.0 rows t.q d from t.has t.at one.low in
     let at : t.q.num.0 ≡ 1 + (pick.query.0 - 1) = omega (arith, t.at, one.low) in
     set d

@@ -38,6 +38,9 @@ docs-arrived place low (doc ∷ docs) e =
     let rest = docs-arrived (place + 1) doc.arrival docs both.1 in
     (((follows low doc.arrival here.1).0, equal doc.num.0 place here.0, subst (λ n. Arrived n doc.arrival docs) (next place) rest.0), (at-most (length doc.text) 1048576 this.1, rest.1))
 
+not-below : (low m : ℤ) → pos 0 ≤ℤ low → low ≤ℤ m → pos 0 ≤ℤ m
+not-below low m from le = omega (arith, ints, from, le)
+
 queries-from : (earlier : List QueryRow) (place : ℕ) (low : ℤ) (queries : List QueryRow) → pos 0 ≤ℤ low → queries_stand earlier place low queries ≡ true → QueriesFrom place queries × Each (λ query. IsMoment query.arrival) queries
 queries-from earlier place low [] from e = (tt, tt)
 queries-from earlier place low (query ∷ queries) from e =
@@ -47,7 +50,7 @@ queries-from earlier place low (query ∷ queries) from e =
     let owner = and_parts _ _ name.0 in
     let here = and_parts _ _ owner.0 in
     let moment = follows low query.arrival here.1 in
-    let above : pos 0 ≤ℤ query.arrival = omega (arith, ints, moment.0, from) in
+    let above = not-below low query.arrival from moment.0 in
     let rest = queries-from (earlier ++ query ∷ []) (place + 1) query.arrival queries above both.1 in
     ((equal query.num.0 place here.0, subst (λ n. QueriesFrom n queries) (next place) rest.0), ((above, moment.1), rest.1))
 

@@ -1,13 +1,14 @@
 -- An engine that has started stands for its tables, and is ready.
-use Rattle.std.proofs.Common.{◌≡◌, ◌∙◌, sym, ap, subst, refl, arith, ℕ, suc, ◌+◌, ◌≤◌, ℤ, pos, Bool, true, false, Option, Some, None, List, [], ◌∷◌, ◌++◌, length, map, append_assoc, if◌then◌else◌}
-use Rattle.std.specs.Prelude.{◌≤ℤ◌, int_le}
+use Rattle.std.proofs.Common.{◌≡◌, ◌∙◌, sym, ap, subst, refl, arith, ℕ, suc, ◌+◌, ◌≤◌, ℤ, pos, Bool, true, false, Option, Some, None, List, [], ◌∷◌, ◌++◌, length, map, append_assoc, if◌then◌else◌, inl, inr}
+use Rattle.std.specs.Prelude.{◌⊎◌, ◌≤ℤ◌, int_le, is_some}
 use Rattle.std.proofs.lemmas.Int.{ints}
 use Rattle.std.proofs.lemmas.List.{append-nil}
 use Rattle.tap_base.specs.Words.{holds, with_new}
 use Rattle.tap_rows.specs.declared.tables.Tables.{Tables}
 use Rattle.tap_rows.specs.declared.rows.Doc.{Doc}
 use Rattle.tap_rows.specs.declared.rows.QueryRow.{QueryRow}
-use Rattle.std.specs.Option.{option_or}
+use Rattle.std.specs.Option.{option_or, option_map}
+use Rattle.std.proofs.lemmas.Option.{none-some}
 use Rattle.tap_rows.specs.Arrivals.{Arrived}
 use Rattle.tap_rows.specs.Kept.{Each, QueriesFrom}
 use Rattle.tap_rows.proofs.LaterLaws.{each-map}
@@ -17,7 +18,11 @@ use Rattle.tap_engine.specs.declared.engine.Engine.{Engine}
 use Rattle.tap_engine.specs.Keeping.{kept_query, with_owner}
 use Rattle.tap_engine.specs.Standing.{StandsFor}
 use Rattle.tap_engine.specs.Ready.{KeptFrom, DocsBy, IsTime, IsReady}
-use Rattle.tap_engine.specs.Starting.{runs_alone}
+use Rattle.tap_rows.specs.declared.rows.FilterRow.{FilterRow}
+use Rattle.tap_model.specs.Verdicts.{filter_fault}
+use Rattle.tap_engine.specs.declared.start.StartFault.{StartFault}
+use Rattle.tap_engine.specs.declared.start.StartFault.TheVariants.{Rules, Memory}
+use Rattle.tap_engine.specs.Starting.{runs_alone, first_unread}
 use Rattle.tap_engine.proofs.DueLaws.{runs-few}
 use Rattle.tap_engine.proofs.OwnerLaws.{users-more, owners-more}
 use Rattle.tap_engine.proofs.FormedLaws.{Formed}
@@ -112,8 +117,20 @@ pub ready-start : (e : Engine) (t : Tables) → IsStarted e t → Formed t → I
 ready-start e t is formed = record {
   docs = subst (λ docs. Arrived 1 (pos 0) docs) (sym is.docs) formed.arrived;
   by = subst (λ session. DocsBy (option_or session.moment e.greatest) e.docs) (sym is.session)
-    (subst (λ known. DocsBy known e.docs) (sym is.greatest)
-    (subst (λ docs. DocsBy (greatest_moment t) docs) (sym is.docs) (by-moment t)));
+      (subst (λ known. DocsBy known e.docs) (sym is.greatest)
+      (subst (λ docs. DocsBy (greatest_moment t) docs) (sym is.docs) (by-moment t)));
   queries = subst (λ n. KeptFrom 1 n e.queries) (sym is.run_count) (subst (λ queries. KeptFrom 1 (length t.runs) queries) (sym is.queries) (kept-from t 1 t.queries formed.queries));
   moment = subst (λ session. IsTime session.moment) (sym is.session) tt;
 }
+
+-- the texts of filters of tables that a session may begin with can be read
+none-unread : (filters : List FilterRow) → Each (λ filter. filter_fault filter.source ≡ None) filters → first_unread filters ≡ None
+none-unread [] each = refl
+none-unread (filter ∷ filters) each = ap (λ fault. if is_some fault then Some filter.num else first_unread filters) each.0 ∙ none-unread filters each.1
+
+none-fault : (fault : StartFault) → None ≡ Some fault → fault ≡ Memory
+none-fault fault e = absurd (none-some fault e)
+
+pub only-memory : (filters : List FilterRow) (fault : StartFault) → Each (λ filter. filter_fault filter.source ≡ None) filters → (fault ≡ Memory) ⊎ (option_map Rules (first_unread filters) ≡ Some fault) → fault ≡ Memory
+only-memory filters fault each (inl memory) = memory
+only-memory filters fault each (inr rules) = none-fault fault (sym (ap (option_map Rules) (none-unread filters each)) ∙ rules)

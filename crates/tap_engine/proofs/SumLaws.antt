@@ -70,11 +70,11 @@ bytes-of t =
     let queries = summed (λ query. query.arrival) (λ query. length query.source) notes t.queries in
     let runs = summed (λ run. run.moment) (λ run. 0) queries t.runs in
     all _ _ _ _ _ _ _ _ _
-      (bytes-are (λ doc. doc.arrival) (λ doc. length doc.text) start t.docs)
-      (bytes-are (λ note. note.arrival) (λ note. length note.text) docs t.notes)
-      (bytes-are (λ query. query.arrival) (λ query. length query.source) notes t.queries)
-      (bytes-are (λ run. run.moment) (λ run. 0) queries t.runs ∙ ap (λ n. queries.bytes + n) (none-stored t.runs))
-      (bytes-are (λ filter. filter.arrival) (λ filter. length filter.source) runs t.filters)
+    (bytes-are (λ doc. doc.arrival) (λ doc. length doc.text) start t.docs)
+    (bytes-are (λ note. note.arrival) (λ note. length note.text) docs t.notes)
+    (bytes-are (λ query. query.arrival) (λ query. length query.source) notes t.queries)
+    (bytes-are (λ run. run.moment) (λ run. 0) queries t.runs ∙ ap (λ n. queries.bytes + n) (none-stored t.runs))
+    (bytes-are (λ filter. filter.arrival) (λ filter. length filter.source) runs t.filters)
   where
     all : (d n q f a b c e g : ℕ) → a ≡ 0 + d → b ≡ a + n → c ≡ b + q → e ≡ c + 0 → g ≡ e + f → g ≡ d + n + q + f
     all d n q f a b c e g is-a is-b is-c is-e is-g = omega (arith, is-a, is-b, is-c, is-e, is-g)
@@ -97,6 +97,6 @@ greatest-in t =
     ∙ ap (λ o. joined (joined (joined o (greatest_of q)) (greatest_of r)) (greatest_of f)) (greatest-is (λ note. note.arrival) (λ note. length note.text) docs t.notes)
     ∙ ap (λ o. joined (joined (joined (joined o (greatest_of n)) (greatest_of q)) (greatest_of r)) (greatest_of f)) (greatest-is (λ doc. doc.arrival) (λ doc. length doc.text) start t.docs)
     ∙ sym (both-greatest (d ++ n ++ q ++ r) f
-      ∙ ap (λ o. joined o (greatest_of f)) (both-greatest (d ++ n ++ q) r
-      ∙ ap (λ o. joined o (greatest_of r)) (both-greatest (d ++ n) q
-      ∙ ap (λ o. joined o (greatest_of q)) (both-greatest d n))))
+    ∙ ap (λ o. joined o (greatest_of f)) (both-greatest (d ++ n ++ q) r
+    ∙ ap (λ o. joined o (greatest_of r)) (both-greatest (d ++ n) q
+    ∙ ap (λ o. joined o (greatest_of q)) (both-greatest d n))))

@@ -42,4 +42,6 @@ pub use start::StartFault;
 pub use undo::Undo;
 
 #[cfg(test)]
+mod start_tests;
+#[cfg(test)]
 mod tests;

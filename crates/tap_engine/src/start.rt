@@ -3,7 +3,7 @@ ghost use Rattle.std.specs.Option.{option_map};
 ghost use Rattle.tap_engine.specs.Starting.{first_unread};
 
 use crate::engine::Engine;
-use crate::keep::{keep_docs, keep_delivered, keep_filters, owners_of};
+use crate::keep::{keep_delivered, keep_docs, keep_filters, owners_of};
 use crate::sums::Sums;
 use restart_core::Sound;
 use std::alloc::Global;
@@ -35,10 +35,12 @@ impl From<Memory> for StartFault {
 impl Engine {
     ghost use Rattle.tap_engine.specs.declared.start.StartFault.{StartFault as Fault};
     ghost use Rattle.tap_model.specs.Sessions.{no_session};
+    ghost use Rattle.tap_model.specs.Sound.{IsStore};
     ghost use Rattle.tap_engine.specs.Standing.{StandsFor};
     ghost use Rattle.tap_engine.specs.Ready.{IsReady};
 
-    /// An engine with a new session that stands for sound tables. It looks at each row a fixed number of times.
+    /// An engine with a new session that stands for sound tables. It looks at each row a fixed number of times. `Rules` comes
+    /// exactly where a filter's text has a fault, with the first such filter, and never over tables that a session left.
     pub fn start(alloc: Global, sound: Sound) -> Result<Engine, StartFault>
         ensures stands { IfOk result (λ engine. StandsFor engine sound) }
         ensures session { IfOk result (λ engine. engine.session ≡ no_session) }
@@ -46,6 +48,7 @@ impl Engine {
         ensures ready { IfOk result (λ engine. IsReady engine) }
         ensures read { OnOk result (first_unread sound.filters ≡ None) }
         ensures fault { IfErr result (λ fault. (fault ≡ Fault.Memory) ⊎ (option_map Fault.Rules (first_unread sound.filters) ≡ Some fault)) }
+        ensures kept { IsStore sound → IfErr result (λ fault. fault ≡ Fault.Memory) }
     {
         let (tables, conds) = sound.into_parts();
         let sums = Sums::of(&tables)?;

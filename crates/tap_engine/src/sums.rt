@@ -18,18 +18,11 @@ fn later_of(moment: i64, known: Option<i64>) -> i64
 {
     match known {
         None => moment,
-        Some(known) => {
-            if known <= moment {
-                moment
-            } else {
-                known
-            }
-        }
+        Some(known) => { if known <= moment { moment } else { known } }
     }
 }
 
 impl Sums {
-
     // No rows.
     pub(crate) fn none() -> Sums
         ensures { result ≡ record { bytes = 0; greatest = None } }

@@ -6,10 +6,13 @@ use Rattle.tap_rows.specs.WellFormed.{is_well_formed}
 use Rattle.tap_engine.specs.declared.engine.Engine.{Engine}
 use Rattle.tap_engine.specs.Keeping.{kept_query}
 use Rattle.tap_engine.specs.Standing.{StandsFor}
-use Rattle.tap_engine.specs.Starting.{runs_alone, IsOneOf}
+use Rattle.std.specs.Prelude.{◌⊎◌, Some}
+use Rattle.std.specs.Option.{option_map}
+use Rattle.tap_engine.specs.declared.start.StartFault.TheVariants.{Rules, Memory}
+use Rattle.tap_engine.specs.Starting.{runs_alone, first_unread, IsOneOf}
 use Rattle.tap_engine.proofs.FormedLaws.{Formed, formed}
 use Rattle.tap_engine.proofs.SumLaws.{bytes-of, greatest-in}
-use Rattle.tap_engine.proofs.StartedLaws.{IsStarted, stands-start, ready-start}
+use Rattle.tap_engine.proofs.StartedLaws.{IsStarted, stands-start, ready-start, only-memory}
 use Rattle.tap_engine.proofs.engine.Engine.start.Goals as goal
 
 from-sound : (tables sound : Tables) → tables ≡ sound → is_well_formed sound ≡ true → Formed tables
@@ -77,4 +80,12 @@ returns c =
       ready = ready-start e t is (from-sound t c.args.sound c.into_parts-tables.ensures.tables c.into_parts-tables.ensures.formed);
       read = search rules;
       fault = tt;
+      kept = λ store. tt;
     }
+
+pub returns-in_err-filters-clause-kept : goal.returns-in_err-filters-clause-kept
+returns-in_err-filters-clause-kept c = λ store.
+    let fault = c.in_err-filters.field-0.0 in
+    let only = only-memory c.args.sound.filters fault store.rules
+      (subst (λ tables. (fault ≡ Memory) ⊎ (option_map Rules (first_unread tables.filters) ≡ Some fault)) c.into_parts-tables.ensures.tables c.in_err-filters.ensures.fault) in
+    search (rules, only)

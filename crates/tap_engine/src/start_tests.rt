@@ -1,0 +1,103 @@
+use crate::{Engine, StartFault};
+use restart_core::check_tables;
+use std::alloc::Global;
+use tap_base::{DocNum, Memory, NoteNum, QueryNum, Text};
+use tap_rows::{Doc, FilterRow, Note, Pick, QueryRow, RunRow, Tables};
+
+fn add_doc(alloc: Global, tables: &mut Tables) -> Result<(), Memory> {
+    let text = Text::from_slice(alloc, b"Subject: hi\n\n")?;
+    tables.docs.push(Doc {
+        num: DocNum(1),
+        arrival: 100,
+        text,
+    })
+}
+
+fn add_note(alloc: Global, tables: &mut Tables) -> Result<(), Memory> {
+    let author = Text::from_slice(alloc, b"ann")?;
+    let kind = Text::from_slice(alloc, b"score")?;
+    let text = Text::from_slice(alloc, b"x")?;
+    tables.notes.push(Note {
+        num: NoteNum(1),
+        doc: DocNum(1),
+        author,
+        kind,
+        value: 1,
+        arrival: 100,
+        text,
+    })
+}
+
+fn add_query(alloc: Global, tables: &mut Tables) -> Result<(), Memory> {
+    let owner = Text::from_slice(alloc, b"ann")?;
+    let name = Text::from_slice(alloc, b"q")?;
+    let source = Text::from_slice(alloc, b"m.words HAS 'hi'")?;
+    tables.queries.push(QueryRow {
+        num: QueryNum(1),
+        owner,
+        name,
+        source,
+        arrival: 100,
+    })
+}
+
+fn add_filter(alloc: Global, tables: &mut Tables, source: &[u8]) -> Result<(), Memory> {
+    let owner = Text::from_slice(alloc, b"ann")?;
+    let source = Text::from_slice(alloc, source)?;
+    tables.filters.push(FilterRow {
+        num: 1,
+        owner,
+        source,
+        arrival: 100,
+    })
+}
+
+// One document, one note on it, one query, one run of it that delivered the document, and one filter of this source.
+fn stored(alloc: Global, source: &[u8]) -> Result<Tables, Memory> {
+    let mut tables = Tables::empty(alloc);
+    add_doc(alloc, &mut tables)?;
+    add_note(alloc, &mut tables)?;
+    add_query(alloc, &mut tables)?;
+    tables.runs.push(RunRow {
+        num: 1,
+        query: QueryNum(1),
+        moment: 101,
+    })?;
+    tables.picks.push(Pick {
+        num: 1,
+        query: QueryNum(1),
+        run: 1,
+        doc: DocNum(1),
+        first: 100,
+    })?;
+    add_filter(alloc, &mut tables, source)?;
+    Ok(tables)
+}
+
+// What an engine over stored rows answers as it starts: how many documents and notes it keeps, or the number of the filter
+// that it can't read. None where a row is damaged.
+fn started(alloc: Global, source: &[u8]) -> Result<Option<Result<(usize, usize), u32>>, Memory> {
+    let tables = stored(alloc, source)?;
+    let Ok(sound) = check_tables(alloc, tables) else {
+        return Ok(None);
+    };
+    match Engine::start(alloc, sound) {
+        Ok(engine) => Ok(Some(Ok((engine.docs(), engine.notes())))),
+        Err(StartFault::Rules { num }) => Ok(Some(Err(num))),
+        Err(StartFault::Memory) => Err(Memory),
+    }
+}
+
+#[test]
+fn an_engine_starts_over_stored_rows(rt: HostRuntime) -> Result<(), Memory> {
+    let kept = started(rt.alloc(), b"WHEN TRUE PRIORITY 1 CLASS 'a'\n")?;
+    assert!(rt; kept == Some(Ok((1, 1))));
+    Ok(())
+}
+
+#[test]
+fn a_filter_that_can_not_be_read_is_told(rt: HostRuntime) -> Result<(), Memory> {
+    let kept = started(rt.alloc(), b"WHEN\n")?;
+    assert!(rt; kept == Some(Err(1)));
+    Ok(())
+}
