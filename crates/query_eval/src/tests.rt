@@ -1,29 +1,22 @@
-ghost use Rattle.std.specs.Prelude.{◌≡◌, ◌<◌, pos, [], true, IfOk};
+ghost use Rattle.std.specs.Prelude.{◌≡◌, ◌<◌, pos, [], ◌∷◌, map, IfOk};
 ghost use Rattle.jiff_core.specs.Calendar.{IsWithin};
-ghost use Rattle.tap_base.specs.declared.numbers.Op.TheVariants.{Eq};
-ghost use Rattle.tql_tree.specs.declared.table.Table.TheVariants.{Notes};
-ghost use Rattle.tql_core.specs.declared.term.Base.TheVariants as B;
-ghost use Rattle.tql_core.specs.declared.atom.NumField.TheVariants.{Id, DocOf};
-ghost use Rattle.tql_core.specs.declared.atom.NumExpr.TheVariants.{Field};
-ghost use Rattle.tql_core.specs.declared.atom.Atom.TheVariants.{Numbers};
-ghost use Rattle.tql_core.specs.Bounds.{are_bounded};
-ghost use Rattle.tql_core.specs.Condition.{condition, Plain, All, Not, Exists, NowAtLeast, NowBefore};
-ghost use Rattle.tql_core.specs.Scope.{IsQuery};
+ghost use Rattle.tql_tree.specs.declared.table.Table.TheVariants.{Docs};
+ghost use Rattle.tql_core.specs.declared.term.Base.TheVariants.{Arrival};
+ghost use Rattle.query_eval.specs.Runs.{AreProbes};
 
 use crate::kept_hits::KeptHits;
 use crate::{Hits, run};
-use access_plan::plan;
-use incremental_rewrite::incremental;
+use access_plan::{Plan, plan};
 use little_box::LittleBox;
-use monotone_rewrite::monotone;
+use node_pool::{NodeId, Pool};
 use row_index::RowIndex;
 use std::alloc::Global;
 use std::marker::Brand;
 use std::sync::ledger::{Blank, Ledger};
-use tap_base::{DocNum, Memory, NoteNum, Op, Rows, Steps, Text, Texts};
-use tap_rows::{Doc, Entry, Fields, Hit, KeptDoc, Note};
-use time_marks::Window;
-use tql_core::{Atom, Base, Cond, NumExpr, NumField, Term, Var};
+use tap_base::{DocNum, Memory, Rows, Steps, Text, Texts};
+use tap_rows::{Doc, Entry, Fields, Hit, KeptDoc};
+use time_marks::{Probe, Ranged, RangedQuery, Seek, Step, Window};
+use tql_core::{Base, TNode, Term, Var};
 use tql_tree::Table;
 
 // A document without a text.
@@ -51,170 +44,107 @@ fn blank_doc(alloc: Global, num: u32, arrival: i64) -> KeptDoc
     KeptDoc::new(doc, fields)
 }
 
-// A note without texts.
-fn blank_note(alloc: Global, num: u32, doc: u32, arrival: i64) -> Note
-    ensures { result ≡ record { num = record { 0 = num }; doc = record { 0 = doc }; author = []; kind = []; value = pos 0; arrival = arrival; text = [] } }
-{
-    Note {
-        num: NoteNum(num),
-        doc: DocNum(doc),
-        author: Text::new(alloc),
-        kind: Text::new(alloc),
-        value: 0,
-        arrival,
-        text: Text::new(alloc),
-    }
-}
-
-// Two documents and a note on the first one, all of second 100.
-fn noted_docs(alloc: Global) -> Result<RowIndex, Memory> {
+// Two documents of second 100.
+fn two_docs(alloc: Global) -> Result<RowIndex, Memory> {
     let mut index = RowIndex::new(alloc);
     index.add_doc(blank_doc(alloc, 1, 100))?;
     index.add_doc(blank_doc(alloc, 2, 100))?;
-    index.add_note(blank_note(alloc, 1, 1, 100))?;
     Ok(index)
 }
 
-// The arrival of a variable's row, and so many seconds more.
-fn arrival(var: u8, plus: i64) -> Term
-    ensures { result ≡ record { base = B.Arrival (record { 0 = var }); plus = plus } }
-{
-    Term {
-        base: Base::Arrival(Var(var)),
-        plus,
-    }
+// A box with the second document.
+fn second_seen(alloc: Global) -> Result<LittleBox, Memory> {
+    let mut seen = LittleBox::new(alloc);
+    seen.add(Entry {
+        doc: DocNum(2),
+        first: 105,
+        run: 1,
+    })?;
+    Ok(seen)
 }
 
-// A moment.
-fn moment(second: i64) -> Term
-    ensures { result ≡ record { base = B.Fixed; plus = second } }
+// The probe that finds a document 5 seconds after it came.
+fn old_probe(alloc: Global, body: NodeId) -> Result<Probe, Memory>
+    ensures { IfOk result (λ probe. probe ≡ record { path = record { var = record { 0 = 0 }; table = Docs; guards = [] } ∷ []; at = record { base = Arrival (record { 0 = 0 }); plus = pos 5 }; body = body }) }
 {
-    Term {
-        base: Base::Fixed,
-        plus: second,
-    }
+    let mut path = Rows::new(alloc);
+    path.push(Step {
+        var: Var(0),
+        table: Table::Docs,
+        guards: Rows::new(alloc),
+    })?;
+    Ok(Probe {
+        path,
+        at: Term {
+            base: Base::Arrival(Var(0)),
+            plus: 5,
+        },
+        body,
+    })
 }
 
-// There is no note on the message that came less than 5 seconds ago.
-fn unnoted(alloc: Global) -> Result<Cond, Memory>
-    ensures { IfOk result (λ cond. condition cond ≡ Not (Exists (record { 0 = 1 }) Notes (All (Plain (Numbers (Field (record { 0 = 1 }) DocOf) Eq (Field (record { 0 = 0 }) Id))) (NowBefore (record { base = B.Arrival (record { 0 = 1 }); plus = pos 5 }))))) }
+// That probe alone, with its seek.
+fn old_parts(alloc: Global, body: NodeId) -> Result<Rows<Ranged>, Memory>
+    ensures { IfOk result (λ parts. map (λ part. part.probe) parts ≡ record { path = record { var = record { 0 = 0 }; table = Docs; guards = [] } ∷ []; at = record { base = Arrival (record { 0 = 0 }); plus = pos 5 }; body = body } ∷ []) }
 {
-    let on = Cond::Plain(Atom::Numbers(
-        NumExpr::Field(Var(1), NumField::DocOf),
-        Op::Eq,
-        NumExpr::Field(Var(0), NumField::Id),
-    ));
-    let on = Box::new(alloc, on)?;
-    let young = Box::new(alloc, Cond::NowBefore(arrival(1, 5)))?;
-    let both = Box::new(alloc, Cond::All(on, young))?;
-    let noted = Box::new(alloc, Cond::Exists(Var(1), Table::Notes, both))?;
-    Ok(Cond::Not(noted))
+    let probe = old_probe(alloc, body)?;
+    let seek = Seek::of(probe.at);
+    let mut parts = Rows::new(alloc);
+    parts.push(Ranged { probe, seek })?;
+    Ok(parts)
 }
 
-// It is second 150.
-fn at_a_moment(alloc: Global) -> Result<Cond, Memory>
-    ensures { IfOk result (λ cond. condition cond ≡ All (NowAtLeast (record { base = B.Fixed; plus = pos 150 })) (NowBefore (record { base = B.Fixed; plus = pos 151 }))) }
+// The query of that probe.
+fn old_query(alloc: Global) -> Result<RangedQuery, Memory>
+    ensures { IfOk result AreProbes }
 {
-    let since = Box::new(alloc, Cond::NowAtLeast(moment(150)))?;
-    let until = Box::new(alloc, Cond::NowBefore(moment(151)))?;
-    Ok(Cond::All(since, until))
+    let mut pool = Pool::new(alloc);
+    let body = pool.intern(TNode::True)?;
+    let parts = old_parts(alloc, body)?;
+    Ok(RangedQuery { pool, parts })
 }
 
-// The message came a day ago.
-fn a_day_old() -> Cond
-    ensures { condition result ≡ NowAtLeast (record { base = B.Arrival (record { 0 = 0 }); plus = pos 86400 }) }
+// Its plan.
+fn old_plan(alloc: Global) -> Result<Plan, Memory>
+    ensures { IfOk result (λ plan. AreProbes plan.query) }
 {
-    Cond::NowAtLeast(arrival(0, 86_400))
+    plan(alloc, old_query(alloc)?)
 }
 
-// What a run over the window finds of a condition.
-fn found<L: Ledger>(
-    alloc: Global,
-    blank: Blank,
-    cond: &Cond,
-    index: &RowIndex,
-    seen: &LittleBox,
-    w: Window,
-) -> Result<Rows<Hit>, Memory>
+// What the plan gives of two documents, of which one is in the box, below this second.
+fn found<L: Ledger>(alloc: Global, blank: Blank, high: i64) -> Result<Rows<Hit>, Memory>
     requires name { blank.name ≡ L.name }
     requires parts { blank.parts ≡ L.parts }
     requires some { 0 < blank.parts }
-    requires scoped { IsQuery (condition cond.now) }
-    requires bounded { are_bounded (condition cond.now) ≡ true }
-    requires low { IsWithin 500000000000 w.low }
-    requires high { IsWithin 500000000000 w.high }
+    requires high { IsWithin 500000000000 high }
 {
-    let query = monotone(alloc, cond)?;
-    let ranged = incremental(alloc, query)?;
-    let plan = plan(alloc, ranged)?;
+    let plan = old_plan(alloc)?;
+    let index = two_docs(alloc)?;
+    let seen = second_seen(alloc)?;
     let mut steps = Steps::<L>::start(blank);
-    run(alloc, &plan, index, seen, w, &mut steps)
-}
-
-// The seconds from 0 up to, but without, this one.
-fn until(high: i64) -> Window
-    ensures { result ≡ record { low = pos 0; high = high } }
-{
-    Window { low: 0, high }
-}
-
-#[test]
-fn a_note_that_grows_old_gives_its_message(rt: HostRuntime) -> Result<(), Memory> {
-    let alloc = rt.alloc();
-    let index = noted_docs(alloc)?;
-    let mut seen = LittleBox::new(alloc);
-    let cond = unnoted(alloc)?;
-    let hits = found::<Brand>(alloc, Blank::new(1), &cond, &index, &seen, until(200))?;
-    assert_eq!(rt; hits.len(), 2);
-    assert_eq!(rt; hits.as_slice()[0].doc.0, 2);
-    assert_eq!(rt; hits.as_slice()[0].first, 100);
-    assert_eq!(rt; hits.as_slice()[1].doc.0, 1);
-    assert_eq!(rt; hits.as_slice()[1].first, 105);
-    seen.add(Entry {
-        doc: DocNum(2),
-        first: 100,
-        run: 1,
-    })?;
-    let hits = found::<Brand>(alloc, Blank::new(1), &cond, &index, &seen, until(106))?;
-    assert_eq!(rt; hits.len(), 1);
-    assert_eq!(rt; hits.as_slice()[0].doc.0, 1);
-    let hits = found::<Brand>(alloc, Blank::new(1), &cond, &index, &seen, until(105))?;
-    assert_eq!(rt; hits.len(), 0);
-    Ok(())
-}
-
-#[test]
-fn a_moment_gives_all_messages(rt: HostRuntime) -> Result<(), Memory> {
-    let alloc = rt.alloc();
-    let index = noted_docs(alloc)?;
-    let seen = LittleBox::new(alloc);
-    let cond = at_a_moment(alloc)?;
-    let hits = found::<Brand>(alloc, Blank::new(1), &cond, &index, &seen, until(151))?;
-    assert_eq!(rt; hits.len(), 2);
-    assert_eq!(rt; hits.as_slice()[1].doc.0, 2);
-    assert_eq!(rt; hits.as_slice()[1].first, 150);
-    let hits = found::<Brand>(alloc, Blank::new(1), &cond, &index, &seen, until(150))?;
-    assert_eq!(rt; hits.len(), 0);
-    Ok(())
-}
-
-#[test]
-fn a_day_passes(rt: HostRuntime) -> Result<(), Memory> {
-    let alloc = rt.alloc();
-    let index = noted_docs(alloc)?;
-    let seen = LittleBox::new(alloc);
-    let cond = a_day_old();
-    let hits = found::<Brand>(
+    run(
         alloc,
-        Blank::new(1),
-        &cond,
+        &plan,
         &index,
         &seen,
-        until(200000000000),
-    )?;
-    assert_eq!(rt; hits.len(), 2);
+        Window { low: 0, high },
+        &mut steps,
+    )
+}
+
+#[test]
+fn an_unseen_document_is_found_at_its_mark(rt: HostRuntime) -> Result<(), Memory> {
+    let hits = found::<Brand>(rt.alloc(), Blank::new(1), 106)?;
+    assert_eq!(rt; hits.len(), 1);
     assert_eq!(rt; hits.as_slice()[0].doc.0, 1);
-    assert_eq!(rt; hits.as_slice()[0].first, 86_500);
+    assert_eq!(rt; hits.as_slice()[0].first, 105);
+    Ok(())
+}
+
+#[test]
+fn the_end_of_the_window_is_not_in_it(rt: HostRuntime) -> Result<(), Memory> {
+    let hits = found::<Brand>(rt.alloc(), Blank::new(1), 105)?;
+    assert_eq!(rt; hits.len(), 0);
     Ok(())
 }
 
