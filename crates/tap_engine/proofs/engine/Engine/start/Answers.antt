@@ -87,5 +87,5 @@ pub returns-in_err-filters-clause-kept : goal.returns-in_err-filters-clause-kept
 returns-in_err-filters-clause-kept c = λ store.
     let fault = c.in_err-filters.field-0.0 in
     let only = only-memory c.args.sound.filters fault store.rules
-      (subst (λ tables. (fault ≡ Memory) ⊎ (option_map Rules (first_unread tables.filters) ≡ Some fault)) c.into_parts-tables.ensures.tables c.in_err-filters.ensures.fault) in
+    (subst (λ tables. (fault ≡ Memory) ⊎ (option_map Rules (first_unread tables.filters) ≡ Some fault)) c.into_parts-tables.ensures.tables c.in_err-filters.ensures.fault) in
     search (rules, only)
