@@ -1,5 +1,4 @@
-ghost use Rattle.std.specs.Prelude.{◌≡◌, ◌≢◌, ◌≤◌, ◌<◌, ◌+◌, ◌⊎◌, ◌&&◌, ◌↔◌, ◌==◌, ℤ, pos, List, [], Option, Some, None, true, false, codes, length, min};
-ghost use Rattle.std.specs.Io.KnownBytes.{Appends};
+ghost use Rattle.std.specs.Prelude.{◌≡◌, ◌≢◌, ◌≤◌, ◌<◌, ◌+◌, ◌⊎◌, ◌&&◌, ◌↔◌, ◌==◌, ℤ, pos, [], Some, None, true, false, codes, length, min};
 ghost use Rattle.keeper_core.specs.Keeping.{Holds};
 ghost use Rattle.tap_edges.specs.Edges.{Rose};
 ghost use Rattle.tap_rows.specs.declared.tables.Tables.{Tables};
