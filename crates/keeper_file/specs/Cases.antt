@@ -1,12 +1,12 @@
 -- What a keeper tells that opens its store as it is attached: what the keeper over the open store does.
-use Rattle.std.specs.Prelude.{◌≡◌, ℕ, ℤ, pos, List, [], Bool, true, false, unwrap_or}
+use Rattle.std.specs.Prelude.{◌≡◌, ℕ, ℤ, pos, Bool, true, false}
 use Rattle.tap_rows.specs.declared.tables.Tables.{Tables}
 use Rattle.tap_rows.specs.Tables.{no_rows}
 use Rattle.keeper_core.specs.Keeping.{Holds}
 use Rattle.sqlite.specs.Held.{state}
 use Rattle.sqlite.specs.Steps.{over_memory}
 use Rattle.sqlite.specs.Files.{file_state}
-use Rattle.sqlite.specs.State.{State, HasCleanDisk}
+use Rattle.sqlite.specs.State.{HasCleanDisk}
 use Rattle.keeper_sql.specs.Store as sql
 use Rattle.keeper_sql.specs.Telling.{tells_one}
 use Rattle.keeper_file.specs.declared.inner.Inner.{Inner}
