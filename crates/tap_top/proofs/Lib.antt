@@ -1,3 +1,5 @@
 mod Stories
 mod Steps
 mod Runs
+mod Refusals
+mod Crashes

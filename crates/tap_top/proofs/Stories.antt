@@ -1,6 +1,6 @@
 -- A story goes on, and is sound at each point.
-use Rattle.std.proofs.Common.{◌≡◌, ◌∙◌, sym, ap, refl, subst, ℕ, List, [], ◌∷◌, ◌++◌, take, Bool, true, false, Option}
-use Rattle.std.specs.Prelude.{◌&&◌}
+use Rattle.std.proofs.Common.{◌≡◌, ◌∙◌, sym, ap, refl, subst, ℕ, List, [], ◌∷◌, ◌++◌, take, Bool, true, false, Option, None}
+use Rattle.std.specs.Prelude.{◌&&◌, ◌⊎◌}
 use Rattle.std.specs.List.{flat_map, list_all}
 use Rattle.std.specs.Io.KnownBytes.{Appends}
 use Rattle.std.proofs.lemmas.List.{append_assoc, append-nil}
@@ -13,10 +13,12 @@ use Rattle.script_lang.proofs.Puts.{Appends-more, Appends-none}
 use Rattle.tap_edges.specs.declared.edges.PutFailed.{PutFailed}
 use Rattle.tap_model.specs.declared.session.Session.{Session}
 use Rattle.tap_model.specs.Sound.{Sound}
+use Rattle.tap_model.specs.Verdicts.{verdict}
+use Rattle.tap_model.specs.Replies.{answer_of, tables_after}
 use Rattle.tap_model.specs.Stories.{Step, Story}
 use Rattle.tap_model.proofs.SoundLaws.{step-sound}
 use Rattle.tap_top.specs.Points.{SoundAlong}
-use Rattle.tap_top.specs.Answers.{Answered, CutOff}
+use Rattle.tap_top.specs.Answers.{Answered, CutOff, MayAdd, Uncommitted}
 
 pub Story-then : (t : Tables) (s : Session) (xs : List Command) (rs : List Reply) (t1 : Tables) (s1 : Session) (ys : List Command) (qs : List Reply) (t2 : Tables) (s2 : Session) → Story t s xs rs t1 s1 → Story t1 s1 ys qs t2 s2 → Story t s (xs ++ ys) (rs ++ qs) t2 s2
 Story-then t s [] [] t1 s1 ys qs t2 s2 same more = subst (λ t. Story t s ys qs t2 s2) same.0 (subst (λ s. Story t1 s ys qs t2 s2) same.1 more)
@@ -43,57 +45,84 @@ list_all-append [] ys = refl
 list_all-append (x ∷ xs) ys = elim (is_accepted x) as (λ b. (b && list_all is_accepted (xs ++ ys)) ≡ ((b && list_all is_accepted xs) && list_all is_accepted ys)) [ true ↦ list_all-append xs ys | false ↦ refl ]
 
 -- nothing is answered yet
-pub Answered-none : (t : Tables) (s : Session) (out : Option (List ℕ)) → Sound t s → Answered t s [] out out t s true
-Answered-none t s out sound = record { replies = []; story = (refl, refl); sound = sound; written = Appends-none out; ok = refl }
+pub Answered-none : (t : Tables) (s : Session) (out : Option (List ℕ)) (Ends : Tables → Type 0) → Sound t s → Ends t → Answered t s [] out out Ends s true
+Answered-none t s out Ends sound ends = record { replies = []; tables' = t; story = (refl, refl); sound = sound; written = Appends-none out; ok = refl; ends = ends }
 
 -- one command is answered
-pub Answered-one : (t : Tables) (s : Session) (c : Command) (r : Reply) (out out' : Option (List ℕ)) (t' : Tables) (s' : Session) (ok : Bool) → Sound t s → Step t s c r t' s' → Appends out out' (reply_bytes r) → ok ≡ is_accepted r → Answered t s (c ∷ []) out out' t' s' ok
-Answered-one t s c r out out' t' s' ok sound step written is = record {
+pub Answered-one : (t : Tables) (s : Session) (c : Command) (r : Reply) (out out' : Option (List ℕ)) (Ends : Tables → Type 0) (t' : Tables) (s' : Session) (ok : Bool) → Sound t s → Step t s c r t' s' → Appends out out' (reply_bytes r) → ok ≡ is_accepted r → Ends t' → Answered t s (c ∷ []) out out' Ends s' ok
+Answered-one t s c r out out' Ends t' s' ok sound step written is ends = record {
   replies = r ∷ [];
+  tables' = t';
   story = (t', s', step, (refl, refl));
   sound = (sound, step-sound t s c r t' s' step sound);
   written = subst (λ xs. Appends out out' xs) (sym (append-nil (reply_bytes r))) written;
   ok = is ∙ and_true (is_accepted r);
+  ends = ends;
 } where
   and_true : (b : Bool) → b ≡ (b && true)
   and_true true = refl
   and_true false = refl
 
-pub Answered-then : (t : Tables) (s : Session) (xs : List Command) (out mid : Option (List ℕ)) (t1 : Tables) (s1 : Session) (a : Bool) (ys : List Command) (new : Option (List ℕ)) (t2 : Tables) (s2 : Session) (b : Bool) → Answered t s xs out mid t1 s1 a → Answered t1 s1 ys mid new t2 s2 b → Answered t s (xs ++ ys) out new t2 s2 (a && b)
-Answered-then t s xs out mid t1 s1 a ys new t2 s2 b one two = record {
+pub Answered-then : (t : Tables) (s : Session) (xs : List Command) (out mid : Option (List ℕ)) (Mid : Tables → Type 0) (s1 : Session) (a : Bool) (ys : List Command) (new : Option (List ℕ)) (Ends : Tables → Type 0) (s2 : Session) (b : Bool) → (one : Answered t s xs out mid Mid s1 a) → Answered one.tables' s1 ys mid new Ends s2 b → Answered t s (xs ++ ys) out new Ends s2 (a && b)
+Answered-then t s xs out mid Mid s1 a ys new Ends s2 b one two = record {
   replies = one.replies ++ two.replies;
-  story = Story-then t s xs one.replies t1 s1 ys two.replies t2 s2 one.story two.story;
-  sound = Story-sound t s (xs ++ ys) (one.replies ++ two.replies) t2 s2 (Story-then t s xs one.replies t1 s1 ys two.replies t2 s2 one.story two.story) (first-sound t s xs one.replies t1 s1 one.story one.sound);
+  tables' = two.tables';
+  story = Story-then t s xs one.replies one.tables' s1 ys two.replies two.tables' s2 one.story two.story;
+  sound = Story-sound t s (xs ++ ys) (one.replies ++ two.replies) two.tables' s2 (Story-then t s xs one.replies one.tables' s1 ys two.replies two.tables' s2 one.story two.story) (first-sound t s xs one.replies one.tables' s1 one.story one.sound);
   written = subst (λ xs. Appends out new xs) (sym (flat_map-append reply_bytes one.replies two.replies)) (Appends-more out mid new _ _ one.written two.written);
   ok = ap (λ x. x && b) one.ok ∙ ap (λ y. list_all is_accepted one.replies && y) two.ok ∙ sym (list_all-append one.replies two.replies);
+  ends = two.ends;
 }
 
+-- what is known of the end may be less
+pub Answered-less : (t : Tables) (s : Session) (xs : List Command) (out new : Option (List ℕ)) (Ends Less : Tables → Type 0) (s1 : Session) (a : Bool) → ((x : Tables) → Ends x → Less x) → Answered t s xs out new Ends s1 a → Answered t s xs out new Less s1 a
+Answered-less t s xs out new Ends Less s1 a less one = record { replies = one.replies; tables' = one.tables'; story = one.story; sound = one.sound; written = one.written; ok = one.ok; ends = less one.tables' one.ends }
+
 -- one command's reply is cut off
-pub CutOff-one : (t : Tables) (s : Session) (c : Command) (r : Reply) (out out' : Option (List ℕ)) (t' : Tables) (s' : Session) (failed : PutFailed) → Sound t s → Step t s c r t' s' → TookSome 0 out out' (reply_bytes r) failed → CutOff t s [] c out out' t' s'
-CutOff-one t s c r out out' t' s' failed sound step cut = record {
+pub CutOff-one : (t : Tables) (s : Session) (c : Command) (r : Reply) (out out' : Option (List ℕ)) (Ends : Tables → Type 0) (t' : Tables) (s' : Session) (failed : PutFailed) → Sound t s → Step t s c r t' s' → TookSome 0 out out' (reply_bytes r) failed → Ends t' → CutOff t s [] c out out' Ends
+CutOff-one t s c r out out' Ends t' s' failed sound step cut ends = record {
   replies = [];
   reply = r;
+  tables' = t';
+  session' = s';
   story = (t', s', step, (refl, refl));
   sound = (sound, step-sound t s c r t' s' step sound);
   n = cut.n;
   within = cut.within;
   written = cut.written;
+  ends = ends;
 }
 
 -- a reply is cut off after commands that were answered
-pub CutOff-then : (t : Tables) (s : Session) (xs : List Command) (out mid : Option (List ℕ)) (t1 : Tables) (s1 : Session) (a : Bool) (done : List Command) (last : Command) (new : Option (List ℕ)) (t2 : Tables) (s2 : Session) → Answered t s xs out mid t1 s1 a → CutOff t1 s1 done last mid new t2 s2 → CutOff t s (xs ++ done) last out new t2 s2
-CutOff-then t s xs out mid t1 s1 a done last new t2 s2 one cut =
-    let story : Story t s ((xs ++ done) ++ last ∷ []) ((one.replies ++ cut.replies) ++ cut.reply ∷ []) t2 s2 =
-    subst (λ cs. Story t s cs ((one.replies ++ cut.replies) ++ cut.reply ∷ []) t2 s2) (sym (append_assoc xs done (last ∷ [])))
-    (subst (λ rs. Story t s (xs ++ (done ++ last ∷ [])) rs t2 s2) (sym (append_assoc one.replies cut.replies (cut.reply ∷ [])))
-    (Story-then t s xs one.replies t1 s1 (done ++ last ∷ []) (cut.replies ++ cut.reply ∷ []) t2 s2 one.story cut.story)) in record {
+pub CutOff-then : (t : Tables) (s : Session) (xs : List Command) (out mid : Option (List ℕ)) (Mid : Tables → Type 0) (s1 : Session) (a : Bool) (done : List Command) (last : Command) (new : Option (List ℕ)) (Ends : Tables → Type 0) → (one : Answered t s xs out mid Mid s1 a) → CutOff one.tables' s1 done last mid new Ends → CutOff t s (xs ++ done) last out new Ends
+CutOff-then t s xs out mid Mid s1 a done last new Ends one cut =
+    let story : Story t s ((xs ++ done) ++ last ∷ []) ((one.replies ++ cut.replies) ++ cut.reply ∷ []) cut.tables' cut.session' =
+    subst (λ cs. Story t s cs ((one.replies ++ cut.replies) ++ cut.reply ∷ []) cut.tables' cut.session') (sym (append_assoc xs done (last ∷ [])))
+    (subst (λ rs. Story t s (xs ++ (done ++ last ∷ [])) rs cut.tables' cut.session') (sym (append_assoc one.replies cut.replies (cut.reply ∷ [])))
+    (Story-then t s xs one.replies one.tables' s1 (done ++ last ∷ []) (cut.replies ++ cut.reply ∷ []) cut.tables' cut.session' one.story cut.story)) in record {
       replies = one.replies ++ cut.replies;
       reply = cut.reply;
+      tables' = cut.tables';
+      session' = cut.session';
       story = story;
-      sound = Story-sound t s ((xs ++ done) ++ last ∷ []) ((one.replies ++ cut.replies) ++ cut.reply ∷ []) t2 s2 story (first-sound t s xs one.replies t1 s1 one.story one.sound);
+      sound = Story-sound t s ((xs ++ done) ++ last ∷ []) ((one.replies ++ cut.replies) ++ cut.reply ∷ []) cut.tables' cut.session' story (first-sound t s xs one.replies one.tables' s1 one.story one.sound);
       n = cut.n;
       within = cut.within;
       written = subst (λ xs. Appends out new xs) (joined (flat_map reply_bytes one.replies) (flat_map reply_bytes cut.replies) (take cut.n (reply_bytes cut.reply)) (flat_map-append reply_bytes one.replies cut.replies)) (Appends-more out mid new _ _ one.written cut.written);
+      ends = cut.ends;
     } where
       joined : (a b c : List ℕ) {ab : List ℕ} → ab ≡ a ++ b → a ++ (b ++ c) ≡ ab ++ c
       joined a b c e = sym (append_assoc a b c) ∙ ap (λ xs. xs ++ c) (sym e)
+
+-- the commit of a command failed
+pub Uncommitted-one : (t : Tables) (s : Session) (c : Command) (out : Option (List ℕ)) (leaves : Tables → Type 0) → Sound t s → verdict c s t ≡ None → ((x : Tables) → leaves x → (x ≡ t) ⊎ (x ≡ tables_after (answer_of c s t).change t)) → Uncommitted t s [] c out out leaves
+Uncommitted-one t s c out leaves sound accepted either =
+    let may : MayAdd leaves c s t = record { accepted = accepted; either = either } in record { session' = s; all_ok = true; answered = Answered-none t s out (MayAdd leaves c s) sound may }
+
+-- a commit failed after commands that were answered
+pub Uncommitted-then : (t : Tables) (s : Session) (xs : List Command) (out mid : Option (List ℕ)) (Mid : Tables → Type 0) (s1 : Session) (a : Bool) (done : List Command) (next : Command) (new : Option (List ℕ)) (leaves : Tables → Type 0) → (one : Answered t s xs out mid Mid s1 a) → Uncommitted one.tables' s1 done next mid new leaves → Uncommitted t s (xs ++ done) next out new leaves
+Uncommitted-then t s xs out mid Mid s1 a done next new leaves one cut = record {
+  session' = cut.session';
+  all_ok = a && cut.all_ok;
+  answered = Answered-then t s xs out mid Mid s1 a done new (MayAdd leaves next cut.session') cut.session' cut.all_ok one cut.answered;
+}

@@ -2,3 +2,6 @@ pub mod Points
 pub mod Answers
 pub mod Pieces
 pub mod Statuses
+pub mod Refusals
+pub mod Opened
+pub mod Crashes

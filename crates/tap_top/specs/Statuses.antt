@@ -7,7 +7,7 @@ use Rattle.script_lang.specs.Script.{script, complete}
 use Rattle.tap_model.specs.declared.session.Session.{Session}
 use Rattle.tap_model.specs.Sessions.{no_session}
 use Rattle.tap_top.specs.declared.top.TheConstants.{SCRIPT_LIMIT, PIECE}
-use Rattle.tap_top.specs.Answers.{Answered, CutOff}
+use Rattle.tap_top.specs.Answers.{Answered, CutOff, Uncommitted}
 
 -- these are the first of those
 pub record IsFront (front commands : List Command) : Type 0 where
@@ -35,26 +35,26 @@ pub record IsAtClose (done : List Command) (last : Command) (bytes : List ℕ) (
   pub then_done : script bytes ≡ done ++ last ∷ []
 
 -- statuses 0 and 1: the input was read to its end, and its commands were answered
-pub record Whole (tables : Tables) (left left' out out' : Option (List ℕ)) (tables' : Tables) (all_ok : Bool) : Type 0 where
+pub record Whole (tables : Tables) (left left' out out' : Option (List ℕ)) (Ends : Tables → Type 0) (all_ok : Bool) : Type 0 where
   pub bytes : List ℕ
   pub taken : Consumes left left' bytes
   pub ended : IsAtEnd left'
   pub fits : length bytes ≤ SCRIPT_LIMIT
   pub session : Session
-  pub answered : Answered tables no_session (script bytes) out out' tables' session all_ok
+  pub answered : Answered tables no_session (script bytes) out out' Ends session all_ok
 
 -- status 3: the complete commands of the bytes taken were answered
-pub record ReadCut (tables : Tables) (left left' out out' : Option (List ℕ)) (tables' : Tables) : Type 0 where
+pub record ReadCut (tables : Tables) (left left' out out' : Option (List ℕ)) (Ends : Tables → Type 0) : Type 0 where
   pub bytes : List ℕ
   pub taken : Consumes left left' bytes
   pub fits : length bytes ≤ SCRIPT_LIMIT
   pub session : Session
   pub all_ok : Bool
-  pub answered : Answered tables no_session (complete bytes) out out' tables' session all_ok
+  pub answered : Answered tables no_session (complete bytes) out out' Ends session all_ok
 
--- status 4: some first commands were answered, and all but a part of the last reply was taken; fewer bytes than a
--- piece has were taken after the last command
-pub record PutCut (tables : Tables) (left left' out out' : Option (List ℕ)) (tables' : Tables) : Type 0 where
+-- the run ended at a command, which was cut off so: it and those before it are the first of the script, and fewer bytes than
+-- a piece has were taken after it
+pub record CutAt (left left' : Option (List ℕ)) (Cut : List Command → Command → Type 0) : Type 0 where
   pub bytes : List ℕ
   pub taken : Consumes left left' bytes
   pub few : length bytes ≤ SCRIPT_LIMIT + PIECE
@@ -62,11 +62,24 @@ pub record PutCut (tables : Tables) (left left' out out' : Option (List ℕ)) (t
   pub last : Command
   pub first : AreFirst (done ++ last ∷ []) (take SCRIPT_LIMIT bytes) left'
   pub prompt : IsPrompt done last bytes ⊎ IsAtClose done last bytes left'
-  pub session : Session
-  pub cut : CutOff tables no_session done last out out' tables' session
+  pub cut : Cut done last
+
+-- status 4: some first commands were answered, and all but a part of the last reply was taken
+abbrev pub PutCut : Tables → Option (List ℕ) → Option (List ℕ) → Option (List ℕ) → Option (List ℕ) → (Tables → Type 0) → Type 0
+PutCut tables left left' out out' Ends = CutAt left left' (λ done last. CutOff tables no_session done last out out' Ends)
+
+-- status 5, after a failed commit: some first commands were answered, and nothing of the reply to the next one was put
+abbrev pub KeeperCut : Tables → Option (List ℕ) → Option (List ℕ) → Option (List ℕ) → Option (List ℕ) → (Tables → Type 0) → Type 0
+KeeperCut tables left left' out out' leaves = CutAt left left' (λ done next. Uncommitted tables no_session done next out out' leaves)
+
+-- status 5, after a failed attach: nothing was read or written, and a crash leaves the tables alone
+pub record Unattached (tables : Tables) (left left' out out' : Option (List ℕ)) (leaves : Tables → Type 0) : Type 0 where
+  pub unread : left' ≡ left
+  pub unwritten : out' ≡ out
+  pub alone : (x : Tables) → leaves x → x ≡ tables
 
 -- status 7: some first commands were answered
-pub record Starved (tables : Tables) (left left' out out' : Option (List ℕ)) (tables' : Tables) : Type 0 where
+pub record Starved (tables : Tables) (left left' out out' : Option (List ℕ)) (Ends : Tables → Type 0) : Type 0 where
   pub bytes : List ℕ
   pub taken : Consumes left left' bytes
   pub few : length bytes ≤ SCRIPT_LIMIT + PIECE
@@ -74,17 +87,21 @@ pub record Starved (tables : Tables) (left left' out out' : Option (List ℕ)) (
   pub first : AreFirst commands (take SCRIPT_LIMIT bytes) left'
   pub session : Session
   pub all_ok : Bool
-  pub answered : Answered tables no_session commands out out' tables' session all_ok
+  pub answered : Answered tables no_session commands out out' Ends session all_ok
 
--- status 8: more bytes were taken than a script may have, and the complete commands of the first of them were answered
-pub record TooLong (tables : Tables) (left left' out out' : Option (List ℕ)) (tables' : Tables) : Type 0 where
+-- more bytes were taken than a script may have
+pub record TookMany (left left' : Option (List ℕ)) : Type 0 where
   pub bytes : List ℕ
   pub taken : Consumes left left' bytes
   pub many : SCRIPT_LIMIT < length bytes
   pub few : length bytes ≤ SCRIPT_LIMIT + PIECE
+
+-- status 8: more bytes were taken than a script may have, and the complete commands of the first of them were answered
+pub record TooLong (tables : Tables) (left left' out out' : Option (List ℕ)) (Ends : Tables → Type 0) : Type 0 where
+  pub long : TookMany left left'
   pub session : Session
   pub all_ok : Bool
-  pub answered : Answered tables no_session (complete (take SCRIPT_LIMIT bytes)) out out' tables' session all_ok
+  pub answered : Answered tables no_session (complete (take SCRIPT_LIMIT long.bytes)) out out' Ends session all_ok
 
 -- the source tells its bytes, and a script may have so many
 abbrev pub HoldsScript : Option (List ℕ) → Type 0

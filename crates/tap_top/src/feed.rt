@@ -1,25 +1,27 @@
-ghost use Rattle.std.specs.Prelude.{◌≡◌, ◌≤◌, ◌<◌, ◌+◌, ◌++◌, List, [], ◌∷◌, Option, Some, None, length, take, drop, OnOk, OnErr, IfOk, IfErr, IsErrOf};
-ghost use Rattle.tap_edges.specs.Edges.{HasCause, Rose};
+ghost use Rattle.std.specs.Prelude.{◌≡◌, ◌≤◌, ◌<◌, ◌+◌, ◌++◌, ◌↔◌, List, [], ◌∷◌, Option, Some, None, true, length, take, drop, OnOk, OnErr, IfOk, IfErr, IsErrOf};
+ghost use Rattle.keeper_core.specs.Keeping.{Holds};
+ghost use Rattle.tap_edges.specs.Edges.{Rose};
+ghost use Rattle.tap_rows.specs.declared.tables.Tables.{Tables};
 ghost use Rattle.script_lang.specs.Replies.{is_accepted};
 ghost use Rattle.script_lang.specs.Script.{script_from, complete_from};
-ghost use Rattle.tap_engine.specs.Standing.{StandsFor};
-ghost use Rattle.tap_model.specs.Sound.{Sound};
-ghost use Rattle.tap_top.specs.Answers.{Answered, CutOff, ClosedCut};
+ghost use Rattle.tap_top.specs.Points.{CanPerform, IsAt, GoesOn};
+ghost use Rattle.tap_top.specs.Answers.{Answered, CutOff, Uncommitted, ClosedCut};
 ghost use Rattle.tap_top.specs.Pieces.{Went, WentCut, WentShort};
 ghost use Rattle.tap_top.specs.declared.feed.Stop.{Stop};
 
+use keeper_core::Keeper;
 use script_lang::{Command, Got, Reply, ScriptReader, put_reply};
 use std::alloc::Global;
 use std::sync::ledger::Ledger;
 use tap_base::Steps;
-use tap_edges::{PutFailed, Sink};
-use tap_engine::Engine;
-use tap_rows::Tables;
+use tap_edges::Sink;
+use tap_engine::{Engine, EngineFault};
 
 /// Why no more commands were performed.
 #[derive(Clone, Copy, Debug, PartialEq, Eq)]
 pub enum Stop {
     Put,
+    Keeper,
     Memory,
 }
 
@@ -34,26 +36,33 @@ fn is_ok(reply: &Reply) -> bool
 }
 
 /// Performs a command and puts its reply; whether it begins `ok`.
-pub fn answer<K: Sink, L: Ledger>(
+pub fn answer<K: Sink, P: Keeper, L: Ledger>(
     alloc: Global,
     engine: &mut Engine,
-    tables: &mut Tables,
+    keeper: &mut P,
     command: Command,
     steps: &mut Steps<L>,
     sink: &mut K,
-) -> Result<bool, PutFailed>
-    requires stands { StandsFor engine.old tables.old }
-    requires sound { Sound tables.old engine.old.session }
-    ensures ok { IfOk result (λ ok. Answered tables.old engine.old.session (command ∷ []) (K.out sink.old) (K.out sink.new) tables.new engine.new.session ok) }
-    ensures err { OnErr result (CutOff tables.old engine.old.session [] command (K.out sink.old) (K.out sink.new) tables.new engine.new.session) }
-    ensures stands { StandsFor engine.new tables.new }
-    ensures sound { Sound tables.new engine.new.session }
-    ensures cause { HasCause (K.faults sink.old) (K.faults sink.new) result }
+) -> Result<bool, Stop>
+    requires can { CanPerform engine.old (P.attached keeper.old) (P.stopped keeper.old) }
+    ensures ok { IfOk result (λ ok. (t : Tables) → P.honest keeper.new → IsAt engine.old (P.tells keeper.old) (P.may_leave keeper.old) t → Answered t engine.old.session (command ∷ []) (K.out sink.old) (K.out sink.new) (IsAt engine.new (P.tells keeper.new) (P.may_leave keeper.new)) engine.new.session ok) }
+    ensures put { IsErrOf result Stop.Put → (t : Tables) → P.honest keeper.new → IsAt engine.old (P.tells keeper.old) (P.may_leave keeper.old) t → CutOff t engine.old.session [] command (K.out sink.old) (K.out sink.new) (Holds (P.tells keeper.new) (P.may_leave keeper.new)) }
+    ensures uncommitted { IsErrOf result Stop.Keeper → (t : Tables) → P.honest keeper.new → IsAt engine.old (P.tells keeper.old) (P.may_leave keeper.old) t → Uncommitted t engine.old.session [] command (K.out sink.old) (K.out sink.new) (P.may_leave keeper.new) }
+    ensures able { IsErrOf result Stop.Memory → ⊥ }
+    ensures can { OnOk result (CanPerform engine.new (P.attached keeper.new) (P.stopped keeper.new)) }
+    ensures stopped { (P.stopped keeper.new ≡ true) ↔ IsErrOf result Stop.Keeper }
+    ensures cause { IsErrOf result Stop.Put → Rose (K.faults sink.old) (K.faults sink.new) }
+    ensures kept_cause { IsErrOf result Stop.Keeper → Rose (P.faults keeper.old) (P.faults keeper.new) }
+    ensures later { K.faults sink.old ≤ K.faults sink.new }
+    ensures keeper { GoesOn (P.place keeper.old) (P.place keeper.new) (P.faults keeper.old) (P.faults keeper.new) (P.honest keeper.old) (P.honest keeper.new) }
 {
-    let reply = engine.perform(alloc, tables, command, steps);
+    let reply = match engine.perform(alloc, keeper, command, steps) {
+        Ok(reply) => reply,
+        Err(EngineFault::KeeperFailed) => return Err(Stop::Keeper),
+    };
     match put_reply(&reply, sink) {
         Ok(()) => Ok(is_ok(&reply)),
-        Err(failed) => Err(failed),
+        Err(_) => Err(Stop::Put),
     }
 }
 
@@ -73,26 +82,29 @@ struct Stepped {
 }
 
 // Takes the next line, and performs the command that it completes.
-fn take_one<K: Sink, L: Ledger>(
+fn take_one<K: Sink, P: Keeper, L: Ledger>(
     alloc: Global,
     reader: &mut ScriptReader,
     piece: &[u8],
     engine: &mut Engine,
-    tables: &mut Tables,
+    keeper: &mut P,
     steps: &mut Steps<L>,
     sink: &mut K,
 ) -> Result<Stepped, Stop>
     requires some { 0 < length piece.now }
-    requires stands { StandsFor engine.old tables.old }
-    requires sound { Sound tables.old engine.old.session }
+    requires can { CanPerform engine.old (P.attached keeper.old) (P.stopped keeper.old) }
     ensures within { IfOk result (λ step. (0 < step.used) × (step.used ≤ length piece.now)) }
-    ensures ok { IfOk result (λ step. Went (take step.used piece.now) reader.old reader.new tables.old engine.old.session (K.out sink.old) (K.out sink.new) tables.new engine.new.session step.ok) }
-    ensures put { IsErrOf result Stop.Put → WentCut piece.now reader.old tables.old engine.old.session (K.out sink.old) (K.out sink.new) tables.new engine.new.session }
-    ensures memory { IsErrOf result Stop.Memory → (tables.new ≡ tables.old) × ((engine.new.session ≡ engine.old.session) × (K.out sink.new ≡ K.out sink.old)) }
-    ensures stands { StandsFor engine.new tables.new }
-    ensures sound { Sound tables.new engine.new.session }
+    ensures open { OnOk result (complete_from reader.new [] ≡ []) }
+    ensures ok { IfOk result (λ step. (t : Tables) → P.honest keeper.new → IsAt engine.old (P.tells keeper.old) (P.may_leave keeper.old) t → Went (take step.used piece.now) reader.old reader.new t engine.old.session (K.out sink.old) (K.out sink.new) (IsAt engine.new (P.tells keeper.new) (P.may_leave keeper.new)) engine.new.session step.ok) }
+    ensures put { IsErrOf result Stop.Put → (t : Tables) → P.honest keeper.new → IsAt engine.old (P.tells keeper.old) (P.may_leave keeper.old) t → WentCut piece.now reader.old (λ done last. CutOff t engine.old.session done last (K.out sink.old) (K.out sink.new) (Holds (P.tells keeper.new) (P.may_leave keeper.new))) }
+    ensures uncommitted { IsErrOf result Stop.Keeper → (t : Tables) → P.honest keeper.new → IsAt engine.old (P.tells keeper.old) (P.may_leave keeper.old) t → WentCut piece.now reader.old (λ done next. Uncommitted t engine.old.session done next (K.out sink.old) (K.out sink.new) (P.may_leave keeper.new)) }
+    ensures memory { IsErrOf result Stop.Memory → (keeper.new ≡ keeper.old) × ((engine.new ≡ engine.old) × (K.out sink.new ≡ K.out sink.old)) }
+    ensures can { OnOk result (CanPerform engine.new (P.attached keeper.new) (P.stopped keeper.new)) }
+    ensures stopped { (P.stopped keeper.new ≡ true) ↔ IsErrOf result Stop.Keeper }
     ensures cause { IsErrOf result Stop.Put → Rose (K.faults sink.old) (K.faults sink.new) }
+    ensures kept_cause { IsErrOf result Stop.Keeper → Rose (P.faults keeper.old) (P.faults keeper.new) }
     ensures later { K.faults sink.old ≤ K.faults sink.new }
+    ensures keeper { GoesOn (P.place keeper.old) (P.place keeper.new) (P.faults keeper.old) (P.faults keeper.new) (P.honest keeper.old) (P.honest keeper.new) }
 {
     let got = match reader.take(piece) {
         Ok(got) => got,
@@ -101,43 +113,47 @@ fn take_one<K: Sink, L: Ledger>(
     let Got { used, command } = got;
     match command {
         None => Ok(Stepped { used, ok: true }),
-        Some(command) => match answer(alloc, engine, tables, command, steps, sink) {
+        Some(command) => match answer(alloc, engine, keeper, command, steps, sink) {
             Ok(ok) => Ok(Stepped { used, ok }),
-            Err(_) => Err(Stop::Put),
+            Err(stop) => Err(stop),
         },
     }
 }
 
 /// Performs the commands that a piece completes, each reply before the next command; whether all begin `ok`.
-pub fn feed<K: Sink, L: Ledger>(
+pub fn feed<K: Sink, P: Keeper, L: Ledger>(
     alloc: Global,
     reader: &mut ScriptReader,
     piece: &[u8],
     engine: &mut Engine,
-    tables: &mut Tables,
+    keeper: &mut P,
     steps: &mut Steps<L>,
     sink: &mut K,
 ) -> Result<bool, Stop>
     requires open { complete_from reader.old [] ≡ [] }
-    requires stands { StandsFor engine.old tables.old }
-    requires sound { Sound tables.old engine.old.session }
-    ensures ok { IfOk result (λ ok. Went piece.now reader.old reader.new tables.old engine.old.session (K.out sink.old) (K.out sink.new) tables.new engine.new.session ok) }
-    ensures put { IsErrOf result Stop.Put → WentCut piece.now reader.old tables.old engine.old.session (K.out sink.old) (K.out sink.new) tables.new engine.new.session }
-    ensures memory { IsErrOf result Stop.Memory → WentShort piece.now reader.old tables.old engine.old.session (K.out sink.old) (K.out sink.new) tables.new engine.new.session }
-    ensures stands { StandsFor engine.new tables.new }
-    ensures sound { Sound tables.new engine.new.session }
+    requires can { CanPerform engine.old (P.attached keeper.old) (P.stopped keeper.old) }
+    ensures open { OnOk result (complete_from reader.new [] ≡ []) }
+    ensures ok { IfOk result (λ ok. (t : Tables) → P.honest keeper.new → IsAt engine.old (P.tells keeper.old) (P.may_leave keeper.old) t → Went piece.now reader.old reader.new t engine.old.session (K.out sink.old) (K.out sink.new) (IsAt engine.new (P.tells keeper.new) (P.may_leave keeper.new)) engine.new.session ok) }
+    ensures put { IsErrOf result Stop.Put → (t : Tables) → P.honest keeper.new → IsAt engine.old (P.tells keeper.old) (P.may_leave keeper.old) t → WentCut piece.now reader.old (λ done last. CutOff t engine.old.session done last (K.out sink.old) (K.out sink.new) (Holds (P.tells keeper.new) (P.may_leave keeper.new))) }
+    ensures uncommitted { IsErrOf result Stop.Keeper → (t : Tables) → P.honest keeper.new → IsAt engine.old (P.tells keeper.old) (P.may_leave keeper.old) t → WentCut piece.now reader.old (λ done next. Uncommitted t engine.old.session done next (K.out sink.old) (K.out sink.new) (P.may_leave keeper.new)) }
+    ensures memory { IsErrOf result Stop.Memory → (t : Tables) → P.honest keeper.new → IsAt engine.old (P.tells keeper.old) (P.may_leave keeper.old) t → WentShort piece.now reader.old t engine.old.session (K.out sink.old) (K.out sink.new) (Holds (P.tells keeper.new) (P.may_leave keeper.new)) }
+    ensures can { OnOk result (CanPerform engine.new (P.attached keeper.new) (P.stopped keeper.new)) }
+    ensures stopped { (P.stopped keeper.new ≡ true) ↔ IsErrOf result Stop.Keeper }
     ensures cause { IsErrOf result Stop.Put → Rose (K.faults sink.old) (K.faults sink.new) }
+    ensures kept_cause { IsErrOf result Stop.Keeper → Rose (P.faults keeper.old) (P.faults keeper.new) }
     ensures later { K.faults sink.old ≤ K.faults sink.new }
+    ensures keeper { GoesOn (P.place keeper.old) (P.place keeper.new) (P.faults keeper.old) (P.faults keeper.new) (P.honest keeper.old) (P.honest keeper.new) }
 {
     let mut all_ok = true;
     let mut rest = piece;
     while !rest.is_empty() {
-        match take_one(alloc, reader, rest, engine, tables, steps, sink) {
+        match take_one(alloc, reader, rest, engine, keeper, steps, sink) {
             Ok(step) => {
                 all_ok &= step.ok;
                 rest = after(rest, step.used);
             }
             Err(Stop::Put) => return Err(Stop::Put),
+            Err(Stop::Keeper) => return Err(Stop::Keeper),
             Err(Stop::Memory) => return Err(Stop::Memory),
         }
     }
@@ -145,28 +161,30 @@ pub fn feed<K: Sink, L: Ledger>(
 }
 
 /// Performs the command that the end of input completes or cuts off; whether its reply begins `ok`.
-pub fn finish<K: Sink, L: Ledger>(
+pub fn finish<K: Sink, P: Keeper, L: Ledger>(
     alloc: Global,
     reader: &mut ScriptReader,
     engine: &mut Engine,
-    tables: &mut Tables,
+    keeper: &mut P,
     steps: &mut Steps<L>,
     sink: &mut K,
 ) -> Result<bool, Stop>
-    requires stands { StandsFor engine.old tables.old }
-    requires sound { Sound tables.old engine.old.session }
-    ensures ok { IfOk result (λ ok. Answered tables.old engine.old.session (script_from reader.old []) (K.out sink.old) (K.out sink.new) tables.new engine.new.session ok) }
-    ensures put { IsErrOf result Stop.Put → ClosedCut tables.old engine.old.session (script_from reader.old []) (K.out sink.old) (K.out sink.new) tables.new engine.new.session }
-    ensures memory { IsErrOf result Stop.Memory → (tables.new ≡ tables.old) × ((engine.new.session ≡ engine.old.session) × (K.out sink.new ≡ K.out sink.old)) }
-    ensures sound { Sound tables.new engine.new.session }
+    requires can { CanPerform engine.old (P.attached keeper.old) (P.stopped keeper.old) }
+    ensures ok { IfOk result (λ ok. (t : Tables) → P.honest keeper.new → IsAt engine.old (P.tells keeper.old) (P.may_leave keeper.old) t → Answered t engine.old.session (script_from reader.old []) (K.out sink.old) (K.out sink.new) (IsAt engine.new (P.tells keeper.new) (P.may_leave keeper.new)) engine.new.session ok) }
+    ensures put { IsErrOf result Stop.Put → (t : Tables) → P.honest keeper.new → IsAt engine.old (P.tells keeper.old) (P.may_leave keeper.old) t → ClosedCut (script_from reader.old []) (λ done last. CutOff t engine.old.session done last (K.out sink.old) (K.out sink.new) (Holds (P.tells keeper.new) (P.may_leave keeper.new))) }
+    ensures uncommitted { IsErrOf result Stop.Keeper → (t : Tables) → P.honest keeper.new → IsAt engine.old (P.tells keeper.old) (P.may_leave keeper.old) t → ClosedCut (script_from reader.old []) (λ done next. Uncommitted t engine.old.session done next (K.out sink.old) (K.out sink.new) (P.may_leave keeper.new)) }
+    ensures memory { IsErrOf result Stop.Memory → (keeper.new ≡ keeper.old) × ((engine.new ≡ engine.old) × (K.out sink.new ≡ K.out sink.old)) }
+    ensures stopped { (P.stopped keeper.new ≡ true) ↔ IsErrOf result Stop.Keeper }
     ensures cause { IsErrOf result Stop.Put → Rose (K.faults sink.old) (K.faults sink.new) }
+    ensures kept_cause { IsErrOf result Stop.Keeper → Rose (P.faults keeper.old) (P.faults keeper.new) }
     ensures later { K.faults sink.old ≤ K.faults sink.new }
+    ensures keeper { GoesOn (P.place keeper.old) (P.place keeper.new) (P.faults keeper.old) (P.faults keeper.new) (P.honest keeper.old) (P.honest keeper.new) }
 {
     match reader.finish() {
         Ok(None) => Ok(true),
-        Ok(Some(command)) => match answer(alloc, engine, tables, command, steps, sink) {
+        Ok(Some(command)) => match answer(alloc, engine, keeper, command, steps, sink) {
             Ok(ok) => Ok(ok),
-            Err(_) => Err(Stop::Put),
+            Err(stop) => Err(stop),
         },
         Err(_) => Err(Stop::Memory),
     }

@@ -1,10 +1,15 @@
-//! The mail filter's top call: commands are performed as they come, each reply before the next command.
+//! The mail filter's top call: commands are performed over a keeper as they come, each reply before the next command.
 #![tactic(auto)]
 
 mod feed;
+mod opening;
+mod store_fault;
 mod top;
 
+pub use store_fault::StoreFault;
 pub use top::{PIECE, SCRIPT_LIMIT, tapestry};
 
+#[cfg(test)]
+mod keeper_tests;
 #[cfg(test)]
 mod tests;

@@ -1,22 +1,28 @@
-ghost use Rattle.std.specs.Prelude.{◌≡◌, ◌≤◌, ◌<◌, ◌+◌, ◌⊎◌, ◌&&◌, ◌↔◌, ◌==◌, List, [], Option, length, min};
+ghost use Rattle.std.specs.Prelude.{◌≡◌, ◌≢◌, ◌≤◌, ◌<◌, ◌+◌, ◌⊎◌, ◌&&◌, ◌↔◌, ◌==◌, ℤ, pos, List, [], Option, Some, None, true, false, codes, length, min};
+ghost use Rattle.std.specs.Io.KnownBytes.{Appends};
+ghost use Rattle.keeper_core.specs.Keeping.{Holds};
 ghost use Rattle.tap_edges.specs.Edges.{Rose};
-ghost use Rattle.tap_rows.specs.Tables.{no_rows};
+ghost use Rattle.tap_rows.specs.declared.tables.Tables.{Tables};
 ghost use Rattle.script_lang.specs.Script.{script_from};
 ghost use Rattle.tap_model.specs.Sessions.{no_session};
-ghost use Rattle.tap_engine.specs.Standing.{StandsFor};
-ghost use Rattle.tap_model.specs.Sound.{Sound};
-ghost use Rattle.tap_top.specs.Points.{IsSound};
-ghost use Rattle.tap_top.specs.Answers.{Closed, ClosedCut};
-ghost use Rattle.tap_top.specs.Statuses.{Whole, ReadCut, TooLong, Starved, PutCut, HoldsScript};
+ghost use Rattle.tap_model.specs.Sound.{IsStore};
+ghost use Rattle.tap_top.specs.declared.store_fault.StoreFault.{StoreFault as StoreFaultOf};
+ghost use Rattle.tap_top.specs.Points.{CanPerform, IsAt, GoesOn};
+ghost use Rattle.tap_top.specs.Answers.{CutOff, Uncommitted, Closed, ClosedCut};
+ghost use Rattle.tap_top.specs.Statuses.{Whole, ReadCut, TookMany, TooLong, Starved, PutCut, KeeperCut, Unattached, HoldsScript};
+ghost use Rattle.tap_top.specs.Refusals.{stop_line, fault_of, Refused, CutLine};
+ghost use Rattle.tap_top.specs.Crashes.{LeavesPrefix};
 
+use crate::StoreFault;
 use crate::feed::{Stop, feed, finish};
+use crate::opening::{OpenFault, open_store};
+use keeper_core::Keeper;
 use script_lang::ScriptReader;
 use std::alloc::Global;
 use std::sync::ledger::Ledger;
 use tap_base::{Steps, Texts};
 use tap_edges::{Sink, Source};
 use tap_engine::Engine;
-use tap_rows::Tables;
 
 /// The most bytes of a script.
 pub const SCRIPT_LIMIT: usize = 268435456;
@@ -40,50 +46,61 @@ fn status(all_ok: bool) -> u8
 }
 
 // Performs what the end of input completes; the status of the run.
-fn close<K: Sink, L: Ledger>(
+fn close<K: Sink, P: Keeper, L: Ledger>(
     alloc: Global,
     reader: &mut ScriptReader,
     engine: &mut Engine,
-    tables: &mut Tables,
+    keeper: &mut P,
     steps: &mut Steps<L>,
     sink: &mut K,
     all_ok: bool,
 ) -> u8
-    requires stands { StandsFor engine.old tables.old }
-    requires sound { Sound tables.old engine.old.session }
-    ensures whole { result ≤ 1 → Closed tables.old engine.old.session (script_from reader.old []) (K.out sink.old) (K.out sink.new) tables.new engine.new.session all_ok (result == 0) }
-    ensures put { result ≡ 4 → Rose (K.faults sink.old) (K.faults sink.new) × ClosedCut tables.old engine.old.session (script_from reader.old []) (K.out sink.old) (K.out sink.new) tables.new engine.new.session }
-    ensures memory { result ≡ 7 → (tables.new ≡ tables.old) × ((engine.new.session ≡ engine.old.session) × (K.out sink.new ≡ K.out sink.old)) }
-    ensures sound { Sound tables.new engine.new.session }
-    ensures statuses { result ≤ 1 ⊎ (result ≡ 4 ⊎ result ≡ 7) }
+    requires can { CanPerform engine.old (P.attached keeper.old) (P.stopped keeper.old) }
+    ensures whole { result ≤ 1 → (t : Tables) → P.honest keeper.new → IsAt engine.old (P.tells keeper.old) (P.may_leave keeper.old) t → Closed t engine.old.session (script_from reader.old []) (K.out sink.old) (K.out sink.new) (Holds (P.tells keeper.new) (P.may_leave keeper.new)) all_ok (result == 0) }
+    ensures put { result ≡ 4 → (t : Tables) → P.honest keeper.new → IsAt engine.old (P.tells keeper.old) (P.may_leave keeper.old) t → ClosedCut (script_from reader.old []) (λ done last. CutOff t engine.old.session done last (K.out sink.old) (K.out sink.new) (Holds (P.tells keeper.new) (P.may_leave keeper.new))) }
+    ensures uncommitted { result ≡ 5 → (t : Tables) → P.honest keeper.new → IsAt engine.old (P.tells keeper.old) (P.may_leave keeper.old) t → ClosedCut (script_from reader.old []) (λ done next. Uncommitted t engine.old.session done next (K.out sink.old) (K.out sink.new) (P.may_leave keeper.new)) }
+    ensures memory { result ≡ 7 → (keeper.new ≡ keeper.old) × ((engine.new ≡ engine.old) × (K.out sink.new ≡ K.out sink.old)) }
+    ensures statuses { result ≤ 1 ⊎ (result ≡ 4 ⊎ (result ≡ 5 ⊎ result ≡ 7)) }
+    ensures stopped { (P.stopped keeper.new ≡ true) ↔ (result ≡ 5) }
+    ensures cause { result ≡ 4 → Rose (K.faults sink.old) (K.faults sink.new) }
+    ensures kept_cause { result ≡ 5 → Rose (P.faults keeper.old) (P.faults keeper.new) }
     ensures later { K.faults sink.old ≤ K.faults sink.new }
+    ensures keeper { GoesOn (P.place keeper.old) (P.place keeper.new) (P.faults keeper.old) (P.faults keeper.new) (P.honest keeper.old) (P.honest keeper.new) }
 {
-    match finish(alloc, reader, engine, tables, steps, sink) {
+    match finish(alloc, reader, engine, keeper, steps, sink) {
         Ok(ok) => status(all_ok && ok),
         Err(Stop::Put) => 4,
+        Err(Stop::Keeper) => 5,
         Err(Stop::Memory) => 7,
     }
 }
 
 // Reads the source and performs the commands as they come.
-fn run<S: Source, K: Sink, L: Ledger>(
+fn run<S: Source, K: Sink, P: Keeper, L: Ledger>(
     alloc: Global,
     source: &mut S,
     sink: &mut K,
-    tables: &mut Tables,
+    engine: &mut Engine,
+    keeper: &mut P,
     steps: &mut Steps<L>,
 ) -> u8
-    requires { tables.old ≡ no_rows }
-    ensures whole { result ≤ 1 → Whole tables.old (S.left source.old) (S.left source.new) (K.out sink.old) (K.out sink.new) tables.new (result == 0) }
-    ensures read { result ≡ 3 → Rose (S.faults source.old) (S.faults source.new) × ReadCut tables.old (S.left source.old) (S.left source.new) (K.out sink.old) (K.out sink.new) tables.new }
-    ensures put { result ≡ 4 → Rose (K.faults sink.old) (K.faults sink.new) × PutCut tables.old (S.left source.old) (S.left source.new) (K.out sink.old) (K.out sink.new) tables.new }
-    ensures memory { result ≡ 7 → Starved tables.old (S.left source.old) (S.left source.new) (K.out sink.old) (K.out sink.new) tables.new }
-    ensures long { result ≡ 8 → TooLong tables.old (S.left source.old) (S.left source.new) (K.out sink.old) (K.out sink.new) tables.new }
-    ensures sound { IsSound tables.new }
-    ensures statuses { result ≤ 1 ⊎ (result ≡ 3 ⊎ (result ≡ 4 ⊎ (result ≡ 7 ⊎ result ≡ 8))) }
+    requires can { CanPerform engine.old (P.attached keeper.old) (P.stopped keeper.old) }
+    requires session { engine.old.session ≡ no_session }
+    ensures whole { result ≤ 1 → (t : Tables) → P.honest keeper.new → IsAt engine.old (P.tells keeper.old) (P.may_leave keeper.old) t → Whole t (S.left source.old) (S.left source.new) (K.out sink.old) (K.out sink.new) (Holds (P.tells keeper.new) (P.may_leave keeper.new)) (result == 0) }
+    ensures read { result ≡ 3 → (t : Tables) → P.honest keeper.new → IsAt engine.old (P.tells keeper.old) (P.may_leave keeper.old) t → ReadCut t (S.left source.old) (S.left source.new) (K.out sink.old) (K.out sink.new) (Holds (P.tells keeper.new) (P.may_leave keeper.new)) }
+    ensures put { result ≡ 4 → (t : Tables) → P.honest keeper.new → IsAt engine.old (P.tells keeper.old) (P.may_leave keeper.old) t → PutCut t (S.left source.old) (S.left source.new) (K.out sink.old) (K.out sink.new) (Holds (P.tells keeper.new) (P.may_leave keeper.new)) }
+    ensures uncommitted { result ≡ 5 → (t : Tables) → P.honest keeper.new → IsAt engine.old (P.tells keeper.old) (P.may_leave keeper.old) t → KeeperCut t (S.left source.old) (S.left source.new) (K.out sink.old) (K.out sink.new) (P.may_leave keeper.new) }
+    ensures memory { result ≡ 7 → (t : Tables) → P.honest keeper.new → IsAt engine.old (P.tells keeper.old) (P.may_leave keeper.old) t → Starved t (S.left source.old) (S.left source.new) (K.out sink.old) (K.out sink.new) (Holds (P.tells keeper.new) (P.may_leave keeper.new)) }
+    ensures long { result ≡ 8 → (t : Tables) → P.honest keeper.new → IsAt engine.old (P.tells keeper.old) (P.may_leave keeper.old) t → TooLong t (S.left source.old) (S.left source.new) (K.out sink.old) (K.out sink.new) (Holds (P.tells keeper.new) (P.may_leave keeper.new)) }
+    ensures many { result ≡ 8 → TookMany (S.left source.old) (S.left source.new) }
+    ensures statuses { result ≤ 1 ⊎ (result ≡ 3 ⊎ (result ≡ 4 ⊎ (result ≡ 5 ⊎ (result ≡ 7 ⊎ result ≡ 8)))) }
+    ensures stopped { (P.stopped keeper.new ≡ true) ↔ (result ≡ 5) }
+    ensures read_cause { result ≡ 3 → Rose (S.faults source.old) (S.faults source.new) }
+    ensures cause { result ≡ 4 → Rose (K.faults sink.old) (K.faults sink.new) }
+    ensures kept_cause { result ≡ 5 → Rose (P.faults keeper.old) (P.faults keeper.new) }
+    ensures keeper { GoesOn (P.place keeper.old) (P.place keeper.new) (P.faults keeper.old) (P.faults keeper.new) (P.honest keeper.old) (P.honest keeper.new) }
 {
     let mut reader = ScriptReader::new(alloc);
-    let mut engine = Engine::new(alloc);
     let mut piece = [0u8; PIECE];
     let mut taken = 0;
     let mut all_ok = true;
@@ -93,7 +110,7 @@ fn run<S: Source, K: Sink, L: Ledger>(
             Err(_) => return 3,
         };
         if n == 0 {
-            return close(alloc, &mut reader, &mut engine, tables, steps, sink, all_ok);
+            return close(alloc, &mut reader, engine, keeper, steps, sink, all_ok);
         }
         let room = least(n, SCRIPT_LIMIT - taken);
         taken += n;
@@ -101,47 +118,86 @@ fn run<S: Source, K: Sink, L: Ledger>(
             alloc,
             &mut reader,
             &piece[..room],
-            &mut engine,
-            tables,
+            engine,
+            keeper,
             steps,
             sink,
         ) {
             Ok(ok) => all_ok &= ok,
             Err(Stop::Put) => return 4,
+            Err(Stop::Keeper) => return 5,
             Err(Stop::Memory) => return 7,
         }
     }
     8
 }
 
-/// The whole run: reads the source in pieces of at most 65,536 bytes, performs each command when it is complete, and
-/// puts its reply before the next.
+// Puts the line of a refused store; the status.
+fn refuse<K: Sink>(fault: StoreFault, sink: &mut K) -> u8
+    ensures statuses { result ≡ 6 ⊎ result ≡ 4 }
+    ensures line { CutLine result (stop_line fault) (K.out sink.old) (K.out sink.new) }
+    ensures cause { result ≡ 4 → Rose (K.faults sink.old) (K.faults sink.new) }
+{
+    match sink.put(fault.line().as_slice()) {
+        Ok(()) => 6,
+        Err(_) => 4,
+    }
+}
+
+/// The whole run: attaches the keeper at `:memory:`, checks the tables that it has, then reads the source in pieces of at
+/// most 65,536 bytes, performs each command when it is complete, and puts its reply before the next.
 ///
-/// The status is 0 where every reply begins `ok`, 1 where another was put, 2 where there is a word (nothing is read or
-/// written then), 3 for a failed read, 4 for a failed put, 7 for want of memory and 8 for a script of more than
-/// 268,435,456 bytes.
-pub fn tapestry<S: Source, K: Sink, L: Ledger>(
+/// The status is 0 where every reply begins `ok`, 1 where another was put, 2 where there is a word (nothing is attached,
+/// read or written then), 3 for a failed read, 4 for a failed put, 5 where the keeper failed (its command has no reply), 6
+/// for a store that is refused (one line says why, and nothing is read), 7 for want of memory and 8 for a script of more
+/// than 268,435,456 bytes.
+pub fn tapestry<S: Source, K: Sink, P: Keeper, L: Ledger>(
     alloc: Global,
     words: &Texts,
     source: &mut S,
     sink: &mut K,
-    tables: &mut Tables,
+    keeper: &mut P,
     steps: &mut Steps<L>,
 ) -> u8
-    requires { tables.old ≡ no_rows }
-    ensures whole { result ≤ 1 → Whole no_rows (S.left source.old) (S.left source.new) (K.out sink.old) (K.out sink.new) tables.new (result == 0) }
+    requires free { P.attached keeper.old ≡ false }
+    requires running { P.stopped keeper.old ≡ false }
+
+    // The statuses over a store that a session left.
+    ensures whole { result ≤ 1 → (t : Tables) → P.honest keeper.new → Holds (P.tells keeper.old) (P.may_leave keeper.old) t → IsStore t → Whole t (S.left source.old) (S.left source.new) (K.out sink.old) (K.out sink.new) (Holds (P.tells keeper.new) (P.may_leave keeper.new)) (result == 0) }
+    ensures read { result ≡ 3 → (t : Tables) → P.honest keeper.new → Holds (P.tells keeper.old) (P.may_leave keeper.old) t → IsStore t → ReadCut t (S.left source.old) (S.left source.new) (K.out sink.old) (K.out sink.new) (Holds (P.tells keeper.new) (P.may_leave keeper.new)) }
+    ensures put { result ≡ 4 → (t : Tables) → P.honest keeper.new → Holds (P.tells keeper.old) (P.may_leave keeper.old) t → IsStore t → (v : ℤ) → P.has_version keeper.old v → (v ≡ pos 1) ⊎ (v ≡ pos 2) → PutCut t (S.left source.old) (S.left source.new) (K.out sink.old) (K.out sink.new) (Holds (P.tells keeper.new) (P.may_leave keeper.new)) }
+    ensures keeper { result ≡ 5 → (t : Tables) → P.honest keeper.new → Holds (P.tells keeper.old) (P.may_leave keeper.old) t → IsStore t → Unattached t (S.left source.old) (S.left source.new) (K.out sink.old) (K.out sink.new) (P.may_leave keeper.new) ⊎ KeeperCut t (S.left source.old) (S.left source.new) (K.out sink.old) (K.out sink.new) (P.may_leave keeper.new) }
+    ensures memory { result ≡ 7 → (t : Tables) → P.honest keeper.new → Holds (P.tells keeper.old) (P.may_leave keeper.old) t → IsStore t → Starved t (S.left source.old) (S.left source.new) (K.out sink.old) (K.out sink.new) (Holds (P.tells keeper.new) (P.may_leave keeper.new)) }
+    ensures long { result ≡ 8 → (t : Tables) → P.honest keeper.new → Holds (P.tells keeper.old) (P.may_leave keeper.old) t → IsStore t → TooLong t (S.left source.old) (S.left source.new) (K.out sink.old) (K.out sink.new) (Holds (P.tells keeper.new) (P.may_leave keeper.new)) }
+
+    // What a crash leaves, at every exit: the tables after some first commands, all acknowledged ones among them.
+    ensures crash { (t : Tables) → P.honest keeper.new → Holds (P.tells keeper.old) (P.may_leave keeper.old) t → IsStore t → LeavesPrefix t (S.left source.old) (S.left source.new) (K.out sink.old) (K.out sink.new) (P.may_leave keeper.new) }
+    ensures kept { (t : Tables) → P.honest keeper.new → Holds (P.tells keeper.old) (P.may_leave keeper.old) t → IsStore t → (x : Tables) → P.may_leave keeper.new x → IsStore x }
+
+    // A store is refused exactly for its version or its rows.
+    ensures refused { (t : Tables) → P.honest keeper.new → Holds (P.tells keeper.old) (P.may_leave keeper.old) t → (v : ℤ) → P.has_version keeper.old v → (fault : StoreFaultOf) → fault_of v t ≡ Some fault → Refused result fault (S.left source.old) (S.left source.new) (K.out sink.old) (K.out sink.new) (P.tells keeper.new) (P.may_leave keeper.new) t }
+    ensures fine { (t : Tables) → P.honest keeper.new → Holds (P.tells keeper.old) (P.may_leave keeper.old) t → (v : ℤ) → P.has_version keeper.old v → fault_of v t ≡ None → result ≢ 6 }
+    ensures known { (t : Tables) → P.honest keeper.new → Holds (P.tells keeper.old) (P.may_leave keeper.old) t → IsStore t → (v : ℤ) → P.has_version keeper.old v → (v ≡ pos 1) ⊎ (v ≡ pos 2) → result ≢ 6 }
+
+    // When each status comes.
     ensures words { (result ≡ 2) ↔ (0 < length words.now) }
-    ensures nothing { result ≡ 2 → (tables.new ≡ no_rows) × ((K.out sink.new ≡ K.out sink.old) × (S.left source.new ≡ S.left source.old)) }
-    ensures read { result ≡ 3 → Rose (S.faults source.old) (S.faults source.new) × ReadCut no_rows (S.left source.old) (S.left source.new) (K.out sink.old) (K.out sink.new) tables.new }
-    ensures put { result ≡ 4 → Rose (K.faults sink.old) (K.faults sink.new) × PutCut no_rows (S.left source.old) (S.left source.new) (K.out sink.old) (K.out sink.new) tables.new }
-    ensures memory { result ≡ 7 → Starved no_rows (S.left source.old) (S.left source.new) (K.out sink.old) (K.out sink.new) tables.new }
-    ensures long { result ≡ 8 → TooLong no_rows (S.left source.old) (S.left source.new) (K.out sink.old) (K.out sink.new) tables.new }
-    ensures complete { length words.now ≡ 0 → HoldsScript (S.left source.old) → (Rose (S.faults source.old) (S.faults source.new) → ⊥) → (Rose (K.faults sink.old) (K.faults sink.new) → ⊥) → (result ≤ 1) ⊎ (result ≡ 7) }
-    ensures sound { IsSound tables.new }
-    ensures statuses { result ≤ 4 ⊎ (result ≡ 7 ⊎ result ≡ 8) }
+    ensures nothing { result ≡ 2 → (keeper.new ≡ keeper.old) × ((K.out sink.new ≡ K.out sink.old) × (S.left source.new ≡ S.left source.old)) }
+    ensures read_cause { result ≡ 3 → Rose (S.faults source.old) (S.faults source.new) }
+    ensures put_cause { result ≡ 4 → Rose (K.faults sink.old) (K.faults sink.new) }
+    ensures stopped { (P.stopped keeper.new ≡ true) ↔ (result ≡ 5) }
+    ensures keeper_cause { result ≡ 5 → Rose (P.faults keeper.old) (P.faults keeper.new) }
+    ensures many { result ≡ 8 → TookMany (S.left source.old) (S.left source.new) }
+    ensures complete { length words.now ≡ 0 → HoldsScript (S.left source.old) → (Rose (S.faults source.old) (S.faults source.new) → ⊥) → (Rose (K.faults sink.old) (K.faults sink.new) → ⊥) → (Rose (P.faults keeper.old) (P.faults keeper.new) → ⊥) → (result ≤ 1) ⊎ ((result ≡ 6) ⊎ (result ≡ 7)) }
+    ensures statuses { result ≤ 8 }
+    ensures place { (result ≡ 2) ⊎ ((result ≡ 7) ⊎ (P.place keeper.new ≡ codes ":memory:")) }
 {
     if words.len() > 0 {
         return 2;
     }
-    run(alloc, source, sink, tables, steps)
+    match open_store(alloc, keeper) {
+        Ok(mut engine) => run(alloc, source, sink, &mut engine, keeper, steps),
+        Err(OpenFault::Refused(fault)) => refuse(fault, sink),
+        Err(OpenFault::Keeper) => 5,
+        Err(OpenFault::Memory) => 7,
+    }
 }

@@ -1,15 +1,28 @@
+use Rattle.tap_model.specs.Stories.{next_tables}
 use Rattle.tap_model.proofs.SoundLaws.{step-sound}
-use Rattle.tap_top.proofs.Stories.{Answered-one, CutOff-one}
+use Rattle.tap_top.specs.Points.{IsAt}
+use Rattle.tap_top.proofs.Stories.{Answered-one, CutOff-one, Uncommitted-one}
 use Rattle.tap_top.proofs.feed.answer.Goals as goal
 
-pub returns-in-Ok-clause-ok : goal.returns-in-Ok-clause-ok
-returns-in-Ok-clause-ok g c = Answered-one _ _ c.args.command c.perform-reply.result _ _ _ _ c.is_ok.result c.requires.sound c.perform-reply.ensures.step c.in-Ok.ensures.ok c.is_ok.ensures
+pub perform-requires-clause-impossible : goal.perform-requires-clause-impossible
+perform-requires-clause-impossible g c = ?
 
-pub returns-clause-err : goal.returns-clause-err
-returns-clause-err g c = CutOff-one _ _ c.args.command c.perform-reply.result _ _ _ _ c.in-Err.failed c.requires.sound c.perform-reply.ensures.step c.in-Err.ensures.err
+pub returns-in-Err-KeeperFailed-clause-uncommitted : goal.returns-in-Err-KeeperFailed-clause-uncommitted
+returns-in-Err-KeeperFailed-clause-uncommitted g c = λ _ t honest at.
+    let crash = c.in-Err-KeeperFailed.ensures.crash t at.stands at.sound honest at.holds in
+    Uncommitted-one t _ c.args.command _ _ at.sound crash.0 crash.1
 
-pub returns-in-Ok-clause-sound : goal.returns-in-Ok-clause-sound
-returns-in-Ok-clause-sound g c = step-sound c.args.tables.now c.args.engine.now.session c.args.command c.perform-reply.result c.perform-reply.new.tables c.perform-reply.new.self.session c.perform-reply.ensures.step c.requires.sound
+pub returns-in-Ok-put_reply-clause-ok : goal.returns-in-Ok-put_reply-clause-ok
+returns-in-Ok-put_reply-clause-ok g c = λ t honest at.
+    let step = c.in-Ok.ensures.step t at.stands at.sound in
+    let there : IsAt c.perform.new.self (g.P.Keeper.tells c.perform.new.keeper) (g.P.Keeper.may_leave c.perform.new.keeper) (next_tables c.args.command c.in-Ok.reply c.args.engine.now.session t) =
+    record {
+      stands = c.in-Ok.ensures.stands t at.stands at.sound;
+      sound = step-sound t c.args.engine.now.session c.args.command c.in-Ok.reply (next_tables c.args.command c.in-Ok.reply c.args.engine.now.session t) c.perform.new.self.session step at.sound;
+      holds = c.in-Ok.ensures.kept t at.stands at.sound honest at.holds;
+    } in
+    Answered-one t _ c.args.command c.in-Ok.reply _ _ (IsAt c.perform.new.self (g.P.Keeper.tells c.perform.new.keeper) (g.P.Keeper.may_leave c.perform.new.keeper)) _ _ c.is_ok.result at.sound step c.in-Ok-put_reply.ensures.ok c.is_ok.ensures there
 
-pub returns-clause-sound : goal.returns-clause-sound
-returns-clause-sound g c = step-sound c.args.tables.now c.args.engine.now.session c.args.command c.perform-reply.result c.perform-reply.new.tables c.perform-reply.new.self.session c.perform-reply.ensures.step c.requires.sound
+pub returns-clause-put : goal.returns-clause-put
+returns-clause-put g c = λ _ t honest at.
+    CutOff-one t _ c.args.command c.in-Ok.reply _ _ _ (next_tables c.args.command c.in-Ok.reply c.args.engine.now.session t) _ c.in-Err.field-0 at.sound (c.in-Ok.ensures.step t at.stands at.sound) c.in-Err.ensures.err (c.in-Ok.ensures.kept t at.stands at.sound honest at.holds)

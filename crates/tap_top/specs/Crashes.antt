@@ -1,0 +1,41 @@
+-- What a crash leaves: the tables after some first commands.
+use Rattle.std.specs.Prelude.{ℕ, ◌≡◌, ◌≤◌, List, ◌++◌, length, take, Option}
+use Rattle.std.specs.List.{flat_map}
+use Rattle.std.specs.Io.KnownBytes.{Consumes, Appends}
+use Rattle.tap_rows.specs.declared.tables.Tables.{Tables}
+use Rattle.script_lang.specs.declared.command.Command.{Command}
+use Rattle.script_lang.specs.declared.reply.Reply.{Reply}
+use Rattle.script_lang.specs.Replies.{reply_bytes}
+use Rattle.tap_model.specs.declared.session.Session.{Session}
+use Rattle.tap_model.specs.Sessions.{no_session}
+use Rattle.tap_model.specs.Stories.{Story}
+use Rattle.tap_top.specs.declared.top.TheConstants.{SCRIPT_LIMIT}
+use Rattle.tap_top.specs.Statuses.{AreFirst}
+
+-- x is the tables after the first k of these commands with these replies, for a k that is at least n
+pub record IsPrefix (tables : Tables) (commands : List Command) (replies : List Reply) (n : ℕ) (x : Tables) : Type 0 where
+  pub k : ℕ
+  pub enough : n ≤ k
+  pub within : k ≤ length commands
+  pub session : Session
+  pub story : Story tables no_session (take k commands) (take k replies) x session
+
+-- the first n replies lie whole in these bytes
+pub record LieWhole (n : ℕ) (replies : List Reply) (bytes : List ℕ) : Type 0 where
+  pub rest : List ℕ
+  pub is : bytes ≡ flat_map reply_bytes (take n replies) ++ rest
+
+-- a crash leaves the tables after some first commands of the script, with all those among them whose replies lie whole in
+-- what was written
+pub record LeavesPrefix (tables : Tables) (left left' out out' : Option (List ℕ)) (leaves : Tables → Type 0) : Type 0 where
+  pub bytes : List ℕ
+  pub taken : Consumes left left' bytes
+  pub commands : List Command
+  pub first : AreFirst commands (take SCRIPT_LIMIT bytes) left'
+  pub replies : List Reply
+  pub tables' : Tables
+  pub session' : Session
+  pub story : Story tables no_session commands replies tables' session'
+  pub written : List ℕ
+  pub put : Appends out out' written
+  pub each : (n : ℕ) → n ≤ length replies → LieWhole n replies written → (x : Tables) → leaves x → IsPrefix tables commands replies n x

@@ -1,0 +1,78 @@
+ghost use Rattle.std.specs.Prelude.{◌≡◌, ◌⊎◌, ◌↔◌, ◌≤◌, ℤ, true, false, codes, Some, None, IfOk, OnOk, IsErrOf};
+ghost use Rattle.keeper_core.specs.Keeping.{Rose, Holds};
+ghost use Rattle.tap_rows.specs.declared.tables.Tables.{Tables as TableRows};
+ghost use Rattle.tap_model.specs.Sessions.{no_session};
+ghost use Rattle.tap_engine.specs.Standing.{StandsFor};
+ghost use Rattle.tap_top.specs.Points.{CanPerform};
+ghost use Rattle.tap_top.specs.Refusals.{row_fault, fault_of};
+ghost use Rattle.tap_top.specs.Opened.{IfRefused};
+ghost use Rattle.tap_top.specs.declared.opening.OpenFault.{OpenFault};
+
+use crate::StoreFault;
+use keeper_core::{AttachFault, Keeper};
+use restart_core::{RestartFault, TableName, Why, check_tables};
+use std::alloc::Global;
+use tap_engine::{Engine, StartFault};
+use tap_rows::Tables;
+
+/// Why a store wasn't opened.
+#[derive(Clone, Copy, Debug, PartialEq, Eq)]
+pub enum OpenFault {
+    Refused(StoreFault),
+    Keeper,
+    Memory,
+}
+
+// Checks the tables of a store, and starts an engine over them.
+fn start(alloc: Global, tables: Tables) -> Result<Engine, OpenFault>
+    ensures can { IfOk result (λ engine. CanPerform engine true false) }
+    ensures session { IfOk result (λ engine. engine.session ≡ no_session) }
+    ensures stands { IfOk result (λ engine. StandsFor engine tables) }
+    ensures sure { OnOk result (row_fault tables ≡ None) }
+    ensures refused { IfRefused result (λ fault. row_fault tables ≡ Some fault) }
+    ensures asked { IsErrOf result OpenFault.Keeper → ⊥ }
+{
+    let sound = match check_tables(alloc, tables) {
+        Ok(sound) => sound,
+        Err(RestartFault::Damaged { table, num, why }) => {
+            return Err(OpenFault::Refused(StoreFault::Damaged { table, num, why }));
+        }
+        Err(RestartFault::Memory) => return Err(OpenFault::Memory),
+    };
+    match Engine::start(alloc, sound) {
+        Ok(engine) => Ok(engine),
+        Err(StartFault::Rules { num }) => Err(OpenFault::Refused(StoreFault::Damaged {
+            table: TableName::Filters,
+            num,
+            why: Why::Text,
+        })),
+        Err(StartFault::Memory) => Err(OpenFault::Memory),
+    }
+}
+
+/// Attaches the store in memory, checks its tables, and starts an engine over them.
+pub fn open_store<P: Keeper>(alloc: Global, keeper: &mut P) -> Result<Engine, OpenFault>
+    requires free { P.attached keeper.old ≡ false }
+    requires running { P.stopped keeper.old ≡ false }
+    ensures can { IfOk result (λ engine. CanPerform engine (P.attached keeper.new) (P.stopped keeper.new)) }
+    ensures session { IfOk result (λ engine. engine.session ≡ no_session) }
+    ensures stands { IfOk result (λ engine. P.honest keeper.new → (t : TableRows) → P.tells keeper.old t → StandsFor engine t) }
+    ensures kept { P.honest keeper.new → (t : TableRows) → P.tells keeper.old t → P.stopped keeper.new ≡ false → Holds (P.tells keeper.new) (P.may_leave keeper.new) t }
+    ensures crash { P.honest keeper.new → (t : TableRows) → P.tells keeper.old t → (x : TableRows) → P.may_leave keeper.new x → x ≡ t }
+    ensures sure { OnOk result (P.honest keeper.new → (t : TableRows) → P.tells keeper.old t → (v : ℤ) → P.has_version keeper.old v → fault_of v t ≡ None) }
+    ensures refused { IfRefused result (λ fault. P.honest keeper.new → (t : TableRows) → P.tells keeper.old t → (v : ℤ) → P.has_version keeper.old v → fault_of v t ≡ Some fault) }
+    ensures stopped { (P.stopped keeper.new ≡ true) ↔ IsErrOf result OpenFault.Keeper }
+    ensures cause { IsErrOf result OpenFault.Keeper → Rose (P.faults keeper.old) (P.faults keeper.new) }
+    ensures placed { (P.place keeper.new ≡ codes ":memory:") ⊎ IsErrOf result OpenFault.Memory }
+    ensures later { P.faults keeper.old ≤ P.faults keeper.new }
+    ensures honest { P.honest keeper.new → P.honest keeper.old }
+{
+    match keeper.attach(alloc, ":memory:") {
+        Ok(tables) => start(alloc, tables),
+        Err(AttachFault::Alien { version }) => {
+            Err(OpenFault::Refused(StoreFault::Version { version }))
+        }
+        Err(AttachFault::Failed) => Err(OpenFault::Keeper),
+        Err(AttachFault::Memory) => Err(OpenFault::Memory),
+    }
+}
