@@ -3,3 +3,4 @@ mod Steps
 mod Runs
 mod Refusals
 mod Crashes
+mod Samples

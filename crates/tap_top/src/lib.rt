@@ -3,7 +3,10 @@
 
 mod feed;
 mod opening;
+mod refusing;
+mod sampled;
 mod store_fault;
+mod tally;
 mod top;
 
 pub use store_fault::StoreFault;

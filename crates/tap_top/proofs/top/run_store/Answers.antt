@@ -4,13 +4,7 @@ use Rattle.tap_model.specs.Sound.{IsStore}
 use Rattle.tap_top.specs.Refusals.{stop_line, fault_of}
 use Rattle.tap_top.proofs.Refusals.{fine-store, some-or-none, Refused-none, refused-for, not-stopped}
 use Rattle.tap_top.proofs.Crashes.{nothing-leaves, none-leaves, run-leaves, leaves-stores, opened-at, Starved-none}
-use Rattle.tap_top.proofs.top.tapestry.Goals as goal
-
-pub returns-then-len-gt0-clause-crash : goal.returns-then-len-gt0-clause-crash
-returns-then-len-gt0-clause-crash g c = λ t honest holds store. nothing-leaves t _ _ _ _ _ refl refl holds.alone
-
-pub returns-then-len-gt0-clause-refused : goal.returns-then-len-gt0-clause-refused
-returns-then-len-gt0-clause-refused g c = λ t honest holds v version fault is. Refused-none 2 fault _ _ _ _ _ _ t (inl refl) (λ e. cc) refl refl (λ _. holds.told) holds.alone
+use Rattle.tap_top.proofs.top.run_store.Goals as goal
 
 pub returns-in-Ok-clause-crash : goal.returns-in-Ok-clause-crash
 returns-in-Ok-clause-crash g c = λ t honest holds store.
