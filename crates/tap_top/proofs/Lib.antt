@@ -4,3 +4,4 @@ mod Runs
 mod Refusals
 mod Crashes
 mod Samples
+mod SampleCrashes

@@ -12,20 +12,29 @@ use Rattle.script_lang.specs.declared.reply.Reply.{Reply}
 use Rattle.script_lang.specs.declared.reply.Reply.TheVariants.{No}
 use Rattle.script_lang.specs.Replies.{is_accepted}
 use Rattle.tap_model.specs.declared.session.Session.{Session}
+use Rattle.keeper_core.specs.Keeping.{Holds}
+use Rattle.tap_model.specs.Sessions.{no_session}
 use Rattle.tap_model.specs.Sound.{Sound}
 use Rattle.tap_model.specs.Verdicts.{verdict}
 use Rattle.tap_model.specs.Replies.{answer_of, tables_after}
 use Rattle.tap_model.specs.Stories.{Step, Story}
 use Rattle.tap_model.proofs.SoundLaws.{step-sound}
 use Rattle.tap_top.specs.declared.tally.Tally.{Tally}
-use Rattle.tap_top.specs.Points.{SoundAlong}
+use Rattle.tap_engine.specs.declared.engine.Engine.{Engine}
+use Rattle.tap_engine.specs.Standing.{StandsFor}
+use Rattle.tap_top.specs.Points.{SoundAlong, IsAt}
 use Rattle.tap_top.specs.Answers.{MayAdd}
 use Rattle.tap_top.specs.Statuses.{IsFront}
-use Rattle.tap_top.specs.Samples.{refusals_in, hits_in, total, Performed, NoneStarved, Counted, Adds, LastStarved, FirstPerformed, NextUncommitted}
+use Rattle.sample_gen.specs.Samples.{sample_of}
+use Rattle.sample_gen.specs.Summaries.{summary_lines}
+use Rattle.sample_gen.specs.declared.summary.Summary.{Summary}
+use Rattle.tap_top.specs.Samples.{refusals_in, hits_in, total, summary_of, Performed, NoneStarved, Counted, Adds, LastStarved, FirstPerformed, NextUncommitted, FrontPut, Sampled, SampledCut}
 use Rattle.tap_top.proofs.Stories.{Story-then, Story-sound, first-sound}
 
 total-append : (count : Reply → ℕ) (xs ys : List Reply) → total count (xs ++ ys) ≡ total count xs + total count ys
-total-append count [] ys = refl
+total-append count [] ys = zero-more (total count ys) where
+  zero-more : (n : ℕ) → n ≡ 0 + n
+  zero-more n = omega arith
 total-append count (x ∷ xs) ys = ap (λ n. count x + n) (total-append count xs ys) ∙ sum (count x) (total count xs) (total count ys) where
   sum : (a b c : ℕ) → a + (b + c) ≡ a + b + c
   sum a b c = omega arith
@@ -36,8 +45,12 @@ each-append (x ∷ xs) ys none more = (none.0, each-append xs ys none.1 more)
 
 -- nothing refuses exactly where all replies are accepted
 none-refused : (b : Bool) (n : ℕ) (rest : Bool) → (n == 0) ≡ rest → (((if b then 0 else 1) + n) == 0) ≡ (b && rest)
-none-refused true n rest is = is
-none-refused false n rest is = refl
+none-refused true n rest is = ap (λ m. m == 0) (zero-more n) ∙ is where
+  zero-more : (n : ℕ) → 0 + n ≡ n
+  zero-more n = omega arith
+none-refused false n rest is = some n where
+  some : (n : ℕ) → (1 + n == 0) ≡ false
+  some n = grind arith
 
 pub all-accepted : (replies : List Reply) → (total refusals_in replies == 0) ≡ list_all is_accepted replies
 all-accepted [] = refl
@@ -173,4 +186,46 @@ Performing-uncommitted all left c rest t s Mid tally s1 leaves before next one =
       first = subst (λ cs. IsFront cs all) (sym (append_assoc before.done q.done (q.next ∷ []))) (longer-front all left before.done (c ∷ []) rest before.split next (q.done ++ q.next ∷ []) q.first);
       session' = q.session';
       performed = Performed-then t s before.done (λ replies x. Mid x × Counted tally replies) s1 q.done (λ replies x. NoneStarved replies × MayAdd leaves q.next q.session' x) (λ replies x. NoneStarved replies × MayAdd leaves q.next q.session' x) q.session' p r (each-append p.replies r.replies p.ends.1.none r.ends.0, r.ends.1);
+    }
+
+pub none-left : (xs : List Command) → length xs ≡ 0 → xs ≡ []
+none-left [] none = refl
+none-left (x ∷ xs) none = absurd (omega (arith, none))
+
+-- the counts of a sample's summary
+Summary-of : (summary : Summary) (n commands refused docs notes delivered : ℕ) (replies : List Reply) (t : Tables) → summary ≡ record { messages = n; commands = commands; refused = refused; documents = docs; notes = notes; delivered = delivered } → commands ≡ length (sample_of n) → refused ≡ total refusals_in replies → docs ≡ length t.docs → notes ≡ length t.notes → delivered ≡ total hits_in replies → summary ≡ summary_of n replies t
+Summary-of summary n commands refused docs notes delivered replies t is a b c d e = is ∙ rw (a, b, c, d, e) refl
+
+-- what holds of a new session and of a sample's commands
+pub at-start : (P : Session → List Command → Type 0) (s : Session) (cs : List Command) (n : ℕ) → s ≡ no_session → cs ≡ sample_of n → P s cs → P no_session (sample_of n)
+at-start P s cs n new all holds = subst (λ ds. P no_session ds) all (subst (λ x. P x cs) new holds)
+
+-- all commands were performed by an engine, and these are their counts
+abbrev pub AllPerformed : Tables → Session → List Command → Engine → (Tables → Type 0) → (Tables → Type 0) → Tally → Session → Type 0
+AllPerformed t s cs engine tells leaves tally s' = Performed t s cs (λ replies x. IsAt engine tells leaves x × Counted tally replies) s'
+
+summed : (t : Tables) (n : ℕ) (cs : List Command) (engine : Engine) (tells leaves : Tables → Type 0) (tally : Tally) (s' : Session) (summary : Summary) → cs ≡ sample_of n → (one : AllPerformed t no_session (sample_of n) engine tells leaves tally s') → summary ≡ record { messages = n; commands = length cs; refused = tally.refused; documents = length engine.docs; notes = length engine.notes; delivered = tally.delivered } → summary ≡ summary_of n one.replies one.tables'
+summed t n cs engine tells leaves tally s' summary all one is =
+    Summary-of summary n (length cs) tally.refused (length engine.docs) (length engine.notes) tally.delivered one.replies one.tables' is (ap length all) one.ends.1.refused (ap length one.ends.0.stands.docs) (ap length one.ends.0.stands.notes) one.ends.1.delivered
+
+ended : (t : Tables) (n : ℕ) (engine : Engine) (tells leaves : Tables → Type 0) (tally : Tally) (s' : Session) → AllPerformed t no_session (sample_of n) engine tells leaves tally s' → Performed t no_session (sample_of n) (λ replies x. NoneStarved replies × Holds tells leaves x) s'
+ended t n engine tells leaves tally s' one = Performed-with t no_session (sample_of n) (λ replies x. IsAt engine tells leaves x × Counted tally replies) (λ replies x. NoneStarved replies × Holds tells leaves x) s' one (one.ends.1.none, one.ends.0.holds)
+
+pub Sampled-put : (t : Tables) (n : ℕ) (s : Session) (cs : List Command) (engine : Engine) (tells leaves : Tables → Type 0) (tally : Tally) (s' : Session) (summary : Summary) (out out' : Option (List ℕ)) (ok : Bool) → s ≡ no_session → cs ≡ sample_of n → AllPerformed t s cs engine tells leaves tally s' → summary ≡ record { messages = n; commands = length cs; refused = tally.refused; documents = length engine.docs; notes = length engine.notes; delivered = tally.delivered } → Appends out out' (summary_lines summary) → ok ≡ (summary.refused == 0) → Sampled t n out out' (Holds tells leaves) ok
+Sampled-put t n s cs engine tells leaves tally s' summary out out' ok new all one is put fine =
+    let moved = at-start (λ x ds. AllPerformed t x ds engine tells leaves tally s') s cs n new all one in
+    let e = summed t n cs engine tells leaves tally s' summary all moved is in record {
+      session' = s';
+      performed = ended t n engine tells leaves tally s' moved;
+      written = subst (λ y. Appends out out' (summary_lines y)) e put;
+      ok = fine ∙ ap (λ y. y.refused == 0) e ∙ all-accepted moved.replies;
+    }
+
+pub Sampled-cut : (t : Tables) (n : ℕ) (s : Session) (cs : List Command) (engine : Engine) (tells leaves : Tables → Type 0) (tally : Tally) (s' : Session) (summary : Summary) (out out' : Option (List ℕ)) → s ≡ no_session → cs ≡ sample_of n → AllPerformed t s cs engine tells leaves tally s' → summary ≡ record { messages = n; commands = length cs; refused = tally.refused; documents = length engine.docs; notes = length engine.notes; delivered = tally.delivered } → FrontPut (summary_lines summary) out out' → SampledCut t n out out' (Holds tells leaves)
+Sampled-cut t n s cs engine tells leaves tally s' summary out out' new all one is cut =
+    let moved = at-start (λ x ds. AllPerformed t x ds engine tells leaves tally s') s cs n new all one in
+    let e = summed t n cs engine tells leaves tally s' summary all moved is in record {
+      session' = s';
+      performed = ended t n engine tells leaves tally s' moved;
+      cut = subst (λ y. FrontPut (summary_lines y) out out') e cut;
     }

@@ -15,4 +15,6 @@ pub use top::{PIECE, SCRIPT_LIMIT, tapestry};
 #[cfg(test)]
 mod keeper_tests;
 #[cfg(test)]
+mod sample_tests;
+#[cfg(test)]
 mod tests;
