@@ -1,8 +1,8 @@
 -- What a crash leaves after each end of a run.
-use Rattle.std.proofs.Common.{◌≡◌, ◌∙◌, sym, ap, refl, subst, arith, ℕ, suc, zero, List, [], ◌∷◌, ◌++◌, ◌+◌, length, take, Bool, true, Option, None, inl, inr, ◌≤◌, ◌<◌}
+use Rattle.std.proofs.Common.{◌≡◌, ◌∙◌, sym, ap, refl, subst, arith, ℕ, suc, zero, List, [], ◌∷◌, ◌++◌, ◌+◌, length, take, Bool, true, Option, inl, inr, ◌≤◌, ◌<◌}
 use Rattle.std.specs.Prelude.{◌⊎◌}
 use Rattle.std.specs.List.{flat_map}
-use Rattle.std.specs.Io.KnownBytes.{Consumes, Appends, IsAtEnd}
+use Rattle.std.specs.Io.KnownBytes.{Consumes, Appends}
 use Rattle.std.proofs.lemmas.List.{append-nil, length-append, take_all}
 use Rattle.std.proofs.lemmas.List.Concat.{flat_map-append}
 use Rattle.std.proofs.Math.Seq.{take-length, take-append_seam}
@@ -21,10 +21,10 @@ use Rattle.tap_model.proofs.SoundLaws.{sound-store}
 use Rattle.keeper_core.specs.Keeping.{Holds}
 use Rattle.tap_engine.specs.declared.engine.Engine.{Engine}
 use Rattle.tap_engine.specs.Standing.{StandsFor}
-use Rattle.tap_top.specs.declared.top.TheConstants.{SCRIPT_LIMIT, PIECE}
+use Rattle.tap_top.specs.declared.top.TheConstants.{SCRIPT_LIMIT}
 use Rattle.tap_top.specs.Points.{SoundAlong, IsAt}
-use Rattle.tap_top.specs.Answers.{Answered, CutOff, MayAdd, Uncommitted}
-use Rattle.tap_top.specs.Statuses.{AreFirst, IsFront, Whole, ReadCut, TooLong, Starved, CutAt, PutCut, KeeperCut, Unattached}
+use Rattle.tap_top.specs.Answers.{Answered}
+use Rattle.tap_top.specs.Statuses.{AreFirst, IsFront, Whole, ReadCut, TooLong, Starved, PutCut, KeeperCut}
 use Rattle.tap_top.specs.Crashes.{IsPrefix, LieWhole, LeavesPrefix}
 use Rattle.tap_top.proofs.Stories.{Story-then, Story-sound, Answered-none}
 use Rattle.tap_top.proofs.Runs.{Consumes-none, same-front}

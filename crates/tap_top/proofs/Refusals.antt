@@ -1,10 +1,8 @@
 -- When a store is refused, and the line that is put then.
-use Rattle.std.proofs.Common.{◌≡◌, ◌≢◌, ◌∙◌, sym, ap, refl, subst, arith, ℕ, ℤ, pos, List, [], ◌∷◌, length, take, Bool, true, false, Option, Some, None, Err, inl, inr, ◌≤◌, if◌then◌else◌}
-use Rattle.std.specs.Prelude.{◌⊎◌, ◌||◌, is_some, Result, Ok, IsOk}
-use Rattle.std.specs.Option.{option_or}
+use Rattle.std.proofs.Common.{◌≡◌, ◌≢◌, ◌∙◌, sym, ap, refl, subst, ℕ, ℤ, pos, List, [], ◌∷◌, length, Bool, true, false, Option, Some, None, Err, inl, inr, if◌then◌else◌}
+use Rattle.std.specs.Prelude.{◌⊎◌, is_some, Result, Ok, IsOk}
 use Rattle.std.specs.Io.KnownBytes.{Appends}
 use Rattle.std.proofs.Math.Seq.{take-length}
-use Rattle.keeper_core.specs.Stored.{is_known}
 use Rattle.script_lang.proofs.Puts.{Appends-none}
 use Rattle.tap_rows.specs.declared.tables.Tables.{Tables}
 use Rattle.tap_rows.specs.declared.rows.QueryRow.{QueryRow}
@@ -14,9 +12,8 @@ use Rattle.tql_core.specs.Condition.{Condition}
 use Rattle.tql_text.specs.declared.fault.TextFault.{TextFault}
 use Rattle.tql_text.specs.Texts.{condition_of}
 use Rattle.restart_core.specs.Starts.{condition_text}
-use Rattle.restart_core.specs.Damages.{is_condition, is_readable, damage_of}
+use Rattle.restart_core.specs.Damages.{is_condition, is_readable}
 use Rattle.restart_core.proofs.DamageLaws.{undamaged}
-use Rattle.tap_model.specs.Sessions.{no_session}
 use Rattle.tap_model.specs.Sound.{IsStore}
 use Rattle.tap_model.specs.Verdicts.{text_fault, filter_fault}
 use Rattle.tap_model.proofs.StoreLaws.{text-read}
@@ -26,7 +23,7 @@ use Rattle.tap_top.specs.declared.store_fault.StoreFault.{StoreFault}
 use Rattle.tap_top.specs.declared.opening.OpenFault.{OpenFault}
 use Rattle.tap_top.specs.declared.opening.OpenFault.TheVariants.{Refused as RefusedStore}
 use Rattle.tap_top.specs.Opened.{IfRefused}
-use Rattle.tap_top.specs.Refusals.{stop_line, damaged_by, unread_by, row_fault, fault_of, CutLine, Refused}
+use Rattle.tap_top.specs.Refusals.{row_fault, fault_of, CutLine, Refused}
 
 -- a known version is no fault
 pub known-fault : (v : ℤ) (t : Tables) → (v ≡ pos 1) ⊎ (v ≡ pos 2) → fault_of v t ≡ row_fault t

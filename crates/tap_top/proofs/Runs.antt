@@ -1,6 +1,6 @@
 -- A run over the pieces of a source, and each end of it.
 use Rattle.std.proofs.Common.{◌≡◌, ◌∙◌, sym, ap, refl, subst, arith, ℕ, List, [], ◌∷◌, ◌++◌, ◌+◌, ◌-◌, length, take, drop, Bool, true, inl, inr, Option, Some, None, ◌≤◌, ◌<◌}
-use Rattle.std.specs.Prelude.{◌&&◌, ◌⊎◌, min}
+use Rattle.std.specs.Prelude.{◌&&◌, min}
 use Rattle.std.specs.Io.KnownBytes.{Consumes, IsAtEnd, Keeps}
 use Rattle.std.proofs.lemmas.List.{append_assoc, append-nil, length-append, take_all}
 use Rattle.std.proofs.Math.Seq.{take-append-add}

@@ -204,27 +204,27 @@ at-start P s cs n new all holds = subst (λ ds. P no_session ds) all (subst (λ 
 abbrev pub AllPerformed : Tables → Session → List Command → Engine → (Tables → Type 0) → (Tables → Type 0) → Tally → Session → Type 0
 AllPerformed t s cs engine tells leaves tally s' = Performed t s cs (λ replies x. IsAt engine tells leaves x × Counted tally replies) s'
 
-summed : (t : Tables) (n : ℕ) (cs : List Command) (engine : Engine) (tells leaves : Tables → Type 0) (tally : Tally) (s' : Session) (summary : Summary) → cs ≡ sample_of n → (one : AllPerformed t no_session (sample_of n) engine tells leaves tally s') → summary ≡ record { messages = n; commands = length cs; refused = tally.refused; documents = length engine.docs; notes = length engine.notes; delivered = tally.delivered } → summary ≡ summary_of n one.replies one.tables'
-summed t n cs engine tells leaves tally s' summary all one is =
-    Summary-of summary n (length cs) tally.refused (length engine.docs) (length engine.notes) tally.delivered one.replies one.tables' is (ap length all) one.ends.1.refused (ap length one.ends.0.stands.docs) (ap length one.ends.0.stands.notes) one.ends.1.delivered
+summed : (t : Tables) (n : ℕ) (cs : List Command) (engine : Engine) (tells leaves : Tables → Type 0) (tally : Tally) (s' : Session) (summary : Summary) (count : ℕ) → count ≡ length cs → cs ≡ sample_of n → (one : AllPerformed t no_session (sample_of n) engine tells leaves tally s') → summary ≡ record { messages = n; commands = count; refused = tally.refused; documents = length engine.docs; notes = length engine.notes; delivered = tally.delivered } → summary ≡ summary_of n one.replies one.tables'
+summed t n cs engine tells leaves tally s' summary count long all one is =
+    Summary-of summary n count tally.refused (length engine.docs) (length engine.notes) tally.delivered one.replies one.tables' is (long ∙ ap length all) one.ends.1.refused (ap length one.ends.0.stands.docs) (ap length one.ends.0.stands.notes) one.ends.1.delivered
 
 ended : (t : Tables) (n : ℕ) (engine : Engine) (tells leaves : Tables → Type 0) (tally : Tally) (s' : Session) → AllPerformed t no_session (sample_of n) engine tells leaves tally s' → Performed t no_session (sample_of n) (λ replies x. NoneStarved replies × Holds tells leaves x) s'
 ended t n engine tells leaves tally s' one = Performed-with t no_session (sample_of n) (λ replies x. IsAt engine tells leaves x × Counted tally replies) (λ replies x. NoneStarved replies × Holds tells leaves x) s' one (one.ends.1.none, one.ends.0.holds)
 
-pub Sampled-put : (t : Tables) (n : ℕ) (s : Session) (cs : List Command) (engine : Engine) (tells leaves : Tables → Type 0) (tally : Tally) (s' : Session) (summary : Summary) (out out' : Option (List ℕ)) (ok : Bool) → s ≡ no_session → cs ≡ sample_of n → AllPerformed t s cs engine tells leaves tally s' → summary ≡ record { messages = n; commands = length cs; refused = tally.refused; documents = length engine.docs; notes = length engine.notes; delivered = tally.delivered } → Appends out out' (summary_lines summary) → ok ≡ (summary.refused == 0) → Sampled t n out out' (Holds tells leaves) ok
-Sampled-put t n s cs engine tells leaves tally s' summary out out' ok new all one is put fine =
+pub Sampled-put : (t : Tables) (n : ℕ) (s : Session) (cs : List Command) (engine : Engine) (tells leaves : Tables → Type 0) (tally : Tally) (s' : Session) (summary : Summary) (count : ℕ) (out out' : Option (List ℕ)) (ok : Bool) → count ≡ length cs → s ≡ no_session → cs ≡ sample_of n → AllPerformed t s cs engine tells leaves tally s' → summary ≡ record { messages = n; commands = count; refused = tally.refused; documents = length engine.docs; notes = length engine.notes; delivered = tally.delivered } → Appends out out' (summary_lines summary) → ok ≡ (summary.refused == 0) → Sampled t n out out' (Holds tells leaves) ok
+Sampled-put t n s cs engine tells leaves tally s' summary count out out' ok long new all one is put fine =
     let moved = at-start (λ x ds. AllPerformed t x ds engine tells leaves tally s') s cs n new all one in
-    let e = summed t n cs engine tells leaves tally s' summary all moved is in record {
+    let e = summed t n cs engine tells leaves tally s' summary count long all moved is in record {
       session' = s';
       performed = ended t n engine tells leaves tally s' moved;
       written = subst (λ y. Appends out out' (summary_lines y)) e put;
       ok = fine ∙ ap (λ y. y.refused == 0) e ∙ all-accepted moved.replies;
     }
 
-pub Sampled-cut : (t : Tables) (n : ℕ) (s : Session) (cs : List Command) (engine : Engine) (tells leaves : Tables → Type 0) (tally : Tally) (s' : Session) (summary : Summary) (out out' : Option (List ℕ)) → s ≡ no_session → cs ≡ sample_of n → AllPerformed t s cs engine tells leaves tally s' → summary ≡ record { messages = n; commands = length cs; refused = tally.refused; documents = length engine.docs; notes = length engine.notes; delivered = tally.delivered } → FrontPut (summary_lines summary) out out' → SampledCut t n out out' (Holds tells leaves)
-Sampled-cut t n s cs engine tells leaves tally s' summary out out' new all one is cut =
+pub Sampled-cut : (t : Tables) (n : ℕ) (s : Session) (cs : List Command) (engine : Engine) (tells leaves : Tables → Type 0) (tally : Tally) (s' : Session) (summary : Summary) (count : ℕ) (out out' : Option (List ℕ)) → count ≡ length cs → s ≡ no_session → cs ≡ sample_of n → AllPerformed t s cs engine tells leaves tally s' → summary ≡ record { messages = n; commands = count; refused = tally.refused; documents = length engine.docs; notes = length engine.notes; delivered = tally.delivered } → FrontPut (summary_lines summary) out out' → SampledCut t n out out' (Holds tells leaves)
+Sampled-cut t n s cs engine tells leaves tally s' summary count out out' long new all one is cut =
     let moved = at-start (λ x ds. AllPerformed t x ds engine tells leaves tally s') s cs n new all one in
-    let e = summed t n cs engine tells leaves tally s' summary all moved is in record {
+    let e = summed t n cs engine tells leaves tally s' summary count long all moved is in record {
       session' = s';
       performed = ended t n engine tells leaves tally s' moved;
       cut = subst (λ y. FrontPut (summary_lines y) out out') e cut;

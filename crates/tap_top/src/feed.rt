@@ -1,4 +1,4 @@
-ghost use Rattle.std.specs.Prelude.{◌≡◌, ◌≤◌, ◌<◌, ◌+◌, ◌++◌, ◌↔◌, List, [], ◌∷◌, Option, Some, None, true, length, take, drop, OnOk, OnErr, IfOk, IfErr, IsErrOf};
+ghost use Rattle.std.specs.Prelude.{◌≡◌, ◌≤◌, ◌<◌, ◌↔◌, [], ◌∷◌, Some, None, true, length, take, drop, OnOk, IfOk, IsErrOf};
 ghost use Rattle.keeper_core.specs.Keeping.{Holds};
 ghost use Rattle.tap_edges.specs.Edges.{Rose};
 ghost use Rattle.tap_rows.specs.declared.tables.Tables.{Tables};

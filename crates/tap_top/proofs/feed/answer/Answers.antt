@@ -4,9 +4,6 @@ use Rattle.tap_top.specs.Points.{IsAt}
 use Rattle.tap_top.proofs.Stories.{Answered-one, CutOff-one, Uncommitted-one}
 use Rattle.tap_top.proofs.feed.answer.Goals as goal
 
-pub perform-requires-clause-impossible : goal.perform-requires-clause-impossible
-perform-requires-clause-impossible g c = ?
-
 pub returns-in-Err-KeeperFailed-clause-uncommitted : goal.returns-in-Err-KeeperFailed-clause-uncommitted
 returns-in-Err-KeeperFailed-clause-uncommitted g c = λ _ t honest at.
     let crash = c.in-Err-KeeperFailed.ensures.crash t at.stands at.sound honest at.holds in

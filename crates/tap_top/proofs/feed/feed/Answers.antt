@@ -1,7 +1,7 @@
 use Rattle.std.proofs.Common.{arith, Err, ap, sym, subst}
 use Rattle.keeper_core.specs.Keeping.{Holds}
 use Rattle.tap_top.specs.Points.{IsAt}
-use Rattle.tap_top.proofs.Steps.{Feeding-start, Feeding-more, Feeding-end, Feeding-cut, Feeding-uncommitted, Feeding-short, GoesOn-start, GoesOn-then}
+use Rattle.tap_top.proofs.Steps.{Feeding-start, Feeding-more, Feeding-cut, Feeding-uncommitted, Feeding-short, GoesOn-start, GoesOn-then}
 use Rattle.tap_top.proofs.feed.feed.Goals as goal
 
 pub loop-rest-init : goal.loop-rest-init

@@ -1,4 +1,4 @@
-use Rattle.std.proofs.Common.{◌∙◌, sym, subst}
+use Rattle.std.proofs.Common.{◌∙◌, subst}
 use Rattle.std.specs.Io.KnownBytes.{Appends}
 use Rattle.tap_top.specs.Refusals.{stop_line}
 use Rattle.tap_top.proofs.Refusals.{CutLine-whole}

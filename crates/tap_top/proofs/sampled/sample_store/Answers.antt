@@ -27,9 +27,6 @@ returns-in-Err-Refused-clause-known g c = λ t honest holds store v version know
 pub returns-in-Err-Keeper-clause-crash : goal.returns-in-Err-Keeper-clause-crash
 returns-in-Err-Keeper-clause-crash g c = λ t honest holds store. alone-leaves t (sample_of c.args.n) _ (c.in-Err-Keeper.ensures.crash honest t holds.told)
 
-pub returns-in-Err-Keeper-clause-keeper : goal.returns-in-Err-Keeper-clause-keeper
-returns-in-Err-Keeper-clause-keeper g c = λ _ t honest holds store. inl (c.in-Err-Keeper.ensures.crash honest t holds.told)
-
 pub returns-in-Err-Keeper-clause-refused : goal.returns-in-Err-Keeper-clause-refused
 returns-in-Err-Keeper-clause-refused g c = λ t honest holds v version fault is left. Refused-none 5 fault left left _ _ _ _ t (inr (inr (inl refl))) (λ e. cc) refl refl (λ no. absurd (no refl)) (c.in-Err-Keeper.ensures.crash honest t holds.told)
 

@@ -1,7 +1,7 @@
-use Rattle.std.proofs.Common.{refl, sym, subst, inl, inr, take}
+use Rattle.std.proofs.Common.{refl, sym, subst, inl, inr}
 use Rattle.std.specs.Prelude.{◌==◌}
 use Rattle.tap_model.specs.Sound.{IsStore}
-use Rattle.tap_top.specs.Refusals.{stop_line, fault_of}
+use Rattle.tap_top.specs.Refusals.{fault_of}
 use Rattle.tap_top.proofs.Refusals.{fine-store, some-or-none, Refused-none, refused-for, not-stopped}
 use Rattle.tap_top.proofs.Crashes.{nothing-leaves, none-leaves, run-leaves, leaves-stores, opened-at, Starved-none}
 use Rattle.tap_top.proofs.top.run_store.Goals as goal

@@ -1,9 +1,0 @@
-use Rattle.tap_top.proofs.keeper_tests.a_crash_leaves_a_run_or_none_of_it.Given as goal
-
--- the counter is that of the blank
-abbrev pub ghosts-first_left : goal.ghosts-first_left
-ghosts-first_left g a = record { name = a.blank.name; parts = a.blank.parts }
-
--- the counter is that of the blank
-abbrev pub ghosts-over : goal.ghosts-over
-ghosts-over g a = record { name = a.blank.name; parts = a.blank.parts }
