@@ -212,6 +212,7 @@ ended : (t : Tables) (n : ℕ) (engine : Engine) (tells leaves : Tables → Type
 ended t n engine tells leaves tally s' one = Performed-with t no_session (sample_of n) (λ replies x. IsAt engine tells leaves x × Counted tally replies) (λ replies x. NoneStarved replies × Holds tells leaves x) s' one (one.ends.1.none, one.ends.0.holds)
 
 pub Sampled-put : (t : Tables) (n : ℕ) (s : Session) (cs : List Command) (engine : Engine) (tells leaves : Tables → Type 0) (tally : Tally) (s' : Session) (summary : Summary) (count : ℕ) (out out' : Option (List ℕ)) (ok : Bool) → count ≡ length cs → s ≡ no_session → cs ≡ sample_of n → AllPerformed t s cs engine tells leaves tally s' → summary ≡ record { messages = n; commands = count; refused = tally.refused; documents = length engine.docs; notes = length engine.notes; delivered = tally.delivered } → Appends out out' (summary_lines summary) → ok ≡ (summary.refused == 0) → Sampled t n out out' (Holds tells leaves) ok
+unfolding ended at-start Performed-with
 Sampled-put t n s cs engine tells leaves tally s' summary count out out' ok long new all one is put fine =
     let moved = at-start (λ x ds. AllPerformed t x ds engine tells leaves tally s') s cs n new all one in
     let e = summed t n cs engine tells leaves tally s' summary count long all moved is in record {
@@ -222,6 +223,7 @@ Sampled-put t n s cs engine tells leaves tally s' summary count out out' ok long
     }
 
 pub Sampled-cut : (t : Tables) (n : ℕ) (s : Session) (cs : List Command) (engine : Engine) (tells leaves : Tables → Type 0) (tally : Tally) (s' : Session) (summary : Summary) (count : ℕ) (out out' : Option (List ℕ)) → count ≡ length cs → s ≡ no_session → cs ≡ sample_of n → AllPerformed t s cs engine tells leaves tally s' → summary ≡ record { messages = n; commands = count; refused = tally.refused; documents = length engine.docs; notes = length engine.notes; delivered = tally.delivered } → FrontPut (summary_lines summary) out out' → SampledCut t n out out' (Holds tells leaves)
+unfolding ended at-start Performed-with
 Sampled-cut t n s cs engine tells leaves tally s' summary count out out' long new all one is cut =
     let moved = at-start (λ x ds. AllPerformed t x ds engine tells leaves tally s') s cs n new all one in
     let e = summed t n cs engine tells leaves tally s' summary count long all moved is in record {

@@ -58,7 +58,7 @@ returns-in-Err-Memory-clause-refused g c = λ t honest holds v version fault is.
 pub returns-in-Some-clause-sample_put : goal.returns-in-Some-clause-sample_put
 returns-in-Some-clause-sample_put g c = λ n asked is t honest holds store v version known.
     let same : c.in-Some.n ≡ n = same-number (sample_in c.args.words.now) c.in-Some.n n (sym c.in-Ok.ensures.sample ∙ c.in-Some.is) asked in
-    subst (λ m. SampledCut t m _ _ (Holds (g.P.Keeper.tells c.sample_store.new.keeper) (g.P.Keeper.may_leave c.sample_store.new.keeper))) same (c.sample_store.ensures.cut is t honest holds store v version known)
+    subst (λ m. SampledCut t m (g.K.Sink.out c.args.sink.now) (g.K.Sink.out c.sample_store.new.sink) (Holds (g.P.Keeper.tells c.sample_store.new.keeper) (g.P.Keeper.may_leave c.sample_store.new.keeper))) same (c.sample_store.ensures.cut is t honest holds store v version known)
 
 pub returns-in-Some-clause-kept : goal.returns-in-Some-clause-kept
 returns-in-Some-clause-kept g c = λ t honest holds store x may. first-stores t (sample_of c.in-Some.n) _ store (c.sample_store.ensures.crash t honest holds store) x may
