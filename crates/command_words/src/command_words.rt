@@ -23,7 +23,8 @@ pub struct CommandWords {
 
 // The text of a place, or that of a store in memory.
 fn place_text(alloc: Global, place: Option<&str>) -> Result<Text, Memory>
-    ensures { IfOk result (λ text. text ≡ unwrap_or (option_copied place.entry) default_place) }
+    ensures value { IfOk result (λ text. text ≡ unwrap_or (option_copied place.entry) default_place) }
+    ensures text { IfOk result (λ text. IsUtf8 text) }
 {
     let place = place.unwrap_or(":memory:");
     Text::from_slice(alloc, place.as_bytes())
@@ -45,6 +46,7 @@ fn sample_number(text: Option<&str>) -> Option<u32>
 pub fn read_words(alloc: Global, words: &Texts) -> Result<CommandWords, WordFault>
     requires { All IsUtf8 words.now }
     ensures place { IfOk result (λ asked. asked.place ≡ place_in words.now) }
+    ensures text { IfOk result (λ asked. IsUtf8 asked.place) }
     ensures sample { IfOk result (λ asked. asked.sample ≡ sample_in words.now) }
     ensures within { IfOk result (λ asked. IfSome asked.sample (λ n. (1 ≤ n) × (n ≤ 100000))) }
     ensures accepted { OnOk result (fault_of app words.now ≡ []) }

@@ -30,14 +30,14 @@ use Rattle.tap_top.proofs.Stories.{Story-then, Story-sound, Answered-none}
 use Rattle.tap_top.proofs.Runs.{Consumes-none, same-front}
 
 -- as many replies as commands
-story-lengths : (t : Tables) (s : Session) (cs : List Command) (rs : List Reply) (t' : Tables) (s' : Session) → Story t s cs rs t' s' → length rs ≡ length cs
+pub story-lengths : (t : Tables) (s : Session) (cs : List Command) (rs : List Reply) (t' : Tables) (s' : Session) → Story t s cs rs t' s' → length rs ≡ length cs
 story-lengths t s [] [] t' s' story = refl
 story-lengths t s (c ∷ cs) (r ∷ rs) t' s' story = ap suc (story-lengths story.0 story.1 cs rs t' s' story.3)
 story-lengths t s [] (r ∷ rs) t' s' story = absurd story
 story-lengths t s (c ∷ cs) [] t' s' story = absurd story
 
 -- the end of a story is a prefix
-whole-prefix : (t : Tables) (cs : List Command) (rs : List Reply) (t' : Tables) (s' : Session) (n : ℕ) (x : Tables) → Story t no_session cs rs t' s' → n ≤ length rs → x ≡ t' → IsPrefix t cs rs n x
+pub whole-prefix : (t : Tables) (cs : List Command) (rs : List Reply) (t' : Tables) (s' : Session) (n : ℕ) (x : Tables) → Story t no_session cs rs t' s' → n ≤ length rs → x ≡ t' → IsPrefix t cs rs n x
 whole-prefix t cs rs t' s' n x story few is =
     let same = story-lengths t no_session cs rs t' s' story in record {
       k = length cs;
@@ -124,7 +124,7 @@ not-whole rs r n few lie = elim (le-or n (length rs)) [
       let a = ap length e in let b = length-append (xs ++ (ys ++ [])) zs in let c = length-append xs (ys ++ []) in let d = length-append ys [] in omega arith
 
 -- the first commands of a story that goes on
-front-prefix : (t : Tables) (cs : List Command) (c : Command) (rs : List Reply) (r : Reply) (t' : Tables) (s' : Session) (n : ℕ) (x : Tables) → Story t no_session cs rs t' s' → n ≤ length rs → x ≡ t' → IsPrefix t (cs ++ c ∷ []) (rs ++ r ∷ []) n x
+pub front-prefix : (t : Tables) (cs : List Command) (c : Command) (rs : List Reply) (r : Reply) (t' : Tables) (s' : Session) (n : ℕ) (x : Tables) → Story t no_session cs rs t' s' → n ≤ length rs → x ≡ t' → IsPrefix t (cs ++ c ∷ []) (rs ++ r ∷ []) n x
 front-prefix t cs c rs r t' s' n x story few is =
     let same = story-lengths t no_session cs rs t' s' story in record {
       k = length cs;
@@ -176,7 +176,7 @@ last-sound t s [] (r ∷ rs) t' s' story along = absurd story
 last-sound t s (c ∷ cs) [] t' s' story along = absurd story
 
 -- a story that begins with a store leads to one
-story-store : (t : Tables) (cs : List Command) (rs : List Reply) (t' : Tables) (s' : Session) → Story t no_session cs rs t' s' → IsStore t → IsStore t'
+pub story-store : (t : Tables) (cs : List Command) (rs : List Reply) (t' : Tables) (s' : Session) → Story t no_session cs rs t' s' → IsStore t → IsStore t'
 story-store t cs rs t' s' story store =
     let sound = last-sound t no_session cs rs t' s' story (Story-sound t no_session cs rs t' s' story store) in sound-store t' s' sound
 

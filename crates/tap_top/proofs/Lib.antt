@@ -3,3 +3,5 @@ mod Steps
 mod Runs
 mod Refusals
 mod Crashes
+mod Samples
+mod SampleCrashes

@@ -5,3 +5,4 @@ pub mod Statuses
 pub mod Refusals
 pub mod Opened
 pub mod Crashes
+pub mod Samples

@@ -3,7 +3,10 @@
 
 mod feed;
 mod opening;
+mod refusing;
+mod sampled;
 mod store_fault;
+mod tally;
 mod top;
 
 pub use store_fault::StoreFault;
@@ -11,5 +14,7 @@ pub use top::{PIECE, SCRIPT_LIMIT, tapestry};
 
 #[cfg(test)]
 mod keeper_tests;
+#[cfg(test)]
+mod sample_tests;
 #[cfg(test)]
 mod tests;

@@ -1,4 +1,4 @@
-ghost use Rattle.std.specs.Prelude.{◌≡◌, ◌⊎◌, ◌↔◌, ◌≤◌, ℤ, true, false, codes, Some, None, IfOk, OnOk, IsErrOf};
+ghost use Rattle.std.specs.Prelude.{◌≡◌, ◌⊎◌, ◌↔◌, ◌≤◌, ℤ, true, false, Some, None, IfOk, OnOk, IsErrOf};
 ghost use Rattle.keeper_core.specs.Keeping.{Rose, Holds};
 ghost use Rattle.tap_rows.specs.declared.tables.Tables.{Tables as TableRows};
 ghost use Rattle.tap_model.specs.Sessions.{no_session};
@@ -50,8 +50,8 @@ fn start(alloc: Global, tables: Tables) -> Result<Engine, OpenFault>
     }
 }
 
-/// Attaches the store in memory, checks its tables, and starts an engine over them.
-pub fn open_store<P: Keeper>(alloc: Global, keeper: &mut P) -> Result<Engine, OpenFault>
+/// Attaches the store at a place, checks its tables, and starts an engine over them.
+pub fn open_store<P: Keeper>(alloc: Global, place: &str, keeper: &mut P) -> Result<Engine, OpenFault>
     requires free { P.attached keeper.old ≡ false }
     requires running { P.stopped keeper.old ≡ false }
     ensures can { IfOk result (λ engine. CanPerform engine (P.attached keeper.new) (P.stopped keeper.new)) }
@@ -63,11 +63,11 @@ pub fn open_store<P: Keeper>(alloc: Global, keeper: &mut P) -> Result<Engine, Op
     ensures refused { IfRefused result (λ fault. P.honest keeper.new → (t : TableRows) → P.tells keeper.old t → (v : ℤ) → P.has_version keeper.old v → fault_of v t ≡ Some fault) }
     ensures stopped { (P.stopped keeper.new ≡ true) ↔ IsErrOf result OpenFault.Keeper }
     ensures cause { IsErrOf result OpenFault.Keeper → Rose (P.faults keeper.old) (P.faults keeper.new) }
-    ensures placed { (P.place keeper.new ≡ codes ":memory:") ⊎ IsErrOf result OpenFault.Memory }
+    ensures placed { (P.place keeper.new ≡ place.now) ⊎ IsErrOf result OpenFault.Memory }
     ensures later { P.faults keeper.old ≤ P.faults keeper.new }
     ensures honest { P.honest keeper.new → P.honest keeper.old }
 {
-    match keeper.attach(alloc, ":memory:") {
+    match keeper.attach(alloc, place) {
         Ok(tables) => start(alloc, tables),
         Err(AttachFault::Alien { version }) => {
             Err(OpenFault::Refused(StoreFault::Version { version }))

@@ -1,4 +1,11 @@
-ghost use Rattle.std.specs.Prelude.{◌≡◌, ◌≢◌, ◌≤◌, ◌<◌, ◌+◌, ◌⊎◌, ◌&&◌, ◌↔◌, ◌==◌, ℤ, pos, [], Some, None, true, false, codes, length, min};
+ghost use Rattle.std.specs.Prelude.{◌≡◌, ◌≢◌, ◌≤◌, ◌⊎◌, ◌&&◌, ◌↔◌, ◌==◌, ℕ, ℤ, pos, List, [], Option, Some, None, true, false, length, min};
+ghost use Rattle.std.specs.List.{All};
+ghost use Rattle.std.specs.Str.{IsUtf8};
+ghost use Rattle.clap.specs.Words.{takes, fault_of as faults_of};
+ghost use Rattle.sample_gen.specs.Samples.{sample_of};
+ghost use Rattle.command_words.specs.Options.{app};
+ghost use Rattle.command_words.specs.Words.{place_in, sample_in};
+ghost use Rattle.command_words.specs.WellWorded.{IsWellWorded, place_of};
 ghost use Rattle.keeper_core.specs.Keeping.{Holds};
 ghost use Rattle.tap_edges.specs.Edges.{Rose};
 ghost use Rattle.tap_rows.specs.declared.tables.Tables.{Tables};
@@ -9,17 +16,21 @@ ghost use Rattle.tap_top.specs.declared.store_fault.StoreFault.{StoreFault as St
 ghost use Rattle.tap_top.specs.Points.{CanPerform, IsAt, GoesOn};
 ghost use Rattle.tap_top.specs.Answers.{CutOff, Uncommitted, Closed, ClosedCut};
 ghost use Rattle.tap_top.specs.Statuses.{Whole, ReadCut, TookMany, TooLong, Starved, PutCut, KeeperCut, Unattached, HoldsScript};
-ghost use Rattle.tap_top.specs.Refusals.{stop_line, fault_of, Refused, CutLine};
+ghost use Rattle.tap_top.specs.Refusals.{fault_of, Refused};
 ghost use Rattle.tap_top.specs.Crashes.{LeavesPrefix};
+ghost use Rattle.tap_top.specs.Samples.{Sampled, SampledCut, NextUncommitted, FirstPerformed, LeavesFirst, LeavesAlone};
 
 use crate::StoreFault;
 use crate::feed::{Stop, feed, finish};
 use crate::opening::{OpenFault, open_store};
+use crate::refusing::refuse;
+use crate::sampled::sample_store;
+use command_words::{WordFault, read_words};
 use keeper_core::Keeper;
 use script_lang::ScriptReader;
 use std::alloc::Global;
 use std::sync::ledger::Ledger;
-use tap_base::{Steps, Texts};
+use tap_base::{Steps, Text, Texts};
 use tap_edges::{Sink, Source};
 use tap_engine::Engine;
 
@@ -131,28 +142,10 @@ fn run<S: Source, K: Sink, P: Keeper, L: Ledger>(
     8
 }
 
-// Puts the line of a refused store; the status.
-fn refuse<K: Sink>(fault: StoreFault, sink: &mut K) -> u8
-    ensures statuses { result ≡ 6 ⊎ result ≡ 4 }
-    ensures line { CutLine result (stop_line fault) (K.out sink.old) (K.out sink.new) }
-    ensures cause { result ≡ 4 → Rose (K.faults sink.old) (K.faults sink.new) }
-{
-    match sink.put(fault.line().as_slice()) {
-        Ok(()) => 6,
-        Err(_) => 4,
-    }
-}
-
-/// The whole run: attaches the keeper at `:memory:`, checks the tables that it has, then reads the source in pieces of at
-/// most 65,536 bytes, performs each command when it is complete, and puts its reply before the next.
-///
-/// The status is 0 where every reply begins `ok`, 1 where another was put, 2 where there is a word (nothing is attached,
-/// read or written then), 3 for a failed read, 4 for a failed put, 5 where the keeper failed (its command has no reply), 6
-/// for a store that is refused (one line says why, and nothing is read), 7 for want of memory and 8 for a script of more
-/// than 268,435,456 bytes.
-pub fn tapestry<S: Source, K: Sink, P: Keeper, L: Ledger>(
+// Attaches the keeper, checks the tables that it has, and performs the commands of the source; the status of the run.
+fn run_store<S: Source, K: Sink, P: Keeper, L: Ledger>(
     alloc: Global,
-    words: &Texts,
+    place: &str,
     source: &mut S,
     sink: &mut K,
     keeper: &mut P,
@@ -179,24 +172,104 @@ pub fn tapestry<S: Source, K: Sink, P: Keeper, L: Ledger>(
     ensures known { (t : Tables) → P.honest keeper.new → Holds (P.tells keeper.old) (P.may_leave keeper.old) t → IsStore t → (v : ℤ) → P.has_version keeper.old v → (v ≡ pos 1) ⊎ (v ≡ pos 2) → result ≢ 6 }
 
     // When each status comes.
-    ensures words { (result ≡ 2) ↔ (0 < length words.now) }
-    ensures nothing { result ≡ 2 → (keeper.new ≡ keeper.old) × ((K.out sink.new ≡ K.out sink.old) × (S.left source.new ≡ S.left source.old)) }
     ensures read_cause { result ≡ 3 → Rose (S.faults source.old) (S.faults source.new) }
     ensures put_cause { result ≡ 4 → Rose (K.faults sink.old) (K.faults sink.new) }
     ensures stopped { (P.stopped keeper.new ≡ true) ↔ (result ≡ 5) }
     ensures keeper_cause { result ≡ 5 → Rose (P.faults keeper.old) (P.faults keeper.new) }
     ensures many { result ≡ 8 → TookMany (S.left source.old) (S.left source.new) }
-    ensures complete { length words.now ≡ 0 → HoldsScript (S.left source.old) → (Rose (S.faults source.old) (S.faults source.new) → ⊥) → (Rose (K.faults sink.old) (K.faults sink.new) → ⊥) → (Rose (P.faults keeper.old) (P.faults keeper.new) → ⊥) → (result ≤ 1) ⊎ ((result ≡ 6) ⊎ (result ≡ 7)) }
-    ensures statuses { result ≤ 8 }
-    ensures place { (result ≡ 2) ⊎ ((result ≡ 7) ⊎ (P.place keeper.new ≡ codes ":memory:")) }
+    ensures complete { HoldsScript (S.left source.old) → (Rose (S.faults source.old) (S.faults source.new) → ⊥) → (Rose (K.faults sink.old) (K.faults sink.new) → ⊥) → (Rose (P.faults keeper.old) (P.faults keeper.new) → ⊥) → (result ≤ 1) ⊎ ((result ≡ 6) ⊎ (result ≡ 7)) }
+    ensures statuses { (result ≤ 8) × (result ≢ 2) }
+    ensures place { (result ≡ 7) ⊎ (P.place keeper.new ≡ place.now) }
 {
-    if words.len() > 0 {
-        return 2;
-    }
-    match open_store(alloc, keeper) {
+    match open_store(alloc, place, keeper) {
         Ok(mut engine) => run(alloc, source, sink, &mut engine, keeper, steps),
         Err(OpenFault::Refused(fault)) => refuse(fault, sink),
         Err(OpenFault::Keeper) => 5,
         Err(OpenFault::Memory) => 7,
+    }
+}
+
+// A text that is UTF-8.
+fn as_str(text: &Text) -> &str
+    requires { IsUtf8 text.now }
+    ensures { result.now ≡ text.now }
+{
+    std::str::from_utf8(text.as_slice()).unwrap_or("")
+}
+
+/// The whole run: reads the words, attaches the keeper at their place, checks the tables that it has, then reads the source
+/// in pieces of at most 65,536 bytes, performs each command when it is complete, and puts its reply before the next. Where
+/// the words ask for a sample, its commands take the place of the source's, no reply is put, and the lines of its summary
+/// are put at the end.
+///
+/// The status is 0 where every reply begins `ok`, 1 where another was given, 2 where the words are refused (nothing is
+/// attached, read or written then), 3 for a failed read, 4 for a failed put, 5 where the keeper failed (its command has no
+/// reply), 6 for a store that is refused (one line says why, and nothing is read), 7 for want of memory, with a sample also
+/// in performing a command, and 8 for a script of more than 268,435,456 bytes.
+pub fn tapestry<S: Source, K: Sink, P: Keeper, L: Ledger>(
+    alloc: Global,
+    words: &Texts,
+    source: &mut S,
+    sink: &mut K,
+    keeper: &mut P,
+    steps: &mut Steps<L>,
+) -> u8
+    requires free { P.attached keeper.old ≡ false }
+    requires running { P.stopped keeper.old ≡ false }
+    requires texts { All IsUtf8 words.now }
+
+    // The words.
+    ensures words { result ≡ 2 → takes app words.now ≡ false }
+    ensures worded { (path : Option (List ℕ)) (number : Option ℕ) → IsWellWorded words.now path number → result ≢ 2 }
+    ensures faulty { (result ≡ 2) ⊎ ((result ≡ 7) ⊎ (faults_of app words.now ≡ [])) }
+    ensures nothing { result ≡ 2 → (keeper.new ≡ keeper.old) × ((K.out sink.new ≡ K.out sink.old) × (S.left source.new ≡ S.left source.old)) }
+    ensures place { (result ≡ 2) ⊎ ((result ≡ 7) ⊎ (P.place keeper.new ≡ place_in words.now)) }
+    ensures named { (path : Option (List ℕ)) (number : Option ℕ) → IsWellWorded words.now path number → (place_in words.now ≡ place_of path) × (sample_in words.now ≡ number) }
+
+    // The statuses of a script, over a store that a session left.
+    ensures whole { sample_in words.now ≡ None → result ≤ 1 → (t : Tables) → P.honest keeper.new → Holds (P.tells keeper.old) (P.may_leave keeper.old) t → IsStore t → Whole t (S.left source.old) (S.left source.new) (K.out sink.old) (K.out sink.new) (Holds (P.tells keeper.new) (P.may_leave keeper.new)) (result == 0) }
+    ensures read { sample_in words.now ≡ None → result ≡ 3 → (t : Tables) → P.honest keeper.new → Holds (P.tells keeper.old) (P.may_leave keeper.old) t → IsStore t → ReadCut t (S.left source.old) (S.left source.new) (K.out sink.old) (K.out sink.new) (Holds (P.tells keeper.new) (P.may_leave keeper.new)) }
+    ensures put { sample_in words.now ≡ None → result ≡ 4 → (t : Tables) → P.honest keeper.new → Holds (P.tells keeper.old) (P.may_leave keeper.old) t → IsStore t → (v : ℤ) → P.has_version keeper.old v → (v ≡ pos 1) ⊎ (v ≡ pos 2) → PutCut t (S.left source.old) (S.left source.new) (K.out sink.old) (K.out sink.new) (Holds (P.tells keeper.new) (P.may_leave keeper.new)) }
+    ensures keeper { sample_in words.now ≡ None → result ≡ 5 → (t : Tables) → P.honest keeper.new → Holds (P.tells keeper.old) (P.may_leave keeper.old) t → IsStore t → Unattached t (S.left source.old) (S.left source.new) (K.out sink.old) (K.out sink.new) (P.may_leave keeper.new) ⊎ KeeperCut t (S.left source.old) (S.left source.new) (K.out sink.old) (K.out sink.new) (P.may_leave keeper.new) }
+    ensures memory { sample_in words.now ≡ None → result ≡ 7 → (t : Tables) → P.honest keeper.new → Holds (P.tells keeper.old) (P.may_leave keeper.old) t → IsStore t → Starved t (S.left source.old) (S.left source.new) (K.out sink.old) (K.out sink.new) (Holds (P.tells keeper.new) (P.may_leave keeper.new)) }
+    ensures long { sample_in words.now ≡ None → result ≡ 8 → (t : Tables) → P.honest keeper.new → Holds (P.tells keeper.old) (P.may_leave keeper.old) t → IsStore t → TooLong t (S.left source.old) (S.left source.new) (K.out sink.old) (K.out sink.new) (Holds (P.tells keeper.new) (P.may_leave keeper.new)) }
+
+    // The statuses of a sample, over such a store: nothing is read.
+    ensures sampled { (n : ℕ) → sample_in words.now ≡ Some n → result ≤ 1 → (t : Tables) → P.honest keeper.new → Holds (P.tells keeper.old) (P.may_leave keeper.old) t → IsStore t → Sampled t n (K.out sink.old) (K.out sink.new) (Holds (P.tells keeper.new) (P.may_leave keeper.new)) (result == 0) }
+    ensures sample_put { (n : ℕ) → sample_in words.now ≡ Some n → result ≡ 4 → (t : Tables) → P.honest keeper.new → Holds (P.tells keeper.old) (P.may_leave keeper.old) t → IsStore t → (v : ℤ) → P.has_version keeper.old v → (v ≡ pos 1) ⊎ (v ≡ pos 2) → SampledCut t n (K.out sink.old) (K.out sink.new) (Holds (P.tells keeper.new) (P.may_leave keeper.new)) }
+    ensures sample_keeper { (n : ℕ) → sample_in words.now ≡ Some n → result ≡ 5 → (t : Tables) → P.honest keeper.new → Holds (P.tells keeper.old) (P.may_leave keeper.old) t → IsStore t → LeavesAlone t (P.may_leave keeper.new) ⊎ NextUncommitted t no_session (sample_of n) (P.may_leave keeper.new) }
+    ensures sample_memory { (n : ℕ) → sample_in words.now ≡ Some n → result ≡ 7 → (t : Tables) → P.honest keeper.new → Holds (P.tells keeper.old) (P.may_leave keeper.old) t → IsStore t → FirstPerformed t no_session (sample_of n) (Holds (P.tells keeper.new) (P.may_leave keeper.new)) }
+    ensures sample_silent { (n : ℕ) → sample_in words.now ≡ Some n → (result ≡ 5) ⊎ (result ≡ 7) → K.out sink.new ≡ K.out sink.old }
+    ensures sample_crash { (n : ℕ) → sample_in words.now ≡ Some n → (t : Tables) → P.honest keeper.new → Holds (P.tells keeper.old) (P.may_leave keeper.old) t → IsStore t → LeavesFirst t (sample_of n) (P.may_leave keeper.new) }
+    ensures sample_unread { (n : ℕ) → sample_in words.now ≡ Some n → (S.left source.new ≡ S.left source.old) × ((result ≢ 3) × (result ≢ 8)) }
+
+    // What a crash leaves of a script, at every exit: the tables after some first commands, all acknowledged ones among them.
+    ensures crash { sample_in words.now ≡ None → (t : Tables) → P.honest keeper.new → Holds (P.tells keeper.old) (P.may_leave keeper.old) t → IsStore t → LeavesPrefix t (S.left source.old) (S.left source.new) (K.out sink.old) (K.out sink.new) (P.may_leave keeper.new) }
+    ensures kept { (t : Tables) → P.honest keeper.new → Holds (P.tells keeper.old) (P.may_leave keeper.old) t → IsStore t → (x : Tables) → P.may_leave keeper.new x → IsStore x }
+
+    // A store is refused exactly for its version or its rows.
+    ensures refused { (t : Tables) → P.honest keeper.new → Holds (P.tells keeper.old) (P.may_leave keeper.old) t → (v : ℤ) → P.has_version keeper.old v → (fault : StoreFaultOf) → fault_of v t ≡ Some fault → Refused result fault (S.left source.old) (S.left source.new) (K.out sink.old) (K.out sink.new) (P.tells keeper.new) (P.may_leave keeper.new) t }
+    ensures fine { (t : Tables) → P.honest keeper.new → Holds (P.tells keeper.old) (P.may_leave keeper.old) t → (v : ℤ) → P.has_version keeper.old v → fault_of v t ≡ None → result ≢ 6 }
+    ensures known { (t : Tables) → P.honest keeper.new → Holds (P.tells keeper.old) (P.may_leave keeper.old) t → IsStore t → (v : ℤ) → P.has_version keeper.old v → (v ≡ pos 1) ⊎ (v ≡ pos 2) → result ≢ 6 }
+
+    // When each status comes.
+    ensures read_cause { result ≡ 3 → Rose (S.faults source.old) (S.faults source.new) }
+    ensures put_cause { result ≡ 4 → Rose (K.faults sink.old) (K.faults sink.new) }
+    ensures stopped { (P.stopped keeper.new ≡ true) ↔ (result ≡ 5) }
+    ensures keeper_cause { result ≡ 5 → Rose (P.faults keeper.old) (P.faults keeper.new) }
+    ensures many { result ≡ 8 → TookMany (S.left source.old) (S.left source.new) }
+    ensures complete { (path : Option (List ℕ)) → IsWellWorded words.now path None → HoldsScript (S.left source.old) → (Rose (S.faults source.old) (S.faults source.new) → ⊥) → (Rose (K.faults sink.old) (K.faults sink.new) → ⊥) → (Rose (P.faults keeper.old) (P.faults keeper.new) → ⊥) → (result ≤ 1) ⊎ ((result ≡ 6) ⊎ (result ≡ 7)) }
+    ensures sample_complete { (path : Option (List ℕ)) (n : ℕ) → IsWellWorded words.now path (Some n) → (Rose (K.faults sink.old) (K.faults sink.new) → ⊥) → (Rose (P.faults keeper.old) (P.faults keeper.new) → ⊥) → (result ≤ 1) ⊎ ((result ≡ 6) ⊎ (result ≡ 7)) }
+    ensures statuses { result ≤ 8 }
+{
+    let asked = match read_words(alloc, words) {
+        Ok(asked) => asked,
+        Err(WordFault::Refused) => return 2,
+        Err(WordFault::Memory) => return 7,
+    };
+    let place = as_str(&asked.place);
+    match asked.sample {
+        Some(n) => sample_store(alloc, place, n, sink, keeper, steps),
+        None => run_store(alloc, place, source, sink, keeper, steps),
     }
 }

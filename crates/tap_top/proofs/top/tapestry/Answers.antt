@@ -1,49 +1,70 @@
-use Rattle.std.proofs.Common.{refl, sym, subst, inl, inr}
-use Rattle.std.specs.Prelude.{◌==◌}
-use Rattle.tap_model.specs.Sound.{IsStore}
-use Rattle.tap_top.specs.Refusals.{fault_of}
-use Rattle.tap_top.proofs.Refusals.{fine-store, some-or-none, Refused-none, refused-for, not-stopped}
-use Rattle.tap_top.proofs.Crashes.{nothing-leaves, none-leaves, run-leaves, leaves-stores, opened-at, Starved-none}
+use Rattle.std.proofs.Common.{◌≡◌, ◌∙◌, refl, sym, ap, subst, inl, inr, ℕ, Option, Some, None}
+use Rattle.command_words.specs.declared.fault.WordFault.{WordFault}
+use Rattle.command_words.specs.declared.fault.WordFault.TheVariants.{Refused as RefusedWords, Memory}
+use Rattle.command_words.specs.Words.{sample_in}
+use Rattle.command_words.proofs.Worded.{worded}
+use Rattle.keeper_core.specs.Keeping.{Holds}
+use Rattle.sample_gen.specs.Samples.{sample_of}
+use Rattle.tap_model.specs.Sessions.{no_session}
+use Rattle.tap_top.specs.Samples.{SampledCut}
+use Rattle.tap_top.proofs.Refusals.{Refused-none}
+use Rattle.tap_top.proofs.Crashes.{nothing-leaves, Starved-none}
+use Rattle.tap_top.proofs.Samples.{FirstPerformed-none}
+use Rattle.tap_top.proofs.SampleCrashes.{alone-leaves, first-stores}
 use Rattle.tap_top.proofs.top.tapestry.Goals as goal
 
-pub returns-then-len-gt0-clause-crash : goal.returns-then-len-gt0-clause-crash
-returns-then-len-gt0-clause-crash g c = λ t honest holds store. nothing-leaves t _ _ _ _ _ refl refl holds.alone
+not-both : (x : WordFault) → x ≡ RefusedWords → x ≡ Memory → ⊥
+not-both x one two = cc
 
-pub returns-then-len-gt0-clause-refused : goal.returns-then-len-gt0-clause-refused
-returns-then-len-gt0-clause-refused g c = λ t honest holds v version fault is. Refused-none 2 fault _ _ _ _ _ _ t (inl refl) (λ e. cc) refl refl (λ _. holds.told) holds.alone
+some-is : (found : Option ℕ) (n : ℕ) → found ≡ Some n → found ≡ None → ⊥
+some-is found n one two = cc
 
-pub returns-in-Ok-clause-crash : goal.returns-in-Ok-clause-crash
-returns-in-Ok-clause-crash g c = λ t honest holds store.
-    let opened = c.run.ensures.keeper.before honest in
-    let at = opened-at c.in-Ok.engine _ _ t c.in-Ok.ensures.session (c.in-Ok.ensures.stands opened t holds.told) (c.in-Ok.ensures.kept opened t holds.told c.in-Ok.ensures.can.keeping) store in
-    run-leaves t _ _ _ _ (g.P.Keeper.tells c.run.new.keeper) (g.P.Keeper.may_leave c.run.new.keeper) (c.run.result == 0) c.run.result c.run.ensures.statuses (λ e. c.run.ensures.whole e t honest at) (λ e. c.run.ensures.read e t honest at) (λ e. c.run.ensures.put e t honest at) (λ e. c.run.ensures.uncommitted e t honest at) (λ e. c.run.ensures.memory e t honest at) (λ e. c.run.ensures.long e t honest at)
+same-number : (found : Option ℕ) (m n : ℕ) → found ≡ Some m → found ≡ Some n → m ≡ n
+same-number found m n one two = cc
 
-pub returns-in-Ok-clause-kept : goal.returns-in-Ok-clause-kept
-returns-in-Ok-clause-kept g c = λ t honest holds store x may. leaves-stores t _ _ _ _ _ store (returns-in-Ok-clause-crash g c t honest holds store) x may
-
-pub returns-in-Err-Refused-clause-put : goal.returns-in-Err-Refused-clause-put
-returns-in-Err-Refused-clause-put g c = λ _ t honest holds store v version known. absurd (some-or-none (fault_of v t) c.in-Err-Refused.fault (refused-for _ _ c.in-Err-Refused.fault c.in-Err-Refused.ensures.refused c.in-Err-Refused.field-0-is honest t holds.told v version) (fine-store t v store known))
+pub returns-in-Err-Refused-clause-sample_crash : goal.returns-in-Err-Refused-clause-sample_crash
+returns-in-Err-Refused-clause-sample_crash g c = λ n _ t honest holds store. alone-leaves t (sample_of n) _ holds.alone
 
 pub returns-in-Err-Refused-clause-crash : goal.returns-in-Err-Refused-clause-crash
-returns-in-Err-Refused-clause-crash g c = λ t honest holds store. none-leaves t _ _ _ _ _ _ refl c.refuse.ensures.line.written (c.in-Err-Refused.ensures.crash honest t holds.told)
+returns-in-Err-Refused-clause-crash g c = λ _ t honest holds store. nothing-leaves t _ _ _ _ _ refl refl holds.alone
 
-pub returns-in-Err-Refused-clause-known : goal.returns-in-Err-Refused-clause-known
-returns-in-Err-Refused-clause-known g c = λ t honest holds store v version known _. absurd (some-or-none (fault_of v t) c.in-Err-Refused.fault (refused-for _ _ c.in-Err-Refused.fault c.in-Err-Refused.ensures.refused c.in-Err-Refused.field-0-is honest t holds.told v version) (fine-store t v store known))
+pub returns-in-Err-Refused-clause-refused : goal.returns-in-Err-Refused-clause-refused
+returns-in-Err-Refused-clause-refused g c = λ t honest holds v version fault is. Refused-none 2 fault _ _ _ _ _ _ t (inl refl) (λ e. cc) refl refl (λ _. holds.told) holds.alone
 
-pub returns-in-Err-Keeper-clause-crash : goal.returns-in-Err-Keeper-clause-crash
-returns-in-Err-Keeper-clause-crash g c = λ t honest holds store. nothing-leaves t _ _ _ _ _ refl refl (c.in-Err-Keeper.ensures.crash honest t holds.told)
+pub returns-in-Err-Refused-clause-complete : goal.returns-in-Err-Refused-clause-complete
+returns-in-Err-Refused-clause-complete g c = λ path named script reads puts keeps. absurd (not-both c.in-Err-Refused.field-0 c.in-Err-Refused.field-0-is (c.in-Err-Refused.ensures.fine path None named))
 
-pub returns-in-Err-Keeper-clause-kept : goal.returns-in-Err-Keeper-clause-kept
-returns-in-Err-Keeper-clause-kept g c = λ t honest holds store x may. subst IsStore (sym (c.in-Err-Keeper.ensures.crash honest t holds.told x may)) store
+pub returns-in-Err-Refused-clause-sample_complete : goal.returns-in-Err-Refused-clause-sample_complete
+returns-in-Err-Refused-clause-sample_complete g c = λ path n named puts keeps. absurd (not-both c.in-Err-Refused.field-0 c.in-Err-Refused.field-0-is (c.in-Err-Refused.ensures.fine path (Some n) named))
 
-pub returns-in-Err-Keeper-clause-refused : goal.returns-in-Err-Keeper-clause-refused
-returns-in-Err-Keeper-clause-refused g c = λ t honest holds v version fault is. Refused-none 5 fault _ _ _ _ _ _ t (inr (inr (inl refl))) (λ e. cc) refl refl (λ no. absurd (no refl)) (c.in-Err-Keeper.ensures.crash honest t holds.told)
+pub returns-in-Err-Memory-clause-named : goal.returns-in-Err-Memory-clause-named
+returns-in-Err-Memory-clause-named g c = λ path number named. let asked = worded c.args.words.now path number named in (asked.place, asked.sample)
 
 pub returns-in-Err-Memory-clause-memory : goal.returns-in-Err-Memory-clause-memory
-returns-in-Err-Memory-clause-memory g c = λ _ t honest holds store. Starved-none t _ _ _ _ _ refl refl store (c.in-Err-Memory.ensures.kept honest t holds.told (not-stopped (g.P.Keeper.stopped c.open_store.new.keeper) c.in-Err-Memory.ensures.stopped.0 (λ e. cc)))
+returns-in-Err-Memory-clause-memory g c = λ _ _ t honest holds store. Starved-none t _ _ _ _ _ refl refl store holds
+
+pub returns-in-Err-Memory-clause-sample_memory : goal.returns-in-Err-Memory-clause-sample_memory
+returns-in-Err-Memory-clause-sample_memory g c = λ n _ _ t honest holds store. FirstPerformed-none t no_session (sample_of n) _ store holds
+
+pub returns-in-Err-Memory-clause-sample_crash : goal.returns-in-Err-Memory-clause-sample_crash
+returns-in-Err-Memory-clause-sample_crash g c = λ n _ t honest holds store. alone-leaves t (sample_of n) _ holds.alone
 
 pub returns-in-Err-Memory-clause-crash : goal.returns-in-Err-Memory-clause-crash
-returns-in-Err-Memory-clause-crash g c = λ t honest holds store. nothing-leaves t _ _ _ _ _ refl refl (c.in-Err-Memory.ensures.crash honest t holds.told)
+returns-in-Err-Memory-clause-crash g c = λ _ t honest holds store. nothing-leaves t _ _ _ _ _ refl refl holds.alone
 
 pub returns-in-Err-Memory-clause-refused : goal.returns-in-Err-Memory-clause-refused
-returns-in-Err-Memory-clause-refused g c = λ t honest holds v version fault is. Refused-none 7 fault _ _ _ _ _ _ t (inr (inr (inr (inr refl)))) (λ e. cc) refl refl (λ _. (c.in-Err-Memory.ensures.kept honest t holds.told (not-stopped (g.P.Keeper.stopped c.open_store.new.keeper) c.in-Err-Memory.ensures.stopped.0 (λ e. cc))).told) (c.in-Err-Memory.ensures.crash honest t holds.told)
+returns-in-Err-Memory-clause-refused g c = λ t honest holds v version fault is. Refused-none 7 fault _ _ _ _ _ _ t (inr (inr (inr (inr refl)))) (λ e. cc) refl refl (λ _. holds.told) holds.alone
+
+pub returns-in-Some-clause-sample_put : goal.returns-in-Some-clause-sample_put
+returns-in-Some-clause-sample_put g c = λ n asked is t honest holds store v version known.
+    let same : c.in-Some.n ≡ n = same-number (sample_in c.args.words.now) c.in-Some.n n (sym c.in-Ok.ensures.sample ∙ c.in-Some.is) asked in
+    subst (λ m. SampledCut t m (g.K.Sink.out c.args.sink.now) (g.K.Sink.out c.sample_store.new.sink) (Holds (g.P.Keeper.tells c.sample_store.new.keeper) (g.P.Keeper.may_leave c.sample_store.new.keeper))) same (c.sample_store.ensures.cut is t honest holds store v version known)
+
+pub returns-in-Some-clause-kept : goal.returns-in-Some-clause-kept
+returns-in-Some-clause-kept g c = λ t honest holds store x may. first-stores t (sample_of c.in-Some.n) _ store (c.sample_store.ensures.crash t honest holds store) x may
+
+pub returns-in-Some-clause-refused : goal.returns-in-Some-clause-refused
+returns-in-Some-clause-refused g c = λ t honest holds v version fault is. c.sample_store.ensures.refused t honest holds v version fault is _
+
+pub returns-clause-sample_complete : goal.returns-clause-sample_complete
+returns-clause-sample_complete g c = λ path n named puts keeps. absurd (some-is c.in-Ok.asked.sample n (c.in-Ok.ensures.named path (Some n) named).1 c.in-None.is)

@@ -1,0 +1,126 @@
+-- What a sample did: its commands in place of a script's, and at the end the lines that sum them up.
+use Rattle.std.specs.Prelude.{ℕ, ◌≡◌, ◌≢◌, ◌≤◌, ◌+◌, List, [], ◌∷◌, ◌++◌, length, take, Bool, Option, if◌then◌else◌}
+use Rattle.std.specs.List.{list_all}
+use Rattle.std.specs.Io.KnownBytes.{Appends}
+use Rattle.tap_rows.specs.declared.tables.Tables.{Tables}
+use Rattle.tap_rows.specs.Kept.{Each}
+use Rattle.script_lang.specs.declared.command.Command.{Command}
+use Rattle.script_lang.specs.declared.refusal.Refusal.TheVariants.{Memory}
+use Rattle.script_lang.specs.declared.reply.Reply.{Reply}
+use Rattle.script_lang.specs.declared.reply.Reply.TheVariants.{Ran, No}
+use Rattle.script_lang.specs.Replies.{is_accepted}
+use Rattle.sample_gen.specs.Samples.{sample_of}
+use Rattle.sample_gen.specs.Summaries.{summary_lines}
+use Rattle.sample_gen.specs.declared.summary.Summary.{Summary}
+use Rattle.tap_model.specs.declared.session.Session.{Session}
+use Rattle.tap_model.specs.Sessions.{no_session}
+use Rattle.tap_model.specs.Stories.{Story}
+use Rattle.tap_top.specs.declared.tally.Tally.{Tally}
+use Rattle.tap_top.specs.Points.{SoundAlong}
+use Rattle.tap_top.specs.Answers.{MayAdd}
+use Rattle.tap_top.specs.Statuses.{IsFront}
+use Rattle.tap_top.specs.Crashes.{IsPrefix}
+
+-- a reply that refuses counts once
+abbrev pub refusals_in : Reply → ℕ
+refusals_in reply = if is_accepted reply then 0 else 1
+
+-- what a run delivered
+abbrev pub hits_in : Reply → ℕ
+hits_in (Ran ordinal moment hits) = length hits
+hits_in reply = 0
+
+-- the sum over all replies
+abbrev pub total : (Reply → ℕ) → List Reply → ℕ
+total count [] = 0
+total count (reply ∷ replies) = count reply + total count replies
+
+-- the commands were performed as in a story, and this holds of their replies and of the tables at its end
+pub record Performed (tables : Tables) (session : Session) (commands : List Command) (Ends : List Reply → Tables → Type 0) (session' : Session) : Type 0 where
+  pub replies : List Reply
+  pub tables' : Tables
+  pub story : Story tables session commands replies tables' session'
+  pub sound : SoundAlong tables session commands replies tables' session' story
+  pub ends : Ends replies tables'
+
+-- no reply says that there was no memory
+abbrev pub NoneStarved : List Reply → Type 0
+NoneStarved replies = Each (λ reply. reply ≢ No Memory) replies
+
+-- what replies came to, none of which says that there was no memory
+pub record Counted (tally : Tally) (replies : List Reply) : Type 0 where
+  pub refused : tally.refused ≡ total refusals_in replies
+  pub delivered : tally.delivered ≡ total hits_in replies
+  pub none : NoneStarved replies
+
+-- what they came to, with what was counted before them
+pub record Adds (before after : Tally) (replies : List Reply) : Type 0 where
+  pub refused : after.refused ≡ before.refused + total refusals_in replies
+  pub delivered : after.delivered ≡ before.delivered + total hits_in replies
+  pub none : NoneStarved replies
+
+-- none but the last reply says that there was no memory
+pub record LastStarved (replies : List Reply) : Type 0 where
+  pub most : List Reply
+  pub last : List Reply
+  pub split : replies ≡ most ++ last
+  pub none : NoneStarved most
+  pub few : length last ≤ 1
+
+-- some first commands were performed, until there was no memory
+pub record FirstPerformed (tables : Tables) (session : Session) (commands : List Command) (Ends : Tables → Type 0) : Type 0 where
+  pub done : List Command
+  pub first : IsFront done commands
+  pub session' : Session
+  pub performed : Performed tables session done (λ replies tables'. LastStarved replies × Ends tables') session'
+
+-- some first commands were performed, and the commit of the next one failed
+pub record NextUncommitted (tables : Tables) (session : Session) (commands : List Command) (leaves : Tables → Type 0) : Type 0 where
+  pub done : List Command
+  pub next : Command
+  pub first : IsFront (done ++ next ∷ []) commands
+  pub session' : Session
+  pub performed : Performed tables session done (λ replies tables'. NoneStarved replies × MayAdd leaves next session' tables') session'
+
+-- the summary of a sample with n messages: of these replies, and of the tables at the end
+abbrev pub summary_of : ℕ → List Reply → Tables → Summary
+summary_of n replies tables = record {
+  messages = n;
+  commands = length (sample_of n);
+  refused = total refusals_in replies;
+  documents = length tables.docs;
+  notes = length tables.notes;
+  delivered = total hits_in replies;
+}
+
+-- statuses 0 and 1: all commands of the sample were performed, none without memory, and the lines of its summary were put
+pub record Sampled (tables : Tables) (n : ℕ) (out out' : Option (List ℕ)) (Ends : Tables → Type 0) (all_ok : Bool) : Type 0 where
+  pub session' : Session
+  pub performed : Performed tables no_session (sample_of n) (λ replies tables'. NoneStarved replies × Ends tables') session'
+  pub written : Appends out out' (summary_lines (summary_of n performed.replies performed.tables'))
+  pub ok : all_ok ≡ list_all is_accepted performed.replies
+
+-- the first k bytes of a text were put
+pub record FrontPut (text : List ℕ) (out out' : Option (List ℕ)) : Type 0 where
+  pub k : ℕ
+  pub written : Appends out out' (take k text)
+
+-- status 4: the same, and the first bytes of these lines were put
+pub record SampledCut (tables : Tables) (n : ℕ) (out out' : Option (List ℕ)) (Ends : Tables → Type 0) : Type 0 where
+  pub session' : Session
+  pub performed : Performed tables no_session (sample_of n) (λ replies tables'. NoneStarved replies × Ends tables') session'
+  pub cut : FrontPut (summary_lines (summary_of n performed.replies performed.tables')) out out'
+
+-- a crash leaves the tables after some first commands
+pub record LeavesFirst (tables : Tables) (commands : List Command) (leaves : Tables → Type 0) : Type 0 where
+  pub done : List Command
+  pub first : IsFront done commands
+  pub replies : List Reply
+  pub tables' : Tables
+  pub session' : Session
+  pub story : Story tables no_session done replies tables' session'
+  pub each : (x : Tables) → leaves x → IsPrefix tables done replies 0 x
+
+-- and here these tables alone
+abbrev pub LeavesAlone : Tables → (Tables → Type 0) → Type 0
+LeavesAlone tables leaves = (x : Tables) → leaves x → x ≡ tables

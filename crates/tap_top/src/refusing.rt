@@ -1,0 +1,18 @@
+ghost use Rattle.std.specs.Prelude.{◌≡◌, ◌⊎◌};
+ghost use Rattle.tap_edges.specs.Edges.{Rose};
+ghost use Rattle.tap_top.specs.Refusals.{stop_line, CutLine};
+
+use crate::StoreFault;
+use tap_edges::Sink;
+
+/// Puts the line of a refused store; the status.
+pub fn refuse<K: Sink>(fault: StoreFault, sink: &mut K) -> u8
+    ensures statuses { result ≡ 6 ⊎ result ≡ 4 }
+    ensures line { CutLine result (stop_line fault) (K.out sink.old) (K.out sink.new) }
+    ensures cause { result ≡ 4 → Rose (K.faults sink.old) (K.faults sink.new) }
+{
+    match sink.put(fault.line().as_slice()) {
+        Ok(()) => 6,
+        Err(_) => 4,
+    }
+}

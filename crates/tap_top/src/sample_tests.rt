@@ -1,0 +1,86 @@
+ghost use Rattle.std.specs.Prelude.{◌≡◌, ◌<◌, IfOk, OnOk};
+ghost use Rattle.std.specs.List.{All};
+ghost use Rattle.std.specs.Str.{IsUtf8};
+
+use crate::tapestry;
+use keeper_core::MemKeeper;
+use std::alloc::Global;
+use std::marker::Brand;
+use std::sync::ledger::{Blank, Ledger};
+use std::test::Fail;
+use tap_base::{Memory, Steps, Text, Texts};
+use tap_edges::{MemSink, MemSource};
+use tap_rows::Tables;
+
+// Appends a word.
+fn push_word(alloc: Global, words: &mut Texts, word: &str) -> Result<(), Memory>
+    requires { All IsUtf8 words.old }
+    ensures { OnOk result (All IsUtf8 words.new) }
+{
+    words.push(Text::from_slice(alloc, word.as_bytes())?)?;
+    Ok(())
+}
+
+// The words of a line, one blank between them.
+fn words_in(alloc: Global, line: &str) -> Result<Texts, Memory>
+    ensures { IfOk result (λ words. All IsUtf8 words) }
+{
+    let mut words = Texts::new(alloc);
+    for word in line.split(' ') {
+        push_word(alloc, &mut words, word)?;
+    }
+    Ok(words)
+}
+
+// A run of these words over an empty store, with a script of one command: the status, and what was written.
+fn run<L: Ledger>(alloc: Global, blank: Blank, line: &str) -> Result<(u8, Text), Memory>
+    requires name { blank.name ≡ L.name }
+    requires parts { blank.parts ≡ L.parts }
+    requires some { 0 < blank.parts }
+{
+    let words = words_in(alloc, line)?;
+    let mut steps = Steps::<L>::start(blank);
+    let mut keeper = MemKeeper::new(alloc, Tables::empty(alloc), 2, Vec::new(alloc));
+    let mut source = MemSource::new(
+        Text::from_slice(alloc, b"at 9\n")?,
+        Vec::new(alloc),
+        Vec::new(alloc),
+    );
+    let mut sink = MemSink::new(alloc, 4096, Vec::new(alloc))?;
+    let status = tapestry(
+        alloc,
+        &words,
+        &mut source,
+        &mut sink,
+        &mut keeper,
+        &mut steps,
+    );
+    Ok((status, Text::from_slice(alloc, sink.written())?))
+}
+
+#[test]
+fn words_are_followed(rt: HostRuntime) -> Result<(), Fail> {
+    let alloc = rt.alloc();
+    let rows: [(&str, u8, &[u8]); 6] = [
+        ("--bogus", 2, b""),
+        ("--sample 0", 2, b""),
+        ("--store", 2, b""),
+        ("--store p", 0, b"ok 0 at 9\n"),
+        (
+            "--sample 10",
+            0,
+            b"sample 10\ncommands 31\nrefused 0\ndocuments 10\nnotes 2\ndelivered 7\n",
+        ),
+        (
+            "--sample 1 --store p",
+            0,
+            b"sample 1\ncommands 9\nrefused 0\ndocuments 1\nnotes 0\ndelivered 1\n",
+        ),
+    ];
+    for (line, status, written) in rows {
+        let got = run::<Brand>(alloc, Blank::new(1), line)?;
+        assert_eq!(rt; got.0, status);
+        assert_eq!(rt; got.1.as_slice(), written);
+    }
+    Ok(())
+}

@@ -1,0 +1,208 @@
+ghost use Rattle.std.specs.Prelude.{◌≡◌, ◌≢◌, ◌≤◌, ◌+◌, ◌⊎◌, ◌↔◌, ◌==◌, ℕ, ℤ, pos, List, [], ◌∷◌, Option, Some, None, true, false, length, OnOk, IfOk, IfSome, IsErrOf};
+ghost use Rattle.std.specs.Io.KnownBytes.{Appends};
+ghost use Rattle.keeper_core.specs.Keeping.{Holds};
+ghost use Rattle.tap_edges.specs.Edges.{Rose};
+ghost use Rattle.tap_rows.specs.declared.tables.Tables.{Tables};
+ghost use Rattle.script_lang.specs.declared.reply.Reply.{Reply as ReplyOf};
+ghost use Rattle.script_lang.specs.declared.refusal.Refusal.{Refusal as RefusalOf};
+ghost use Rattle.sample_gen.specs.Samples.{sample_of};
+ghost use Rattle.sample_gen.specs.Summaries.{summary_lines};
+ghost use Rattle.tap_model.specs.Sessions.{no_session};
+ghost use Rattle.tap_model.specs.Sound.{IsStore};
+ghost use Rattle.tap_top.specs.declared.store_fault.StoreFault.{StoreFault as StoreFaultOf};
+ghost use Rattle.tap_top.specs.Refusals.{fault_of, Refused};
+ghost use Rattle.tap_top.specs.Points.{CanPerform, IsAt, GoesOn};
+ghost use Rattle.tap_top.specs.Samples.{refusals_in, hits_in, Performed, Counted, Adds, FirstPerformed, NextUncommitted, FrontPut, Sampled, SampledCut, LeavesFirst, LeavesAlone};
+ghost use Rattle.tap_top.specs.declared.sampled.Cut.{Cut};
+
+use crate::opening::{OpenFault, open_store};
+use crate::refusing::refuse;
+use crate::tally::Tally;
+use keeper_core::Keeper;
+use sample_gen::{Summary, sample};
+use script_lang::{Command, Refusal, Reply};
+use std::alloc::Global;
+use std::sync::ledger::Ledger;
+use tap_base::{Rows, Steps};
+use tap_edges::Sink;
+use tap_engine::{Engine, EngineFault};
+
+/// Why not all commands of a sample were performed.
+#[derive(Clone, Copy, Debug, PartialEq, Eq)]
+pub enum Cut {
+    Keeper,
+    Memory,
+}
+
+// Counts a reply, unless it says that there was no memory.
+fn count(tally: Tally, reply: &Reply) -> Option<Tally>
+    ensures refused { IfSome result (λ counted. counted.refused ≡ tally.refused + refusals_in reply.now) }
+    ensures delivered { IfSome result (λ counted. counted.delivered ≡ tally.delivered + hits_in reply.now) }
+    ensures able { IfSome result (λ counted. reply.now ≢ ReplyOf.No RefusalOf.Memory) }
+{
+    match reply {
+        Reply::No(Refusal::Memory) => None,
+        _ => tally.with(reply),
+    }
+}
+
+// Performs a command, and counts its reply.
+fn perform_one<P: Keeper, L: Ledger>(
+    alloc: Global,
+    engine: &mut Engine,
+    keeper: &mut P,
+    command: Command,
+    steps: &mut Steps<L>,
+    tally: Tally,
+) -> Result<Tally, Cut>
+    requires can { CanPerform engine.old (P.attached keeper.old) (P.stopped keeper.old) }
+    ensures ok { IfOk result (λ counted. (t : Tables) → P.honest keeper.new → IsAt engine.old (P.tells keeper.old) (P.may_leave keeper.old) t → Performed t engine.old.session (command ∷ []) (λ replies x. IsAt engine.new (P.tells keeper.new) (P.may_leave keeper.new) x × Adds tally counted replies) engine.new.session) }
+    ensures memory { IsErrOf result Cut.Memory → (t : Tables) → P.honest keeper.new → IsAt engine.old (P.tells keeper.old) (P.may_leave keeper.old) t → FirstPerformed t engine.old.session (command ∷ []) (Holds (P.tells keeper.new) (P.may_leave keeper.new)) }
+    ensures keeper { IsErrOf result Cut.Keeper → (t : Tables) → P.honest keeper.new → IsAt engine.old (P.tells keeper.old) (P.may_leave keeper.old) t → NextUncommitted t engine.old.session (command ∷ []) (P.may_leave keeper.new) }
+    ensures can { OnOk result (CanPerform engine.new (P.attached keeper.new) (P.stopped keeper.new)) }
+    ensures stopped { (P.stopped keeper.new ≡ true) ↔ IsErrOf result Cut.Keeper }
+    ensures kept_cause { IsErrOf result Cut.Keeper → Rose (P.faults keeper.old) (P.faults keeper.new) }
+    ensures goes_on { GoesOn (P.place keeper.old) (P.place keeper.new) (P.faults keeper.old) (P.faults keeper.new) (P.honest keeper.old) (P.honest keeper.new) }
+{
+    let reply = match engine.perform(alloc, keeper, command, steps) {
+        Ok(reply) => reply,
+        Err(EngineFault::KeeperFailed) => return Err(Cut::Keeper),
+    };
+    match count(tally, &reply) {
+        Some(tally) => Ok(tally),
+        None => Err(Cut::Memory),
+    }
+}
+
+// Performs the commands; what their replies come to. It ends at the first reply that says that there was no memory.
+fn perform_all<P: Keeper, L: Ledger>(
+    alloc: Global,
+    engine: &mut Engine,
+    keeper: &mut P,
+    commands: Rows<Command>,
+    steps: &mut Steps<L>,
+) -> Result<Tally, Cut>
+    requires can { CanPerform engine.old (P.attached keeper.old) (P.stopped keeper.old) }
+    ensures ok { IfOk result (λ tally. (t : Tables) → P.honest keeper.new → IsAt engine.old (P.tells keeper.old) (P.may_leave keeper.old) t → Performed t engine.old.session commands (λ replies x. IsAt engine.new (P.tells keeper.new) (P.may_leave keeper.new) x × Counted tally replies) engine.new.session) }
+    ensures memory { IsErrOf result Cut.Memory → (t : Tables) → P.honest keeper.new → IsAt engine.old (P.tells keeper.old) (P.may_leave keeper.old) t → FirstPerformed t engine.old.session commands (Holds (P.tells keeper.new) (P.may_leave keeper.new)) }
+    ensures keeper { IsErrOf result Cut.Keeper → (t : Tables) → P.honest keeper.new → IsAt engine.old (P.tells keeper.old) (P.may_leave keeper.old) t → NextUncommitted t engine.old.session commands (P.may_leave keeper.new) }
+    ensures can { OnOk result (CanPerform engine.new (P.attached keeper.new) (P.stopped keeper.new)) }
+    ensures stopped { (P.stopped keeper.new ≡ true) ↔ IsErrOf result Cut.Keeper }
+    ensures kept_cause { IsErrOf result Cut.Keeper → Rose (P.faults keeper.old) (P.faults keeper.new) }
+    ensures goes_on { GoesOn (P.place keeper.old) (P.place keeper.new) (P.faults keeper.old) (P.faults keeper.new) (P.honest keeper.old) (P.honest keeper.new) }
+{
+    let mut tally = Tally::new();
+    for command in commands.into_vec() {
+        match perform_one(alloc, engine, keeper, command, steps, tally) {
+            Ok(counted) => tally = counted,
+            Err(Cut::Keeper) => return Err(Cut::Keeper),
+            Err(Cut::Memory) => return Err(Cut::Memory),
+        }
+    }
+    Ok(tally)
+}
+
+// What became of the sample; None comes only where a count would pass its type's end.
+fn sum_up(n: u32, commands: usize, tally: Tally, engine: &Engine) -> Option<Summary>
+    ensures { IfSome result (λ summary. summary ≡ record { messages = n; commands = commands; refused = tally.refused; documents = length engine.now.docs; notes = length engine.now.notes; delivered = tally.delivered }) }
+{
+    Some(Summary {
+        messages: n,
+        commands,
+        refused: tally.refused,
+        documents: u32::try_from(engine.docs()).ok()?,
+        notes: u32::try_from(engine.notes()).ok()?,
+        delivered: tally.delivered,
+    })
+}
+
+// Puts the lines of a summary; the status.
+fn put_summary<K: Sink>(summary: Summary, sink: &mut K) -> u8
+    ensures statuses { result ≤ 1 ⊎ result ≡ 4 }
+    ensures ok { result ≤ 1 → (result == 0) ≡ (summary.refused == 0) }
+    ensures whole { result ≤ 1 → Appends (K.out sink.old) (K.out sink.new) (summary_lines summary) }
+    ensures cut { result ≡ 4 → FrontPut (summary_lines summary) (K.out sink.old) (K.out sink.new) }
+    ensures cause { result ≡ 4 → Rose (K.faults sink.old) (K.faults sink.new) }
+{
+    match sink.put(summary.lines().as_slice()) {
+        Ok(()) if summary.refused == 0 => 0,
+        Ok(()) => 1,
+        Err(_) => 4,
+    }
+}
+
+// Performs the commands of a sample, and puts its summary; the status of the run.
+fn run_sample<K: Sink, P: Keeper, L: Ledger>(
+    alloc: Global,
+    n: u32,
+    sink: &mut K,
+    engine: &mut Engine,
+    keeper: &mut P,
+    steps: &mut Steps<L>,
+) -> u8
+    requires some { 1 ≤ n }
+    requires few { n ≤ 100000 }
+    requires can { CanPerform engine.old (P.attached keeper.old) (P.stopped keeper.old) }
+    requires session { engine.old.session ≡ no_session }
+    ensures whole { result ≤ 1 → (t : Tables) → P.honest keeper.new → IsAt engine.old (P.tells keeper.old) (P.may_leave keeper.old) t → Sampled t n (K.out sink.old) (K.out sink.new) (Holds (P.tells keeper.new) (P.may_leave keeper.new)) (result == 0) }
+    ensures cut { result ≡ 4 → (t : Tables) → P.honest keeper.new → IsAt engine.old (P.tells keeper.old) (P.may_leave keeper.old) t → SampledCut t n (K.out sink.old) (K.out sink.new) (Holds (P.tells keeper.new) (P.may_leave keeper.new)) }
+    ensures uncommitted { result ≡ 5 → (t : Tables) → P.honest keeper.new → IsAt engine.old (P.tells keeper.old) (P.may_leave keeper.old) t → NextUncommitted t no_session (sample_of n) (P.may_leave keeper.new) }
+    ensures memory { result ≡ 7 → (t : Tables) → P.honest keeper.new → IsAt engine.old (P.tells keeper.old) (P.may_leave keeper.old) t → FirstPerformed t no_session (sample_of n) (Holds (P.tells keeper.new) (P.may_leave keeper.new)) }
+    ensures silent { (result ≡ 5) ⊎ (result ≡ 7) → K.out sink.new ≡ K.out sink.old }
+    ensures statuses { result ≤ 1 ⊎ (result ≡ 4 ⊎ (result ≡ 5 ⊎ result ≡ 7)) }
+    ensures stopped { (P.stopped keeper.new ≡ true) ↔ (result ≡ 5) }
+    ensures cause { result ≡ 4 → Rose (K.faults sink.old) (K.faults sink.new) }
+    ensures kept_cause { result ≡ 5 → Rose (P.faults keeper.old) (P.faults keeper.new) }
+    ensures goes_on { GoesOn (P.place keeper.old) (P.place keeper.new) (P.faults keeper.old) (P.faults keeper.new) (P.honest keeper.old) (P.honest keeper.new) }
+{
+    let Ok(commands) = sample(alloc, n) else {
+        return 7;
+    };
+    let count = commands.len();
+    let tally = match perform_all(alloc, engine, keeper, commands, steps) {
+        Ok(tally) => tally,
+        Err(Cut::Keeper) => return 5,
+        Err(Cut::Memory) => return 7,
+    };
+    match sum_up(n, count, tally, engine) {
+        Some(summary) => put_summary(summary, sink),
+        None => 7,
+    }
+}
+
+/// Attaches the keeper at a place, checks the tables that it has, performs the commands of a sample with `n` messages, and
+/// puts its summary; the status of the run. No replies are put.
+pub fn sample_store<K: Sink, P: Keeper, L: Ledger>(
+    alloc: Global,
+    place: &str,
+    n: u32,
+    sink: &mut K,
+    keeper: &mut P,
+    steps: &mut Steps<L>,
+) -> u8
+    requires some { 1 ≤ n }
+    requires few { n ≤ 100000 }
+    requires free { P.attached keeper.old ≡ false }
+    requires running { P.stopped keeper.old ≡ false }
+    ensures whole { result ≤ 1 → (t : Tables) → P.honest keeper.new → Holds (P.tells keeper.old) (P.may_leave keeper.old) t → IsStore t → Sampled t n (K.out sink.old) (K.out sink.new) (Holds (P.tells keeper.new) (P.may_leave keeper.new)) (result == 0) }
+    ensures cut { result ≡ 4 → (t : Tables) → P.honest keeper.new → Holds (P.tells keeper.old) (P.may_leave keeper.old) t → IsStore t → (v : ℤ) → P.has_version keeper.old v → (v ≡ pos 1) ⊎ (v ≡ pos 2) → SampledCut t n (K.out sink.old) (K.out sink.new) (Holds (P.tells keeper.new) (P.may_leave keeper.new)) }
+    ensures keeper { result ≡ 5 → (t : Tables) → P.honest keeper.new → Holds (P.tells keeper.old) (P.may_leave keeper.old) t → IsStore t → LeavesAlone t (P.may_leave keeper.new) ⊎ NextUncommitted t no_session (sample_of n) (P.may_leave keeper.new) }
+    ensures memory { result ≡ 7 → (t : Tables) → P.honest keeper.new → Holds (P.tells keeper.old) (P.may_leave keeper.old) t → IsStore t → FirstPerformed t no_session (sample_of n) (Holds (P.tells keeper.new) (P.may_leave keeper.new)) }
+    ensures silent { (result ≡ 5) ⊎ (result ≡ 7) → K.out sink.new ≡ K.out sink.old }
+    ensures crash { (t : Tables) → P.honest keeper.new → Holds (P.tells keeper.old) (P.may_leave keeper.old) t → IsStore t → LeavesFirst t (sample_of n) (P.may_leave keeper.new) }
+    ensures refused { (t : Tables) → P.honest keeper.new → Holds (P.tells keeper.old) (P.may_leave keeper.old) t → (v : ℤ) → P.has_version keeper.old v → (fault : StoreFaultOf) → fault_of v t ≡ Some fault → (left : Option (List ℕ)) → Refused result fault left left (K.out sink.old) (K.out sink.new) (P.tells keeper.new) (P.may_leave keeper.new) t }
+    ensures fine { (t : Tables) → P.honest keeper.new → Holds (P.tells keeper.old) (P.may_leave keeper.old) t → (v : ℤ) → P.has_version keeper.old v → fault_of v t ≡ None → result ≢ 6 }
+    ensures known { (t : Tables) → P.honest keeper.new → Holds (P.tells keeper.old) (P.may_leave keeper.old) t → IsStore t → (v : ℤ) → P.has_version keeper.old v → (v ≡ pos 1) ⊎ (v ≡ pos 2) → result ≢ 6 }
+    ensures cause { result ≡ 4 → Rose (K.faults sink.old) (K.faults sink.new) }
+    ensures stopped { (P.stopped keeper.new ≡ true) ↔ (result ≡ 5) }
+    ensures kept_cause { result ≡ 5 → Rose (P.faults keeper.old) (P.faults keeper.new) }
+    ensures statuses { result ≤ 1 ⊎ (result ≡ 4 ⊎ (result ≡ 5 ⊎ (result ≡ 6 ⊎ result ≡ 7))) }
+    ensures place { (result ≡ 7) ⊎ (P.place keeper.new ≡ place.now) }
+{
+    match open_store(alloc, place, keeper) {
+        Ok(mut engine) => run_sample(alloc, n, sink, &mut engine, keeper, steps),
+        Err(OpenFault::Refused(fault)) => refuse(fault, sink),
+        Err(OpenFault::Keeper) => 5,
+        Err(OpenFault::Memory) => 7,
+    }
+}

@@ -1,0 +1,42 @@
+ghost use Rattle.std.specs.Prelude.{◌≡◌, ◌+◌, IfSome};
+ghost use Rattle.tap_top.specs.Samples.{refusals_in, hits_in};
+
+use script_lang::Reply;
+
+/// What replies come to: how many refuse, and what their runs delivered together.
+#[derive(Clone, Copy, Debug, PartialEq, Eq)]
+pub struct Tally {
+    pub refused: usize,
+    pub delivered: u64,
+}
+
+impl Tally {
+    /// Of no replies.
+    pub fn new() -> Tally
+        ensures refused { result.refused ≡ 0 }
+        ensures delivered { result.delivered ≡ 0 }
+    {
+        Tally {
+            refused: 0,
+            delivered: 0,
+        }
+    }
+
+    /// With one reply more. None comes only where a count would pass its type's end.
+    pub fn with(self, reply: &Reply) -> Option<Tally>
+        ensures refused { IfSome result (λ tally. tally.refused ≡ self.refused + refusals_in reply.now) }
+        ensures delivered { IfSome result (λ tally. tally.delivered ≡ self.delivered + hits_in reply.now) }
+    {
+        match reply {
+            Reply::No(_) => Some(Tally {
+                refused: self.refused.checked_add(1)?,
+                delivered: self.delivered,
+            }),
+            Reply::Ran { hits, .. } => Some(Tally {
+                refused: self.refused,
+                delivered: self.delivered.checked_add(hits.len() as u64)?,
+            }),
+            _ => Some(self),
+        }
+    }
+}
