@@ -2,7 +2,7 @@ use Rattle.std.proofs.Common.{List, ℕ, sym, subst}
 use Rattle.std.specs.List.{All}
 use Rattle.std.specs.Str.{IsUtf8}
 use Rattle.std.proofs.lemmas.List.Elements.{All-push}
-use Rattle.tapestry_mem.proofs.push_word.Goals as goal
+use Rattle.program_words.proofs.line.push_word.Goals as goal
 
 pub returns : goal.returns
 returns c =
