@@ -32,23 +32,12 @@ fn run<L: Ledger>(
     );
     let mut sink = MemSink::new(alloc, 4096, put_fails)?;
     let words = Texts::new(alloc);
-    let status = tapestry(
-        alloc,
-        &words,
-        &mut source,
-        &mut sink,
-        keeper,
-        &mut steps,
-    );
+    let status = tapestry(alloc, &words, &mut source, &mut sink, keeper, &mut steps);
     Ok((status, Text::from_slice(alloc, sink.written())?))
 }
 
 // A session over a keeper, and what it wrote.
-fn session(
-    alloc: Global,
-    keeper: &mut MemKeeper,
-    script: &[u8],
-) -> Result<(u8, Text), Memory>
+fn session(alloc: Global, keeper: &mut MemKeeper, script: &[u8]) -> Result<(u8, Text), Memory>
     requires free { keeper.old.attached ≡ false }
     requires running { keeper.old.stopped ≡ false }
 {
@@ -57,8 +46,8 @@ fn session(
 
 const FIRST: &[u8] =
     b"as ann\nat 100\nquery q m.words HAS 'hi'\nmail\nSubject: hi\n\n.\nat 101\nrun q\nat 110\nmail\nSubject: hi\n\n.\nat 111\nrun q\n";
-const SECOND: &[u8] =
-    b"as ann\nat 111\nat 120\nmail\nSubject: hi\n\n.\nat 121\nrun q\nbox q\n";
+
+const SECOND: &[u8] = b"as ann\nat 111\nat 120\nmail\nSubject: hi\n\n.\nat 121\nrun q\nbox q\n";
 
 // The tables that a first session left.
 fn first_left(alloc: Global) -> Result<Tables, Memory> {
@@ -84,12 +73,7 @@ fn second_cut(alloc: Global, kept: bool) -> Result<(u8, Text, Tables), Memory> {
 }
 
 // What a session answers over these tables in a store of this version.
-fn over(
-    alloc: Global,
-    tables: Tables,
-    version: i64,
-    script: &[u8],
-) -> Result<(u8, Text), Memory> {
+fn over(alloc: Global, tables: Tables, version: i64, script: &[u8]) -> Result<(u8, Text), Memory> {
     let mut keeper = MemKeeper::new(alloc, tables, version, Vec::new(alloc));
     session(alloc, &mut keeper, script)
 }
@@ -222,8 +206,13 @@ fn damaged_stores_are_refused(rt: HostRuntime) -> Result<(), Fail> {
 // version then.
 fn over_alien(alloc: Global, put_fails: Vec<PutPlan>) -> Result<(u8, Text, i64), Memory> {
     let mut keeper = MemKeeper::new(alloc, Tables::empty(alloc), 7, Vec::new(alloc));
-    let (status, written) =
-        run::<Brand>(alloc, Blank::new(1), &mut keeper, b"at 200\n", put_fails)?;
+    let (status, written) = run::<Brand>(
+        alloc,
+        Blank::new(1),
+        &mut keeper,
+        b"at 200\n",
+        put_fails,
+    )?;
     Ok((status, written, keeper.version()))
 }
 
@@ -244,7 +233,12 @@ fn stores_of_other_versions_are_refused(rt: HostRuntime) -> Result<(), Fail> {
 
 // A session whose attach fails.
 fn unattached(alloc: Global) -> Result<(u8, Text), Memory> {
-    let fails = vec![in alloc; KeepPlan { call: 0, kept: true }]?;
+    let fails = vec![in alloc;
+        KeepPlan {
+            call: 0,
+            kept: true
+        },
+    ]?;
     let mut keeper = MemKeeper::new(alloc, Tables::empty(alloc), 2, fails);
     session(alloc, &mut keeper, b"at 200\n")
 }
