@@ -51,7 +51,11 @@ fn start(alloc: Global, tables: Tables) -> Result<Engine, OpenFault>
 }
 
 /// Attaches the store at a place, checks its tables, and starts an engine over them.
-pub fn open_store<P: Keeper>(alloc: Global, place: &str, keeper: &mut P) -> Result<Engine, OpenFault>
+pub fn open_store<P: Keeper>(
+    alloc: Global,
+    place: &str,
+    keeper: &mut P,
+) -> Result<Engine, OpenFault>
     requires free { P.attached keeper.old ≡ false }
     requires running { P.stopped keeper.old ≡ false }
     ensures can { IfOk result (λ engine. CanPerform engine (P.attached keeper.new) (P.stopped keeper.new)) }
