@@ -33,12 +33,12 @@ fn words_in(alloc: Global, line: &str) -> Result<Texts, Memory>
 }
 
 // A run of these words over an empty store, with a script of one command: the status, and what was written.
-fn run<L: Ledger>(alloc: Global, blank: Blank, line: &str) -> Result<(u8, Text), Memory>
+fn run<L: Ledger>(alloc: Global, blank: Blank, words: &Texts) -> Result<(u8, Text), Memory>
     requires name { blank.name ≡ L.name }
     requires parts { blank.parts ≡ L.parts }
     requires some { 0 < blank.parts }
+    requires texts { All IsUtf8 words.now }
 {
-    let words = words_in(alloc, line)?;
     let mut steps = Steps::<L>::start(blank);
     let mut keeper = MemKeeper::new(alloc, Tables::empty(alloc), 2, Vec::new(alloc));
     let mut source = MemSource::new(
@@ -49,13 +49,19 @@ fn run<L: Ledger>(alloc: Global, blank: Blank, line: &str) -> Result<(u8, Text),
     let mut sink = MemSink::new(alloc, 4096, Vec::new(alloc))?;
     let status = tapestry(
         alloc,
-        &words,
+        words,
         &mut source,
         &mut sink,
         &mut keeper,
         &mut steps,
     );
     Ok((status, Text::from_slice(alloc, sink.written())?))
+}
+
+// The same of the words of a line, with a counter of its own.
+fn followed(alloc: Global, line: &str) -> Result<(u8, Text), Memory> {
+    let words = words_in(alloc, line)?;
+    run::<Brand>(alloc, Blank::new(1), &words)
 }
 
 #[test]
@@ -78,7 +84,7 @@ fn words_are_followed(rt: HostRuntime) -> Result<(), Fail> {
         ),
     ];
     for (line, status, written) in rows {
-        let got = run::<Brand>(alloc, Blank::new(1), line)?;
+        let got = followed(alloc, line)?;
         assert_eq!(rt; got.0, status);
         assert_eq!(rt; got.1.as_slice(), written);
     }
