@@ -30,6 +30,18 @@ impl Model for Hits {
 }
 
 impl Hits {
+    /// No hits, with room for none.
+    pub fn new(alloc: Global) -> Hits
+        ensures { result ≡ record { hits = []; room = 0 } }
+    {
+        Hits {
+            kept: KeptHits {
+                hits: Vec::new(alloc),
+                places: Vec::new(alloc),
+            },
+        }
+    }
+
     /// No hits, with room for `n`.
     pub fn with_room(alloc: Global, n: u32) -> Result<Hits, Memory>
         ensures { IfOk result (λ h. h ≡ record { hits = []; room = n }) }
@@ -61,6 +73,13 @@ impl Hits {
         ensures { option_copied result ≡ slice_get self.now.hits i }
     {
         self.kept.hits.get(i as usize)
+    }
+
+    /// The hits.
+    pub fn as_slice(&self) -> &[Hit]
+        ensures { result.now ≡ self.now.hits }
+    {
+        self.kept.hits.as_slice()
     }
 
     /// The hits as a list.

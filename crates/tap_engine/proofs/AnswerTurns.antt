@@ -1,10 +1,13 @@
 -- What isn't refused is answered, and its rows are taken back.
-use Rattle.std.proofs.Common.{◌≡◌, ◌∙◌, sym, refl, ap, inr, ℕ, List, [], ◌∷◌, ◌++◌, length, take, true, false, Option, Some, None, if◌then◌else◌}
+use Rattle.std.proofs.Common.{◌≡◌, ◌∙◌, sym, refl, ap, inr, arith, ℕ, ◌+◌, ◌-◌, ◌<◌, ◌≤◌, List, [], ◌∷◌, ◌++◌, length, take, true, false, Option, Some, None, if◌then◌else◌}
 use Rattle.std.proofs.Math.Seq.{take-append_seam}
-use Rattle.std.proofs.lemmas.List.{append-nil}
+use Rattle.std.proofs.lemmas.List.{append-nil, length-append}
 use Rattle.std.specs.Prelude.{OnSome}
 use Rattle.tap_rows.specs.declared.tables.Tables.{Tables}
 use Rattle.tap_rows.specs.declared.change.Change.{Change}
+use Rattle.tap_rows.specs.declared.change.Change.TheVariants.{Docs as RowDocs, OneNote as RowNote}
+use Rattle.tap_rows.specs.Tables.{after}
+use Rattle.query_eval.specs.Hits.{HitsWithRoom}
 use Rattle.tap_rows.specs.declared.rows.Doc.{Doc}
 use Rattle.tap_rows.specs.declared.rows.Note.{Note}
 use Rattle.tap_rows.specs.declared.rows.FilterRow.{FilterRow}
@@ -43,12 +46,21 @@ pub for-memory : (v : Option Refusal) → v ≡ None → RefusedBy v Memory
 for-memory v none = inr (refl, ap is_early none)
 
 -- documents are taken back
-pub undo-docs : (e : Engine) (docs : List Doc) (bytes n : ℕ) → n ≡ length e.docs → TakesBack (Docs n e.bytes) (record e { docs = e.docs ++ docs; bytes = bytes }) e
-undo-docs e docs bytes n is = record { there = tt; before_is = ap (λ n. record e { docs = take n (e.docs ++ docs) }) is ∙ ap (λ l. record e { docs = l }) (take-append_seam e.docs docs) }
+pub undo-docs : (e : Engine) (docs : List Doc) (h : HitsWithRoom) (bytes n : ℕ) → n ≡ length e.index.docs → e.hits.room ≤ h.room → TakesBack (Docs n e.bytes) (record e { index = after e.index (RowDocs docs); hits = h; bytes = bytes }) e
+undo-docs e docs h bytes n is room = record { there = tt; before_is = record { same = ap (λ n. record e { index = record e.index { docs = take n (e.index.docs ++ docs) }; hits = h }) is ∙ ap (λ l. record e { index = record e.index { docs = l }; hits = h }) (take-append_seam e.index.docs docs); room = room } }
 
 -- a note is taken back
-pub undo-note : (e : Engine) (notes : List Note) (bytes n : ℕ) → n ≡ length e.notes → TakesBack (OneNote n e.bytes) (record e { notes = e.notes ++ notes; bytes = bytes }) e
-undo-note e notes bytes n is = record { there = tt; before_is = ap (λ n. record e { notes = take n (e.notes ++ notes) }) is ∙ ap (λ l. record e { notes = l }) (take-append_seam e.notes notes) }
+one-back : (notes : List Note) (note : Note) → take (length (notes ++ note ∷ []) - 1) (notes ++ note ∷ []) ≡ notes
+one-back notes note = ap (λ n. take (n - 1) (notes ++ note ∷ [])) (length-append notes (note ∷ [])) ∙ ap (λ n. take n (notes ++ note ∷ [])) (less (length notes)) ∙ take-append_seam notes (note ∷ []) where
+  less : (n : ℕ) → n + 1 - 1 ≡ n
+  less n = omega arith
+
+some-note : (notes : List Note) (note : Note) → 0 < length (notes ++ note ∷ [])
+some-note [] note = omega arith
+some-note (x ∷ notes) note = omega arith
+
+pub undo-note : (e : Engine) (note : Note) (bytes : ℕ) → TakesBack (OneNote e.bytes) (record e { index = after e.index (RowNote note); bytes = bytes }) e
+undo-note e note bytes = record { there = some-note e.index.notes note; before_is = record { same = ap (λ l. record e { index = record e.index { notes = l } }) (one-back e.index.notes note); room = omega arith } }
 
 -- an owner is taken back
 owner-back : (owners : List (List ℕ)) (owner : List ℕ) → take (length owners) (with_owner owners owner) ≡ owners
@@ -61,16 +73,22 @@ owner-back owners owner = elim (holds owners owner) as (λ b. take (length owner
 pub undo-query : (e : Engine) (queries : List KeptQuery) (owner : List ℕ) (bytes n m : ℕ) → n ≡ length e.queries → m ≡ length e.owners → TakesBack (Query n m e.bytes) (record e { queries = e.queries ++ queries; owners = with_owner e.owners owner; bytes = bytes }) e
 undo-query e queries owner bytes n m is-n is-m = record {
   there = tt;
-  before_is = ap (λ n. record e { queries = take n (e.queries ++ queries); owners = take m (with_owner e.owners owner) }) is-n
-      ∙ ap (λ l. record e { queries = l; owners = take m (with_owner e.owners owner) }) (take-append_seam e.queries queries)
-      ∙ ap (λ m. record e { owners = take m (with_owner e.owners owner) }) is-m ∙ ap (λ l. record e { owners = l }) (owner-back e.owners owner);
+  before_is = record {
+    same = ap (λ n. record e { queries = take n (e.queries ++ queries); owners = take m (with_owner e.owners owner) }) is-n
+        ∙ ap (λ l. record e { queries = l; owners = take m (with_owner e.owners owner) }) (take-append_seam e.queries queries)
+        ∙ ap (λ m. record e { owners = take m (with_owner e.owners owner) }) is-m ∙ ap (λ l. record e { owners = l }) (owner-back e.owners owner);
+    room = omega arith;
+  };
 }
 
 -- a filter is taken back
 pub undo-filter : (e : Engine) (filters : List FilterRow) (owner : List ℕ) (bytes n m : ℕ) → n ≡ length e.filters → m ≡ length e.owners → TakesBack (Filter n m e.bytes) (record e { filters = e.filters ++ filters; owners = with_owner e.owners owner; bytes = bytes }) e
 undo-filter e filters owner bytes n m is-n is-m = record {
   there = tt;
-  before_is = ap (λ n. record e { filters = take n (e.filters ++ filters); owners = take m (with_owner e.owners owner) }) is-n
-      ∙ ap (λ l. record e { filters = l; owners = take m (with_owner e.owners owner) }) (take-append_seam e.filters filters)
-      ∙ ap (λ m. record e { owners = take m (with_owner e.owners owner) }) is-m ∙ ap (λ l. record e { owners = l }) (owner-back e.owners owner);
+  before_is = record {
+    same = ap (λ n. record e { filters = take n (e.filters ++ filters); owners = take m (with_owner e.owners owner) }) is-n
+        ∙ ap (λ l. record e { filters = l; owners = take m (with_owner e.owners owner) }) (take-append_seam e.filters filters)
+        ∙ ap (λ m. record e { owners = take m (with_owner e.owners owner) }) is-m ∙ ap (λ l. record e { owners = l }) (owner-back e.owners owner);
+    room = omega arith;
+  };
 }

@@ -1,6 +1,6 @@
 -- What the engine finds of a command's checks is what its verdict says.
 use Rattle.std.proofs.Common.{◌≡◌, ◌∙◌, sym, refl, ap, subst, ℕ, suc, List, [], ◌∷◌, ◌+◌, length, map, Option, Some, None, true, false, inl, inr, if◌then◌else◌}
-use Rattle.std.specs.Prelude.{◌⊎◌, ◌==◌, ◌||◌, nat_le, is_none, find, filter, Result, Ok, Err}
+use Rattle.std.specs.Prelude.{ℤ, ◌≤ℤ◌, ◌⊎◌, ◌==◌, ◌||◌, nat_le, is_none, find, filter, Result, Ok, Err}
 use Rattle.std.specs.Option.{option_map, option_or}
 use Rattle.std.specs.Str.{bytes_eq}
 use Rattle.std.proofs.lemmas.Bool.{cases_Bool}
@@ -14,7 +14,10 @@ use Rattle.tql_text.specs.declared.fault.TextFault.{TextFault}
 use Rattle.tql_text.specs.declared.fault.TextFault.TheVariants as T
 use Rattle.tql_text.specs.Texts.{condition_of}
 use Rattle.tap_model.proofs.AnswerLaws.{some-none, find-in, truth-of-second}
-use Rattle.tap_engine.proofs.FreshLaws.{fresh-seen}
+use Rattle.tap_engine.proofs.PlanLaws.{covered-each}
+use Rattle.tap_engine.proofs.ReadyLaws.{some-moment}
+use Rattle.tap_model.proofs.WindowLaws.{run-of-sound}
+use Rattle.tap_rows.specs.Kept.{In, Each}
 use Rattle.script_lang.specs.declared.refusal.Refusal.{Refusal}
 use Rattle.script_lang.specs.declared.refusal.Refusal.TheVariants.{NoQuery, NoMoment, Taken, Memory, Limit}
 use Rattle.script_lang.specs.declared.refusal.LimitName.{LimitName}
@@ -23,16 +26,16 @@ use Rattle.script_lang.specs.declared.command.Command.TheVariants.{Define, Run, 
 use Rattle.tap_model.specs.declared.limits.TheConstants.{USER_QUERY_LIMIT, QUERY_LIMIT, USER_LIMIT, STORE_LIMIT, RUN_LIMIT, PICK_LIMIT}
 use Rattle.tap_model.specs.declared.session.Session.{Session}
 use Rattle.tap_engine.specs.declared.engine.Engine.{Engine}
-use Rattle.tap_model.specs.Sessions.{user_of, present}
+use Rattle.tap_model.specs.Sessions.{or_zero, user_of, present}
 use Rattle.tap_engine.specs.declared.kept_query.KeptQuery.{KeptQuery}
-use Rattle.tap_model.specs.Queries.{is_named, query_named, truth_of, start_of}
+use Rattle.tap_model.specs.Queries.{is_named, query_named, truth_of, start_of, hits_of}
 use Rattle.tap_rows.specs.Results.{covered}
 use Rattle.restart_core.specs.Starts.{condition_text, stored_source}
 use Rattle.tap_model.specs.Limits.{passes}
-use Rattle.tap_model.specs.Verdicts.{first_refusal, verdict, missing, unless, no_moment, no_user, bad_name, reading_refusal, text_fault, wide_refusal, too_wide, is_early, hits_found}
-use Rattle.tap_engine.specs.Keeping.{kept_query, named_in, owned_in}
-use Rattle.tap_engine.specs.Standing.{StandsFor, name_refusal, query_limits, define_refusal, look_refusal, run_refusal, kept_named, hits_kept, wide_kept, entries_kept, RefusedBy}
-use Rattle.tap_model.specs.Sound.{Sound}
+use Rattle.tap_model.specs.Verdicts.{first_refusal, verdict, missing, unless, no_moment, no_user, bad_name, reading_refusal, text_fault, is_early, hits_found}
+use Rattle.tap_engine.specs.Keeping.{kept_query, named_in, owned_in, hits_since}
+use Rattle.tap_engine.specs.Standing.{StandsFor, name_refusal, query_limits, define_refusal, query_refusal, look_refusal, run_refusal, kept_named, hits_kept, entries_kept, RefusedBy}
+use Rattle.tap_model.specs.Sound.{Sound, IsNow}
 use Rattle.tap_model.specs.Stories.{Refuses}
 use Rattle.tap_engine.specs.Answering.{Answers}
 use Rattle.tap_engine.proofs.AnswerTurns.{answers-accepted}
@@ -104,15 +107,14 @@ three None (Some y) c = refl
 three None None (Some z) = refl
 three None None None = refl
 
-seven : (a b c d w e f : Option Refusal) → option_or a (option_or (option_or b (option_or c d)) (option_or w (option_or e f))) ≡ first_refusal (a ∷ b ∷ c ∷ d ∷ w ∷ e ∷ f ∷ [])
-seven (Some x) b c d w e f = refl
-seven None (Some x) c d w e f = refl
-seven None None (Some x) d w e f = refl
-seven None None None (Some x) w e f = refl
-seven None None None None (Some x) e f = refl
-seven None None None None None (Some x) f = refl
-seven None None None None None None (Some x) = refl
-seven None None None None None None None = refl
+six : (a b c d e f : Option Refusal) → option_or a (option_or (option_or b (option_or c d)) (option_or e f)) ≡ first_refusal (a ∷ b ∷ c ∷ d ∷ e ∷ f ∷ [])
+six (Some x) b c d e f = refl
+six None (Some x) c d e f = refl
+six None None (Some x) d e f = refl
+six None None None (Some x) e f = refl
+six None None None None (Some x) f = refl
+six None None None None None (Some x) = refl
+six None None None None None None = refl
 
 -- a box is refused as its verdict says
 pub box-verdict : (e : Engine) (t : Tables) (name : List ℕ) → StandsFor e t → look_refusal e name ≡ verdict (BoxOf name) e.session t
@@ -125,36 +127,70 @@ box-verdict e t name stands =
 pub box-refuses : (e : Engine) (name : List ℕ) (refusal : Refusal) → RefusedBy (look_refusal e name) refusal → (t : Tables) → StandsFor e t → Refuses refusal (BoxOf name) e.session t
 box-refuses e name refusal by t stands = subst (λ v. RefusedBy v refusal) (box-verdict e t name stands) by
 
--- what a run of a query delivers, by what is kept
-pub hits-is : (e : Engine) (t : Tables) (o : Option QueryRow) → StandsFor e t → hits_kept e (option_map (kept_query t) o) ≡ hits_found o t (present e.session)
-hits-is e t None stands = refl
-hits-is e t (Some q) stands = rw (stands.docs, stands.notes) (fresh-seen q t (covered (start_of q) q.num.0 t.runs) (present e.session))
+each-in : {A : Type 0} (P : A → Type 0) (xs : List A) (x : A) → Each P xs → In x xs → P x
+each-in P [] x each has = absurd has
+each-in P (y ∷ ys) x each (inl e) = subst P (sym e) each.0
+each-in P (y ∷ ys) x each (inr has) = each-in P ys x each.1 has
 
-wide-is : (e : Engine) (t : Tables) (o : Option QueryRow) → StandsFor e t → wide_kept e (option_map (kept_query t) o) ≡ too_wide o t.docs (present e.session)
-wide-is e t None stands = refl
-wide-is e t (Some q) stands = ap (λ docs. wide_refusal (condition_text q.source) docs (present e.session)) stands.docs
+-- what a run of a query delivers, by what is kept
+pub hits-of-query : (e : Engine) (t : Tables) (q : QueryRow) → StandsFor e t → Sound t e.session → In q t.queries → (e.session.moment ≡ None → ⊥) → hits_kept e (Some (kept_query t q)) ≡ hits_of q t (present e.session)
+hits-of-query e t q stands sound has there =
+    ap (λ rows. hits_since (kept_query t q) rows (present e.session)) stands.rows ∙ run-of-sound t e.session q (present e.session) sound has (go e.session.moment refl sound.now) where
+      go : (o : Option ℤ) → e.session.moment ≡ o → IsNow o t → covered (start_of q) q.num.0 t.runs ≤ℤ present e.session
+      go None none now = absurd (there none)
+      go (Some m) is now =
+          subst (λ z. covered (start_of q) q.num.0 t.runs ≤ℤ z) (sym (ap or_zero is))
+          (covered-each (λ z. z ≤ℤ m) (start_of q) q.num.0 t.runs (each-in (λ query. (query.arrival ≤ℤ m) × (start_of query ≤ℤ m)) t.queries q now.1.queries has).1 now.1.runs)
+
+hits-are : (e : Engine) (t : Tables) (name : List ℕ) → StandsFor e t → Sound t e.session → (e.session.moment ≡ None → ⊥)
+    → hits_kept e (option_map (kept_query t) (query_named (user_of e.session) name t)) ≡ hits_found (query_named (user_of e.session) name t) t (present e.session)
+hits-are e t name stands sound there = go (query_named (user_of e.session) name t) refl where
+  go : (o : Option QueryRow) → query_named (user_of e.session) name t ≡ o → hits_kept e (option_map (kept_query t) o) ≡ hits_found o t (present e.session)
+  go None is = refl
+  go (Some q) is = hits-of-query e t q stands sound (find-in (is_named (user_of e.session) name) t.queries q is) there
 
 -- the checks of a run, by what is found of its query
-abbrev run_checks : Engine → ℕ → ℕ → Option Refusal → Option Refusal → List Hit → Option Refusal
-run_checks e runs picks found wide hits =
-    option_or (no_moment e.session) (option_or found (option_or wide (option_or (passes Runs RUN_LIMIT runs 1) (passes Picks PICK_LIMIT picks (length hits)))))
+abbrev run_checks : Engine → ℕ → ℕ → Option Refusal → List Hit → Option Refusal
+run_checks e runs picks found hits = option_or (no_moment e.session) (option_or found (option_or (passes Runs RUN_LIMIT runs 1) (passes Picks PICK_LIMIT picks (length hits))))
 
--- a run is refused as its verdict says
-pub run-verdict : (e : Engine) (t : Tables) (name : List ℕ) → StandsFor e t → run_refusal e name ≡ verdict (Run name) e.session t
+run-there : (e : Engine) (t : Tables) (name : List ℕ) → StandsFor e t → Sound t e.session → (e.session.moment ≡ None → ⊥) → run_refusal e name ≡ verdict (Run name) e.session t
 unfolding look_refusal
-run-verdict e t name stands =
+run-there e t name stands sound there =
     let o = query_named (user_of e.session) name t in
     let look : Option KeptQuery → Option Refusal = λ k. option_or (no_user e.session) (option_or (bad_name name) (missing NoQuery k)) in
-    ap (λ k. run_checks e e.run_count e.pick_count (look k) (wide_kept e k) (hits_kept e k)) (named-is e t name stands)
-    ∙ ap (λ m. run_checks e e.run_count e.pick_count (option_or (no_user e.session) (option_or (bad_name name) m)) (wide_kept e (option_map (kept_query t) o)) (hits_kept e (option_map (kept_query t) o))) (missing-map t o)
-    ∙ ap (λ w. run_checks e e.run_count e.pick_count (option_or (no_user e.session) (option_or (bad_name name) (missing NoQuery o))) w (hits_kept e (option_map (kept_query t) o))) (wide-is e t o stands)
-    ∙ ap (run_checks e e.run_count e.pick_count (option_or (no_user e.session) (option_or (bad_name name) (missing NoQuery o))) (too_wide o t.docs (present e.session))) (hits-is e t o stands)
-    ∙ ap (λ n. run_checks e n e.pick_count (option_or (no_user e.session) (option_or (bad_name name) (missing NoQuery o))) (too_wide o t.docs (present e.session)) (hits_found o t (present e.session))) stands.run_count
-    ∙ ap (λ n. run_checks e (length t.runs) n (option_or (no_user e.session) (option_or (bad_name name) (missing NoQuery o))) (too_wide o t.docs (present e.session)) (hits_found o t (present e.session))) stands.pick_count
-    ∙ seven (no_moment e.session) (no_user e.session) (bad_name name) (missing NoQuery o) (too_wide o t.docs (present e.session)) (passes Runs RUN_LIMIT (length t.runs) 1) (passes Picks PICK_LIMIT (length t.picks) (length (hits_found o t (present e.session))))
+    ap (λ k. run_checks e e.run_count e.pick_count (look k) (hits_kept e k)) (named-is e t name stands)
+    ∙ ap (λ m. run_checks e e.run_count e.pick_count (option_or (no_user e.session) (option_or (bad_name name) m)) (hits_kept e (option_map (kept_query t) o))) (missing-map t o)
+    ∙ ap (run_checks e e.run_count e.pick_count (option_or (no_user e.session) (option_or (bad_name name) (missing NoQuery o)))) (hits-are e t name stands sound there)
+    ∙ ap (λ n. run_checks e n e.pick_count (option_or (no_user e.session) (option_or (bad_name name) (missing NoQuery o))) (hits_found o t (present e.session))) stands.run_count
+    ∙ ap (λ n. run_checks e (length t.runs) n (option_or (no_user e.session) (option_or (bad_name name) (missing NoQuery o))) (hits_found o t (present e.session))) stands.pick_count
+    ∙ six (no_moment e.session) (no_user e.session) (bad_name name) (missing NoQuery o) (passes Runs RUN_LIMIT (length t.runs) 1) (passes Picks PICK_LIMIT (length t.picks) (length (hits_found o t (present e.session))))
 
-pub run-refuses : (e : Engine) (name : List ℕ) (refusal : Refusal) → RefusedBy (run_refusal e name) refusal → (t : Tables) → StandsFor e t → Refuses refusal (Run name) e.session t
-run-refuses e name refusal by t stands = subst (λ v. RefusedBy v refusal) (run-verdict e t name stands) by
+-- a run is refused as its verdict says
+pub run-verdict : (e : Engine) (t : Tables) (name : List ℕ) → StandsFor e t → Sound t e.session → run_refusal e name ≡ verdict (Run name) e.session t
+run-verdict e t name stands sound = go e.session.moment refl where
+  go : (m : Option ℤ) → e.session.moment ≡ m → run_refusal e name ≡ verdict (Run name) e.session t
+  go None none =
+      let o = query_named (user_of e.session) name t in
+      ap (λ m. option_or (missing NoMoment m) (option_or (look_refusal e name) (option_or (passes Runs RUN_LIMIT e.run_count 1) (passes Picks PICK_LIMIT e.pick_count (length (hits_kept e (kept_named e name))))))) none
+      ∙ sym (ap (λ m. first_refusal (missing NoMoment m ∷ no_user e.session ∷ bad_name name ∷ missing NoQuery o ∷ passes Runs RUN_LIMIT (length t.runs) 1 ∷ passes Picks PICK_LIMIT (length t.picks) (length (hits_found o t (present e.session))) ∷ [])) none)
+  go (Some m) is = run-there e t name stands sound (some-moment e.session.moment m is)
+
+-- a run that isn't refused before its hits are counted
+pub run-left : (e : Engine) (name : List ℕ) (kept : KeptQuery) (m : ℤ) (hits : List Hit) → e.session.moment ≡ Some m → query_refusal e.session e.queries name ≡ None → passes Runs RUN_LIMIT e.run_count 1 ≡ None → kept_named e name ≡ Some kept
+    → hits ≡ hits_since kept e.index m → run_refusal e name ≡ passes Picks PICK_LIMIT e.pick_count (length hits)
+unfolding look_refusal
+run-left e name kept m hits is-m look runs named is-hits =
+    let picks : List Hit → Option Refusal = λ hits. passes Picks PICK_LIMIT e.pick_count (length hits) in
+    let last = picks (hits_kept e (kept_named e name)) in
+    ap (λ o. option_or (missing NoMoment o) (option_or (query_refusal e.session e.queries name) (option_or (passes Runs RUN_LIMIT e.run_count 1) last))) is-m
+    ∙ ap (λ x. option_or x (option_or (passes Runs RUN_LIMIT e.run_count 1) last)) look
+    ∙ ap (λ x. option_or x last) runs
+    ∙ ap (λ k. picks (hits_kept e k)) named
+    ∙ ap (λ z. picks (hits_since kept e.index z)) (ap or_zero is-m)
+    ∙ sym (ap picks is-hits)
+
+pub run-refuses : (e : Engine) (name : List ℕ) (refusal : Refusal) → RefusedBy (run_refusal e name) refusal → (t : Tables) → StandsFor e t → Sound t e.session → Refuses refusal (Run name) e.session t
+run-refuses e name refusal by t stands sound = subst (λ v. RefusedBy v refusal) (run-verdict e t name stands sound) by
 
 -- a query isn't defined without a moment
 pub define-moment : (e : Engine) (name source : List ℕ) → define_refusal e name source ≡ None → e.session.moment ≡ None → ⊥
@@ -237,4 +273,4 @@ answers-box e t name entries stands sound none is = go (query_named (user_of e.s
 
 -- a query isn't run without a moment
 pub run-moment : (e : Engine) (name : List ℕ) → run_refusal e name ≡ None → e.session.moment ≡ None → ⊥
-run-moment e name none no_m = some-none NoMoment (sym (ap (λ m. option_or (missing NoMoment m) (option_or (look_refusal e name) (option_or (wide_kept e (kept_named e name)) (option_or (passes Runs RUN_LIMIT e.run_count 1) (passes Picks PICK_LIMIT e.pick_count (length (hits_kept e (kept_named e name)))))))) no_m) ∙ none)
+run-moment e name none no_m = some-none NoMoment (sym (ap (λ m. option_or (missing NoMoment m) (option_or (look_refusal e name) (option_or (passes Runs RUN_LIMIT e.run_count 1) (passes Picks PICK_LIMIT e.pick_count (length (hits_kept e (kept_named e name))))))) no_m) ∙ none)

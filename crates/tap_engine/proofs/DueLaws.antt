@@ -23,6 +23,8 @@ use Rattle.script_lang.specs.declared.command.Command.TheVariants.{Run}
 use Rattle.script_lang.specs.declared.reply.Reply.TheVariants.{Ran}
 use Rattle.tap_model.specs.declared.session.Session.{Session}
 use Rattle.tap_engine.specs.declared.kept_query.KeptQuery.{KeptQuery}
+use Rattle.query_eval.specs.Hits.{HitsWithRoom}
+use Rattle.tap_model.specs.Sound.{Sound}
 use Rattle.tap_engine.specs.declared.engine.Engine.{Engine}
 use Rattle.tap_engine.specs.declared.run.Due.{Due}
 use Rattle.tap_model.specs.Sessions.{user_of, present}
@@ -34,7 +36,7 @@ use Rattle.tap_model.specs.Replies.{run_query}
 use Rattle.tap_model.proofs.AnswerLaws.{find-in}
 use Rattle.tap_engine.specs.Answering.{Answers}
 use Rattle.tap_engine.proofs.AnswerTurns.{answers-accepted}
-use Rattle.tap_engine.proofs.CheckLaws.{named-is, hits-is}
+use Rattle.tap_engine.proofs.CheckLaws.{named-is, hits-of-query}
 
 -- what is due is due to a query that there is
 pub record IsDue (e : Engine) (t : Tables) (name : List ℕ) (due : Due) : Type 0 where
@@ -49,8 +51,8 @@ no-due due e = cc
 same-due : (x y : Due) → Some x ≡ Some y → x ≡ y
 same-due x y e = cc
 
-pub due-is : (e : Engine) (t : Tables) (name : List ℕ) (due : Due) → StandsFor e t → Some due ≡ due_of e (kept_named e name) → IsDue e t name due
-due-is e t name due stands is = go (query_named (user_of e.session) name t) refl where
+pub due-is : (e : Engine) (t : Tables) (name : List ℕ) (due : Due) → StandsFor e t → Sound t e.session → (e.session.moment ≡ None → ⊥) → Some due ≡ due_of e (kept_named e name) → IsDue e t name due
+due-is e t name due stands sound there is = go (query_named (user_of e.session) name t) refl where
   kept : Some due ≡ due_of e (option_map (kept_query t) (query_named (user_of e.session) name t))
   kept = is ∙ ap (due_of e) (named-is e t name stands)
 
@@ -61,7 +63,7 @@ due-is e t name due stands is = go (query_named (user_of e.session) name t) refl
     some = some;
     has = find-in (is_named (user_of e.session) name) t.queries q some;
     is = same-due due (record { query = q.num; moment = present e.session; runs = length (run_moments q.num.0 t.runs); hits = hits_kept e (Some (kept_query t q)) }) (kept ∙ ap (λ o. due_of e (option_map (kept_query t) o)) some)
-        ∙ ap (λ hits. record { query = q.num; moment = present e.session; runs = length (run_moments q.num.0 t.runs); hits = hits }) (hits-is e t (Some q) stands);
+        ∙ ap (λ hits. record { query = q.num; moment = present e.session; runs = length (run_moments q.num.0 t.runs); hits = hits }) (hits-of-query e t q stands sound (find-in (is_named (user_of e.session) name) t.queries q some) there);
   }
 
 -- a query has no more runs than there are
@@ -145,12 +147,11 @@ rows-many num query run [] = refl
 rows-many num query run (hit ∷ hits) = ap suc (rows-many (num + 1) query run hits)
 
 -- a run more
-stands-placed : (e : Engine) (t : Tables) (q : QueryRow) (i : ℕ) (m : ℤ) (kept : KeptQuery) → StandsFor e t → IsKept truth_of start_of t → In q t.queries → q.num.0 ≡ 1 + i → (e.session.moment ≡ None → ⊥) → kept ≡ kept_query t q
-    → StandsFor (record e { queries = slice_set e.queries i (after_run m (map (entry_at (length (run_moments q.num.0 t.runs) + 1)) (hits_of q t m)) kept); run_count = e.run_count + 1; pick_count = e.pick_count + length (hits_of q t m) }) (after t (run_change (truth_of q) (start_of q) t q.num m))
-stands-placed e t q i m kept stands is-kept has at there is = record {
-  docs = stands.docs;
+stands-placed : (e : Engine) (t : Tables) (h : HitsWithRoom) (q : QueryRow) (i : ℕ) (m : ℤ) (kept : KeptQuery) → StandsFor e t → IsKept truth_of start_of t → In q t.queries → q.num.0 ≡ 1 + i → (e.session.moment ≡ None → ⊥) → kept ≡ kept_query t q
+    → StandsFor (record e { hits = h; queries = slice_set e.queries i (after_run m (map (entry_at (length (run_moments q.num.0 t.runs) + 1)) (hits_of q t m)) kept); run_count = e.run_count + 1; pick_count = e.pick_count + length (hits_of q t m) }) (after t (run_change (truth_of q) (start_of q) t q.num m))
+stands-placed e t h q i m kept stands is-kept has at there is = record {
+  rows = stands.rows;
   queries = rw (stands.queries, is, sym (own-after t q m is-kept)) (placed-set (kept_query t) (kept_query (after t (run_change (truth_of q) (start_of q) t q.num m))) 1 i t.queries q is-kept.queries has at (λ other differs. other-after t q other m is-kept differs));
-  notes = stands.notes;
   run_count = ap (λ n. n + 1) stands.run_count ∙ sym (length-append t.runs (next_run t q.num m ∷ []));
   pick_count = ap (λ n. n + length (hits_of q t m)) stands.pick_count ∙ ap (λ n. length t.picks + n) (sym (rows-many (length t.picks + 1) q.num (length t.runs + 1) (hits_of q t m)))
       ∙ sym (length-append t.picks (pick_rows (length t.picks + 1) q.num (length t.runs + 1) (hits_of q t m)));
@@ -168,19 +169,19 @@ run_rows runs picks due = RunDone (record { num = runs + 1; query = due.query; m
 rows-are : (e : Engine) (t : Tables) (name : List ℕ) (due : Due) → StandsFor e t → (d : IsDue e t name due) → run_rows e.run_count e.pick_count due ≡ run_change (truth_of d.q) (start_of d.q) t d.q.num (present e.session)
 rows-are e t name due stands d = ap (λ n. run_rows n e.pick_count due) stands.run_count ∙ ap (λ n. run_rows (length t.runs) n due) stands.pick_count ∙ ap (run_rows (length t.runs) (length t.picks)) d.is
 
-pub stands-run : (e : Engine) (t : Tables) (name : List ℕ) (due : Due) (e' : Engine) → StandsFor e t → IsKept truth_of start_of t → (d : IsDue e t name due) → (e.session.moment ≡ None → ⊥)
-    → ((x : KeptQuery) → e' ≡ record e { queries = slice_set e.queries (due.query.0 - 1) (after_run due.moment (map (entry_at (due.runs + 1)) due.hits) (slice_index_or e.queries (due.query.0 - 1) x)); run_count = e.run_count + 1; pick_count = e.pick_count + length due.hits })
+pub stands-run : (e : Engine) (t : Tables) (name : List ℕ) (due : Due) (h : HitsWithRoom) (e' : Engine) → StandsFor e t → IsKept truth_of start_of t → (d : IsDue e t name due) → (e.session.moment ≡ None → ⊥)
+    → ((x : KeptQuery) → e' ≡ record e { hits = h; queries = slice_set e.queries (due.query.0 - 1) (after_run due.moment (map (entry_at (due.runs + 1)) due.hits) (slice_index_or e.queries (due.query.0 - 1) x)); run_count = e.run_count + 1; pick_count = e.pick_count + length due.hits })
     → StandsFor e' (after t (run_rows e.run_count e.pick_count due))
-stands-run e t name due e' stands kept d there is-e =
+stands-run e t name due h e' stands kept d there is-e =
     let q = d.q in
     let num : due.query.0 ≡ q.num.0 = ap (λ x. x.query.0) d.is in
     let x : KeptQuery = kept_query t q in
     let i : ℕ = due.query.0 - 1 in
     let bounds = query-bounds 1 t.queries q kept.queries d.has in
-    let engine : e' ≡ record e { queries = slice_set e.queries i (after_run (present e.session) (map (entry_at (length (run_moments q.num.0 t.runs) + 1)) (hits_of q t (present e.session))) (slice_index_or e.queries i x)); run_count = e.run_count + 1; pick_count = e.pick_count + length (hits_of q t (present e.session)) } =
-    is-e x ∙ ap (λ y. record e { queries = slice_set e.queries i (after_run y.moment (map (entry_at (y.runs + 1)) y.hits) (slice_index_or e.queries i x)); run_count = e.run_count + 1; pick_count = e.pick_count + length y.hits }) d.is in
+    let engine : e' ≡ record e { hits = h; queries = slice_set e.queries i (after_run (present e.session) (map (entry_at (length (run_moments q.num.0 t.runs) + 1)) (hits_of q t (present e.session))) (slice_index_or e.queries i x)); run_count = e.run_count + 1; pick_count = e.pick_count + length (hits_of q t (present e.session)) } =
+    is-e x ∙ ap (λ y. record e { hits = h; queries = slice_set e.queries i (after_run y.moment (map (entry_at (y.runs + 1)) y.hits) (slice_index_or e.queries i x)); run_count = e.run_count + 1; pick_count = e.pick_count + length y.hits }) d.is in
     let rows : run_rows e.run_count e.pick_count due ≡ run_change (truth_of q) (start_of q) t q.num (present e.session) = rows-are e t name due stands d in
-    subst (λ change. StandsFor e' (after t change)) (sym rows) (subst (λ k. StandsFor k (after t (run_change (truth_of q) (start_of q) t q.num (present e.session)))) (sym engine) (stands-placed e t q i (present e.session) (slice_index_or e.queries i x) stands kept d.has (omega (arith, num, bounds.0)) there (due-kept e t due q x stands kept d.has num)))
+    subst (λ change. StandsFor e' (after t change)) (sym rows) (subst (λ k. StandsFor k (after t (run_change (truth_of q) (start_of q) t q.num (present e.session)))) (sym engine) (stands-placed e t h q i (present e.session) (slice_index_or e.queries i x) stands kept d.has (omega (arith, num, bounds.0)) there (due-kept e t due q x stands kept d.has num)))
 
 -- a run that isn't refused
 pub answers-run : (e : Engine) (t : Tables) (name : List ℕ) (due : Due) (change : Change) (s' : Session) → StandsFor e t → verdict (Run name) e.session t ≡ None → (d : IsDue e t name due)

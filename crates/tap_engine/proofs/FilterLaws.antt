@@ -51,6 +51,7 @@ use Rattle.tap_engine.specs.Standing.{StandsFor, RefusedBy, look_refusal, kept_n
 use Rattle.tap_engine.specs.FilterChecks.{filter_limits, filter_refusal}
 use Rattle.tap_engine.specs.Lists.{rows_kept, lines_kept}
 use Rattle.tap_engine.specs.Answering.{Answers}
+use Rattle.tap_engine.proofs.RowTurns.{docs-are}
 use Rattle.tap_engine.proofs.AnswerTurns.{answers-accepted}
 use Rattle.tap_engine.proofs.OwnerLaws.{users-more, owners-more}
 use Rattle.tap_engine.proofs.CheckLaws.{named-is, box-verdict}
@@ -122,9 +123,8 @@ answers-filter t s block n count row change s' none at is-row is-count is-change
 pub stands-filter : (e : Engine) (t : Tables) (row : FilterRow) → StandsFor e t → (e.session.moment ≡ None → ⊥)
     → StandsFor (record e { filters = e.filters ++ row ∷ []; owners = with_owner e.owners row.owner; bytes = e.bytes + length row.source }) (after t (OneFilter row))
 stands-filter e t row stands there = record {
-  docs = stands.docs;
+  rows = stands.rows;
   queries = stands.queries;
-  notes = stands.notes;
   run_count = stands.run_count;
   pick_count = stands.pick_count;
   filters = ap (λ fs. fs ++ row ∷ []) stands.filters;
@@ -196,12 +196,12 @@ answers-list e t name rows stands sound none is = go (query_named (user_of e.ses
   go : (o : Option QueryRow) → query_named (user_of e.session) name t ≡ o → Answers t e.session (ListOf name) (Listing name rows) None e.session
   go None none' = absurd (some-rows rows (kept ∙ ap (λ o. rows_kept e (option_map (kept_query t) o)) none'))
   go (Some q) some =
-      let by-kept : Some rows ≡ Some (listing_of (filter_rules (last_filter (user_of e.session) e.filters)) e.docs (delivered q.num.0 t)) = kept ∙ ap (λ o. rows_kept e (option_map (kept_query t) o)) some in
-      let same : rows ≡ listing_of (filter_rules (last_filter (user_of e.session) e.filters)) e.docs (delivered q.num.0 t) = some-same rows _ by-kept in
+      let by-kept : Some rows ≡ Some (listing_of (filter_rules (last_filter (user_of e.session) e.filters)) e.index.docs (delivered q.num.0 t)) = kept ∙ ap (λ o. rows_kept e (option_map (kept_query t) o)) some in
+      let same : rows ≡ listing_of (filter_rules (last_filter (user_of e.session) e.filters)) e.index.docs (delivered q.num.0 t) = some-same rows _ by-kept in
       let box = box-is truth_of start_of truth-of-second t q t.queries (find-in (is_named (user_of e.session) name) t.queries q some) sound.kept.each in
       let whole : rows ≡ listing_of rules t.docs (box_in q t) =
-      same ∙ ap (λ fs. listing_of (filter_rules (last_filter (user_of e.session) fs)) e.docs (delivered q.num.0 t)) stands.filters
-      ∙ ap (λ docs. listing_of rules docs (delivered q.num.0 t)) stands.docs ∙ ap (listing_of rules t.docs) box.box in
+      same ∙ ap (λ fs. listing_of (filter_rules (last_filter (user_of e.session) fs)) e.index.docs (delivered q.num.0 t)) stands.filters
+      ∙ ap (λ docs. listing_of rules docs (delivered q.num.0 t)) (docs-are stands) ∙ ap (listing_of rules t.docs) box.box in
       record {
         fine = accepted.fine;
         reply_is = ap (Listing name) whole ∙ sym (ap (λ o. (show_list o name e.session t).reply) some) ∙ accepted.reply_is;

@@ -1,6 +1,6 @@
 -- What well formed tables say of their rows.
-use Rattle.std.proofs.Common.{◌≡◌, ◌∙◌, sym, ap, subst, refl, arith, ℕ, zero, suc, ◌+◌, ◌-◌, ◌≤◌, ◌<◌, ℤ, pos, Bool, true, false, Option, Some, None, List, [], ◌∷◌, ◌++◌, length, inl, inr}
-use Rattle.std.specs.Prelude.{◌==◌, ◌&&◌, ◌≤ℤ◌, nat_le, int_le, int_lt, slice_get}
+use Rattle.std.proofs.Common.{◌≡◌, ◌∙◌, ap, subst, refl, arith, ℕ, zero, suc, ◌+◌, ◌-◌, ◌≤◌, ◌<◌, ℤ, pos, Bool, true, false, Option, Some, None, List, [], ◌∷◌, ◌++◌, length, inl, inr}
+use Rattle.std.specs.Prelude.{◌==◌, ◌≤ℤ◌, nat_le, int_le, slice_get}
 use Rattle.std.proofs.lemmas.Bool.{and_parts, false≢true}
 use Rattle.std.proofs.lemmas.Int.{ints}
 use Rattle.std.proofs.lemmas.Option.{none-some, same_Some}
@@ -10,11 +10,12 @@ use Rattle.tap_rows.specs.declared.rows.Doc.{Doc}
 use Rattle.tap_rows.specs.declared.rows.QueryRow.{QueryRow}
 use Rattle.tap_rows.specs.declared.rows.RunRow.{RunRow}
 use Rattle.tap_rows.specs.declared.rows.Pick.{Pick}
-use Rattle.tap_rows.specs.Arrivals.{Arrived}
+use Rattle.tap_rows.specs.declared.rows.Note.{Note}
+use Rattle.row_index.specs.Orders.{doc_number, doc_arrival, note_number, note_arrival}
 use Rattle.tap_rows.specs.Kept.{Each, HasRun, RunsFrom, QueriesFrom}
-use Rattle.tap_rows.specs.WellFormed.{may_follow, row_at, is_row, docs_stand, doc_stands, query_stands, queries_stand, was_defined, run_stands, runs_stand, is_picked, pick_stands, picks_stand, is_well_formed}
+use Rattle.tap_rows.specs.WellFormed.{may_follow, row_at, is_row, docs_stand, doc_stands, note_stands, notes_stand, query_stands, queries_stand, run_stands, runs_stand, is_picked, pick_stands, picks_stand, is_well_formed}
 use Rattle.tap_model.specs.Sound.{IsMoment}
-use Rattle.tap_engine.specs.Starting.{IsOneOf}
+use Rattle.tap_engine.specs.Starting.{IsOneOf, AreStanding, AreLeft}
 
 equal : (a b : ℕ) → (a == b) ≡ true → a ≡ b
 equal a b e = grind arith
@@ -29,14 +30,28 @@ follows low m e = let parts = and_parts (int_le low m) (int_le m (pos LAST_MOMEN
 next : (n : ℕ) → n + 1 ≡ suc n
 next n = omega arith
 
-docs-arrived : (place : ℕ) (low : ℤ) (docs : List Doc) → docs_stand place low docs ≡ true → Arrived place low docs × Each (λ doc. length doc.text ≤ 1048576) docs
-docs-arrived place low [] e = (tt, tt)
-docs-arrived place low (doc ∷ docs) e =
+docs-standing : (place : ℕ) (low : ℤ) (docs : List Doc) → pos 0 ≤ℤ low → docs_stand place low docs ≡ true → AreStanding doc_number doc_arrival place low docs × Each (λ doc. length doc.text ≤ 1048576) docs
+docs-standing place low [] from e = (tt, tt)
+docs-standing place low (doc ∷ docs) from e =
     let both = and_parts (doc_stands place low doc) (docs_stand (place + 1) doc.arrival docs) e in
     let this = and_parts _ _ both.0 in
     let here = and_parts _ _ this.0 in
-    let rest = docs-arrived (place + 1) doc.arrival docs both.1 in
-    (((follows low doc.arrival here.1).0, equal doc.num.0 place here.0, subst (λ n. Arrived n doc.arrival docs) (next place) rest.0), (at-most (length doc.text) 1048576 this.1, rest.1))
+    let moment = follows low doc.arrival here.1 in
+    let above : pos 0 ≤ℤ doc.arrival = omega (arith, ints, moment.0, from) in
+    let rest = docs-standing (place + 1) doc.arrival docs above both.1 in
+    ((equal doc.num.0 place here.0, moment.0, record { early = above; late = moment.1 }, rest.0), (at-most (length doc.text) 1048576 this.1, rest.1))
+
+notes-standing : (docs : List Doc) (place : ℕ) (low : ℤ) (notes : List Note) → pos 0 ≤ℤ low → notes_stand docs place low notes ≡ true → AreStanding note_number note_arrival place low notes
+notes-standing docs place low [] from e = tt
+notes-standing docs place low (note ∷ notes) from e =
+    let both = and_parts (note_stands docs place low note) (notes_stand docs (place + 1) note.arrival notes) e in
+    let kind = and_parts _ _ both.0 in
+    let author = and_parts _ _ kind.0 in
+    let this = and_parts _ _ author.0 in
+    let here = and_parts _ _ this.0 in
+    let moment = follows low note.arrival here.1 in
+    let above : pos 0 ≤ℤ note.arrival = omega (arith, ints, moment.0, from) in
+    (equal note.num.0 place here.0, moment.0, record { early = above; late = moment.1 }, notes-standing docs (place + 1) note.arrival notes above both.1)
 
 not-below : (low m : ℤ) → pos 0 ≤ℤ low → low ≤ℤ m → pos 0 ≤ℤ m
 not-below low m from le = omega (arith, ints, from, le)
@@ -70,14 +85,16 @@ one-of {A = A} test (suc n) xs e = let some = some-is n in go (slice_get xs (suc
   go None at h = absurd (false≢true h)
   go (Some x) at h = let within = row-within xs (suc n - 1) x at in record { low = omega arith; high = omega (arith, within) }
 
-runs-from : (queries : List QueryRow) (place : ℕ) (low : ℤ) (runs : List RunRow) → runs_stand queries place low runs ≡ true → RunsFrom place runs × Each (λ run. IsOneOf run.query.0 (length queries)) runs
-runs-from queries place low [] e = (tt, tt)
-runs-from queries place low (run ∷ runs) e =
+runs-from : (queries : List QueryRow) (place : ℕ) (low : ℤ) (runs : List RunRow) → pos 0 ≤ℤ low → runs_stand queries place low runs ≡ true → RunsFrom place runs × Each (λ run. IsOneOf run.query.0 (length queries)) runs × Each (λ run. IsMoment run.moment) runs
+runs-from queries place low [] from e = (tt, tt, tt)
+runs-from queries place low (run ∷ runs) from e =
     let both = and_parts (run_stands queries place low run) (runs_stand queries (place + 1) run.moment runs) e in
     let this = and_parts _ _ both.0 in
     let here = and_parts _ _ this.0 in
-    let rest = runs-from queries (place + 1) run.moment runs both.1 in
-    ((equal run.num place here.0, subst (λ n. RunsFrom n runs) (next place) rest.0), (one-of (λ query. int_le query.arrival run.moment) run.query.0 queries this.1, rest.1))
+    let moment = follows low run.moment here.1 in
+    let above : pos 0 ≤ℤ run.moment = omega (arith, ints, moment.0, from) in
+    let rest = runs-from queries (place + 1) run.moment runs above both.1 in
+    ((equal run.num place here.0, subst (λ n. RunsFrom n runs) (next place) rest.0), (one-of (λ query. int_le query.arrival run.moment) run.query.0 queries this.1, rest.1), ((above, moment.1), rest.2))
 
 -- the run at a place is there
 has-at : (k i : ℕ) (runs : List RunRow) (run : RunRow) (query : ℕ) → RunsFrom k runs → slice_get runs i ≡ Some run → run.query.0 ≡ query → HasRun (k + i) query runs
@@ -112,11 +129,13 @@ picks-have runs docs earlier place before (pick ∷ picks) from e =
 
 -- what an engine needs of well formed tables
 pub record Formed (tables : Tables) : Type 0 where
-  pub arrived : Arrived 1 (pos 0) tables.docs
+  pub docs : AreLeft doc_number doc_arrival [] tables.docs
+  pub notes : AreLeft note_number note_arrival [] tables.notes
   pub short : Each (λ doc. length doc.text ≤ 1048576) tables.docs
   pub queries : QueriesFrom 1 tables.queries
   pub moments : Each (λ query. IsMoment query.arrival) tables.queries
   pub runs : RunsFrom 1 tables.runs
+  pub times : Each (λ run. IsMoment run.moment) tables.runs
   pub owned : Each (λ run. IsOneOf run.query.0 (length tables.queries)) tables.runs
   pub picked : Each (λ pick. HasRun pick.run pick.query.0 tables.runs) tables.picks
 
@@ -127,7 +146,9 @@ formed tables holds =
     let r = and_parts _ _ p.0 in
     let q = and_parts _ _ r.0 in
     let n = and_parts _ _ q.0 in
-    let docs = docs-arrived 1 (pos 0) tables.docs n.0 in
+    let zero-first : pos 0 ≤ℤ pos 0 = omega (arith, ints) in
+    let docs = docs-standing 1 (pos 0) tables.docs zero-first n.0 in
+    let notes = notes-standing tables.docs 1 (pos 0) tables.notes zero-first n.1 in
     let queries = queries-from [] 1 (pos 0) tables.queries (omega (arith, ints)) q.1 in
-    let runs = runs-from tables.queries 1 (pos 0) tables.runs r.1 in
-    record { arrived = docs.0; short = docs.1; queries = queries.0; moments = queries.1; runs = runs.0; owned = runs.1; picked = picks-have tables.runs tables.docs [] 1 None tables.picks runs.0 p.1 }
+    let runs = runs-from tables.queries 1 (pos 0) tables.runs zero-first r.1 in
+    record { docs = record { low = pos 0; before = tt; stand = docs.0 }; notes = record { low = pos 0; before = tt; stand = notes }; times = runs.2; short = docs.1; queries = queries.0; moments = queries.1; runs = runs.0; owned = runs.1; picked = picks-have tables.runs tables.docs [] 1 None tables.picks runs.0 p.1 }

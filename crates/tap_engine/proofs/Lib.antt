@@ -1,14 +1,13 @@
 mod Moments
 mod OwnerLaws
 mod TextLaws
-mod SlowLaws
-mod SettledLaws
-mod FreshLaws
+mod RowTurns
+mod PlanLaws
+mod LeftLaws
 mod AnswerTurns
 mod ReadyLaws
 mod CheckLaws
 mod StandingLaws
-mod ArrivalLaws
 mod AskLaws
 mod DueLaws
 mod PerformLaws

@@ -1,5 +1,5 @@
 -- Mailbox files: why one is refused, and what the engine keeps after one.
-use Rattle.std.proofs.Common.{◌≡◌, ◌∙◌, sym, refl, ap, subst, arith, ℕ, ℤ, List, [], ◌∷◌, ◌++◌, ◌+◌, ◌*◌, ◌≤◌, suc, length, Bool, true, false, Option, Some, None, inr}
+use Rattle.std.proofs.Common.{◌≡◌, ◌∙◌, sym, refl, ap, subst, arith, ℕ, ℤ, List, [], ◌∷◌, ◌+◌, ◌*◌, ◌≤◌, suc, length, Bool, true, false, Option, Some, None, inr}
 use Rattle.std.specs.Prelude.{◌&&◌, ◌==◌, nat_le, sum_by}
 use Rattle.std.specs.Option.{option_or}
 use Rattle.std.proofs.lemmas.List.{append-nil}
@@ -26,7 +26,9 @@ use Rattle.tap_model.specs.Replies.{docs_from, next_docs, some_docs, tables_afte
 use Rattle.tap_model.specs.Stories.{Refuses}
 use Rattle.tap_model.proofs.AnswerLaws.{some-none}
 use Rattle.tap_engine.specs.Answering.{Answers}
+use Rattle.tap_engine.proofs.RowTurns.{docs-are}
 use Rattle.tap_engine.proofs.AnswerTurns.{answers-accepted}
+use Rattle.query_eval.specs.Hits.{HitsWithRoom}
 use Rattle.tap_engine.specs.declared.engine.Engine.{Engine}
 use Rattle.tap_engine.specs.Standing.{StandsFor, mbox_bounds, mbox_refusal, RefusedBy}
 use Rattle.tap_engine.proofs.CheckLaws.{late-first, passes-late}
@@ -39,8 +41,8 @@ first-or (Some x) rest = refl
 pub mbox-verdict : (e : Engine) (t : Tables) (block : Block) → StandsFor e t → mbox_refusal e block ≡ verdict (Mbox block) e.session t
 unfolding mbox_bounds
 mbox-verdict e t block stands =
-    first-or (no_moment e.session) (long_message (messages_of block) ∷ long_block block ∷ passes Documents DOCUMENT_LIMIT (length e.docs) (length (messages_of block)) ∷ passes Store STORE_LIMIT e.bytes (bytes_of (messages_of block)) ∷ [])
-    ∙ rw (stands.docs, stands.bytes) refl
+    first-or (no_moment e.session) (long_message (messages_of block) ∷ long_block block ∷ passes Documents DOCUMENT_LIMIT (length e.index.docs) (length (messages_of block)) ∷ passes Store STORE_LIMIT e.bytes (bytes_of (messages_of block)) ∷ [])
+    ∙ rw (docs-are stands, stands.bytes) refl
 
 pub mbox-refuses : (e : Engine) (block : Block) (refusal : Refusal) → RefusedBy (mbox_refusal e block) refusal → (t : Tables) → StandsFor e t → Refuses refusal (Mbox block) e.session t
 mbox-refuses e block refusal by t stands = subst (λ v. RefusedBy v refusal) (mbox-verdict e t block stands) by
@@ -65,7 +67,7 @@ mbox-memory e block moment = inr (refl, ap (λ x. is_early (option_or x (mbox_bo
   late =
       late-first _ _ (message-late (are_short (messages_of block)))
       (late-first _ _ (block-late block)
-      (late-first _ _ (passes-late Documents DOCUMENT_LIMIT (length e.docs) (length (messages_of block)))
+      (late-first _ _ (passes-late Documents DOCUMENT_LIMIT (length e.index.docs) (length (messages_of block)))
       (late-first _ [] (passes-late Store STORE_LIMIT e.bytes (bytes_of (messages_of block))) refl)))
 
 both-true : (a b : Bool) → (a && b) ≡ true → (a ≡ true) × (b ≡ true)
@@ -111,12 +113,11 @@ answers-mbox t s block texts count first n moment change s' none is at is-count 
     }
 
 -- documents more
-pub stands-docs : (e : Engine) (t : Tables) (moment : ℤ) (texts : List (List ℕ)) → StandsFor e t → (e.session.moment ≡ None → ⊥)
-    → StandsFor (record e { docs = e.docs ++ next_docs t moment texts; bytes = e.bytes + bytes_of texts }) (tables_after (some_docs (next_docs t moment texts)) t)
-stands-docs e t moment texts stands there = rw (docs-change t (next_docs t moment texts)) (record {
-  docs = ap (λ docs. docs ++ next_docs t moment texts) stands.docs;
+pub stands-docs : (e : Engine) (t : Tables) (h : HitsWithRoom) (moment : ℤ) (texts : List (List ℕ)) → StandsFor e t → (e.session.moment ≡ None → ⊥)
+    → StandsFor (record e { index = after e.index (Docs (next_docs t moment texts)); hits = h; bytes = e.bytes + bytes_of texts }) (tables_after (some_docs (next_docs t moment texts)) t)
+stands-docs e t h moment texts stands there = rw (docs-change t (next_docs t moment texts)) (record {
+  rows = ap (λ rows. after rows (Docs (next_docs t moment texts))) stands.rows;
   queries = stands.queries;
-  notes = stands.notes;
   run_count = stands.run_count;
   pick_count = stands.pick_count;
   bytes = more (sum_by (λ doc. length doc.text) t.docs) (sum_by (λ note. length note.text) t.notes) (sum_by (λ query. length query.source) t.queries) (sum_by (λ filter. length filter.source) t.filters) _ _ (bytes_of texts) stands.bytes
@@ -130,10 +131,10 @@ stands-docs e t moment texts stands there = rw (docs-change t (next_docs t momen
   more a b c d a' n k is e = omega (arith, is, e)
 
 -- the same, by how many documents are kept
-pub stands-more : (e : Engine) (t : Tables) (moment : ℤ) (texts : List (List ℕ)) → StandsFor e t → (e.session.moment ≡ None → ⊥)
-    → StandsFor (record e { docs = e.docs ++ docs_from (length e.docs + 1) moment texts; bytes = e.bytes + bytes_of texts }) (tables_after (some_docs (docs_from (length e.docs + 1) moment texts)) t)
-stands-more e t moment texts stands there =
-    subst (λ n. StandsFor (record e { docs = e.docs ++ docs_from (n + 1) moment texts; bytes = e.bytes + bytes_of texts }) (tables_after (some_docs (docs_from (n + 1) moment texts)) t)) (sym (ap length stands.docs)) (stands-docs e t moment texts stands there)
+pub stands-more : (e : Engine) (t : Tables) (h : HitsWithRoom) (moment : ℤ) (texts : List (List ℕ)) → StandsFor e t → (e.session.moment ≡ None → ⊥)
+    → StandsFor (record e { index = after e.index (Docs (docs_from (length e.index.docs + 1) moment texts)); hits = h; bytes = e.bytes + bytes_of texts }) (tables_after (some_docs (docs_from (length e.index.docs + 1) moment texts)) t)
+stands-more e t h moment texts stands there =
+    subst (λ n. StandsFor (record e { index = after e.index (Docs (docs_from (n + 1) moment texts)); hits = h; bytes = e.bytes + bytes_of texts }) (tables_after (some_docs (docs_from (n + 1) moment texts)) t)) (sym (ap length (docs-are stands))) (stands-docs e t h moment texts stands there)
 
 -- a message is refused or added
 pub answers-mail : (t : Tables) (s : Session) (block : Block) (text : List ℕ) (n : ℕ) (num : DocNum) (moment : ℤ) (change : Change) (s' : Session) → verdict (Mail block) s t ≡ None → text ≡ text_of block → moment ≡ present s

@@ -1,5 +1,5 @@
 -- Notes: why one is refused, and what the engine keeps after one.
-use Rattle.std.proofs.Common.{◌≡◌, ◌∙◌, sym, refl, ap, subst, arith, ℕ, ℤ, List, [], ◌∷◌, ◌++◌, ◌+◌, length, Option, Some, None}
+use Rattle.std.proofs.Common.{◌≡◌, ◌∙◌, sym, refl, ap, subst, arith, ℕ, ℤ, List, [], ◌∷◌, ◌+◌, length, Option, Some, None}
 use Rattle.std.specs.Prelude.{sum_by}
 use Rattle.std.specs.Option.{option_or}
 use Rattle.std.proofs.lemmas.List.Sums.{sum_by-append}
@@ -24,6 +24,7 @@ use Rattle.tap_engine.specs.Standing.{StandsFor, note_bounds, note_refusal, Refu
 use Rattle.tap_model.specs.Stories.{Refuses}
 use Rattle.tap_model.proofs.AnswerLaws.{some-none}
 use Rattle.tap_engine.specs.Answering.{Answers}
+use Rattle.tap_engine.proofs.RowTurns.{docs-are, notes-are}
 use Rattle.tap_engine.proofs.AnswerTurns.{answers-accepted}
 
 four : (a b c : Option Refusal) (rest : List (Option Refusal)) → option_or a (option_or b (option_or c (first_refusal rest))) ≡ first_refusal (a ∷ b ∷ c ∷ rest)
@@ -36,8 +37,8 @@ four None None None rest = refl
 pub note-verdict : (e : Engine) (t : Tables) (doc : ℕ) (kind : List ℕ) (value : ℤ) (text : List ℕ) → StandsFor e t → note_refusal e doc kind text ≡ verdict (AddNote doc kind value text) e.session t
 unfolding note_bounds
 note-verdict e t doc kind value text stands =
-    four (no_moment e.session) (no_user e.session) (bad_name kind) (no_doc doc (length e.docs) ∷ long_note (length text) ∷ passes Notes NOTE_LIMIT (length e.notes) 1 ∷ passes Store STORE_LIMIT e.bytes (length text) ∷ [])
-    ∙ rw (stands.docs, stands.notes, stands.bytes) refl
+    four (no_moment e.session) (no_user e.session) (bad_name kind) (no_doc doc (length e.index.docs) ∷ long_note (length text) ∷ passes Notes NOTE_LIMIT (length e.index.notes) 1 ∷ passes Store STORE_LIMIT e.bytes (length text) ∷ [])
+    ∙ rw (docs-are stands, notes-are stands, stands.bytes) refl
 
 pub note-refuses : (e : Engine) (doc : ℕ) (kind : List ℕ) (value : ℤ) (text : List ℕ) (refusal : Refusal) → RefusedBy (note_refusal e doc kind text) refusal → (t : Tables) → StandsFor e t → Refuses refusal (AddNote doc kind value text) e.session t
 note-refuses e doc kind value text refusal by t stands = subst (λ v. RefusedBy v refusal) (note-verdict e t doc kind value text stands) by
@@ -61,11 +62,10 @@ answers-note t s doc kind value text n note change s' none count is-note is-chan
     }
 
 -- a note more
-pub stands-note : (e : Engine) (t : Tables) (note : Note) → StandsFor e t → (e.session.moment ≡ None → ⊥) → StandsFor (record e { notes = e.notes ++ note ∷ []; bytes = e.bytes + length note.text }) (after t (OneNote note))
+pub stands-note : (e : Engine) (t : Tables) (note : Note) → StandsFor e t → (e.session.moment ≡ None → ⊥) → StandsFor (record e { index = after e.index (OneNote note); bytes = e.bytes + length note.text }) (after t (OneNote note))
 stands-note e t note stands there = record {
-  docs = stands.docs;
+  rows = ap (λ rows. after rows (OneNote note)) stands.rows;
   queries = stands.queries;
-  notes = ap (λ notes. notes ++ note ∷ []) stands.notes;
   run_count = stands.run_count;
   pick_count = stands.pick_count;
   bytes = more (sum_by (λ doc. length doc.text) t.docs) (sum_by (λ note. length note.text) t.notes) (sum_by (λ query. length query.source) t.queries) (sum_by (λ filter. length filter.source) t.filters) _ _ (length note.text) stands.bytes (sum_by-append (λ note. length note.text) t.notes (note ∷ []));

@@ -21,10 +21,12 @@ use Rattle.tap_model.specs.Sound.{Sound}
 use Rattle.tap_model.proofs.AnswerLaws.{some-none}
 use Rattle.tap_model.proofs.FitLaws.{accepted_fits}
 use Rattle.tap_model.proofs.NextLaws.{next-is}
+use Rattle.query_eval.specs.Hits.{HitsWithRoom}
+use Rattle.tap_engine.specs.Standing.{StandsFor}
 use Rattle.tap_engine.specs.declared.engine.Engine.{Engine}
 use Rattle.tap_engine.specs.declared.fault.EngineFault.{EngineFault}
 use Rattle.tap_engine.specs.declared.undo.Undo.{Undo}
-use Rattle.tap_engine.specs.Answering.{Answers, TakesBack, fault_answer, fault_engine}
+use Rattle.tap_engine.specs.Answering.{Answers, IsStill, TakesBack, fault_answer, fault_engine}
 
 no-change : (change : Change) → None ≡ Some change → ⊥
 no-change change e = cc
@@ -65,10 +67,10 @@ pub rows-next : (t : Tables) (s : Session) (c : Command) (reply : Reply) (change
 rows-next t s c reply change s' answers = ap (λ change. tables_after change t) answers.change_is ∙ sym (next-is c reply s t answers.reply_is)
 
 -- the step where the keeper didn't commit
-pub fault-step : (fault : CommitFault) (t : Tables) (e e' : Engine) (c : Command) (result : Result Reply EngineFault) → result ≡ fault_answer fault → e' ≡ fault_engine fault e → Step t e.session c (No Memory) t e.session
+pub fault-step : (fault : CommitFault) (t : Tables) (e back e' : Engine) (c : Command) (result : Result Reply EngineFault) → result ≡ fault_answer fault → e' ≡ fault_engine fault back → back.session ≡ e.session → Step t e.session c (No Memory) t e.session
     → IfOk result (λ reply. Step t e.session c reply (next_tables c reply e.session t) e'.session)
-fault-step C.Memory t e e' c result is to step = subst (λ r. IfOk r (λ reply. Step t e.session c reply (next_tables c reply e.session t) e'.session)) (sym is) (subst (λ k. Step t e.session c (No Memory) t k.session) (sym to) step)
-fault-step C.Failed t e e' c result is to step = subst (λ r. IfOk r (λ reply. Step t e.session c reply (next_tables c reply e.session t) e'.session)) (sym is) tt
+fault-step C.Memory t e back e' c result is to same step = subst (λ r. IfOk r (λ reply. Step t e.session c reply (next_tables c reply e.session t) e'.session)) (sym is) (subst (λ s. Step t e.session c (No Memory) t s) (sym (ap (λ k. k.session) to ∙ same)) step)
+fault-step C.Failed t e back e' c result is to same step = subst (λ r. IfOk r (λ reply. Step t e.session c reply (next_tables c reply e.session t) e'.session)) (sym is) tt
 
 abbrev not_done : CommitFault → Result (Unit {0}) CommitFault
 not_done fault = Err fault
@@ -90,3 +92,14 @@ one-of t x s c reply change s' answers (inr e) = inr (e ∙ ap (λ change. table
 
 pub taken-there : (undo : Undo) (new old : Engine) (change : Option Change) (rows : Change) → change ≡ Some rows → OnSome change (TakesBack undo new old) → TakesBack undo new old
 taken-there undo new old change rows is takes = subst (λ change. OnSome change (TakesBack undo new old)) is takes
+
+-- the hits have no part in what an engine stands for
+stands-hits : (e : Engine) (t : Tables) (h : HitsWithRoom) → StandsFor e t → StandsFor (record e { hits = h }) t
+stands-hits e t h stands = record { rows = stands.rows; queries = stands.queries; filters = stands.filters; run_count = stands.run_count; pick_count = stands.pick_count; bytes = stands.bytes; users = stands.users; owners = stands.owners; greatest = stands.greatest }
+
+-- what the engine stands for where the keeper didn't commit
+pub fault-stands : (fault : CommitFault) (t : Tables) (e back e' : Engine) (c : Command) (result : Result Reply EngineFault) → result ≡ fault_answer fault → e' ≡ fault_engine fault back → IsStill back e → StandsFor e t
+    → IfOk result (λ reply. StandsFor e' (next_tables c reply e.session t))
+fault-stands C.Memory t e back e' c result is to still stands =
+    subst (λ r. IfOk r (λ reply. StandsFor e' (next_tables c reply e.session t))) (sym is) (subst (λ k. StandsFor k t) (sym (to ∙ still.same)) (stands-hits e t back.hits stands))
+fault-stands C.Failed t e back e' c result is to still stands = subst (λ r. IfOk r (λ reply. StandsFor e' (next_tables c reply e.session t))) (sym is) tt

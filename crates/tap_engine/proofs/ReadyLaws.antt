@@ -1,18 +1,22 @@
 -- The engine stays ready for its next step.
-use Rattle.std.proofs.Common.{◌≡◌, ◌∙◌, sym, refl, ap, subst, arith, ℕ, zero, suc, ◌+◌, ◌≤◌, ◌<◌, ℤ, pos, List, [], ◌∷◌, ◌++◌, length, Bool, true, false, Option, Some, None, if◌then◌else◌}
+use Rattle.std.proofs.Common.{◌≡◌, ◌∙◌, sym, refl, ap, subst, arith, ℕ, zero, suc, ◌+◌, ◌≤◌, ◌<◌, ℤ, List, [], ◌∷◌, ◌++◌, length, Bool, true, false, Option, Some, None, if◌then◌else◌}
 use Rattle.std.specs.Prelude.{◌≤ℤ◌, int_le, find, slice_index_or, slice_set}
 use Rattle.std.specs.Option.{option_or}
 use Rattle.std.proofs.lemmas.Int.{ints}
 use Rattle.std.proofs.Math.Seq.{take-append_seam}
 use Rattle.tap_base.specs.Numbers.{moment_of}
 use Rattle.tql_types.proofs.Ranges.{InRange, moment-range}
-use Rattle.tap_rows.specs.declared.rows.Doc.{Doc}
 use Rattle.tap_rows.specs.declared.rows.QueryRow.{QueryRow}
 use Rattle.tap_rows.specs.declared.results.Entry.{Entry}
-use Rattle.tap_rows.specs.Arrivals.{Arrived}
+use Rattle.tap_rows.specs.declared.rows.Note.{Note}
+use Rattle.tap_rows.specs.declared.change.Change.TheVariants.{Docs, OneNote}
+use Rattle.tap_rows.specs.Tables.{after}
+use Rattle.row_index.specs.Orders.{doc_arrival, note_arrival}
+use Rattle.row_index.specs.Orders as Index
+use Rattle.query_eval.specs.Hits.{HitsWithRoom}
 use Rattle.tap_rows.specs.Kept.{Each}
 use Rattle.script_lang.specs.declared.refusal.Refusal.TheVariants.{Backwards}
-use Rattle.tap_model.specs.Queries.{is_named}
+use Rattle.tap_model.specs.Queries.{is_named, start_of}
 use Rattle.tap_model.specs.Replies.{docs_from}
 use Rattle.tap_model.specs.Sessions.{or_zero, present}
 use Rattle.tap_model.specs.Sound.{IsMoment}
@@ -22,15 +26,16 @@ use Rattle.tap_engine.specs.declared.kept_query.KeptQuery.{KeptQuery}
 use Rattle.tap_engine.specs.declared.engine.Engine.{Engine}
 use Rattle.tap_engine.specs.declared.run.Due.{Due}
 use Rattle.tap_engine.specs.Keeping.{named_in, new_kept, after_run, before_run, without_run}
-use Rattle.tap_engine.specs.Ready.{KeptFrom, DocsBy, IsTime, IsReady}
+use Rattle.tap_engine.specs.Ready.{KeptFrom, RowsBy, IsTime, IsReady}
 use Rattle.tap_engine.specs.Standing.{kept_named, hits_kept, due_of}
-use Rattle.tap_engine.specs.Answering.{TakesBack, undo_run}
+use Rattle.tap_engine.specs.Answering.{IsStill, TakesBack, undo_run}
 
 -- what is kept of a query that stands at the place of its number
 pub record KeptAt (num runs : ℕ) (queries : List KeptQuery) (kept : KeptQuery) : Type 0 where
   pub low : num ≤ kept.row.num.0
   pub high : kept.row.num.0 < num + length queries
   pub few : kept.runs ≤ runs
+  pub covered : IsMoment kept.covered
   pub at : (i : ℕ) (d : KeptQuery) → kept.row.num.0 ≡ num + i → slice_index_or queries i d ≡ kept
 
 some-kept : (x y : KeptQuery) → Some x ≡ Some y → x ≡ y
@@ -42,7 +47,7 @@ no-kept x e = cc
 -- what is found stands at the place of its number
 found-at : (p : KeptQuery → Bool) (num runs : ℕ) (queries : List KeptQuery) (kept : KeptQuery) → KeptFrom num runs queries → find p queries ≡ Some kept → KeptAt num runs queries kept
 found-at p num runs [] kept from e = absurd (no-kept kept e)
-found-at p num runs (x ∷ queries) kept from e = go (p x) refl (found-at p (suc num) runs queries kept from.2) where
+found-at p num runs (x ∷ queries) kept from e = go (p x) refl (found-at p (suc num) runs queries kept from.3) where
   here : x ≡ kept → KeptAt num runs (x ∷ queries) kept
   here same =
       let is : kept.row.num.0 ≡ num = sym (ap (λ k. k.row.num.0) same) ∙ from.0 in
@@ -50,6 +55,7 @@ found-at p num runs (x ∷ queries) kept from e = go (p x) refl (found-at p (suc
         low = omega (arith, is);
         high = omega (arith, is);
         few = subst (λ k. k.runs ≤ runs) same from.1;
+        covered = subst (λ k. IsMoment k.covered) same from.2;
         at = λ i d at. elim i as (λ i. kept.row.num.0 ≡ num + i → slice_index_or (x ∷ queries) i d ≡ kept) [ zero ↦ λ at. same | suc i ↦ λ at. absurd (omega (arith, is, at)) ] at;
       }
 
@@ -58,6 +64,7 @@ found-at p num runs (x ∷ queries) kept from e = go (p x) refl (found-at p (suc
     low = omega (arith, rest.low);
     high = omega (arith, rest.high);
     few = rest.few;
+    covered = rest.covered;
     at = λ i d at. elim i as (λ i. kept.row.num.0 ≡ num + i → slice_index_or (x ∷ queries) i d ≡ kept) [ zero ↦ λ at. absurd (omega (arith, rest.low, at)) | suc i ↦ λ at. rest.at i d (omega (arith, at)) ] at;
   }
 
@@ -94,18 +101,18 @@ due-at e name due ready is = go (kept_named e name) refl where
 -- more runs of all
 more-runs : (num runs runs' : ℕ) (queries : List KeptQuery) → runs ≤ runs' → KeptFrom num runs queries → KeptFrom num runs' queries
 more-runs num runs runs' [] le from = tt
-more-runs num runs runs' (kept ∷ queries) le from = (from.0, omega (arith, from.1, le), more-runs (suc num) runs runs' queries le from.2)
+more-runs num runs runs' (kept ∷ queries) le from = (from.0, omega (arith, from.1, le), from.2, more-runs (suc num) runs runs' queries le from.3)
 
 -- one more query
-pub kept-more : (num runs : ℕ) (queries : List KeptQuery) (row : QueryRow) → KeptFrom num runs queries → row.num.0 ≡ num + length queries → KeptFrom num runs (queries ++ new_kept row ∷ [])
-kept-more num runs [] row from is = (omega (arith, is), omega arith, tt)
-kept-more num runs (kept ∷ queries) row from is = (from.0, from.1, kept-more (suc num) runs queries row from.2 (omega (arith, is)))
+pub kept-more : (num runs : ℕ) (queries : List KeptQuery) (row : QueryRow) → KeptFrom num runs queries → row.num.0 ≡ num + length queries → IsMoment (start_of row) → KeptFrom num runs (queries ++ new_kept row ∷ [])
+kept-more num runs [] row from is start = (omega (arith, is), omega arith, start, tt)
+kept-more num runs (kept ∷ queries) row from is start = (from.0, from.1, from.2, kept-more (suc num) runs queries row from.3 (omega (arith, is)) start)
 
 -- one more run of the query at a place
-pub kept-run : (num runs i : ℕ) (queries : List KeptQuery) (m : ℤ) (entries : List Entry) (d : KeptQuery) → KeptFrom num runs queries → KeptFrom num (runs + 1) (slice_set queries i (after_run m entries (slice_index_or queries i d)))
-kept-run num runs i [] m entries d from = tt
-kept-run num runs zero (kept ∷ queries) m entries d from = (from.0, omega (arith, from.1), more-runs (suc num) runs (runs + 1) queries (omega arith) from.2)
-kept-run num runs (suc i) (kept ∷ queries) m entries d from = (from.0, omega (arith, from.1), kept-run (suc num) runs i queries m entries d from.2)
+pub kept-run : (num runs i : ℕ) (queries : List KeptQuery) (m : ℤ) (entries : List Entry) (d : KeptQuery) → KeptFrom num runs queries → IsMoment m → KeptFrom num (runs + 1) (slice_set queries i (after_run m entries (slice_index_or queries i d)))
+kept-run num runs i [] m entries d from moment = tt
+kept-run num runs zero (kept ∷ queries) m entries d from moment = (from.0, omega (arith, from.1), moment, more-runs (suc num) runs (runs + 1) queries (omega arith) from.3)
+kept-run num runs (suc i) (kept ∷ queries) m entries d from moment = (from.0, omega (arith, from.1), from.2, kept-run (suc num) runs i queries m entries d from.3 moment)
 
 -- a run that is taken back
 same-query : (kept : KeptQuery) (m : ℤ) (entries : List Entry) → before_run kept.covered kept.runs (length kept.entries) (after_run m entries kept) ≡ kept
@@ -123,11 +130,11 @@ length-set zero (kept ∷ queries) x = refl
 length-set (suc i) (kept ∷ queries) x = ap suc (length-set i queries x)
 
 -- the engine before a run
-pub undo-run : (e e' : Engine) (i : ℕ) (m : ℤ) (entries : List Entry) (runs picks : ℕ) (d : KeptQuery) → i < length e.queries
-    → e' ≡ record e { queries = slice_set e.queries i (after_run m entries (slice_index_or e.queries i d)); run_count = runs; pick_count = picks } → TakesBack (undo_run e i (slice_index_or e.queries i d)) e' e
-undo-run e e' i m entries runs picks d lt is = rw is (record {
+pub undo-run : (e e' : Engine) (h : HitsWithRoom) (i : ℕ) (m : ℤ) (entries : List Entry) (runs picks : ℕ) (d : KeptQuery) → i < length e.queries → e.hits.room ≤ h.room
+    → e' ≡ record e { hits = h; queries = slice_set e.queries i (after_run m entries (slice_index_or e.queries i d)); run_count = runs; pick_count = picks } → TakesBack (undo_run e i (slice_index_or e.queries i d)) e' e
+undo-run e e' h i m entries runs picks d lt room is = subst (λ e'. TakesBack (undo_run e i (slice_index_or e.queries i d)) e' e) (sym is) (record {
   there = subst (λ n. i < n) (sym (length-set i e.queries (after_run m entries (slice_index_or e.queries i d)))) lt;
-  before_is = ap (λ l. record e { queries = l }) (run-back i e.queries m entries d);
+  before_is = record { same = ap (λ l. record e { hits = h; queries = l }) (run-back i e.queries m entries d); room = room };
 })
 
 -- the run at a place is taken back by writing what is kept there
@@ -137,41 +144,47 @@ without-set zero runs entries covered (kept ∷ queries) d lt = refl
 without-set (suc i) runs entries covered (kept ∷ queries) d lt = ap (λ l. kept ∷ l) (without-set i runs entries covered queries d (omega (arith, lt)))
 
 -- documents more, that arrive at the session's moment
-arrived-from : (num : ℕ) (low moment : ℤ) (texts : List (List ℕ)) → low ≤ℤ moment → Arrived num low (docs_from num moment texts)
-arrived-from num low moment [] le = tt
-arrived-from num low moment (text ∷ texts) le = (le, refl, subst (λ n. Arrived n moment (docs_from (num + 1) moment texts)) (up num) (arrived-from (num + 1) moment moment texts (omega (arith, ints)))) where
-  up : (n : ℕ) → n + 1 ≡ suc n
-  up n = omega arith
-
-arrived-all : (num : ℕ) (low moment : ℤ) (docs : List Doc) (texts : List (List ℕ)) (next : ℕ) → Arrived num low docs → Each (λ doc. doc.arrival ≤ℤ moment) docs → low ≤ℤ moment → next ≡ num + length docs → Arrived num low (docs ++ docs_from next moment texts)
-arrived-all num low moment [] texts next arrived each le is = subst (λ n. Arrived num low (docs_from n moment texts)) (none is) (arrived-from num low moment texts le) where
-  none : next ≡ num + 0 → num ≡ next
-  none e = omega (arith, e)
-arrived-all num low moment (doc ∷ docs) texts next arrived each le is = (arrived.0, arrived.1, arrived-all (suc num) doc.arrival moment docs texts next arrived.2 each.1 each.0 (omega (arith, is)))
-
 each-from : (num : ℕ) (moment : ℤ) (texts : List (List ℕ)) → Each (λ doc. doc.arrival ≤ℤ moment) (docs_from num moment texts)
 each-from num moment [] = tt
 each-from num moment (text ∷ texts) = (omega (arith, ints), each-from (num + 1) moment texts)
 
-each-both : (moment : ℤ) (xs ys : List Doc) → Each (λ doc. doc.arrival ≤ℤ moment) xs → Each (λ doc. doc.arrival ≤ℤ moment) ys → Each (λ doc. doc.arrival ≤ℤ moment) (xs ++ ys)
-each-both moment [] ys left right = right
-each-both moment (x ∷ xs) ys left right = (left.0, each-both moment xs ys left.1 right)
+each-both : {A : Type 0} (P : A → Type 0) (xs ys : List A) → Each P xs → Each P ys → Each P (xs ++ ys)
+each-both P [] ys left right = right
+each-both P (x ∷ xs) ys left right = (left.0, each-both P xs ys left.1 right)
 
-pub ready-docs : (e : Engine) (texts : List (List ℕ)) (bytes : ℕ) → IsReady e → (e.session.moment ≡ None → ⊥) → IsReady (record e { docs = e.docs ++ docs_from (length e.docs + 1) (present e.session) texts; bytes = bytes })
-ready-docs e texts bytes ready there = go e.session.moment refl where
-  go : (o : Option ℤ) → e.session.moment ≡ o → IsReady (record e { docs = e.docs ++ docs_from (length e.docs + 1) (present e.session) texts; bytes = bytes })
+-- the rows arrived by the session's moment
+pub rows-by : {A : Type 0} (f : A → ℤ) (e : Engine) (rows : List A) → RowsBy f (option_or e.session.moment e.greatest) rows → (e.session.moment ≡ None → ⊥) → Each (λ row. f row ≤ℤ present e.session) rows
+rows-by f e rows by there = go e.session.moment refl where
+  go : (o : Option ℤ) → e.session.moment ≡ o → Each (λ row. f row ≤ℤ present e.session) rows
   go None none = absurd (there none)
-  go (Some m) is =
-      let at : present e.session ≡ m = ap or_zero is in
-      let by : Each (λ doc. doc.arrival ≤ℤ m) e.docs = subst (λ o. DocsBy (option_or o e.greatest) e.docs) is ready.by in
-      let time : IsMoment m = subst IsTime is ready.moment in
-      record {
-        docs = subst (λ z. Arrived 1 (pos 0) (e.docs ++ docs_from (length e.docs + 1) z texts)) (sym at) (arrived-all 1 (pos 0) m e.docs texts (length e.docs + 1) ready.docs by time.0 (omega arith));
-        by = subst (λ o. DocsBy (option_or o e.greatest) (e.docs ++ docs_from (length e.docs + 1) (present e.session) texts)) (sym is)
-            (subst (λ z. Each (λ doc. doc.arrival ≤ℤ m) (e.docs ++ docs_from (length e.docs + 1) z texts)) (sym at) (each-both m e.docs _ by (each-from (length e.docs + 1) m texts)));
-        queries = ready.queries;
-        moment = ready.moment;
-      }
+  go (Some m) is = subst (λ z. Each (λ row. f row ≤ℤ z) rows) (sym (ap or_zero is)) (subst (λ o. RowsBy f (option_or o e.greatest) rows) is by)
+
+by-rows : {A : Type 0} (f : A → ℤ) (e : Engine) (rows : List A) → (e.session.moment ≡ None → ⊥) → Each (λ row. f row ≤ℤ present e.session) rows → RowsBy f (option_or e.session.moment e.greatest) rows
+by-rows f e rows there each = go e.session.moment refl where
+  go : (o : Option ℤ) → e.session.moment ≡ o → RowsBy f (option_or e.session.moment e.greatest) rows
+  go None none = absurd (there none)
+  go (Some m) is = subst (λ o. RowsBy f (option_or o e.greatest) rows) (sym is) (subst (λ z. Each (λ row. f row ≤ℤ z) rows) (ap or_zero is) each)
+
+pub ready-docs : (e : Engine) (h : HitsWithRoom) (texts : List (List ℕ)) (bytes : ℕ) → IsReady e → (e.session.moment ≡ None → ⊥) → length (e.index.docs ++ docs_from (length e.index.docs + 1) (present e.session) texts) ≤ h.room
+    → IsReady (record e { index = after e.index (Docs (docs_from (length e.index.docs + 1) (present e.session) texts)); hits = h; bytes = bytes })
+ready-docs e h texts bytes ready there room = record {
+  docs = by-rows doc_arrival e (e.index.docs ++ docs_from (length e.index.docs + 1) (present e.session) texts) there
+      (each-both (λ doc. doc.arrival ≤ℤ present e.session) e.index.docs _ (rows-by doc_arrival e e.index.docs ready.docs there) (each-from (length e.index.docs + 1) (present e.session) texts));
+  notes = ready.notes;
+  queries = ready.queries;
+  moment = ready.moment;
+  room = room;
+}
+
+-- a note more, that arrives then
+pub ready-note : (e : Engine) (note : Note) (bytes : ℕ) → IsReady e → note.arrival ≡ present e.session → (e.session.moment ≡ None → ⊥) → IsReady (record e { index = after e.index (OneNote note); bytes = bytes })
+ready-note e note bytes ready at there = record {
+  docs = ready.docs;
+  notes = by-rows note_arrival e (e.index.notes ++ note ∷ []) there (each-both (λ note. note.arrival ≤ℤ present e.session) e.index.notes (note ∷ []) (rows-by note_arrival e e.index.notes ready.notes there) (omega (arith, ints, at), tt));
+  queries = ready.queries;
+  moment = ready.moment;
+  room = ready.room;
+}
 
 -- a second that isn't refused is not below the last one
 not-back : (last second : ℤ) → is_back (Some last) (Some second) ≡ None → last ≤ℤ second
@@ -180,17 +193,23 @@ not-back last second none = go (int_le last second) refl where
   go true y = grind (arith, ints)
   go false n = absurd (some-none (Backwards last) (sym (ap (λ b. unless b (Backwards last)) n) ∙ none))
 
-each-later : (m n : ℤ) (docs : List Doc) → m ≤ℤ n → Each (λ doc. doc.arrival ≤ℤ m) docs → Each (λ doc. doc.arrival ≤ℤ n) docs
-each-later m n [] le each = tt
-each-later m n (doc ∷ docs) le each = (omega (arith, ints, each.0, le), each-later m n docs le each.1)
+each-later : {A : Type 0} (f : A → ℤ) (m n : ℤ) (rows : List A) → m ≤ℤ n → Each (λ row. f row ≤ℤ m) rows → Each (λ row. f row ≤ℤ n) rows
+each-later f m n [] le each = tt
+each-later f m n (row ∷ rows) le each = (omega (arith, ints, each.0, le), each-later f m n rows le each.1)
 
-pub by-second : (last : Option ℤ) (second : ℤ) (docs : List Doc) → DocsBy last docs → is_back last (Some second) ≡ None → Each (λ doc. doc.arrival ≤ℤ second) docs
-by-second None second docs by none = subst (λ docs. Each (λ doc. doc.arrival ≤ℤ second) docs) (sym by) tt
-by-second (Some last) second docs by none = each-later last second docs (not-back last second none) by
+by-second : {A : Type 0} (f : A → ℤ) (last : Option ℤ) (second : ℤ) (rows : List A) → RowsBy f last rows → is_back last (Some second) ≡ None → Each (λ row. f row ≤ℤ second) rows
+by-second f None second rows by none = subst (λ rows. Each (λ row. f row ≤ℤ second) rows) (sym by) tt
+by-second f (Some last) second rows by none = each-later f last second rows (not-back last second none) by
 
 -- a moment that is set
 pub ready-at : (e : Engine) (second : ℤ) → IsReady e → IsMoment second → is_back (option_or e.session.moment e.greatest) (Some second) ≡ None → IsReady (record e { session = record e.session { moment = Some second } })
-ready-at e second ready range none = record { docs = ready.docs; by = by-second (option_or e.session.moment e.greatest) second e.docs ready.by none; queries = ready.queries; moment = range }
+ready-at e second ready range none = record {
+  docs = by-second doc_arrival (option_or e.session.moment e.greatest) second e.index.docs ready.docs none;
+  notes = by-second note_arrival (option_or e.session.moment e.greatest) second e.index.notes ready.notes none;
+  queries = ready.queries;
+  moment = range;
+  room = ready.room;
+}
 
 pub moment-in-range : (text : List ℕ) (m : ℤ) → moment_of text ≡ Some m → IsMoment m
 moment-in-range text m e = subst InRange e (moment-range text)
@@ -202,7 +221,19 @@ present-moment e ready there = go e.session.moment refl where
   go None none = absurd (there none)
   go (Some m) is = subst IsMoment (sym (ap or_zero is)) (subst IsTime is ready.moment)
 
+-- the same, as the index takes it
+pub index-moment : (e : Engine) → IsReady e → (e.session.moment ≡ None → ⊥) → Index.IsMoment (present e.session)
+index-moment e ready there = let moment = present-moment e ready there in record { early = moment.0; late = moment.1 }
+
+-- what is left of the engine where nothing moved stays ready
+pub ready-still : (e e' : Engine) → IsReady e → IsStill e' e → IsReady e'
+ready-still e e' ready still = subst IsReady (sym still.same) (record { docs = ready.docs; notes = ready.notes; queries = ready.queries; moment = ready.moment; room = omega (arith, ready.room, still.room) })
+
 pub some-moment : (moment : Option ℤ) (m : ℤ) → moment ≡ Some m → moment ≡ None → ⊥
 some-moment moment m is none = no-moment m (sym is ∙ none) where
   no-moment : (m : ℤ) → Some m ≡ None → ⊥
   no-moment m e = cc
+
+-- the engine with other hits stays ready
+pub ready-hits : (e e' : Engine) (h : HitsWithRoom) → e' ≡ record e { hits = h } → e.hits.room ≤ h.room → IsStill e' e
+ready-hits e e' h is room = record { same = is ∙ ap (λ h. record e { hits = h }) (sym (ap (λ k. k.hits) is)); room = subst (λ k. e.hits.room ≤ k.hits.room) (sym is) room }

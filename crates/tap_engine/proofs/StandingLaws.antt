@@ -27,9 +27,8 @@ new-is t row kept num =
 pub stands-query : (e : Engine) (t : Tables) (row : QueryRow) → StandsFor e t → IsKept truth_of start_of t → row.num.0 ≡ length t.queries + 1 → (e.session.moment ≡ None → ⊥)
     → StandsFor (record e { queries = e.queries ++ new_kept row ∷ []; owners = with_owner e.owners row.owner; bytes = e.bytes + length row.source }) (after t (OneQuery row))
 stands-query e t row stands kept num there = record {
-  docs = stands.docs;
+  rows = stands.rows;
   queries = rw stands.queries (ap (λ k. map (kept_query t) t.queries ++ k ∷ []) (sym (new-is t row kept num)) ∙ sym (map-append (kept_query t) t.queries (row ∷ [])));
-  notes = stands.notes;
   run_count = stands.run_count;
   pick_count = stands.pick_count;
   bytes = more (sum_by (λ doc. length doc.text) t.docs) (sum_by (λ note. length note.text) t.notes) (sum_by (λ query. length query.source) t.queries) (sum_by (λ filter. length filter.source) t.filters) _ _ (length row.source) stands.bytes (sum_by-append (λ query. length query.source) t.queries (row ∷ []));

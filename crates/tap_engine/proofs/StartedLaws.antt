@@ -1,15 +1,19 @@
 -- An engine that has started stands for its tables, and is ready.
-use Rattle.std.proofs.Common.{◌≡◌, ◌∙◌, sym, ap, subst, refl, arith, ℕ, suc, ◌+◌, ◌≤◌, ℤ, pos, Bool, true, false, Option, Some, None, List, [], ◌∷◌, ◌++◌, length, map, append_assoc, if◌then◌else◌, inl, inr}
+use Rattle.std.proofs.Common.{◌≡◌, ◌∙◌, sym, ap, subst, refl, arith, ℕ, suc, ◌≤◌, ℤ, Bool, true, false, Option, Some, None, List, [], ◌∷◌, ◌++◌, length, map, append_assoc, if◌then◌else◌, inl, inr}
 use Rattle.std.specs.Prelude.{◌⊎◌, ◌≤ℤ◌, int_le, is_some}
 use Rattle.std.proofs.lemmas.Int.{ints}
 use Rattle.std.proofs.lemmas.List.{append-nil}
 use Rattle.tap_base.specs.Words.{holds, with_new}
 use Rattle.tap_rows.specs.declared.tables.Tables.{Tables}
-use Rattle.tap_rows.specs.declared.rows.Doc.{Doc}
 use Rattle.tap_rows.specs.declared.rows.QueryRow.{QueryRow}
 use Rattle.std.specs.Option.{option_or, option_map}
 use Rattle.std.proofs.lemmas.Option.{none-some}
-use Rattle.tap_rows.specs.Arrivals.{Arrived}
+use Rattle.row_index.specs.Orders.{doc_arrival, note_arrival}
+use Rattle.row_index.specs.Rows.{rows_alone}
+use Rattle.tap_model.specs.Queries.{start_of}
+use Rattle.tap_model.specs.Sound.{IsMoment}
+use Rattle.tap_model.proofs.SoundLaws.{start-moment}
+use Rattle.tap_engine.proofs.PlanLaws.{covered-each}
 use Rattle.tap_rows.specs.Kept.{Each, QueriesFrom}
 use Rattle.tap_rows.proofs.LaterLaws.{each-map}
 use Rattle.tap_model.specs.Limits.{stored_bytes, owners_in, different}
@@ -17,11 +21,11 @@ use Rattle.tap_model.specs.Sessions.{no_session, later_of, greatest_of, greatest
 use Rattle.tap_engine.specs.declared.engine.Engine.{Engine}
 use Rattle.tap_engine.specs.Keeping.{kept_query, with_owner}
 use Rattle.tap_engine.specs.Standing.{StandsFor}
-use Rattle.tap_engine.specs.Ready.{KeptFrom, DocsBy, IsTime, IsReady}
 use Rattle.tap_rows.specs.declared.rows.FilterRow.{FilterRow}
 use Rattle.tap_model.specs.Verdicts.{filter_fault}
 use Rattle.tap_engine.specs.declared.start.StartFault.{StartFault}
 use Rattle.tap_engine.specs.declared.start.StartFault.TheVariants.{Rules, Memory}
+use Rattle.tap_engine.specs.Ready.{KeptFrom, RowsBy, IsTime, IsReady}
 use Rattle.tap_engine.specs.Starting.{runs_alone, first_unread}
 use Rattle.tap_engine.proofs.DueLaws.{runs-few}
 use Rattle.tap_engine.proofs.OwnerLaws.{users-more, owners-more}
@@ -54,8 +58,8 @@ new-all xs = new-holds [] [] xs (record { count = refl; same = λ text. refl })
 -- an engine made of these parts
 pub record IsStarted (e : Engine) (t : Tables) : Type 0 where
   pub session : e.session ≡ no_session
-  pub docs : e.docs ≡ t.docs
-  pub notes : e.notes ≡ t.notes
+  pub rows : e.index ≡ rows_alone t.docs t.notes
+  pub room : length e.index.docs ≤ e.hits.room
   pub queries : e.queries ≡ map (kept_query (runs_alone t.runs t.picks)) t.queries
   pub filters : e.filters ≡ t.filters
   pub run_count : e.run_count ≡ length t.runs
@@ -66,9 +70,8 @@ pub record IsStarted (e : Engine) (t : Tables) : Type 0 where
 
 pub stands-start : (e : Engine) (t : Tables) → IsStarted e t → StandsFor e t
 stands-start e t is = record {
-  docs = is.docs;
+  rows = is.rows;
   queries = is.queries;
-  notes = is.notes;
   filters = is.filters;
   run_count = is.run_count;
   pick_count = is.pick_count;
@@ -78,9 +81,9 @@ stands-start e t is = record {
   greatest = λ none. is.greatest;
 }
 
-kept-from : (t : Tables) (k : ℕ) (queries : List QueryRow) → QueriesFrom k queries → KeptFrom k (length t.runs) (map (kept_query t) queries)
-kept-from t k [] from = tt
-kept-from t k (query ∷ queries) from = (from.0, runs-few query.num.0 t.runs, kept-from t (suc k) queries from.1)
+kept-from : (t : Tables) (k : ℕ) (queries : List QueryRow) → QueriesFrom k queries → Each (λ query. IsMoment query.arrival) queries → Each (λ run. IsMoment run.moment) t.runs → KeptFrom k (length t.runs) (map (kept_query t) queries)
+kept-from t k [] from moments times = tt
+kept-from t k (query ∷ queries) from moments times = (from.0, runs-few query.num.0 t.runs, covered-each IsMoment (start_of query) query.num.0 t.runs (start-moment query moments.0) times, kept-from t (suc k) queries from.1 moments.1 times)
 
 -- no document arrived after the greatest moment
 later-self : (m : ℤ) (known : Option ℤ) → m ≤ℤ later_of m known
@@ -92,35 +95,45 @@ later-self m (Some n) = greater m n where
 later-known : (m n : ℤ) → n ≤ℤ (if int_le n m then m else n)
 later-known m n = grind (arith, ints)
 
-by-greatest : (docs : List Doc) (more : List ℤ) → DocsBy (greatest_of (map (λ doc. doc.arrival) docs ++ more)) docs
-by-greatest [] more = go (greatest_of more) where
-  go : (o : Option ℤ) → DocsBy o []
-  go None = refl
-  go (Some m) = tt
-by-greatest (doc ∷ docs) more = go (greatest_of (map (λ doc. doc.arrival) docs ++ more)) (by-greatest docs more) where
-  go : (o : Option ℤ) → DocsBy o docs → DocsBy (Some (later_of doc.arrival o)) (doc ∷ docs)
-  go None none = (later-self doc.arrival None, subst (λ l. Each (λ doc'. doc'.arrival ≤ℤ doc.arrival) l) (sym none) tt)
-  go (Some n) each = (later-self doc.arrival (Some n), each-map (λ d. d.arrival ≤ℤ n) (λ d. d.arrival ≤ℤ later_of doc.arrival (Some n)) docs (λ d le. let up = later-known doc.arrival n in omega (arith, ints, le, up)) each)
+by-later : {A : Type 0} (f : A → ℤ) (m : ℤ) (o : Option ℤ) (rows : List A) → RowsBy f o rows → Each (λ row. f row ≤ℤ later_of m o) rows
+by-later f m None rows none = subst (λ l. Each (λ row. f row ≤ℤ m) l) (sym none) tt
+by-later f m (Some n) rows each = each-map (λ row. f row ≤ℤ n) (λ row. f row ≤ℤ later_of m (Some n)) rows (λ row le. let up = later-known m n in omega (arith, ints, le, up)) each
+
+no-row-by : {A : Type 0} (f : A → ℤ) (o : Option ℤ) → RowsBy f o []
+no-row-by f None = refl
+no-row-by f (Some m) = tt
+
+by-greatest : {A : Type 0} (f : A → ℤ) (rows : List A) (more : List ℤ) → RowsBy f (greatest_of (map f rows ++ more)) rows
+by-greatest f [] more = no-row-by f (greatest_of more)
+by-greatest f (row ∷ rows) more = (later-self (f row) (greatest_of (map f rows ++ more)), by-later f (f row) (greatest_of (map f rows ++ more)) rows (by-greatest f rows more))
+
+by-before : {A : Type 0} (f : A → ℤ) (rows : List A) (before more : List ℤ) → RowsBy f (greatest_of (map f rows ++ more)) rows → RowsBy f (greatest_of (before ++ (map f rows ++ more))) rows
+by-before f rows [] more by = by
+by-before f rows (m ∷ before) more by = by-later f m (greatest_of (before ++ (map f rows ++ more))) rows (by-before f rows before more by)
 
 regrouped : (a b c d e : List ℤ) → a ++ (b ++ (c ++ (d ++ e))) ≡ a ++ b ++ c ++ d ++ e
 regrouped a b c d e = sym (append_assoc (a ++ b ++ c) d e ∙ append_assoc (a ++ b) c (d ++ e) ∙ append_assoc a b (c ++ (d ++ e)))
 
-by-moment : (t : Tables) → DocsBy (greatest_moment t) t.docs
-by-moment t =
-    let n = map (λ note. note.arrival) t.notes in
-    let q = map (λ query. query.arrival) t.queries in
-    let r = map (λ run. run.moment) t.runs in
-    let f = map (λ filter. filter.arrival) t.filters in
-    subst (λ all. DocsBy (greatest_of all) t.docs) (regrouped (map (λ doc. doc.arrival) t.docs) n q r f) (by-greatest t.docs (n ++ (q ++ (r ++ f))))
+all-moments : (t : Tables) → map doc_arrival t.docs ++ (map note_arrival t.notes ++ (map (λ query. query.arrival) t.queries ++ (map (λ run. run.moment) t.runs ++ map (λ filter. filter.arrival) t.filters)))
+    ≡ map (λ doc. doc.arrival) t.docs ++ map (λ note. note.arrival) t.notes ++ map (λ query. query.arrival) t.queries ++ map (λ run. run.moment) t.runs ++ map (λ filter. filter.arrival) t.filters
+all-moments t = regrouped (map doc_arrival t.docs) (map note_arrival t.notes) (map (λ query. query.arrival) t.queries) (map (λ run. run.moment) t.runs) (map (λ filter. filter.arrival) t.filters)
+
+docs-by : (t : Tables) → RowsBy doc_arrival (greatest_moment t) t.docs
+docs-by t = subst (λ all. RowsBy doc_arrival (greatest_of all) t.docs) (all-moments t) (by-greatest doc_arrival t.docs _)
+
+notes-by : (t : Tables) → RowsBy note_arrival (greatest_moment t) t.notes
+notes-by t = subst (λ all. RowsBy note_arrival (greatest_of all) t.notes) (all-moments t) (by-before note_arrival t.notes (map doc_arrival t.docs) _ (by-greatest note_arrival t.notes _))
+
+by-started : {A : Type 0} (f : A → ℤ) (e : Engine) (t : Tables) (rows : List A) → e.session ≡ no_session → e.greatest ≡ greatest_moment t → RowsBy f (greatest_moment t) rows → RowsBy f (option_or e.session.moment e.greatest) rows
+by-started f e t rows session greatest by = subst (λ session. RowsBy f (option_or session.moment e.greatest) rows) (sym session) (subst (λ known. RowsBy f known rows) (sym greatest) by)
 
 pub ready-start : (e : Engine) (t : Tables) → IsStarted e t → Formed t → IsReady e
 ready-start e t is formed = record {
-  docs = subst (λ docs. Arrived 1 (pos 0) docs) (sym is.docs) formed.arrived;
-  by = subst (λ session. DocsBy (option_or session.moment e.greatest) e.docs) (sym is.session)
-      (subst (λ known. DocsBy known e.docs) (sym is.greatest)
-      (subst (λ docs. DocsBy (greatest_moment t) docs) (sym is.docs) (by-moment t)));
-  queries = subst (λ n. KeptFrom 1 n e.queries) (sym is.run_count) (subst (λ queries. KeptFrom 1 (length t.runs) queries) (sym is.queries) (kept-from t 1 t.queries formed.queries));
+  docs = by-started doc_arrival e t e.index.docs is.session is.greatest (subst (λ rows. RowsBy doc_arrival (greatest_moment t) rows.docs) (sym is.rows) (docs-by t));
+  notes = by-started note_arrival e t e.index.notes is.session is.greatest (subst (λ rows. RowsBy note_arrival (greatest_moment t) rows.notes) (sym is.rows) (notes-by t));
+  queries = subst (λ n. KeptFrom 1 n e.queries) (sym is.run_count) (subst (λ queries. KeptFrom 1 (length t.runs) queries) (sym is.queries) (kept-from t 1 t.queries formed.queries formed.moments formed.times));
   moment = subst (λ session. IsTime session.moment) (sym is.session) tt;
+  room = is.room;
 }
 
 -- the texts of filters of tables that a session may begin with can be read

@@ -1,9 +1,10 @@
 -- How a command is answered before its rows are committed, and how its rows are taken back.
-use Rattle.std.specs.Prelude.{ℕ, ⊤, ◌≡◌, ◌<◌, length, take, true, Option, None, Result, Ok, Err}
+use Rattle.std.specs.Prelude.{ℕ, ⊤, ◌≡◌, ◌<◌, ◌≤◌, length, take, true, Option, None, Result, Ok, Err}
 use Rattle.tap_rows.specs.declared.tables.Tables.{Tables}
 use Rattle.tap_rows.specs.declared.change.Change.{Change}
 use Rattle.keeper_core.specs.declared.fault.CommitFault.{CommitFault}
 use Rattle.keeper_core.specs.declared.fault.CommitFault.TheVariants as C
+use Rattle.row_index.specs.Rows.{without_last_note}
 use Rattle.script_lang.specs.declared.command.Command.{Command}
 use Rattle.script_lang.specs.declared.reply.Reply.{Reply}
 use Rattle.script_lang.specs.declared.reply.Reply.TheVariants.{No}
@@ -29,8 +30,8 @@ pub record Answers (tables : Tables) (session : Session) (command : Command) (re
 -- the engine without the rows of a command
 abbrev pub taken_back : Undo → Engine → Engine
 taken_back Nothing engine = engine
-taken_back (Docs len bytes) engine = record engine { docs = take len engine.docs; bytes = bytes }
-taken_back (Note len bytes) engine = record engine { notes = take len engine.notes; bytes = bytes }
+taken_back (Docs len bytes) engine = record engine { index = record engine.index { docs = take len engine.index.docs }; bytes = bytes }
+taken_back (Note bytes) engine = record engine { index = without_last_note engine.index; bytes = bytes }
 taken_back (Query len owners bytes) engine = record engine { queries = take len engine.queries; owners = take owners engine.owners; bytes = bytes }
 taken_back (Filter len owners bytes) engine = record engine { filters = take len engine.filters; owners = take owners engine.owners; bytes = bytes }
 taken_back (Run place covered runs entries run_count pick_count) engine =
@@ -40,15 +41,21 @@ taken_back (Run place covered runs entries run_count pick_count) engine =
 abbrev pub undo_run : Engine → ℕ → KeptQuery → Undo
 undo_run engine place kept = Run place kept.covered kept.runs (length kept.entries) engine.run_count engine.pick_count
 
--- the query whose run is taken back is there
+-- the note, or the query whose run, is taken back is there
 abbrev pub IsThere : Undo → Engine → Type 0
+IsThere (Note bytes) engine = 0 < length engine.index.notes
 IsThere (Run place covered runs entries run_count pick_count) engine = place < length engine.queries
 IsThere undo engine = ⊤
 
--- the one engine is what is left of the other when the rows of a command are taken back
+-- the engine is as before, but for what it keeps between commands without meaning: the hits, with room for no fewer
+pub record IsStill (engine before : Engine) : Type 0 where
+  pub same : engine ≡ record before { hits = engine.hits }
+  pub room : before.hits.room ≤ engine.hits.room
+
+-- the engine is as before when the rows of a command are taken back
 pub record TakesBack (undo : Undo) (engine before : Engine) : Type 0 where
   pub there : IsThere undo engine
-  pub before_is : taken_back undo engine ≡ before
+  pub before_is : IsStill (taken_back undo engine) before
 
 -- what is answered where the keeper didn't commit
 abbrev pub fault_answer : CommitFault → Result Reply EngineFault

@@ -5,10 +5,13 @@ use Rattle.tap_base.specs.Words.{holds}
 use Rattle.tap_rows.specs.declared.tables.Tables.{Tables}
 use Rattle.tap_rows.specs.declared.rows.QueryRow.{QueryRow}
 use Rattle.tap_rows.specs.declared.results.Entry.{Entry}
+use Rattle.tap_rows.specs.declared.results.Hit.{Hit}
+use Rattle.time_marks.specs.Probes.{meaning_without}
+use Rattle.query_eval.specs.Nested.{was_seen}
 use Rattle.tap_rows.specs.Results.{run_moments, covered}
 use Rattle.tap_rows.specs.Deliveries.{delivered}
 use Rattle.tap_engine.specs.declared.kept_query.KeptQuery.{KeptQuery}
-use Rattle.tap_model.specs.Queries.{start_of, is_named}
+use Rattle.tap_model.specs.Queries.{start_of, probes_in, is_named}
 
 -- what is kept of a query: its row, the second that it has covered up to, how many runs it had, and what it has delivered
 abbrev pub kept_query : Tables → QueryRow → KeptQuery
@@ -38,6 +41,10 @@ after_run moment entries kept = record { row = kept.row; covered = moment; runs 
 -- a query as it was before its last run: the second that it had covered up to, how many runs it had, and how many entries
 abbrev pub before_run : ℤ → ℕ → ℕ → KeptQuery → KeptQuery
 before_run second runs entries kept = record { row = kept.row; covered = second; runs = runs; entries = take entries kept.entries }
+
+-- what a run of a query at a moment delivers: what its window query finds since the last run, without what was delivered
+abbrev pub hits_since : KeptQuery → Tables → ℤ → List Hit
+hits_since kept rows moment = meaning_without (was_seen kept.entries) (probes_in kept.row) rows (record { low = kept.covered; high = moment })
 
 -- the queries, where that at a place is as it was before its last run
 abbrev pub without_run : ℕ → ℤ → ℕ → ℕ → List KeptQuery → List KeptQuery

@@ -1,4 +1,3 @@
-pub mod Fresh
 pub mod Keeping
 pub mod Standing
 pub mod Ready

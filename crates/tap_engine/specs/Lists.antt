@@ -11,7 +11,7 @@ use Rattle.tap_engine.specs.declared.kept_query.KeptQuery.{KeptQuery}
 -- what a query has delivered, rated by the user's last filter
 abbrev pub rows_kept : Engine → Option KeptQuery → Option (List Listed)
 rows_kept engine None = None
-rows_kept engine (Some kept) = Some (listing_of (filter_rules (last_filter (user_of engine.session) engine.filters)) engine.docs kept.entries)
+rows_kept engine (Some kept) = Some (listing_of (filter_rules (last_filter (user_of engine.session) engine.filters)) engine.index.docs kept.entries)
 
 -- the lines that explain a query
 abbrev pub lines_kept : Option KeptQuery → Option (List (List ℕ))

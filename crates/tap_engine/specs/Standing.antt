@@ -6,6 +6,7 @@ use Rattle.tap_rows.specs.declared.tables.Tables.{Tables}
 use Rattle.tap_rows.specs.declared.results.Hit.{Hit}
 use Rattle.tap_rows.specs.declared.results.Entry.{Entry}
 use Rattle.mail_lines.specs.declared.block.Block.{Block}
+use Rattle.row_index.specs.Rows.{rows_alone}
 use Rattle.script_lang.specs.declared.refusal.Refusal.{Refusal}
 use Rattle.script_lang.specs.declared.refusal.Refusal.TheVariants.{Taken, NoQuery, Memory}
 use Rattle.script_lang.specs.declared.refusal.LimitName.TheVariants.{Documents, Notes, Queries, AllQueries, Users, Runs, Picks, Store}
@@ -13,20 +14,19 @@ use Rattle.tap_model.specs.declared.limits.TheConstants.{DOCUMENT_LIMIT, NOTE_LI
 use Rattle.tap_engine.specs.declared.kept_query.KeptQuery.{KeptQuery}
 use Rattle.tap_engine.specs.declared.engine.Engine.{Engine}
 use Rattle.tap_engine.specs.declared.run.Due.{Due}
+use Rattle.tap_model.specs.declared.session.Session.{Session}
 use Rattle.tap_model.specs.Sessions.{present, user_of, greatest_moment}
-use Rattle.tap_engine.specs.Fresh.{fresh_of}
 use Rattle.tap_model.specs.Limits.{stored_bytes, owners_in, different, passes}
-use Rattle.tap_model.specs.Verdicts.{missing, unless, first_refusal, no_moment, no_user, bad_name, text_fault, wide_refusal, messages_of, long_message, long_block, bytes_of, no_doc, long_note, is_early}
+use Rattle.tap_model.specs.Verdicts.{missing, unless, first_refusal, no_moment, no_user, bad_name, text_fault, messages_of, long_message, long_block, bytes_of, no_doc, long_note, is_early}
 use Rattle.restart_core.specs.Starts.{condition_text, stored_source}
-use Rattle.tap_engine.specs.Keeping.{kept_query, named_in, owned_in}
+use Rattle.tap_engine.specs.Keeping.{kept_query, named_in, owned_in, hits_since}
 
--- the engine stands for the tables: it keeps their documents, notes, queries and filters, how many runs and picks there are,
--- how many bytes they store, and who owns a query or a filter; before the session has a moment it also keeps the greatest
--- moment of the tables
+-- the engine stands for the tables: its index owns their documents and notes, and it keeps their queries and filters, how
+-- many runs and picks there are, how many bytes they store, and who owns a query or a filter; before the session has a moment
+-- it also keeps the greatest moment of the tables
 pub record StandsFor (engine : Engine) (tables : Tables) : Type 0 where
-  pub docs : engine.docs ≡ tables.docs
+  pub rows : engine.index ≡ rows_alone tables.docs tables.notes
   pub queries : engine.queries ≡ map (kept_query tables) tables.queries
-  pub notes : engine.notes ≡ tables.notes
   pub filters : engine.filters ≡ tables.filters
   pub run_count : engine.run_count ≡ length tables.runs
   pub pick_count : engine.pick_count ≡ length tables.picks
@@ -64,7 +64,7 @@ define_refusal engine name source =
 -- the bounds of these messages of a mailbox file, by what is kept
 unfoldable pub mbox_bounds : Engine → Block → List (List ℕ) → Option Refusal
 mbox_bounds engine block messages =
-    first_refusal (long_message messages ∷ long_block block ∷ passes Documents DOCUMENT_LIMIT (length engine.docs) (length messages) ∷ passes Store STORE_LIMIT engine.bytes (bytes_of messages) ∷ [])
+    first_refusal (long_message messages ∷ long_block block ∷ passes Documents DOCUMENT_LIMIT (length engine.index.docs) (length messages) ∷ passes Store STORE_LIMIT engine.bytes (bytes_of messages) ∷ [])
 
 -- why a mailbox file is refused, by what is kept
 abbrev pub mbox_refusal : Engine → Block → Option Refusal
@@ -73,26 +73,25 @@ mbox_refusal engine block = option_or (no_moment engine.session) (mbox_bounds en
 -- the bounds of a note on this document and of so many bytes, by what is kept
 unfoldable pub note_bounds : Engine → ℕ → ℕ → Option Refusal
 note_bounds engine doc len =
-    first_refusal (no_doc doc (length engine.docs) ∷ long_note len ∷ passes Notes NOTE_LIMIT (length engine.notes) 1 ∷ passes Store STORE_LIMIT engine.bytes len ∷ [])
+    first_refusal (no_doc doc (length engine.index.docs) ∷ long_note len ∷ passes Notes NOTE_LIMIT (length engine.index.notes) 1 ∷ passes Store STORE_LIMIT engine.bytes len ∷ [])
 
 -- why a note is refused, by what is kept
 abbrev pub note_refusal : Engine → ℕ → List ℕ → List ℕ → Option Refusal
 note_refusal engine doc kind text =
     option_or (no_moment engine.session) (option_or (no_user engine.session) (option_or (bad_name kind) (note_bounds engine doc (length text))))
 
+-- why a look for the user's query of this name among these is refused
+abbrev pub query_refusal : Session → List KeptQuery → List ℕ → Option Refusal
+query_refusal session queries name = option_or (no_user session) (option_or (bad_name name) (missing NoQuery (named_in (user_of session) name queries)))
+
 -- why a look for the user's query of this name is refused, by what is kept
 unfoldable pub look_refusal : Engine → List ℕ → Option Refusal
-look_refusal engine name = option_or (no_user engine.session) (option_or (bad_name name) (missing NoQuery (kept_named engine name)))
+look_refusal engine name = query_refusal engine.session engine.queries name
 
 -- what a run of this query delivers, by what is kept
 abbrev pub hits_kept : Engine → Option KeptQuery → List Hit
 hits_kept engine None = []
-hits_kept engine (Some kept) = fresh_of kept.row engine.docs engine.notes kept.covered (present engine.session) engine.docs
-
--- why a run of this query is refused for the seconds that it would try, by what is kept
-abbrev pub wide_kept : Engine → Option KeptQuery → Option Refusal
-wide_kept engine None = None
-wide_kept engine (Some kept) = wide_refusal (condition_text kept.row.source) engine.docs (present engine.session)
+hits_kept engine (Some kept) = hits_since kept engine.index (present engine.session)
 
 -- what a query has delivered, by what is kept of it
 abbrev pub entries_kept : Option KeptQuery → Option (List Entry)
@@ -109,9 +108,8 @@ abbrev pub run_refusal : Engine → List ℕ → Option Refusal
 run_refusal engine name =
     option_or (no_moment engine.session)
     (option_or (look_refusal engine name)
-    (option_or (wide_kept engine (kept_named engine name))
     (option_or (passes Runs RUN_LIMIT engine.run_count 1)
-    (passes Picks PICK_LIMIT engine.pick_count (length (hits_kept engine (kept_named engine name)))))))
+    (passes Picks PICK_LIMIT engine.pick_count (length (hits_kept engine (kept_named engine name))))))
 
 -- refused so, or for want of memory where it isn't refused for want of a moment, of a user or of a name
 abbrev pub RefusedBy : Option Refusal → Refusal → Type 0

@@ -1,6 +1,7 @@
 -- What an engine makes of stored tables when it starts.
-use Rattle.std.specs.Prelude.{ℕ, ℤ, ◌+◌, ◌≤◌, List, [], ◌∷◌, ◌++◌, length, map, Bool, Option, Some, None, is_some, if◌then◌else◌}
+use Rattle.std.specs.Prelude.{ℕ, ℤ, ◌≡◌, ◌+◌, ◌≤◌, ◌≤ℤ◌, List, [], ◌∷◌, ◌++◌, length, map, Bool, Option, Some, None, is_some, if◌then◌else◌}
 use Rattle.tap_rows.specs.declared.tables.Tables.{Tables}
+use Rattle.tap_rows.specs.declared.rows.Note.{Note}
 use Rattle.tap_rows.specs.declared.rows.QueryRow.{QueryRow}
 use Rattle.tap_rows.specs.declared.rows.RunRow.{RunRow}
 use Rattle.tap_rows.specs.declared.rows.Pick.{Pick}
@@ -8,6 +9,8 @@ use Rattle.tap_rows.specs.declared.rows.FilterRow.{FilterRow}
 use Rattle.tap_rows.specs.declared.results.Entry.{Entry}
 use Rattle.tap_rows.specs.Tables.{no_rows}
 use Rattle.tap_rows.specs.Deliveries.{run_ordinal}
+use Rattle.tap_rows.specs.Kept.{Each}
+use Rattle.row_index.specs.Orders.{IsMoment}
 use Rattle.tap_model.specs.Sessions.{later_of}
 use Rattle.tap_model.specs.Verdicts.{filter_fault}
 use Rattle.tap_engine.specs.declared.kept_query.KeptQuery.{KeptQuery}
@@ -60,3 +63,19 @@ sums_of tables =
     (summed (λ query. query.arrival) (λ query. length query.source)
     (summed (λ note. note.arrival) (λ note. length note.text)
     (summed (λ doc. doc.arrival) (λ doc. length doc.text) (record { bytes = 0; greatest = None }) tables.docs) tables.notes) tables.queries) tables.runs) tables.filters
+
+-- rows that stand in order: their numbers are their places, from this one on, and their arrivals are moments that never fall,
+-- from this one on
+abbrev pub AreStanding : {A : Type 0} → (A → ℕ) → (A → ℤ) → ℕ → ℤ → List A → Type 0
+AreStanding number arrival n low [] = Unit {0}
+AreStanding number arrival n low (x ∷ xs) = (number x ≡ n) × (low ≤ℤ arrival x) × IsMoment (arrival x) × AreStanding number arrival (n + 1) (arrival x) xs
+
+-- rows that stand in order behind others
+pub record AreLeft {A : Type 0} (number : A → ℕ) (arrival : A → ℤ) (others rows : List A) : Type 0 where
+  pub low : ℤ
+  pub before : Each (λ other. arrival other ≤ℤ low) others
+  pub stand : AreStanding number arrival (length others + 1) low rows
+
+-- with these notes behind the others
+abbrev pub with_notes : Tables → List Note → Tables
+with_notes rows notes = record rows { notes = rows.notes ++ notes }

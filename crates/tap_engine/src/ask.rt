@@ -14,6 +14,8 @@ use crate::text::read_text;
 use script_lang::{Refusal, Reply};
 use snapshot_meaning::gives;
 use std::alloc::Global;
+use std::sync::ledger::Ledger;
+use tap_base::Steps;
 
 // Refuses a second that isn't over.
 fn refuse_open(second: i64, now: i64) -> Result<(), Refusal>
@@ -31,7 +33,13 @@ impl Engine {
     ghost use Rattle.tap_engine.specs.Answering.{Answers};
 
     // Lists the documents that a condition gives at a second that is over.
-    pub(crate) fn ask(&self, alloc: Global, moment: &[u8], source: &[u8]) -> Result<Reply, Refusal>
+    pub(crate) fn ask<L: Ledger>(
+        &self,
+        alloc: Global,
+        moment: &[u8],
+        source: &[u8],
+        steps: &mut Steps<L>,
+    ) -> Result<Reply, Refusal>
         ensures ok { IfOk result (λ reply. (t : Tables) → StandsFor self.now t → Sound t self.now.session → Answers t self.now.session (Command.Ask moment.now source.now) reply None self.now.session) }
         ensures refusal { IfErr result (λ refusal. (t : Tables) → StandsFor self.now t → Refuses refusal (Command.Ask moment.now source.now) self.now.session t) }
         ensures short { IfOk result (λ reply. HasShortNames reply) }
@@ -48,8 +56,8 @@ impl Engine {
         let docs = gives(
             alloc,
             &cond,
-            self.docs.as_slice(),
-            self.notes.as_slice(),
+            self.index.every_doc(steps),
+            self.index.every_note(steps),
             second,
         )?;
         Ok(Reply::Asked {

@@ -7,17 +7,11 @@ ghost use Rattle.tap_model.specs.Sound.{Sound};
 ghost use Rattle.tap_model.specs.Stories.{Refuses};
 
 use crate::engine::Engine;
+use crate::entries::copy_entries;
 use script_lang::{Refusal, Reply};
 use std::alloc::Global;
 use tap_base::{Memory, Rows, Text};
 use tap_rows::Entry;
-
-// These entries once more.
-fn copy_entries(alloc: Global, entries: &[Entry]) -> Result<Rows<Entry>, Memory>
-    ensures { IfOk result (λ copy. copy ≡ entries.now) }
-{
-    Ok(Rows::from_vec(Vec::from_slice(alloc, entries)?))
-}
 
 impl Engine {
     ghost use Rattle.tap_engine.specs.Standing.{StandsFor, look_refusal, kept_named, entries_kept, RefusedBy};
@@ -31,7 +25,7 @@ impl Engine {
         ensures name { OnOk result (is_name name.now ≡ true) }
     {
         let kept = self.look(name)?;
-        Ok(copy_entries(alloc, kept.entries.as_slice())?)
+        Ok(copy_entries(alloc, &kept.entries)?)
     }
 
     // Lists the deliveries of the user's query of this name.

@@ -76,7 +76,6 @@ impl Engine {
     // Adds a query, and gives it as a change.
     fn add_query(&mut self, alloc: Global, row: QueryRow, cond: Cond) -> Result<Change, Memory>
         requires cond { condition cond ≡ condition_by row }
-        requires few { exists_in (condition cond) ≤ 15 }
         requires scoped { IsQuery (condition cond) }
         requires bounded { are_bounded (condition cond) ≡ true }
         requires arrival { IsMoment row.arrival }
@@ -87,8 +86,8 @@ impl Engine {
     {
         let len = row.source.len();
         let owner = row.owner.copy()?;
-        let kept_row = KeptRow::new(alloc, row.copied()?, cond)?;
-        let kept = KeptQuery::new(kept_row, Rows::new(alloc));
+        let kept_row = KeptRow::new(alloc, row.copied()?, &cond)?;
+        let kept = KeptQuery::new(alloc, kept_row);
         push_query(&mut self.queries, &mut self.owners, kept, owner)?;
         self.bytes += len;
         Ok(Change::OneQuery(row))

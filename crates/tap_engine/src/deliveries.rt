@@ -27,7 +27,7 @@ fn add_run(alloc: Global, queries: &mut KeptQueries, run: &RunRow) -> Result<u32
 {
     let place = run.query.0 as usize - 1;
     let ordinal = ordinal_after(queries.at(place).runs, run.num);
-    queries.add_run(place, run.moment, Rows::new(alloc))?;
+    queries.add_run(place, run.moment, ordinal, &[])?;
     Ok(ordinal)
 }
 

@@ -3,18 +3,20 @@ ghost use Rattle.tap_rows.specs.Tables.{no_rows};
 
 use crate::kept_filter::KeptFilter;
 use crate::kept_queries::KeptQueries;
+use query_eval::Hits;
+use row_index::RowIndex;
 use std::alloc::Global;
 use tap_base::{Rows, Texts};
 use tap_model::Session;
-use tap_rows::{KeptDoc, Note};
 
-/// What is kept of the tables, so that a command is answered at the cost of what it looks at. It is stopped once its keeper
-/// has failed.
+/// What is kept of the tables, so that a command is answered at the cost of what it looks at: the documents and notes with
+/// their index, and the other rows in so far as they are asked for. There is room for a run's hits, which are of no meaning
+/// between commands. It is stopped once its keeper has failed.
 #[derive(Drop)]
 pub struct Engine {
     pub session: Session,
-    pub(crate) docs: Rows<KeptDoc>,
-    pub(crate) notes: Rows<Note>,
+    pub(crate) index: RowIndex,
+    pub(crate) hits: Hits,
     pub(crate) queries: KeptQueries,
     pub(crate) filters: Rows<KeptFilter>,
     pub(crate) run_count: usize,
@@ -39,8 +41,8 @@ impl Engine {
     {
         Engine {
             session: Session::new(),
-            docs: Rows::new(alloc),
-            notes: Rows::new(alloc),
+            index: RowIndex::new(alloc),
+            hits: Hits::new(alloc),
             queries: KeptQueries::new(alloc),
             filters: Rows::new(alloc),
             run_count: 0,
@@ -54,16 +56,16 @@ impl Engine {
 
     /// How many documents there are.
     pub fn docs(&self) -> usize
-        ensures { result ≡ length self.now.docs }
+        ensures { result ≡ length self.now.index.docs }
     {
-        self.docs.len()
+        self.index.docs() as usize
     }
 
     /// How many notes there are.
     pub fn notes(&self) -> usize
-        ensures { result ≡ length self.now.notes }
+        ensures { result ≡ length self.now.index.notes }
     {
-        self.notes.len()
+        self.index.notes() as usize
     }
 
     /// Has the keeper failed?

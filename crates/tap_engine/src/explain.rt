@@ -25,7 +25,7 @@ impl Engine {
         ensures name { OnOk result (is_name name.now ≡ true) }
     {
         let kept = self.look(name)?;
-        let lines = render(alloc, kept.row.ranged())?;
+        let lines = render(alloc, &kept.row.plan().query)?;
         Ok(lines)
     }
 

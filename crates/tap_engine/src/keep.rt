@@ -16,23 +16,10 @@ use crate::kept_queries::KeptQueries;
 use crate::kept_query::KeptQuery;
 use crate::kept_row::KeptRow;
 use appraiser::{RuleFault, read_rules};
-use mail_fields::keep;
 use std::alloc::Global;
 use tap_base::{Memory, Rows, Texts, WordSet};
-use tap_rows::{Doc, FilterRow, KeptDoc, Pick, QueryRow, RunRow};
+use tap_rows::{FilterRow, Pick, QueryRow, RunRow};
 use tql_core::Cond;
-
-// The documents with their fields.
-pub(crate) fn keep_docs(alloc: Global, docs: Rows<Doc>) -> Result<Rows<KeptDoc>, Memory>
-    requires { Each (λ doc. length doc.text ≤ 1048576) docs }
-    ensures { IfOk result (λ kept. kept ≡ docs) }
-{
-    let mut kept = Rows::new(alloc);
-    for doc in docs.into_vec() {
-        kept.push(keep(alloc, doc)?)?;
-    }
-    Ok(kept)
-}
 
 // A query that was never run, with the condition that its text says.
 fn keep_query(alloc: Global, row: QueryRow, cond: Cond) -> Result<KeptQuery, Memory>
@@ -40,8 +27,8 @@ fn keep_query(alloc: Global, row: QueryRow, cond: Cond) -> Result<KeptQuery, Mem
     requires arrival { IsMoment row.arrival }
     ensures { IfOk result (λ kept. kept ≡ new_kept row) }
 {
-    let row = KeptRow::new(alloc, row, cond)?;
-    Ok(KeptQuery::new(row, Rows::new(alloc)))
+    let row = KeptRow::new(alloc, row, &cond)?;
+    Ok(KeptQuery::new(alloc, row))
 }
 
 // The queries, which were never run, with these conditions.

@@ -1,6 +1,7 @@
-ghost use Rattle.std.specs.Prelude.{◌≡◌, ◌<◌, ◌+◌, ◌^◌, ◌++◌, [], ◌∷◌, List, length, take, filter, find, slice_index_or, slice_set, OnOk, OnErr};
+ghost use Rattle.std.specs.Prelude.{◌≡◌, ◌<◌, ◌+◌, ◌^◌, ◌++◌, [], ◌∷◌, List, length, map, take, filter, find, slice_index_or, slice_set, OnOk, OnErr};
 ghost use Rattle.std.specs.Option.{option_copied};
 ghost use Rattle.std.specs.Str.{bytes_eq};
+ghost use Rattle.tap_rows.specs.Results.{entry_at};
 ghost use Rattle.tap_model.specs.Queries.{is_named};
 ghost use Rattle.tap_engine.specs.declared.kept_query.KeptQuery.{KeptQuery};
 ghost use Rattle.tap_engine.specs.Keeping.{after_run, without_run, named_in, owned_in};
@@ -9,8 +10,8 @@ ghost use Rattle.tap_engine.specs.Starting.{with_entry};
 use crate::kept_query::KeptQuery;
 use std::alloc::Global;
 use std::marker::Model;
-use tap_base::{Memory, Rows};
-use tap_rows::{Entry, QueryRow};
+use tap_base::Memory;
+use tap_rows::{Entry, Hit, QueryRow};
 
 /// The queries that are kept, in order of their numbers. It is seen as a list.
 #[derive(Drop)]
@@ -101,18 +102,19 @@ impl KeptQueries {
         &mut self,
         place: usize,
         moment: i64,
-        entries: Rows<Entry>,
+        ordinal: u32,
+        hits: &[Hit],
     ) -> Result<(), Memory>
         requires place { place < length self.old }
         requires runs { (d : KeptQuery) → (slice_index_or self.old place d).runs + 1 < 2 ^ 64 }
-        ensures kept { OnOk result ((d : KeptQuery) → self.new ≡ slice_set self.old place (after_run moment entries (slice_index_or self.old place d))) }
+        ensures kept { OnOk result ((d : KeptQuery) → self.new ≡ slice_set self.old place (after_run moment (map (entry_at ordinal) hits.now) (slice_index_or self.old place d))) }
         ensures err { OnErr result (self.new ≡ self.old) }
     {
-        self.items[place].add_run(moment, entries)
+        self.items[place].add_run(moment, ordinal, hits)
     }
 
     // Takes the last run of the query at this place back.
-    pub(crate) fn take_back(&mut self, place: usize, covered: i64, runs: usize, entries: usize)
+    pub(crate) fn take_back(&mut self, place: usize, covered: i64, runs: usize, entries: u32)
         requires { place < length self.old }
         ensures { self.new ≡ without_run place covered runs entries self.old }
     {

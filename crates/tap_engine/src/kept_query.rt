@@ -1,8 +1,17 @@
-ghost use Rattle.std.specs.Prelude.{◌≡◌, ◌<◌, ◌+◌, ◌^◌, ◌++◌, [], List, OnOk, OnErr};
+ghost use Rattle.std.specs.Prelude.{◌≡◌, ◌<◌, ◌≤◌, ◌+◌, ◌^◌, length, map, OnOk, OnErr};
+ghost use Rattle.tap_rows.specs.Results.{entry_at};
+ghost use Rattle.tap_model.specs.Sound.{IsMoment};
 
+use crate::entries::{add_entry, add_hits};
 use crate::kept_row::KeptRow;
-use tap_base::{Memory, Rows};
-use tap_rows::Entry;
+use little_box::LittleBox;
+use query_eval::{Hits, run_into};
+use row_index::RowIndex;
+use std::alloc::Global;
+use std::sync::ledger::Ledger;
+use tap_base::{Memory, Steps};
+use tap_rows::{Entry, Hit};
+use time_marks::Window;
 
 /// What is kept of a query: its row, the second that it has covered up to, how many runs it had, and what it has
 /// delivered.
@@ -11,17 +20,16 @@ pub struct KeptQuery {
     pub row: KeptRow,
     pub covered: i64,
     pub runs: usize,
-    pub entries: Rows<Entry>,
+    pub entries: LittleBox,
 }
 
 impl KeptQuery {
     ghost use Rattle.tap_model.specs.Queries.{start_of};
-    ghost use Rattle.tap_engine.specs.Keeping.{new_kept, after_run, before_run};
+    ghost use Rattle.tap_engine.specs.Keeping.{new_kept, after_run, before_run, hits_since};
     ghost use Rattle.tap_engine.specs.Starting.{with_entry};
 
     // A query that was never run.
-    pub(crate) fn new(row: KeptRow, entries: Rows<Entry>) -> KeptQuery
-        requires { entries ≡ [] }
+    pub(crate) fn new(alloc: Global, row: KeptRow) -> KeptQuery
         ensures { result ≡ new_kept row }
     {
         let covered = row.start();
@@ -29,29 +37,53 @@ impl KeptQuery {
             row,
             covered,
             runs: 0,
-            entries,
+            entries: LittleBox::new(alloc),
         }
     }
 
-    // Adds a run at this moment, which delivered these.
-    pub(crate) fn add_run(&mut self, moment: i64, entries: Rows<Entry>) -> Result<(), Memory>
+    // Puts what a run at this moment delivers into `hits`: what the window query finds since the last run, without what was
+    // delivered.
+    pub(crate) fn find<L: Ledger>(
+        &self,
+        index: &RowIndex,
+        moment: i64,
+        hits: &mut Hits,
+        steps: &mut Steps<L>,
+    )
+        requires covered { IsMoment self.now.covered }
+        requires moment { IsMoment moment }
+        requires room { length index.now.docs ≤ hits.old.room }
+        ensures hits { hits.new.hits ≡ hits_since self.now index.now moment }
+        ensures room { hits.new.room ≡ hits.old.room }
+    {
+        let window = Window {
+            low: self.covered,
+            high: moment,
+        };
+        run_into(self.row.plan(), index, &self.entries, window, hits, steps);
+    }
+
+    // Adds a run at this moment, of this ordinal, which delivered these. At Err nothing has changed.
+    pub(crate) fn add_run(&mut self, moment: i64, ordinal: u32, hits: &[Hit]) -> Result<(), Memory>
         requires { self.old.runs + 1 < 2 ^ 64 }
-        ensures kept { OnOk result (self.new ≡ after_run moment entries self.old) }
+        ensures kept { OnOk result (self.new ≡ after_run moment (map (entry_at ordinal) hits.now) self.old) }
         ensures err { OnErr result (self.new ≡ self.old) }
     {
-        self.entries.append(entries)?;
+        add_hits(&mut self.entries, ordinal, hits)?;
         self.covered = moment;
         self.runs += 1;
         Ok(())
     }
 
-    // Takes the last run back.
-    pub(crate) fn take_back(&mut self, covered: i64, runs: usize, entries: usize)
+    // Takes the last run back. It takes no memory.
+    pub(crate) fn take_back(&mut self, covered: i64, runs: usize, entries: u32)
         ensures { self.new ≡ before_run covered runs entries self.old }
     {
         self.covered = covered;
         self.runs = runs;
-        self.entries.cut(entries);
+        if entries <= self.entries.len() {
+            self.entries.cut(entries);
+        }
     }
 
     // Adds an entry to what it has delivered.
@@ -59,6 +91,6 @@ impl KeptQuery {
         ensures kept { OnOk result (self.new ≡ with_entry entry self.old) }
         ensures err { OnErr result (self.new ≡ self.old) }
     {
-        self.entries.push(entry)
+        add_entry(&mut self.entries, entry)
     }
 }

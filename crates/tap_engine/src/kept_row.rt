@@ -1,37 +1,31 @@
-ghost use Rattle.std.specs.Prelude.{◌≡◌, ◌≤◌, true, IfOk};
+ghost use Rattle.std.specs.Prelude.{◌≡◌, true, IfOk};
 ghost use Rattle.tql_core.specs.Bounds.{are_bounded};
 ghost use Rattle.tql_core.specs.Condition.{condition};
 ghost use Rattle.tql_core.specs.Scope.{IsQuery};
 ghost use Rattle.time_marks.specs.Distinct.{distinct_probes};
 ghost use Rattle.time_marks.specs.Views.{ranged_probes};
 ghost use Rattle.monotone_rewrite.specs.Query.{window};
-ghost use Rattle.snapshot_meaning.specs.Seen.{exists_in};
+ghost use Rattle.query_eval.specs.Runs.{AreProbes};
 ghost use Rattle.tap_rows.specs.declared.rows.QueryRow.{QueryRow};
-ghost use Rattle.tap_rows.specs.Results.{is_given};
-ghost use Rattle.snapshot_meaning.specs.Seen.{seen};
-ghost use Rattle.tap_model.specs.Local.{is_local, local_truth};
-ghost use Rattle.tap_model.specs.Queries.{condition_by, truth_of, start_of, probes_in};
+ghost use Rattle.tap_model.specs.Queries.{condition_by, start_of, probes_in};
 ghost use Rattle.tap_model.specs.Sound.{IsMoment};
 
+use access_plan::{Plan, plan};
 use incremental_rewrite::incremental;
 use monotone_rewrite::monotone_from;
 use restart_core::cut_start;
-use snapshot_meaning::{holds_at, is_doc_given};
 use std::alloc::Global;
 use std::marker::Model;
 use tap_base::Memory;
-use tap_rows::{KeptDoc, Note, QueryRow};
-use time_marks::RangedQuery;
-use tql_core::{Cond, Env, RowRef, Var};
+use tap_rows::QueryRow;
+use tql_core::Cond;
 
-/// The row of a query with its condition, its start and its window query. It is seen as the row. An environment has room for the EXISTS
-/// variables of the condition.
+/// The row of a query with its start and the plan of its window query. It is seen as the row.
 #[derive(Drop)]
 pub struct KeptRow {
     row: QueryRow,
-    cond: Cond,
     start: i64,
-    ranged: RangedQuery,
+    plan: Plan,
 }
 
 impl Model for KeptRow {
@@ -39,19 +33,7 @@ impl Model for KeptRow {
 
     ghost view = { λ kept. kept.row };
 
-    ghost invariant = { λ kept. (condition kept.cond ≡ condition_by kept.row) × ((exists_in (condition kept.cond) ≤ 15) × ((kept.start ≡ start_of kept.row) × (ranged_probes kept.ranged ≡ probes_in kept.row))) };
-}
-
-// Does the condition speak of neither now nor other rows?
-fn is_local(cond: &Cond) -> bool
-    ensures { result ≡ is_local (condition cond.now) }
-{
-    match cond {
-        Cond::True | Cond::False | Cond::Plain(_) => true,
-        Cond::NowAtLeast(_) | Cond::NowBefore(_) | Cond::Exists(_, _, _) => false,
-        Cond::All(l, r) | Cond::Either(l, r) => is_local(l) && is_local(r),
-        Cond::Not(x) => is_local(x),
-    }
+    ghost invariant = { λ kept. (kept.start ≡ start_of kept.row) × ((ranged_probes kept.plan.query ≡ probes_in kept.row) × AreProbes kept.plan.query) };
 }
 
 // The first second that a query covers.
@@ -66,36 +48,32 @@ fn start_of(row: &QueryRow) -> i64
     }
 }
 
-// The window query of a condition from a start on, without repeats, its marks solved.
-fn range(alloc: Global, cond: &Cond, start: i64) -> Result<RangedQuery, Memory>
+// The plan of the window query of a condition from a start on, without repeats, its marks solved.
+fn make_plan(alloc: Global, cond: &Cond, start: i64) -> Result<Plan, Memory>
     requires scoped { IsQuery (condition cond.now) }
     requires bounded { are_bounded (condition cond.now) ≡ true }
     requires start { IsMoment start }
-    ensures { IfOk result (λ ranged. ranged_probes ranged ≡ distinct_probes (window (condition cond.now) start)) }
+    ensures probes { IfOk result (λ made. ranged_probes made.query ≡ distinct_probes (window (condition cond.now) start)) }
+    ensures scopes { IfOk result (λ made. AreProbes made.query) }
 {
     let query = monotone_from(alloc, cond, start)?;
     let ranged = incremental(alloc, query)?;
-    Ok(ranged)
+    let made = plan(alloc, ranged)?;
+    Ok(made)
 }
 
 impl KeptRow {
-    // Joins a row and its condition, with the window query from its start on.
-    pub(crate) fn new(alloc: Global, row: QueryRow, cond: Cond) -> Result<KeptRow, Memory>
-        requires cond { condition cond ≡ condition_by row }
-        requires few { exists_in (condition cond) ≤ 15 }
-        requires scoped { IsQuery (condition cond) }
-        requires bounded { are_bounded (condition cond) ≡ true }
+    // Joins a row and the plan of its condition's window query from its start on.
+    pub(crate) fn new(alloc: Global, row: QueryRow, cond: &Cond) -> Result<KeptRow, Memory>
+        requires cond { condition cond.now ≡ condition_by row }
+        requires scoped { IsQuery (condition cond.now) }
+        requires bounded { are_bounded (condition cond.now) ≡ true }
         requires arrival { IsMoment row.arrival }
         ensures { IfOk result (λ kept. kept ≡ row) }
     {
         let start = start_of(&row);
-        let ranged = range(alloc, &cond, start)?;
-        Ok(KeptRow {
-            row,
-            cond,
-            start,
-            ranged,
-        })
+        let plan = make_plan(alloc, cond, start)?;
+        Ok(KeptRow { row, start, plan })
     }
 
     /// The row.
@@ -105,11 +83,12 @@ impl KeptRow {
         &self.row
     }
 
-    // The window query, without repeats, its marks solved.
-    pub(crate) fn ranged(&self) -> &RangedQuery
-        ensures { ranged_probes result.now ≡ probes_in self.now }
+    // The plan of its window query.
+    pub(crate) fn plan(&self) -> &Plan
+        ensures query { ranged_probes result.now.query ≡ probes_in self.now }
+        ensures probes { AreProbes result.now.query }
     {
-        &self.ranged
+        &self.plan
     }
 
     // The first second that the query covers.
@@ -117,34 +96,5 @@ impl KeptRow {
         ensures { result ≡ start_of self.now }
     {
         self.start
-    }
-
-    // Is the condition true of the document, where it speaks of neither now nor other rows?
-    #[tactic(auto, unfolding(tap_model::specs::Local::local_truth))]
-    pub(crate) fn is_true_of(&self, doc: &KeptDoc) -> bool
-        ensures { result ≡ local_truth (condition_by self.now) doc.now }
-    {
-        let env = Env::new().bind(Var(0), RowRef::OfDoc(doc));
-        holds_at(&self.cond, &env, &[], &[], 0)
-    }
-
-    // Does the condition speak of neither now nor other rows?
-    pub(crate) fn is_local(&self) -> bool
-        ensures { result ≡ is_local (condition_by self.now) }
-    {
-        is_local(&self.cond)
-    }
-
-    // Is the document given at this second, over these documents and notes?
-    pub(crate) fn is_given_at(
-        &self,
-        doc: &KeptDoc,
-        docs: &[KeptDoc],
-        notes: &[Note],
-        s: i64,
-    ) -> bool
-        ensures { result ≡ is_given (truth_of self.now) (seen docs.now notes.now) doc.now s }
-    {
-        is_doc_given(&self.cond, doc, docs, notes, s)
     }
 }

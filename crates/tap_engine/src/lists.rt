@@ -13,11 +13,13 @@ ghost use Rattle.tap_model.specs.Sound.{Sound};
 ghost use Rattle.tap_model.specs.Stories.{Refuses};
 
 use crate::engine::Engine;
+use crate::entries::copy_entries;
 use crate::kept_filter::KeptFilter;
 use appraiser::{Rules, listing};
 use script_lang::{Refusal, Reply};
 use std::alloc::Global;
-use tap_base::{Memory, Rows, Text};
+use std::sync::ledger::Ledger;
+use tap_base::{Memory, Rows, Steps, Text};
 use tap_rows::{Entry, KeptDoc, Listed};
 
 // The last of the user's filters.
@@ -65,7 +67,12 @@ impl Engine {
     }
 
     // The deliveries of the user's query of this name, rated by the user's last filter.
-    fn rows_named(&self, alloc: Global, name: &[u8]) -> Result<Rows<Listed>, Refusal>
+    fn rows_named<L: Ledger>(
+        &self,
+        alloc: Global,
+        name: &[u8],
+        steps: &mut Steps<L>,
+    ) -> Result<Rows<Listed>, Refusal>
         ensures look { OnOk result (look_refusal self.now name.now ≡ None) }
         ensures rows { IfOk result (λ rows. Some rows ≡ rows_kept self.now (kept_named self.now name.now)) }
         ensures short { IfOk result (λ rows. All (λ row. length row.class ≤ 32) rows) }
@@ -74,18 +81,29 @@ impl Engine {
     {
         let kept = self.look(name)?;
         let filter = last_filter(self.filters.as_slice(), self.user_name());
-        let rows = rate(alloc, filter, self.docs.as_slice(), kept.entries.as_slice())?;
+        let entries = copy_entries(alloc, &kept.entries)?;
+        let rows = rate(
+            alloc,
+            filter,
+            self.index.every_doc(steps),
+            entries.as_slice(),
+        )?;
         Ok(rows)
     }
 
     // Lists the deliveries of the user's query of this name in the order of their ratings.
-    pub(crate) fn show_list(&self, alloc: Global, name: Text) -> Result<Reply, Refusal>
+    pub(crate) fn show_list<L: Ledger>(
+        &self,
+        alloc: Global,
+        name: Text,
+        steps: &mut Steps<L>,
+    ) -> Result<Reply, Refusal>
         ensures ok { IfOk result (λ reply. (t : Tables) → StandsFor self.now t → Sound t self.now.session → Answers t self.now.session (Command.ListOf name) reply None self.now.session) }
         ensures refusal { IfErr result (λ refusal. (t : Tables) → StandsFor self.now t → Refuses refusal (Command.ListOf name) self.now.session t) }
         ensures short { IfOk result (λ reply. HasShortNames reply) }
         ensures accepted { IfOk result (λ reply. is_accepted reply ≡ true) }
     {
-        let rows = self.rows_named(alloc, name.as_slice())?;
+        let rows = self.rows_named(alloc, name.as_slice(), steps)?;
         Ok(Reply::ListOf { name, rows })
     }
 }

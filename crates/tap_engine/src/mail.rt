@@ -1,7 +1,10 @@
-ghost use Rattle.std.specs.Prelude.{◌≡◌, true, ◌≤◌, ◌<◌, ◌+◌, ◌^◌, ◌++◌, [], ◌∷◌, length, Some, OnOk, OnErr, IfOk, IfErr, OnSome};
+ghost use Rattle.std.specs.Prelude.{◌≡◌, true, ◌≤◌, ◌<◌, ◌+◌, ◌^◌, ◌≤ℤ◌, [], ◌∷◌, length, Some, OnOk, OnErr, IfOk, IfErr, OnSome};
 ghost use Rattle.std.specs.Result.{result_err, result_ok};
 ghost use Rattle.tap_rows.specs.declared.change.Change.{Change as RowChange};
 ghost use Rattle.tap_rows.specs.declared.tables.Tables.{Tables};
+ghost use Rattle.tap_rows.specs.Kept.{Each};
+ghost use Rattle.tap_rows.specs.Tables.{after};
+ghost use Rattle.row_index.specs.Orders.{IsMoment};
 ghost use Rattle.script_lang.specs.declared.command.Command.{Command};
 ghost use Rattle.script_lang.specs.Replies.{HasShortNames, is_accepted};
 ghost use Rattle.tap_model.specs.Verdicts.{too_long, text_of};
@@ -11,15 +14,15 @@ ghost use Rattle.tap_model.specs.Stories.{Refuses};
 
 use crate::engine::Engine;
 use crate::limits::refuse_more;
+use crate::mbox::push_doc;
 use crate::prepared::Prepared;
 use crate::undo::Undo;
-use mail_fields::keep;
 use mail_lines::Block;
 use script_lang::{LimitName, MESSAGE_LIMIT, Refusal, Reply};
 use std::alloc::Global;
 use tap_base::{DocNum, Memory, Rows, Text};
 use tap_model::{DOCUMENT_LIMIT, STORE_LIMIT};
-use tap_rows::{Change, Doc, KeptDoc};
+use tap_rows::{Change, Doc};
 
 // The text of a message that isn't too long.
 fn message_of(block: Block) -> Result<Text, Refusal>
@@ -33,40 +36,23 @@ fn message_of(block: Block) -> Result<Text, Refusal>
     }
 }
 
-// A document as a row, and the same with its fields.
-fn make_doc(
-    alloc: Global,
-    num: DocNum,
-    moment: i64,
-    text: Text,
-) -> Result<(Rows<Doc>, Rows<KeptDoc>), Memory>
-    requires { length text ≤ MESSAGE_LIMIT }
-    ensures rows { IfOk result (λ made. made.0 ≡ record { num = num; arrival = moment; text = text } ∷ []) }
-    ensures kept { IfOk result (λ made. made.1 ≡ record { num = num; arrival = moment; text = text } ∷ []) }
+// A document as a row.
+fn make_row(alloc: Global, num: DocNum, moment: i64, text: Text) -> Result<Rows<Doc>, Memory>
+    ensures { IfOk result (λ rows. rows ≡ record { num = num; arrival = moment; text = text } ∷ []) }
 {
-    let copy = text.copy()?;
-    let mut kept = Rows::new(alloc);
-    kept.push(keep(
-        alloc,
-        Doc {
-            num,
-            arrival: moment,
-            text: copy,
-        },
-    )?)?;
     let mut rows = Rows::new(alloc);
     rows.push(Doc {
         num,
         arrival: moment,
         text,
     })?;
-    Ok((rows, kept))
+    Ok(rows)
 }
 
 impl Engine {
     ghost use Rattle.tap_engine.specs.Standing.{StandsFor};
     ghost use Rattle.tap_engine.specs.Ready.{IsReady};
-    ghost use Rattle.tap_engine.specs.Answering.{Answers, TakesBack};
+    ghost use Rattle.tap_engine.specs.Answering.{Answers, IsStill, TakesBack};
 
     // Adds a document that arrives at this moment, and gives its number, and it as a change.
     fn add_doc(
@@ -75,18 +61,24 @@ impl Engine {
         moment: i64,
         text: Text,
     ) -> Result<(DocNum, Change), Memory>
-        requires few { length self.old.docs < DOCUMENT_LIMIT }
+        requires few { length self.old.index.docs < DOCUMENT_LIMIT }
+        requires moment { IsMoment moment }
+        requires after { Each (λ other. other.arrival ≤ℤ moment) self.old.index.docs }
         requires text { length text ≤ MESSAGE_LIMIT }
         requires bytes { self.old.bytes + length text < 2 ^ 64 }
-        ensures num { IfOk result (λ made. made.0.0 ≡ length self.old.docs + 1) }
-        ensures change { IfOk result (λ made. made.1 ≡ RowChange.Docs (docs_from (length self.old.docs + 1) moment (text ∷ []))) }
-        ensures engine { OnOk result (self.new ≡ record self.old { docs = self.old.docs ++ docs_from (length self.old.docs + 1) moment (text ∷ []); bytes = self.old.bytes + length text }) }
-        ensures err { OnErr result (self.new ≡ self.old) }
+        ensures num { IfOk result (λ made. made.0.0 ≡ length self.old.index.docs + 1) }
+        ensures change { IfOk result (λ made. made.1 ≡ RowChange.Docs (docs_from (length self.old.index.docs + 1) moment (text ∷ []))) }
+        ensures engine { OnOk result (self.new ≡ record self.old { index = after self.old.index (RowChange.Docs (docs_from (length self.old.index.docs + 1) moment (text ∷ []))); hits = self.new.hits; bytes = self.old.bytes + length text }) }
+        ensures room { OnOk result (length self.new.index.docs ≤ self.new.hits.room) }
+        ensures more { self.old.hits.room ≤ self.new.hits.room }
+        ensures err { OnErr result (IsStill self.new self.old) }
     {
         let len = text.len();
-        let num = DocNum(self.docs.len() as u32 + 1);
-        let (rows, kept) = make_doc(alloc, num, moment, text)?;
-        self.docs.append(kept)?;
+        let num = DocNum(self.index.docs() + 1);
+        let copy = text.copy()?;
+        let rows = make_row(alloc, num, moment, text)?;
+        self.hits.grow(num.0)?;
+        push_doc(alloc, &mut self.index, moment, &copy)?;
         self.bytes += len;
         Ok((num, Change::Docs(rows)))
     }
@@ -97,7 +89,7 @@ impl Engine {
         ensures ok { IfOk result (λ made. (t : Tables) → StandsFor self.old t → Sound t self.old.session → Answers t self.old.session (Command.Mail block) made.reply made.change self.new.session) }
         ensures stands { IfOk result (λ made. (t : Tables) → StandsFor self.old t → Sound t self.old.session → StandsFor self.new (tables_after made.change t)) }
         ensures refusal { IfErr result (λ refusal. (t : Tables) → StandsFor self.old t → Refuses refusal (Command.Mail block) self.old.session t) }
-        ensures err { OnErr result (self.new ≡ self.old) }
+        ensures err { OnErr result (IsStill self.new self.old) }
         ensures undo { IfOk result (λ made. OnSome made.change (TakesBack made.undo self.new self.old)) }
         ensures ready { OnOk result (IsReady self.new) }
         ensures running { OnOk result (self.new.stopped ≡ self.old.stopped) }
@@ -108,10 +100,15 @@ impl Engine {
             return Err(Refusal::NoMoment);
         };
         let text = message_of(block)?;
-        refuse_more(LimitName::Documents, DOCUMENT_LIMIT, self.docs.len(), 1)?;
+        refuse_more(
+            LimitName::Documents,
+            DOCUMENT_LIMIT,
+            self.index.docs() as usize,
+            1,
+        )?;
         refuse_more(LimitName::Store, STORE_LIMIT, self.bytes, text.len())?;
         let undo = Undo::Docs {
-            len: self.docs.len(),
+            len: self.index.docs() as usize,
             bytes: self.bytes,
         };
         let (num, change) = self.add_doc(alloc, moment, text)?;

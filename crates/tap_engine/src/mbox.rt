@@ -1,6 +1,10 @@
-ghost use Rattle.std.specs.Prelude.{◌≡◌, ◌≤◌, ◌<◌, ◌+◌, ◌^◌, ◌++◌, length, max, None, true, OnOk, OnErr, IfOk, IfErr, OnSome};
+ghost use Rattle.std.specs.Prelude.{◌≡◌, ◌≤◌, ◌<◌, ◌+◌, ◌^◌, ◌≤ℤ◌, [], ◌∷◌, length, take, max, None, true, OnOk, OnErr, IfOk, IfErr, OnSome};
 ghost use Rattle.std.specs.Result.{result_err};
 ghost use Rattle.tap_rows.specs.declared.tables.Tables.{Tables};
+ghost use Rattle.tap_rows.specs.declared.change.Change.{Change as RowChange};
+ghost use Rattle.tap_rows.specs.Kept.{Each};
+ghost use Rattle.tap_rows.specs.Tables.{after};
+ghost use Rattle.row_index.specs.Orders.{IsMoment};
 ghost use Rattle.script_lang.specs.declared.command.Command.{Command};
 ghost use Rattle.script_lang.specs.Replies.{HasShortNames, is_accepted};
 ghost use Rattle.tap_model.specs.Sessions.{present};
@@ -12,14 +16,16 @@ ghost use Rattle.tap_model.specs.Stories.{Refuses};
 use crate::engine::Engine;
 use crate::limits::refuse_more;
 use crate::prepared::Prepared;
+use crate::take_back::forget_docs;
 use crate::undo::Undo;
 use mail_fields::keep;
 use mail_lines::{Block, cut_mbox};
+use row_index::RowIndex;
 use script_lang::{LimitName, MESSAGE_LIMIT, Refusal, Reply};
 use std::alloc::Global;
 use tap_base::{DocNum, Memory, Rows, Text, Texts};
 use tap_model::{DOCUMENT_LIMIT, STORE_LIMIT};
-use tap_rows::{Change, Doc, KeptDoc};
+use tap_rows::{Change, Doc};
 
 // The messages of a mailbox file; one that is too long has none.
 fn cut_block(alloc: Global, block: &Block) -> Result<Texts, Memory>
@@ -92,42 +98,71 @@ fn make_rows(alloc: Global, first: usize, moment: i64, texts: &[Text]) -> Result
     Ok(rows)
 }
 
-// The same with their fields.
-fn make_kept(
+// Adds a document with this text behind the others. At Err nothing has changed.
+pub(crate) fn push_doc(
     alloc: Global,
-    first: usize,
+    index: &mut RowIndex,
     moment: i64,
-    texts: &[Text],
-) -> Result<Rows<KeptDoc>, Memory>
-    requires few { first + length texts.now < 2 ^ 32 }
-    requires short { are_short texts.now ≡ true }
-    ensures { IfOk result (λ kept. kept ≡ docs_from first moment texts.now) }
+    text: &Text,
+) -> Result<(), Memory>
+    requires few { length index.old.docs + 1 < 2 ^ 32 }
+    requires moment { IsMoment moment }
+    requires after { Each (λ other. other.arrival ≤ℤ moment) index.old.docs }
+    requires short { length text.now ≤ MESSAGE_LIMIT }
+    ensures ok { OnOk result (index.new ≡ after index.old (RowChange.Docs (docs_from (length index.old.docs + 1) moment (text.now ∷ [])))) }
+    ensures err { OnErr result (index.new ≡ index.old) }
 {
-    let mut kept = Rows::new(alloc);
-    let mut num = first;
+    let doc = Doc {
+        num: DocNum(index.docs() + 1),
+        arrival: moment,
+        text: text.copy()?,
+    };
+    index.add_doc(keep(alloc, doc)?)
+}
+
+// Adds documents with these texts behind the others. At Err the first of them may have been added.
+fn push_docs(alloc: Global, index: &mut RowIndex, moment: i64, texts: &[Text]) -> Result<(), Memory>
+    requires few { length index.old.docs + length texts.now < 2 ^ 32 }
+    requires moment { IsMoment moment }
+    requires after { Each (λ other. other.arrival ≤ℤ moment) index.old.docs }
+    requires short { are_short texts.now ≡ true }
+    ensures ok { OnOk result (index.new ≡ after index.old (RowChange.Docs (docs_from (length index.old.docs + 1) moment texts.now))) }
+    ensures err { OnErr result (record index.new { docs = take (length index.old.docs) index.new.docs } ≡ index.old) }
+{
     for text in texts {
-        let doc = Doc {
-            num: DocNum(num as u32),
-            arrival: moment,
-            text: text.copy()?,
-        };
-        kept.push(keep(alloc, doc)?)?;
-        num += 1;
+        push_doc(alloc, index, moment, text)?;
     }
-    Ok(kept)
+    Ok(())
+}
+
+// The same. At Err nothing has changed.
+fn add_all(alloc: Global, index: &mut RowIndex, moment: i64, texts: &[Text]) -> Result<(), Memory>
+    requires few { length index.old.docs + length texts.now < 2 ^ 32 }
+    requires moment { IsMoment moment }
+    requires after { Each (λ other. other.arrival ≤ℤ moment) index.old.docs }
+    requires short { are_short texts.now ≡ true }
+    ensures ok { OnOk result (index.new ≡ after index.old (RowChange.Docs (docs_from (length index.old.docs + 1) moment texts.now))) }
+    ensures err { OnErr result (index.new ≡ index.old) }
+{
+    let len = index.docs() as usize;
+    let done = push_docs(alloc, index, moment, texts);
+    if done.is_err() {
+        forget_docs(index, len);
+    }
+    done
 }
 
 impl Engine {
     ghost use Rattle.tap_engine.specs.Standing.{StandsFor, mbox_bounds, mbox_refusal, RefusedBy};
     ghost use Rattle.tap_engine.specs.Ready.{IsReady};
-    ghost use Rattle.tap_engine.specs.Answering.{Answers, TakesBack};
+    ghost use Rattle.tap_engine.specs.Answering.{Answers, IsStill, TakesBack};
 
     // Refuses these messages of a mailbox file.
     #[tactic(auto, unfolding(crate::specs::Standing::mbox_bounds))]
     fn refuse_messages(&self, block: &Block, texts: &[Text]) -> Result<(), Refusal>
         ensures value { result_err result ≡ mbox_bounds self.now block.now texts.now }
         ensures short { OnOk result (are_short texts.now ≡ true) }
-        ensures few { OnOk result (length self.now.docs + length texts.now ≤ max (length self.now.docs) DOCUMENT_LIMIT) }
+        ensures few { OnOk result (length self.now.index.docs + length texts.now ≤ max (length self.now.index.docs) DOCUMENT_LIMIT) }
         ensures bytes { OnOk result (self.now.bytes + bytes_of texts.now < 2 ^ 64) }
     {
         refuse_long_message(texts)?;
@@ -135,7 +170,7 @@ impl Engine {
         refuse_more(
             LimitName::Documents,
             DOCUMENT_LIMIT,
-            self.docs.len(),
+            self.index.docs() as usize,
             texts.len(),
         )?;
         refuse_more(LimitName::Store, STORE_LIMIT, self.bytes, total(texts))
@@ -148,7 +183,7 @@ impl Engine {
         ensures texts { IfOk result (λ made. made.1 ≡ messages_of block.now) }
         ensures refusal { IfErr result (λ refusal. RefusedBy (mbox_refusal self.now block.now) refusal) }
         ensures short { IfOk result (λ made. are_short made.1 ≡ true) }
-        ensures few { IfOk result (λ made. length self.now.docs + length made.1 ≤ max (length self.now.docs) DOCUMENT_LIMIT) }
+        ensures few { IfOk result (λ made. length self.now.index.docs + length made.1 ≤ max (length self.now.index.docs) DOCUMENT_LIMIT) }
         ensures bytes { IfOk result (λ made. self.now.bytes + bytes_of made.1 < 2 ^ 64) }
     {
         let Some(moment) = self.session.moment else {
@@ -166,20 +201,25 @@ impl Engine {
         moment: i64,
         texts: &[Text],
     ) -> Result<Option<Change>, Memory>
-        requires few { length self.old.docs + length texts.now ≤ max (length self.old.docs) DOCUMENT_LIMIT }
+        requires few { length self.old.index.docs + length texts.now ≤ max (length self.old.index.docs) DOCUMENT_LIMIT }
         requires short { are_short texts.now ≡ true }
         requires bytes { self.old.bytes + bytes_of texts.now < 2 ^ 64 }
-        ensures change { IfOk result (λ change. change ≡ some_docs (docs_from (length self.old.docs + 1) moment texts.now)) }
-        ensures engine { OnOk result (self.new ≡ record self.old { docs = self.old.docs ++ docs_from (length self.old.docs + 1) moment texts.now; bytes = self.old.bytes + bytes_of texts.now }) }
-        ensures err { OnErr result (self.new ≡ self.old) }
+        requires moment { IsMoment moment }
+        requires after { Each (λ other. other.arrival ≤ℤ moment) self.old.index.docs }
+        requires room { length self.old.index.docs ≤ self.old.hits.room }
+        ensures change { IfOk result (λ change. change ≡ some_docs (docs_from (length self.old.index.docs + 1) moment texts.now)) }
+        ensures engine { OnOk result (self.new ≡ record self.old { index = after self.old.index (RowChange.Docs (docs_from (length self.old.index.docs + 1) moment texts.now)); hits = self.new.hits; bytes = self.old.bytes + bytes_of texts.now }) }
+        ensures room { OnOk result (length self.new.index.docs ≤ self.new.hits.room) }
+        ensures more { self.old.hits.room ≤ self.new.hits.room }
+        ensures err { OnErr result (IsStill self.new self.old) }
     {
         if texts.is_empty() {
             return Ok(None);
         }
-        let first = self.docs.len() + 1;
-        let rows = make_rows(alloc, first, moment, texts)?;
-        let kept = make_kept(alloc, first, moment, texts)?;
-        self.docs.append(kept)?;
+        let count = self.index.docs() as usize;
+        let rows = make_rows(alloc, count + 1, moment, texts)?;
+        self.hits.grow((count + texts.len()) as u32)?;
+        add_all(alloc, &mut self.index, moment, texts)?;
         self.bytes += total(texts);
         Ok(Some(Change::Docs(rows)))
     }
@@ -190,7 +230,7 @@ impl Engine {
         ensures ok { IfOk result (λ made. (t : Tables) → StandsFor self.old t → Sound t self.old.session → Answers t self.old.session (Command.Mbox block) made.reply made.change self.new.session) }
         ensures stands { IfOk result (λ made. (t : Tables) → StandsFor self.old t → Sound t self.old.session → StandsFor self.new (tables_after made.change t)) }
         ensures refusal { IfErr result (λ refusal. (t : Tables) → StandsFor self.old t → Refuses refusal (Command.Mbox block) self.old.session t) }
-        ensures err { OnErr result (self.new ≡ self.old) }
+        ensures err { OnErr result (IsStill self.new self.old) }
         ensures undo { IfOk result (λ made. OnSome made.change (TakesBack made.undo self.new self.old)) }
         ensures ready { OnOk result (IsReady self.new) }
         ensures running { OnOk result (self.new.stopped ≡ self.old.stopped) }
@@ -198,11 +238,11 @@ impl Engine {
         ensures accepted { IfOk result (λ made. is_accepted made.reply ≡ true) }
     {
         let undo = Undo::Docs {
-            len: self.docs.len(),
+            len: self.index.docs() as usize,
             bytes: self.bytes,
         };
         let (moment, texts) = self.new_messages(alloc, &block)?;
-        let first = self.docs.as_slice().len() as u64 + 1;
+        let first = u64::from(self.index.docs()) + 1;
         let change = self.add_docs(alloc, moment, texts.as_slice())?;
         let reply = Reply::Docs {
             count: texts.len() as u32,

@@ -1,7 +1,10 @@
-ghost use Rattle.std.specs.Prelude.{◌≡◌, ◌<◌, ◌+◌, ◌^◌, ◌++◌, ◌∷◌, [], length, None, true, OnOk, OnErr, IfOk, IfErr, OnSome};
+ghost use Rattle.std.specs.Prelude.{◌≡◌, ◌<◌, ◌+◌, ◌^◌, ◌≤ℤ◌, length, None, true, OnOk, OnErr, IfOk, IfErr, OnSome};
 ghost use Rattle.std.specs.Result.{result_err};
 ghost use Rattle.tap_rows.specs.declared.change.Change.{Change as RowChange};
 ghost use Rattle.tap_rows.specs.declared.tables.Tables.{Tables};
+ghost use Rattle.tap_rows.specs.Kept.{Each};
+ghost use Rattle.tap_rows.specs.Tables.{after};
+ghost use Rattle.row_index.specs.Orders.{IsMoment};
 ghost use Rattle.script_lang.specs.declared.command.Command.{Command};
 ghost use Rattle.script_lang.specs.Replies.{HasShortNames, is_accepted};
 ghost use Rattle.tap_model.specs.Sessions.{present, user_of};
@@ -53,21 +56,21 @@ impl Engine {
     #[tactic(auto, unfolding(crate::specs::Standing::note_bounds))]
     fn refuse_bounds(&self, doc: u32, len: usize) -> Result<(), Refusal>
         ensures value { result_err result ≡ note_bounds self.now doc len }
-        ensures few { OnOk result (length self.now.notes < NOTE_LIMIT) }
+        ensures few { OnOk result (length self.now.index.notes < NOTE_LIMIT) }
         ensures bytes { OnOk result (self.now.bytes + len < 2 ^ 64) }
     {
-        refuse_doc(doc, self.docs.len())?;
+        refuse_doc(doc, self.index.docs() as usize)?;
         refuse_long(len)?;
-        refuse_more(LimitName::Notes, NOTE_LIMIT, self.notes.len(), 1)?;
+        refuse_more(LimitName::Notes, NOTE_LIMIT, self.index.notes() as usize, 1)?;
         refuse_more(LimitName::Store, STORE_LIMIT, self.bytes, len)
     }
 
     // The row of a note that isn't refused.
     fn new_note(&self, doc: u32, kind: Text, value: i64, text: Text) -> Result<Note, Refusal>
         ensures checks { OnOk result (note_refusal self.now doc kind text ≡ None) }
-        ensures row { IfOk result (λ note. note ≡ record { num = record { 0 = length self.now.notes + 1 }; doc = record { 0 = doc }; author = user_of self.now.session; kind = kind; value = value; arrival = present self.now.session; text = text }) }
+        ensures row { IfOk result (λ note. note ≡ record { num = record { 0 = length self.now.index.notes + 1 }; doc = record { 0 = doc }; author = user_of self.now.session; kind = kind; value = value; arrival = present self.now.session; text = text }) }
         ensures refusal { IfErr result (λ refusal. RefusedBy (note_refusal self.now doc kind text) refusal) }
-        ensures few { OnOk result (length self.now.notes < NOTE_LIMIT) }
+        ensures few { OnOk result (length self.now.index.notes < NOTE_LIMIT) }
         ensures bytes { OnOk result (self.now.bytes + length text < 2 ^ 64) }
     {
         let Some(moment) = self.session.moment else {
@@ -79,7 +82,7 @@ impl Engine {
         refuse_name(kind.as_slice())?;
         self.refuse_bounds(doc, text.len())?;
         Ok(Note {
-            num: NoteNum(self.notes.len() as u32 + 1),
+            num: NoteNum(self.index.notes() + 1),
             doc: DocNum(doc),
             author: user.copy()?,
             kind,
@@ -91,14 +94,17 @@ impl Engine {
 
     // Adds a note, and gives it as a change.
     fn add_note(&mut self, note: Note) -> Result<Change, Memory>
-        requires { self.old.bytes + length note.text < 2 ^ 64 }
+        requires number { note.num.0 ≡ length self.old.index.notes + 1 }
+        requires moment { IsMoment note.arrival }
+        requires after { Each (λ other. other.arrival ≤ℤ note.arrival) self.old.index.notes }
+        requires bytes { self.old.bytes + length note.text < 2 ^ 64 }
         ensures change { IfOk result (λ change. change ≡ RowChange.OneNote note) }
-        ensures engine { OnOk result (self.new ≡ record self.old { notes = self.old.notes ++ note ∷ []; bytes = self.old.bytes + length note.text }) }
+        ensures engine { OnOk result (self.new ≡ record self.old { index = after self.old.index (RowChange.OneNote note); bytes = self.old.bytes + length note.text }) }
         ensures err { OnErr result (self.new ≡ self.old) }
     {
         let len = note.text.len();
         let row = note.copied()?;
-        self.notes.push(note)?;
+        self.index.add_note(note)?;
         self.bytes += len;
         Ok(Change::OneNote(row))
     }
@@ -122,10 +128,7 @@ impl Engine {
         ensures short { IfOk result (λ made. HasShortNames made.reply) }
         ensures accepted { IfOk result (λ made. is_accepted made.reply ≡ true) }
     {
-        let undo = Undo::Note {
-            len: self.notes.len(),
-            bytes: self.bytes,
-        };
+        let undo = Undo::Note { bytes: self.bytes };
         let note = self.new_note(doc, kind, value, text)?;
         let num = note.num;
         let change = self.add_note(note)?;

@@ -19,15 +19,20 @@ use tap_base::Steps;
 impl Engine {
     ghost use Rattle.tap_engine.specs.Standing.{StandsFor};
     ghost use Rattle.tap_engine.specs.Ready.{IsReady};
-    ghost use Rattle.tap_engine.specs.Answering.{Answers, TakesBack, fault_answer, fault_engine};
+    ghost use Rattle.tap_engine.specs.Answering.{Answers, IsStill, TakesBack, fault_answer, fault_engine};
 
     // Takes the memory for a command that isn't refused, and adds its rows here.
-    fn prepare(&mut self, alloc: Global, command: Command) -> Result<Prepared, Refusal>
+    fn prepare<L: Ledger>(
+        &mut self,
+        alloc: Global,
+        command: Command,
+        steps: &mut Steps<L>,
+    ) -> Result<Prepared, Refusal>
         requires ready { IsReady self.old }
         ensures ok { IfOk result (λ made. (t : Tables) → StandsFor self.old t → Sound t self.old.session → Answers t self.old.session command made.reply made.change self.new.session) }
         ensures stands { IfOk result (λ made. (t : Tables) → StandsFor self.old t → Sound t self.old.session → StandsFor self.new (tables_after made.change t)) }
-        ensures refusal { IfErr result (λ refusal. (t : Tables) → StandsFor self.old t → Refuses refusal command self.old.session t) }
-        ensures err { OnErr result (self.new ≡ self.old) }
+        ensures refusal { IfErr result (λ refusal. (t : Tables) → StandsFor self.old t → Sound t self.old.session → Refuses refusal command self.old.session t) }
+        ensures err { OnErr result (IsStill self.new self.old) }
         ensures undo { IfOk result (λ made. OnSome made.change (TakesBack made.undo self.new self.old)) }
         ensures ready { OnOk result (IsReady self.new) }
         ensures running { OnOk result (self.new.stopped ≡ self.old.stopped) }
@@ -46,15 +51,16 @@ impl Engine {
                 value,
                 text,
             } => self.note(doc, kind, value, text),
-            Command::Run(name) => self.run(alloc, name.as_slice()),
+            Command::Run(name) => self.run(alloc, name.as_slice(), steps),
             Command::Filter(block) => self.filter(alloc, block),
             Command::BoxOf(name) => Ok(Prepared::plain(self.show_box(alloc, name)?)),
-            Command::ListOf(name) => Ok(Prepared::plain(self.show_list(alloc, name)?)),
+            Command::ListOf(name) => Ok(Prepared::plain(self.show_list(alloc, name, steps)?)),
             Command::Explain(name) => Ok(Prepared::plain(self.explain(alloc, name)?)),
             Command::Ask { moment, source } => Ok(Prepared::plain(self.ask(
                 alloc,
                 moment.as_slice(),
                 source.as_slice(),
+                steps,
             )?)),
             Command::Bad(refusal) => Err(refusal),
             _ => Err(Refusal::NotBuilt),
@@ -83,7 +89,7 @@ impl Engine {
         alloc: Global,
         keeper: &mut P,
         command: Command,
-        _steps: &mut Steps<L>,
+        steps: &mut Steps<L>,
     ) -> Result<Reply, EngineFault>
         requires running { self.old.stopped ≡ false }
         requires ready { IsReady self.old }
@@ -93,7 +99,7 @@ impl Engine {
         // The answer, over each tables that the engine stands for.
         ensures step { (t : Tables) → StandsFor self.old t → Sound t self.old.session → IfOk result (λ reply. Step t self.old.session command reply (next_tables command reply self.old.session t) self.new.session) }
         ensures stands { (t : Tables) → StandsFor self.old t → Sound t self.old.session → IfOk result (λ reply. StandsFor self.new (next_tables command reply self.old.session t)) }
-        ensures refused { IfOk result (λ reply. is_accepted reply ≡ false → self.new ≡ self.old) }
+        ensures refused { IfOk result (λ reply. is_accepted reply ≡ false → IsStill self.new self.old) }
         ensures short { IfOk result (λ reply. HasShortNames reply) }
         ensures ready { OnOk result (IsReady self.new) }
 
@@ -108,13 +114,12 @@ impl Engine {
         ensures same { (P.place keeper.new ≡ P.place keeper.old) × (P.attached keeper.new ≡ true) }
         ensures later { P.faults keeper.old ≤ P.faults keeper.new }
         ensures honest { P.honest keeper.new → P.honest keeper.old }
-        ensures steps { _steps.new ≡ _steps.old }
     {
         let Prepared {
             reply,
             change,
             undo,
-        } = match self.prepare(alloc, command) {
+        } = match self.prepare(alloc, command, steps) {
             Ok(prepared) => prepared,
             Err(refusal) => return Ok(Reply::No(refusal)),
         };

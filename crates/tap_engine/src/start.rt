@@ -3,7 +3,8 @@ ghost use Rattle.std.specs.Option.{option_map};
 ghost use Rattle.tap_engine.specs.Starting.{first_unread};
 
 use crate::engine::Engine;
-use crate::keep::{keep_delivered, keep_docs, keep_filters, owners_of};
+use crate::index_rows::index_rows;
+use crate::keep::{keep_delivered, keep_filters, owners_of};
 use crate::sums::Sums;
 use restart_core::Sound;
 use std::alloc::Global;
@@ -39,16 +40,14 @@ impl Engine {
     ghost use Rattle.tap_engine.specs.Standing.{StandsFor};
     ghost use Rattle.tap_engine.specs.Ready.{IsReady};
 
-    /// An engine with a new session that stands for sound tables. It looks at each row a fixed number of times. `Rules` comes
-    /// exactly where a filter's text has a fault, with the first such filter, and never over tables that a session left.
-    pub fn start(alloc: Global, sound: Sound) -> Result<Engine, StartFault>
+    // The engine, from the parts of the tables: each row is looked at a fixed number of times.
+    fn build(alloc: Global, sound: Sound) -> Result<Engine, StartFault>
         ensures stands { IfOk result (λ engine. StandsFor engine sound) }
         ensures session { IfOk result (λ engine. engine.session ≡ no_session) }
         ensures running { IfOk result (λ engine. engine.stopped ≡ false) }
         ensures ready { IfOk result (λ engine. IsReady engine) }
         ensures read { OnOk result (first_unread sound.filters ≡ None) }
         ensures fault { IfErr result (λ fault. (fault ≡ Fault.Memory) ⊎ (option_map Fault.Rules (first_unread sound.filters) ≡ Some fault)) }
-        ensures kept { IsStore sound → IfErr result (λ fault. fault ≡ Fault.Memory) }
     {
         let (tables, conds) = sound.into_parts();
         let sums = Sums::of(&tables)?;
@@ -61,13 +60,13 @@ impl Engine {
             picks,
             filters,
         } = tables;
-        let queries = keep_delivered(alloc, queries, conds, runs.as_slice(), picks.as_slice())?;
-        let docs = keep_docs(alloc, docs)?;
         let filters = keep_filters(alloc, filters)?;
+        let queries = keep_delivered(alloc, queries, conds, runs.as_slice(), picks.as_slice())?;
+        let (index, hits) = index_rows(alloc, docs, notes)?;
         Ok(Engine {
             session: Session::new(),
-            docs,
-            notes,
+            index,
+            hits,
             queries,
             filters,
             run_count: runs.len(),
@@ -77,5 +76,19 @@ impl Engine {
             greatest: sums.greatest,
             stopped: false,
         })
+    }
+
+    /// An engine with a new session that stands for sound tables. It looks at each row a fixed number of times. `Rules` comes
+    /// exactly where a filter's text has a fault, with the first such filter, and never over tables that a session left.
+    pub fn start(alloc: Global, sound: Sound) -> Result<Engine, StartFault>
+        ensures stands { IfOk result (λ engine. StandsFor engine sound) }
+        ensures session { IfOk result (λ engine. engine.session ≡ no_session) }
+        ensures running { IfOk result (λ engine. engine.stopped ≡ false) }
+        ensures ready { IfOk result (λ engine. IsReady engine) }
+        ensures read { OnOk result (first_unread sound.filters ≡ None) }
+        ensures fault { IfErr result (λ fault. (fault ≡ Fault.Memory) ⊎ (option_map Fault.Rules (first_unread sound.filters) ≡ Some fault)) }
+        ensures kept { IsStore sound → IfErr result (λ fault. fault ≡ Fault.Memory) }
+    {
+        Engine::build(alloc, sound)
     }
 }

@@ -1,7 +1,17 @@
-ghost use Rattle.std.specs.Prelude.{◌≡◌};
+ghost use Rattle.std.specs.Prelude.{◌≡◌, take};
 
 use crate::engine::Engine;
 use crate::undo::Undo;
+use row_index::RowIndex;
+
+// Forgets the documents after the first `len`.
+pub(crate) fn forget_docs(index: &mut RowIndex, len: usize)
+    ensures { index.new ≡ record index.old { docs = take len index.old.docs } }
+{
+    while index.docs() as usize > len {
+        index.forget_last_doc();
+    }
+}
 
 impl Engine {
     ghost use Rattle.tap_engine.specs.Answering.{taken_back, IsThere};
@@ -14,11 +24,11 @@ impl Engine {
         match undo {
             Undo::Nothing => {}
             Undo::Docs { len, bytes } => {
-                self.docs.cut(len);
+                forget_docs(&mut self.index, len);
                 self.bytes = bytes;
             }
-            Undo::Note { len, bytes } => {
-                self.notes.cut(len);
+            Undo::Note { bytes } => {
+                self.index.forget_last_note();
                 self.bytes = bytes;
             }
             Undo::Query { len, owners, bytes } => {

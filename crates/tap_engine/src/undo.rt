@@ -7,7 +7,6 @@ pub enum Undo {
         bytes: usize,
     },
     Note {
-        len: usize,
         bytes: usize,
     },
     Query {
@@ -25,7 +24,7 @@ pub enum Undo {
         place: usize,
         covered: i64,
         runs: usize,
-        entries: usize,
+        entries: u32,
         run_count: usize,
         pick_count: usize,
     },

@@ -13,13 +13,13 @@ use Rattle.script_lang.specs.declared.refusal.Refusal.{Refusal}
 use Rattle.script_lang.specs.declared.refusal.Refusal.TheVariants.{NoQuery, Taken, Limit}
 use Rattle.script_lang.specs.declared.refusal.LimitName.{LimitName}
 use Rattle.script_lang.specs.declared.refusal.LimitName.TheVariants.{Queries, AllQueries, Users, Filters, Runs, Picks, Store}
-use Rattle.restart_core.specs.Starts.{condition_text, stored_source}
+use Rattle.restart_core.specs.Starts.{stored_source}
 use Rattle.tap_model.specs.declared.limits.TheConstants.{USER_QUERY_LIMIT, QUERY_LIMIT, USER_LIMIT, FILTER_ROW_LIMIT, RUN_LIMIT, PICK_LIMIT, STORE_LIMIT}
 use Rattle.tap_model.specs.declared.session.Session.{Session}
-use Rattle.tap_model.specs.Sessions.{present, or_empty, user_of, last_moment, greatest_moment}
+use Rattle.tap_model.specs.Sessions.{or_empty, user_of, last_moment, greatest_moment}
 use Rattle.tap_model.specs.Queries.{query_named}
 use Rattle.tap_model.specs.Limits.{passes, queries_of, stored_bytes, different, owners_in, new_users}
-use Rattle.tap_model.specs.Verdicts.{first_refusal, verdict, checks, missing, unless, is_back, taken, no_query, wide_refusal, too_wide, text_of, delivers, messages_of, bytes_of}
+use Rattle.tap_model.specs.Verdicts.{first_refusal, verdict, checks, missing, unless, is_back, taken, no_query, text_of, delivers, messages_of, bytes_of}
 use Rattle.tap_model.specs.Privacy.{is_shared, is_user, concerns, owned_queries}
 use Rattle.tap_model.proofs.ViewLaws.{Core, core_of, cores, source_in, named-core}
 use Rattle.tap_model.proofs.CoreLaws.{same-text}
@@ -104,14 +104,6 @@ none-core : (t : Tables) (q : Option QueryRow) → is_none (option_map (core_of 
 none-core t None = refl
 none-core t (Some q) = refl
 
-abbrev wide_core : Option Core → Tables → ℤ → Option Refusal
-wide_core None t moment = None
-wide_core (Some core) t moment = wide_refusal (condition_text core.source) t.docs moment
-
-wide-core : (t : Tables) (q : Option QueryRow) (d : Tables) (moment : ℤ) → wide_core (option_map (core_of t.runs) q) d moment ≡ too_wide q d.docs moment
-wide-core t None d moment = refl
-wide-core t (Some q) d moment = refl
-
 missing-same : (s : Session) (name : List ℕ) (t o : Tables) → AreTwins (user_of s) t o → no_query s name t ≡ no_query s name (twin t o)
 missing-same s name t o twins =
     sym (missing-core NoQuery t (query_named (user_of s) name t)) ∙ ap (missing NoQuery) (found-same (user_of s) name t o twins) ∙ missing-core NoQuery o (query_named (user_of s) name o)
@@ -119,10 +111,6 @@ missing-same s name t o twins =
 taken-same : (s : Session) (name : List ℕ) (t o : Tables) → AreTwins (user_of s) t o → taken s name t ≡ taken s name (twin t o)
 taken-same s name t o twins =
     ap (λ b. unless b Taken) (sym (none-core t (query_named (user_of s) name t)) ∙ ap is_none (found-same (user_of s) name t o twins) ∙ none-core o (query_named (user_of s) name o))
-
-wide-same : (s : Session) (name : List ℕ) (t o : Tables) → AreTwins (user_of s) t o → too_wide (query_named (user_of s) name t) t.docs (present s) ≡ too_wide (query_named (user_of s) name o) t.docs (present s)
-wide-same s name t o twins =
-    sym (wide-core t (query_named (user_of s) name t) t (present s)) ∙ ap (λ q. wide_core q t (present s)) (found-same (user_of s) name t o twins) ∙ wide-core o (query_named (user_of s) name o) t (present s)
 
 count-same : (user : List ℕ) (t o : Tables) → AreTwins user t o → queries_of user t ≡ queries_of user o
 count-same user t o twins = sym (length-map (owned_queries user t) (core_of t.runs)) ∙ ap length twins.queries ∙ length-map (owned_queries user o) (core_of o.runs)
@@ -145,7 +133,7 @@ checks-alike (Define name source) user s t o m at by twins =
     (inl refl, (inl refl, (inl refl, (inl (taken-same s name t o own), (inl refl, (inl (ap (λ n. passes Queries USER_QUERY_LIMIT n 1) (count-same (user_of s) t o own)), (inr (both-may AllQueries QUERY_LIMIT (length t.queries) (length o.queries) 1 1 refl), (inr (users-may (user_of s) t o), (inr (store-may t o (length (stored_source source))), tt)))))))))
 checks-alike (Run name) user s t o m at by twins =
     let own = own-twins user s t o by twins in
-    (inl refl, (inl refl, (inl refl, (inl (missing-same s name t o own), (inl (wide-same s name t o own), (inr (both-may Runs RUN_LIMIT (length t.runs) (length o.runs) 1 1 refl), (inr (both-may Picks PICK_LIMIT (length t.picks) (length o.picks) (delivers s name t) (delivers s name (twin t o)) refl), tt)))))))
+    (inl refl, (inl refl, (inl refl, (inl (missing-same s name t o own), (inr (both-may Runs RUN_LIMIT (length t.runs) (length o.runs) 1 1 refl), (inr (both-may Picks PICK_LIMIT (length t.picks) (length o.picks) (delivers s name t) (delivers s name (twin t o)) refl), tt))))))
 checks-alike (BoxOf name) user s t o m at by twins = (inl refl, (inl refl, (inl (missing-same s name t o (own-twins user s t o by twins)), tt)))
 checks-alike (ListOf name) user s t o m at by twins = (inl refl, (inl refl, (inl (missing-same s name t o (own-twins user s t o by twins)), tt)))
 checks-alike (Filter block) user s t o m at by twins = (inl refl, (inl refl, (inl refl, (inr (users-may (user_of s) t o), (inr (both-may Filters FILTER_ROW_LIMIT (length t.filters) (length o.filters) 1 1 refl), (inr (store-may t o (length (text_of block))), (inl refl, tt)))))))

@@ -1,9 +1,7 @@
 pub mod Sessions
-pub mod Local
 pub mod Queries
 pub mod Filters
 pub mod Limits
-pub mod Wide
 pub mod Verdicts
 pub mod Replies
 pub mod Stories

@@ -1,12 +1,11 @@
 -- Why a command is refused: the first of its checks that refuses, in the order of the refusals' numbers, limits in the
 -- order of the table of limits.
-use Rattle.std.specs.Prelude.{ℕ, ℤ, List, [], ◌∷◌, length, sum_by, Bool, true, false, not, ◌&&◌, ◌||◌, nat_le, int_le, int_lt, Option, Some, None, is_none, Result, Ok, Err, if◌then◌else◌}
+use Rattle.std.specs.Prelude.{ℕ, ℤ, List, [], ◌∷◌, length, sum_by, Bool, true, false, ◌&&◌, ◌||◌, nat_le, int_le, int_lt, Option, Some, None, is_none, Result, Ok, Err, if◌then◌else◌}
 use Rattle.std.specs.Str.{all_ascii_digits}
 use Rattle.std.specs.List.{list_all}
 use Rattle.tap_base.specs.Numbers.{moment_of}
 use Rattle.tap_base.specs.Names.{is_name}
 use Rattle.tap_rows.specs.declared.tables.Tables.{Tables}
-use Rattle.tap_rows.specs.declared.rows.Doc.{Doc}
 use Rattle.tap_rows.specs.declared.rows.QueryRow.{QueryRow}
 use Rattle.tap_rows.specs.declared.results.Hit.{Hit}
 use Rattle.mail_lines.specs.declared.block.Block.{Block}
@@ -30,7 +29,6 @@ use Rattle.restart_core.specs.Starts.{condition_text, stored_source}
 use Rattle.tap_model.specs.declared.session.Session.{Session}
 use Rattle.tap_model.specs.declared.limits.TheConstants.{DOCUMENT_LIMIT, NOTE_TEXT_LIMIT, NOTE_LIMIT, USER_QUERY_LIMIT, QUERY_LIMIT, USER_LIMIT, FILTER_ROW_LIMIT, RUN_LIMIT, PICK_LIMIT, STORE_LIMIT}
 use Rattle.tap_model.specs.Sessions.{present, user_of, last_moment}
-use Rattle.tap_model.specs.Wide.{is_wide}
 use Rattle.tap_model.specs.Queries.{query_named, hits_of}
 use Rattle.tap_model.specs.Limits.{stored_bytes, owners_in, different, queries_of, new_users, passes}
 
@@ -93,15 +91,6 @@ taken session name tables = unless (is_none (query_named (user_of session) name 
 -- the user has no query of this name
 abbrev pub no_query : Session → List ℕ → Tables → Option Refusal
 no_query session name tables = missing NoQuery (query_named (user_of session) name tables)
-
--- a query whose run would try too many seconds
-unfoldable pub wide_refusal : List ℕ → List Doc → ℤ → Option Refusal
-wide_refusal text docs moment = unless (not (is_wide text docs moment)) NotBuilt
-
--- the same, where there is a query
-abbrev pub too_wide : Option QueryRow → List Doc → ℤ → Option Refusal
-too_wide None docs moment = None
-too_wide (Some query) docs moment = wide_refusal (condition_text query.source) docs moment
 
 -- a message that is too long
 abbrev pub too_long : Block → Option Refusal
@@ -198,7 +187,6 @@ checks (Run name) session tables =
     ∷ no_user session
     ∷ bad_name name
     ∷ no_query session name tables
-    ∷ too_wide (query_named (user_of session) name tables) tables.docs (present session)
     ∷ passes Runs RUN_LIMIT (length tables.runs) 1
     ∷ passes Picks PICK_LIMIT (length tables.picks) (delivers session name tables)
     ∷ []

@@ -29,7 +29,3 @@ pub const PICK_LIMIT: usize = 4000000;
 
 /// The most bytes of the texts of documents, notes, queries and filters together.
 pub const STORE_LIMIT: usize = 134217728;
-
-/// The most seconds that a run tries from the first document's arrival on, where the condition speaks of now or of
-/// other rows.
-pub const SECOND_LIMIT: u32 = 200000;

@@ -1,5 +1,4 @@
-use Rattle.std.proofs.Common.{◌≡◌, ◌∙◌, sym, ap, arith, ◌+◌, ◌-◌}
-use Rattle.std.specs.Prelude.{slice_index_or}
+use Rattle.std.proofs.Common.{ap, arith}
 use Rattle.tap_engine.proofs.deliveries.add_run.Goals as goal
 
 pub ordinal_after-ordinal-requires : goal.ordinal_after-ordinal-requires

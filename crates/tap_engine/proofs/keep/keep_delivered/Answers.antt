@@ -1,4 +1,4 @@
-use Rattle.std.proofs.Common.{◌≡◌, ◌∙◌, ap, sym, subst, rules, length, map}
+use Rattle.std.proofs.Common.{◌∙◌, ap, sym, subst, length, map}
 use Rattle.std.proofs.lemmas.List.{length-map}
 use Rattle.tap_rows.specs.Kept.{Each, QueriesFrom}
 use Rattle.tap_engine.specs.Keeping.{kept_query, new_kept}

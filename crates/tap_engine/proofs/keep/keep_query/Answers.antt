@@ -2,14 +2,11 @@ use Rattle.std.proofs.Common.{sym}
 use Rattle.tql_core.specs.Condition.{condition}
 use Rattle.restart_core.specs.Starts.{condition_text}
 use Rattle.tap_engine.proofs.TextLaws.{read-fine}
-use Rattle.tap_engine.proofs.VariableLaws.{read-few, read-query}
+use Rattle.tap_engine.proofs.VariableLaws.{read-query}
 use Rattle.tap_engine.proofs.keep.keep_query.Goals as goal
 
 pub new-requires-clause-cond : goal.new-requires-clause-cond
 new-requires-clause-cond c = sym (read-fine (condition_text c.args.row.source) (condition c.args.cond) c.requires.cond).0
-
-pub new-requires-clause-few : goal.new-requires-clause-few
-new-requires-clause-few c = read-few (condition_text c.args.row.source) (condition c.args.cond) c.requires.cond
 
 pub new-requires-clause-scoped : goal.new-requires-clause-scoped
 new-requires-clause-scoped c = (read-query (condition_text c.args.row.source) (condition c.args.cond) c.requires.cond).0

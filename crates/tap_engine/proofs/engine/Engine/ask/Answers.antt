@@ -5,23 +5,24 @@ use Rattle.script_lang.specs.declared.command.Command.TheVariants.{Ask}
 use Rattle.tap_model.specs.Stories.{Refuses}
 use Rattle.tap_engine.specs.Standing.{StandsFor}
 use Rattle.tql_core.specs.Condition.{condition}
+use Rattle.tap_engine.proofs.RowTurns.{docs-are, notes-are}
 use Rattle.tap_engine.proofs.AskLaws.{ask-text, ask-open, answers-ask}
 use Rattle.tap_engine.proofs.engine.Engine.ask.Goals as goal
 
 pub returns-in_err-cond-clause-refusal : goal.returns-in_err-cond-clause-refusal
-returns-in_err-cond-clause-refusal c =
+returns-in_err-cond-clause-refusal g c =
     let is : moment_of c.args.moment.now ≡ Some c.in-Some.second = search rules in
     let there : c.args.self.now.session.moment ≡ Some c.in-Some-moment.now = search rules in
     let by : (t : Tables) → Refuses c.in_err-cond.field-0.0 (Ask c.args.moment.now c.args.source.now) c.args.self.now.session t = λ t. ask-text c.args.self.now.session c.args.moment.now c.args.source.now c.in-Some.second c.in-Some-moment.now is there t c.in_err-cond.field-0.0 c.in_err-cond.ensures.refusal in search (rules, by)
 
 pub returns-in_err-refuse_open-clause-refusal : goal.returns-in_err-refuse_open-clause-refusal
-returns-in_err-refuse_open-clause-refusal c =
+returns-in_err-refuse_open-clause-refusal g c =
     let is : moment_of c.args.moment.now ≡ Some c.in-Some.second = search rules in
     let there : c.args.self.now.session.moment ≡ Some c.in-Some-moment.now = search rules in
     let by : (t : Tables) → StandsFor c.args.self.now t → Refuses c.in_err-refuse_open.field-0.0 (Ask c.args.moment.now c.args.source.now) c.args.self.now.session t = λ t stands. ask-open c.args.self.now.session c.args.moment.now c.args.source.now c.in-Some.second c.in-Some-moment.now is there t (condition c.in_ok-cond.cond) c.in_err-refuse_open.field-0.0 c.in_ok-cond.ensures.cond (search rules) in search (rules, by)
 
 pub returns-clause-ok : goal.returns-clause-ok
-returns-clause-ok c = λ t stands sound.
+returns-clause-ok g c = λ t stands sound.
     let is : moment_of c.args.moment.now ≡ Some c.in-Some.second = search rules in
     let there : c.args.self.now.session.moment ≡ Some c.in-Some-moment.now = search rules in
-    let answers = answers-ask c.args.self.now.session c.args.moment.now c.args.source.now c.in-Some.second c.in-Some-moment.now is there t (condition c.in_ok-cond.cond) c.as_slice.result.now c.as_slice-2.result.now c.in_ok-docs.docs c.in_ok-cond.ensures.cond (search rules) (c.as_slice.ensures ∙ stands.docs) (c.as_slice-2.ensures ∙ stands.notes) (search rules) in search (rules, answers)
+    let answers = answers-ask c.args.self.now.session c.args.moment.now c.args.source.now c.in-Some.second c.in-Some-moment.now is there t (condition c.in_ok-cond.cond) c.every_doc.result.now c.every_note.result.now c.in_ok-docs.docs c.in_ok-cond.ensures.cond (search rules) (c.every_doc.ensures.docs ∙ docs-are stands) (c.every_note.ensures.notes ∙ notes-are stands) (search rules) in search (rules, answers)

@@ -1,9 +1,11 @@
-use Rattle.std.proofs.Common.{rules, arith, ◌≡◌, ◌∙◌, sym, ap, length, ◌+◌, ◌∷◌, []}
+use Rattle.std.proofs.Common.{rules, arith, ◌≡◌, ◌∙◌, sym, ap, subst, length, ◌+◌, ◌∷◌, []}
 use Rattle.std.proofs.lemmas.List.{length-map}
 use Rattle.tap_engine.specs.Keeping.{kept_query, new_kept}
 use Rattle.script_lang.specs.declared.refusal.Refusal.TheVariants.{Memory}
 use Rattle.tap_engine.proofs.AnswerTurns.{for-memory, undo-query}
-use Rattle.tap_engine.proofs.ReadyLaws.{kept-more}
+use Rattle.tap_model.specs.Sound.{IsMoment}
+use Rattle.tap_model.proofs.SoundLaws.{start-moment}
+use Rattle.tap_engine.proofs.ReadyLaws.{kept-more, present-moment}
 use Rattle.tap_engine.proofs.CheckLaws.{define-verdict, define-refuses, answers-define, define-moment}
 use Rattle.tap_engine.proofs.StandingLaws.{stands-query}
 use Rattle.tap_engine.proofs.engine.Engine.define.Goals as goal
@@ -36,9 +38,11 @@ returns-clause-undo c = rw c.in_ok-change.ensures.engine (undo-query c.args.self
 pub returns-clause-ready : goal.returns-clause-ready
 returns-clause-ready c =
     let is : c.in_ok-row.row.num.0 ≡ length c.args.self.now.queries + 1 = ap (λ r. r.num.0) c.in_ok-row.ensures.row in
+    let moment : IsMoment c.in_ok-row.row.arrival = subst IsMoment (sym (ap (λ r. r.arrival) c.in_ok-row.ensures.row)) (present-moment c.args.self.now c.requires.ready (define-moment c.args.self.now c.args.name c.args.source c.in_ok-row.ensures.checks)) in
     rw c.in_ok-change.ensures.engine (record {
       docs = c.requires.ready.docs;
-      by = c.requires.ready.by;
-      queries = kept-more 1 c.args.self.now.run_count c.args.self.now.queries c.in_ok-row.row c.requires.ready.queries (omega (arith, is));
+      notes = c.requires.ready.notes;
+      queries = kept-more 1 c.args.self.now.run_count c.args.self.now.queries c.in_ok-row.row c.requires.ready.queries (omega (arith, is)) (start-moment c.in_ok-row.row moment);
       moment = c.requires.ready.moment;
+      room = c.requires.ready.room;
     })

@@ -25,4 +25,4 @@ pub returns-clause-undo : goal.returns-clause-undo
 returns-clause-undo c = rw c.in_ok-change.ensures.engine (undo-filter c.args.self.now (c.in_ok-row.row ∷ []) c.in_ok-row.row.owner _ c.len.result c.len-2.result c.len.ensures c.len-2.ensures)
 
 pub returns-clause-ready : goal.returns-clause-ready
-returns-clause-ready c = rw c.in_ok-change.ensures.engine (record { docs = c.requires.ready.docs; by = c.requires.ready.by; queries = c.requires.ready.queries; moment = c.requires.ready.moment })
+returns-clause-ready c = rw c.in_ok-change.ensures.engine (record { docs = c.requires.ready.docs; notes = c.requires.ready.notes; queries = c.requires.ready.queries; moment = c.requires.ready.moment; room = c.requires.ready.room })

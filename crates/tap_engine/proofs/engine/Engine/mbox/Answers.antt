@@ -1,9 +1,19 @@
-use Rattle.std.proofs.Common.{rules, ◌≡◌, ◌∙◌, sym, ap, ◌+◌, ◌++◌, length}
-use Rattle.script_lang.specs.declared.refusal.Refusal.TheVariants.{Memory}
+use Rattle.std.specs.Prelude.{◌≤ℤ◌}
+use Rattle.std.proofs.Common.{rules, ◌≡◌, ◌≤◌, ◌∙◌, sym, ap, subst, ◌+◌, ◌++◌, length, w64, to_z, of_z}
+use Rattle.tap_rows.specs.declared.change.Change.TheVariants.{Docs}
+use Rattle.tap_rows.specs.Kept.{Each}
+use Rattle.tap_rows.specs.Tables.{after}
+use Rattle.row_index.specs.Orders.{doc_arrival, IsMoment}
 use Rattle.tap_model.specs.Verdicts.{bytes_of}
-use Rattle.tap_model.specs.Replies.{docs_from, some_docs}
+use Rattle.tap_model.specs.Replies.{docs_from, some_docs, tables_after}
+use Rattle.tap_engine.specs.declared.undo.Undo.TheVariants.{Docs as Rows}
+use Rattle.tap_engine.specs.Answering.{TakesBack}
+use Rattle.tap_engine.specs.Standing.{StandsFor}
+use Rattle.tap_engine.specs.Ready.{IsReady}
+use Rattle.tap_engine.proofs.RowTurns.{docs-are}
+use Rattle.script_lang.specs.declared.refusal.Refusal.TheVariants.{Memory}
 use Rattle.tap_engine.proofs.AnswerTurns.{for-memory, undo-docs, some-undo}
-use Rattle.tap_engine.proofs.ReadyLaws.{ready-docs}
+use Rattle.tap_engine.proofs.ReadyLaws.{ready-docs, rows-by, index-moment}
 use Rattle.tap_engine.proofs.MboxLaws.{mbox-verdict, mbox-refuses, mbox-moment, answers-mbox, stands-more}
 use Rattle.tap_engine.proofs.engine.Engine.mbox.Goals as goal
 
@@ -16,23 +26,37 @@ returns-in_err-change-clause-refusal c = let by = mbox-refuses c.args.self.now c
 pub returns-clause-ok : goal.returns-clause-ok
 returns-clause-ok c = λ t stands sound.
     let none = sym (mbox-verdict c.args.self.now t c.args.block stands) ∙ c.in_ok-moment.ensures.checks in
-    let first : length c.as_slice.result.now + 1 ≡ length c.args.self.now.docs + 1 = ap (λ docs. length docs + 1) c.as_slice.ensures in
-    let change : c.in_ok-change.change ≡ some_docs (docs_from (length c.args.self.now.docs + 1) c.in_ok-moment.moment c.in_ok-moment.texts) = search rules in
-    answers-mbox t c.args.self.now.session c.args.block c.in_ok-moment.texts c.len-2.result (length c.as_slice.result.now + 1) (length c.args.self.now.docs) c.in_ok-moment.moment c.in_ok-change.change c.add_docs.new.self.session
-    none c.in_ok-moment.ensures.texts c.in_ok-moment.ensures.moment c.len-2.ensures (ap length stands.docs) first change (ap (λ e. e.session) c.in_ok-change.ensures.engine)
+    let first : c.from-first.result + 1 ≡ length c.args.self.now.index.docs + 1 = search rules in
+    let change : c.in_ok-change.change ≡ some_docs (docs_from (length c.args.self.now.index.docs + 1) c.in_ok-moment.moment c.in_ok-moment.texts) = search rules in
+    answers-mbox t c.args.self.now.session c.args.block c.in_ok-moment.texts c.len.result (c.from-first.result + 1) (length c.args.self.now.index.docs) c.in_ok-moment.moment c.in_ok-change.change c.add_docs.new.self.session
+    none c.in_ok-moment.ensures.texts c.in_ok-moment.ensures.moment c.len.ensures (ap length (docs-are stands)) first change (ap (λ e. e.session) c.in_ok-change.ensures.engine)
 
 pub returns-clause-stands : goal.returns-clause-stands
 returns-clause-stands c = λ t stands sound.
-    let change : c.in_ok-change.change ≡ some_docs (docs_from (length c.args.self.now.docs + 1) c.in_ok-moment.moment c.in_ok-moment.texts) = search rules in
-    let engine : c.add_docs.new.self ≡ record c.args.self.now { docs = c.args.self.now.docs ++ docs_from (length c.args.self.now.docs + 1) c.in_ok-moment.moment c.in_ok-moment.texts; bytes = c.args.self.now.bytes + bytes_of c.in_ok-moment.texts } = search rules in
-    rw (engine, change) (stands-more c.args.self.now t c.in_ok-moment.moment c.in_ok-moment.texts stands (mbox-moment c.args.self.now c.args.block c.in_ok-moment.ensures.checks))
+    let change : c.in_ok-change.change ≡ some_docs (docs_from (length c.args.self.now.index.docs + 1) c.in_ok-moment.moment c.in_ok-moment.texts) = search rules in
+    let engine : c.add_docs.new.self ≡ record c.args.self.now { index = after c.args.self.now.index (Docs (docs_from (length c.args.self.now.index.docs + 1) c.in_ok-moment.moment c.in_ok-moment.texts)); hits = c.add_docs.new.self.hits; bytes = c.args.self.now.bytes + bytes_of c.in_ok-moment.texts } = search rules in
+    rw change (subst (λ e. StandsFor e (tables_after (some_docs (docs_from (length c.args.self.now.index.docs + 1) c.in_ok-moment.moment c.in_ok-moment.texts)) t)) (sym engine) (stands-more c.args.self.now t c.add_docs.new.self.hits c.in_ok-moment.moment c.in_ok-moment.texts stands (mbox-moment c.args.self.now c.args.block c.in_ok-moment.ensures.checks)))
 
 pub returns-clause-undo : goal.returns-clause-undo
 returns-clause-undo c =
-    let engine : c.add_docs.new.self ≡ record c.args.self.now { docs = c.args.self.now.docs ++ docs_from (length c.args.self.now.docs + 1) c.in_ok-moment.moment c.in_ok-moment.texts; bytes = c.args.self.now.bytes + bytes_of c.in_ok-moment.texts } = search rules in
-    some-undo c.in_ok-change.change (rw engine (undo-docs c.args.self.now (docs_from (length c.args.self.now.docs + 1) c.in_ok-moment.moment c.in_ok-moment.texts) (c.args.self.now.bytes + bytes_of c.in_ok-moment.texts) c.len.result c.len.ensures))
+    let engine : c.add_docs.new.self ≡ record c.args.self.now { index = after c.args.self.now.index (Docs (docs_from (length c.args.self.now.index.docs + 1) c.in_ok-moment.moment c.in_ok-moment.texts)); hits = c.add_docs.new.self.hits; bytes = c.args.self.now.bytes + bytes_of c.in_ok-moment.texts } = search rules in
+    some-undo c.in_ok-change.change (subst (λ e. TakesBack (Rows c.docs.result c.args.self.now.bytes) e c.args.self.now) (sym engine) (undo-docs c.args.self.now (docs_from (length c.args.self.now.index.docs + 1) c.in_ok-moment.moment c.in_ok-moment.texts) c.add_docs.new.self.hits (c.args.self.now.bytes + bytes_of c.in_ok-moment.texts) c.docs.result c.docs.ensures.count c.add_docs.ensures.more))
 
 pub returns-clause-ready : goal.returns-clause-ready
 returns-clause-ready c =
-    let engine : c.add_docs.new.self ≡ record c.args.self.now { docs = c.args.self.now.docs ++ docs_from (length c.args.self.now.docs + 1) c.in_ok-moment.moment c.in_ok-moment.texts; bytes = c.args.self.now.bytes + bytes_of c.in_ok-moment.texts } = search rules in
-    rw (engine, c.in_ok-moment.ensures.moment) (ready-docs c.args.self.now c.in_ok-moment.texts (c.args.self.now.bytes + bytes_of c.in_ok-moment.texts) c.requires.ready (mbox-moment c.args.self.now c.args.block c.in_ok-moment.ensures.checks))
+    let engine : c.add_docs.new.self ≡ record c.args.self.now { index = after c.args.self.now.index (Docs (docs_from (length c.args.self.now.index.docs + 1) c.in_ok-moment.moment c.in_ok-moment.texts)); hits = c.add_docs.new.self.hits; bytes = c.args.self.now.bytes + bytes_of c.in_ok-moment.texts } = search rules in
+    let room : length (c.args.self.now.index.docs ++ docs_from (length c.args.self.now.index.docs + 1) c.in_ok-moment.moment c.in_ok-moment.texts) ≤ c.add_docs.new.self.hits.room = subst (λ e. length e.index.docs ≤ c.add_docs.new.self.hits.room) engine c.in_ok-change.ensures.room in
+    subst IsReady (sym engine)
+    (subst (λ m. IsReady (record c.args.self.now { index = after c.args.self.now.index (Docs (docs_from (length c.args.self.now.index.docs + 1) m c.in_ok-moment.texts)); hits = c.add_docs.new.self.hits; bytes = c.args.self.now.bytes + bytes_of c.in_ok-moment.texts })) (sym c.in_ok-moment.ensures.moment)
+    (ready-docs c.args.self.now c.add_docs.new.self.hits c.in_ok-moment.texts (c.args.self.now.bytes + bytes_of c.in_ok-moment.texts) c.requires.ready (mbox-moment c.args.self.now c.args.block c.in_ok-moment.ensures.checks)
+    (subst (λ m. length (c.args.self.now.index.docs ++ docs_from (length c.args.self.now.index.docs + 1) m c.in_ok-moment.texts) ≤ c.add_docs.new.self.hits.room) c.in_ok-moment.ensures.moment room)))
+
+pub add_docs-requires-clause-moment : goal.add_docs-requires-clause-moment
+add_docs-requires-clause-moment c =
+    let same : to_z w64 (of_z w64 c.in_ok-moment.moment) ≡ c.in_ok-moment.moment = search rules in
+    subst IsMoment (sym (same ∙ c.in_ok-moment.ensures.moment)) (index-moment c.args.self.now c.requires.ready (mbox-moment c.args.self.now c.args.block c.in_ok-moment.ensures.checks))
+
+pub add_docs-requires-clause-after : goal.add_docs-requires-clause-after
+add_docs-requires-clause-after c =
+    let same : to_z w64 (of_z w64 c.in_ok-moment.moment) ≡ c.in_ok-moment.moment = search rules in
+    subst (λ m. Each (λ other. other.arrival ≤ℤ m) c.args.self.now.index.docs) (sym (same ∙ c.in_ok-moment.ensures.moment)) (rows-by doc_arrival c.args.self.now c.args.self.now.index.docs c.requires.ready.docs (mbox-moment c.args.self.now c.args.block c.in_ok-moment.ensures.checks))

@@ -1,78 +1,116 @@
-use Rattle.std.proofs.Common.{rules, arith, ◌≡◌, ◌∙◌, sym, ap, subst, ◌-◌, ◌<◌, length}
-use Rattle.std.specs.Prelude.{slice_index_or}
+use Rattle.std.proofs.Common.{rules, arith, ◌≡◌, ◌∙◌, sym, ap, subst, ◌-◌, ◌<◌, length, map, ◌+◌}
+use Rattle.std.specs.Prelude.{slice_set, slice_index_or}
 use Rattle.script_lang.specs.declared.refusal.Refusal.TheVariants.{Memory}
-use Rattle.tap_engine.specs.Keeping.{new_kept}
+use Rattle.tap_engine.specs.Keeping.{new_kept, after_run}
+use Rattle.tap_rows.specs.Results.{entry_at}
 use Rattle.tap_rows.specs.Tables.{after}
 use Rattle.tap_engine.specs.Standing.{StandsFor}
 use Rattle.tap_engine.specs.Ready.{IsReady}
-use Rattle.tap_engine.specs.Answering.{TakesBack}
+use Rattle.tap_model.specs.Sound.{IsMoment}
+use Rattle.tap_engine.specs.declared.engine.Engine.{Engine}
+use Rattle.tap_engine.specs.declared.kept_query.KeptQuery.{KeptQuery}
+use Rattle.tap_engine.specs.Answering.{IsStill, TakesBack, undo_run}
 use Rattle.tap_engine.proofs.AnswerTurns.{for-memory}
 use Rattle.tap_engine.proofs.CheckLaws.{run-verdict, run-refuses, run-moment}
-use Rattle.tap_engine.proofs.ReadyLaws.{due-at, kept-run, undo-run}
+use Rattle.tap_engine.proofs.ReadyLaws.{due-at, kept-run, undo-run, present-moment, ready-still}
 use Rattle.tap_engine.proofs.DueLaws.{due-is, stands-run, answers-run, run_rows}
 use Rattle.tap_engine.proofs.engine.Engine.run.Goals as goal
 
 pub returns-in_err-due-clause-refusal : goal.returns-in_err-due-clause-refusal
-returns-in_err-due-clause-refusal c = let by = run-refuses c.args.self.now c.args.name.now c.in_err-due.field-0.0 c.in_err-due.ensures.refusal in search (rules, by)
+returns-in_err-due-clause-refusal g c = let by = run-refuses c.args.self.now c.args.name.now c.in_err-due.field-0.0 c.in_err-due.ensures.refusal in search (rules, by)
 
 pub overflow_cast-ordinal : goal.overflow_cast-ordinal
-overflow_cast-ordinal c = let d = due-at c.args.self.now c.args.name.now c.in_ok-due.due c.requires.ready c.in_ok-due.ensures.due in omega (arith, ap (λ x. x.runs) d.is, d.at.few, c.in_ok-due.ensures.few)
+overflow_cast-ordinal g c = let d = due-at c.args.self.now c.args.name.now c.in_ok-due.due c.requires.ready c.in_ok-due.ensures.due in omega (arith, ap (λ x. x.runs) d.is, d.at.few, c.in_ok-due.ensures.few)
 
 pub overflow_add-ordinal : goal.overflow_add-ordinal
-overflow_add-ordinal c = let d = due-at c.args.self.now c.args.name.now c.in_ok-due.due c.requires.ready c.in_ok-due.ensures.due in omega (arith, ap (λ x. x.runs) d.is, d.at.few, c.in_ok-due.ensures.few)
+overflow_add-ordinal g c = let d = due-at c.args.self.now c.args.name.now c.in_ok-due.due c.requires.ready c.in_ok-due.ensures.due in omega (arith, ap (λ x. x.runs) d.is, d.at.few, c.in_ok-due.ensures.few)
 
 pub overflow_sub-due : goal.overflow_sub-due
-overflow_sub-due c = let d = due-at c.args.self.now c.args.name.now c.in_ok-due.due c.requires.ready c.in_ok-due.ensures.due in omega (arith, ap (λ x. x.query.0) d.is, d.at.low)
+overflow_sub-due g c = let d = due-at c.args.self.now c.args.name.now c.in_ok-due.due c.requires.ready c.in_ok-due.ensures.due in omega (arith, ap (λ x. x.query.0) d.is, d.at.low)
 
 pub undo_run-undo-requires : goal.undo_run-undo-requires
-undo_run-undo-requires c = let d = due-at c.args.self.now c.args.name.now c.in_ok-due.due c.requires.ready c.in_ok-due.ensures.due in omega (arith, ap (λ x. x.query.0) d.is, d.at.low, d.at.high)
+undo_run-undo-requires g c =
+    let d = due-at c.args.self.now c.args.name.now c.in_ok-due.due c.requires.ready c.in_ok-due.ensures.due in
+    omega (arith, ap (λ k. length k.queries) c.due_run.ensures.still.same, ap (λ x. x.query.0) d.is, d.at.low, d.at.high)
 
 pub deliver-requires-clause-first : goal.deliver-requires-clause-first
-deliver-requires-clause-first c = let d = due-at c.args.self.now c.args.name.now c.in_ok-due.due c.requires.ready c.in_ok-due.ensures.due in omega (arith, ap (λ x. x.query.0) d.is, d.at.low)
+deliver-requires-clause-first g c = let d = due-at c.args.self.now c.args.name.now c.in_ok-due.due c.requires.ready c.in_ok-due.ensures.due in omega (arith, ap (λ x. x.query.0) d.is, d.at.low)
 
 pub deliver-requires-clause-place : goal.deliver-requires-clause-place
-deliver-requires-clause-place c = let d = due-at c.args.self.now c.args.name.now c.in_ok-due.due c.requires.ready c.in_ok-due.ensures.due in omega (arith, ap (λ x. x.query.0) d.is, d.at.high)
+deliver-requires-clause-place g c =
+    let d = due-at c.args.self.now c.args.name.now c.in_ok-due.due c.requires.ready c.in_ok-due.ensures.due in
+    omega (arith, ap (λ k. length k.queries) c.due_run.ensures.still.same, ap (λ x. x.query.0) d.is, d.at.high)
 
 pub deliver-requires-clause-runs : goal.deliver-requires-clause-runs
-deliver-requires-clause-runs c = λ x.
+deliver-requires-clause-runs g c = λ x.
     let d = due-at c.args.self.now c.args.name.now c.in_ok-due.due c.requires.ready c.in_ok-due.ensures.due in
     let at : slice_index_or c.args.self.now.queries (c.in_ok-due.due.query.0 - 1) x ≡ d.kept = d.at.at (c.in_ok-due.due.query.0 - 1) x (omega (arith, ap (λ x. x.query.0) d.is, d.at.low)) in
-    omega (arith, ap (λ k. k.runs) at, d.at.few, c.in_ok-due.ensures.few)
+    omega (arith, ap (λ k. (slice_index_or k.queries (c.in_ok-due.due.query.0 - 1) x).runs) c.due_run.ensures.still.same, ap (λ k. k.runs) at, d.at.few, c.in_ok-due.ensures.few)
+
+pub deliver-requires-clause-few : goal.deliver-requires-clause-few
+deliver-requires-clause-few g c = omega (arith, ap (λ k. k.run_count) c.due_run.ensures.still.same, c.in_ok-due.ensures.few)
 
 pub returns-in_err-change-clause-refusal : goal.returns-in_err-change-clause-refusal
-returns-in_err-change-clause-refusal c = let by = run-refuses c.args.self.now c.args.name.now Memory (for-memory _ c.in_ok-due.ensures.verdict) in search (rules, by)
+returns-in_err-change-clause-refusal g c = let by = run-refuses c.args.self.now c.args.name.now Memory (for-memory _ c.in_ok-due.ensures.verdict) in search (rules, by)
+
+pub returns-in_err-change-clause-err : goal.returns-in_err-change-clause-err
+returns-in_err-change-clause-err g c = let by = subst (λ k. IsStill k c.args.self.now) (sym c.in_err-change.ensures.err) c.due_run.ensures.still in search (rules, by)
 
 pub returns-clause-ok : goal.returns-clause-ok
-returns-clause-ok c = λ t stands sound.
-    let none = sym (run-verdict c.args.self.now t c.args.name.now stands) ∙ c.in_ok-due.ensures.verdict in
-    let d = due-is c.args.self.now t c.args.name.now c.in_ok-due.due stands c.in_ok-due.ensures.due in
-    let change : c.in_ok-change.change ≡ run_rows c.args.self.now.run_count c.args.self.now.pick_count c.in_ok-due.due = search rules in
-    let answers = answers-run c.args.self.now t c.args.name.now c.in_ok-due.due c.in_ok-change.change c.deliver.new.self.session stands none d change (ap (λ e. e.session) (c.in_ok-change.ensures.engine (new_kept d.q))) in search (rules, answers)
+returns-clause-ok g c = λ t stands sound.
+    let e = c.args.self.now in
+    let due = c.in_ok-due.due in
+    let same = c.due_run.ensures.still.same in
+    let none = sym (run-verdict e t c.args.name.now stands sound) ∙ c.in_ok-due.ensures.verdict in
+    let d = due-is e t c.args.name.now due stands sound (run-moment e c.args.name.now c.in_ok-due.ensures.verdict) c.in_ok-due.ensures.due in
+    let raw : c.in_ok-change.change ≡ run_rows c.due_run.new.self.run_count c.due_run.new.self.pick_count due = search rules in
+    let change : c.in_ok-change.change ≡ run_rows e.run_count e.pick_count due = raw ∙ ap (λ k. run_rows k.run_count k.pick_count due) same in
+    let answers = answers-run e t c.args.name.now due c.in_ok-change.change c.deliver.new.self.session stands none d change (ap (λ k. k.session) (c.in_ok-change.ensures.engine (new_kept d.q)) ∙ ap (λ k. k.session) same) in search (rules, answers)
 
 pub returns-clause-stands : goal.returns-clause-stands
-returns-clause-stands c = λ t stands sound.
-    let d = due-is c.args.self.now t c.args.name.now c.in_ok-due.due stands c.in_ok-due.ensures.due in
-    let change : c.in_ok-change.change ≡ run_rows c.args.self.now.run_count c.args.self.now.pick_count c.in_ok-due.due = search rules in
+returns-clause-stands g c = λ t stands sound.
+    let e = c.args.self.now in
+    let due = c.in_ok-due.due in
+    let next : Engine → KeptQuery → Engine = λ k x. record k { queries = slice_set k.queries (due.query.0 - 1) (after_run due.moment (map (entry_at (due.runs + 1)) due.hits) (slice_index_or k.queries (due.query.0 - 1) x)); run_count = k.run_count + 1; pick_count = k.pick_count + length due.hits } in
+    let same = c.due_run.ensures.still.same in
+    let there = run-moment e c.args.name.now c.in_ok-due.ensures.verdict in
+    let d = due-is e t c.args.name.now due stands sound there c.in_ok-due.ensures.due in
+    let raw-change : c.in_ok-change.change ≡ run_rows c.due_run.new.self.run_count c.due_run.new.self.pick_count due = search rules in
+    let change : c.in_ok-change.change ≡ run_rows e.run_count e.pick_count due = raw-change ∙ ap (λ k. run_rows k.run_count k.pick_count due) same in
+    let raw : (x : KeptQuery) → c.deliver.new.self ≡ next c.due_run.new.self x = search rules in
     subst (λ change. StandsFor c.deliver.new.self (after t change)) (sym change)
-    (stands-run c.args.self.now t c.args.name.now c.in_ok-due.due c.deliver.new.self stands sound.kept d (run-moment c.args.self.now c.args.name.now c.in_ok-due.ensures.verdict) (search rules))
+    (stands-run e t c.args.name.now due c.due_run.new.self.hits c.deliver.new.self stands sound.kept d there (λ x. raw x ∙ ap (λ k. next k x) same))
 
 pub returns-clause-undo : goal.returns-clause-undo
-returns-clause-undo c =
-    let d = due-at c.args.self.now c.args.name.now c.in_ok-due.due c.requires.ready c.in_ok-due.ensures.due in
-    let place : c.in_ok-due.due.query.0 - 1 < length c.args.self.now.queries = omega (arith, ap (λ x. x.query.0) d.is, d.at.low, d.at.high) in
-    subst (λ undo. TakesBack undo c.deliver.new.self c.args.self.now) (sym (c.undo_run-undo.ensures d.kept)) (undo-run c.args.self.now c.deliver.new.self (c.in_ok-due.due.query.0 - 1) _ _ _ _ d.kept place (c.in_ok-change.ensures.engine d.kept))
+returns-clause-undo g c =
+    let e = c.args.self.now in
+    let due = c.in_ok-due.due in
+    let next : Engine → KeptQuery → Engine = λ k x. record k { queries = slice_set k.queries (due.query.0 - 1) (after_run due.moment (map (entry_at (due.runs + 1)) due.hits) (slice_index_or k.queries (due.query.0 - 1) x)); run_count = k.run_count + 1; pick_count = k.pick_count + length due.hits } in
+    let raw : (x : KeptQuery) → c.deliver.new.self ≡ next c.due_run.new.self x = search rules in
+    let same = c.due_run.ensures.still.same in
+    let d = due-at e c.args.name.now due c.requires.ready c.in_ok-due.ensures.due in
+    let place : due.query.0 - 1 < length e.queries = omega (arith, ap (λ x. x.query.0) d.is, d.at.low, d.at.high) in
+    subst (λ undo. TakesBack undo c.deliver.new.self e) (sym (c.undo_run-undo.ensures d.kept ∙ ap (λ k. undo_run k (due.query.0 - 1) (slice_index_or k.queries (due.query.0 - 1) d.kept)) same))
+    (undo-run e c.deliver.new.self c.due_run.new.self.hits (due.query.0 - 1) due.moment (map (entry_at (due.runs + 1)) due.hits) (e.run_count + 1) (e.pick_count + length due.hits) d.kept place c.due_run.ensures.still.room
+    (raw d.kept ∙ ap (λ k. next k d.kept) same))
 
 pub returns-clause-ready : goal.returns-clause-ready
-returns-clause-ready c =
-    let d = due-at c.args.self.now c.args.name.now c.in_ok-due.due c.requires.ready c.in_ok-due.ensures.due in
+returns-clause-ready g c =
+    let e = c.args.self.now in
+    let due = c.in_ok-due.due in
+    let same = c.due_run.ensures.still.same in
+    let d = due-at e c.args.name.now due c.requires.ready c.in_ok-due.ensures.due in
+    let moment : IsMoment due.moment = subst IsMoment (sym (ap (λ x. x.moment) d.is)) (present-moment e c.requires.ready (run-moment e c.args.name.now c.in_ok-due.ensures.verdict)) in
+    let ready : IsReady c.due_run.new.self = ready-still e c.due_run.new.self c.requires.ready c.due_run.ensures.still in
     subst IsReady (sym (c.in_ok-change.ensures.engine d.kept)) (record {
-      docs = c.requires.ready.docs;
-      by = c.requires.ready.by;
-      queries = kept-run 1 c.args.self.now.run_count (c.in_ok-due.due.query.0 - 1) c.args.self.now.queries _ _ d.kept c.requires.ready.queries;
-      moment = c.requires.ready.moment;
+      docs = ready.docs;
+      notes = ready.notes;
+      queries = kept-run 1 c.due_run.new.self.run_count (due.query.0 - 1) c.due_run.new.self.queries _ _ d.kept ready.queries (search (rules, moment));
+      moment = ready.moment;
+      room = ready.room;
     })
 
 pub returns-clause-running : goal.returns-clause-running
-returns-clause-running c =
+returns-clause-running g c =
     let d = due-at c.args.self.now c.args.name.now c.in_ok-due.due c.requires.ready c.in_ok-due.ensures.due in
-    ap (λ e. e.stopped) (c.in_ok-change.ensures.engine d.kept)
+    ap (λ e. e.stopped) (c.in_ok-change.ensures.engine d.kept) ∙ ap (λ e. e.stopped) c.due_run.ensures.still.same

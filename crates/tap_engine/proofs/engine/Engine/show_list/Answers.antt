@@ -5,10 +5,10 @@ use Rattle.tap_engine.proofs.FilterLaws.{list-refuses, answers-list}
 use Rattle.tap_engine.proofs.engine.Engine.show_list.Goals as goal
 
 pub returns-in_err-rows-clause-refusal : goal.returns-in_err-rows-clause-refusal
-returns-in_err-rows-clause-refusal c =
+returns-in_err-rows-clause-refusal g c =
     let by = list-refuses c.args.self.now c.args.name c.in_err-rows.field-0.0 (subst (λ n. RefusedBy (look_refusal c.args.self.now n) c.in_err-rows.field-0.0) c.as_slice.ensures c.in_err-rows.ensures.refusal) in search (rules, by)
 
 pub returns-clause-ok : goal.returns-clause-ok
-returns-clause-ok c = λ t stands sound. answers-list c.args.self.now t c.args.name c.in_ok-rows.rows stands sound
+returns-clause-ok g c = λ t stands sound. answers-list c.args.self.now t c.args.name c.in_ok-rows.rows stands sound
     (sym (ap (look_refusal c.args.self.now) c.as_slice.ensures) ∙ c.in_ok-rows.ensures.look)
     (c.in_ok-rows.ensures.rows ∙ ap (λ n. rows_kept c.args.self.now (kept_named c.args.self.now n)) c.as_slice.ensures)

@@ -1,4 +1,4 @@
-use Rattle.std.proofs.Common.{◌≡◌, drop, length}
+use Rattle.std.proofs.Common.{◌≡◌, drop}
 use Rattle.tap_engine.specs.Starting.{summed}
 use Rattle.tap_engine.proofs.sums.Sums.add_runs.Given as goal
 

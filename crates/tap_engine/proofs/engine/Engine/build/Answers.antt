@@ -1,0 +1,86 @@
+use Rattle.std.proofs.Common.{◌≡◌, ◌∙◌, ap, sym, subst, refl, rules, true, false, [], ◌++◌, length, map}
+use Rattle.tap_base.specs.Words.{with_new}
+use Rattle.tap_rows.specs.declared.tables.Tables.{Tables}
+use Rattle.tap_rows.specs.Kept.{Each, HasRun, RunsFrom}
+use Rattle.tap_rows.specs.WellFormed.{is_well_formed}
+use Rattle.tap_engine.specs.declared.engine.Engine.{Engine}
+use Rattle.tap_engine.specs.Keeping.{kept_query}
+use Rattle.tap_engine.specs.Standing.{StandsFor}
+use Rattle.tap_engine.specs.Starting.{runs_alone, IsOneOf}
+use Rattle.tap_engine.proofs.FormedLaws.{Formed, formed}
+use Rattle.tap_engine.proofs.SumLaws.{bytes-of, greatest-in}
+use Rattle.tap_engine.proofs.StartedLaws.{IsStarted, stands-start, ready-start}
+use Rattle.tap_engine.proofs.engine.Engine.build.Goals as goal
+
+from-sound : (tables sound : Tables) → tables ≡ sound → is_well_formed sound ≡ true → Formed tables
+from-sound tables sound same e = formed tables (subst (λ t. is_well_formed t ≡ true) (sym same) e)
+
+pub keep_delivered-requires-clause-arrivals : goal.keep_delivered-requires-clause-arrivals
+keep_delivered-requires-clause-arrivals c = (from-sound c.into_parts-tables.result.0 c.args.sound c.into_parts-tables.ensures.tables c.into_parts-tables.ensures.formed).moments
+
+pub keep_delivered-requires-clause-numbered : goal.keep_delivered-requires-clause-numbered
+keep_delivered-requires-clause-numbered c = (from-sound c.into_parts-tables.result.0 c.args.sound c.into_parts-tables.ensures.tables c.into_parts-tables.ensures.formed).queries
+
+pub keep_delivered-requires-clause-runs : goal.keep_delivered-requires-clause-runs
+keep_delivered-requires-clause-runs c =
+    let f = from-sound c.into_parts-tables.result.0 c.args.sound c.into_parts-tables.ensures.tables c.into_parts-tables.ensures.formed in
+    subst (λ runs. RunsFrom 1 runs) (sym c.as_slice-3.ensures) f.runs
+
+pub keep_delivered-requires-clause-owned : goal.keep_delivered-requires-clause-owned
+keep_delivered-requires-clause-owned c =
+    let t = c.into_parts-tables.result.0 in
+    let f = from-sound t c.args.sound c.into_parts-tables.ensures.tables c.into_parts-tables.ensures.formed in
+    subst (λ runs. Each (λ run. IsOneOf run.query.0 (length t.queries)) runs) (sym c.as_slice-3.ensures) f.owned
+
+pub keep_delivered-requires-clause-picked : goal.keep_delivered-requires-clause-picked
+keep_delivered-requires-clause-picked c =
+    let t = c.into_parts-tables.result.0 in
+    let f = from-sound t c.args.sound c.into_parts-tables.ensures.tables c.into_parts-tables.ensures.formed in
+    subst (λ picks. Each (λ pick. HasRun pick.run pick.query.0 c.as_slice-3.result.now) picks) (sym c.as_slice-4.ensures)
+    (subst (λ runs. Each (λ pick. HasRun pick.run pick.query.0 runs) t.picks) (sym c.as_slice-3.ensures) f.picked)
+
+pub index_rows-requires-clause-docs : goal.index_rows-requires-clause-docs
+index_rows-requires-clause-docs c = (from-sound c.into_parts-tables.result.0 c.args.sound c.into_parts-tables.ensures.tables c.into_parts-tables.ensures.formed).docs
+
+pub index_rows-requires-clause-short : goal.index_rows-requires-clause-short
+index_rows-requires-clause-short c = (from-sound c.into_parts-tables.result.0 c.args.sound c.into_parts-tables.ensures.tables c.into_parts-tables.ensures.formed).short
+
+pub index_rows-requires-clause-notes : goal.index_rows-requires-clause-notes
+index_rows-requires-clause-notes c = (from-sound c.into_parts-tables.result.0 c.args.sound c.into_parts-tables.ensures.tables c.into_parts-tables.ensures.formed).notes
+
+pub returns : goal.returns
+returns c =
+    let t = c.into_parts-tables.result.0 in
+    let e : Engine = record {
+      session = c.new.result;
+      index = c.in_ok-index.index;
+      hits = c.in_ok-index.hits;
+      queries = c.in_ok-queries.queries;
+      filters = c.in_ok-filters.filters;
+      run_count = c.len.result;
+      pick_count = c.len-2.result;
+      bytes = c.in_ok-sums.sums.bytes;
+      owners = c.in_ok-owners.owners;
+      greatest = c.in_ok-sums.sums.greatest;
+      stopped = false;
+    } in
+    let is : IsStarted e t = record {
+      session = search rules;
+      rows = c.in_ok-index.ensures.index;
+      room = c.in_ok-index.ensures.room;
+      queries = c.in_ok-queries.ensures ∙ ap (λ runs. map (kept_query (runs_alone runs c.as_slice-4.result.now)) t.queries) c.as_slice-3.ensures ∙ ap (λ picks. map (kept_query (runs_alone t.runs picks)) t.queries) c.as_slice-4.ensures;
+      filters = search rules;
+      run_count = search rules;
+      pick_count = search rules;
+      bytes = ap (λ sums. sums.bytes) c.in_ok-sums.ensures ∙ bytes-of t;
+      owners = c.in_ok-owners.ensures ∙ ap (λ queries. with_new [] (map (λ query. query.owner) queries ++ map (λ filter. filter.owner) c.as_slice-2.result.now)) c.as_slice.ensures ∙ ap (λ filters. with_new [] (map (λ query. query.owner) t.queries ++ map (λ filter. filter.owner) filters)) c.as_slice-2.ensures;
+      greatest = ap (λ sums. sums.greatest) c.in_ok-sums.ensures ∙ greatest-in t;
+    } in
+    record {
+      stands = subst (λ tables. StandsFor e tables) c.into_parts-tables.ensures.tables (stands-start e t is);
+      session = is.session;
+      running = refl;
+      ready = ready-start e t is (from-sound t c.args.sound c.into_parts-tables.ensures.tables c.into_parts-tables.ensures.formed);
+      read = search rules;
+      fault = tt;
+    }

@@ -1,0 +1,35 @@
+use Rattle.std.proofs.Common.{rules, ◌≡◌, ◌∙◌, ap, inl, length, Some, None, w64, to_z, of_z}
+use Rattle.script_lang.specs.declared.refusal.LimitName.TheVariants.{Runs, Picks}
+use Rattle.tap_model.specs.declared.limits.TheConstants.{RUN_LIMIT, PICK_LIMIT}
+use Rattle.tap_model.specs.Limits.{passes}
+use Rattle.tap_engine.specs.Keeping.{hits_since}
+use Rattle.tap_engine.specs.Standing.{query_refusal, run_refusal, RefusedBy}
+use Rattle.tap_engine.proofs.CheckLaws.{run-left}
+use Rattle.tap_model.specs.Sessions.{user_of}
+use Rattle.tap_engine.proofs.ReadyLaws.{named-at}
+use Rattle.tap_engine.proofs.engine.Engine.due_run.Goals as goal
+
+pub find-requires-clause-covered : goal.find-requires-clause-covered
+find-requires-clause-covered g c = (named-at (user_of c.args.self.now.session) c.args.name.now 1 c.args.self.now.run_count c.args.self.now.queries c.in_ok-kept.kept.now c.requires.ready.queries c.in_ok-kept.ensures.ok).covered
+
+pub returns-in_err-refuse_more-2-clause-refusal : goal.returns-in_err-refuse_more-2-clause-refusal
+returns-in_err-refuse_more-2-clause-refusal g c =
+    let e = c.args.self.now in
+    let is-m : e.session.moment ≡ Some c.in-Some.moment = search rules in
+    let look : query_refusal e.session e.queries c.args.name.now ≡ None = search rules in
+    let runs : passes Runs RUN_LIMIT e.run_count 1 ≡ None = search rules in
+    let same : to_z w64 (of_z w64 c.in-Some.moment) ≡ c.in-Some.moment = search rules in
+    let hits : c.find.new.hits.hits ≡ hits_since c.in_ok-kept.kept.now e.index c.in-Some.moment = c.find.ensures.hits ∙ ap (hits_since c.in_ok-kept.kept.now e.index) same in
+    let refused : passes Picks PICK_LIMIT e.pick_count (length c.find.new.hits.hits) ≡ Some c.in_err-refuse_more-2.field-0.0 = search rules in
+    let by : RefusedBy (run_refusal e c.args.name.now) c.in_err-refuse_more-2.field-0.0 = inl (run-left e c.args.name.now c.in_ok-kept.kept.now c.in-Some.moment c.find.new.hits.hits is-m look runs c.in_ok-kept.ensures.ok hits ∙ refused) in search (rules, by)
+
+pub returns-clause-verdict : goal.returns-clause-verdict
+returns-clause-verdict g c =
+    let e = c.args.self.now in
+    let is-m : e.session.moment ≡ Some c.in-Some.moment = search rules in
+    let look : query_refusal e.session e.queries c.args.name.now ≡ None = search rules in
+    let runs : passes Runs RUN_LIMIT e.run_count 1 ≡ None = search rules in
+    let same : to_z w64 (of_z w64 c.in-Some.moment) ≡ c.in-Some.moment = search rules in
+    let hits : c.find.new.hits.hits ≡ hits_since c.in_ok-kept.kept.now e.index c.in-Some.moment = c.find.ensures.hits ∙ ap (hits_since c.in_ok-kept.kept.now e.index) same in
+    let fine : passes Picks PICK_LIMIT e.pick_count (length c.find.new.hits.hits) ≡ None = search rules in
+    run-left e c.args.name.now c.in_ok-kept.kept.now c.in-Some.moment c.find.new.hits.hits is-m look runs c.in_ok-kept.ensures.ok hits ∙ fine
