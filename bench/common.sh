@@ -1,8 +1,9 @@
-# What the measurements share: the program, and a clock. `name` is the program, tapestry_mem where it isn't set.
+# What the measurements share: the program, and a clock. `name` is the program, tapestry_mem where it isn't set; PROGRAM is
+# the path of another build of it.
 set -eu
 top="$(cd "$(dirname "$0")/.." && pwd)"
 name="${name:-tapestry_mem}"
-program="$top/crates/$name/out/$name"
+program="${PROGRAM:-$top/crates/$name/out/$name}"
 scratch="$(mktemp -d)"
 trap 'rm -rf "$scratch"' EXIT
 [ -x "$program" ] || (cd "$top/crates/$name" && rt run </dev/null >/dev/null)
