@@ -7,4 +7,6 @@ mod inner;
 pub use file_keeper::FileKeeper;
 
 #[cfg(test)]
+mod session_tests;
+#[cfg(test)]
 mod tests;
