@@ -11,6 +11,7 @@ mod StandingLaws
 mod AskLaws
 mod DueLaws
 mod PerformLaws
+mod CostLaws
 mod NoteLaws
 mod MboxLaws
 mod VariableLaws

@@ -27,6 +27,7 @@ impl KeptQuery {
     ghost use Rattle.tap_model.specs.Queries.{start_of};
     ghost use Rattle.tap_engine.specs.Keeping.{new_kept, after_run, before_run, hits_since};
     ghost use Rattle.tap_engine.specs.Starting.{with_entry};
+    ghost use Rattle.tap_engine.specs.Costs.{IsQuiet, AreAlone, rows_due, window_since};
 
     // A query that was never run.
     pub(crate) fn new(alloc: Global, row: KeptRow) -> KeptQuery
@@ -42,7 +43,7 @@ impl KeptQuery {
     }
 
     // Puts what a run at this moment delivers into `hits`: what the window query finds since the last run, without what was
-    // delivered.
+    // delivered. A step is a row that it looks at.
     pub(crate) fn find<L: Ledger>(
         &self,
         index: &RowIndex,
@@ -55,6 +56,8 @@ impl KeptQuery {
         requires room { length index.now.docs ≤ hits.old.room }
         ensures hits { hits.new.hits ≡ hits_since self.now index.now moment }
         ensures room { hits.new.room ≡ hits.old.room }
+        ensures quiet { IsQuiet index.now (window_since self.now moment) self.now.row → steps.new ≡ steps.old }
+        ensures due { AreAlone self.now.row → steps.new ≤ steps.old + rows_due index.now (window_since self.now moment) self.now.row }
     {
         let window = Window {
             low: self.covered,

@@ -71,6 +71,7 @@ impl Engine {
     ghost use Rattle.tap_engine.specs.Standing.{StandsFor, run_refusal, kept_named, due_of, RefusedBy};
     ghost use Rattle.tap_engine.specs.Ready.{IsReady};
     ghost use Rattle.tap_engine.specs.Answering.{Answers, IsStill, TakesBack, undo_run};
+    ghost use Rattle.tap_engine.specs.Costs.{IsQuietRun, IsShortRun, run_due};
 
     // What a run of the user's query of this name delivers.
     #[tactic(auto, unfolding(crate::specs::Standing::look_refusal))]
@@ -87,6 +88,8 @@ impl Engine {
         ensures few { OnOk result (self.old.run_count < RUN_LIMIT) }
         ensures room { IfOk result (λ due. self.old.pick_count + length due.hits ≤ max self.old.pick_count PICK_LIMIT) }
         ensures still { IsStill self.new self.old }
+        ensures quiet { (t : Tables) → StandsFor self.old t → IsQuietRun (Command.Run name.now) self.old.session t → steps.new ≡ steps.old }
+        ensures rows { (t : Tables) → StandsFor self.old t → IsShortRun (Command.Run name.now) self.old.session t → steps.new ≤ steps.old + run_due (Command.Run name.now) self.old.session t }
     {
         let Some(moment) = self.session.moment else {
             return Err(Refusal::NoMoment);
@@ -168,6 +171,8 @@ impl Engine {
         ensures running { OnOk result (self.new.stopped ≡ self.old.stopped) }
         ensures short { IfOk result (λ made. HasShortNames made.reply) }
         ensures accepted { IfOk result (λ made. is_accepted made.reply ≡ true) }
+        ensures quiet { (t : Tables) → StandsFor self.old t → IsQuietRun (Command.Run name.now) self.old.session t → steps.new ≡ steps.old }
+        ensures due { (t : Tables) → StandsFor self.old t → IsShortRun (Command.Run name.now) self.old.session t → steps.new ≤ steps.old + run_due (Command.Run name.now) self.old.session t }
     {
         let due = self.due_run(alloc, name, steps)?;
         let ordinal = due.runs as u32 + 1;
