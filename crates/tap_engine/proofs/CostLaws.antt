@@ -1,5 +1,5 @@
 -- What a run costs over the tables is what it costs over the rows that the index owns.
-use Rattle.std.proofs.Common.{◌≡◌, ◌∙◌, sym, refl, ap, subst, arith, ℕ, ◌+◌, ◌≤◌, ℤ, List, [], ◌∷◌, map, Option, Some, None}
+use Rattle.std.proofs.Common.{◌≡◌, ◌∙◌, sym, refl, ap, subst, ℕ, ◌+◌, ◌≤◌, ℤ, List, [], ◌∷◌, map, Option, Some, None}
 use Rattle.std.specs.Prelude.{filter}
 use Rattle.std.specs.Option.{option_map}
 use Rattle.tap_rows.specs.declared.tables.Tables.{Tables}
@@ -9,7 +9,7 @@ use Rattle.tql_tree.specs.declared.table.Table.TheVariants.{Docs, Notes}
 use Rattle.tql_core.specs.declared.term.Var.{Var}
 use Rattle.tql_core.specs.Condition.{Condition, Always, Never, Plain, NowAtLeast, NowBefore, All, Either, Not, Exists}
 use Rattle.tql_core.specs.Holds.{asked_of}
-use Rattle.tql_core.specs.Row.{Row, rows_of}
+use Rattle.tql_core.specs.Row.{rows_of}
 use Rattle.tql_core.specs.Scope.{In}
 use Rattle.tql_core.specs.Values.{Env, bind, value}
 use Rattle.row_index.specs.Rows.{rows_alone}
@@ -21,7 +21,7 @@ use Rattle.query_eval.specs.Drivers.{table_in, seek_var}
 use Rattle.query_eval.specs.Runs as runs
 use Rattle.query_eval.specs.Work.{total, work, reached}
 use Rattle.script_lang.specs.declared.command.Command.TheVariants.{Run}
-use Rattle.tap_model.specs.Sessions.{present, or_zero, user_of}
+use Rattle.tap_model.specs.Sessions.{or_zero, user_of}
 use Rattle.tap_model.specs.Queries.{probes_in, query_named}
 use Rattle.tap_engine.specs.declared.engine.Engine.{Engine}
 use Rattle.tap_engine.specs.declared.kept_query.KeptQuery.{KeptQuery}

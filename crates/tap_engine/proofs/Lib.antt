@@ -12,6 +12,7 @@ mod AskLaws
 mod DueLaws
 mod PerformLaws
 mod CostLaws
+mod NewLaws
 mod NoteLaws
 mod MboxLaws
 mod VariableLaws
