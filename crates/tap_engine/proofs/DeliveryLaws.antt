@@ -1,6 +1,7 @@
 -- Runs and picks that join their queries one after another.
 use Rattle.std.proofs.Common.{◌≡◌, ◌∙◌, sym, ap, subst, refl, arith, ℕ, zero, suc, ◌+◌, ◌-◌, ◌≤◌, ◌<◌, ℤ, Bool, true, false, List, [], ◌∷◌, ◌++◌, length, map, take, append_assoc, inl, inr}
 use Rattle.std.specs.Prelude.{◌==◌, slice_index_or, slice_set}
+use Rattle.std.specs.List.{list_any}
 use Rattle.std.proofs.Math.Seq.{take-suc}
 use Rattle.std.proofs.lemmas.List.{length-append, map-append}
 use Rattle.std.proofs.lemmas.List.Elements.{filter-append}
@@ -9,6 +10,7 @@ use Rattle.tap_rows.specs.declared.rows.RunRow.{RunRow}
 use Rattle.tap_rows.specs.declared.rows.Pick.{Pick}
 use Rattle.tap_rows.specs.declared.results.Entry.{Entry}
 use Rattle.tap_rows.specs.Results.{run_moments, last_or}
+use Rattle.little_box.specs.Boxes.{is_in}
 use Rattle.tap_rows.specs.Deliveries.{run_ordinal, picked, picks_of}
 use Rattle.tap_rows.specs.Kept.{Each, In, HasRun, RunsFrom, QueriesFrom}
 use Rattle.tap_rows.proofs.LaterLaws.{filter-none}
@@ -17,8 +19,9 @@ use Rattle.tap_rows.proofs.RunLaws.{last-more}
 use Rattle.tap_model.specs.Queries.{start_of}
 use Rattle.tap_engine.specs.declared.kept_query.KeptQuery.{KeptQuery}
 use Rattle.tap_engine.specs.Keeping.{kept_query, new_kept, after_run}
-use Rattle.tap_engine.specs.Starting.{rows_in, runs_alone, ordinal_in, with_entry, IsOneOf}
+use Rattle.tap_engine.specs.Starting.{rows_in, runs_alone, ordinal_in, with_entry, IsOneOf, is_again}
 use Rattle.tap_engine.proofs.DueLaws.{placed, placed-set, runs-few}
+use Rattle.tap_engine.proofs.NewLaws.{picked-in}
 
 same-yes : (a b : ℕ) → a ≡ b → (a == b) ≡ true
 same-yes a b e = grind arith
@@ -173,6 +176,15 @@ pick-joins rows runs before pick queries new ordinals from numbered one has is n
     ∙ ap (λ k. slice_set (map f rows) (pick.query.0 - 1) (with_entry entry k)) kept
     ∙ ap (slice_set (map f rows) (pick.query.0 - 1)) (sym (own-pick runs before pick t.q (slice_index_or ordinals (pick.run - 1) 0) (sym t.at) ordinal))
     ∙ placed-set f g 1 (pick.query.0 - 1) rows t.q from t.has at (λ other differs. other-pick runs before pick other (λ e. differs (t.at ∙ e)))
+
+-- its document isn't among what its query has delivered
+pub pick-unseen : (rows : List QueryRow) (runs : List RunRow) (before : List Pick) (pick : Pick) (queries : List KeptQuery) (d : KeptQuery) → QueriesFrom 1 rows → IsOneOf pick.query.0 (length rows) → queries ≡ map (kept_query (runs_alone runs before)) rows
+    → list_any (is_again pick) before ≡ false → is_in pick.doc.0 (slice_index_or queries (pick.query.0 - 1) d).entries ≡ false
+pick-unseen rows runs before pick queries d from one is once =
+    let t = one-there pick.query.0 rows from one in
+    let kept : slice_index_or queries (pick.query.0 - 1) d ≡ kept_query (runs_alone runs before) t.q =
+    ap (λ l. slice_index_or l (pick.query.0 - 1) d) is ∙ kept-there (kept_query (runs_alone runs before)) pick.query.0 rows t.q d from t.has t.at one.low in
+    ap (λ (k : KeptQuery). is_in pick.doc.0 k.entries) kept ∙ ap (λ n. is_in pick.doc.0 (map (picked runs) (picks_of n before))) t.at ∙ picked-in runs pick before ∙ once
 
 -- runs that are there have their ordinals, whatever follows
 run-in : (pre rest : List RunRow) (run : RunRow) → HasRun run.num run.query.0 (pre ++ run ∷ rest)

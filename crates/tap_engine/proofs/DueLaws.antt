@@ -131,10 +131,6 @@ other-after t q other m kept differs =
     (map (picked (t.runs ++ run ∷ [])) (picks_of other.num.0 (t.picks ++ picks))) (delivered other.num.0 t)
     (ap (last_or (start_of other)) moments) (ap length moments) (ap (map (picked (t.runs ++ run ∷ []))) own ∙ old-picks other.num.0 t.runs run t.picks kept.picks)
 
--- the place of the query that is due
-pub due-place : (t : Tables) (due : Due) (q : QueryRow) → IsKept truth_of start_of t → In q t.queries → due.query.0 ≡ q.num.0 → (0 < due.query.0) × (due.query.0 ≤ length t.queries)
-due-place t due q kept has is = let bounds = query-bounds 1 t.queries q kept.queries has in (omega (arith, is, bounds.0), omega (arith, is, bounds.1))
-
 -- what is kept there
 pub due-kept : (e : Engine) (t : Tables) (due : Due) (q : QueryRow) (x : KeptQuery) → StandsFor e t → IsKept truth_of start_of t → In q t.queries → due.query.0 ≡ q.num.0 → slice_index_or e.queries (due.query.0 - 1) x ≡ kept_query t q
 due-kept e t due q x stands kept has is =

@@ -1,5 +1,5 @@
 -- What well formed tables say of their rows.
-use Rattle.std.proofs.Common.{◌≡◌, ◌∙◌, ap, subst, refl, arith, ℕ, zero, suc, ◌+◌, ◌-◌, ◌≤◌, ◌<◌, ℤ, pos, Bool, true, false, Option, Some, None, List, [], ◌∷◌, ◌++◌, length, inl, inr}
+use Rattle.std.proofs.Common.{not, ◌≡◌, ◌∙◌, ap, subst, refl, arith, ℕ, zero, suc, ◌+◌, ◌-◌, ◌≤◌, ◌<◌, ℤ, pos, Bool, true, false, Option, Some, None, List, [], ◌∷◌, ◌++◌, length, inl, inr}
 use Rattle.std.specs.Prelude.{◌==◌, ◌≤ℤ◌, nat_le, int_le, slice_get}
 use Rattle.std.proofs.lemmas.Bool.{and_parts, false≢true}
 use Rattle.std.proofs.lemmas.Int.{ints}
@@ -15,7 +15,7 @@ use Rattle.row_index.specs.Orders.{doc_number, doc_arrival, note_number, note_ar
 use Rattle.tap_rows.specs.Kept.{Each, HasRun, RunsFrom, QueriesFrom}
 use Rattle.tap_rows.specs.WellFormed.{may_follow, row_at, is_row, docs_stand, doc_stands, note_stands, notes_stand, query_stands, queries_stand, run_stands, runs_stand, is_picked, pick_stands, picks_stand, is_well_formed}
 use Rattle.tap_model.specs.Sound.{IsMoment}
-use Rattle.tap_engine.specs.Starting.{IsOneOf, AreStanding, AreLeft}
+use Rattle.tap_engine.specs.Starting.{IsOneOf, AreStanding, AreLeft, AreOnce}
 
 equal : (a b : ℕ) → (a == b) ≡ true → a ≡ b
 equal a b e = grind arith
@@ -127,6 +127,19 @@ picks-have runs docs earlier place before (pick ∷ picks) from e =
     let this = and_parts _ _ once.0 in
     (pick-has pick runs (row_at pick.run runs) (row_at pick.doc.0 docs) from refl this.1, picks-have runs docs (earlier ++ pick ∷ []) (place + 1) (Some pick) picks from both.1)
 
+-- no query picks a document twice
+not-true : (b : Bool) → not b ≡ true → b ≡ false
+not-true true e = absurd (false≢true e)
+not-true false e = refl
+
+picks-once : (runs : List RunRow) (docs : List Doc) (earlier : List Pick) (place : ℕ) (before : Option Pick) (picks : List Pick) → picks_stand runs docs earlier place before picks ≡ true → AreOnce earlier picks
+picks-once runs docs earlier place before [] e = tt
+picks-once runs docs earlier place before (pick ∷ picks) e =
+    let both = and_parts (pick_stands runs docs earlier place before pick) (picks_stand runs docs (earlier ++ pick ∷ []) (place + 1) (Some pick) picks) e in
+    let order = and_parts _ _ both.0 in
+    let once = and_parts _ _ order.0 in
+    (not-true _ once.1, picks-once runs docs (earlier ++ pick ∷ []) (place + 1) (Some pick) picks both.1)
+
 -- what an engine needs of well formed tables
 pub record Formed (tables : Tables) : Type 0 where
   pub docs : AreLeft doc_number doc_arrival [] tables.docs
@@ -138,6 +151,7 @@ pub record Formed (tables : Tables) : Type 0 where
   pub times : Each (λ run. IsMoment run.moment) tables.runs
   pub owned : Each (λ run. IsOneOf run.query.0 (length tables.queries)) tables.runs
   pub picked : Each (λ pick. HasRun pick.run pick.query.0 tables.runs) tables.picks
+  pub once : AreOnce [] tables.picks
 
 pub formed : (tables : Tables) → is_well_formed tables ≡ true → Formed tables
 formed tables holds =
@@ -151,4 +165,4 @@ formed tables holds =
     let notes = notes-standing tables.docs 1 (pos 0) tables.notes zero-first n.1 in
     let queries = queries-from [] 1 (pos 0) tables.queries (omega (arith, ints)) q.1 in
     let runs = runs-from tables.queries 1 (pos 0) tables.runs zero-first r.1 in
-    record { docs = record { low = pos 0; before = tt; stand = docs.0 }; notes = record { low = pos 0; before = tt; stand = notes }; times = runs.2; short = docs.1; queries = queries.0; moments = queries.1; runs = runs.0; owned = runs.1; picked = picks-have tables.runs tables.docs [] 1 None tables.picks runs.0 p.1 }
+    record { docs = record { low = pos 0; before = tt; stand = docs.0 }; notes = record { low = pos 0; before = tt; stand = notes }; times = runs.2; short = docs.1; queries = queries.0; moments = queries.1; runs = runs.0; owned = runs.1; picked = picks-have tables.runs tables.docs [] 1 None tables.picks runs.0 p.1; once = picks-once tables.runs tables.docs [] 1 None tables.picks p.1 }

@@ -11,6 +11,8 @@ mod StandingLaws
 mod AskLaws
 mod DueLaws
 mod PerformLaws
+mod CostLaws
+mod NewLaws
 mod NoteLaws
 mod MboxLaws
 mod VariableLaws

@@ -77,8 +77,9 @@ unfolding named_in
 named-at owner name num runs queries kept from e = found-at (λ kept. is_named owner name kept.row) num runs queries kept from e
 
 -- what is due is due to a query that is kept at the place of its number
-pub record DueAt (e : Engine) (due : Due) : Type 0 where
+pub record DueAt (e : Engine) (name : List ℕ) (due : Due) : Type 0 where
   pub kept : KeptQuery
+  pub named : kept_named e name ≡ Some kept
   pub at : KeptAt 1 e.run_count e.queries kept
   pub is : due ≡ record { query = kept.row.num; moment = present e.session; runs = kept.runs; hits = hits_kept e (Some kept) }
 
@@ -88,12 +89,13 @@ no-due due e = cc
 same-due : (x y : Due) → Some x ≡ Some y → x ≡ y
 same-due x y e = cc
 
-pub due-at : (e : Engine) (name : List ℕ) (due : Due) → IsReady e → Some due ≡ due_of e (kept_named e name) → DueAt e due
+pub due-at : (e : Engine) (name : List ℕ) (due : Due) → IsReady e → Some due ≡ due_of e (kept_named e name) → DueAt e name due
 due-at e name due ready is = go (kept_named e name) refl where
-  go : (o : Option KeptQuery) → kept_named e name ≡ o → DueAt e due
+  go : (o : Option KeptQuery) → kept_named e name ≡ o → DueAt e name due
   go None none = absurd (no-due due (is ∙ ap (due_of e) none))
   go (Some kept) some = record {
     kept = kept;
+    named = some;
     at = named-at _ name 1 e.run_count e.queries kept ready.queries some;
     is = same-due due (record { query = kept.row.num; moment = present e.session; runs = kept.runs; hits = hits_kept e (Some kept) }) (is ∙ ap (due_of e) some);
   }

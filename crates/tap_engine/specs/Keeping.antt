@@ -1,5 +1,5 @@
 -- What is kept of queries and their owners.
-use Rattle.std.specs.Prelude.{ℕ, zero, suc, ℤ, ◌+◌, List, [], ◌∷◌, ◌++◌, length, take, filter, find, Option, if◌then◌else◌}
+use Rattle.std.specs.Prelude.{⊤, ℕ, zero, suc, ◌≡◌, ℤ, ◌+◌, List, [], ◌∷◌, ◌++◌, length, take, filter, find, Option, false, if◌then◌else◌}
 use Rattle.std.specs.Str.{bytes_eq}
 use Rattle.tap_base.specs.Words.{holds}
 use Rattle.tap_rows.specs.declared.tables.Tables.{Tables}
@@ -10,6 +10,8 @@ use Rattle.time_marks.specs.Probes.{meaning_without}
 use Rattle.query_eval.specs.Nested.{was_seen}
 use Rattle.tap_rows.specs.Results.{run_moments, covered}
 use Rattle.tap_rows.specs.Deliveries.{delivered}
+use Rattle.tap_rows.specs.Kept.{In}
+use Rattle.little_box.specs.Boxes.{is_in}
 use Rattle.tap_engine.specs.declared.kept_query.KeptQuery.{KeptQuery}
 use Rattle.tap_model.specs.Queries.{start_of, probes_in, is_named}
 
@@ -45,6 +47,11 @@ before_run second runs entries kept = record { row = kept.row; covered = second;
 -- what a run of a query at a moment delivers: what its window query finds since the last run, without what was delivered
 abbrev pub hits_since : KeptQuery → Tables → ℤ → List Hit
 hits_since kept rows moment = meaning_without (was_seen kept.entries) (probes_in kept.row) rows (record { low = kept.covered; high = moment })
+
+-- no hit is of a document among these entries, and no two are of one document
+abbrev pub AreNew : List Entry → List Hit → Type 0
+AreNew entries [] = ⊤
+AreNew entries (hit ∷ hits) = (is_in hit.doc.0 entries ≡ false) × ((other : Hit) → In other hits → other.doc.0 ≡ hit.doc.0 → ⊥) × AreNew entries hits
 
 -- the queries, where that at a place is as it was before its last run
 abbrev pub without_run : ℕ → ℤ → ℕ → ℕ → List KeptQuery → List KeptQuery

@@ -1,5 +1,6 @@
 -- What an engine makes of stored tables when it starts.
-use Rattle.std.specs.Prelude.{ℕ, ℤ, ◌≡◌, ◌+◌, ◌≤◌, ◌≤ℤ◌, List, [], ◌∷◌, ◌++◌, length, map, Bool, Option, Some, None, is_some, if◌then◌else◌}
+use Rattle.std.specs.Prelude.{ℕ, ℤ, ◌≡◌, ◌+◌, ◌≤◌, ◌≤ℤ◌, List, [], ◌∷◌, ◌++◌, length, map, Bool, false, ◌==◌, ◌&&◌, Option, Some, None, is_some, if◌then◌else◌}
+use Rattle.std.specs.List.{list_any}
 use Rattle.tap_rows.specs.declared.tables.Tables.{Tables}
 use Rattle.tap_rows.specs.declared.rows.Note.{Note}
 use Rattle.tap_rows.specs.declared.rows.QueryRow.{QueryRow}
@@ -40,6 +41,15 @@ ordinal_in runs run = run_ordinal run.num run.query.0 runs
 -- a query that has delivered one document more
 abbrev pub with_entry : Entry → KeptQuery → KeptQuery
 with_entry entry kept = record { row = kept.row; covered = kept.covered; runs = kept.runs; entries = kept.entries ++ entry ∷ [] }
+
+-- is the one pick of the query and the document of the other?
+abbrev pub is_again : Pick → Pick → Bool
+is_again pick other = (other.query.0 == pick.query.0) && (other.doc.0 == pick.doc.0)
+
+-- no query picks a document twice, nor one that it picked earlier
+abbrev pub AreOnce : List Pick → List Pick → Type 0
+AreOnce earlier [] = Unit {0}
+AreOnce earlier (pick ∷ picks) = (list_any (is_again pick) earlier ≡ false) × AreOnce (earlier ++ pick ∷ []) picks
 
 -- the number of one of so many rows
 pub record IsOneOf (num count : ℕ) : Type 0 where

@@ -1,4 +1,4 @@
-ghost use Rattle.std.specs.Prelude.{◌≡◌, ◌<◌, ◌≤◌, ◌+◌, ◌^◌, ◌++◌, [], ◌∷◌, length, Some, None, true, is_none, if◌then◌else◌, OnOk, OnErr, IfOk, IfErr, OnSome};
+ghost use Rattle.std.specs.Prelude.{◌≡◌, ◌<◌, ◌+◌, ◌^◌, ◌++◌, [], ◌∷◌, length, Some, None, true, is_none, if◌then◌else◌, OnOk, OnErr, IfOk, IfErr, OnSome};
 ghost use Rattle.std.specs.Result.{result_err};
 ghost use Rattle.tap_base.specs.Words.{holds};
 ghost use Rattle.tap_rows.specs.declared.change.Change.{Change as RowChange};
@@ -10,7 +10,6 @@ ghost use Rattle.script_lang.specs.declared.refusal.Refusal.{Refusal};
 ghost use Rattle.tql_core.specs.Bounds.{are_bounded};
 ghost use Rattle.tql_core.specs.Condition.{condition};
 ghost use Rattle.tql_core.specs.Scope.{IsQuery};
-ghost use Rattle.snapshot_meaning.specs.Seen.{exists_in};
 ghost use Rattle.tap_model.specs.Queries.{condition_by};
 ghost use Rattle.restart_core.specs.Starts.{stored_source};
 ghost use Rattle.tap_engine.specs.Keeping.{new_kept, with_owner, named_in};
@@ -154,7 +153,6 @@ impl Engine {
         ensures checks { OnOk result (define_refusal self.now name source ≡ None) }
         ensures row { IfOk result (λ made. made.0 ≡ record { num = record { 0 = length self.now.queries + 1 }; owner = user_of self.now.session; name = name; source = stored_source source; arrival = present self.now.session }) }
         ensures cond { IfOk result (λ made. condition made.1 ≡ condition_by made.0) }
-        ensures vars { IfOk result (λ made. exists_in (condition made.1) ≤ 15) }
         ensures scoped { IfOk result (λ made. IsQuery (condition made.1)) }
         ensures bounded { IfOk result (λ made. are_bounded (condition made.1) ≡ true) }
         ensures refusal { IfErr result (λ refusal. RefusedBy (define_refusal self.now name source) refusal) }

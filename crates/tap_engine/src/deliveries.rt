@@ -1,8 +1,9 @@
-ghost use Rattle.std.specs.Prelude.{◌≡◌, ◌+◌, ◌-◌, ◌^◌, ◌<◌, ◌≤◌, [], map, length, slice_index_or, slice_set, OnOk, IfOk};
+ghost use Rattle.std.specs.Prelude.{◌≡◌, ◌+◌, ◌-◌, ◌^◌, ◌<◌, ◌≤◌, [], false, map, length, slice_index_or, slice_set, OnOk, IfOk};
+ghost use Rattle.little_box.specs.Boxes.{is_in};
 ghost use Rattle.tap_rows.specs.Kept.{Each, HasRun, RunsFrom, QueriesFrom};
 ghost use Rattle.tap_engine.specs.declared.kept_query.KeptQuery.{KeptQuery};
 ghost use Rattle.tap_engine.specs.Keeping.{kept_query, new_kept, after_run};
-ghost use Rattle.tap_engine.specs.Starting.{rows_in, runs_alone, ordinal_in, with_entry, IsOneOf};
+ghost use Rattle.tap_engine.specs.Starting.{rows_in, runs_alone, ordinal_in, with_entry, IsOneOf, AreOnce};
 
 use crate::kept_queries::KeptQueries;
 use std::alloc::Global;
@@ -51,6 +52,7 @@ fn add_runs(alloc: Global, queries: &mut KeptQueries, runs: &[RunRow]) -> Result
 fn add_pick(queries: &mut KeptQueries, ordinals: &[u32], pick: &Pick) -> Result<(), Memory>
     requires query { IsOneOf pick.now.query.0 (length queries.old) }
     requires run { IsOneOf pick.now.run (length ordinals.now) }
+    requires unseen { (d : KeptQuery) → is_in pick.now.doc.0 (slice_index_or queries.old (pick.now.query.0 - 1) d).entries ≡ false }
     ensures { OnOk result ((d : KeptQuery) → queries.new ≡ slice_set queries.old (pick.now.query.0 - 1) (with_entry (record { doc = pick.now.doc; first = pick.now.first; run = slice_index_or ordinals.now (pick.now.run - 1) 0 }) (slice_index_or queries.old (pick.now.query.0 - 1) d))) }
 {
     queries.add_entry(
@@ -75,6 +77,7 @@ pub(crate) fn deliver(
     requires runs { RunsFrom 1 runs.now }
     requires owned { Each (λ run. IsOneOf run.query.0 (length queries.old)) runs.now }
     requires picked { Each (λ pick. HasRun pick.run pick.query.0 runs.now) picks.now }
+    requires once { AreOnce [] picks.now }
     ensures { OnOk result (queries.new ≡ map (kept_query (runs_alone runs.now picks.now)) (rows_in queries.old)) }
 {
     let ordinals = add_runs(alloc, queries, runs)?;

@@ -55,17 +55,17 @@ impl Engine {
     }
 
     /// How many documents there are.
-    pub fn docs(&self) -> usize
+    pub fn docs(&self) -> u32
         ensures { result ≡ length self.now.index.docs }
     {
-        self.index.docs() as usize
+        self.index.docs()
     }
 
     /// How many notes there are.
-    pub fn notes(&self) -> usize
+    pub fn notes(&self) -> u32
         ensures { result ≡ length self.now.index.notes }
     {
-        self.index.notes() as usize
+        self.index.notes()
     }
 
     /// Has the keeper failed?

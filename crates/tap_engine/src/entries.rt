@@ -1,7 +1,9 @@
 // The entries of a query's box.
 
-ghost use Rattle.std.specs.Prelude.{◌≡◌, ◌≤◌, ◌++◌, ◌∷◌, [], length, take, map, option_to_list, slice_get, OnOk, OnErr, IfOk};
+ghost use Rattle.std.specs.Prelude.{◌≡◌, ◌≤◌, ◌++◌, ◌∷◌, [], false, length, take, map, option_to_list, slice_get, OnOk, OnErr, IfOk};
+ghost use Rattle.little_box.specs.Boxes.{is_in};
 ghost use Rattle.tap_rows.specs.Results.{entry_at};
+ghost use Rattle.tap_engine.specs.Keeping.{AreNew};
 
 use little_box::LittleBox;
 use std::alloc::Global;
@@ -29,12 +31,13 @@ pub(crate) fn copy_entries(alloc: Global, entries: &LittleBox) -> Result<Rows<En
     Ok(copy)
 }
 
-// Adds an entry whose document isn't in the box. At Err nothing has changed.
+// Adds an entry whose document isn't in the box. There is no room beyond 4,294,967,295 entries. At Err nothing has changed.
 pub(crate) fn add_entry(entries: &mut LittleBox, entry: Entry) -> Result<(), Memory>
+    requires { is_in entry.doc.0 entries.old ≡ false }
     ensures ok { OnOk result (entries.new ≡ entries.old ++ entry ∷ []) }
     ensures err { OnErr result (entries.new ≡ entries.old) }
 {
-    if entries.len() == u32::MAX || entries.has(entry.doc) {
+    if entries.len() == u32::MAX {
         Err(Memory)
     } else {
         entries.add(entry)
@@ -43,6 +46,7 @@ pub(crate) fn add_entry(entries: &mut LittleBox, entry: Entry) -> Result<(), Mem
 
 // Adds the hits of a run. At Err the first of them may have been added.
 fn push_hits(entries: &mut LittleBox, run: u32, hits: &[Hit]) -> Result<(), Memory>
+    requires { AreNew entries.old hits.now }
     ensures ok { OnOk result (entries.new ≡ entries.old ++ map (entry_at run) hits.now) }
     ensures back { take (length entries.old) entries.new ≡ entries.old }
     ensures more { length entries.old ≤ length entries.new }
@@ -62,6 +66,7 @@ fn push_hits(entries: &mut LittleBox, run: u32, hits: &[Hit]) -> Result<(), Memo
 
 // Adds the hits of a run. At Err nothing has changed.
 pub(crate) fn add_hits(entries: &mut LittleBox, run: u32, hits: &[Hit]) -> Result<(), Memory>
+    requires { AreNew entries.old hits.now }
     ensures ok { OnOk result (entries.new ≡ entries.old ++ map (entry_at run) hits.now) }
     ensures err { OnErr result (entries.new ≡ entries.old) }
 {

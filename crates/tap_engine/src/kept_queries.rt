@@ -1,10 +1,11 @@
-ghost use Rattle.std.specs.Prelude.{◌≡◌, ◌<◌, ◌+◌, ◌^◌, ◌++◌, [], ◌∷◌, List, length, map, take, filter, find, slice_index_or, slice_set, OnOk, OnErr};
+ghost use Rattle.std.specs.Prelude.{◌≡◌, ◌<◌, ◌+◌, ◌^◌, ◌++◌, [], ◌∷◌, List, false, length, map, take, filter, find, slice_index_or, slice_set, OnOk, OnErr};
 ghost use Rattle.std.specs.Option.{option_copied};
 ghost use Rattle.std.specs.Str.{bytes_eq};
+ghost use Rattle.little_box.specs.Boxes.{is_in};
 ghost use Rattle.tap_rows.specs.Results.{entry_at};
 ghost use Rattle.tap_model.specs.Queries.{is_named};
 ghost use Rattle.tap_engine.specs.declared.kept_query.KeptQuery.{KeptQuery};
-ghost use Rattle.tap_engine.specs.Keeping.{after_run, without_run, named_in, owned_in};
+ghost use Rattle.tap_engine.specs.Keeping.{after_run, without_run, named_in, owned_in, AreNew};
 ghost use Rattle.tap_engine.specs.Starting.{with_entry};
 
 use crate::kept_query::KeptQuery;
@@ -107,6 +108,7 @@ impl KeptQueries {
     ) -> Result<(), Memory>
         requires place { place < length self.old }
         requires runs { (d : KeptQuery) → (slice_index_or self.old place d).runs + 1 < 2 ^ 64 }
+        requires new { (d : KeptQuery) → AreNew (slice_index_or self.old place d).entries hits.now }
         ensures kept { OnOk result ((d : KeptQuery) → self.new ≡ slice_set self.old place (after_run moment (map (entry_at ordinal) hits.now) (slice_index_or self.old place d))) }
         ensures err { OnErr result (self.new ≡ self.old) }
     {
@@ -121,9 +123,10 @@ impl KeptQueries {
         self.items[place].take_back(covered, runs, entries);
     }
 
-    // Adds an entry to what the query at this place has delivered.
+    // Adds an entry, of a document that it hasn't delivered, to what the query at this place has delivered.
     pub(crate) fn add_entry(&mut self, place: usize, entry: Entry) -> Result<(), Memory>
-        requires { place < length self.old }
+        requires place { place < length self.old }
+        requires unseen { (d : KeptQuery) → is_in entry.doc.0 (slice_index_or self.old place d).entries ≡ false }
         ensures kept { OnOk result ((d : KeptQuery) → self.new ≡ slice_set self.old place (with_entry entry (slice_index_or self.old place d))) }
         ensures err { OnErr result (self.new ≡ self.old) }
     {

@@ -1,4 +1,5 @@
-ghost use Rattle.std.specs.Prelude.{◌≡◌, ◌<◌, ◌≤◌, ◌+◌, ◌^◌, length, map, OnOk, OnErr};
+ghost use Rattle.std.specs.Prelude.{◌≡◌, ◌<◌, ◌≤◌, ◌+◌, ◌^◌, false, length, map, OnOk, OnErr};
+ghost use Rattle.little_box.specs.Boxes.{is_in};
 ghost use Rattle.tap_rows.specs.Results.{entry_at};
 ghost use Rattle.tap_model.specs.Sound.{IsMoment};
 
@@ -25,8 +26,9 @@ pub struct KeptQuery {
 
 impl KeptQuery {
     ghost use Rattle.tap_model.specs.Queries.{start_of};
-    ghost use Rattle.tap_engine.specs.Keeping.{new_kept, after_run, before_run, hits_since};
+    ghost use Rattle.tap_engine.specs.Keeping.{new_kept, after_run, before_run, hits_since, AreNew};
     ghost use Rattle.tap_engine.specs.Starting.{with_entry};
+    ghost use Rattle.tap_engine.specs.Costs.{IsQuiet, AreAlone, rows_due, window_since};
 
     // A query that was never run.
     pub(crate) fn new(alloc: Global, row: KeptRow) -> KeptQuery
@@ -42,7 +44,7 @@ impl KeptQuery {
     }
 
     // Puts what a run at this moment delivers into `hits`: what the window query finds since the last run, without what was
-    // delivered.
+    // delivered. A step is a row that it looks at.
     pub(crate) fn find<L: Ledger>(
         &self,
         index: &RowIndex,
@@ -54,8 +56,12 @@ impl KeptQuery {
         requires moment { IsMoment moment }
         requires room { length index.now.docs ≤ hits.old.room }
         ensures hits { hits.new.hits ≡ hits_since self.now index.now moment }
+        ensures new { AreNew self.now.entries hits.new.hits }
         ensures room { hits.new.room ≡ hits.old.room }
+        ensures quiet { IsQuiet index.now (window_since self.now moment) self.now.row → steps.new ≡ steps.old }
+        ensures due { AreAlone self.now.row → steps.new ≤ steps.old + rows_due index.now (window_since self.now moment) self.now.row }
     {
+        let _docs = index.docs();
         let window = Window {
             low: self.covered,
             high: moment,
@@ -65,7 +71,8 @@ impl KeptQuery {
 
     // Adds a run at this moment, of this ordinal, which delivered these. At Err nothing has changed.
     pub(crate) fn add_run(&mut self, moment: i64, ordinal: u32, hits: &[Hit]) -> Result<(), Memory>
-        requires { self.old.runs + 1 < 2 ^ 64 }
+        requires runs { self.old.runs + 1 < 2 ^ 64 }
+        requires new { AreNew self.old.entries hits.now }
         ensures kept { OnOk result (self.new ≡ after_run moment (map (entry_at ordinal) hits.now) self.old) }
         ensures err { OnErr result (self.new ≡ self.old) }
     {
@@ -86,8 +93,9 @@ impl KeptQuery {
         }
     }
 
-    // Adds an entry to what it has delivered.
+    // Adds an entry, of a document that it hasn't delivered, to what it has delivered.
     pub(crate) fn add_entry(&mut self, entry: Entry) -> Result<(), Memory>
+        requires { is_in entry.doc.0 self.old.entries ≡ false }
         ensures kept { OnOk result (self.new ≡ with_entry entry self.old) }
         ensures err { OnErr result (self.new ≡ self.old) }
     {

@@ -1,4 +1,4 @@
-ghost use Rattle.std.specs.Prelude.{◌≡◌, ◌⊎◌, ◌↔◌, ◌≤◌, None, true, false, OnOk, OnErr, IsErr, IfOk, IfErr, OnSome};
+ghost use Rattle.std.specs.Prelude.{◌≡◌, ◌⊎◌, ◌↔◌, ◌≤◌, ◌+◌, None, true, false, OnOk, OnErr, IsErr, IfOk, IfErr, OnSome};
 ghost use Rattle.tap_rows.specs.declared.tables.Tables.{Tables};
 ghost use Rattle.keeper_core.specs.Keeping.{Rose, Holds};
 ghost use Rattle.script_lang.specs.Replies.{HasShortNames, is_accepted};
@@ -20,6 +20,7 @@ impl Engine {
     ghost use Rattle.tap_engine.specs.Standing.{StandsFor};
     ghost use Rattle.tap_engine.specs.Ready.{IsReady};
     ghost use Rattle.tap_engine.specs.Answering.{Answers, IsStill, TakesBack, fault_answer, fault_engine};
+    ghost use Rattle.tap_engine.specs.Costs.{IsQuietRun, IsShortRun, run_due};
 
     // Takes the memory for a command that isn't refused, and adds its rows here.
     fn prepare<L: Ledger>(
@@ -38,6 +39,8 @@ impl Engine {
         ensures running { OnOk result (self.new.stopped ≡ self.old.stopped) }
         ensures short { IfOk result (λ made. HasShortNames made.reply) }
         ensures accepted { IfOk result (λ made. is_accepted made.reply ≡ true) }
+        ensures quiet { (t : Tables) → StandsFor self.old t → IsQuietRun command self.old.session t → steps.new ≡ steps.old }
+        ensures due { (t : Tables) → StandsFor self.old t → IsShortRun command self.old.session t → steps.new ≤ steps.old + run_due command self.old.session t }
     {
         match command {
             Command::At(text) => self.at(text.as_slice()),
@@ -83,7 +86,8 @@ impl Engine {
     /// Performs a command: answers it, and moves the session and the tables as its answer says. It takes its memory first,
     /// then commits once where it adds rows, and completes without memory. Where it is refused, or where there is no memory
     /// for it, nothing moves. It takes no memory for a command that is refused for its form, or for want of a moment, of a
-    /// user or of a name, nor for `at` with digits alone. It fails only where the keeper does; the engine is stopped then.
+    /// user or of a name, nor for `at` with digits alone. It fails only where the keeper does; the engine is stopped then. A
+    /// step is a row that the index hands out.
     pub fn perform<P: Keeper, L: Ledger>(
         &mut self,
         alloc: Global,
@@ -102,6 +106,10 @@ impl Engine {
         ensures refused { IfOk result (λ reply. is_accepted reply ≡ false → IsStill self.new self.old) }
         ensures short { IfOk result (λ reply. HasShortNames reply) }
         ensures ready { OnOk result (IsReady self.new) }
+
+        // The rows that a run takes from the index, whatever the answer is.
+        ensures quiet { (t : Tables) → StandsFor self.old t → IsQuietRun command self.old.session t → steps.new ≡ steps.old }
+        ensures due { (t : Tables) → StandsFor self.old t → IsShortRun command self.old.session t → steps.new ≤ steps.old + run_due command self.old.session t }
 
         // What the keeper keeps, and what a crash leaves.
         ensures kept { (t : Tables) → StandsFor self.old t → Sound t self.old.session → P.honest keeper.new → Holds (P.tells keeper.old) (P.may_leave keeper.old) t → IfOk result (λ reply. Holds (P.tells keeper.new) (P.may_leave keeper.new) (next_tables command reply self.old.session t)) }

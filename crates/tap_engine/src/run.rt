@@ -1,4 +1,4 @@
-ghost use Rattle.std.specs.Prelude.{◌≡◌, ℤ, pos, ◌<ℤ◌, drop, Bool, true, ◌≤◌, ◌<◌, ◌+◌, ◌-◌, ◌^◌, ◌++◌, [], ◌∷◌, length, map, max, Some, None, ◌&&◌, int_le, int_lt, slice_index_or, slice_set, OnOk, OnErr, IfOk, IfErr, OnSome};
+ghost use Rattle.std.specs.Prelude.{◌≡◌, ℤ, pos, ◌<ℤ◌, drop, Bool, true, ◌≤◌, ◌<◌, ◌+◌, ◌-◌, ◌^◌, ◌++◌, [], ◌∷◌, length, map, max, Some, None, ◌&&◌, int_le, int_lt, slice_index_or, slice_set, OnOk, OnErr, IfOk, IfErr, OnSome, IfSome};
 ghost use Rattle.std.specs.Result.{result_err};
 ghost use Rattle.tap_rows.specs.declared.tables.Tables.{Tables};
 ghost use Rattle.tap_rows.specs.declared.change.Change.{Change as RowChange};
@@ -7,7 +7,7 @@ ghost use Rattle.tap_rows.specs.Results.{entry_at};
 ghost use Rattle.script_lang.specs.declared.command.Command.{Command};
 ghost use Rattle.script_lang.specs.Replies.{HasShortNames, is_accepted};
 ghost use Rattle.tap_engine.specs.declared.kept_query.KeptQuery.{KeptQuery};
-ghost use Rattle.tap_engine.specs.Keeping.{after_run};
+ghost use Rattle.tap_engine.specs.Keeping.{after_run, AreNew};
 ghost use Rattle.tap_model.specs.Sessions.{present};
 ghost use Rattle.tap_model.specs.Sound.{Sound};
 ghost use Rattle.tap_model.specs.Replies.{tables_after};
@@ -71,6 +71,7 @@ impl Engine {
     ghost use Rattle.tap_engine.specs.Standing.{StandsFor, run_refusal, kept_named, due_of, RefusedBy};
     ghost use Rattle.tap_engine.specs.Ready.{IsReady};
     ghost use Rattle.tap_engine.specs.Answering.{Answers, IsStill, TakesBack, undo_run};
+    ghost use Rattle.tap_engine.specs.Costs.{IsQuietRun, IsShortRun, run_due};
 
     // What a run of the user's query of this name delivers.
     #[tactic(auto, unfolding(crate::specs::Standing::look_refusal))]
@@ -84,9 +85,12 @@ impl Engine {
         ensures verdict { OnOk result (run_refusal self.old name.now ≡ None) }
         ensures due { IfOk result (λ due. Some due ≡ due_of self.old (kept_named self.old name.now)) }
         ensures refusal { IfErr result (λ refusal. RefusedBy (run_refusal self.old name.now) refusal) }
+        ensures new { IfOk result (λ due. IfSome (kept_named self.old name.now) (λ kept. AreNew kept.entries due.hits)) }
         ensures few { OnOk result (self.old.run_count < RUN_LIMIT) }
         ensures room { IfOk result (λ due. self.old.pick_count + length due.hits ≤ max self.old.pick_count PICK_LIMIT) }
         ensures still { IsStill self.new self.old }
+        ensures quiet { (t : Tables) → StandsFor self.old t → IsQuietRun (Command.Run name.now) self.old.session t → steps.new ≡ steps.old }
+        ensures rows { (t : Tables) → StandsFor self.old t → IsShortRun (Command.Run name.now) self.old.session t → steps.new ≤ steps.old + run_due (Command.Run name.now) self.old.session t }
     {
         let Some(moment) = self.session.moment else {
             return Err(Refusal::NoMoment);
@@ -132,6 +136,7 @@ impl Engine {
         requires first { 0 < query.0 }
         requires place { query.0 ≤ length self.old.queries }
         requires runs { (d : KeptQuery) → (slice_index_or self.old.queries (query.0 - 1) d).runs + 1 < 2 ^ 64 }
+        requires new { (d : KeptQuery) → AreNew (slice_index_or self.old.queries (query.0 - 1) d).entries hits.now }
         requires few { self.old.run_count < RUN_LIMIT }
         requires room { self.old.pick_count + length hits.now ≤ max self.old.pick_count PICK_LIMIT }
         ensures change { IfOk result (λ change. change ≡ RowChange.RunDone (record { num = self.old.run_count + 1; query = query; moment = moment }) (pick_rows (self.old.pick_count + 1) query (self.old.run_count + 1) hits.now)) }
@@ -168,6 +173,8 @@ impl Engine {
         ensures running { OnOk result (self.new.stopped ≡ self.old.stopped) }
         ensures short { IfOk result (λ made. HasShortNames made.reply) }
         ensures accepted { IfOk result (λ made. is_accepted made.reply ≡ true) }
+        ensures quiet { (t : Tables) → StandsFor self.old t → IsQuietRun (Command.Run name.now) self.old.session t → steps.new ≡ steps.old }
+        ensures due { (t : Tables) → StandsFor self.old t → IsShortRun (Command.Run name.now) self.old.session t → steps.new ≤ steps.old + run_due (Command.Run name.now) self.old.session t }
     {
         let due = self.due_run(alloc, name, steps)?;
         let ordinal = due.runs as u32 + 1;

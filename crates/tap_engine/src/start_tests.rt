@@ -76,7 +76,7 @@ fn stored(alloc: Global, source: &[u8]) -> Result<Tables, Memory> {
 
 // What an engine over stored rows answers as it starts: how many documents and notes it keeps, or the number of the filter
 // that it can't read. None where a row is damaged.
-fn started(alloc: Global, source: &[u8]) -> Result<Option<Result<(usize, usize), u32>>, Memory> {
+fn started(alloc: Global, source: &[u8]) -> Result<Option<Result<(u32, u32), u32>>, Memory> {
     let tables = stored(alloc, source)?;
     let Ok(sound) = check_tables(alloc, tables) else {
         return Ok(None);

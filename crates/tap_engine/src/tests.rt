@@ -145,7 +145,7 @@ fn show<P: Keeper, L: Ledger>(
 
 // What a session leaves: what its last commands show, where it wasn't cut off, how many documents, notes, queries, filters,
 // runs and picks its keeper has, how many documents and notes its engine has, and whether that is stopped.
-type Left = (Option<[usize; 5]>, [usize; 6], [usize; 2], bool);
+type Left = (Option<[usize; 5]>, [usize; 6], [u32; 2], bool);
 
 // How many rows there are of each table.
 fn counts(tables: &Tables) -> [usize; 6] {
@@ -213,7 +213,7 @@ fn each_command_with_rows_is_one_commit(rt: HostRuntime) -> Result<(), Fail> {
 fn a_commit_that_fails_stops_the_engine(rt: HostRuntime) -> Result<(), Fail> {
     let alloc = rt.alloc();
     // the call that fails, and how many rows and notes there are then; attach is call 0, the message is call 1
-    let rows: [(u64, [usize; 6], [usize; 2]); 4] = [
+    let rows: [(u64, [usize; 6], [u32; 2]); 4] = [
         (1, [0, 0, 0, 0, 0, 0], [0, 0]),
         (2, [1, 0, 0, 0, 0, 0], [1, 0]),
         (4, [1, 1, 1, 0, 0, 0], [1, 1]),

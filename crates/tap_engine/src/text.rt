@@ -46,7 +46,6 @@ pub(crate) fn read_text(alloc: Global, source: &[u8]) -> Result<Cond, Refusal>
 fn keep_text(alloc: Global, source: &[u8]) -> Result<Cond, Refusal>
     ensures fine { OnOk result (text_fault source.now ≡ None) }
     ensures cond { IfOk result (λ cond. condition cond ≡ condition_in source.now) }
-    ensures vars { IfOk result (λ cond. exists_in (condition cond) ≤ 15) }
     ensures scoped { IfOk result (λ cond. IsQuery (condition cond)) }
     ensures bounded { IfOk result (λ cond. are_bounded (condition cond) ≡ true) }
     ensures refusal { IfErr result (λ refusal. (text_fault source.now ≡ Some refusal) ⊎ (refusal ≡ Refusal.Memory)) }
@@ -96,7 +95,6 @@ pub(crate) fn keep_source(alloc: Global, source: Text) -> Result<(Text, Cond), R
     ensures fine { OnOk result (text_fault (condition_text source) ≡ None) }
     ensures stored { IfOk result (λ made. made.0 ≡ stored_source source) }
     ensures cond { IfOk result (λ made. condition made.1 ≡ condition_in (condition_text source)) }
-    ensures vars { IfOk result (λ made. exists_in (condition made.1) ≤ 15) }
     ensures scoped { IfOk result (λ made. IsQuery (condition made.1)) }
     ensures bounded { IfOk result (λ made. are_bounded (condition made.1) ≡ true) }
     ensures refusal { IfErr result (λ refusal. (text_fault (condition_text source) ≡ Some refusal) ⊎ (refusal ≡ Refusal.Memory)) }

@@ -5,7 +5,8 @@ use Rattle.tap_rows.specs.declared.rows.Pick.{Pick}
 use Rattle.tap_rows.specs.Kept.{HasRun}
 use Rattle.tap_engine.specs.Keeping.{kept_query}
 use Rattle.tap_engine.specs.Starting.{rows_in, runs_alone, ordinal_in, IsOneOf}
-use Rattle.tap_engine.proofs.DeliveryLaws.{each-at, has-owned, run-within, pick-joins, before-on}
+use Rattle.tap_engine.proofs.DeliveryLaws.{each-at, has-owned, run-within, pick-joins, pick-unseen, before-on}
+use Rattle.tap_engine.proofs.NewLaws.{once-at}
 use Rattle.tap_engine.proofs.deliveries.deliver.Goals as goal
 
 no-pick : Pick
@@ -28,6 +29,18 @@ add_pick-requires-clause-run c =
     let has = each-at (λ pick. HasRun pick.run pick.query.0 c.args.runs.now) c.loop-pick.pick-index c.args.picks.now no-pick c.requires.picked c.loop-pick-test.true in
     let len = ap length (c.deref.ensures.value ∙ c.in_ok-ordinals.ensures.ordinals) ∙ length-map c.args.runs.now (ordinal_in c.args.runs.now) in
     subst (λ n. IsOneOf pick.run n) (sym len) (run-within pick.run pick.query.0 c.args.runs.now c.requires.runs has)
+
+pub add_pick-requires-clause-unseen : goal.add_pick-requires-clause-unseen
+unfolding no-pick
+add_pick-requires-clause-unseen c = λ d.
+    let rows = rows_in c.args.queries.now in
+    let runs = c.args.runs.now in
+    let i = c.loop-pick.pick-index in
+    let pick = slice_index_or c.args.picks.now i no-pick in
+    let has = each-at (λ pick. HasRun pick.run pick.query.0 runs) i c.args.picks.now no-pick c.requires.picked c.loop-pick-test.true in
+    let one = has-owned pick.run pick.query.0 (length c.args.queries.now) runs c.requires.owned has in
+    let of-rows = subst (λ n. IsOneOf pick.query.0 n) (sym (length-map c.args.queries.now (λ kept. kept.row))) one in
+    pick-unseen rows runs (take i c.args.picks.now) pick c.loop-pick.queries d c.requires.numbered of-rows c.loop-pick.invariant (once-at c.args.picks.now i no-pick c.requires.once c.loop-pick-test.true)
 
 pub loop-pick-preserved : goal.loop-pick-preserved
 unfolding no-pick

@@ -6,7 +6,7 @@ use Rattle.tap_rows.specs.WellFormed.{is_well_formed}
 use Rattle.tap_engine.specs.declared.engine.Engine.{Engine}
 use Rattle.tap_engine.specs.Keeping.{kept_query}
 use Rattle.tap_engine.specs.Standing.{StandsFor}
-use Rattle.tap_engine.specs.Starting.{runs_alone, IsOneOf}
+use Rattle.tap_engine.specs.Starting.{runs_alone, IsOneOf, AreOnce}
 use Rattle.tap_engine.proofs.FormedLaws.{Formed, formed}
 use Rattle.tap_engine.proofs.SumLaws.{bytes-of, greatest-in}
 use Rattle.tap_engine.proofs.StartedLaws.{IsStarted, stands-start, ready-start}
@@ -38,6 +38,11 @@ keep_delivered-requires-clause-picked c =
     let f = from-sound t c.args.sound c.into_parts-tables.ensures.tables c.into_parts-tables.ensures.formed in
     subst (λ picks. Each (λ pick. HasRun pick.run pick.query.0 c.as_slice-3.result.now) picks) (sym c.as_slice-4.ensures)
     (subst (λ runs. Each (λ pick. HasRun pick.run pick.query.0 runs) t.picks) (sym c.as_slice-3.ensures) f.picked)
+
+pub keep_delivered-requires-clause-once : goal.keep_delivered-requires-clause-once
+keep_delivered-requires-clause-once c =
+    let f = from-sound c.into_parts-tables.result.0 c.args.sound c.into_parts-tables.ensures.tables c.into_parts-tables.ensures.formed in
+    subst (AreOnce []) (sym c.as_slice-4.ensures) f.once
 
 pub index_rows-requires-clause-docs : goal.index_rows-requires-clause-docs
 index_rows-requires-clause-docs c = (from-sound c.into_parts-tables.result.0 c.args.sound c.into_parts-tables.ensures.tables c.into_parts-tables.ensures.formed).docs

@@ -1,7 +1,7 @@
 use Rattle.std.proofs.Common.{rules, arith, ◌≡◌, ◌∙◌, sym, ap, subst, ◌-◌, ◌<◌, length, map, ◌+◌}
-use Rattle.std.specs.Prelude.{slice_set, slice_index_or}
+use Rattle.std.specs.Prelude.{slice_set, slice_index_or, IfSome}
 use Rattle.script_lang.specs.declared.refusal.Refusal.TheVariants.{Memory}
-use Rattle.tap_engine.specs.Keeping.{new_kept, after_run}
+use Rattle.tap_engine.specs.Keeping.{new_kept, after_run, AreNew}
 use Rattle.tap_rows.specs.Results.{entry_at}
 use Rattle.tap_rows.specs.Tables.{after}
 use Rattle.tap_engine.specs.Standing.{StandsFor}
@@ -46,6 +46,16 @@ deliver-requires-clause-runs g c = λ x.
     let d = due-at c.args.self.now c.args.name.now c.in_ok-due.due c.requires.ready c.in_ok-due.ensures.due in
     let at : slice_index_or c.args.self.now.queries (c.in_ok-due.due.query.0 - 1) x ≡ d.kept = d.at.at (c.in_ok-due.due.query.0 - 1) x (omega (arith, ap (λ x. x.query.0) d.is, d.at.low)) in
     omega (arith, ap (λ k. (slice_index_or k.queries (c.in_ok-due.due.query.0 - 1) x).runs) c.due_run.ensures.still.same, ap (λ k. k.runs) at, d.at.few, c.in_ok-due.ensures.few)
+
+pub deliver-requires-clause-new : goal.deliver-requires-clause-new
+deliver-requires-clause-new g c = λ x.
+    let e = c.args.self.now in
+    let due = c.in_ok-due.due in
+    let d = due-at e c.args.name.now due c.requires.ready c.in_ok-due.ensures.due in
+    let at : slice_index_or e.queries (due.query.0 - 1) x ≡ d.kept = d.at.at (due.query.0 - 1) x (omega (arith, ap (λ x. x.query.0) d.is, d.at.low)) in
+    let new : AreNew d.kept.entries due.hits = subst (λ o. IfSome o (λ kept. AreNew kept.entries due.hits)) d.named c.in_ok-due.ensures.new in
+    let same : c.as_slice.result.now ≡ due.hits = search rules in
+    subst (λ (k : KeptQuery). AreNew k.entries c.as_slice.result.now) (sym (ap (λ k. slice_index_or k.queries (due.query.0 - 1) x) c.due_run.ensures.still.same ∙ at)) (subst (AreNew d.kept.entries) (sym same) new)
 
 pub deliver-requires-clause-few : goal.deliver-requires-clause-few
 deliver-requires-clause-few g c = omega (arith, ap (λ k. k.run_count) c.due_run.ensures.still.same, c.in_ok-due.ensures.few)

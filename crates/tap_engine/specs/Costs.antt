@@ -1,0 +1,66 @@
+-- What a run of a query costs. A step is a row that the index hands out.
+use Rattle.std.specs.Prelude.{⊤, ℕ, ℤ, List, Option, Some, None}
+use Rattle.tap_rows.specs.declared.tables.Tables.{Tables}
+use Rattle.tap_rows.specs.declared.rows.QueryRow.{QueryRow}
+use Rattle.tap_rows.specs.Results.{covered}
+use Rattle.tql_core.specs.Scope.{In}
+use Rattle.time_marks.specs.declared.window.Window.{Window}
+use Rattle.time_marks.specs.Probes.{Probe}
+use Rattle.query_eval.specs.Runs as runs
+use Rattle.query_eval.specs.Work.{total}
+use Rattle.script_lang.specs.declared.command.Command.{Command}
+use Rattle.script_lang.specs.declared.command.Command.TheVariants.{Run}
+use Rattle.tap_model.specs.declared.session.Session.{Session}
+use Rattle.tap_model.specs.Sessions.{present, user_of}
+use Rattle.tap_model.specs.Queries.{start_of, probes_in, query_named}
+use Rattle.tap_engine.specs.declared.kept_query.KeptQuery.{KeptQuery}
+
+-- no probe of the query has a mark in the window
+abbrev pub IsQuiet : Tables → Window → QueryRow → Type 0
+IsQuiet rows w query = (p : Probe) → In p (probes_in query) → runs.IsQuiet rows w p
+
+-- the path of each probe of the query is the document alone
+abbrev pub AreAlone : QueryRow → Type 0
+AreAlone query = (p : Probe) → In p (probes_in query) → runs.IsAlone p
+
+-- for each probe of the query a step for each document whose mark lies in the window, and the work of the body there
+abbrev pub rows_due : Tables → Window → QueryRow → ℕ
+rows_due rows w query = total (runs.rows_due rows w) (probes_in query)
+
+-- the window of a query's next run: from the second that it has covered up to a moment
+abbrev pub next_window : Tables → QueryRow → ℤ → Window
+next_window tables query moment = record { low = covered (start_of query) query.num.0 tables.runs; high = moment }
+
+-- the same, by what is kept of the query
+abbrev pub window_since : KeptQuery → ℤ → Window
+window_since kept moment = record { low = kept.covered; high = moment }
+
+-- there is no such query, or no probe of it has a mark in the window of its next run
+abbrev pub IsQuietQuery : Option QueryRow → Session → Tables → Type 0
+IsQuietQuery None session tables = ⊤
+IsQuietQuery (Some query) session tables = IsQuiet tables (next_window tables query (present session)) query
+
+-- there is no such query, or the path of each of its probes is the document alone
+abbrev pub IsShortQuery : Option QueryRow → Type 0
+IsShortQuery None = ⊤
+IsShortQuery (Some query) = AreAlone query
+
+-- the rows due in the window of the query's next run
+abbrev pub query_due : Option QueryRow → Session → Tables → ℕ
+query_due None session tables = 0
+query_due (Some query) session tables = rows_due tables (next_window tables query (present session)) query
+
+-- the command runs a query of which no probe has a mark in the window of this run
+abbrev pub IsQuietRun : Command → Session → Tables → Type 0
+IsQuietRun (Run name) session tables = IsQuietQuery (query_named (user_of session) name tables) session tables
+IsQuietRun other session tables = ⊥
+
+-- the command runs a query of which the path of each probe is the document alone
+abbrev pub IsShortRun : Command → Session → Tables → Type 0
+IsShortRun (Run name) session tables = IsShortQuery (query_named (user_of session) name tables)
+IsShortRun other session tables = ⊥
+
+-- the rows due for the run that the command is
+abbrev pub run_due : Command → Session → Tables → ℕ
+run_due (Run name) session tables = query_due (query_named (user_of session) name tables) session tables
+run_due other session tables = 0
