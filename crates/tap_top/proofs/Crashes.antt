@@ -1,9 +1,9 @@
 -- What a crash leaves after each end of a run.
-use Rattle.std.proofs.Common.{◌≡◌, ◌∙◌, sym, ap, refl, subst, arith, ℕ, suc, zero, List, [], ◌∷◌, ◌++◌, ◌+◌, length, take, Bool, true, Option, inl, inr, ◌≤◌, ◌<◌}
+use Rattle.std.proofs.Common.{◌≡◌, ◌∙◌, sym, ap, refl, subst, arith, ℕ, suc, zero, ℤ, pos, List, [], ◌∷◌, ◌++◌, ◌+◌, ◌-◌, length, take, drop, Bool, true, Option, inl, inr, ◌≤◌, ◌<◌}
 use Rattle.std.specs.Prelude.{◌⊎◌}
 use Rattle.std.specs.List.{flat_map}
 use Rattle.std.specs.Io.KnownBytes.{Consumes, Appends}
-use Rattle.std.proofs.lemmas.List.{append-nil, length-append, take_all}
+use Rattle.std.proofs.lemmas.List.{append-nil, append_assoc, length-append, take_all, take-append-drop}
 use Rattle.std.proofs.lemmas.List.Concat.{flat_map-append}
 use Rattle.std.proofs.Math.Seq.{take-length, take-append_seam}
 use Rattle.tap_rows.specs.declared.tables.Tables.{Tables}
@@ -25,7 +25,7 @@ use Rattle.tap_top.specs.declared.top.TheConstants.{SCRIPT_LIMIT}
 use Rattle.tap_top.specs.Points.{SoundAlong, IsAt}
 use Rattle.tap_top.specs.Answers.{Answered}
 use Rattle.tap_top.specs.Statuses.{AreFirst, IsFront, Whole, ReadCut, TooLong, Starved, PutCut, KeeperCut}
-use Rattle.tap_top.specs.Crashes.{IsPrefix, LieWhole, LeavesPrefix}
+use Rattle.tap_top.specs.Crashes.{IsPrefix, LieWhole, AreSaid, LeavesPrefix}
 use Rattle.tap_top.proofs.Stories.{Story-then, Story-sound, Answered-none}
 use Rattle.tap_top.proofs.Runs.{Consumes-none, same-front}
 
@@ -49,9 +49,37 @@ whole-prefix t cs rs t' s' n x story few is =
           (subst (λ qs. Story t no_session cs qs t' s') (sym (ap (λ m. take m rs) (sym same) ∙ take-length rs)) story));
     }
 
+-- the first of some replies lie whole in the bytes of all
+first-whole : (n : ℕ) (rs : List Reply) → LieWhole n rs (flat_map reply_bytes rs)
+first-whole n rs = record {
+  rest = flat_map reply_bytes (drop n rs);
+  is = ap (flat_map reply_bytes) (sym (take-append-drop n rs)) ∙ flat_map-append reply_bytes (take n rs) (drop n rs);
+}
+
+-- all replies were written
+all-said : (rs : List Reply) → AreSaid rs (flat_map reply_bytes rs)
+all-said rs = record { rest = []; front = sym (append-nil (flat_map reply_bytes rs)); most = first-whole (length rs - 1) rs }
+
+-- all replies but the last were written, and a front of its bytes
+cut-said : (rs : List Reply) (r : Reply) (front back : List ℕ) → front ++ back ≡ reply_bytes r → AreSaid (rs ++ r ∷ []) (flat_map reply_bytes rs ++ front)
+cut-said rs r front back split =
+    let all = flat_map reply_bytes rs in
+    let l = length-append rs (r ∷ []) in
+    let but : length (rs ++ r ∷ []) - 1 ≡ length rs = omega arith in
+    let last : flat_map reply_bytes (r ∷ []) ≡ front ++ back = append-nil (reply_bytes r) ∙ sym split in
+    let firsts : take (length (rs ++ r ∷ []) - 1) (rs ++ r ∷ []) ≡ rs = ap (λ n. take n (rs ++ r ∷ [])) but ∙ take-append_seam rs (r ∷ []) in record {
+      rest = back;
+      front = flat_map-append reply_bytes rs (r ∷ []) ∙ ap (λ xs. all ++ xs) last ∙ sym (append_assoc all front back);
+      most = record { rest = front; is = ap (λ qs. flat_map reply_bytes qs ++ front) (sym firsts) };
+    }
+
+-- all replies but the last were written
+next-said : (rs : List Reply) (r : Reply) → AreSaid (rs ++ r ∷ []) (flat_map reply_bytes rs)
+next-said rs r = subst (λ bytes. AreSaid (rs ++ r ∷ []) bytes) (append-nil (flat_map reply_bytes rs)) (cut-said rs r [] (reply_bytes r) refl)
+
 -- a story whose end alone a crash leaves
-story-leaves : (t : Tables) (left left' out out' : Option (List ℕ)) (leaves : Tables → Type 0) (bytes : List ℕ) (cs : List Command) (rs : List Reply) (t' : Tables) (s' : Session) (written : List ℕ) → Consumes left left' bytes → AreFirst cs (take SCRIPT_LIMIT bytes) left' → Story t no_session cs rs t' s' → Appends out out' written → ((x : Tables) → leaves x → x ≡ t') → LeavesPrefix t left left' out out' leaves
-story-leaves t left left' out out' leaves bytes cs rs t' s' written taken first story put alone = record {
+story-leaves : (t : Tables) (left left' out out' : Option (List ℕ)) (versions : ℤ → Type 0) (leaves : Tables → Type 0) (bytes : List ℕ) (cs : List Command) (rs : List Reply) (t' : Tables) (s' : Session) (written : List ℕ) → Consumes left left' bytes → AreFirst cs (take SCRIPT_LIMIT bytes) left' → Story t no_session cs rs t' s' → Appends out out' written → ((v : ℤ) → versions v → (v ≡ pos 1) ⊎ (v ≡ pos 2) → AreSaid rs written) → ((x : Tables) → leaves x → x ≡ t') → LeavesPrefix t left left' out out' versions leaves
+story-leaves t left left' out out' versions leaves bytes cs rs t' s' written taken first story put said alone = record {
   bytes = bytes;
   taken = taken;
   commands = cs;
@@ -62,42 +90,43 @@ story-leaves t left left' out out' leaves bytes cs rs t' s' written taken first 
   story = story;
   written = written;
   put = put;
+  said = said;
   each = λ n few lie x may. whole-prefix t cs rs t' s' n x story few (alone x may);
 }
 
 -- nothing was read
-pub none-leaves : (t : Tables) (left left' out out' : Option (List ℕ)) (leaves : Tables → Type 0) (written : List ℕ) → left' ≡ left → Appends out out' written → ((x : Tables) → leaves x → x ≡ t) → LeavesPrefix t left left' out out' leaves
-none-leaves t left left' out out' leaves written unread put alone =
-    story-leaves t left left' out out' leaves [] [] [] t no_session written (subst (λ l. Consumes left l []) (sym unread) (Consumes-none left)) (inl (record { rest = complete (take SCRIPT_LIMIT []); is = refl })) (refl, refl) put alone
+pub none-leaves : (t : Tables) (left left' out out' : Option (List ℕ)) (versions : ℤ → Type 0) (leaves : Tables → Type 0) (written : List ℕ) → left' ≡ left → Appends out out' written → ((v : ℤ) → versions v → (v ≡ pos 1) ⊎ (v ≡ pos 2) → AreSaid [] written) → ((x : Tables) → leaves x → x ≡ t) → LeavesPrefix t left left' out out' versions leaves
+none-leaves t left left' out out' versions leaves written unread put said alone =
+    story-leaves t left left' out out' versions leaves [] [] [] t no_session written (subst (λ l. Consumes left l []) (sym unread) (Consumes-none left)) (inl (record { rest = complete (take SCRIPT_LIMIT []); is = refl })) (refl, refl) put said alone
 
-pub nothing-leaves : (t : Tables) (left left' out out' : Option (List ℕ)) (leaves : Tables → Type 0) → left' ≡ left → out' ≡ out → ((x : Tables) → leaves x → x ≡ t) → LeavesPrefix t left left' out out' leaves
-nothing-leaves t left left' out out' leaves unread unwritten alone = none-leaves t left left' out out' leaves [] unread (subst (λ o. Appends out o []) (sym unwritten) (Appends-none out)) alone
+pub nothing-leaves : (t : Tables) (left left' out out' : Option (List ℕ)) (versions : ℤ → Type 0) (leaves : Tables → Type 0) → left' ≡ left → out' ≡ out → ((x : Tables) → leaves x → x ≡ t) → LeavesPrefix t left left' out out' versions leaves
+nothing-leaves t left left' out out' versions leaves unread unwritten alone = none-leaves t left left' out out' versions leaves [] unread (subst (λ o. Appends out o []) (sym unwritten) (Appends-none out)) (λ v has known. all-said []) alone
 
-answered-leaves : (t : Tables) (left left' out out' : Option (List ℕ)) (tells leaves : Tables → Type 0) (bytes : List ℕ) (cs : List Command) (s' : Session) (ok : Bool) → Consumes left left' bytes → AreFirst cs (take SCRIPT_LIMIT bytes) left' → Answered t no_session cs out out' (Holds tells leaves) s' ok → LeavesPrefix t left left' out out' leaves
-answered-leaves t left left' out out' tells leaves bytes cs s' ok taken first one = story-leaves t left left' out out' leaves bytes cs one.replies one.tables' s' (flat_map reply_bytes one.replies) taken first one.story one.written one.ends.alone
+answered-leaves : (t : Tables) (left left' out out' : Option (List ℕ)) (versions : ℤ → Type 0) (tells leaves : Tables → Type 0) (bytes : List ℕ) (cs : List Command) (s' : Session) (ok : Bool) → Consumes left left' bytes → AreFirst cs (take SCRIPT_LIMIT bytes) left' → Answered t no_session cs out out' (Holds tells leaves) s' ok → LeavesPrefix t left left' out out' versions leaves
+answered-leaves t left left' out out' versions tells leaves bytes cs s' ok taken first one = story-leaves t left left' out out' versions leaves bytes cs one.replies one.tables' s' (flat_map reply_bytes one.replies) taken first one.story one.written (λ v has known. all-said one.replies) one.ends.alone
 
 all-of : (cs : List Command) → IsFront cs cs
 all-of cs = record { rest = []; is = sym (append-nil cs) }
 
-whole-leaves : (t : Tables) (left left' out out' : Option (List ℕ)) (tells leaves : Tables → Type 0) (ok : Bool) → Whole t left left' out out' (Holds tells leaves) ok → LeavesPrefix t left left' out out' leaves
-whole-leaves t left left' out out' tells leaves ok run =
-    answered-leaves t left left' out out' tells leaves run.bytes (script run.bytes) run.session ok run.taken (inr (run.ended, subst (λ xs. IsFront (script run.bytes) (script xs)) (sym (same-front SCRIPT_LIMIT run.bytes run.fits)) (all-of (script run.bytes)))) run.answered
+whole-leaves : (t : Tables) (left left' out out' : Option (List ℕ)) (versions : ℤ → Type 0) (tells leaves : Tables → Type 0) (ok : Bool) → Whole t left left' out out' (Holds tells leaves) ok → LeavesPrefix t left left' out out' versions leaves
+whole-leaves t left left' out out' versions tells leaves ok run =
+    answered-leaves t left left' out out' versions tells leaves run.bytes (script run.bytes) run.session ok run.taken (inr (run.ended, subst (λ xs. IsFront (script run.bytes) (script xs)) (sym (same-front SCRIPT_LIMIT run.bytes run.fits)) (all-of (script run.bytes)))) run.answered
 
-read-leaves : (t : Tables) (left left' out out' : Option (List ℕ)) (tells leaves : Tables → Type 0) → ReadCut t left left' out out' (Holds tells leaves) → LeavesPrefix t left left' out out' leaves
-read-leaves t left left' out out' tells leaves run =
-    answered-leaves t left left' out out' tells leaves run.bytes (complete run.bytes) run.session run.all_ok run.taken (inl (subst (λ xs. IsFront (complete run.bytes) (complete xs)) (sym (same-front SCRIPT_LIMIT run.bytes run.fits)) (all-of (complete run.bytes)))) run.answered
+read-leaves : (t : Tables) (left left' out out' : Option (List ℕ)) (versions : ℤ → Type 0) (tells leaves : Tables → Type 0) → ReadCut t left left' out out' (Holds tells leaves) → LeavesPrefix t left left' out out' versions leaves
+read-leaves t left left' out out' versions tells leaves run =
+    answered-leaves t left left' out out' versions tells leaves run.bytes (complete run.bytes) run.session run.all_ok run.taken (inl (subst (λ xs. IsFront (complete run.bytes) (complete xs)) (sym (same-front SCRIPT_LIMIT run.bytes run.fits)) (all-of (complete run.bytes)))) run.answered
 
-long-leaves : (t : Tables) (left left' out out' : Option (List ℕ)) (tells leaves : Tables → Type 0) → TooLong t left left' out out' (Holds tells leaves) → LeavesPrefix t left left' out out' leaves
-long-leaves t left left' out out' tells leaves run =
-    answered-leaves t left left' out out' tells leaves run.long.bytes (complete (take SCRIPT_LIMIT run.long.bytes)) run.session run.all_ok run.long.taken (inl (all-of (complete (take SCRIPT_LIMIT run.long.bytes)))) run.answered
+long-leaves : (t : Tables) (left left' out out' : Option (List ℕ)) (versions : ℤ → Type 0) (tells leaves : Tables → Type 0) → TooLong t left left' out out' (Holds tells leaves) → LeavesPrefix t left left' out out' versions leaves
+long-leaves t left left' out out' versions tells leaves run =
+    answered-leaves t left left' out out' versions tells leaves run.long.bytes (complete (take SCRIPT_LIMIT run.long.bytes)) run.session run.all_ok run.long.taken (inl (all-of (complete (take SCRIPT_LIMIT run.long.bytes)))) run.answered
 
-starved-leaves : (t : Tables) (left left' out out' : Option (List ℕ)) (tells leaves : Tables → Type 0) → Starved t left left' out out' (Holds tells leaves) → LeavesPrefix t left left' out out' leaves
-starved-leaves t left left' out out' tells leaves run = answered-leaves t left left' out out' tells leaves run.bytes run.commands run.session run.all_ok run.taken run.first run.answered
+starved-leaves : (t : Tables) (left left' out out' : Option (List ℕ)) (versions : ℤ → Type 0) (tells leaves : Tables → Type 0) → Starved t left left' out out' (Holds tells leaves) → LeavesPrefix t left left' out out' versions leaves
+starved-leaves t left left' out out' versions tells leaves run = answered-leaves t left left' out out' versions tells leaves run.bytes run.commands run.session run.all_ok run.taken run.first run.answered
 
-put-leaves : (t : Tables) (left left' out out' : Option (List ℕ)) (tells leaves : Tables → Type 0) → PutCut t left left' out out' (Holds tells leaves) → LeavesPrefix t left left' out out' leaves
-put-leaves t left left' out out' tells leaves run =
+put-leaves : (t : Tables) (left left' out out' : Option (List ℕ)) (versions : ℤ → Type 0) (tells leaves : Tables → Type 0) → PutCut t left left' out out' (Holds tells leaves) → LeavesPrefix t left left' out out' versions leaves
+put-leaves t left left' out out' versions tells leaves run =
     let cut = run.cut in
-    story-leaves t left left' out out' leaves run.bytes (run.done ++ run.last ∷ []) (cut.replies ++ cut.reply ∷ []) cut.tables' cut.session' (flat_map reply_bytes cut.replies ++ take cut.n (reply_bytes cut.reply)) run.taken run.first cut.story cut.written cut.ends.alone
+    story-leaves t left left' out out' versions leaves run.bytes (run.done ++ run.last ∷ []) (cut.replies ++ cut.reply ∷ []) cut.tables' cut.session' (flat_map reply_bytes cut.replies ++ take cut.n (reply_bytes cut.reply)) run.taken run.first cut.story cut.written (λ v has known. cut-said cut.replies cut.reply (take cut.n (reply_bytes cut.reply)) (drop cut.n (reply_bytes cut.reply)) (take-append-drop cut.n (reply_bytes cut.reply))) cut.ends.alone
 
 -- no reply is empty
 some-bytes : (r : Reply) → 0 < length (reply_bytes r)
@@ -137,8 +166,8 @@ front-prefix t cs c rs r t' s' n x story few is =
     }
 
 -- a commit failed
-uncommitted-leaves : (t : Tables) (left left' out out' : Option (List ℕ)) (leaves : Tables → Type 0) → KeeperCut t left left' out out' leaves → LeavesPrefix t left left' out out' leaves
-uncommitted-leaves t left left' out out' leaves run =
+uncommitted-leaves : (t : Tables) (left left' out out' : Option (List ℕ)) (versions : ℤ → Type 0) (leaves : Tables → Type 0) → KeeperCut t left left' out out' leaves → LeavesPrefix t left left' out out' versions leaves
+uncommitted-leaves t left left' out out' versions leaves run =
     let one = run.cut.answered in
     let s1 = run.cut.session' in
     let answer = answer_of run.last s1 one.tables' in
@@ -154,6 +183,7 @@ uncommitted-leaves t left left' out out' leaves run =
       story = story;
       written = flat_map reply_bytes one.replies;
       put = one.written;
+      said = λ v has known. next-said one.replies answer.reply;
       each = λ n few lie x may. elim (one.ends.either x may) [
         | inl before ↦ front-prefix t run.done run.last one.replies answer.reply one.tables' s1 n x one.story (not-whole one.replies answer.reply n few lie) before
         | inr after ↦ whole-prefix t (run.done ++ run.last ∷ []) (one.replies ++ answer.reply ∷ []) (tables_after answer.change one.tables') answer.session n x story few after
@@ -161,13 +191,13 @@ uncommitted-leaves t left left' out out' leaves run =
     }
 
 -- each end of a run
-pub run-leaves : (t : Tables) (left left' out out' : Option (List ℕ)) (tells leaves : Tables → Type 0) (ok : Bool) (status : ℕ) → (status ≤ 1 ⊎ (status ≡ 3 ⊎ (status ≡ 4 ⊎ (status ≡ 5 ⊎ (status ≡ 7 ⊎ status ≡ 8))))) → (status ≤ 1 → Whole t left left' out out' (Holds tells leaves) ok) → (status ≡ 3 → ReadCut t left left' out out' (Holds tells leaves)) → (status ≡ 4 → PutCut t left left' out out' (Holds tells leaves)) → (status ≡ 5 → KeeperCut t left left' out out' leaves) → (status ≡ 7 → Starved t left left' out out' (Holds tells leaves)) → (status ≡ 8 → TooLong t left left' out out' (Holds tells leaves)) → LeavesPrefix t left left' out out' leaves
-run-leaves t left left' out out' tells leaves ok status (inl low) whole read put cut short long = whole-leaves t left left' out out' tells leaves ok (whole low)
-run-leaves t left left' out out' tells leaves ok status (inr (inl is)) whole read put cut short long = read-leaves t left left' out out' tells leaves (read is)
-run-leaves t left left' out out' tells leaves ok status (inr (inr (inl is))) whole read put cut short long = put-leaves t left left' out out' tells leaves (put is)
-run-leaves t left left' out out' tells leaves ok status (inr (inr (inr (inl is)))) whole read put cut short long = uncommitted-leaves t left left' out out' leaves (cut is)
-run-leaves t left left' out out' tells leaves ok status (inr (inr (inr (inr (inl is))))) whole read put cut short long = starved-leaves t left left' out out' tells leaves (short is)
-run-leaves t left left' out out' tells leaves ok status (inr (inr (inr (inr (inr is))))) whole read put cut short long = long-leaves t left left' out out' tells leaves (long is)
+pub run-leaves : (t : Tables) (left left' out out' : Option (List ℕ)) (versions : ℤ → Type 0) (tells leaves : Tables → Type 0) (ok : Bool) (status : ℕ) → (status ≤ 1 ⊎ (status ≡ 3 ⊎ (status ≡ 4 ⊎ (status ≡ 5 ⊎ (status ≡ 7 ⊎ status ≡ 8))))) → (status ≤ 1 → Whole t left left' out out' (Holds tells leaves) ok) → (status ≡ 3 → ReadCut t left left' out out' (Holds tells leaves)) → (status ≡ 4 → PutCut t left left' out out' (Holds tells leaves)) → (status ≡ 5 → KeeperCut t left left' out out' leaves) → (status ≡ 7 → Starved t left left' out out' (Holds tells leaves)) → (status ≡ 8 → TooLong t left left' out out' (Holds tells leaves)) → LeavesPrefix t left left' out out' versions leaves
+run-leaves t left left' out out' versions tells leaves ok status (inl low) whole read put cut short long = whole-leaves t left left' out out' versions tells leaves ok (whole low)
+run-leaves t left left' out out' versions tells leaves ok status (inr (inl is)) whole read put cut short long = read-leaves t left left' out out' versions tells leaves (read is)
+run-leaves t left left' out out' versions tells leaves ok status (inr (inr (inl is))) whole read put cut short long = put-leaves t left left' out out' versions tells leaves (put is)
+run-leaves t left left' out out' versions tells leaves ok status (inr (inr (inr (inl is)))) whole read put cut short long = uncommitted-leaves t left left' out out' versions leaves (cut is)
+run-leaves t left left' out out' versions tells leaves ok status (inr (inr (inr (inr (inl is))))) whole read put cut short long = starved-leaves t left left' out out' versions tells leaves (short is)
+run-leaves t left left' out out' versions tells leaves ok status (inr (inr (inr (inr (inr is))))) whole read put cut short long = long-leaves t left left' out out' versions tells leaves (long is)
 
 last-sound : (t : Tables) (s : Session) (cs : List Command) (rs : List Reply) (t' : Tables) (s' : Session) (story : Story t s cs rs t' s') → SoundAlong t s cs rs t' s' story → Sound t' s'
 last-sound t s [] [] t' s' story along = along
@@ -181,8 +211,8 @@ story-store t cs rs t' s' story store =
     let sound = last-sound t no_session cs rs t' s' story (Story-sound t no_session cs rs t' s' story store) in sound-store t' s' sound
 
 -- what a crash leaves is a store
-pub leaves-stores : (t : Tables) (left left' out out' : Option (List ℕ)) (leaves : Tables → Type 0) → IsStore t → LeavesPrefix t left left' out out' leaves → (x : Tables) → leaves x → IsStore x
-leaves-stores t left left' out out' leaves store crash x may =
+pub leaves-stores : (t : Tables) (left left' out out' : Option (List ℕ)) (versions : ℤ → Type 0) (leaves : Tables → Type 0) → IsStore t → LeavesPrefix t left left' out out' versions leaves → (x : Tables) → leaves x → IsStore x
+leaves-stores t left left' out out' versions leaves store crash x may =
     let front = crash.each 0 (omega arith) (record { rest = crash.written; is = refl }) x may in
     story-store t (take front.k crash.commands) (take front.k crash.replies) x front.session front.story store
 

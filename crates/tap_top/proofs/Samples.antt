@@ -204,14 +204,14 @@ at-start P s cs n new all holds = subst (λ ds. P no_session ds) all (subst (λ 
 abbrev pub AllPerformed : Tables → Session → List Command → Engine → (Tables → Type 0) → (Tables → Type 0) → Tally → Session → Type 0
 AllPerformed t s cs engine tells leaves tally s' = Performed t s cs (λ replies x. IsAt engine tells leaves x × Counted tally replies) s'
 
-summed : (t : Tables) (n : ℕ) (cs : List Command) (engine : Engine) (tells leaves : Tables → Type 0) (tally : Tally) (s' : Session) (summary : Summary) (count : ℕ) → count ≡ length cs → cs ≡ sample_of n → (one : AllPerformed t no_session (sample_of n) engine tells leaves tally s') → summary ≡ record { messages = n; commands = count; refused = tally.refused; documents = length engine.docs; notes = length engine.notes; delivered = tally.delivered } → summary ≡ summary_of n one.replies one.tables'
+summed : (t : Tables) (n : ℕ) (cs : List Command) (engine : Engine) (tells leaves : Tables → Type 0) (tally : Tally) (s' : Session) (summary : Summary) (count : ℕ) → count ≡ length cs → cs ≡ sample_of n → (one : AllPerformed t no_session (sample_of n) engine tells leaves tally s') → summary ≡ record { messages = n; commands = count; refused = tally.refused; documents = length engine.index.docs; notes = length engine.index.notes; delivered = tally.delivered } → summary ≡ summary_of n one.replies one.tables'
 summed t n cs engine tells leaves tally s' summary count long all one is =
-    Summary-of summary n count tally.refused (length engine.docs) (length engine.notes) tally.delivered one.replies one.tables' is (long ∙ ap length all) one.ends.1.refused (ap length one.ends.0.stands.docs) (ap length one.ends.0.stands.notes) one.ends.1.delivered
+    Summary-of summary n count tally.refused (length engine.index.docs) (length engine.index.notes) tally.delivered one.replies one.tables' is (long ∙ ap length all) one.ends.1.refused (ap (λ rows. length rows.docs) one.ends.0.stands.rows) (ap (λ rows. length rows.notes) one.ends.0.stands.rows) one.ends.1.delivered
 
 ended : (t : Tables) (n : ℕ) (engine : Engine) (tells leaves : Tables → Type 0) (tally : Tally) (s' : Session) → AllPerformed t no_session (sample_of n) engine tells leaves tally s' → Performed t no_session (sample_of n) (λ replies x. NoneStarved replies × Holds tells leaves x) s'
 ended t n engine tells leaves tally s' one = Performed-with t no_session (sample_of n) (λ replies x. IsAt engine tells leaves x × Counted tally replies) (λ replies x. NoneStarved replies × Holds tells leaves x) s' one (one.ends.1.none, one.ends.0.holds)
 
-pub Sampled-put : (t : Tables) (n : ℕ) (s : Session) (cs : List Command) (engine : Engine) (tells leaves : Tables → Type 0) (tally : Tally) (s' : Session) (summary : Summary) (count : ℕ) (out out' : Option (List ℕ)) (ok : Bool) → count ≡ length cs → s ≡ no_session → cs ≡ sample_of n → AllPerformed t s cs engine tells leaves tally s' → summary ≡ record { messages = n; commands = count; refused = tally.refused; documents = length engine.docs; notes = length engine.notes; delivered = tally.delivered } → Appends out out' (summary_lines summary) → ok ≡ (summary.refused == 0) → Sampled t n out out' (Holds tells leaves) ok
+pub Sampled-put : (t : Tables) (n : ℕ) (s : Session) (cs : List Command) (engine : Engine) (tells leaves : Tables → Type 0) (tally : Tally) (s' : Session) (summary : Summary) (count : ℕ) (out out' : Option (List ℕ)) (ok : Bool) → count ≡ length cs → s ≡ no_session → cs ≡ sample_of n → AllPerformed t s cs engine tells leaves tally s' → summary ≡ record { messages = n; commands = count; refused = tally.refused; documents = length engine.index.docs; notes = length engine.index.notes; delivered = tally.delivered } → Appends out out' (summary_lines summary) → ok ≡ (summary.refused == 0) → Sampled t n out out' (Holds tells leaves) ok
 unfolding ended at-start Performed-with
 Sampled-put t n s cs engine tells leaves tally s' summary count out out' ok long new all one is put fine =
     let moved = at-start (λ x ds. AllPerformed t x ds engine tells leaves tally s') s cs n new all one in
@@ -222,7 +222,7 @@ Sampled-put t n s cs engine tells leaves tally s' summary count out out' ok long
       ok = fine ∙ ap (λ y. y.refused == 0) e ∙ all-accepted moved.replies;
     }
 
-pub Sampled-cut : (t : Tables) (n : ℕ) (s : Session) (cs : List Command) (engine : Engine) (tells leaves : Tables → Type 0) (tally : Tally) (s' : Session) (summary : Summary) (count : ℕ) (out out' : Option (List ℕ)) → count ≡ length cs → s ≡ no_session → cs ≡ sample_of n → AllPerformed t s cs engine tells leaves tally s' → summary ≡ record { messages = n; commands = count; refused = tally.refused; documents = length engine.docs; notes = length engine.notes; delivered = tally.delivered } → FrontPut (summary_lines summary) out out' → SampledCut t n out out' (Holds tells leaves)
+pub Sampled-cut : (t : Tables) (n : ℕ) (s : Session) (cs : List Command) (engine : Engine) (tells leaves : Tables → Type 0) (tally : Tally) (s' : Session) (summary : Summary) (count : ℕ) (out out' : Option (List ℕ)) → count ≡ length cs → s ≡ no_session → cs ≡ sample_of n → AllPerformed t s cs engine tells leaves tally s' → summary ≡ record { messages = n; commands = count; refused = tally.refused; documents = length engine.index.docs; notes = length engine.index.notes; delivered = tally.delivered } → FrontPut (summary_lines summary) out out' → SampledCut t n out out' (Holds tells leaves)
 unfolding ended at-start Performed-with
 Sampled-cut t n s cs engine tells leaves tally s' summary count out out' long new all one is cut =
     let moved = at-start (λ x ds. AllPerformed t x ds engine tells leaves tally s') s cs n new all one in

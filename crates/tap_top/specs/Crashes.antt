@@ -1,5 +1,5 @@
 -- What a crash leaves: the tables after some first commands.
-use Rattle.std.specs.Prelude.{ℕ, ◌≡◌, ◌≤◌, List, ◌++◌, length, take, Option}
+use Rattle.std.specs.Prelude.{ℕ, ℤ, pos, ◌≡◌, ◌≤◌, ◌-◌, ◌⊎◌, List, ◌++◌, length, take, Option}
 use Rattle.std.specs.List.{flat_map}
 use Rattle.std.specs.Io.KnownBytes.{Consumes, Appends}
 use Rattle.tap_rows.specs.declared.tables.Tables.{Tables}
@@ -25,9 +25,16 @@ pub record LieWhole (n : ℕ) (replies : List Reply) (bytes : List ℕ) : Type 0
   pub rest : List ℕ
   pub is : bytes ≡ flat_map reply_bytes (take n replies) ++ rest
 
+-- these bytes are a front of the bytes of these replies, and all replies but the last lie whole in them
+pub record AreSaid (replies : List Reply) (bytes : List ℕ) : Type 0 where
+  pub rest : List ℕ
+  pub front : flat_map reply_bytes replies ≡ bytes ++ rest
+  pub most : LieWhole (length replies - 1) replies bytes
+
 -- a crash leaves the tables after some first commands of the script, with all those among them whose replies lie whole in
--- what was written
-pub record LeavesPrefix (tables : Tables) (left left' out out' : Option (List ℕ)) (leaves : Tables → Type 0) : Type 0 where
+-- what was written; over a store of a known version nothing else was written than these replies, of which the last may be
+-- cut off or left out
+pub record LeavesPrefix (tables : Tables) (left left' out out' : Option (List ℕ)) (versions : ℤ → Type 0) (leaves : Tables → Type 0) : Type 0 where
   pub bytes : List ℕ
   pub taken : Consumes left left' bytes
   pub commands : List Command
@@ -38,4 +45,5 @@ pub record LeavesPrefix (tables : Tables) (left left' out out' : Option (List �
   pub story : Story tables no_session commands replies tables' session'
   pub written : List ℕ
   pub put : Appends out out' written
+  pub said : (v : ℤ) → versions v → (v ≡ pos 1) ⊎ (v ≡ pos 2) → AreSaid replies written
   pub each : (n : ℕ) → n ≤ length replies → LieWhole n replies written → (x : Tables) → leaves x → IsPrefix tables commands replies n x

@@ -1,39 +1,26 @@
-ghost use Rattle.std.specs.Prelude.{◌≡◌, ◌<◌, false};
+ghost use Rattle.std.specs.Prelude.{◌≡◌, false};
 
-use crate::tapestry;
+use crate::test_runs::{sink_of, source_of, written_over};
 use keeper_core::{KeepPlan, MemKeeper};
 use std::alloc::Global;
-use std::marker::Brand;
-use std::sync::ledger::{Blank, Ledger};
 use std::test::Fail;
-use tap_base::{DocNum, Memory, QueryNum, Rows, Steps, Text, Texts};
-use tap_edges::{MemSink, MemSource, PutPlan};
+use tap_base::{DocNum, Memory, QueryNum, Rows, Text};
+use tap_edges::PutPlan;
 use tap_rows::{Change, Doc, FilterRow, Pick, QueryRow, RunRow, Tables};
 
-// Runs a script over a keeper, where these puts fail; gives the status and what was written.
-fn run<L: Ledger>(
+// A session over a keeper, where these puts fail: its status, and what was written.
+fn cut_session(
     alloc: Global,
-    blank: Blank,
     keeper: &mut MemKeeper,
     script: &[u8],
     put_fails: Vec<PutPlan>,
 ) -> Result<(u8, Text), Memory>
-    requires name { blank.name ≡ L.name }
-    requires parts { blank.parts ≡ L.parts }
-    requires some { 0 < blank.parts }
     requires free { keeper.old.attached ≡ false }
     requires running { keeper.old.stopped ≡ false }
 {
-    let mut steps = Steps::<L>::start(blank);
-    let mut source = MemSource::new(
-        Text::from_slice(alloc, script)?,
-        Vec::new(alloc),
-        Vec::new(alloc),
-    );
-    let mut sink = MemSink::new(alloc, 4096, put_fails)?;
-    let words = Texts::new(alloc);
-    let status = tapestry(alloc, &words, &mut source, &mut sink, keeper, &mut steps);
-    Ok((status, Text::from_slice(alloc, sink.written())?))
+    let source = source_of(alloc, script, 4096, Vec::new(alloc))?;
+    let sink = sink_of(alloc, 4096, put_fails)?;
+    written_over(alloc, keeper, source, sink)
 }
 
 // A session over a keeper, and what it wrote.
@@ -41,7 +28,7 @@ fn session(alloc: Global, keeper: &mut MemKeeper, script: &[u8]) -> Result<(u8, 
     requires free { keeper.old.attached ≡ false }
     requires running { keeper.old.stopped ≡ false }
 {
-    run::<Brand>(alloc, Blank::new(1), keeper, script, Vec::new(alloc))
+    cut_session(alloc, keeper, script, Vec::new(alloc))
 }
 
 const FIRST: &[u8] =
@@ -206,13 +193,7 @@ fn damaged_stores_are_refused(rt: HostRuntime) -> Result<(), Fail> {
 // version then.
 fn over_alien(alloc: Global, put_fails: Vec<PutPlan>) -> Result<(u8, Text, i64), Memory> {
     let mut keeper = MemKeeper::new(alloc, Tables::empty(alloc), 7, Vec::new(alloc));
-    let (status, written) = run::<Brand>(
-        alloc,
-        Blank::new(1),
-        &mut keeper,
-        b"at 200\n",
-        put_fails,
-    )?;
+    let (status, written) = cut_session(alloc, &mut keeper, b"at 200\n", put_fails)?;
     Ok((status, written, keeper.version()))
 }
 

@@ -13,8 +13,14 @@ pub use store_fault::StoreFault;
 pub use top::{PIECE, SCRIPT_LIMIT, tapestry};
 
 #[cfg(test)]
+mod first_tests;
+#[cfg(test)]
 mod keeper_tests;
 #[cfg(test)]
+mod long_tests;
+#[cfg(test)]
 mod sample_tests;
+#[cfg(test)]
+mod test_runs;
 #[cfg(test)]
 mod tests;

@@ -1,15 +1,12 @@
-ghost use Rattle.std.specs.Prelude.{◌≡◌, ◌<◌, IfOk, OnOk};
+ghost use Rattle.std.specs.Prelude.{◌≡◌, IfOk, OnOk};
 ghost use Rattle.std.specs.List.{All};
 ghost use Rattle.std.specs.Str.{IsUtf8};
 
-use crate::tapestry;
+use crate::test_runs::{sink_of, source_of, status_of};
 use keeper_core::MemKeeper;
 use std::alloc::Global;
-use std::marker::Brand;
-use std::sync::ledger::{Blank, Ledger};
 use std::test::Fail;
-use tap_base::{Memory, Steps, Text, Texts};
-use tap_edges::{MemSink, MemSource};
+use tap_base::{Memory, Text, Texts};
 use tap_rows::Tables;
 
 // Appends a word.
@@ -32,42 +29,20 @@ fn words_in(alloc: Global, line: &str) -> Result<Texts, Memory>
     Ok(words)
 }
 
-// A run of these words over an empty store, with a script of one command: the status, and what was written.
-fn run<L: Ledger>(alloc: Global, blank: Blank, words: &Texts) -> Result<(u8, Text), Memory>
-    requires name { blank.name ≡ L.name }
-    requires parts { blank.parts ≡ L.parts }
-    requires some { 0 < blank.parts }
-    requires texts { All IsUtf8 words.now }
-{
-    let mut steps = Steps::<L>::start(blank);
-    let mut keeper = MemKeeper::new(alloc, Tables::empty(alloc), 2, Vec::new(alloc));
-    let mut source = MemSource::new(
-        Text::from_slice(alloc, b"at 9\n")?,
-        Vec::new(alloc),
-        Vec::new(alloc),
-    );
-    let mut sink = MemSink::new(alloc, 4096, Vec::new(alloc))?;
-    let status = tapestry(
-        alloc,
-        words,
-        &mut source,
-        &mut sink,
-        &mut keeper,
-        &mut steps,
-    );
-    Ok((status, Text::from_slice(alloc, sink.written())?))
-}
-
-// The same of the words of a line, with a counter of its own.
+// A run of the words of a line over an empty store, with a script of one command: the status, and what was written.
 fn followed(alloc: Global, line: &str) -> Result<(u8, Text), Memory> {
     let words = words_in(alloc, line)?;
-    run::<Brand>(alloc, Blank::new(1), &words)
+    let mut keeper = MemKeeper::new(alloc, Tables::empty(alloc), 2, Vec::new(alloc));
+    let mut source = source_of(alloc, b"at 9\n", 4096, Vec::new(alloc))?;
+    let mut sink = sink_of(alloc, 4096, Vec::new(alloc))?;
+    let status = status_of(alloc, &words, &mut source, &mut sink, &mut keeper);
+    Ok((status, Text::from_slice(alloc, sink.written())?))
 }
 
 #[test]
 fn words_are_followed(rt: HostRuntime) -> Result<(), Fail> {
     let alloc = rt.alloc();
-    let rows: [(&str, u8, &[u8]); 6] = [
+    let rows: [(&str, u8, &[u8]); 8] = [
         ("--bogus", 2, b""),
         ("--sample 0", 2, b""),
         ("--store", 2, b""),
@@ -81,6 +56,17 @@ fn words_are_followed(rt: HostRuntime) -> Result<(), Fail> {
             "--sample 1 --store p",
             0,
             b"sample 1\ncommands 9\nrefused 0\ndocuments 1\nnotes 0\ndelivered 1\n",
+        ),
+        // the same lines in two runs
+        (
+            "--sample 2000",
+            0,
+            b"sample 2000\ncommands 4807\nrefused 0\ndocuments 2000\nnotes 400\ndelivered 2472\n",
+        ),
+        (
+            "--sample 2000",
+            0,
+            b"sample 2000\ncommands 4807\nrefused 0\ndocuments 2000\nnotes 400\ndelivered 2472\n",
         ),
     ];
     for (line, status, written) in rows {

@@ -104,14 +104,14 @@ fn perform_all<P: Keeper, L: Ledger>(
 
 // What became of the sample; None comes only where a count would pass its type's end.
 fn sum_up(n: u32, commands: usize, tally: Tally, engine: &Engine) -> Option<Summary>
-    ensures { IfSome result (λ summary. summary ≡ record { messages = n; commands = commands; refused = tally.refused; documents = length engine.now.docs; notes = length engine.now.notes; delivered = tally.delivered }) }
+    ensures { IfSome result (λ summary. summary ≡ record { messages = n; commands = commands; refused = tally.refused; documents = length engine.now.index.docs; notes = length engine.now.index.notes; delivered = tally.delivered }) }
 {
     Some(Summary {
         messages: n,
         commands,
         refused: tally.refused,
-        documents: u32::try_from(engine.docs()).ok()?,
-        notes: u32::try_from(engine.notes()).ok()?,
+        documents: u32::try_from(engine.docs() as usize).ok()?,
+        notes: u32::try_from(engine.notes() as usize).ok()?,
         delivered: tally.delivered,
     })
 }
@@ -170,6 +170,33 @@ fn run_sample<K: Sink, P: Keeper, L: Ledger>(
     }
 }
 
+// The same with an engine of its own, which ends with the run.
+fn sample_with<K: Sink, P: Keeper, L: Ledger>(
+    alloc: Global,
+    n: u32,
+    sink: &mut K,
+    mut engine: Engine,
+    keeper: &mut P,
+    steps: &mut Steps<L>,
+) -> u8
+    requires some { 1 ≤ n }
+    requires few { n ≤ 100000 }
+    requires can { CanPerform engine (P.attached keeper.old) (P.stopped keeper.old) }
+    requires session { engine.session ≡ no_session }
+    ensures whole { result ≤ 1 → (t : Tables) → P.honest keeper.new → IsAt engine (P.tells keeper.old) (P.may_leave keeper.old) t → Sampled t n (K.out sink.old) (K.out sink.new) (Holds (P.tells keeper.new) (P.may_leave keeper.new)) (result == 0) }
+    ensures cut { result ≡ 4 → (t : Tables) → P.honest keeper.new → IsAt engine (P.tells keeper.old) (P.may_leave keeper.old) t → SampledCut t n (K.out sink.old) (K.out sink.new) (Holds (P.tells keeper.new) (P.may_leave keeper.new)) }
+    ensures uncommitted { result ≡ 5 → (t : Tables) → P.honest keeper.new → IsAt engine (P.tells keeper.old) (P.may_leave keeper.old) t → NextUncommitted t no_session (sample_of n) (P.may_leave keeper.new) }
+    ensures memory { result ≡ 7 → (t : Tables) → P.honest keeper.new → IsAt engine (P.tells keeper.old) (P.may_leave keeper.old) t → FirstPerformed t no_session (sample_of n) (Holds (P.tells keeper.new) (P.may_leave keeper.new)) }
+    ensures silent { (result ≡ 5) ⊎ (result ≡ 7) → K.out sink.new ≡ K.out sink.old }
+    ensures statuses { result ≤ 1 ⊎ (result ≡ 4 ⊎ (result ≡ 5 ⊎ result ≡ 7)) }
+    ensures stopped { (P.stopped keeper.new ≡ true) ↔ (result ≡ 5) }
+    ensures cause { result ≡ 4 → Rose (K.faults sink.old) (K.faults sink.new) }
+    ensures kept_cause { result ≡ 5 → Rose (P.faults keeper.old) (P.faults keeper.new) }
+    ensures goes_on { GoesOn (P.place keeper.old) (P.place keeper.new) (P.faults keeper.old) (P.faults keeper.new) (P.honest keeper.old) (P.honest keeper.new) }
+{
+    run_sample(alloc, n, sink, &mut engine, keeper, steps)
+}
+
 /// Attaches the keeper at a place, checks the tables that it has, performs the commands of a sample with `n` messages, and
 /// puts its summary; the status of the run. No replies are put.
 pub fn sample_store<K: Sink, P: Keeper, L: Ledger>(
@@ -200,7 +227,7 @@ pub fn sample_store<K: Sink, P: Keeper, L: Ledger>(
     ensures place { (result ≡ 7) ⊎ (P.place keeper.new ≡ place.now) }
 {
     match open_store(alloc, place, keeper) {
-        Ok(mut engine) => run_sample(alloc, n, sink, &mut engine, keeper, steps),
+        Ok(engine) => sample_with(alloc, n, sink, engine, keeper, steps),
         Err(OpenFault::Refused(fault)) => refuse(fault, sink),
         Err(OpenFault::Keeper) => 5,
         Err(OpenFault::Memory) => 7,

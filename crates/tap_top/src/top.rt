@@ -142,6 +142,34 @@ fn run<S: Source, K: Sink, P: Keeper, L: Ledger>(
     8
 }
 
+// The same with an engine of its own, which ends with the run.
+fn run_with<S: Source, K: Sink, P: Keeper, L: Ledger>(
+    alloc: Global,
+    source: &mut S,
+    sink: &mut K,
+    mut engine: Engine,
+    keeper: &mut P,
+    steps: &mut Steps<L>,
+) -> u8
+    requires can { CanPerform engine (P.attached keeper.old) (P.stopped keeper.old) }
+    requires session { engine.session ≡ no_session }
+    ensures whole { result ≤ 1 → (t : Tables) → P.honest keeper.new → IsAt engine (P.tells keeper.old) (P.may_leave keeper.old) t → Whole t (S.left source.old) (S.left source.new) (K.out sink.old) (K.out sink.new) (Holds (P.tells keeper.new) (P.may_leave keeper.new)) (result == 0) }
+    ensures read { result ≡ 3 → (t : Tables) → P.honest keeper.new → IsAt engine (P.tells keeper.old) (P.may_leave keeper.old) t → ReadCut t (S.left source.old) (S.left source.new) (K.out sink.old) (K.out sink.new) (Holds (P.tells keeper.new) (P.may_leave keeper.new)) }
+    ensures put { result ≡ 4 → (t : Tables) → P.honest keeper.new → IsAt engine (P.tells keeper.old) (P.may_leave keeper.old) t → PutCut t (S.left source.old) (S.left source.new) (K.out sink.old) (K.out sink.new) (Holds (P.tells keeper.new) (P.may_leave keeper.new)) }
+    ensures uncommitted { result ≡ 5 → (t : Tables) → P.honest keeper.new → IsAt engine (P.tells keeper.old) (P.may_leave keeper.old) t → KeeperCut t (S.left source.old) (S.left source.new) (K.out sink.old) (K.out sink.new) (P.may_leave keeper.new) }
+    ensures memory { result ≡ 7 → (t : Tables) → P.honest keeper.new → IsAt engine (P.tells keeper.old) (P.may_leave keeper.old) t → Starved t (S.left source.old) (S.left source.new) (K.out sink.old) (K.out sink.new) (Holds (P.tells keeper.new) (P.may_leave keeper.new)) }
+    ensures long { result ≡ 8 → (t : Tables) → P.honest keeper.new → IsAt engine (P.tells keeper.old) (P.may_leave keeper.old) t → TooLong t (S.left source.old) (S.left source.new) (K.out sink.old) (K.out sink.new) (Holds (P.tells keeper.new) (P.may_leave keeper.new)) }
+    ensures many { result ≡ 8 → TookMany (S.left source.old) (S.left source.new) }
+    ensures statuses { result ≤ 1 ⊎ (result ≡ 3 ⊎ (result ≡ 4 ⊎ (result ≡ 5 ⊎ (result ≡ 7 ⊎ result ≡ 8)))) }
+    ensures stopped { (P.stopped keeper.new ≡ true) ↔ (result ≡ 5) }
+    ensures read_cause { result ≡ 3 → Rose (S.faults source.old) (S.faults source.new) }
+    ensures cause { result ≡ 4 → Rose (K.faults sink.old) (K.faults sink.new) }
+    ensures kept_cause { result ≡ 5 → Rose (P.faults keeper.old) (P.faults keeper.new) }
+    ensures keeper { GoesOn (P.place keeper.old) (P.place keeper.new) (P.faults keeper.old) (P.faults keeper.new) (P.honest keeper.old) (P.honest keeper.new) }
+{
+    run(alloc, source, sink, &mut engine, keeper, steps)
+}
+
 // Attaches the keeper, checks the tables that it has, and performs the commands of the source; the status of the run.
 fn run_store<S: Source, K: Sink, P: Keeper, L: Ledger>(
     alloc: Global,
@@ -163,7 +191,7 @@ fn run_store<S: Source, K: Sink, P: Keeper, L: Ledger>(
     ensures long { result ≡ 8 → (t : Tables) → P.honest keeper.new → Holds (P.tells keeper.old) (P.may_leave keeper.old) t → IsStore t → TooLong t (S.left source.old) (S.left source.new) (K.out sink.old) (K.out sink.new) (Holds (P.tells keeper.new) (P.may_leave keeper.new)) }
 
     // What a crash leaves, at every exit: the tables after some first commands, all acknowledged ones among them.
-    ensures crash { (t : Tables) → P.honest keeper.new → Holds (P.tells keeper.old) (P.may_leave keeper.old) t → IsStore t → LeavesPrefix t (S.left source.old) (S.left source.new) (K.out sink.old) (K.out sink.new) (P.may_leave keeper.new) }
+    ensures crash { (t : Tables) → P.honest keeper.new → Holds (P.tells keeper.old) (P.may_leave keeper.old) t → IsStore t → LeavesPrefix t (S.left source.old) (S.left source.new) (K.out sink.old) (K.out sink.new) (P.has_version keeper.old) (P.may_leave keeper.new) }
     ensures kept { (t : Tables) → P.honest keeper.new → Holds (P.tells keeper.old) (P.may_leave keeper.old) t → IsStore t → (x : Tables) → P.may_leave keeper.new x → IsStore x }
 
     // A store is refused exactly for its version or its rows.
@@ -182,7 +210,7 @@ fn run_store<S: Source, K: Sink, P: Keeper, L: Ledger>(
     ensures place { (result ≡ 7) ⊎ (P.place keeper.new ≡ place.now) }
 {
     match open_store(alloc, place, keeper) {
-        Ok(mut engine) => run(alloc, source, sink, &mut engine, keeper, steps),
+        Ok(engine) => run_with(alloc, source, sink, engine, keeper, steps),
         Err(OpenFault::Refused(fault)) => refuse(fault, sink),
         Err(OpenFault::Keeper) => 5,
         Err(OpenFault::Memory) => 7,
@@ -244,7 +272,7 @@ pub fn tapestry<S: Source, K: Sink, P: Keeper, L: Ledger>(
     ensures sample_unread { (n : ℕ) → sample_in words.now ≡ Some n → (S.left source.new ≡ S.left source.old) × ((result ≢ 3) × (result ≢ 8)) }
 
     // What a crash leaves of a script, at every exit: the tables after some first commands, all acknowledged ones among them.
-    ensures crash { sample_in words.now ≡ None → (t : Tables) → P.honest keeper.new → Holds (P.tells keeper.old) (P.may_leave keeper.old) t → IsStore t → LeavesPrefix t (S.left source.old) (S.left source.new) (K.out sink.old) (K.out sink.new) (P.may_leave keeper.new) }
+    ensures crash { sample_in words.now ≡ None → (t : Tables) → P.honest keeper.new → Holds (P.tells keeper.old) (P.may_leave keeper.old) t → IsStore t → LeavesPrefix t (S.left source.old) (S.left source.new) (K.out sink.old) (K.out sink.new) (P.has_version keeper.old) (P.may_leave keeper.new) }
     ensures kept { (t : Tables) → P.honest keeper.new → Holds (P.tells keeper.old) (P.may_leave keeper.old) t → IsStore t → (x : Tables) → P.may_leave keeper.new x → IsStore x }
 
     // A store is refused exactly for its version or its rows.

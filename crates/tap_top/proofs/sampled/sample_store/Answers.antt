@@ -11,9 +11,15 @@ use Rattle.tap_top.proofs.sampled.sample_store.Goals as goal
 
 pub returns-in-Ok-clause-crash : goal.returns-in-Ok-clause-crash
 returns-in-Ok-clause-crash g c = λ t honest holds store.
-    let opened = c.run_sample.ensures.goes_on.before honest in
+    let opened = c.sample_with.ensures.goes_on.before honest in
     let at = opened-at c.in-Ok.engine _ _ t c.in-Ok.ensures.session (c.in-Ok.ensures.stands opened t holds.told) (c.in-Ok.ensures.kept opened t holds.told c.in-Ok.ensures.can.keeping) store in
-    sample-leaves t c.args.n _ _ (g.P.Keeper.tells c.run_sample.new.keeper) (g.P.Keeper.may_leave c.run_sample.new.keeper) (c.run_sample.result == 0) c.run_sample.result c.run_sample.ensures.statuses (λ e. c.run_sample.ensures.whole e t honest at) (λ e. c.run_sample.ensures.cut e t honest at) (λ e. c.run_sample.ensures.uncommitted e t honest at) (λ e. c.run_sample.ensures.memory e t honest at)
+    sample-leaves t c.args.n _ _ (g.P.Keeper.tells c.sample_with.new.keeper) (g.P.Keeper.may_leave c.sample_with.new.keeper) (c.sample_with.result == 0) c.sample_with.result c.sample_with.ensures.statuses (λ e. c.sample_with.ensures.whole e t honest at) (λ e. c.sample_with.ensures.cut e t honest at) (λ e. c.sample_with.ensures.uncommitted e t honest at) (λ e. c.sample_with.ensures.memory e t honest at)
+
+pub returns-in-Ok-clause-keeper : goal.returns-in-Ok-clause-keeper
+returns-in-Ok-clause-keeper g c = λ is t honest holds store.
+    let opened = c.sample_with.ensures.goes_on.before honest in
+    let at = opened-at c.in-Ok.engine _ _ t c.in-Ok.ensures.session (c.in-Ok.ensures.stands opened t holds.told) (c.in-Ok.ensures.kept opened t holds.told c.in-Ok.ensures.can.keeping) store in
+    inr (c.sample_with.ensures.uncommitted is t honest at)
 
 pub returns-in-Err-Refused-clause-cut : goal.returns-in-Err-Refused-clause-cut
 returns-in-Err-Refused-clause-cut g c = λ _ t honest holds store v version known. absurd (some-or-none (fault_of v t) c.in-Err-Refused.fault (refused-for _ _ c.in-Err-Refused.fault c.in-Err-Refused.ensures.refused c.in-Err-Refused.field-0-is honest t holds.told v version) (fine-store t v store known))

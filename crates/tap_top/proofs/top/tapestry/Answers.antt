@@ -26,7 +26,7 @@ pub returns-in-Err-Refused-clause-sample_crash : goal.returns-in-Err-Refused-cla
 returns-in-Err-Refused-clause-sample_crash g c = λ n _ t honest holds store. alone-leaves t (sample_of n) _ holds.alone
 
 pub returns-in-Err-Refused-clause-crash : goal.returns-in-Err-Refused-clause-crash
-returns-in-Err-Refused-clause-crash g c = λ _ t honest holds store. nothing-leaves t _ _ _ _ _ refl refl holds.alone
+returns-in-Err-Refused-clause-crash g c = λ _ t honest holds store. nothing-leaves t _ _ _ _ _ _ refl refl holds.alone
 
 pub returns-in-Err-Refused-clause-refused : goal.returns-in-Err-Refused-clause-refused
 returns-in-Err-Refused-clause-refused g c = λ t honest holds v version fault is. Refused-none 2 fault _ _ _ _ _ _ t (inl refl) (λ e. cc) refl refl (λ _. holds.told) holds.alone
@@ -50,7 +50,7 @@ pub returns-in-Err-Memory-clause-sample_crash : goal.returns-in-Err-Memory-claus
 returns-in-Err-Memory-clause-sample_crash g c = λ n _ t honest holds store. alone-leaves t (sample_of n) _ holds.alone
 
 pub returns-in-Err-Memory-clause-crash : goal.returns-in-Err-Memory-clause-crash
-returns-in-Err-Memory-clause-crash g c = λ _ t honest holds store. nothing-leaves t _ _ _ _ _ refl refl holds.alone
+returns-in-Err-Memory-clause-crash g c = λ _ t honest holds store. nothing-leaves t _ _ _ _ _ _ refl refl holds.alone
 
 pub returns-in-Err-Memory-clause-refused : goal.returns-in-Err-Memory-clause-refused
 returns-in-Err-Memory-clause-refused g c = λ t honest holds v version fault is. Refused-none 7 fault _ _ _ _ _ _ t (inr (inr (inr (inr refl)))) (λ e. cc) refl refl (λ _. holds.told) holds.alone

@@ -1,5 +1,0 @@
-use Rattle.tap_top.proofs.tests.mailbox_files_are_taken.Given as goal
-
--- the counter is that of the blank
-abbrev pub ghosts-run : goal.ghosts-run
-ghosts-run g a = record { name = a.blank.name; parts = a.blank.parts }

@@ -1,0 +1,127 @@
+//! What the tests share: runs over sources, sinks and keepers in memory.
+ghost use Rattle.std.specs.Prelude.{◌≡◌, ◌<◌, false};
+ghost use Rattle.std.specs.List.{All};
+ghost use Rattle.std.specs.Str.{IsUtf8};
+
+use crate::tapestry;
+use itoa::Buffer;
+use keeper_core::MemKeeper;
+use std::alloc::Global;
+use std::marker::Brand;
+use std::sync::ledger::{Blank, Ledger};
+use tap_base::{Memory, Steps, Text, Texts};
+use tap_edges::{MemSink, MemSource, PutPlan};
+use tap_rows::Tables;
+
+// Runs with the counter of a blank; the status.
+fn run<L: Ledger>(
+    alloc: Global,
+    blank: Blank,
+    words: &Texts,
+    source: &mut MemSource,
+    sink: &mut MemSink,
+    keeper: &mut MemKeeper,
+) -> u8
+    requires name { blank.name ≡ L.name }
+    requires parts { blank.parts ≡ L.parts }
+    requires some { 0 < blank.parts }
+    requires texts { All IsUtf8 words.now }
+    requires free { keeper.old.attached ≡ false }
+    requires running { keeper.old.stopped ≡ false }
+{
+    let mut steps = Steps::<L>::start(blank);
+    tapestry(alloc, words, source, sink, keeper, &mut steps)
+}
+
+/// Runs with a counter of its own; the status.
+pub fn status_of(
+    alloc: Global,
+    words: &Texts,
+    source: &mut MemSource,
+    sink: &mut MemSink,
+    keeper: &mut MemKeeper,
+) -> u8
+    requires texts { All IsUtf8 words.now }
+    requires free { keeper.old.attached ≡ false }
+    requires running { keeper.old.stopped ≡ false }
+{
+    run::<Brand>(alloc, Blank::new(1), words, source, sink, keeper)
+}
+
+// 1 in the place of 0.
+fn at_least_one(size: usize) -> usize
+    ensures { 0 < result }
+{
+    if size == 0 { 1 } else { size }
+}
+
+/// A script that comes in pieces of `size` bytes, where these reads fail.
+pub fn source_of(
+    alloc: Global,
+    script: &[u8],
+    size: usize,
+    fails: Vec<u64>,
+) -> Result<MemSource, Memory> {
+    let sizes = vec![in alloc; at_least_one(size)]?;
+    Ok(MemSource::new(Text::from_slice(alloc, script)?, sizes, fails))
+}
+
+/// A sink with so much room, where these puts fail.
+pub fn sink_of(alloc: Global, room: usize, fails: Vec<PutPlan>) -> Result<MemSink, Memory> {
+    MemSink::new(alloc, room, fails)
+}
+
+/// Runs over a keeper, without words; the status, and what was written.
+pub fn written_over(
+    alloc: Global,
+    keeper: &mut MemKeeper,
+    mut source: MemSource,
+    mut sink: MemSink,
+) -> Result<(u8, Text), Memory>
+    requires free { keeper.old.attached ≡ false }
+    requires running { keeper.old.stopped ≡ false }
+{
+    let words = Texts::new(alloc);
+    let status = status_of(alloc, &words, &mut source, &mut sink, keeper);
+    Ok((status, Text::from_slice(alloc, sink.written())?))
+}
+
+/// Runs a script over no rows, in pieces of `size` bytes and with so much room for what is written; the status, and what
+/// was written.
+pub fn answers_within(
+    alloc: Global,
+    script: &[u8],
+    size: usize,
+    room: usize,
+) -> Result<(u8, Text), Memory> {
+    let mut keeper = MemKeeper::new(alloc, Tables::empty(alloc), 2, Vec::new(alloc));
+    let source = source_of(alloc, script, size, Vec::new(alloc))?;
+    let sink = sink_of(alloc, room, Vec::new(alloc))?;
+    written_over(alloc, &mut keeper, source, sink)
+}
+
+/// The same with room for 4,096 bytes.
+pub fn answers(alloc: Global, script: &[u8], size: usize) -> Result<(u8, Text), Memory> {
+    answers_within(alloc, script, size, 4096)
+}
+
+/// A line with a part that is repeated.
+pub fn push_line(
+    script: &mut Text,
+    head: &[u8],
+    part: &[u8],
+    times: usize,
+    end: &[u8],
+) -> Result<(), Memory> {
+    script.push_slice(head)?;
+    for _ in 0..times {
+        script.push_slice(part)?;
+    }
+    script.push_slice(end)
+}
+
+/// Appends the digits of a number.
+pub fn push_number(script: &mut Text, n: u32) -> Result<(), Memory> {
+    let mut digits = Buffer::new();
+    script.push_slice(digits.format(n).as_bytes())
+}
