@@ -6,9 +6,11 @@ ghost use Rattle.appraiser.specs.Ranks.{rank_of};
 ghost use Rattle.appraiser.specs.Listings.{listed_of, rated_entry, is_above, sorted_by, listing_of};
 
 use crate::{Rules, appraise};
+use row_index::RowIndex;
 use std::alloc::Global;
 use std::cmp::Reverse;
-use tap_base::{DocNum, Memory, Rows, Text};
+use std::sync::ledger::Ledger;
+use tap_base::{DocNum, Memory, Rows, Steps, Text};
 use tap_rows::{Entry, KeptDoc, Listed};
 
 /// What rows are put in order by: the priority from the greatest, the first second, the document.
@@ -30,27 +32,28 @@ fn rank_of(row: &Listed) -> Rank
     }
 }
 
-// The document of a number.
-fn doc_of(docs: &[KeptDoc], num: DocNum) -> Option<&KeptDoc>
-    ensures { option_copied result ≡ row_at num.0 docs.now }
+// The document of a number, with a step.
+fn doc_of<'a, L: Ledger>(
+    index: &'a RowIndex,
+    num: DocNum,
+    steps: &mut Steps<L>,
+) -> Option<&'a KeptDoc>
+    ensures { option_copied result ≡ row_at num.0 index.now.docs }
 {
-    if num.0 == 0 {
-        None
-    } else {
-        docs.get(num.0 as usize - 1)
-    }
+    let _docs = index.docs();
+    index.doc(num, steps)
 }
 
 // An entry with the rating of its document.
 fn rate_entry<'a>(
     alloc: Global,
     rules: &'a Rules,
-    docs: &'a [KeptDoc],
     entry: Entry,
+    doc: Option<&'a KeptDoc>,
 ) -> Result<Listed, Memory>
-    ensures { IfOk result (λ row. row ≡ rated_entry (rules_in rules.now) docs.now entry) }
+    ensures { IfOk result (λ row. row ≡ listed_of (rules_in rules.now) entry (option_copied doc.entry)) }
 {
-    match doc_of(docs, entry.doc) {
+    match doc {
         None => Ok(Listed {
             entry,
             priority: 0,
@@ -68,17 +71,19 @@ fn rate_entry<'a>(
 }
 
 // The entries, each with the rating of its document.
-fn rate_entries<'a>(
+fn rate_entries<'a, L: Ledger>(
     alloc: Global,
     rules: &'a Rules,
-    docs: &'a [KeptDoc],
     entries: &'a [Entry],
+    index: &'a RowIndex,
+    steps: &mut Steps<L>,
 ) -> Result<Vec<Listed>, Memory>
-    ensures { IfOk result (λ rows. rows.items ≡ map (rated_entry (rules_in rules.now) docs.now) entries.now) }
+    ensures { IfOk result (λ rows. rows.items ≡ map (rated_entry (rules_in rules.now) index.now.docs) entries.now) }
 {
     let mut rows = Vec::new(alloc);
     for entry in entries {
-        rows.push(rate_entry(alloc, rules, docs, *entry)?)?;
+        let doc = doc_of(index, entry.doc, steps);
+        rows.push(rate_entry(alloc, rules, *entry, doc)?)?;
     }
     Ok(rows)
 }
@@ -92,17 +97,18 @@ fn sort_rows(rows: &mut Vec<Listed>) -> Result<(), Memory>
 }
 
 /// The entries of a box, each with the rating of its document, in order of priority from the greatest, then of first
-/// second, then of number. An entry whose document isn't there is rated as by no rules. `Memory` comes only for want of
-/// memory.
-pub fn listing<'a>(
+/// second, then of number. The document of each entry is looked up in the index, with a step. An entry whose document isn't
+/// there is rated as by no rules. `Memory` comes only for want of memory.
+pub fn listing<'a, L: Ledger>(
     alloc: Global,
     rules: &'a Rules,
-    docs: &'a [KeptDoc],
     entries: &'a [Entry],
+    index: &'a RowIndex,
+    steps: &mut Steps<L>,
 ) -> Result<Rows<Listed>, Memory>
-    ensures { IfOk result (λ rows. rows ≡ listing_of (rules_in rules.now) docs.now entries.now) }
+    ensures { IfOk result (λ rows. rows ≡ listing_of (rules_in rules.now) index.now.docs entries.now) }
 {
-    let mut rows = rate_entries(alloc, rules, docs, entries)?;
+    let mut rows = rate_entries(alloc, rules, entries, index, steps)?;
     sort_rows(&mut rows)?;
     Ok(Rows::from_vec(rows))
 }

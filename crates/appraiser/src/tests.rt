@@ -1,6 +1,13 @@
-use crate::{RuleFault, read_rules};
+ghost use Rattle.std.specs.Prelude.{◌≡◌, ◌<◌, pos, []};
+
+use crate::{RuleFault, listing, read_rules};
+use row_index::RowIndex;
 use std::alloc::Global;
+use std::marker::Brand;
+use std::sync::ledger::{Blank, Ledger};
 use std::test::Fail;
+use tap_base::{DocNum, Memory, Steps, Text, Texts};
+use tap_rows::{Doc, Entry, Fields, KeptDoc};
 
 // How many rules the text has, or its fault.
 fn rules_or_fault(alloc: Global, text: &[u8]) -> Result<usize, RuleFault> {
@@ -118,5 +125,75 @@ fn each_fault_of_a_rule_has_its_place(rt: HostRuntime) -> Result<(), Fail> {
     for (text, expected) in cases {
         assert_eq!(rt; rules_or_fault(alloc, text), expected);
     }
+    Ok(())
+}
+
+// A document without a text.
+fn blank_doc(alloc: Global, num: u32) -> KeptDoc
+    ensures { result ≡ record { num = record { 0 = num }; arrival = pos 100; text = [] } }
+{
+    let doc = Doc {
+        num: DocNum(num),
+        arrival: 100,
+        text: Text::new(alloc),
+    };
+    let fields = Fields {
+        date: None,
+        from: None,
+        subject: None,
+        msgid: None,
+        inreplyto: None,
+        to: Texts::new(alloc),
+        cc: Texts::new(alloc),
+        newsgroups: Texts::new(alloc),
+        references: Texts::new(alloc),
+        words: Texts::new(alloc),
+        size: 0,
+    };
+    KeptDoc::new(doc, fields)
+}
+
+// Two documents.
+fn two_docs(alloc: Global) -> Result<RowIndex, Memory> {
+    let mut index = RowIndex::new(alloc);
+    index.add_doc(blank_doc(alloc, 1))?;
+    index.add_doc(blank_doc(alloc, 2))?;
+    Ok(index)
+}
+
+// The numbers and priorities of a box of both, rated by a rule for the second.
+fn listed<L: Ledger>(alloc: Global, blank: Blank) -> Result<Option<[(u32, u32); 2]>, Memory>
+    requires name { blank.name ≡ L.name }
+    requires parts { blank.parts ≡ L.parts }
+    requires some { 0 < blank.parts }
+{
+    let Ok(rules) = read_rules(alloc, b"WHEN m.id = 2 PRIORITY 5 CLASS 'a'\n") else {
+        return Ok(None);
+    };
+    let index = two_docs(alloc)?;
+    let entries = [
+        Entry {
+            doc: DocNum(1),
+            first: 100,
+            run: 1,
+        },
+        Entry {
+            doc: DocNum(2),
+            first: 101,
+            run: 1,
+        },
+    ];
+    let mut steps = Steps::<L>::start(blank);
+    let rows = listing(alloc, &rules, &entries, &index, &mut steps)?;
+    let [a, b] = rows.as_slice() else {
+        return Ok(None);
+    };
+    Ok(Some([(a.entry.doc.0, a.priority), (b.entry.doc.0, b.priority)]))
+}
+
+#[test]
+fn a_box_is_listed_by_priority(rt: HostRuntime) -> Result<(), Memory> {
+    let rows = listed::<Brand>(rt.alloc(), Blank::new(1))?;
+    assert!(rt; rows == Some([(2, 5), (1, 0)]));
     Ok(())
 }

@@ -16,11 +16,12 @@ use crate::engine::Engine;
 use crate::entries::copy_entries;
 use crate::kept_filter::KeptFilter;
 use appraiser::{Rules, listing};
+use row_index::RowIndex;
 use script_lang::{Refusal, Reply};
 use std::alloc::Global;
 use std::sync::ledger::Ledger;
 use tap_base::{Memory, Rows, Steps, Text};
-use tap_rows::{Entry, KeptDoc, Listed};
+use tap_rows::{Entry, Listed};
 
 // The last of the user's filters.
 fn last_filter<'a>(filters: &'a [KeptFilter], user: &[u8]) -> Option<&'a KeptFilter>
@@ -37,17 +38,18 @@ fn last_filter<'a>(filters: &'a [KeptFilter], user: &[u8]) -> Option<&'a KeptFil
 }
 
 // The entries of a box, rated by a filter, or by no rules where there is none.
-fn rate<'a>(
+fn rate<'a, L: Ledger>(
     alloc: Global,
     filter: Option<&'a KeptFilter>,
-    docs: &'a [KeptDoc],
     entries: &'a [Entry],
+    index: &'a RowIndex,
+    steps: &mut Steps<L>,
 ) -> Result<Rows<Listed>, Memory>
-    ensures { IfOk result (λ rows. rows ≡ listing_of (filter_rules (option_copied filter.entry)) docs.now entries.now) }
+    ensures { IfOk result (λ rows. rows ≡ listing_of (filter_rules (option_copied filter.entry)) index.now.docs entries.now) }
 {
     match filter {
-        Some(kept) => listing(alloc, kept.rules(), docs, entries),
-        None => listing(alloc, &Rules::none(alloc), docs, entries),
+        Some(kept) => listing(alloc, kept.rules(), entries, index, steps),
+        None => listing(alloc, &Rules::none(alloc), entries, index, steps),
     }
 }
 
@@ -82,12 +84,7 @@ impl Engine {
         let kept = self.look(name)?;
         let filter = last_filter(self.filters.as_slice(), self.user_name());
         let entries = copy_entries(alloc, &kept.entries)?;
-        let rows = rate(
-            alloc,
-            filter,
-            self.index.every_doc(steps),
-            entries.as_slice(),
-        )?;
+        let rows = rate(alloc, filter, entries.as_slice(), &self.index, steps)?;
         Ok(rows)
     }
 

@@ -5,4 +5,4 @@ use Rattle.appraiser.proofs.listings.rate_entries.Given as goal
 
 -- the rows are those so far and those of the entries that are left
 abbrev pub invariant-loop-entry : goal.invariant-loop-entry
-invariant-loop-entry l = map (rated_entry (rules_in l.rules) l.docs) l.entries ≡ l.rows.items ++ map (rated_entry (rules_in l.rules) l.docs) (drop l.entry-index l.entries)
+invariant-loop-entry g l = map (rated_entry (rules_in l.rules) l.index.docs) l.entries ≡ l.rows.items ++ map (rated_entry (rules_in l.rules) l.index.docs) (drop l.entry-index l.entries)
