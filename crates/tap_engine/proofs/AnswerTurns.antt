@@ -18,10 +18,10 @@ use Rattle.script_lang.specs.declared.refusal.Refusal.{Refusal}
 use Rattle.script_lang.specs.declared.refusal.Refusal.TheVariants.{Memory}
 use Rattle.tap_model.specs.Verdicts.{verdict, is_early}
 use Rattle.tap_model.specs.Replies.{answer_of, answer_by, accepted}
-use Rattle.tap_engine.specs.declared.kept_query.KeptQuery.{KeptQuery}
+use Rattle.tap_kept.specs.declared.kept_query.KeptQuery.{KeptQuery}
 use Rattle.tap_engine.specs.declared.engine.Engine.{Engine}
 use Rattle.tap_engine.specs.declared.undo.Undo.TheVariants.{Docs, Note as OneNote, Query, Filter}
-use Rattle.tap_engine.specs.Keeping.{with_owner}
+use Rattle.tap_kept.specs.Keeping.{with_owner}
 use Rattle.tap_engine.specs.Standing.{RefusedBy}
 use Rattle.tap_engine.specs.Answering.{Answers, TakesBack}
 

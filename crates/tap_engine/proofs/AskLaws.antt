@@ -21,7 +21,7 @@ use Rattle.tap_model.specs.Queries.{condition_in}
 use Rattle.tap_model.specs.Verdicts.{first_refusal, verdict, missing, unless, no_moment, text_fault, not_over}
 use Rattle.tap_model.specs.Replies.{ask_at}
 use Rattle.tap_model.specs.Stories.{Refuses}
-use Rattle.tap_engine.proofs.TextLaws.{read-fine}
+use Rattle.tap_kept.proofs.TextLaws.{read-fine}
 use Rattle.tap_engine.specs.Answering.{Answers}
 use Rattle.tap_engine.proofs.AnswerTurns.{answers-accepted}
 

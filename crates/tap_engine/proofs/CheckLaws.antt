@@ -14,7 +14,7 @@ use Rattle.tql_text.specs.declared.fault.TextFault.{TextFault}
 use Rattle.tql_text.specs.declared.fault.TextFault.TheVariants as T
 use Rattle.tql_text.specs.Texts.{condition_of}
 use Rattle.tap_model.proofs.AnswerLaws.{some-none, find-in, truth-of-second}
-use Rattle.tap_engine.proofs.PlanLaws.{covered-each}
+use Rattle.tap_kept.proofs.PlanLaws.{covered-each}
 use Rattle.tap_engine.proofs.ReadyLaws.{some-moment}
 use Rattle.tap_model.proofs.WindowLaws.{run-of-sound}
 use Rattle.tap_rows.specs.Kept.{In, Each}
@@ -27,13 +27,13 @@ use Rattle.tap_model.specs.declared.limits.TheConstants.{USER_QUERY_LIMIT, QUERY
 use Rattle.tap_model.specs.declared.session.Session.{Session}
 use Rattle.tap_engine.specs.declared.engine.Engine.{Engine}
 use Rattle.tap_model.specs.Sessions.{or_zero, user_of, present}
-use Rattle.tap_engine.specs.declared.kept_query.KeptQuery.{KeptQuery}
+use Rattle.tap_kept.specs.declared.kept_query.KeptQuery.{KeptQuery}
 use Rattle.tap_model.specs.Queries.{is_named, query_named, truth_of, start_of, hits_of}
 use Rattle.tap_rows.specs.Results.{covered}
 use Rattle.restart_core.specs.Starts.{condition_text, stored_source}
 use Rattle.tap_model.specs.Limits.{passes}
 use Rattle.tap_model.specs.Verdicts.{first_refusal, verdict, missing, unless, no_moment, no_user, bad_name, reading_refusal, text_fault, is_early, hits_found}
-use Rattle.tap_engine.specs.Keeping.{kept_query, named_in, owned_in, hits_since}
+use Rattle.tap_kept.specs.Keeping.{kept_query, named_in, owned_in, hits_since}
 use Rattle.tap_engine.specs.Standing.{StandsFor, name_refusal, query_limits, define_refusal, query_refusal, look_refusal, run_refusal, kept_named, hits_kept, entries_kept, RefusedBy}
 use Rattle.tap_model.specs.Sound.{Sound, IsNow}
 use Rattle.tap_model.specs.Stories.{Refuses}

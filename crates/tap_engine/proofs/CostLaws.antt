@@ -24,10 +24,11 @@ use Rattle.script_lang.specs.declared.command.Command.TheVariants.{Run}
 use Rattle.tap_model.specs.Sessions.{or_zero, user_of}
 use Rattle.tap_model.specs.Queries.{probes_in, query_named}
 use Rattle.tap_engine.specs.declared.engine.Engine.{Engine}
-use Rattle.tap_engine.specs.declared.kept_query.KeptQuery.{KeptQuery}
-use Rattle.tap_engine.specs.Keeping.{kept_query}
+use Rattle.tap_kept.specs.declared.kept_query.KeptQuery.{KeptQuery}
+use Rattle.tap_kept.specs.Keeping.{kept_query}
 use Rattle.tap_engine.specs.Standing.{StandsFor, kept_named}
-use Rattle.tap_engine.specs.Costs.{IsQuiet, AreAlone, rows_due, window_since, next_window, IsQuietQuery, IsShortQuery, query_due, IsQuietRun, IsShortRun, run_due}
+use Rattle.tap_kept.specs.Costs.{IsQuiet, AreAlone, rows_due, window_since}
+use Rattle.tap_engine.specs.Costs.{next_window, IsQuietQuery, IsShortQuery, query_due, IsQuietRun, IsShortRun, run_due}
 use Rattle.tap_engine.proofs.CheckLaws.{named-is}
 
 abbrev alone : Tables → Tables
@@ -65,23 +66,6 @@ work-alone t (Exists v table x) env =
 
 due-alone : (t : Tables) (w : Window) (p : Probe) → runs.rows_due (alone t) w p ≡ runs.rows_due t w p
 due-alone t w p = total-same (λ d. 1 + work (alone t) p.body (asked_of d)) (λ d. 1 + work t p.body (asked_of d)) (filter (λ d. lies_in w (value p.at (asked_of d))) t.docs) (λ d. ap (λ n. 1 + n) (work-alone t p.body (asked_of d)))
-
--- a window of these ends
-abbrev within : ℤ → ℤ → Window
-within low high = record { low = low; high = high }
-
--- what a run of a plan tells is told of the query's probes
-pub quiet-since : {A : Type 0} (X : List Probe) (T : Tables) (kept : KeptQuery) (low high moment : ℤ) → X ≡ probes_in kept.row → low ≡ kept.covered → high ≡ moment
-    → (((p : Probe) → In p X → runs.IsQuiet T (within low high) p) → A) → IsQuiet T (window_since kept moment) kept.row → A
-quiet-since X T kept low high moment is from to tells quiet =
-    tells (λ p has. subst (λ z. runs.IsQuiet T (within z high) p) (sym from) (subst (λ z. runs.IsQuiet T (within kept.covered z) p) (sym to) (quiet p (subst (In p) is has))))
-
-pub due-since : (X : List Probe) (T : Tables) (kept : KeptQuery) (low high moment : ℤ) (new old : ℕ) → X ≡ probes_in kept.row → low ≡ kept.covered → high ≡ moment
-    → (((p : Probe) → In p X → runs.IsAlone p) → new ≤ old + total (runs.rows_due T (within low high)) X) → AreAlone kept.row → new ≤ old + rows_due T (window_since kept moment) kept.row
-due-since X T kept low high moment new old is from to tells are =
-    subst (λ z. new ≤ old + total (runs.rows_due T (within z moment)) (probes_in kept.row)) from
-    (subst (λ z. new ≤ old + total (runs.rows_due T (within low z)) (probes_in kept.row)) to
-    (subst (λ Y. new ≤ old + total (runs.rows_due T (within low high)) Y) is (tells (λ p has. are p (subst (In p) is has)))))
 
 no-kept : (kept : KeptQuery) → Some kept ≡ None → ⊥
 no-kept kept e = cc

@@ -22,7 +22,7 @@ use Rattle.tap_rows.proofs.RunLaws.{last-more}
 use Rattle.script_lang.specs.declared.command.Command.TheVariants.{Run}
 use Rattle.script_lang.specs.declared.reply.Reply.TheVariants.{Ran}
 use Rattle.tap_model.specs.declared.session.Session.{Session}
-use Rattle.tap_engine.specs.declared.kept_query.KeptQuery.{KeptQuery}
+use Rattle.tap_kept.specs.declared.kept_query.KeptQuery.{KeptQuery}
 use Rattle.query_eval.specs.Hits.{HitsWithRoom}
 use Rattle.tap_model.specs.Sound.{Sound}
 use Rattle.tap_engine.specs.declared.engine.Engine.{Engine}
@@ -30,12 +30,13 @@ use Rattle.tap_engine.specs.declared.run.Due.{Due}
 use Rattle.tap_model.specs.Sessions.{user_of, present}
 use Rattle.tap_model.specs.Queries.{is_named, query_named, hits_of, truth_of, start_of}
 use Rattle.tap_model.specs.Verdicts.{verdict}
-use Rattle.tap_engine.specs.Keeping.{kept_query, after_run}
+use Rattle.tap_kept.specs.Keeping.{kept_query, after_run}
 use Rattle.tap_engine.specs.Standing.{StandsFor, kept_named, hits_kept, due_of}
 use Rattle.tap_model.specs.Replies.{run_query}
 use Rattle.tap_model.proofs.AnswerLaws.{find-in}
 use Rattle.tap_engine.specs.Answering.{Answers}
 use Rattle.tap_engine.proofs.AnswerTurns.{answers-accepted}
+use Rattle.tap_kept.proofs.PlaceLaws.{placed, placed-set}
 use Rattle.tap_engine.proofs.CheckLaws.{named-is, hits-of-query}
 
 -- what is due is due to a query that there is
@@ -65,34 +66,6 @@ due-is e t name due stands sound there is = go (query_named (user_of e.session) 
     is = same-due due (record { query = q.num; moment = present e.session; runs = length (run_moments q.num.0 t.runs); hits = hits_kept e (Some (kept_query t q)) }) (kept ∙ ap (λ o. due_of e (option_map (kept_query t) o)) some)
         ∙ ap (λ hits. record { query = q.num; moment = present e.session; runs = length (run_moments q.num.0 t.runs); hits = hits }) (hits-of-query e t q stands sound (find-in (is_named (user_of e.session) name) t.queries q some) there);
   }
-
--- a query has no more runs than there are
-pub runs-few : (query : ℕ) (runs : List RunRow) → length (run_moments query runs) ≤ length runs
-runs-few query [] = omega arith
-runs-few query (run ∷ runs) =
-    let rest = runs-few query runs in
-    elim (run.query.0 == query) as (λ b. length (map (λ run. run.moment) (if b then run ∷ runs_of query runs else runs_of query runs)) ≤ suc (length runs)) [ true ↦ omega (arith, rest) | false ↦ omega (arith, rest) ]
-
--- what is kept of a query stands at the place of its number
-pub placed : (f : QueryRow → KeptQuery) (k i : ℕ) (qs : List QueryRow) (q : QueryRow) (d : KeptQuery) → QueriesFrom k qs → In q qs → q.num.0 ≡ k + i → slice_index_or (map f qs) i d ≡ f q
-placed f k i [] q d from has at = absurd has
-placed f k zero (x ∷ qs) q d from (inl e) at = ap f (sym e)
-placed f k (suc i) (x ∷ qs) q d from (inl e) at = absurd (let is : q.num.0 ≡ k = ap (λ row. row.num.0) e ∙ from.0 in omega (arith, is, at))
-placed f k zero (x ∷ qs) q d from (inr h) at = absurd (let bounds = query-bounds (suc k) qs q from.1 h in omega (arith, bounds.0, at))
-placed f k (suc i) (x ∷ qs) q d from (inr h) at = placed f (suc k) i qs q d from.1 h (omega (arith, at))
-
-others-same : (f g : QueryRow → KeptQuery) (k : ℕ) (qs : List QueryRow) (q : QueryRow) → QueriesFrom k qs → q.num.0 < k → ((other : QueryRow) → (q.num.0 ≡ other.num.0 → ⊥) → g other ≡ f other) → map f qs ≡ map g qs
-others-same f g k [] q from lt same = refl
-others-same f g k (x ∷ qs) q from lt same = rw (same x (λ e. absurd (omega (arith, e, from.0, lt))), others-same f g (suc k) qs q from.1 (omega (arith, lt)) same) refl
-
--- where one query changes, it alone is written
-pub placed-set : (f g : QueryRow → KeptQuery) (k i : ℕ) (qs : List QueryRow) (q : QueryRow) → QueriesFrom k qs → In q qs → q.num.0 ≡ k + i → ((other : QueryRow) → (q.num.0 ≡ other.num.0 → ⊥) → g other ≡ f other) → slice_set (map f qs) i (g q) ≡ map g qs
-placed-set f g k i [] q from has at same = absurd has
-placed-set f g k zero (x ∷ qs) q from (inl e) at same = rw (ap g e, others-same f g (suc k) qs q from.1 (omega (arith, at)) same) refl
-placed-set f g k (suc i) (x ∷ qs) q from (inl e) at same = absurd (let is : q.num.0 ≡ k = ap (λ row. row.num.0) e ∙ from.0 in omega (arith, is, at))
-placed-set f g k zero (x ∷ qs) q from (inr h) at same = absurd (let bounds = query-bounds (suc k) qs q from.1 h in omega (arith, bounds.0, at))
-placed-set f g k (suc i) (x ∷ qs) q from (inr h) at same =
-    rw (same x (λ e. absurd (omega (arith, e, from.0, at)))) (ap (λ rest. f x ∷ rest) (placed-set f g (suc k) i qs q from.1 h (omega (arith, at)) same))
 
 abbrev kept_as : QueryRow → ℤ → ℕ → List Entry → KeptQuery
 kept_as row covered runs entries = record { row = row; covered = covered; runs = runs; entries = entries }

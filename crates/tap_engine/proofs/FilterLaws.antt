@@ -46,7 +46,7 @@ use Rattle.tap_model.specs.Sound.{Sound}
 use Rattle.tap_model.specs.Stories.{Refuses}
 use Rattle.tap_model.proofs.AnswerLaws.{some-none, find-in, truth-of-second}
 use Rattle.tap_engine.specs.declared.engine.Engine.{Engine}
-use Rattle.tap_engine.specs.Keeping.{kept_query, with_owner}
+use Rattle.tap_kept.specs.Keeping.{kept_query, with_owner}
 use Rattle.tap_engine.specs.Standing.{StandsFor, RefusedBy, look_refusal, kept_named}
 use Rattle.tap_engine.specs.FilterChecks.{filter_limits, filter_refusal}
 use Rattle.tap_engine.specs.Lists.{rows_kept, lines_kept}

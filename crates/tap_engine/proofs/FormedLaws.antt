@@ -15,7 +15,7 @@ use Rattle.row_index.specs.Orders.{doc_number, doc_arrival, note_number, note_ar
 use Rattle.tap_rows.specs.Kept.{Each, HasRun, RunsFrom, QueriesFrom}
 use Rattle.tap_rows.specs.WellFormed.{may_follow, row_at, is_row, docs_stand, doc_stands, note_stands, notes_stand, query_stands, queries_stand, run_stands, runs_stand, is_picked, pick_stands, picks_stand, is_well_formed}
 use Rattle.tap_model.specs.Sound.{IsMoment}
-use Rattle.tap_engine.specs.Starting.{IsOneOf, AreStanding, AreLeft, AreOnce}
+use Rattle.tap_kept.specs.Starting.{IsOneOf, AreStanding, AreLeft, AreOnce}
 
 equal : (a b : ℕ) → (a == b) ≡ true → a ≡ b
 equal a b e = grind arith

@@ -7,7 +7,7 @@ use Rattle.std.proofs.lemmas.List.Folds.{list_any-append}
 use Rattle.std.proofs.lemmas.Slice.Eq.{bytes_eq-Decides}
 use Rattle.tap_base.specs.Words.{holds}
 use Rattle.tap_model.specs.Limits.{different}
-use Rattle.tap_engine.specs.Keeping.{with_owner}
+use Rattle.tap_kept.specs.Keeping.{with_owner}
 
 same-text : (x y : List ℕ) → bytes_eq x y ≡ true → x ≡ y
 same-text x y e = search (rules, bytes_eq-Decides)

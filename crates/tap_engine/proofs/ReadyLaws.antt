@@ -22,10 +22,10 @@ use Rattle.tap_model.specs.Sessions.{or_zero, present}
 use Rattle.tap_model.specs.Sound.{IsMoment}
 use Rattle.tap_model.specs.Verdicts.{is_back, unless}
 use Rattle.tap_model.proofs.AnswerLaws.{some-none}
-use Rattle.tap_engine.specs.declared.kept_query.KeptQuery.{KeptQuery}
+use Rattle.tap_kept.specs.declared.kept_query.KeptQuery.{KeptQuery}
 use Rattle.tap_engine.specs.declared.engine.Engine.{Engine}
 use Rattle.tap_engine.specs.declared.run.Due.{Due}
-use Rattle.tap_engine.specs.Keeping.{named_in, new_kept, after_run, before_run, without_run}
+use Rattle.tap_kept.specs.Keeping.{named_in, new_kept, after_run, before_run, without_run}
 use Rattle.tap_engine.specs.Ready.{KeptFrom, RowsBy, IsTime, IsReady}
 use Rattle.tap_engine.specs.Standing.{kept_named, hits_kept, due_of}
 use Rattle.tap_engine.specs.Answering.{IsStill, TakesBack, undo_run}
@@ -138,12 +138,6 @@ undo-run e e' h i m entries runs picks d lt room is = subst (λ e'. TakesBack (u
   there = subst (λ n. i < n) (sym (length-set i e.queries (after_run m entries (slice_index_or e.queries i d)))) lt;
   before_is = record { same = ap (λ l. record e { hits = h; queries = l }) (run-back i e.queries m entries d); room = room };
 })
-
--- the run at a place is taken back by writing what is kept there
-pub without-set : (i runs entries : ℕ) (covered : ℤ) (queries : List KeptQuery) (d : KeptQuery) → i < length queries → slice_set queries i (before_run covered runs entries (slice_index_or queries i d)) ≡ without_run i covered runs entries queries
-without-set i runs entries covered [] d lt = absurd (omega (arith, lt))
-without-set zero runs entries covered (kept ∷ queries) d lt = refl
-without-set (suc i) runs entries covered (kept ∷ queries) d lt = ap (λ l. kept ∷ l) (without-set i runs entries covered queries d (omega (arith, lt)))
 
 -- documents more, that arrive at the session's moment
 each-from : (num : ℕ) (moment : ℤ) (texts : List (List ℕ)) → Each (λ doc. doc.arrival ≤ℤ moment) (docs_from num moment texts)

@@ -14,7 +14,7 @@ use Rattle.tap_engine.specs.declared.engine.Engine.{Engine}
 use Rattle.tap_base.specs.Words.{holds}
 use Rattle.tap_model.specs.Limits.{different}
 use Rattle.tap_model.specs.Queries.{truth_of, start_of}
-use Rattle.tap_engine.specs.Keeping.{kept_query, new_kept, with_owner}
+use Rattle.tap_kept.specs.Keeping.{kept_query, new_kept, with_owner}
 use Rattle.tap_engine.specs.Standing.{StandsFor}
 use Rattle.tap_engine.proofs.OwnerLaws.{users-more, owners-more}
 

@@ -13,21 +13,21 @@ use Rattle.row_index.specs.Rows.{rows_alone}
 use Rattle.tap_model.specs.Queries.{start_of}
 use Rattle.tap_model.specs.Sound.{IsMoment}
 use Rattle.tap_model.proofs.SoundLaws.{start-moment}
-use Rattle.tap_engine.proofs.PlanLaws.{covered-each}
+use Rattle.tap_kept.proofs.PlanLaws.{covered-each}
 use Rattle.tap_rows.specs.Kept.{Each, QueriesFrom}
 use Rattle.tap_rows.proofs.LaterLaws.{each-map}
 use Rattle.tap_model.specs.Limits.{stored_bytes, owners_in, different}
 use Rattle.tap_model.specs.Sessions.{no_session, later_of, greatest_of, greatest_moment}
 use Rattle.tap_engine.specs.declared.engine.Engine.{Engine}
-use Rattle.tap_engine.specs.Keeping.{kept_query, with_owner}
+use Rattle.tap_kept.specs.Keeping.{kept_query, with_owner}
 use Rattle.tap_engine.specs.Standing.{StandsFor}
 use Rattle.tap_rows.specs.declared.rows.FilterRow.{FilterRow}
 use Rattle.tap_model.specs.Verdicts.{filter_fault}
-use Rattle.tap_engine.specs.declared.start.StartFault.{StartFault}
-use Rattle.tap_engine.specs.declared.start.StartFault.TheVariants.{Rules, Memory}
+use Rattle.tap_kept.specs.declared.start_fault.StartFault.{StartFault}
+use Rattle.tap_kept.specs.declared.start_fault.StartFault.TheVariants.{Rules, Memory}
 use Rattle.tap_engine.specs.Ready.{KeptFrom, RowsBy, IsTime, IsReady}
-use Rattle.tap_engine.specs.Starting.{runs_alone, first_unread}
-use Rattle.tap_engine.proofs.DueLaws.{runs-few}
+use Rattle.tap_kept.specs.Starting.{runs_alone, first_unread}
+use Rattle.tap_kept.proofs.PlaceLaws.{runs-few}
 use Rattle.tap_engine.proofs.OwnerLaws.{users-more, owners-more}
 use Rattle.tap_engine.proofs.FormedLaws.{Formed}
 

@@ -6,8 +6,8 @@ use Rattle.std.proofs.lemmas.List.Sums.{sum_by-append}
 use Rattle.tap_rows.specs.declared.tables.Tables.{Tables}
 use Rattle.tap_model.specs.Limits.{stored_bytes}
 use Rattle.tap_model.specs.Sessions.{later_of, greatest_of, greatest_moment}
-use Rattle.tap_engine.specs.declared.sums.Sums.{Sums}
-use Rattle.tap_engine.specs.Starting.{added, summed, sums_of}
+use Rattle.tap_kept.specs.declared.sums.Sums.{Sums}
+use Rattle.tap_kept.specs.Starting.{added, summed, sums_of}
 
 bytes-are : {A : Type 0} (moment : A → ℤ) (bytes : A → ℕ) (sums : Sums) (rows : List A) → (summed moment bytes sums rows).bytes ≡ sums.bytes + sum_by bytes rows
 bytes-are moment bytes sums [] = none sums.bytes where

@@ -12,8 +12,8 @@ use Rattle.script_lang.specs.declared.refusal.Refusal.TheVariants.{Memory}
 use Rattle.tap_model.specs.declared.session.Session.{Session}
 use Rattle.tap_model.specs.Verdicts.{verdict}
 use Rattle.tap_model.specs.Replies.{answer_of}
-use Rattle.tap_engine.specs.declared.kept_query.KeptQuery.{KeptQuery}
-use Rattle.tap_engine.specs.Keeping.{without_run}
+use Rattle.tap_kept.specs.declared.kept_query.KeptQuery.{KeptQuery}
+use Rattle.tap_kept.specs.Keeping.{without_run}
 use Rattle.tap_engine.specs.declared.engine.Engine.{Engine}
 use Rattle.tap_engine.specs.declared.fault.EngineFault.{EngineFault}
 use Rattle.tap_engine.specs.declared.fault.EngineFault.TheVariants.{KeeperFailed}

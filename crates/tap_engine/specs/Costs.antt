@@ -3,37 +3,17 @@ use Rattle.std.specs.Prelude.{⊤, ℕ, ℤ, List, Option, Some, None}
 use Rattle.tap_rows.specs.declared.tables.Tables.{Tables}
 use Rattle.tap_rows.specs.declared.rows.QueryRow.{QueryRow}
 use Rattle.tap_rows.specs.Results.{covered}
-use Rattle.tql_core.specs.Scope.{In}
 use Rattle.time_marks.specs.declared.window.Window.{Window}
-use Rattle.time_marks.specs.Probes.{Probe}
-use Rattle.query_eval.specs.Runs as runs
-use Rattle.query_eval.specs.Work.{total}
 use Rattle.script_lang.specs.declared.command.Command.{Command}
 use Rattle.script_lang.specs.declared.command.Command.TheVariants.{Run}
 use Rattle.tap_model.specs.declared.session.Session.{Session}
 use Rattle.tap_model.specs.Sessions.{present, user_of}
-use Rattle.tap_model.specs.Queries.{start_of, probes_in, query_named}
-use Rattle.tap_engine.specs.declared.kept_query.KeptQuery.{KeptQuery}
-
--- no probe of the query has a mark in the window
-abbrev pub IsQuiet : Tables → Window → QueryRow → Type 0
-IsQuiet rows w query = (p : Probe) → In p (probes_in query) → runs.IsQuiet rows w p
-
--- the path of each probe of the query is the document alone
-abbrev pub AreAlone : QueryRow → Type 0
-AreAlone query = (p : Probe) → In p (probes_in query) → runs.IsAlone p
-
--- for each probe of the query a step for each document whose mark lies in the window, and the work of the body there
-abbrev pub rows_due : Tables → Window → QueryRow → ℕ
-rows_due rows w query = total (runs.rows_due rows w) (probes_in query)
+use Rattle.tap_model.specs.Queries.{start_of, query_named}
+use Rattle.tap_kept.specs.Costs.{IsQuiet, AreAlone, rows_due}
 
 -- the window of a query's next run: from the second that it has covered up to a moment
 abbrev pub next_window : Tables → QueryRow → ℤ → Window
 next_window tables query moment = record { low = covered (start_of query) query.num.0 tables.runs; high = moment }
-
--- the same, by what is kept of the query
-abbrev pub window_since : KeptQuery → ℤ → Window
-window_since kept moment = record { low = kept.covered; high = moment }
 
 -- there is no such query, or no probe of it has a mark in the window of its next run
 abbrev pub IsQuietQuery : Option QueryRow → Session → Tables → Type 0

@@ -1,8 +1,6 @@
-pub mod Keeping
 pub mod Standing
 pub mod Ready
 pub mod Answering
 pub mod FilterChecks
 pub mod Lists
-pub mod Starting
 pub mod Costs

@@ -6,7 +6,7 @@ use Rattle.tap_model.specs.Sessions.{user_of}
 use Rattle.tap_model.specs.Queries.{lines_of}
 use Rattle.tap_model.specs.Filters.{last_filter, filter_rules}
 use Rattle.tap_engine.specs.declared.engine.Engine.{Engine}
-use Rattle.tap_engine.specs.declared.kept_query.KeptQuery.{KeptQuery}
+use Rattle.tap_kept.specs.declared.kept_query.KeptQuery.{KeptQuery}
 
 -- what a query has delivered, rated by the user's last filter
 abbrev pub rows_kept : Engine → Option KeptQuery → Option (List Listed)

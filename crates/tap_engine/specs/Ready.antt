@@ -4,7 +4,7 @@ use Rattle.std.specs.Option.{option_or}
 use Rattle.tap_rows.specs.Kept.{Each}
 use Rattle.row_index.specs.Orders.{doc_arrival, note_arrival}
 use Rattle.tap_model.specs.Sound.{IsMoment}
-use Rattle.tap_engine.specs.declared.kept_query.KeptQuery.{KeptQuery}
+use Rattle.tap_kept.specs.declared.kept_query.KeptQuery.{KeptQuery}
 use Rattle.tap_engine.specs.declared.engine.Engine.{Engine}
 
 -- the queries have their places as numbers, from this one on, none had more runs than there were of all, and what each has

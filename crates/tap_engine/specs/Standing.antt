@@ -11,7 +11,7 @@ use Rattle.script_lang.specs.declared.refusal.Refusal.{Refusal}
 use Rattle.script_lang.specs.declared.refusal.Refusal.TheVariants.{Taken, NoQuery, Memory}
 use Rattle.script_lang.specs.declared.refusal.LimitName.TheVariants.{Documents, Notes, Queries, AllQueries, Users, Runs, Picks, Store}
 use Rattle.tap_model.specs.declared.limits.TheConstants.{DOCUMENT_LIMIT, NOTE_LIMIT, USER_QUERY_LIMIT, QUERY_LIMIT, USER_LIMIT, RUN_LIMIT, PICK_LIMIT, STORE_LIMIT}
-use Rattle.tap_engine.specs.declared.kept_query.KeptQuery.{KeptQuery}
+use Rattle.tap_kept.specs.declared.kept_query.KeptQuery.{KeptQuery}
 use Rattle.tap_engine.specs.declared.engine.Engine.{Engine}
 use Rattle.tap_engine.specs.declared.run.Due.{Due}
 use Rattle.tap_model.specs.declared.session.Session.{Session}
@@ -19,7 +19,7 @@ use Rattle.tap_model.specs.Sessions.{present, user_of, greatest_moment}
 use Rattle.tap_model.specs.Limits.{stored_bytes, owners_in, different, passes}
 use Rattle.tap_model.specs.Verdicts.{missing, unless, first_refusal, no_moment, no_user, bad_name, text_fault, messages_of, long_message, long_block, bytes_of, no_doc, long_note, is_early}
 use Rattle.restart_core.specs.Starts.{condition_text, stored_source}
-use Rattle.tap_engine.specs.Keeping.{kept_query, named_in, owned_in, hits_since}
+use Rattle.tap_kept.specs.Keeping.{kept_query, named_in, owned_in, hits_since}
 
 -- the engine stands for the tables: its index owns their documents and notes, and it keeps their queries and filters, how
 -- many runs and picks there are, how many bytes they store, and who owns a query or a filter; before the session has a moment

@@ -10,12 +10,12 @@ ghost use Rattle.tap_model.specs.Verdicts.{unless};
 
 use crate::engine::Engine;
 use crate::sessions::second_of;
-use crate::text::read_text;
 use script_lang::{Refusal, Reply};
 use snapshot_meaning::gives;
 use std::alloc::Global;
 use std::sync::ledger::Ledger;
 use tap_base::Steps;
+use tap_kept::read_text;
 
 // Refuses a second that isn't over.
 fn refuse_open(second: i64, now: i64) -> Result<(), Refusal>

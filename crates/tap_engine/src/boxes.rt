@@ -7,10 +7,10 @@ ghost use Rattle.tap_model.specs.Sound.{Sound};
 ghost use Rattle.tap_model.specs.Stories.{Refuses};
 
 use crate::engine::Engine;
-use crate::entries::copy_entries;
 use script_lang::{Refusal, Reply};
 use std::alloc::Global;
 use tap_base::{Memory, Rows, Text};
+use tap_kept::copy_entries;
 use tap_rows::Entry;
 
 impl Engine {

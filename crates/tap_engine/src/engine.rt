@@ -1,12 +1,11 @@
 ghost use Rattle.std.specs.Prelude.{◌≡◌, false, length};
 ghost use Rattle.tap_rows.specs.Tables.{no_rows};
 
-use crate::kept_filter::KeptFilter;
-use crate::kept_queries::KeptQueries;
 use query_eval::Hits;
 use row_index::RowIndex;
 use std::alloc::Global;
 use tap_base::{Rows, Texts};
+use tap_kept::{KeptFilter, KeptQueries};
 use tap_model::Session;
 
 /// What is kept of the tables, so that a command is answered at the cost of what it looks at: the documents and notes with

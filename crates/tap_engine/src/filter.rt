@@ -13,11 +13,10 @@ ghost use Rattle.tap_model.specs.Sound.{Sound};
 ghost use Rattle.tap_model.specs.Replies.{tables_after};
 ghost use Rattle.tap_model.specs.Stories.{Refuses};
 ghost use Rattle.tap_model.specs.Verdicts.{first_refusal, rule_refusal, filter_fault, long_filter, text_of};
-ghost use Rattle.tap_engine.specs.Keeping.{with_owner};
+ghost use Rattle.tap_kept.specs.Keeping.{with_owner};
 
 use crate::define::push_owner;
 use crate::engine::Engine;
-use crate::kept_filter::KeptFilter;
 use crate::limits::refuse_more;
 use crate::prepared::Prepared;
 use crate::undo::Undo;
@@ -26,6 +25,7 @@ use mail_lines::Block;
 use script_lang::{FILTER_LIMIT, LimitName, Refusal, Reply};
 use std::alloc::Global;
 use tap_base::{Copied, Memory, Rows, Text, Texts};
+use tap_kept::KeptFilter;
 use tap_model::{FILTER_ROW_LIMIT, STORE_LIMIT, USER_LIMIT};
 use tap_rows::{Change, FilterRow};
 

@@ -4,18 +4,10 @@
 mod ask;
 mod boxes;
 mod define;
-mod deliveries;
 mod engine;
-mod entries;
 mod explain;
 mod fault;
 mod filter;
-mod index_rows;
-mod keep;
-mod kept_filter;
-mod kept_queries;
-mod kept_query;
-mod kept_row;
 mod limits;
 mod lists;
 mod look;
@@ -27,19 +19,13 @@ mod prepared;
 mod run;
 mod sessions;
 mod start;
-mod sums;
 mod take_back;
-mod text;
 mod undo;
 
 pub use engine::Engine;
 pub use fault::EngineFault;
-pub use kept_filter::KeptFilter;
-pub use kept_queries::KeptQueries;
-pub use kept_query::KeptQuery;
-pub use kept_row::KeptRow;
 pub use prepared::Prepared;
-pub use start::StartFault;
+pub use tap_kept::StartFault;
 pub use undo::Undo;
 
 #[cfg(test)]

@@ -13,14 +13,13 @@ ghost use Rattle.tap_model.specs.Sound.{Sound};
 ghost use Rattle.tap_model.specs.Stories.{Refuses};
 
 use crate::engine::Engine;
-use crate::entries::copy_entries;
-use crate::kept_filter::KeptFilter;
 use appraiser::{Rules, listing};
 use row_index::RowIndex;
 use script_lang::{Refusal, Reply};
 use std::alloc::Global;
 use std::sync::ledger::Ledger;
 use tap_base::{Memory, Rows, Steps, Text};
+use tap_kept::{KeptFilter, copy_entries};
 use tap_rows::{Entry, Listed};
 
 // The last of the user's filters.

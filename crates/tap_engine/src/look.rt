@@ -2,14 +2,13 @@ ghost use Rattle.std.specs.Prelude.{◌≡◌, Some, true, IfOk, OnOk};
 ghost use Rattle.std.specs.Result.{result_err};
 ghost use Rattle.tap_base.specs.Names.{is_name};
 ghost use Rattle.tap_model.specs.Sessions.{user_of};
-ghost use Rattle.tap_engine.specs.Keeping.{named_in};
+ghost use Rattle.tap_kept.specs.Keeping.{named_in};
 ghost use Rattle.tap_engine.specs.Standing.{query_refusal};
 
 use crate::engine::Engine;
-use crate::kept_queries::KeptQueries;
-use crate::kept_query::KeptQuery;
 use crate::sessions::refuse_name;
 use script_lang::Refusal;
+use tap_kept::{KeptQueries, KeptQuery};
 use tap_model::Session;
 
 // The user's query of this name.

@@ -1,40 +1,16 @@
 ghost use Rattle.std.specs.Prelude.{◌≡◌, ◌⊎◌, None, Some, false, length, OnOk, IfOk, IfErr};
 ghost use Rattle.std.specs.Option.{option_map};
-ghost use Rattle.tap_engine.specs.Starting.{first_unread};
+ghost use Rattle.tap_kept.specs.Starting.{first_unread};
 
 use crate::engine::Engine;
-use crate::index_rows::index_rows;
-use crate::keep::{keep_delivered, keep_filters, owners_of};
-use crate::sums::Sums;
 use restart_core::Sound;
 use std::alloc::Global;
-use tap_base::Memory;
+use tap_kept::{StartFault, Sums, index_rows, keep_delivered, keep_filters, owners_of};
 use tap_model::Session;
 use tap_rows::Tables;
-use thiserror::Error;
-
-/// Why no engine starts over sound tables: the text of the filter of this number has a fault, and it is the first such
-/// filter; or there is no memory.
-#[derive(Debug, Drop, Error)]
-pub enum StartFault {
-    #[error("unreadable rules of filter {num}")]
-    Rules { num: u32 },
-    #[error("no memory")]
-    Memory,
-}
-
-impl From<Memory> for StartFault {
-    ghost use Rattle.tap_engine.specs.declared.start.StartFault.{StartFault};
-
-    ghost from_gives = { λ _ fault. fault ≡ StartFault.Memory };
-
-    fn from(_memory: Memory) -> StartFault {
-        StartFault::Memory
-    }
-}
 
 impl Engine {
-    ghost use Rattle.tap_engine.specs.declared.start.StartFault.{StartFault as Fault};
+    ghost use Rattle.tap_kept.specs.declared.start_fault.StartFault.{StartFault as Fault};
     ghost use Rattle.tap_model.specs.Sessions.{no_session};
     ghost use Rattle.tap_model.specs.Sound.{IsStore};
     ghost use Rattle.tap_engine.specs.Standing.{StandsFor};

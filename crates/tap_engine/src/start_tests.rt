@@ -1,7 +1,8 @@
-use crate::{Engine, StartFault};
+use crate::Engine;
 use restart_core::check_tables;
 use std::alloc::Global;
 use tap_base::{DocNum, Memory, NoteNum, QueryNum, Text};
+use tap_kept::StartFault;
 use tap_rows::{Doc, FilterRow, Note, Pick, QueryRow, RunRow, Tables};
 
 fn add_doc(alloc: Global, tables: &mut Tables) -> Result<(), Memory> {

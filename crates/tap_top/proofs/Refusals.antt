@@ -17,7 +17,7 @@ use Rattle.restart_core.proofs.DamageLaws.{undamaged}
 use Rattle.tap_model.specs.Sound.{IsStore}
 use Rattle.tap_model.specs.Verdicts.{text_fault, filter_fault}
 use Rattle.tap_model.proofs.StoreLaws.{text-read}
-use Rattle.tap_engine.specs.Starting.{first_unread}
+use Rattle.tap_kept.specs.Starting.{first_unread}
 use Rattle.tap_engine.specs.declared.engine.Engine.{Engine}
 use Rattle.tap_top.specs.declared.store_fault.StoreFault.{StoreFault}
 use Rattle.tap_top.specs.declared.opening.OpenFault.{OpenFault}

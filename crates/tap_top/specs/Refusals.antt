@@ -13,7 +13,7 @@ use Rattle.restart_core.specs.declared.fault.TableName.TheVariants.{Docs, Notes,
 use Rattle.restart_core.specs.declared.fault.Why.{Why}
 use Rattle.restart_core.specs.declared.fault.Why.TheVariants.{Number, Moment, Reference, Name, Twice, Text, Second, Order}
 use Rattle.restart_core.specs.Damages.{damage_of}
-use Rattle.tap_engine.specs.Starting.{first_unread}
+use Rattle.tap_kept.specs.Starting.{first_unread}
 use Rattle.tap_top.specs.declared.store_fault.StoreFault.{StoreFault}
 use Rattle.tap_top.specs.declared.store_fault.StoreFault.TheVariants.{Version, Damaged}
 

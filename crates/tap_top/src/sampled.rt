@@ -102,18 +102,18 @@ fn perform_all<P: Keeper, L: Ledger>(
     Ok(tally)
 }
 
-// What became of the sample; None comes only where a count would pass its type's end.
-fn sum_up(n: u32, commands: usize, tally: Tally, engine: &Engine) -> Option<Summary>
-    ensures { IfSome result (λ summary. summary ≡ record { messages = n; commands = commands; refused = tally.refused; documents = length engine.now.index.docs; notes = length engine.now.index.notes; delivered = tally.delivered }) }
+// What became of the sample.
+fn sum_up(n: u32, commands: usize, tally: Tally, engine: &Engine) -> Summary
+    ensures { result ≡ record { messages = n; commands = commands; refused = tally.refused; documents = length engine.now.index.docs; notes = length engine.now.index.notes; delivered = tally.delivered } }
 {
-    Some(Summary {
+    Summary {
         messages: n,
         commands,
         refused: tally.refused,
-        documents: u32::try_from(engine.docs() as usize).ok()?,
-        notes: u32::try_from(engine.notes() as usize).ok()?,
+        documents: engine.docs(),
+        notes: engine.notes(),
         delivered: tally.delivered,
-    })
+    }
 }
 
 // Puts the lines of a summary; the status.
@@ -164,10 +164,7 @@ fn run_sample<K: Sink, P: Keeper, L: Ledger>(
         Err(Cut::Keeper) => return 5,
         Err(Cut::Memory) => return 7,
     };
-    match sum_up(n, count, tally, engine) {
-        Some(summary) => put_summary(summary, sink),
-        None => 7,
-    }
+    put_summary(sum_up(n, count, tally, engine), sink)
 }
 
 // The same with an engine of its own, which ends with the run.

@@ -4,9 +4,9 @@ use Rattle.tap_rows.specs.declared.tables.Tables.{Tables}
 use Rattle.tap_rows.specs.Kept.{Each, HasRun, RunsFrom}
 use Rattle.tap_rows.specs.WellFormed.{is_well_formed}
 use Rattle.tap_engine.specs.declared.engine.Engine.{Engine}
-use Rattle.tap_engine.specs.Keeping.{kept_query}
+use Rattle.tap_kept.specs.Keeping.{kept_query}
 use Rattle.tap_engine.specs.Standing.{StandsFor}
-use Rattle.tap_engine.specs.Starting.{runs_alone, IsOneOf, AreOnce}
+use Rattle.tap_kept.specs.Starting.{runs_alone, IsOneOf, AreOnce}
 use Rattle.tap_engine.proofs.FormedLaws.{Formed, formed}
 use Rattle.tap_engine.proofs.SumLaws.{bytes-of, greatest-in}
 use Rattle.tap_engine.proofs.StartedLaws.{IsStarted, stands-start, ready-start}

@@ -1,6 +1,6 @@
 use Rattle.std.proofs.Common.{rules, arith, ◌≡◌, ◌∙◌, sym, ap, subst, length, ◌+◌, ◌∷◌, []}
 use Rattle.std.proofs.lemmas.List.{length-map}
-use Rattle.tap_engine.specs.Keeping.{kept_query, new_kept}
+use Rattle.tap_kept.specs.Keeping.{kept_query, new_kept}
 use Rattle.script_lang.specs.declared.refusal.Refusal.TheVariants.{Memory}
 use Rattle.tap_engine.proofs.AnswerTurns.{for-memory, undo-query}
 use Rattle.tap_model.specs.Sound.{IsMoment}

@@ -2,9 +2,9 @@ use Rattle.std.proofs.Common.{rules, ◌≡◌, ◌∙◌, ◌+◌, ◌≤◌, a
 use Rattle.script_lang.specs.declared.refusal.LimitName.TheVariants.{Runs, Picks}
 use Rattle.tap_model.specs.declared.limits.TheConstants.{RUN_LIMIT, PICK_LIMIT}
 use Rattle.tap_model.specs.Limits.{passes}
-use Rattle.tap_engine.specs.Keeping.{hits_since}
+use Rattle.tap_kept.specs.Keeping.{hits_since}
 use Rattle.tap_engine.specs.Standing.{query_refusal, run_refusal, RefusedBy}
-use Rattle.tap_engine.specs.Costs.{IsQuiet, AreAlone, rows_due, window_since}
+use Rattle.tap_kept.specs.Costs.{IsQuiet, AreAlone, rows_due, window_since}
 use Rattle.tap_engine.proofs.CheckLaws.{run-left}
 use Rattle.tap_engine.proofs.CostLaws.{quiet-named, due-named}
 use Rattle.tap_model.specs.Sessions.{user_of}

@@ -1,14 +1,14 @@
 use Rattle.std.proofs.Common.{rules, arith, ◌≡◌, ◌∙◌, sym, ap, subst, ◌-◌, ◌<◌, length, map, ◌+◌}
 use Rattle.std.specs.Prelude.{slice_set, slice_index_or, IfSome}
 use Rattle.script_lang.specs.declared.refusal.Refusal.TheVariants.{Memory}
-use Rattle.tap_engine.specs.Keeping.{new_kept, after_run, AreNew}
+use Rattle.tap_kept.specs.Keeping.{new_kept, after_run, AreNew}
 use Rattle.tap_rows.specs.Results.{entry_at}
 use Rattle.tap_rows.specs.Tables.{after}
 use Rattle.tap_engine.specs.Standing.{StandsFor}
 use Rattle.tap_engine.specs.Ready.{IsReady}
 use Rattle.tap_model.specs.Sound.{IsMoment}
 use Rattle.tap_engine.specs.declared.engine.Engine.{Engine}
-use Rattle.tap_engine.specs.declared.kept_query.KeptQuery.{KeptQuery}
+use Rattle.tap_kept.specs.declared.kept_query.KeptQuery.{KeptQuery}
 use Rattle.tap_engine.specs.Answering.{IsStill, TakesBack, undo_run}
 use Rattle.tap_engine.proofs.AnswerTurns.{for-memory}
 use Rattle.tap_engine.proofs.CheckLaws.{run-verdict, run-refuses, run-moment}

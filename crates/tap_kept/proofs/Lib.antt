@@ -1,0 +1,8 @@
+pub mod PlanLaws
+mod LeftLaws
+pub mod PlaceLaws
+mod NewLaws
+mod DeliveryLaws
+mod VariableLaws
+pub mod TextLaws
+mod FindLaws

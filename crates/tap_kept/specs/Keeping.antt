@@ -1,0 +1,64 @@
+-- What is kept of queries and their owners.
+use Rattle.std.specs.Prelude.{⊤, ℕ, zero, suc, ◌≡◌, ℤ, ◌+◌, List, [], ◌∷◌, ◌++◌, length, take, filter, find, Option, false, if◌then◌else◌}
+use Rattle.std.specs.Str.{bytes_eq}
+use Rattle.tap_base.specs.Words.{holds}
+use Rattle.tap_rows.specs.declared.tables.Tables.{Tables}
+use Rattle.tap_rows.specs.declared.rows.QueryRow.{QueryRow}
+use Rattle.tap_rows.specs.declared.results.Entry.{Entry}
+use Rattle.tap_rows.specs.declared.results.Hit.{Hit}
+use Rattle.time_marks.specs.Probes.{meaning_without}
+use Rattle.query_eval.specs.Nested.{was_seen}
+use Rattle.tap_rows.specs.Results.{run_moments, covered}
+use Rattle.tap_rows.specs.Deliveries.{delivered}
+use Rattle.tap_rows.specs.Kept.{In}
+use Rattle.little_box.specs.Boxes.{is_in}
+use Rattle.tap_kept.specs.declared.kept_query.KeptQuery.{KeptQuery}
+use Rattle.tap_model.specs.Queries.{start_of, probes_in, is_named}
+
+-- what is kept of a query: its row, the second that it has covered up to, how many runs it had, and what it has delivered
+abbrev pub kept_query : Tables → QueryRow → KeptQuery
+kept_query tables query = record {
+  row = query;
+  covered = covered (start_of query) query.num.0 tables.runs;
+  runs = length (run_moments query.num.0 tables.runs);
+  entries = delivered query.num.0 tables;
+}
+
+-- what is kept of a user's query of a name
+unfoldable pub named_in : List ℕ → List ℕ → List KeptQuery → Option KeptQuery
+named_in owner name queries = find (λ kept. is_named owner name kept.row) queries
+
+-- how many of the queries are a user's
+unfoldable pub owned_in : List ℕ → List KeptQuery → ℕ
+owned_in owner queries = length (filter (λ kept. bytes_eq kept.row.owner owner) queries)
+
+-- a query that was never run
+abbrev pub new_kept : QueryRow → KeptQuery
+new_kept query = record { row = query; covered = start_of query; runs = 0; entries = [] }
+
+-- a query after one more run at this moment, which delivered these
+abbrev pub after_run : ℤ → List Entry → KeptQuery → KeptQuery
+after_run moment entries kept = record { row = kept.row; covered = moment; runs = kept.runs + 1; entries = kept.entries ++ entries }
+
+-- a query as it was before its last run: the second that it had covered up to, how many runs it had, and how many entries
+abbrev pub before_run : ℤ → ℕ → ℕ → KeptQuery → KeptQuery
+before_run second runs entries kept = record { row = kept.row; covered = second; runs = runs; entries = take entries kept.entries }
+
+-- what a run of a query at a moment delivers: what its window query finds since the last run, without what was delivered
+abbrev pub hits_since : KeptQuery → Tables → ℤ → List Hit
+hits_since kept rows moment = meaning_without (was_seen kept.entries) (probes_in kept.row) rows (record { low = kept.covered; high = moment })
+
+-- no hit is of a document among these entries, and no two are of one document
+abbrev pub AreNew : List Entry → List Hit → Type 0
+AreNew entries [] = ⊤
+AreNew entries (hit ∷ hits) = (is_in hit.doc.0 entries ≡ false) × ((other : Hit) → In other hits → other.doc.0 ≡ hit.doc.0 → ⊥) × AreNew entries hits
+
+-- the queries, where that at a place is as it was before its last run
+abbrev pub without_run : ℕ → ℤ → ℕ → ℕ → List KeptQuery → List KeptQuery
+without_run place second runs entries [] = []
+without_run zero second runs entries (kept ∷ queries) = before_run second runs entries kept ∷ queries
+without_run (suc place) second runs entries (kept ∷ queries) = kept ∷ without_run place second runs entries queries
+
+-- the owners, with one that may be among them
+abbrev pub with_owner : List (List ℕ) → List ℕ → List (List ℕ)
+with_owner owners owner = if holds owners owner then owners else owners ++ owner ∷ []
