@@ -164,7 +164,8 @@ fn run_sample<K: Sink, P: Keeper, L: Ledger>(
         Err(Cut::Keeper) => return 5,
         Err(Cut::Memory) => return 7,
     };
-    put_summary(sum_up(n, count, tally, engine), sink)
+    let summary = sum_up(n, count, tally, engine);
+    put_summary(summary, sink)
 }
 
 // The same with an engine of its own, which ends with the run.
