@@ -1,4 +1,4 @@
-ghost use Rattle.std.specs.Prelude.{◌≡◌, ◌<◌, true, false, OnOk};
+ghost use Rattle.std.specs.Prelude.{◌≡◌, ◌<◌, true, false, OnOk, IfSome};
 ghost use Rattle.tap_engine.specs.Ready.{IsReady};
 
 use crate::{Engine, EngineFault};
@@ -175,6 +175,37 @@ fn fill_and_show<P: Keeper, L: Ledger>(
     show(alloc, engine, keeper, steps)
 }
 
+// A keeper without rows whose calls fail so, attached.
+fn attached(alloc: Global, fails: Vec<KeepPlan>) -> Option<MemKeeper>
+    ensures attached { IfSome result (λ keeper. keeper.attached ≡ true) }
+    ensures keeping { IfSome result (λ keeper. keeper.stopped ≡ false) }
+{
+    let mut keeper = MemKeeper::new(alloc, Tables::empty(alloc), 2, fails);
+    match keeper.attach(alloc, "store") {
+        Ok(_) => Some(keeper),
+        Err(_) => None,
+    }
+}
+
+// What a new engine over a keeper shows, where it wasn't cut off, how many documents and notes it has, and whether it is
+// stopped.
+fn shown_over<L: Ledger>(
+    alloc: Global,
+    keeper: &mut MemKeeper,
+    steps: &mut Steps<L>,
+) -> Option<(Option<[usize; 5]>, [u32; 2], bool)>
+    requires attached { keeper.old.attached ≡ true }
+    requires keeping { keeper.old.stopped ≡ false }
+{
+    let mut engine = Engine::new(alloc);
+    let shown = match fill_and_show(alloc, &mut engine, keeper, steps) {
+        Ok(shown) => Some(shown),
+        Err(Cut::Keeper) => None,
+        Err(Cut::Memory) => return None,
+    };
+    Some((shown, [engine.docs(), engine.notes()], engine.stopped()))
+}
+
 // A session over a keeper whose calls fail so.
 fn session<L: Ledger>(alloc: Global, blank: Blank, fails: Vec<KeepPlan>) -> Option<Left>
     requires name { blank.name ≡ L.name }
@@ -182,22 +213,9 @@ fn session<L: Ledger>(alloc: Global, blank: Blank, fails: Vec<KeepPlan>) -> Opti
     requires some { 0 < blank.parts }
 {
     let mut steps = Steps::<L>::start(blank);
-    let mut keeper = MemKeeper::new(alloc, Tables::empty(alloc), 2, fails);
-    if keeper.attach(alloc, "store").is_err() {
-        return None;
-    }
-    let mut engine = Engine::new(alloc);
-    let shown = match fill_and_show(alloc, &mut engine, &mut keeper, &mut steps) {
-        Ok(shown) => Some(shown),
-        Err(Cut::Keeper) => None,
-        Err(Cut::Memory) => return None,
-    };
-    Some((
-        shown,
-        counts(keeper.tables()),
-        [engine.docs(), engine.notes()],
-        engine.stopped(),
-    ))
+    let mut keeper = attached(alloc, fails)?;
+    let (shown, kept, stopped) = shown_over(alloc, &mut keeper, &mut steps)?;
+    Some((shown, counts(keeper.tables()), kept, stopped))
 }
 
 #[test]
