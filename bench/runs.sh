@@ -33,5 +33,5 @@ done
 absence="NOW >= m.ts + 1 DAY AND NOT EXISTS (r: DOC WHERE r.inreplyto = m.msgid)"
 day='print "mail"; print "Message-ID: <day" k "@example.org>"; print ""; print "."; print "at " now + k * 86401; print "run q"'
 for n in 10000 100000; do
-  turns '5,000 days of an absence' "$n" 5000 "$absence" "$day"
+  turns '20,000 days of an absence' "$n" 20000 "$absence" "$day"
 done
