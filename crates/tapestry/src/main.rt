@@ -16,6 +16,9 @@ use tap_base::{Steps, Texts};
 use tap_edges::{Sink, Source, StdSink, StdSource};
 use tap_top::tapestry;
 
+#[cfg(test)]
+mod tests;
+
 // Runs over this source, sink and keeper, counting steps for the ledger of the blank.
 fn run<S: Source, K: Sink, P: Keeper, L: Ledger>(
     alloc: Global,

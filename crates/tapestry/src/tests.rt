@@ -1,0 +1,131 @@
+ghost use Rattle.std.specs.Prelude.{◌≡◌, ◌<◌, false, IsTrue, IfSome};
+ghost use Rattle.sqlite_disk.specs.Memory.{memory_is_usable};
+
+use keeper_core::Keeper;
+use keeper_sql::SqlKeeper;
+use sqlite::{Connection, FileStore, Files, Options};
+use sqlite_disk::Memory as MemoryFile;
+use std::alloc::Global;
+use std::marker::Brand;
+use std::sync::ledger::{Blank, Ledger};
+use std::test::Fail;
+use tap_base::{Memory, Steps, Text, Texts};
+use tap_edges::{MemSink, MemSource};
+use tap_top::tapestry;
+
+// Runs a script over a keeper; the status and what was written.
+fn run<P: Keeper, L: Ledger>(
+    alloc: Global,
+    blank: Blank,
+    keeper: &mut P,
+    script: &[u8],
+) -> Result<(u8, Text), Memory>
+    requires name { blank.name ≡ L.name }
+    requires parts { blank.parts ≡ L.parts }
+    requires some { 0 < blank.parts }
+    requires free { P.attached keeper.old ≡ false }
+    requires running { P.stopped keeper.old ≡ false }
+{
+    let mut steps = Steps::<L>::start(blank);
+    let mut source = MemSource::new(
+        Text::from_slice(alloc, script)?,
+        Vec::new(alloc),
+        Vec::new(alloc),
+    );
+    let mut sink = MemSink::new(alloc, 4096, Vec::new(alloc))?;
+    let words = Texts::new(alloc);
+    let status = tapestry(alloc, &words, &mut source, &mut sink, keeper, &mut steps);
+    Ok((status, Text::from_slice(alloc, sink.written())?))
+}
+
+// Opens the files of a store, and adopts the connection.
+fn adopted(alloc: Global, files: Files<MemoryFile>) -> Option<SqlKeeper<FileStore<MemoryFile>>>
+    requires log { IsTrue (memory_is_usable files.log) }
+    requires db { IsTrue (memory_is_usable files.db) }
+    ensures free { IfSome result (λ keeper. (keeper.attached ≡ false) × (keeper.stopped ≡ false)) }
+{
+    match Connection::open_files(alloc, files, Options::new(1)) {
+        Ok(connection) => Some(SqlKeeper::adopt(connection)),
+        Err(_) => None,
+    }
+}
+
+// Hands the connection back, and closes its files.
+fn closed(keeper: SqlKeeper<FileStore<MemoryFile>>) -> Option<Files<MemoryFile>>
+    ensures usable { IfSome result (λ files. IsTrue (memory_is_usable files.log) × IsTrue (memory_is_usable files.db)) }
+{
+    match keeper.into_connection().close_files() {
+        Ok(files) => Some(files),
+        Err((_, store)) => {
+            drop(store.close());
+            None
+        }
+    }
+}
+
+// A session over the files of a store: its status, what it wrote, and the files as it closed them.
+fn session(
+    alloc: Global,
+    files: Files<MemoryFile>,
+    script: &[u8],
+) -> Option<(u8, Text, Files<MemoryFile>)>
+    requires log { IsTrue (memory_is_usable files.log) }
+    requires db { IsTrue (memory_is_usable files.db) }
+    ensures usable { IfSome result (λ left. IsTrue (memory_is_usable left.2.log) × IsTrue (memory_is_usable left.2.db)) }
+{
+    let mut keeper = adopted(alloc, files)?;
+    let ran = run::<_, Brand>(alloc, Blank::new(1), &mut keeper, script);
+    let files = closed(keeper)?;
+    let (status, written) = ran.ok()?;
+    Some((status, written, files))
+}
+
+fn new_files(alloc: Global) -> Files<MemoryFile>
+    ensures log { IsTrue (memory_is_usable result.log) }
+    ensures db { IsTrue (memory_is_usable result.db) }
+{
+    Files {
+        log: MemoryFile::new(alloc),
+        db: MemoryFile::new(alloc),
+    }
+}
+
+// What three sessions over the same files write, where each ends with status 0.
+fn three_sessions(
+    alloc: Global,
+    first: &[u8],
+    second: &[u8],
+    third: &[u8],
+) -> Option<(Text, Text, Text)> {
+    let (first_status, one, files) = session(alloc, new_files(alloc), first)?;
+    let (second_status, two, files) = session(alloc, files, second)?;
+    let (third_status, three, _files) = session(alloc, files, third)?;
+    let ended = first_status == 0 && second_status == 0 && third_status == 0;
+    ended.then_some((one, two, three))
+}
+
+#[test]
+fn sessions_go_on_over_files(rt: HostRuntime) -> Result<(), Fail> {
+    let written = three_sessions(
+        rt.alloc(),
+        b"as ann\nat 100\nquery q m.words HAS 'hi'\nmail\nSubject: hi\n\n.\nat 101\nrun q\nat 110\nmail\nSubject: hi\n\n.\nat 111\nrun q\n",
+        b"as ann\nat 111\nat 120\nmail\nSubject: hi\n\n.\nat 121\nrun q\nbox q\n",
+        b"as ann\nbox q\n",
+    );
+    let Some((first, second, third)) = written else {
+        return Err(Fail::from("a session failed"));
+    };
+    assert_eq!(rt;
+        first.as_slice(),
+        b"ok 0 as ann\nok 0 at 100\nok 0 query q\nok 0 doc 1\nok 0 at 101\nok 1 run 1 before 101\ndoc 1 first 100\nok 0 at 110\nok 0 doc 2\nok 0 at 111\nok 1 run 2 before 111\ndoc 2 first 110\n".as_slice()
+    );
+    assert_eq!(rt;
+        second.as_slice(),
+        b"ok 0 as ann\nok 0 at 111\nok 0 at 120\nok 0 doc 3\nok 0 at 121\nok 1 run 3 before 121\ndoc 3 first 120\nok 3 box q\ndoc 1 first 100 run 1\ndoc 2 first 110 run 2\ndoc 3 first 120 run 3\n".as_slice()
+    );
+    assert_eq!(rt;
+        third.as_slice(),
+        b"ok 0 as ann\nok 3 box q\ndoc 1 first 100 run 1\ndoc 2 first 110 run 2\ndoc 3 first 120 run 3\n".as_slice()
+    );
+    Ok(())
+}
