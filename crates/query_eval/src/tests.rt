@@ -63,7 +63,7 @@ fn second_seen(alloc: Global) -> Result<LittleBox, Memory> {
     Ok(seen)
 }
 
-// The probe that finds a document 5 seconds after it came.
+// The probe that finds a document five seconds after its arrival.
 fn old_probe(alloc: Global, body: NodeId) -> Result<Probe, Memory>
     ensures { IfOk result (λ probe. probe ≡ record { path = record { var = record { 0 = 0 }; table = Docs; guards = [] } ∷ []; at = record { base = Arrival (record { 0 = 0 }); plus = pos 5 }; body = body }) }
 {
