@@ -1,6 +1,6 @@
 //! The keeper over a connection.
 
-ghost use Rattle.std.specs.Prelude.{◌≡◌, false};
+ghost use Rattle.std.specs.Prelude.{◌≡◌, false, None};
 
 use crate::keep::{keep, look};
 use crate::opened::open_kept;
@@ -27,6 +27,7 @@ impl<S: Alter> SqlKeeper<S> {
         requires { connection.in_transaction ≡ false }
         ensures free { (result.attached ≡ false) × (result.stopped ≡ false) }
         ensures same { result.connection ≡ connection }
+        ensures placeless { result.place ≡ None }
     {
         SqlKeeper {
             connection,

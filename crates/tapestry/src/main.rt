@@ -6,8 +6,9 @@ ghost use Rattle.std.specs.List.{All};
 ghost use Rattle.std.specs.Str.{IsUtf8};
 
 use keeper_core::Keeper;
-use keeper_file::FileKeeper;
+use keeper_file::{FileKeeper, PathOpener};
 use program_words::{WordsFault, words_of_line};
+use sqlite::Unknown;
 use std::alloc::Global;
 use std::marker::Brand;
 use std::process::ExitCode;
@@ -48,7 +49,7 @@ fn main(rt: HostRuntime) -> ExitCode {
     };
     let mut source = StdSource::new(rt.stdin());
     let mut sink = StdSink::new(rt.stdout());
-    let mut keeper = FileKeeper::new(&rt);
+    let mut keeper = FileKeeper::new(PathOpener::new(&rt, Unknown));
     let status = run::<_, _, _, Brand>(
         alloc,
         &words,
