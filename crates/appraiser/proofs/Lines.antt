@@ -1,6 +1,6 @@
 -- Lines of rules, counted from any number.
 use Rattle.std.proofs.Common.{◌≡◌, ◌∙◌, sym, ap, refl, subst, arith, ℕ, suc, List, [], ◌∷◌, ◌+◌, length, Bool, true, false, if◌then◌else◌}
-use Rattle.line_words.specs.Words.{is_skipped}
+use Rattle.tap_base.specs.LineWords.{is_skipped}
 use Rattle.std.specs.Prelude.{◌≤◌, Result, Ok, Err}
 use Rattle.appraiser.specs.declared.fault.RuleFault.{RuleFault}
 use Rattle.appraiser.specs.Rules.{Rule}

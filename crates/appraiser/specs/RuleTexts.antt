@@ -1,7 +1,7 @@
 -- The rules of a filter's text, a line each.
 use Rattle.std.specs.Prelude.{ℕ, suc, ◌≡◌, ◌≤◌, ◌⊎◌, List, [], ◌∷◌, ◌++◌, length, nat_le, Result, Ok, Err, if◌then◌else◌}
 use Rattle.std.specs.Str.Lines.{lines}
-use Rattle.line_words.specs.Words.{is_skipped}
+use Rattle.tap_base.specs.LineWords.{is_skipped}
 use Rattle.appraiser.specs.declared.fault.RuleFault.{RuleFault}
 use Rattle.appraiser.specs.declared.fault.RuleFault.TheVariants.{Line, ManyRules, Memory}
 use Rattle.appraiser.specs.declared.rules.Rules.{Rules}

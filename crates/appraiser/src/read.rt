@@ -1,15 +1,14 @@
 ghost use Rattle.std.specs.Prelude.{◌≡◌, ◌⊎◌, ℕ, suc, List, ◌∷◌, map, length, Err, OnOk, IfOk, IfErr, ◌≤◌, if◌then◌else◌};
-ghost use Rattle.line_words.specs.Words.{is_skipped};
+ghost use Rattle.tap_base.specs.LineWords.{is_skipped};
 ghost use Rattle.appraiser.specs.Rules.{rule_view, rules_in};
 ghost use Rattle.appraiser.specs.RuleTexts.{rule_lines, rule_lines_from, rules_at, rules_of, joined, IsWithin, ReadsRules};
 
 use crate::line_fault::LineFault;
 use crate::rule_line::read_rule;
 use crate::{KeptRule, RuleFault, Rules};
-use line_words::is_blank_or_comment;
+use tap_base::{Rows, is_blank_or_comment};
 use mail_lines::first_line;
 use std::alloc::Global;
-use tap_base::Rows;
 
 /// The most rules of a filter.
 pub const RULE_LIMIT: usize = 64;

@@ -35,7 +35,7 @@ fn options<'a>(alloc: Global) -> Result<Command<'a>, AllocError>
 }
 
 /// Reads the words after the program's name.
-pub fn ask<'a>(alloc: Global, words: &'a [&'a str]) -> Result<Values<'a>, WordFault>
+pub fn parse_options<'a>(alloc: Global, words: &'a [&'a str]) -> Result<Values<'a>, WordFault>
     ensures store { IfOk result (λ values. option_copied values.store ≡ first_of (codes "store") (matches_of app (texts_of words.now))) }
     ensures sample { IfOk result (λ values. option_copied values.sample ≡ first_of (codes "sample") (matches_of app (texts_of words.now))) }
     ensures accepted { OnOk result (fault_of app (texts_of words.now) ≡ []) }

@@ -6,7 +6,7 @@ ghost use Rattle.command_words.specs.Options.{app, default_place};
 ghost use Rattle.command_words.specs.Words.{number_in, place_in, sample_in};
 ghost use Rattle.command_words.specs.WellWorded.{IsWellWorded, place_of};
 
-use crate::clap_words::ask;
+use crate::clap_words::parse_options;
 use crate::fault::WordFault;
 use crate::number::read_count;
 use crate::strs::as_strs;
@@ -55,7 +55,7 @@ pub fn read_words(alloc: Global, words: &Texts) -> Result<CommandWords, WordFaul
     ensures named { (path : Option (List ℕ)) (number : Option ℕ) → IsWellWorded words.now path number → IfOk result (λ asked. (asked.place ≡ place_of path) × (asked.sample ≡ number)) }
 {
     let words = as_strs(alloc, words)?;
-    let values = ask(alloc, &words)?;
+    let values = parse_options(alloc, &words)?;
     Ok(CommandWords {
         place: place_text(alloc, values.store)?,
         sample: sample_number(values.sample),

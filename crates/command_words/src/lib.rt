@@ -2,13 +2,17 @@
 #![tactic(auto)]
 
 mod clap_words;
+mod command_line;
 mod command_words;
 mod fault;
 mod number;
 mod strs;
+mod words_fault;
 
+pub use command_line::words_of_line;
 pub use command_words::{CommandWords, read_words};
 pub use fault::WordFault;
+pub use words_fault::WordsFault;
 
 #[cfg(test)]
 mod tests;

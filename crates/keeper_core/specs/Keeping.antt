@@ -1,15 +1,11 @@
 -- What is said of the tables that a keeper keeps.
-use Rattle.std.specs.Prelude.{◌≡◌, ℕ, ◌+◌, ◌-◌, ◌^◌, ◌≤◌, min, ℤ, ⊤, Result, Ok, Err}
+use Rattle.std.specs.Prelude.{◌≡◌, ℤ, ⊤, Result, Ok, Err}
 use Rattle.tap_rows.specs.declared.tables.Tables.{Tables}
 use Rattle.keeper_core.specs.declared.fault.AttachFault.{AttachFault}
 use Rattle.keeper_core.specs.declared.fault.AttachFault.TheVariants.{Alien, Failed, Memory}
 
--- a count of faults rose, or stands at its type's end, from where it cannot
-abbrev pub Rose : ℕ → ℕ → Type 0
-Rose before now = min (before + 1) (2 ^ 64 - 1) ≤ now
-
 -- a keeper tells these tables, and a crash leaves these alone
-pub record Holds (tells leaves : Tables → Type 0) (tables : Tables) : Type 0 where
+pub record IsDurable (tells leaves : Tables → Type 0) (tables : Tables) : Type 0 where
   pub told : tells tables
   pub alone : (x : Tables) → leaves x → x ≡ tables
 

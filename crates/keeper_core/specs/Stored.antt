@@ -1,6 +1,7 @@
 -- What the keepers in memory stand for.
-use Rattle.std.specs.Prelude.{ℕ, ◌+◌, ◌-◌, ◌^◌, min, ℤ, pos, List, Bool, true, false, ◌||◌, Option, Some, None, [], ◌∷◌, ◌==◌, if◌then◌else◌, Result, Ok, Err}
+use Rattle.std.specs.Prelude.{ℕ, ℤ, pos, List, Bool, true, false, ◌||◌, Option, Some, None, [], ◌∷◌, ◌==◌, if◌then◌else◌, Result, Ok, Err}
 use Rattle.std.specs.Ordering.{int_eq}
+use Rattle.tap_base.specs.Counts.{next_count}
 use Rattle.tap_rows.specs.declared.tables.Tables.{Tables}
 use Rattle.tap_rows.specs.declared.change.Change.{Change}
 use Rattle.tap_rows.specs.Tables.{after}
@@ -27,10 +28,6 @@ pub record Sure : Type 0 where
   pub tables : Tables
   pub attached : Bool
   pub place : List ℕ
-
--- a count of 64 bits stands still at its end
-abbrev pub next_count : ℕ → ℕ
-next_count n = min (n + 1) (2 ^ 64 - 1)
 
 -- does the plan let this call fail, and does a crash then leave the new tables?
 abbrev pub planned : List KeepPlan → ℕ → Option Bool

@@ -3,7 +3,8 @@ ghost use Rattle.tap_rows.specs.Tables.{after};
 ghost use Rattle.tap_rows.specs.WellFormed.{is_well_formed};
 ghost use Rattle.tap_rows.specs.Fits.{fits};
 ghost use Rattle.tap_rows.specs.declared.tables.Tables.{Tables as TableRows};
-ghost use Rattle.keeper_core.specs.Keeping.{Rose, Holds, IfAlien};
+ghost use Rattle.keeper_core.specs.Keeping.{IsDurable, IfAlien};
+ghost use Rattle.tap_base.specs.Counts.{Rose};
 
 use crate::{AttachFault, CommitFault};
 use std::alloc::Global;
@@ -51,7 +52,7 @@ pub trait Keeper {
 
         // The tables that it told: it gives them, and still tells them unless it failed.
         ensures given { IfOk result (λ given. honest self.new → (s : TableRows) → tells self.old s → s ≡ given) }
-        ensures kept { honest self.new → (s : TableRows) → tells self.old s → stopped self.new ≡ false → Holds (tells self.new) (may_leave self.new) s }
+        ensures kept { honest self.new → (s : TableRows) → tells self.old s → stopped self.new ≡ false → IsDurable (tells self.new) (may_leave self.new) s }
         ensures crash { honest self.new → (s : TableRows) → tells self.old s → (x : TableRows) → may_leave self.new x → x ≡ s }
 
         // The version.
@@ -72,8 +73,8 @@ pub trait Keeper {
         ensures honest { honest self.new → honest self.old }
 
         // The tables, where they stand in order and the rows of the change stand in order behind them.
-        ensures ok { honest self.new → (s : TableRows) → tells self.old s → is_well_formed s ≡ true → fits s change.now ≡ true → OnOk result (Holds (tells self.new) (may_leave self.new) (after s change.now)) }
-        ensures memory { honest self.new → (s : TableRows) → tells self.old s → result ≡ Err CommitFault.Memory → Holds (tells self.new) (may_leave self.new) s }
+        ensures ok { honest self.new → (s : TableRows) → tells self.old s → is_well_formed s ≡ true → fits s change.now ≡ true → OnOk result (IsDurable (tells self.new) (may_leave self.new) (after s change.now)) }
+        ensures memory { honest self.new → (s : TableRows) → tells self.old s → result ≡ Err CommitFault.Memory → IsDurable (tells self.new) (may_leave self.new) s }
         ensures crash { honest self.new → (s : TableRows) → tells self.old s → is_well_formed s ≡ true → fits s change.now ≡ true → (x : TableRows) → may_leave self.new x → (x ≡ s) ⊎ (x ≡ after s change.now) }
         ensures version { honest self.new → (s : TableRows) → tells self.old s → is_well_formed s ≡ true → fits s change.now ≡ true → (v : ℤ) → has_version self.old v → stopped self.new ≡ false → has_version self.new v };
 

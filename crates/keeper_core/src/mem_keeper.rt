@@ -1,6 +1,7 @@
 ghost use Rattle.std.specs.Prelude.{◌≡◌, ◌≢◌, ◌⊎◌, ◌↔◌, ◌≤◌, ◌<◌, ℕ, ℤ, pos, List, [], Bool, true, false, Option, Some, None, Err, IsOk, IfOk, OnOk, OnErr, unwrap_or, is_some};
 ghost use Rattle.tap_rows.specs.Tables.{after};
-ghost use Rattle.keeper_core.specs.Stored.{Stored, planned, next_count, stopped_with, attached_at, attach_answer, committed, commit_answer};
+ghost use Rattle.keeper_core.specs.Stored.{Stored, planned, stopped_with, attached_at, attach_answer, committed, commit_answer};
+ghost use Rattle.tap_base.specs.Counts.{next_count};
 
 use crate::{AttachFault, CommitFault, Keeper};
 use std::alloc::Global;

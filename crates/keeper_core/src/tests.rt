@@ -3,7 +3,8 @@ ghost use Rattle.tap_rows.specs.Tables.{after};
 ghost use Rattle.tap_rows.specs.WellFormed.{is_well_formed};
 ghost use Rattle.tap_rows.specs.Fits.{fits};
 ghost use Rattle.tap_rows.specs.declared.tables.Tables.{Tables as TableRows};
-ghost use Rattle.keeper_core.specs.Keeping.{Rose, Holds};
+ghost use Rattle.keeper_core.specs.Keeping.{IsDurable};
+ghost use Rattle.tap_base.specs.Counts.{Rose};
 
 use crate::{AttachFault, CommitFault, KeepPlan, Keeper, MemKeeper, SureKeeper};
 use std::alloc::Global;
@@ -20,8 +21,8 @@ fn keep_two<P: Keeper>(alloc: Global, keeper: &mut P, one: &Change, two: &Change
     ensures cause { result ≡ 5 → Rose (P.faults keeper.old) (P.faults keeper.new) }
     ensures placed { (P.place keeper.new ≡ codes "store") ⊎ (result ≡ 7) }
     ensures known { P.honest keeper.new → (v : ℤ) → P.has_version keeper.old v → (v ≡ pos 1) ⊎ (v ≡ pos 2) → result ≢ 6 }
-    ensures done { result ≡ 0 → P.honest keeper.new → (s : TableRows) → P.tells keeper.old s → is_well_formed s ≡ true → fits s one.now ≡ true → is_well_formed (after s one.now) ≡ true → fits (after s one.now) two.now ≡ true → Holds (P.tells keeper.new) (P.may_leave keeper.new) (after (after s one.now) two.now) }
-    ensures refused { result ≡ 6 → P.honest keeper.new → (s : TableRows) → P.tells keeper.old s → Holds (P.tells keeper.new) (P.may_leave keeper.new) s }
+    ensures done { result ≡ 0 → P.honest keeper.new → (s : TableRows) → P.tells keeper.old s → is_well_formed s ≡ true → fits s one.now ≡ true → is_well_formed (after s one.now) ≡ true → fits (after s one.now) two.now ≡ true → IsDurable (P.tells keeper.new) (P.may_leave keeper.new) (after (after s one.now) two.now) }
+    ensures refused { result ≡ 6 → P.honest keeper.new → (s : TableRows) → P.tells keeper.old s → IsDurable (P.tells keeper.new) (P.may_leave keeper.new) s }
     ensures crash { P.honest keeper.new → (s : TableRows) → P.tells keeper.old s → is_well_formed s ≡ true → fits s one.now ≡ true → is_well_formed (after s one.now) ≡ true → fits (after s one.now) two.now ≡ true → (x : TableRows) → P.may_leave keeper.new x → (x ≡ s) ⊎ ((x ≡ after s one.now) ⊎ (x ≡ after (after s one.now) two.now)) }
 {
     match keeper.attach(alloc, "store") {

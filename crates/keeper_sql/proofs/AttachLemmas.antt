@@ -3,7 +3,7 @@ use Rattle.std.proofs.Common.{◌≡◌, ◌≢◌, ◌⊎◌, inl, inr, ℤ, po
 use Rattle.std.specs.List.{AllZip}
 use Rattle.tap_rows.specs.declared.tables.Tables.{Tables}
 use Rattle.tap_rows.specs.Tables.{no_rows}
-use Rattle.keeper_core.specs.Keeping.{Holds}
+use Rattle.keeper_core.specs.Keeping.{IsDurable}
 use Rattle.sqlite_value.specs.Order.{Row}
 use Rattle.sqlite_schema.specs.declared.schema.Schema.{Schema}
 use Rattle.sqlite_trees.specs.Tree.{Trees}
@@ -13,7 +13,7 @@ use Rattle.sqlite.specs.Effect.{Database, IsDatabase}
 use Rattle.sqlite.specs.State.{State, HasCleanDisk, IsLive}
 use Rattle.keeper_sql.specs.Schema.{no_schema}
 use Rattle.keeper_sql.specs.RowsAsValues.{tables_in, tables_listed, tables_of, doc_in, note_in, query_in, run_in, pick_in, filter_in}
-use Rattle.keeper_sql.specs.Store.{IsOurs, WritesVersion, OpensTo, IsAfterOpen, AreAllKeyed, AreKeyed, AreEmpty, HoldsStore, TellsAs, MayLeave, HasVersion, LeavesAlone}
+use Rattle.keeper_sql.specs.Store.{IsOurs, WritesVersion, OpensTo, IsAfterOpen, AreAllKeyed, AreKeyed, AreEmpty, HoldsStore, TellsAs, MayLeave, HasVersion, LeavesOnlyTrees}
 use Rattle.keeper_sql.specs.Opening.{IsHeld}
 use Rattle.keeper_sql.proofs.TablesAfter.{listed}
 
@@ -94,7 +94,7 @@ held_given old new s t live told held =
     let keyed : AreAllKeyed new.now = record { docs = holds.docs; notes = holds.notes; queries = holds.queries; runs = holds.runs; picks = holds.picks; filters = holds.filters } in
     sym (opened_tables old s new.now told held.3) ∙ listed new.now holds ∙ sym (held.4 keyed)
 
-pub held_told : (old new : State) (s t : Tables) → HasCleanDisk new → IsLive new → LeavesAlone new new.now.trees → TellsAs false old s → IsHeld old new t → Holds (TellsAs true new) (MayLeave new) s
+pub held_told : (old new : State) (s t : Tables) → HasCleanDisk new → IsLive new → LeavesOnlyTrees new new.now.trees → TellsAs false old s → IsHeld old new t → IsDurable (TellsAs true new) (MayLeave new) s
 held_told old new s t clean live alone told held =
     let holds = opened_holds old s new.now (live held.1).0 told held.3 in
     let tables = opened_tables old s new.now told held.3 in
@@ -109,7 +109,7 @@ told_same old new s clean (inl told) now same = inl (record { clean = clean; is_
 told_same old new s clean (inr told) now same =
     inr (record { clean = clean; is_open = now; sound = subst IsDatabase (sym same) told.sound; schema = ap (λ (d : Database). d.schema) same ∙ told.schema; tables = told.tables ∙ ap (λ (d : Database). tables_of d.trees) (sym same) })
 
-pub still_told : (old new : State) (s : Tables) → HasCleanDisk new → TellsAs false old s → IsTrue new.is_open → new.now ≡ old.now → LeavesAlone new new.now.trees → Holds (TellsAs false new) (MayLeave new) s
+pub still_told : (old new : State) (s : Tables) → HasCleanDisk new → TellsAs false old s → IsTrue new.is_open → new.now ≡ old.now → LeavesOnlyTrees new new.now.trees → IsDurable (TellsAs false new) (MayLeave new) s
 still_told old new s clean told now same alone =
     record { told = told_same old new s clean told now same; alone = λ x left. left.2 ∙ ap tables_of (alone left.0 left.1) ∙ ap (λ (d : Database). tables_of d.trees) same ∙ sym (told_trees old s told) }
 

@@ -6,14 +6,14 @@ use Rattle.tap_rows.specs.declared.change.Change.TheVariants.{Docs, OneNote, One
 use Rattle.tap_rows.specs.Tables.{after}
 use Rattle.tap_rows.specs.WellFormed.{is_well_formed}
 use Rattle.tap_rows.specs.Fits.{fits}
-use Rattle.keeper_core.specs.Keeping.{Holds}
+use Rattle.keeper_core.specs.Keeping.{IsDurable}
 use Rattle.sqlite_trees.specs.Tree.{Trees}
 use Rattle.sqlite_schema.specs.declared.schema.Schema.{Schema}
 use Rattle.sqlite.specs.Effect.{Database}
 use Rattle.sqlite.specs.State.{State, HasCleanDisk}
 use Rattle.keeper_sql.specs.Schema.{store_schema, no_schema}
 use Rattle.keeper_sql.specs.RowsAsValues.{rows_of, IsReadBack, tables_of}
-use Rattle.keeper_sql.specs.Store.{Commits, IsAfter, LeavesAlone, HoldsStore, Tells, TellsAs, MayLeave, HasVersion, put_all}
+use Rattle.keeper_sql.specs.Store.{Commits, IsAfter, LeavesOnlyTrees, HoldsStore, Tells, TellsAs, MayLeave, HasVersion, put_all}
 use Rattle.keeper_sql.proofs.TablesAfter.{tables_after}
 
 pub as_told : (b : Bool) (s : State) (t : Tables) → b ≡ true → TellsAs b s t → Tells s t
@@ -24,11 +24,11 @@ told_as : (b : Bool) (s : State) (t : Tables) → b ≡ true → Tells s t → T
 told_as true s t is told = told
 told_as false s t is told = absurd (let e = is in cc)
 
-pub holds_as : (b : Bool) (s : State) (t : Tables) → b ≡ true → Holds (Tells s) (MayLeave s) t → Holds (TellsAs b s) (MayLeave s) t
+pub holds_as : (b : Bool) (s : State) (t : Tables) → b ≡ true → IsDurable (Tells s) (MayLeave s) t → IsDurable (TellsAs b s) (MayLeave s) t
 holds_as b s t is holds = record { told = told_as b s t is holds.told; alone = holds.alone }
 
-pub told_after : (change : Change) (old new : State) (s : Tables) → HasCleanDisk new → Tells old s → is_well_formed s ≡ true → fits s change ≡ true → Commits (rows_of change) old new → IsReadBack change → LeavesAlone new new.now.trees
-    → Holds (Tells new) (MayLeave new) (after s change)
+pub told_after : (change : Change) (old new : State) (s : Tables) → HasCleanDisk new → Tells old s → is_well_formed s ≡ true → fits s change ≡ true → Commits (rows_of change) old new → IsReadBack change → LeavesOnlyTrees new new.now.trees
+    → IsDurable (Tells new) (MayLeave new) (after s change)
 told_after change old new s clean told formed fit done back alone =
     let all = tables_after change s old.now new.now told.holds told.tables formed fit back (done.puts told.holds.schema) in
     record {
@@ -36,7 +36,7 @@ told_after change old new s clean told formed fit done back alone =
       alone = λ x left. left.2 ∙ ap tables_of (alone left.0 left.1) ∙ all.1;
     }
 
-pub told_still : (old new : State) (s : Tables) → HasCleanDisk new → Tells old s → IsTrue new.is_open → new.now ≡ old.now → LeavesAlone new new.now.trees → Holds (Tells new) (MayLeave new) s
+pub told_still : (old new : State) (s : Tables) → HasCleanDisk new → Tells old s → IsTrue new.is_open → new.now ≡ old.now → LeavesOnlyTrees new new.now.trees → IsDurable (Tells new) (MayLeave new) s
 told_still old new s clean told now same alone =
     let tables : tables_of new.now.trees ≡ s = ap (λ (d : Database). tables_of d.trees) same ∙ sym told.tables in
     record {

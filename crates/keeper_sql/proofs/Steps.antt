@@ -6,10 +6,10 @@ use Rattle.sqlite.specs.Effect.{Database}
 use Rattle.sqlite.specs.State.{State, Executes, ExecutesInside}
 use Rattle.keeper_sql.specs.Schema.{store_schema}
 use Rattle.keeper_sql.specs.RowsAsValues.{only}
-use Rattle.keeper_sql.specs.Store.{put_all, Puts, Went, Undone}
+use Rattle.keeper_sql.specs.Store.{put_all, Puts, RowsWritten, Undone}
 
 pub went_by : (rows : ℕ → List Row) (old new : State) (sql : List ℕ) (params : Row) (count : ℕ) → ExecutesInside 0 sql params old new (Ok count)
-    → (old.now.schema ≡ store_schema → Executes sql params old new (Ok count) → Puts rows old.now new.now) → Went rows old new
+    → (old.now.schema ≡ store_schema → Executes sql params old new (Ok count) → Puts rows old.now new.now) → RowsWritten rows old new
 went_by rows old new sql params count h puts =
     record { was_open = λ _. h.1.was_open; is_open = λ _. h.1.is_open; mode = h.1.mode; committed = h.1.committed_is; puts = λ has. puts has h.0 }
 
@@ -33,7 +33,7 @@ puts_then a b both old mid new is p q = record {
   filters = one_tree (a 6) (b 6) (both 6) _ _ _ (is 6) p.filters q.filters;
 }
 
-pub went_then : (a b both : ℕ → List Row) (old mid new : State) → ((t : ℕ) → both t ≡ a t ++ b t) → Went a old mid → Went b mid new → Went both old new
+pub went_then : (a b both : ℕ → List Row) (old mid new : State) → ((t : ℕ) → both t ≡ a t ++ b t) → RowsWritten a old mid → RowsWritten b mid new → RowsWritten both old new
 went_then a b both old mid new is p q = record {
   was_open = λ now. p.was_open (q.was_open now);
   is_open = λ was. q.is_open (p.is_open was);
@@ -42,7 +42,7 @@ went_then a b both old mid new is p q = record {
   puts = λ has. puts_then a b both old.now mid.now new.now is (p.puts has) (q.puts (p.puts has).schema);
 }
 
-pub went_undone : (a : ℕ → List Row) (old mid new : State) → Went a old mid → Undone mid new → Undone old new
+pub went_undone : (a : ℕ → List Row) (old mid new : State) → RowsWritten a old mid → Undone mid new → Undone old new
 went_undone a old mid new p q = record { was_open = λ now. p.was_open (q.was_open now); committed = λ now. q.committed now ∙ p.committed }
 
 either : (b : Bool) (xs ys zs : List Row) → zs ≡ xs ++ ys → (if b then zs else []) ≡ (if b then xs else []) ++ (if b then ys else [])
@@ -64,6 +64,6 @@ puts_none rows db none has =
     let same : (t : ℕ) → db.trees t ≡ put_all (rows t) (db.trees t) = λ t. ap (λ rows. put_all rows (db.trees t)) (sym (none t)) in
     record { sound = λ was. was; schema = has; meta = same 0; docs = same 1; notes = same 2; queries = same 3; runs = same 4; picks = same 5; filters = same 6 }
 
-pub went_none : (rows : ℕ → List Row) (s : State) → ((t : ℕ) → rows t ≡ []) → s.in_transaction ≡ true → Went rows s s
+pub went_none : (rows : ℕ → List Row) (s : State) → ((t : ℕ) → rows t ≡ []) → s.in_transaction ≡ true → RowsWritten rows s s
 went_none rows s none inside =
     record { was_open = λ now. now; is_open = λ was. was; mode = inside; committed = refl; puts = λ has. puts_none rows s.now none has }

@@ -136,26 +136,26 @@ replace_meta = codes "INSERT OR REPLACE INTO meta (id, version) VALUES (1, 2)"
 
 -- ---- the schema while its tables are made
 
-abbrev pub first_0 : Schema
-first_0 = record { tables = []; indexes = []; views = [] }
+abbrev pub schema_prefix_0 : Schema
+schema_prefix_0 = record { tables = []; indexes = []; views = [] }
 
-abbrev pub first_1 : Schema
-first_1 = record { tables = meta_at 0 ∷ []; indexes = []; views = [] }
+abbrev pub schema_prefix_1 : Schema
+schema_prefix_1 = record { tables = meta_at 0 ∷ []; indexes = []; views = [] }
 
-abbrev pub first_2 : Schema
-first_2 = record { tables = meta_at 0 ∷ docs_at 1 ∷ []; indexes = []; views = [] }
+abbrev pub schema_prefix_2 : Schema
+schema_prefix_2 = record { tables = meta_at 0 ∷ docs_at 1 ∷ []; indexes = []; views = [] }
 
-abbrev pub first_3 : Schema
-first_3 = record { tables = meta_at 0 ∷ docs_at 1 ∷ notes_at 2 ∷ []; indexes = []; views = [] }
+abbrev pub schema_prefix_3 : Schema
+schema_prefix_3 = record { tables = meta_at 0 ∷ docs_at 1 ∷ notes_at 2 ∷ []; indexes = []; views = [] }
 
-abbrev pub first_4 : Schema
-first_4 = record { tables = meta_at 0 ∷ docs_at 1 ∷ notes_at 2 ∷ queries_at 3 ∷ []; indexes = []; views = [] }
+abbrev pub schema_prefix_4 : Schema
+schema_prefix_4 = record { tables = meta_at 0 ∷ docs_at 1 ∷ notes_at 2 ∷ queries_at 3 ∷ []; indexes = []; views = [] }
 
-abbrev pub first_5 : Schema
-first_5 = record { tables = meta_at 0 ∷ docs_at 1 ∷ notes_at 2 ∷ queries_at 3 ∷ runs_at 4 ∷ []; indexes = []; views = [] }
+abbrev pub schema_prefix_5 : Schema
+schema_prefix_5 = record { tables = meta_at 0 ∷ docs_at 1 ∷ notes_at 2 ∷ queries_at 3 ∷ runs_at 4 ∷ []; indexes = []; views = [] }
 
-abbrev pub first_6 : Schema
-first_6 = record { tables = meta_at 0 ∷ docs_at 1 ∷ notes_at 2 ∷ queries_at 3 ∷ runs_at 4 ∷ picks_at 5 ∷ []; indexes = []; views = [] }
+abbrev pub schema_prefix_6 : Schema
+schema_prefix_6 = record { tables = meta_at 0 ∷ docs_at 1 ∷ notes_at 2 ∷ queries_at 3 ∷ runs_at 4 ∷ picks_at 5 ∷ []; indexes = []; views = [] }
 
-abbrev pub first_7 : Schema
-first_7 = record { tables = meta_at 0 ∷ docs_at 1 ∷ notes_at 2 ∷ queries_at 3 ∷ runs_at 4 ∷ picks_at 5 ∷ filters_at 6 ∷ []; indexes = []; views = [] }
+abbrev pub schema_prefix_7 : Schema
+schema_prefix_7 = record { tables = meta_at 0 ∷ docs_at 1 ∷ notes_at 2 ∷ queries_at 3 ∷ runs_at 4 ∷ picks_at 5 ∷ filters_at 6 ∷ []; indexes = []; views = [] }

@@ -64,7 +64,7 @@ pub record WritesVersion (version : ℤ) (old new : Database) : Type 0 where
 -- ---- within a transaction
 
 -- the transaction goes on, and these rows were put
-pub record Went (rows : ℕ → List Row) (old new : State) : Type 0 where
+pub record RowsWritten (rows : ℕ → List Row) (old new : State) : Type 0 where
   pub was_open : IsTrue new.is_open → IsTrue old.is_open
   pub is_open : IsTrue old.is_open → IsTrue new.is_open
   pub mode : new.in_transaction ≡ true
@@ -120,8 +120,8 @@ pub record IsAfter (change : Change) (old : State) (trees : Trees) : Type 0 wher
   pub is : trees ≡ db.trees
 
 -- a crash leaves these trees alone
-abbrev pub LeavesAlone : State → Trees → Type 0
-LeavesAlone s db = (trees : Trees) → s.may_leave trees → trees ≡ db
+abbrev pub LeavesOnlyTrees : State → Trees → Type 0
+LeavesOnlyTrees s db = (trees : Trees) → s.may_leave trees → trees ≡ db
 
 -- ---- the tables that a store tells
 

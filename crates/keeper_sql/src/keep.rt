@@ -5,7 +5,7 @@ ghost use Rattle.sqlite.specs.Held.{state};
 ghost use Rattle.sqlite.specs.State.{HasCleanDisk, Survives, IsUnchanged, IsLive};
 ghost use Rattle.sqlite_trees.specs.Tree.{Trees};
 ghost use Rattle.keeper_sql.specs.RowsAsValues.{rows_of, IsReadBack};
-ghost use Rattle.keeper_sql.specs.Store.{Commits, IsAfter, LeavesAlone};
+ghost use Rattle.keeper_sql.specs.Store.{Commits, IsAfter, LeavesOnlyTrees};
 
 use crate::change::commit_change;
 use keeper_core::CommitFault;
@@ -20,25 +20,25 @@ pub fn is_memory(error: &Error) -> bool
 }
 
 // Between two calls a crash leaves what the connection shows.
-pub fn look<S: Alter>(conn: &Connection<S>) -> bool
+pub fn is_settled<S: Alter>(conn: &Connection<S>) -> bool
     requires { (state S.Store conn.now).in_transaction ≡ false }
     ensures live { IsLive (state S.Store conn.now) }
     ensures committed { IsTrue (state S.Store conn.now).is_open → (state S.Store conn.now).now ≡ (state S.Store conn.now).committed }
-    ensures alone { IsTrue (state S.Store conn.now).is_open → LeavesAlone (state S.Store conn.now) (state S.Store conn.now).now.trees }
+    ensures alone { IsTrue (state S.Store conn.now).is_open → LeavesOnlyTrees (state S.Store conn.now) (state S.Store conn.now).now.trees }
 {
     let _schema = conn.schema();
     conn.is_autocommit()
 }
 
 // Is the store still open?
-pub fn stands<S: Alter>(conn: &mut Connection<S>) -> bool
+pub fn is_still_open<S: Alter>(conn: &mut Connection<S>) -> bool
     requires { (state S.Store conn.old).in_transaction ≡ false }
     ensures ended { (state S.Store conn.new).in_transaction ≡ false }
     ensures same { HasCleanDisk (state S.Store conn.new) → IsTrue result → IsUnchanged (state S.Store conn.old) (state S.Store conn.new) }
-    ensures alone { HasCleanDisk (state S.Store conn.new) → IsTrue result → LeavesAlone (state S.Store conn.new) (state S.Store conn.new).now.trees }
+    ensures alone { HasCleanDisk (state S.Store conn.new) → IsTrue result → LeavesOnlyTrees (state S.Store conn.new) (state S.Store conn.new).now.trees }
     ensures survives { Survives (state S.Store conn.old) (state S.Store conn.new) (λ _. ⊥) }
 {
-    conn.prepare("SELECT 1").is_ok() && look(conn)
+    conn.prepare("SELECT 1").is_ok() && is_settled(conn)
 }
 
 // Was memory wanting, and is the store as it was?
@@ -46,10 +46,10 @@ pub fn is_only_memory<S: Alter>(conn: &mut Connection<S>, error: &Error) -> bool
     requires { (state S.Store conn.old).in_transaction ≡ false }
     ensures ended { (state S.Store conn.new).in_transaction ≡ false }
     ensures same { HasCleanDisk (state S.Store conn.new) → IsTrue result → IsUnchanged (state S.Store conn.old) (state S.Store conn.new) }
-    ensures alone { HasCleanDisk (state S.Store conn.new) → IsTrue result → LeavesAlone (state S.Store conn.new) (state S.Store conn.new).now.trees }
+    ensures alone { HasCleanDisk (state S.Store conn.new) → IsTrue result → LeavesOnlyTrees (state S.Store conn.new) (state S.Store conn.new).now.trees }
     ensures survives { Survives (state S.Store conn.old) (state S.Store conn.new) (λ _. ⊥) }
 {
-    is_memory(error) && stands(conn)
+    is_memory(error) && is_still_open(conn)
 }
 
 /// Commits a change: all its rows or none.
@@ -59,11 +59,11 @@ pub fn keep<S: Alter>(conn: &mut Connection<S>, change: &Change) -> Result<(), C
     ensures honest { HasCleanDisk (state S.Store conn.new) → HasCleanDisk (state S.Store conn.old) }
     ensures ok { HasCleanDisk (state S.Store conn.new) → OnOk result (Commits (rows_of change.now) (state S.Store conn.old) (state S.Store conn.new)) }
     ensures read { OnOk result (IsReadBack change.now) }
-    ensures alone { HasCleanDisk (state S.Store conn.new) → OnOk result (LeavesAlone (state S.Store conn.new) (state S.Store conn.new).now.trees) }
-    ensures memory { HasCleanDisk (state S.Store conn.new) → result ≡ Err CommitFault.Memory → IsTrue (state S.Store conn.new).is_open × ((state S.Store conn.new).now ≡ (state S.Store conn.old).now) × LeavesAlone (state S.Store conn.new) (state S.Store conn.new).now.trees }
+    ensures alone { HasCleanDisk (state S.Store conn.new) → OnOk result (LeavesOnlyTrees (state S.Store conn.new) (state S.Store conn.new).now.trees) }
+    ensures memory { HasCleanDisk (state S.Store conn.new) → result ≡ Err CommitFault.Memory → IsTrue (state S.Store conn.new).is_open × ((state S.Store conn.new).now ≡ (state S.Store conn.old).now) × LeavesOnlyTrees (state S.Store conn.new) (state S.Store conn.new).now.trees }
     ensures crash { HasCleanDisk (state S.Store conn.new) → IsTrue (state S.Store conn.old).is_open → (db : Trees) → (state S.Store conn.new).may_leave db → (db ≡ (state S.Store conn.old).now.trees) ⊎ IsAfter change.now (state S.Store conn.old) db }
 {
-    let _settled = look(conn);
+    let _settled = is_settled(conn);
     match commit_change(conn, change) {
         Ok(()) => Ok(()),
         Err(error) => {

@@ -6,11 +6,11 @@ ghost use Rattle.sqlite_trees.specs.Tree.{Trees};
 ghost use Rattle.sqlite.specs.Effect.{Database};
 ghost use Rattle.sqlite.specs.Held.{state};
 ghost use Rattle.sqlite.specs.State.{HasCleanDisk, Survives, IsLive};
-ghost use Rattle.keeper_sql.specs.Store.{Undone, IsOurs, OpensTo, OpensAt, IsAfterOpen, LeavesAlone};
+ghost use Rattle.keeper_sql.specs.Store.{Undone, IsOurs, OpensTo, OpensAt, IsAfterOpen, LeavesOnlyTrees};
 ghost use Rattle.keeper_sql.specs.Opening.{IsOpened, IsRefusedAt, IsStored, IsHeld, UnlessHeld, UnlessFailed};
 
 use crate::create::create_all;
-use crate::keep::{is_only_memory, look, stands};
+use crate::keep::{is_only_memory, is_settled, is_still_open};
 use crate::opening::read_tables;
 use crate::version::settle_version;
 use keeper_core::AttachFault;
@@ -86,20 +86,20 @@ pub fn open_kept<S: Alter>(alloc: Global, conn: &mut Connection<S>) -> Result<Ta
     ensures never { IfAlien result (λ v. (v ≢ pos 1) × (v ≢ pos 2)) }
     ensures ok { HasCleanDisk (state S.Store conn.new) → IsOurs (state S.Store conn.old).now → IfOk result (IsHeld (state S.Store conn.old) (state S.Store conn.new)) }
     ensures live { OnOk result (IsLive (state S.Store conn.new)) }
-    ensures given_alone { HasCleanDisk (state S.Store conn.new) → IsOurs (state S.Store conn.old).now → OnOk result (LeavesAlone (state S.Store conn.new) (state S.Store conn.new).now.trees) }
-    ensures alone { HasCleanDisk (state S.Store conn.new) → UnlessFailed result (LeavesAlone (state S.Store conn.new) (state S.Store conn.new).now.trees) }
+    ensures given_alone { HasCleanDisk (state S.Store conn.new) → IsOurs (state S.Store conn.old).now → OnOk result (LeavesOnlyTrees (state S.Store conn.new) (state S.Store conn.new).now.trees) }
+    ensures alone { HasCleanDisk (state S.Store conn.new) → UnlessFailed result (LeavesOnlyTrees (state S.Store conn.new) (state S.Store conn.new).now.trees) }
     ensures still { HasCleanDisk (state S.Store conn.new) → IsOurs (state S.Store conn.old).now → UnlessFailed result (IsTrue (state S.Store conn.new).is_open × IsTrue (state S.Store conn.old).is_open × ((state S.Store conn.new).now ≡ (state S.Store conn.old).now)) }
     ensures alien { HasCleanDisk (state S.Store conn.new) → IsOurs (state S.Store conn.old).now → IfAlien result (λ v. (db : Database) × OpensTo v (state S.Store conn.old).now db) }
     ensures crash { HasCleanDisk (state S.Store conn.new) → IsTrue (state S.Store conn.old).is_open → (db : Trees) → (state S.Store conn.new).may_leave db → (db ≡ (state S.Store conn.old).now.trees) ⊎ IsAfterOpen (state S.Store conn.old) db }
 {
-    let _settled = look(conn);
+    let _settled = is_settled(conn);
     match open_store(alloc, conn) {
         Ok(Opened::Held(tables)) => {
-            let _alone = look(conn);
+            let _alone = is_settled(conn);
             Ok(tables)
         }
         Ok(Opened::Alien(version)) => {
-            if stands(conn) {
+            if is_still_open(conn) {
                 Err(AttachFault::Alien { version })
             } else {
                 Err(AttachFault::Failed)

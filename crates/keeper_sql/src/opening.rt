@@ -19,20 +19,20 @@ use tap_base::Rows;
 use tap_rows::{Doc, FilterRow, Note, Pick, QueryRow, RunRow, Tables};
 
 #[derive(Drop)]
-struct Written {
+struct EarlierTables {
     docs: Rows<Doc>,
     notes: Rows<Note>,
     queries: Rows<QueryRow>,
 }
 
 #[derive(Drop)]
-struct Derived {
+struct LaterTables {
     runs: Rows<RunRow>,
     picks: Rows<Pick>,
     filters: Rows<FilterRow>,
 }
 
-fn read_written<S: Alter>(alloc: Global, tx: &mut Transaction<'_, S>) -> Result<Written, Error>
+fn read_written<S: Alter>(alloc: Global, tx: &mut Transaction<'_, S>) -> Result<EarlierTables, Error>
     ensures same_reference { tx.new.conn.ghost_name ≡ tx.old.conn.ghost_name }
     ensures same { HasCleanDisk (state S.Store tx.new.conn.now) → (state S.Store tx.old.conn.now).now.schema ≡ store_schema → OnOk result (IsUnchanged (state S.Store tx.old.conn.now) (state S.Store tx.new.conn.now)) }
     ensures read { HasCleanDisk (state S.Store tx.new.conn.now) → (state S.Store tx.old.conn.now).now.schema ≡ store_schema → IfOk result (λ all. AreAllKeyed (state S.Store tx.old.conn.now).now → (all.docs ≡ map doc_in ((state S.Store tx.old.conn.now).now.trees 1)) × (all.notes ≡ map note_in ((state S.Store tx.old.conn.now).now.trees 2)) × (all.queries ≡ map query_in ((state S.Store tx.old.conn.now).now.trees 3))) }
@@ -48,7 +48,7 @@ fn read_written<S: Alter>(alloc: Global, tx: &mut Transaction<'_, S>) -> Result<
         Err(error) => return Err(error),
     };
     match read_queries(alloc, tx) {
-        Ok(queries) => Ok(Written {
+        Ok(queries) => Ok(EarlierTables {
             docs,
             notes,
             queries,
@@ -57,7 +57,7 @@ fn read_written<S: Alter>(alloc: Global, tx: &mut Transaction<'_, S>) -> Result<
     }
 }
 
-fn read_derived<S: Alter>(alloc: Global, tx: &mut Transaction<'_, S>) -> Result<Derived, Error>
+fn read_derived<S: Alter>(alloc: Global, tx: &mut Transaction<'_, S>) -> Result<LaterTables, Error>
     ensures same_reference { tx.new.conn.ghost_name ≡ tx.old.conn.ghost_name }
     ensures same { HasCleanDisk (state S.Store tx.new.conn.now) → (state S.Store tx.old.conn.now).now.schema ≡ store_schema → OnOk result (IsUnchanged (state S.Store tx.old.conn.now) (state S.Store tx.new.conn.now)) }
     ensures read { HasCleanDisk (state S.Store tx.new.conn.now) → (state S.Store tx.old.conn.now).now.schema ≡ store_schema → IfOk result (λ all. AreAllKeyed (state S.Store tx.old.conn.now).now → (all.runs ≡ map run_in ((state S.Store tx.old.conn.now).now.trees 4)) × (all.picks ≡ map pick_in ((state S.Store tx.old.conn.now).now.trees 5)) × (all.filters ≡ map filter_in ((state S.Store tx.old.conn.now).now.trees 6))) }
@@ -73,7 +73,7 @@ fn read_derived<S: Alter>(alloc: Global, tx: &mut Transaction<'_, S>) -> Result<
         Err(error) => return Err(error),
     };
     match read_filters(alloc, tx) {
-        Ok(filters) => Ok(Derived {
+        Ok(filters) => Ok(LaterTables {
             runs,
             picks,
             filters,

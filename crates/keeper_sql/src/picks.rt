@@ -5,7 +5,7 @@ ghost use Rattle.sqlite.specs.Held.{state};
 ghost use Rattle.sqlite.specs.State.{HasCleanDisk, Survives, IsUnchanged};
 ghost use Rattle.sqlite.specs.Values.{bound};
 ghost use Rattle.keeper_sql.specs.RowsAsValues.{given_pick, pick_in, pick_shown, as_kept};
-ghost use Rattle.keeper_sql.specs.Store.{only, Went, Undone, AreKeyed};
+ghost use Rattle.keeper_sql.specs.Store.{only, RowsWritten, Undone, AreKeyed};
 ghost use Rattle.keeper_sql.specs.Schema.{store_schema};
 
 use crate::reading::{integer, no_memory, number};
@@ -31,7 +31,7 @@ fn pick_values(pick: &Pick) -> [ValueRef<'_>; 5]
 /// Adds a delivered document.
 pub fn insert_pick<S: Alter>(tx: &mut Transaction<'_, S>, pick: &Pick) -> Result<(), Error>
     ensures same_reference { tx.new.conn.ghost_name ≡ tx.old.conn.ghost_name }
-    ensures ok { HasCleanDisk (state S.Store tx.new.conn.now) → IsTrue (state S.Store tx.old.conn.now).in_transaction → OnOk result (Went (only 5 (as_kept (given_pick pick.now) ∷ [])) (state S.Store tx.old.conn.now) (state S.Store tx.new.conn.now)) }
+    ensures ok { HasCleanDisk (state S.Store tx.new.conn.now) → IsTrue (state S.Store tx.old.conn.now).in_transaction → OnOk result (RowsWritten (only 5 (as_kept (given_pick pick.now) ∷ [])) (state S.Store tx.old.conn.now) (state S.Store tx.new.conn.now)) }
     ensures err { HasCleanDisk (state S.Store tx.new.conn.now) → IsTrue (state S.Store tx.old.conn.now).in_transaction → OnErr result (Undone (state S.Store tx.old.conn.now) (state S.Store tx.new.conn.now)) }
     ensures survives { Survives (state S.Store tx.old.conn.now) (state S.Store tx.new.conn.now) (λ _. ⊥) }
     ensures read { OnOk result (pick_in (as_kept (given_pick pick.now)) ≡ pick.now) }
@@ -49,7 +49,7 @@ pub fn insert_pick<S: Alter>(tx: &mut Transaction<'_, S>, pick: &Pick) -> Result
 /// Adds the delivered documents, in their order.
 pub fn insert_picks<S: Alter>(tx: &mut Transaction<'_, S>, picks: &[Pick]) -> Result<(), Error>
     ensures same_reference { tx.new.conn.ghost_name ≡ tx.old.conn.ghost_name }
-    ensures ok { HasCleanDisk (state S.Store tx.new.conn.now) → IsTrue (state S.Store tx.old.conn.now).in_transaction → OnOk result (Went (only 5 (map (λ x. as_kept (given_pick x)) picks.now)) (state S.Store tx.old.conn.now) (state S.Store tx.new.conn.now)) }
+    ensures ok { HasCleanDisk (state S.Store tx.new.conn.now) → IsTrue (state S.Store tx.old.conn.now).in_transaction → OnOk result (RowsWritten (only 5 (map (λ x. as_kept (given_pick x)) picks.now)) (state S.Store tx.old.conn.now) (state S.Store tx.new.conn.now)) }
     ensures err { HasCleanDisk (state S.Store tx.new.conn.now) → IsTrue (state S.Store tx.old.conn.now).in_transaction → OnErr result (Undone (state S.Store tx.old.conn.now) (state S.Store tx.new.conn.now)) }
     ensures survives { Survives (state S.Store tx.old.conn.now) (state S.Store tx.new.conn.now) (λ _. ⊥) }
     ensures read { OnOk result (map pick_in (map (λ x. as_kept (given_pick x)) picks.now) ≡ picks.now) }

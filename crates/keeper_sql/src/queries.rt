@@ -5,7 +5,7 @@ ghost use Rattle.sqlite.specs.Held.{state};
 ghost use Rattle.sqlite.specs.State.{HasCleanDisk, Survives, IsUnchanged};
 ghost use Rattle.sqlite.specs.Values.{bound};
 ghost use Rattle.keeper_sql.specs.RowsAsValues.{given_query, query_in, query_shown, as_kept};
-ghost use Rattle.keeper_sql.specs.Store.{only, Went, Undone, AreKeyed};
+ghost use Rattle.keeper_sql.specs.Store.{only, RowsWritten, Undone, AreKeyed};
 ghost use Rattle.keeper_sql.specs.Schema.{store_schema};
 
 use crate::reading::{bytes, integer, no_memory, number};
@@ -31,7 +31,7 @@ fn query_values(query: &QueryRow) -> [ValueRef<'_>; 5]
 /// Adds a query.
 pub fn insert_query<S: Alter>(tx: &mut Transaction<'_, S>, query: &QueryRow) -> Result<(), Error>
     ensures same_reference { tx.new.conn.ghost_name ≡ tx.old.conn.ghost_name }
-    ensures ok { HasCleanDisk (state S.Store tx.new.conn.now) → IsTrue (state S.Store tx.old.conn.now).in_transaction → OnOk result (Went (only 3 (as_kept (given_query query.now) ∷ [])) (state S.Store tx.old.conn.now) (state S.Store tx.new.conn.now)) }
+    ensures ok { HasCleanDisk (state S.Store tx.new.conn.now) → IsTrue (state S.Store tx.old.conn.now).in_transaction → OnOk result (RowsWritten (only 3 (as_kept (given_query query.now) ∷ [])) (state S.Store tx.old.conn.now) (state S.Store tx.new.conn.now)) }
     ensures err { HasCleanDisk (state S.Store tx.new.conn.now) → IsTrue (state S.Store tx.old.conn.now).in_transaction → OnErr result (Undone (state S.Store tx.old.conn.now) (state S.Store tx.new.conn.now)) }
     ensures survives { Survives (state S.Store tx.old.conn.now) (state S.Store tx.new.conn.now) (λ _. ⊥) }
     ensures read { OnOk result (query_in (as_kept (given_query query.now)) ≡ query.now) }

@@ -5,7 +5,7 @@ ghost use Rattle.sqlite.specs.Held.{state};
 ghost use Rattle.sqlite.specs.State.{HasCleanDisk, Survives, IsUnchanged};
 ghost use Rattle.sqlite.specs.Values.{bound};
 ghost use Rattle.keeper_sql.specs.RowsAsValues.{given_run, run_in, run_shown, as_kept};
-ghost use Rattle.keeper_sql.specs.Store.{only, Went, Undone, AreKeyed};
+ghost use Rattle.keeper_sql.specs.Store.{only, RowsWritten, Undone, AreKeyed};
 ghost use Rattle.keeper_sql.specs.Schema.{store_schema};
 
 use crate::reading::{integer, no_memory, number};
@@ -29,7 +29,7 @@ fn run_values(run: &RunRow) -> [ValueRef<'_>; 3]
 /// Adds a run.
 pub fn insert_run<S: Alter>(tx: &mut Transaction<'_, S>, run: &RunRow) -> Result<(), Error>
     ensures same_reference { tx.new.conn.ghost_name ≡ tx.old.conn.ghost_name }
-    ensures ok { HasCleanDisk (state S.Store tx.new.conn.now) → IsTrue (state S.Store tx.old.conn.now).in_transaction → OnOk result (Went (only 4 (as_kept (given_run run.now) ∷ [])) (state S.Store tx.old.conn.now) (state S.Store tx.new.conn.now)) }
+    ensures ok { HasCleanDisk (state S.Store tx.new.conn.now) → IsTrue (state S.Store tx.old.conn.now).in_transaction → OnOk result (RowsWritten (only 4 (as_kept (given_run run.now) ∷ [])) (state S.Store tx.old.conn.now) (state S.Store tx.new.conn.now)) }
     ensures err { HasCleanDisk (state S.Store tx.new.conn.now) → IsTrue (state S.Store tx.old.conn.now).in_transaction → OnErr result (Undone (state S.Store tx.old.conn.now) (state S.Store tx.new.conn.now)) }
     ensures survives { Survives (state S.Store tx.old.conn.now) (state S.Store tx.new.conn.now) (λ _. ⊥) }
     ensures read { OnOk result (run_in (as_kept (given_run run.now)) ≡ run.now) }

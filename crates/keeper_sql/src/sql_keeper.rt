@@ -2,7 +2,7 @@
 
 ghost use Rattle.std.specs.Prelude.{◌≡◌, false, None};
 
-use crate::keep::{keep, look};
+use crate::keep::{keep, is_settled};
 use crate::opened::open_kept;
 use keeper_core::{AttachFault, CommitFault, Keeper};
 use sqlite::{Alter, Connection};
@@ -77,7 +77,7 @@ impl<S: Alter> Keeper for SqlKeeper<S> {
     ghost faults = { λ k. k.faults };
 
     fn attach(&mut self, alloc: Global, at: &str) -> Result<Tables, AttachFault> {
-        let _settled = look(&self.connection);
+        let _settled = is_settled(&self.connection);
         let place = Text::from_slice(alloc, at.as_bytes())?;
         match open_kept(alloc, &mut self.connection) {
             Ok(tables) => {

@@ -77,7 +77,7 @@ pub(crate) fn blank_place(bytes: &[u8]) -> usize
 }
 
 // What follows the byte at this place.
-pub(crate) fn after(bytes: &[u8], at: usize) -> &[u8]
+pub(crate) fn after_byte(bytes: &[u8], at: usize) -> &[u8]
     ensures { result.now ≡ drop (at + 1) bytes.now }
 {
     if at < bytes.len() {

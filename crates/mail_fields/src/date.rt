@@ -5,7 +5,7 @@ ghost use Rattle.std.specs.Str.{all_ascii_digits, str_eq_ignore_ascii_case};
 ghost use Rattle.jiff_core.specs.Calendar.{days_from_civil, IsWithin};
 ghost use Rattle.tap_rows.specs.Dates.{month_of, time_of, hours_west, offset_of, zone_of, first_zone, has_day, second_of, second_of_parts, digits_within, date_from, date_of, date_parts, without_weekday, begins_with_letter, clock_of, clock_second, in_range};
 
-use crate::bytes::{after, place_of};
+use crate::bytes::{after_byte, place_of};
 use crate::numbers::{are_digits, number, number_at_most, value_of_digits, year};
 use crate::parts::{four_parts, next_part, uncommented};
 use jiff::civil::Date;
@@ -172,14 +172,14 @@ fn time(part: &[u8]) -> Option<u32>
     if first == part.len() {
         return None;
     }
-    let rest = after(part, first);
+    let rest = after_byte(part, first);
     let second = place_of(b':', rest);
     let hour = number_at_most(23, &part[..first]);
     let minute = number_at_most(59, &rest[..second]);
     if second == rest.len() {
         return clock(hour, minute, Some(0));
     }
-    let last = after(rest, second);
+    let last = after_byte(rest, second);
     if place_of(b':', last) < last.len() {
         return None;
     }

@@ -4,7 +4,7 @@ ghost use Rattle.tap_base.specs.Bytes.{is_blank};
 ghost use Rattle.tap_rows.specs.Entries.{address_of, entries_of, listed, referred};
 ghost use Rattle.mail_fields.specs.Rests.{comma_place};
 
-use crate::bytes::{after, blank_place, place_of, trim};
+use crate::bytes::{after_byte, blank_place, place_of, trim};
 use std::alloc::Global;
 use tap_base::{Memory, Texts, lower};
 
@@ -12,7 +12,7 @@ use tap_base::{Memory, Texts, lower};
 fn address(part: &[u8]) -> &[u8]
     ensures { result.now ≡ address_of part.now }
 {
-    let inner = after(part, place_of(b'<', part));
+    let inner = after_byte(part, place_of(b'<', part));
     let end = place_of(b'>', inner);
     if end < inner.len() {
         &inner[..end]
@@ -56,7 +56,7 @@ pub(crate) fn push_listed(alloc: Global, value: &[u8], into: &mut Texts) -> Resu
     'parts: while !rest.is_empty() {
         let len = comma_len(rest);
         push_entry(alloc, &rest[..len], into)?;
-        rest = after(rest, len);
+        rest = after_byte(rest, len);
     }
     Ok(())
 }
@@ -69,7 +69,7 @@ pub(crate) fn push_referred(alloc: Global, value: &[u8], into: &mut Texts) -> Re
     'parts: while !rest.is_empty() {
         let len = blank_place(rest);
         push_entry(alloc, &rest[..len], into)?;
-        rest = after(rest, len);
+        rest = after_byte(rest, len);
     }
     Ok(())
 }

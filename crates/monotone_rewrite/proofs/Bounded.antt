@@ -12,7 +12,7 @@ use Rattle.tql_core.specs.Condition.{Condition, Always, Never, Plain, NowAtLeast
 use Rattle.tql_core.specs.Bounds.{is_near, is_bounded_base, is_bounded, are_bounded}
 use Rattle.time_marks.specs.declared.mark.Mark.{Mark}
 use Rattle.time_marks.specs.declared.mark.Step.{Step}
-use Rattle.time_marks.specs.Marks.{copy, copy_base, copy_term, arrival_term, step_of, after, mark_if, marks, m, fixed_term, marks_from, rising_from}
+use Rattle.time_marks.specs.Marks.{copy, copy_base, copy_term, arrival_term, step_of, under_step, mark_if, marks, document_var, fixed_term, marks_from, rising_from}
 
 abbrev pub bounded_marks : List Mark → Bool
 bounded_marks ms = list_all (λ mark. is_bounded mark.at) ms
@@ -31,7 +31,7 @@ both : (ms ns : List Mark) → bounded_marks ms ≡ true → bounded_marks ns �
 both [] ns h k = k
 both (x ∷ ms) ns h k = let p = and_parts _ _ h in and_from _ _ p.0 (both ms ns p.1 k)
 
-below_step : (step : Step) (ms : List Mark) → bounded_marks ms ≡ true → bounded_marks (map (after step) ms) ≡ true
+below_step : (step : Step) (ms : List Mark) → bounded_marks ms ≡ true → bounded_marks (map (under_step step) ms) ≡ true
 below_step step [] h = refl
 below_step step (x ∷ ms) h = let p = and_parts _ _ h in and_from _ _ p.0 (below_step step ms p.1)
 
@@ -58,7 +58,7 @@ start_near a low high =
 
 pub rising_bounded : (c : Condition) (a : ℤ) → are_bounded c ≡ true → pos 0 ≤ℤ a → a ≤ℤ pos 250000000000 → bounded_marks (rising_from c a) ≡ true
 rising_bounded c a h low high =
-    below_step (step_of m Docs c) (marks_from c a)
-    (both (mark_if true (arrival_term m) ++ marks c true) (mark_if (int_lt (pos 0) a) (fixed_term a))
-    (both (mark_if true (arrival_term m)) (marks c true) refl (inner c true h))
+    below_step (step_of document_var Docs c) (marks_from c a)
+    (both (mark_if true (arrival_term document_var) ++ marks c true) (mark_if (int_lt (pos 0) a) (fixed_term a))
+    (both (mark_if true (arrival_term document_var)) (marks c true) refl (inner c true h))
     (one (int_lt (pos 0) a) (fixed_term a) (start_near a low high)))

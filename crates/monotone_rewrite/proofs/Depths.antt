@@ -9,9 +9,10 @@ use Rattle.tql_core.specs.declared.term.Var.{Var}
 use Rattle.tql_core.specs.declared.atom.Atom.TheVariants.{Numbers, Texts, Times, Has}
 use Rattle.tql_core.specs.Condition.{Condition, Always, Never, Plain, NowAtLeast, NowBefore, All, Either, Not, Exists}
 use Rattle.tql_core.specs.Values.{compare}
-use Rattle.tql_core.specs.Scope.{In, Scoped, IsQuery}
+use Rattle.tql_core.specs.Scope.{Scoped, IsQuery}
+use Rattle.tap_rows.specs.Kept.{In}
 use Rattle.time_marks.specs.declared.mark.Mark.{Mark}
-use Rattle.time_marks.specs.Marks.{copy, copy_term, arrival_term, step_of, after, mark_if, marks, m, fixed_term, marks_from, body}
+use Rattle.time_marks.specs.Marks.{copy, copy_term, arrival_term, step_of, under_step, mark_if, marks, document_var, fixed_term, marks_from, body}
 use Rattle.time_marks.specs.Found.{higher, nested}
 use Rattle.time_marks.proofs.Lists.{append_in, map_in}
 use Rattle.monotone_rewrite.specs.Folding.{Known, Yes, No, Open, known, constant, same_base, is_there, fold_all, fold_either, fold_not, fold_exists, fold}
@@ -56,7 +57,7 @@ short (Either l r) up mark i =
     ]
 short (Not x) up mark i = short x (not up) mark i
 short (Exists v t x) up mark i =
-    let k = map_in (after (step_of v t x)) (mark_if up (arrival_term (copy v)) ++ marks x up) mark i in
+    let k = map_in (under_step (step_of v t x)) (mark_if up (arrival_term (copy v)) ++ marks x up) mark i in
     subst (λ z. length z.path ≤ suc (nested x)) (sym k.2) (longer k.0 (inner (λ z h. short x up z h) k.0 k.1))
   where
     inner : ((z : Mark) → In z (marks x up) → length z.path ≤ nested x) → (z : Mark) → In z (mark_if up (arrival_term (copy v)) ++ marks x up) → length z.path ≤ nested x
@@ -116,9 +117,9 @@ nested_few c scope s = omega (arith, nested_count c scope s, free_few (has 1 sco
 
 pub short_from : (c : Condition) (a : ℤ) → IsQuery c → (mark : Mark) → In mark (marks_from c a) → length mark.path ≤ 5
 short_from c a q mark i =
-    elim (append_in (mark_if true (arrival_term m) ++ marks c true) (mark_if (int_lt (pos 0) a) (fixed_term a)) mark i) [
-      | inl j ↦ elim (append_in (mark_if true (arrival_term m)) (marks c true) mark j) [
-        | inl k ↦ omega (arith, empty_here true (arrival_term m) mark k)
+    elim (append_in (mark_if true (arrival_term document_var) ++ marks c true) (mark_if (int_lt (pos 0) a) (fixed_term a)) mark i) [
+      | inl j ↦ elim (append_in (mark_if true (arrival_term document_var)) (marks c true) mark j) [
+        | inl k ↦ omega (arith, empty_here true (arrival_term document_var) mark k)
         | inr k ↦ omega (arith, short c true mark k, nested_few c (0 ∷ []) q)
       ]
       | inr j ↦ omega (arith, empty_here (int_lt (pos 0) a) (fixed_term a) mark j)

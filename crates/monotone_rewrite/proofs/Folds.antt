@@ -24,7 +24,8 @@ use Rattle.tql_core.specs.Row.{Row, arrival, rows_of}
 use Rattle.tap_rows.specs.declared.tables.Tables.{Tables}
 use Rattle.tql_core.specs.Values.{Env, bind, lookup, on_row, base_value, plus_to, value, both, compare}
 use Rattle.tql_core.specs.Holds.{truth}
-use Rattle.tql_core.specs.Scope.{In, BaseIn, NumIn, TextIn, AtomIn, Scoped}
+use Rattle.tql_core.specs.Scope.{BaseIn, NumIn, TextIn, AtomIn, Scoped}
+use Rattle.tap_rows.specs.Kept.{In}
 use Rattle.time_marks.specs.Marks.{copy_base, copy_term, body}
 use Rattle.monotone_rewrite.specs.Folding.{Known, Yes, No, Open, known, is_no, constant, same_base, is_there, fold_atom, fold_all, fold_either, fold_not, fold_exists, fold}
 use Rattle.time_marks.specs.Found.{Named}

@@ -11,7 +11,7 @@ use Rattle.tap_rows.specs.Results.{is_before, put_in, hit_of, in_order, at_least
 use Rattle.tql_core.specs.Holds.{truth_of}
 use Rattle.time_marks.proofs.Asked.{given, gives, first, count_between, union}
 use Rattle.tap_rows.specs.Seconds.{first_from}
-use Rattle.tql_core.specs.Scope.{In}
+use Rattle.tap_rows.specs.Kept.{In}
 use Rattle.tap_rows.specs.declared.results.Hit.{Hit}
 use Rattle.monotone_rewrite.specs.Laws.{LaterRowsKeepFirst, union_docs, in_union, IsLeastGrowing, UnionIsLeast}
 use Rattle.tap_rows.proofs.LaterLaws.{first-later}

@@ -10,7 +10,8 @@ use Rattle.tql_core.specs.Condition.{Condition}
 use Rattle.tap_rows.specs.declared.tables.Tables.{Tables}
 use Rattle.time_marks.proofs.Asked.{given, first, count_between}
 use Rattle.tap_rows.specs.Seconds.{first_from}
-use Rattle.tql_core.specs.Scope.{In, IsQuery}
+use Rattle.tql_core.specs.Scope.{IsQuery}
+use Rattle.tap_rows.specs.Kept.{In}
 use Rattle.time_marks.specs.Probes.{found, least}
 use Rattle.monotone_rewrite.specs.Query.{unfolded}
 use Rattle.tap_rows.specs.Results.{hit_of, in_order, at_least}

@@ -11,12 +11,13 @@ use Rattle.tql_core.specs.Condition.{Condition, Never}
 use Rattle.tql_core.specs.Row.{Row, OfDoc, arrival, date}
 use Rattle.tap_rows.specs.declared.tables.Tables.{Tables}
 use Rattle.tap_rows.specs.Results.{in_order}
-use Rattle.tql_core.specs.Values.{Env, bind, lookup, on_row, up, day_of, base_value, plus_to, value}
+use Rattle.tql_core.specs.Values.{Env, bind, lookup, on_row, round_up_to_day, day_of, base_value, plus_to, value}
 use Rattle.tql_core.specs.Holds.{truth, asked_of}
-use Rattle.tql_core.specs.Scope.{In, BaseIn, IsQuery}
+use Rattle.tql_core.specs.Scope.{BaseIn, IsQuery}
+use Rattle.tap_rows.specs.Kept.{In}
 use Rattle.time_marks.specs.declared.mark.Step.{Step}
 use Rattle.time_marks.specs.declared.mark.Mark.{Mark}
-use Rattle.time_marks.specs.Marks.{copy_base, copy_term, step_of, after, m, marks_from, rising_from, body}
+use Rattle.time_marks.specs.Marks.{copy_base, copy_term, step_of, under_step, document_var, marks_from, rising_from, body}
 use Rattle.monotone_rewrite.specs.Folding.{known, is_no, fold}
 use Rattle.time_marks.specs.Probes.{Probe, least, choices, some_rows, is_value, guards_true, come_by, fits, finds, found}
 use Rattle.time_marks.specs.Distinct.{same_probe, distinct_probes}
@@ -78,7 +79,7 @@ at_bound (Arrival v) env z e h k (inr i) = h k i
 at_bound (Date v) env z e h k (inl i) = let r = row_there (lookup v.0 env) date z e in (r.0, subst (λ j. lookup j env ≡ Some r.0) (sym i) r.1)
 at_bound (Date v) env z e h k (inr i) = h k i
 at_bound Fixed env z e h k i = h k i
-at_bound (ArrivalDay v n) env z e h k (inl i) = let r = row_there (lookup v.0 env) (λ r. Some (up (arrival r +ℤ n))) z e in (r.0, subst (λ j. lookup j env ≡ Some r.0) (sym i) r.1)
+at_bound (ArrivalDay v n) env z e h k (inl i) = let r = row_there (lookup v.0 env) (λ r. Some (round_up_to_day (arrival r +ℤ n))) z e in (r.0, subst (λ j. lookup j env ≡ Some r.0) (sym i) r.1)
 at_bound (ArrivalDay v n) env z e h k (inr i) = h k i
 at_bound (DateDay v n) env z e h k (inl i) = let r = row_there (lookup v.0 env) (λ r. day_of n (date r)) z e in (r.0, subst (λ j. lookup j env ≡ Some r.0) (sym i) r.1)
 at_bound (DateDay v n) env z e h k (inr i) = h k i
@@ -104,7 +105,7 @@ module _ (T : Tables) (d : Doc) where
 
 -- the probe of a mark below the first step
 abbrev probe_at : Condition → Mark → Probe
-probe_at c mark = probe_of c (after (step_of m Docs c) mark)
+probe_at c mark = probe_of c (under_step (step_of document_var Docs c) mark)
 
 filter_found : (test keep : Probe → Bool) → (X : List Probe) → ((p : Probe) → keep p ≡ false → test p ≡ false) → list_any test (filter keep X) ≡ list_any test X
 filter_found test keep [] h = refl
@@ -142,7 +143,7 @@ module _ (c : Condition) (a : ℤ) (q : IsQuery c) (T : Tables) (d : Doc) (b : �
       filter_found (finds T d b) can_find (map fold_probe (unfolded c a)) never_finds
       ∙ map_found (finds T d b) fold_probe (unfolded c a) (λ p i.
       let k = map_in (probe_of c) (rising_from c a) p i in
-      let l = map_in (after (step_of m Docs c)) (marks_from c a) k.0 k.1 in
+      let l = map_in (under_step (step_of document_var Docs c)) (marks_from c a) k.0 k.1 in
       let f = fine_from c a q l.0 l.1 in
       subst (λ r. finds T d b (fold_probe r) ≡ finds T d b r) (sym (k.2 ∙ ap (probe_of c) l.2)) (fold_finds l.0 f))
 

@@ -18,7 +18,7 @@ use Rattle.tql_core.specs.declared.atom.Atom.TheVariants.{Numbers, Times}
 use Rattle.tql_core.specs.Condition.{Condition, Always, Plain, NowAtLeast, NowBefore, All, Either, Not, Exists}
 use Rattle.tql_core.specs.Holds.{truth_of}
 use Rattle.time_marks.specs.declared.window.Window.{Window}
-use Rattle.time_marks.specs.Marks.{m}
+use Rattle.time_marks.specs.Marks.{document_var}
 use Rattle.time_marks.specs.Probes.{window_meaning}
 use Rattle.monotone_rewrite.specs.Query.{window}
 
@@ -48,20 +48,20 @@ until t = record { low = pos 0; high = pos t }
 
 -- between 3 and 6 seconds after its arrival
 abbrev between : Condition
-between = All (NowAtLeast (ts m 3)) (NowBefore (ts m 6))
+between = All (NowAtLeast (ts document_var 3)) (NowBefore (ts document_var 6))
 
 between-union : union_until (truth_of between) (rows (doc 1 100 ∷ []) []) (pos 0) (pos 200) ≡ hit 1 103 ∷ []
 between-union = refl
 
-between-probes : window between (pos 0) ≡ record { path = record { var = m; table = Docs; guards = [] } ∷ []; at = ts m 3; body = Always } ∷ []
+between-probes : window between (pos 0) ≡ record { path = record { var = document_var; table = Docs; guards = [] } ∷ []; at = ts document_var 3; body = Always } ∷ []
 between-probes = refl
 
 -- once before and once after: the first second counts
-either-union : union_until (truth_of (Either (NowBefore (ts m 2)) (NowAtLeast (ts m 10)))) (rows (doc 1 100 ∷ []) []) (pos 0) (pos 200) ≡ hit 1 100 ∷ []
+either-union : union_until (truth_of (Either (NowBefore (ts document_var 2)) (NowAtLeast (ts document_var 10)))) (rows (doc 1 100 ∷ []) []) (pos 0) (pos 200) ≡ hit 1 100 ∷ []
 either-union = refl
 
 abbrev of_doc : Var → Atom
-of_doc v = Numbers (Field v DocOf) Eq (Field m Id)
+of_doc v = Numbers (Field v DocOf) Eq (Field document_var Id)
 
 -- no note on it arrived less than 5 seconds ago
 abbrev unnoted : Condition
@@ -74,8 +74,8 @@ unnoted-window : window_meaning (window unnoted (pos 0)) (rows (doc 1 100 ∷ []
 unnoted-window = refl
 
 unnoted-probes : window unnoted (pos 0)
-    ≡ record { path = record { var = m; table = Docs; guards = [] } ∷ []; at = ts m 0; body = Not (Exists v1 Notes (All (Plain (Times (ts v1 0) Le (ts m 0))) (All (Plain (of_doc v1)) (Plain (Times (ts m 0) Lt (ts v1 5)))))) }
-    ∷ record { path = record { var = m; table = Docs; guards = [] } ∷ record { var = p1; table = Notes; guards = of_doc p1 ∷ [] } ∷ []; at = ts p1 5; body = Not (Exists v1 Notes (All (Plain (Times (ts v1 0) Le (ts p1 5))) (All (Plain (of_doc v1)) (Plain (Times (ts p1 5) Lt (ts v1 5)))))) }
+    ≡ record { path = record { var = document_var; table = Docs; guards = [] } ∷ []; at = ts document_var 0; body = Not (Exists v1 Notes (All (Plain (Times (ts v1 0) Le (ts document_var 0))) (All (Plain (of_doc v1)) (Plain (Times (ts document_var 0) Lt (ts v1 5)))))) }
+    ∷ record { path = record { var = document_var; table = Docs; guards = [] } ∷ record { var = p1; table = Notes; guards = of_doc p1 ∷ [] } ∷ []; at = ts p1 5; body = Not (Exists v1 Notes (All (Plain (Times (ts v1 0) Le (ts p1 5))) (All (Plain (of_doc v1)) (Plain (Times (ts p1 5) Lt (ts v1 5)))))) }
     ∷ []
 unnoted-probes = refl
 

@@ -7,7 +7,8 @@ use Rattle.tap_rows.specs.Results.{snapshot, first_second, fresh_in, union_until
 use Rattle.tap_rows.specs.Grown.{Grown}
 use Rattle.tql_core.specs.Condition.{Condition}
 use Rattle.tql_core.specs.Holds.{truth_of}
-use Rattle.tql_core.specs.Scope.{In, IsQuery}
+use Rattle.tql_core.specs.Scope.{IsQuery}
+use Rattle.tap_rows.specs.Kept.{In}
 use Rattle.time_marks.specs.Found.{IsProbe}
 use Rattle.time_marks.specs.Probes.{Probe, window_meaning, meaning_without}
 use Rattle.time_marks.specs.Distinct.{distinct_probes}

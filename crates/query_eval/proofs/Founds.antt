@@ -14,7 +14,7 @@ use Rattle.tql_core.specs.declared.term.Base.TheVariants as B
 use Rattle.tql_core.specs.declared.term.Term.{Term}
 use Rattle.tql_core.specs.declared.tnode.TNode.{TNode}
 use Rattle.tql_core.specs.Bounds.{is_near, is_bounded, is_bounded_base}
-use Rattle.tql_core.specs.Scope.{In}
+use Rattle.tap_rows.specs.Kept.{In}
 use Rattle.tql_core.specs.Trees.{tree_at}
 use Rattle.time_marks.specs.declared.mark.Step.{Step}
 use Rattle.time_marks.specs.declared.ranged.Ranged.{Ranged}
@@ -34,7 +34,7 @@ use Rattle.access_plan.proofs.Served.{orders_serve}
 use Rattle.query_eval.specs.Found.{IsFound, AreFound}
 use Rattle.query_eval.specs.Nested.{was_seen}
 use Rattle.query_eval.specs.Drivers.{seek_var, seek_hits}
-use Rattle.query_eval.specs.Runs.{part_order, part_hits, query_hits, AreProbes, IsFit}
+use Rattle.query_eval.specs.Runs.{part_order, part_hits, query_hits, HasValidProbes, IsFit}
 use Rattle.query_eval.proofs.Members.{to_kept, of_kept, from_flat, to_flat, no_more}
 use Rattle.query_eval.proofs.Nesting.{IsFoundBy}
 use Rattle.query_eval.proofs.Finding.{driven_is, driven_in, seek_sound, seek_complete}
@@ -106,7 +106,7 @@ module _ (q : RangedQuery) where
   pub part_bounded : (part : Ranged) → In part q.parts → is_bounded part.probe.at ≡ true
   part_bounded part i = (and_parts (nat_lt part.probe.body.0 (length q.pool)) (is_bounded part.probe.at) (kept_part part i)).1
 
-  module _ (ps : AreProbes q) where
+  module _ (ps : HasValidProbes q) where
     pub part_probe : (part : Ranged) → In part q.parts → IsProbe (probe_in q.pool part.probe)
     part_probe part i = ps (probe_in q.pool part.probe) (in_map (λ (part : Ranged). probe_in q.pool part.probe) q.parts part i)
 

@@ -4,7 +4,7 @@ use Rattle.std.specs.Prelude.{◌⊎◌, filter, option_to_list, if◌then◌els
 use Rattle.std.specs.List.{flat_map}
 use Rattle.std.proofs.lemmas.Bool.{cases_Bool}
 use Rattle.tap_rows.specs.Kept as kept
-use Rattle.tql_core.specs.Scope.{In}
+use Rattle.tap_rows.specs.Kept.{In}
 use Rattle.time_marks.specs.Found.{Distinct}
 use Rattle.time_marks.proofs.Lists.{in_left, in_right, append_in}
 

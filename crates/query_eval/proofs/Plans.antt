@@ -8,7 +8,7 @@ use Rattle.tap_rows.specs.declared.results.Hit.{Hit}
 use Rattle.tap_rows.specs.declared.results.Entry.{Entry}
 use Rattle.tap_rows.specs.Kept as kept
 use Rattle.tql_core.specs.declared.term.Var.{Var}
-use Rattle.tql_core.specs.Scope.{In}
+use Rattle.tap_rows.specs.Kept.{In}
 use Rattle.row_index.specs.Orders.{Numbered, doc_number}
 use Rattle.time_marks.specs.declared.ranged.Ranged.{Ranged}
 use Rattle.time_marks.specs.declared.ranged_query.RangedQuery.{RangedQuery}
@@ -19,12 +19,12 @@ use Rattle.time_marks.specs.Seeks.{seek_of}
 use Rattle.time_marks.specs.Views.{probe_in, ranged_probes}
 use Rattle.time_marks.proofs.Lists.{in_map}
 use Rattle.access_plan.proofs.Served.{orders_serve}
-use Rattle.query_eval.specs.Lowest.{lowered, lowest, has_place, kept_with, keeping}
+use Rattle.query_eval.specs.Lowest.{lowered, lowest, has_place, with_hit, keeping}
 use Rattle.query_eval.specs.Placed.{IsPlaced}
 use Rattle.query_eval.specs.Work.{total}
 use Rattle.query_eval.specs.Nested.{was_seen}
 use Rattle.query_eval.specs.Drivers.{seek_var, seek_cost}
-use Rattle.query_eval.specs.Runs.{part_order, part_hits, part_cost, query_hits, query_cost, AreProbes, IsQuiet, IsAlone, rows_due}
+use Rattle.query_eval.specs.Runs.{part_order, part_hits, part_cost, query_hits, query_cost, HasValidProbes, HasNoMark, PathIsDocument, rows_due}
 use Rattle.query_eval.proofs.Members.{of_kept, no_more}
 use Rattle.query_eval.proofs.Costs.{total_none, total_map}
 use Rattle.query_eval.proofs.Dues.{quiet_cost, alone_cost}
@@ -34,7 +34,7 @@ use Rattle.query_eval.proofs.Founds.{part_probe, part_bounded, query_found}
 all_placed : (n : ℕ) (ks hs : List Hit) → ((h : Hit) → kept.In h hs → has_place n h.doc.0 ≡ true) → keeping n ks hs ≡ lowest ks hs
 all_placed n ks [] f = refl
 all_placed n ks (h ∷ hs) f =
-    let e : kept_with n ks h ≡ lowered ks h = ap (λ b. if b then lowered ks h else ks) (f h (inl refl)) in
+    let e : with_hit n ks h ≡ lowered ks h = ap (λ b. if b then lowered ks h else ks) (f h (inl refl)) in
     ap (λ z. keeping n z hs) e ∙ all_placed n (lowered ks h) hs (λ x i. f x (inr i))
 
 number_within : (n : ℕ) (docs : List Doc) (d : Doc) → Numbered doc_number n docs → kept.In d docs → (n ≤ d.num.0) × (d.num.0 < n + length docs)
@@ -47,7 +47,7 @@ number_within n (x ∷ xs) d h (inr i) =
     (omega (arith, k.0), omega (arith, k.1))
 
 -- hits that the list of a plan's hits gives are kept
-pub hits_kept : (q : RangedQuery) (entries : List Entry) (T : Tables) (w : Window) (n : ℕ) (ks now : List Hit) → AreProbes q → Numbered doc_number 1 T.docs → length T.docs ≤ n → ks ≡ [] → now ≡ keeping n ks (query_hits entries T w q) → now ≡ lowest [] (query_hits entries T w q)
+pub hits_kept : (q : RangedQuery) (entries : List Entry) (T : Tables) (w : Window) (n : ℕ) (ks now : List Hit) → HasValidProbes q → Numbered doc_number 1 T.docs → length T.docs ≤ n → ks ≡ [] → now ≡ keeping n ks (query_hits entries T w q) → now ≡ lowest [] (query_hits entries T w q)
 hits_kept q entries T w n ks now ps num room none k =
     k ∙ ap (λ z. keeping n z (query_hits entries T w q)) none ∙ all_placed n [] (query_hits entries T w q) placed
   where
@@ -122,33 +122,33 @@ total_less_in f g (x ∷ xs) h =
     let b = total_less_in f g xs (λ y i. h y (inr i)) in
     omega (arith, a, b)
 
-module _ (q : RangedQuery) (ps : AreProbes q) (T : Tables) (w : Window) where
+module _ (q : RangedQuery) (ps : HasValidProbes q) (T : Tables) (w : Window) where
   probe_of : Ranged → Probe
   probe_of part = probe_in q.pool part.probe
 
-  quiet_part : (part : Ranged) → In part q.parts → IsQuiet T w (probe_in q.pool part.probe) → part_cost T w q.pool part ≡ 0
+  quiet_part : (part : Ranged) → In part q.parts → HasNoMark T w (probe_in q.pool part.probe) → part_cost T w q.pool part ≡ 0
   quiet_part part i h =
       let p = probe_in q.pool part.probe in
       ap (λ s. seek_cost T w p (part_order part) s (seek_var s)) part.solved
       ∙ quiet_cost T w p (part_order part) (part_probe q ps part i) (orders_serve p.path p.at.base) (part_bounded q part i) (seek_var (seek_of p.at)) refl h
 
-  alone_part : (part : Ranged) → In part q.parts → IsAlone (probe_in q.pool part.probe) → part_cost T w q.pool part ≤ rows_due T w (probe_in q.pool part.probe)
+  alone_part : (part : Ranged) → In part q.parts → PathIsDocument (probe_in q.pool part.probe) → part_cost T w q.pool part ≤ rows_due T w (probe_in q.pool part.probe)
   alone_part part i h =
       let p = probe_in q.pool part.probe in
       subst (λ s. seek_cost T w p (part_order part) s (seek_var s) ≤ rows_due T w p) (sym part.solved)
       (alone_cost T w p (part_order part) (part_probe q ps part i) (orders_serve p.path p.at.base) (part_bounded q part i) h (seek_var (seek_of p.at)) refl)
 
-  query_quiet : ((p : Probe) → In p (ranged_probes q) → IsQuiet T w p) → query_cost T w q ≡ 0
+  query_quiet : ((p : Probe) → In p (ranged_probes q) → HasNoMark T w p) → query_cost T w q ≡ 0
   query_quiet h = total_none (part_cost T w q.pool) q.parts (λ part i. quiet_part part i (h (probe_in q.pool part.probe) (in_map (λ (part : Ranged). probe_in q.pool part.probe) q.parts part i)))
 
-  query_due : ((p : Probe) → In p (ranged_probes q) → IsAlone p) → query_cost T w q ≤ total (rows_due T w) (ranged_probes q)
+  query_due : ((p : Probe) → In p (ranged_probes q) → PathIsDocument p) → query_cost T w q ≤ total (rows_due T w) (ranged_probes q)
   query_due h =
       subst (λ z. query_cost T w q ≤ z) (sym (total_map (rows_due T w) (λ (part : Ranged). probe_in q.pool part.probe) q.parts))
       (total_less_in (part_cost T w q.pool) (λ (part : Ranged). rows_due T w (probe_in q.pool part.probe)) q.parts (λ part i. alone_part part i (h (probe_in q.pool part.probe) (in_map (λ (part : Ranged). probe_in q.pool part.probe) q.parts part i))))
 
   -- the steps that were taken
-  pub taken_quiet : (old now : ℕ) → now ≤ old + query_cost T w q → old ≤ now → ((p : Probe) → In p (ranged_probes q) → IsQuiet T w p) → now ≡ old
+  pub taken_quiet : (old now : ℕ) → now ≤ old + query_cost T w q → old ≤ now → ((p : Probe) → In p (ranged_probes q) → HasNoMark T w p) → now ≡ old
   taken_quiet old now h k quiet = let z = query_quiet quiet in omega (arith, h, k, z)
 
-  pub taken_due : (old now : ℕ) → now ≤ old + query_cost T w q → ((p : Probe) → In p (ranged_probes q) → IsAlone p) → now ≤ old + total (rows_due T w) (ranged_probes q)
+  pub taken_due : (old now : ℕ) → now ≤ old + query_cost T w q → ((p : Probe) → In p (ranged_probes q) → PathIsDocument p) → now ≤ old + total (rows_due T w) (ranged_probes q)
   taken_due old now h alone = let z = query_due alone in omega (arith, h, z)

@@ -3,12 +3,12 @@ use Rattle.std.proofs.Common.{◌≡◌, ◌∙◌, ◌+◌, ◌≤◌, ℕ, zer
 use Rattle.std.specs.List.{flat_map}
 use Rattle.std.specs.Prelude.{◌<◌, length, slice_get, slice_index_or}
 use Rattle.tap_rows.specs.declared.results.Hit.{Hit}
-use Rattle.query_eval.specs.Lowest.{kept_with, keeping}
+use Rattle.query_eval.specs.Lowest.{with_hit, keeping}
 use Rattle.query_eval.specs.Work.{total}
 
 pub keeping_append : (n : ℕ) (kept xs ys : List Hit) → keeping n kept (xs ++ ys) ≡ keeping n (keeping n kept xs) ys
 keeping_append n kept [] ys = refl
-keeping_append n kept (x ∷ xs) ys = keeping_append n (kept_with n kept x) xs ys
+keeping_append n kept (x ∷ xs) ys = keeping_append n (with_hit n kept x) xs ys
 
 module _ {A : Type 0} where
   -- the hits of the row that was handed out are kept

@@ -7,19 +7,19 @@ use Rattle.tql_core.specs.declared.term.Base.TheVariants.{Arrival}
 use Rattle.tql_core.specs.declared.tnode.TNode.{TNode}
 use Rattle.tql_core.specs.declared.tnode.TNode.TheVariants as N
 use Rattle.tql_core.specs.Condition.{Always}
-use Rattle.tql_core.specs.Scope.{In}
+use Rattle.tap_rows.specs.Kept.{In}
 use Rattle.tql_core.specs.Trees.{tree, tree_at, node_tree}
 use Rattle.time_marks.specs.declared.probe.Probe.{Probe as CodeProbe}
 use Rattle.time_marks.specs.declared.ranged.Ranged.{Ranged}
 use Rattle.time_marks.specs.Found.{IsProbe}
 use Rattle.time_marks.specs.Kept.{is_kept}
 use Rattle.time_marks.specs.KeptParts.{parts_kept}
-use Rattle.time_marks.specs.Marks.{m}
+use Rattle.time_marks.specs.Marks.{document_var}
 use Rattle.time_marks.specs.Probes.{Probe}
 use Rattle.time_marks.specs.Views.{probe_in}
 
 old_probe : Probe
-old_probe = record { path = record { var = m; table = Docs; guards = [] } ∷ []; at = record { base = Arrival m; plus = pos 5 }; body = Always }
+old_probe = record { path = record { var = document_var; table = Docs; guards = [] } ∷ []; at = record { base = Arrival document_var; plus = pos 5 }; body = Always }
 
 is_probe : IsProbe old_probe
 unfolding old_probe
@@ -38,7 +38,7 @@ tree_is nodes id e = ap (λ o. node_tree o (tree nodes id)) e
 
 -- the probe in the code
 abbrev pub old_code : ℕ → CodeProbe
-old_code id = record { path = record { var = m; table = Docs; guards = [] } ∷ []; at = record { base = Arrival m; plus = pos 5 }; body = record { 0 = id } }
+old_code id = record { path = record { var = document_var; table = Docs; guards = [] } ∷ []; at = record { base = Arrival document_var; plus = pos 5 }; body = record { 0 = id } }
 
 pub are_probes : (nodes : List TNode) (parts : List Ranged) (id : ℕ) → map (λ (part : Ranged). part.probe) parts ≡ old_code id ∷ [] → slice_get nodes id ≡ Some N.True → (x : Probe) → In x (map (λ (part : Ranged). probe_in nodes part.probe) parts) → IsProbe x
 unfolding old_probe
@@ -53,7 +53,7 @@ are_probes nodes parts id e t x i = subst IsProbe (sym (only (subst (In x) (twic
     only (inr h) = absurd h
 
     whole : probe_in nodes (old_code id) ≡ old_probe
-    whole = ap (λ y. record { path = record { var = m; table = Docs; guards = [] } ∷ []; at = record { base = Arrival m; plus = pos 5 }; body = y }) (tree_is nodes id t)
+    whole = ap (λ y. record { path = record { var = document_var; table = Docs; guards = [] } ∷ []; at = record { base = Arrival document_var; plus = pos 5 }; body = y }) (tree_is nodes id t)
 
 -- its query keeps what queries keep
 get_less : (nodes : List TNode) (id : ℕ) (node : TNode) → slice_get nodes id ≡ Some node → id < length nodes

@@ -21,10 +21,10 @@ abbrev pub has_place : ℕ → ℕ → Bool
 has_place n doc = nat_lt 0 doc && nat_le doc n
 
 -- the kept hits with one more, where its document has a place
-abbrev pub kept_with : ℕ → List Hit → Hit → List Hit
-kept_with n kept h = if has_place n h.doc.0 then lowered kept h else kept
+abbrev pub with_hit : ℕ → List Hit → Hit → List Hit
+with_hit n kept h = if has_place n h.doc.0 then lowered kept h else kept
 
 -- the kept hits after all of these
 abbrev pub keeping : ℕ → List Hit → List Hit → List Hit
 keeping n kept [] = kept
-keeping n kept (h ∷ hs) = keeping n (kept_with n kept h) hs
+keeping n kept (h ∷ hs) = keeping n (with_hit n kept h) hs

@@ -16,7 +16,7 @@ ghost use Rattle.query_eval.specs.Drivers.{seek_var, hits_at, seek_hits, cost_at
 
 use crate::drivers::{mark_in, seek_var, stored_rows, table_in};
 use crate::kept_hits::KeptHits;
-use crate::nested::{Search, keep_hits};
+use crate::nested::{Search, collect_hits};
 use crate::row_walk::RowWalk;
 use access_plan::Reach;
 use std::sync::ledger::Ledger;
@@ -25,7 +25,7 @@ use time_marks::{Seek, Window};
 use tql_core::{Env, Var, value};
 
 // Keeps the hits beside the rows that are bound, where the mark that they give lies in the window.
-fn keep_at<'a, L: Ledger>(
+fn collect_at<'a, L: Ledger>(
     search: &Search<'a>,
     order: &'a [Reach],
     w: Window,
@@ -43,7 +43,7 @@ fn keep_at<'a, L: Ledger>(
     ensures more { steps.old ≤ steps.new }
 {
     if let Some(mark) = mark_in(w, value(search.probe.at, env)) {
-        keep_hits(search, order, env, mark, into, steps);
+        collect_hits(search, order, env, mark, into, steps);
     }
 }
 
@@ -59,7 +59,7 @@ fn driving<'a>(search: &Search<'a>, seek: Seek, var: Var, w: Window) -> RowWalk<
 }
 
 // Keeps the hits at the marks of all driving rows.
-fn keep_driven<'a, L: Ledger>(
+fn collect_driven<'a, L: Ledger>(
     search: &Search<'a>,
     order: &'a [Reach],
     seek: Seek,
@@ -82,12 +82,12 @@ fn keep_driven<'a, L: Ledger>(
 {
     let mut rows = driving(search, seek, var, w);
     while let Some(row) = rows.next(steps) {
-        keep_at(search, order, w, &Env::new().bind(var, row), into, steps);
+        collect_at(search, order, w, &Env::new().bind(var, row), into, steps);
     }
 }
 
 /// Keeps the hits of a probe: at its fixed mark, or at those of all driving rows.
-pub(crate) fn keep_part<'a, L: Ledger>(
+pub(crate) fn collect_part<'a, L: Ledger>(
     search: &Search<'a>,
     order: &'a [Reach],
     seek: Seek,
@@ -108,7 +108,7 @@ pub(crate) fn keep_part<'a, L: Ledger>(
     ensures more { steps.old ≤ steps.new }
 {
     match seek_var(seek) {
-        None => keep_at(search, order, w, &Env::new(), into, steps),
-        Some(var) => keep_driven(search, order, seek, var, w, into, steps),
+        None => collect_at(search, order, w, &Env::new(), into, steps),
+        Some(var) => collect_driven(search, order, seek, var, w, into, steps),
     }
 }

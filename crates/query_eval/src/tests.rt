@@ -2,7 +2,7 @@ ghost use Rattle.std.specs.Prelude.{◌≡◌, ◌<◌, pos, [], ◌∷◌, map,
 ghost use Rattle.jiff_core.specs.Calendar.{IsWithin};
 ghost use Rattle.tql_tree.specs.declared.table.Table.TheVariants.{Docs};
 ghost use Rattle.tql_core.specs.declared.term.Base.TheVariants.{Arrival};
-ghost use Rattle.query_eval.specs.Runs.{AreProbes};
+ghost use Rattle.query_eval.specs.Runs.{HasValidProbes};
 
 use crate::kept_hits::KeptHits;
 use crate::{Hits, run};
@@ -96,7 +96,7 @@ fn old_parts(alloc: Global, body: NodeId) -> Result<Rows<Ranged>, Memory>
 
 // The query of that probe.
 fn old_query(alloc: Global) -> Result<RangedQuery, Memory>
-    ensures { IfOk result AreProbes }
+    ensures { IfOk result HasValidProbes }
 {
     let mut pool = Pool::new(alloc);
     let body = pool.intern(TNode::True)?;
@@ -106,7 +106,7 @@ fn old_query(alloc: Global) -> Result<RangedQuery, Memory>
 
 // Its plan.
 fn old_plan(alloc: Global) -> Result<Plan, Memory>
-    ensures { IfOk result (λ plan. AreProbes plan.query) }
+    ensures { IfOk result (λ plan. HasValidProbes plan.query) }
 {
     plan(alloc, old_query(alloc)?)
 }

@@ -5,7 +5,7 @@ use Rattle.std.specs.List.{prefix_len, position_or_len}
 use Rattle.std.proofs.Math.Seq.{drop-nil}
 use Rattle.std.proofs.lemmas.List.{length-drop, drop_min}
 use Rattle.tap_base.specs.Bytes.{is_blank}
-use Rattle.line_words.specs.Words.{after_words, after_blanks, after_word}
+use Rattle.tap_base.specs.LineWords.{after_words, after_blanks, after_word}
 use Rattle.restart_core.specs.Starts.{is_from_now, condition_text, stored_source}
 
 -- blanks are skipped once

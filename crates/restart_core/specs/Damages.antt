@@ -25,8 +25,8 @@ use Rattle.restart_core.specs.declared.fault.RestartFault.{RestartFault}
 use Rattle.restart_core.specs.declared.fault.RestartFault.TheVariants.{Damaged}
 
 -- a reason, unless this holds
-abbrev pub unless : Bool → Why → Option Why
-unless holds why = if holds then None else Some why
+abbrev pub damaged_unless : Bool → Why → Option Why
+damaged_unless holds why = if holds then None else Some why
 
 -- the first of some reasons
 abbrev pub first_of : List (Option Why) → Option Why
@@ -54,30 +54,30 @@ is_readable query = is_condition (condition_of (condition_text query.source))
 
 abbrev pub doc_reason : ℕ → ℤ → Doc → Option Why
 doc_reason place low doc =
-    first_of (unless (doc.num.0 == place) Number ∷ unless (may_follow low doc.arrival) Moment ∷ unless (nat_le (length doc.text) MESSAGE_LIMIT) Text ∷ [])
+    first_of (damaged_unless (doc.num.0 == place) Number ∷ damaged_unless (may_follow low doc.arrival) Moment ∷ damaged_unless (nat_le (length doc.text) MESSAGE_LIMIT) Text ∷ [])
 
 abbrev pub note_reason : List Doc → ℕ → ℤ → Note → Option Why
 note_reason docs place low note =
     first_of (
-    unless (note.num.0 == place) Number
-    ∷ unless (may_follow low note.arrival) Moment
-    ∷ unless (has_arrived docs note.doc.0 note.arrival) Reference
-    ∷ unless (is_name note.author && is_name note.kind) Name
+    damaged_unless (note.num.0 == place) Number
+    ∷ damaged_unless (may_follow low note.arrival) Moment
+    ∷ damaged_unless (has_arrived docs note.doc.0 note.arrival) Reference
+    ∷ damaged_unless (is_name note.author && is_name note.kind) Name
     ∷ [])
 
 -- a query by itself, its text aside
 abbrev pub own_reason : ℕ → ℤ → QueryRow → Option Why
 own_reason place low query =
-    first_of (unless (query.num.0 == place) Number ∷ unless (may_follow low query.arrival) Moment ∷ unless (is_name query.owner && is_name query.name) Name ∷ [])
+    first_of (damaged_unless (query.num.0 == place) Number ∷ damaged_unless (may_follow low query.arrival) Moment ∷ damaged_unless (is_name query.owner && is_name query.name) Name ∷ [])
 
 -- a query behind these
 abbrev pub query_reason : List QueryRow → ℕ → ℤ → QueryRow → Option Why
 query_reason earlier place low query =
-    first_of (own_reason place low query ∷ unless (not (list_any (is_query_of query.owner query.name) earlier)) Twice ∷ unless (is_readable query) Text ∷ [])
+    first_of (own_reason place low query ∷ damaged_unless (not (list_any (is_query_of query.owner query.name) earlier)) Twice ∷ damaged_unless (is_readable query) Text ∷ [])
 
 abbrev pub run_reason : List QueryRow → ℕ → ℤ → RunRow → Option Why
 run_reason queries place low run =
-    first_of (unless (run.num == place) Number ∷ unless (may_follow low run.moment) Moment ∷ unless (was_defined queries run.query.0 run.moment) Reference ∷ [])
+    first_of (damaged_unless (run.num == place) Number ∷ damaged_unless (may_follow low run.moment) Moment ∷ damaged_unless (was_defined queries run.query.0 run.moment) Reference ∷ [])
 
 -- are the pick's run and document there, and is the run one of its query?
 abbrev pub refers : Pick → Option RunRow → Option Doc → Bool
@@ -98,16 +98,16 @@ is_same_pick pick other = (other.query.0 == pick.query.0) && (other.doc.0 == pic
 abbrev pub pick_reason : List RunRow → List Doc → List Pick → ℕ → Option Pick → Pick → Option Why
 pick_reason runs docs earlier place before pick =
     first_of (
-    unless (pick.num == place) Number
-    ∷ unless (refers pick (row_at pick.run runs) (row_at pick.doc.0 docs)) Reference
-    ∷ unless (not (list_any (is_same_pick pick) earlier)) Twice
-    ∷ unless (is_within pick (row_at pick.run runs) (row_at pick.doc.0 docs)) Second
-    ∷ unless (comes_after before pick) Order
+    damaged_unless (pick.num == place) Number
+    ∷ damaged_unless (refers pick (row_at pick.run runs) (row_at pick.doc.0 docs)) Reference
+    ∷ damaged_unless (not (list_any (is_same_pick pick) earlier)) Twice
+    ∷ damaged_unless (is_within pick (row_at pick.run runs) (row_at pick.doc.0 docs)) Second
+    ∷ damaged_unless (comes_after before pick) Order
     ∷ [])
 
 abbrev pub filter_reason : ℕ → ℤ → FilterRow → Option Why
 filter_reason place low filter =
-    first_of (unless (filter.num == place) Number ∷ unless (may_follow low filter.arrival) Moment ∷ unless (is_name filter.owner) Name ∷ [])
+    first_of (damaged_unless (filter.num == place) Number ∷ damaged_unless (may_follow low filter.arrival) Moment ∷ damaged_unless (is_name filter.owner) Name ∷ [])
 
 -- the first damaged row of a table from this place on, behind these rows and this moment
 abbrev pub docs_damage : ℕ → ℤ → List Doc → Option RestartFault

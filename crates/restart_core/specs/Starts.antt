@@ -1,7 +1,7 @@
 -- Queries that count only the seconds from their definition on, and the text of a query's condition.
 use Rattle.std.specs.Prelude.{ℕ, ◌-◌, List, ◌++◌, length, Bool, ◌&&◌, codes, if◌then◌else◌}
 use Rattle.std.specs.Str.{str_eq_ignore_ascii_case}
-use Rattle.line_words.specs.Words.{word, after_words}
+use Rattle.tap_base.specs.LineWords.{word, after_words}
 use Rattle.restart_core.specs.declared.start.Start.{Start}
 
 -- is a source from now: are its first two words FROM and NOW, in any case?

@@ -1,7 +1,7 @@
 ghost use Rattle.std.specs.Prelude.{◌≡◌, ◌≤◌, drop, length};
 ghost use Rattle.restart_core.specs.Starts.{is_from_now, condition_text, start_in};
 
-use line_words::{nth_word, skip_words};
+use tap_base::{nth_word, skip_words};
 
 /// Whether a query's source is from now, and the place at which the text of its condition begins, in bytes from 0.
 #[derive(Clone, Copy, Debug, PartialEq, Eq)]

@@ -4,3 +4,4 @@ pub mod Inserted
 pub mod Missing
 pub mod Digits
 pub mod Forms
+pub mod WordLaws

@@ -3,6 +3,8 @@
 
 mod copied;
 mod decimal;
+pub mod laws;
+mod line_words;
 mod memory;
 mod moments;
 mod names;
@@ -16,6 +18,7 @@ mod words;
 
 pub use copied::Copied;
 pub use decimal::put_decimal;
+pub use line_words::{has_words, is_blank_or_comment, nth_word, skip_words};
 pub use memory::Memory;
 pub use moments::{LAST_MOMENT, read_moment, read_number, read_signed};
 pub use names::is_name;

@@ -23,7 +23,7 @@ use Rattle.tap_engine.specs.declared.engine.Engine.{Engine}
 use Rattle.tap_engine.specs.declared.undo.Undo.TheVariants.{Docs, Note as OneNote, Query, Filter}
 use Rattle.tap_kept.specs.Keeping.{with_owner}
 use Rattle.tap_engine.specs.Standing.{RefusedBy}
-use Rattle.tap_engine.specs.Answering.{Answers, TakesBack}
+use Rattle.tap_engine.specs.Answering.{Answers, UndoRestores}
 
 -- what isn't refused is accepted
 pub answers-accepted : (t : Tables) (s : Session) (c : Command) → verdict c s t ≡ None → Answers t s c (accepted c s t).reply (accepted c s t).change (accepted c s t).session
@@ -46,7 +46,7 @@ pub for-memory : (v : Option Refusal) → v ≡ None → RefusedBy v Memory
 for-memory v none = inr (refl, ap is_early none)
 
 -- documents are taken back
-pub undo-docs : (e : Engine) (docs : List Doc) (h : HitsWithRoom) (bytes n : ℕ) → n ≡ length e.index.docs → e.hits.room ≤ h.room → TakesBack (Docs n e.bytes) (record e { index = after e.index (RowDocs docs); hits = h; bytes = bytes }) e
+pub undo-docs : (e : Engine) (docs : List Doc) (h : HitsWithRoom) (bytes n : ℕ) → n ≡ length e.index.docs → e.hits.room ≤ h.room → UndoRestores (Docs n e.bytes) (record e { index = after e.index (RowDocs docs); hits = h; bytes = bytes }) e
 undo-docs e docs h bytes n is room = record { there = tt; before_is = record { same = ap (λ n. record e { index = record e.index { docs = take n (e.index.docs ++ docs) }; hits = h }) is ∙ ap (λ l. record e { index = record e.index { docs = l }; hits = h }) (take-append_seam e.index.docs docs); room = room } }
 
 -- a note is taken back
@@ -59,7 +59,7 @@ some-note : (notes : List Note) (note : Note) → 0 < length (notes ++ note ∷ 
 some-note [] note = omega arith
 some-note (x ∷ notes) note = omega arith
 
-pub undo-note : (e : Engine) (note : Note) (bytes : ℕ) → TakesBack (OneNote e.bytes) (record e { index = after e.index (RowNote note); bytes = bytes }) e
+pub undo-note : (e : Engine) (note : Note) (bytes : ℕ) → UndoRestores (OneNote e.bytes) (record e { index = after e.index (RowNote note); bytes = bytes }) e
 undo-note e note bytes = record { there = some-note e.index.notes note; before_is = record { same = ap (λ l. record e { index = record e.index { notes = l } }) (one-back e.index.notes note); room = omega arith } }
 
 -- an owner is taken back
@@ -70,7 +70,7 @@ owner-back owners owner = elim (holds owners owner) as (λ b. take (length owner
 ]
 
 -- a query is taken back
-pub undo-query : (e : Engine) (queries : List KeptQuery) (owner : List ℕ) (bytes n m : ℕ) → n ≡ length e.queries → m ≡ length e.owners → TakesBack (Query n m e.bytes) (record e { queries = e.queries ++ queries; owners = with_owner e.owners owner; bytes = bytes }) e
+pub undo-query : (e : Engine) (queries : List KeptQuery) (owner : List ℕ) (bytes n m : ℕ) → n ≡ length e.queries → m ≡ length e.owners → UndoRestores (Query n m e.bytes) (record e { queries = e.queries ++ queries; owners = with_owner e.owners owner; bytes = bytes }) e
 undo-query e queries owner bytes n m is-n is-m = record {
   there = tt;
   before_is = record {
@@ -82,7 +82,7 @@ undo-query e queries owner bytes n m is-n is-m = record {
 }
 
 -- a filter is taken back
-pub undo-filter : (e : Engine) (filters : List FilterRow) (owner : List ℕ) (bytes n m : ℕ) → n ≡ length e.filters → m ≡ length e.owners → TakesBack (Filter n m e.bytes) (record e { filters = e.filters ++ filters; owners = with_owner e.owners owner; bytes = bytes }) e
+pub undo-filter : (e : Engine) (filters : List FilterRow) (owner : List ℕ) (bytes n m : ℕ) → n ≡ length e.filters → m ≡ length e.owners → UndoRestores (Filter n m e.bytes) (record e { filters = e.filters ++ filters; owners = with_owner e.owners owner; bytes = bytes }) e
 undo-filter e filters owner bytes n m is-n is-m = record {
   there = tt;
   before_is = record {

@@ -18,7 +18,7 @@ use Rattle.tql_text.specs.Texts.{condition_of}
 use Rattle.snapshot_meaning.specs.Seen.{seen}
 use Rattle.tap_model.specs.declared.session.Session.{Session}
 use Rattle.tap_model.specs.Queries.{condition_in}
-use Rattle.tap_model.specs.Verdicts.{first_refusal, verdict, missing, unless, no_moment, text_fault, not_over}
+use Rattle.tap_model.specs.Verdicts.{first_refusal, verdict, missing, refuse_unless, no_moment, text_fault, not_over}
 use Rattle.tap_model.specs.Replies.{ask_at}
 use Rattle.tap_model.specs.Stories.{Refuses}
 use Rattle.tap_kept.proofs.TextLaws.{read-fine}
@@ -31,21 +31,21 @@ one (Some x) = refl
 
 module _ (s : Session) (moment source : List ℕ) (m now : ℤ) (is-m : moment_of moment ≡ Some m) (is-now : s.moment ≡ Some now) (t : Tables) where
   -- the checks that are left once there are both moments
-  left : verdict (Ask moment source) s t ≡ first_refusal (text_fault source ∷ unless (int_lt m now) (NotOver now) ∷ [])
+  left : verdict (Ask moment source) s t ≡ first_refusal (text_fault source ∷ refuse_unless (int_lt m now) (NotOver now) ∷ [])
   left =
       ap (λ o. first_refusal (missing BadMoment o ∷ no_moment s ∷ text_fault source ∷ not_over o s.moment ∷ [])) is-m
       ∙ ap (λ o. first_refusal (None ∷ missing NoMoment o ∷ text_fault source ∷ not_over (Some m) o ∷ [])) is-now
 
   -- the text is at fault, or there is no memory to read it
   pub ask-text : (refusal : Refusal) → (text_fault source ≡ Some refusal) ⊎ (refusal ≡ Memory) → Refuses refusal (Ask moment source) s t
-  ask-text refusal (inl e) = inl (left ∙ ap (λ o. first_refusal (o ∷ unless (int_lt m now) (NotOver now) ∷ [])) e)
+  ask-text refusal (inl e) = inl (left ∙ ap (λ o. first_refusal (o ∷ refuse_unless (int_lt m now) (NotOver now) ∷ [])) e)
   ask-text refusal (inr e) = inr (e, refl)
 
-  fine : (c : Condition) → condition_of source ≡ Ok c → verdict (Ask moment source) s t ≡ unless (int_lt m now) (NotOver now)
-  fine c e = left ∙ ap (λ o. first_refusal (o ∷ unless (int_lt m now) (NotOver now) ∷ [])) (read-fine source c e).1 ∙ one (unless (int_lt m now) (NotOver now))
+  fine : (c : Condition) → condition_of source ≡ Ok c → verdict (Ask moment source) s t ≡ refuse_unless (int_lt m now) (NotOver now)
+  fine c e = left ∙ ap (λ o. first_refusal (o ∷ refuse_unless (int_lt m now) (NotOver now) ∷ [])) (read-fine source c e).1 ∙ one (refuse_unless (int_lt m now) (NotOver now))
 
   -- the second isn't over
-  pub ask-open : (c : Condition) (refusal : Refusal) → condition_of source ≡ Ok c → Some refusal ≡ unless (int_lt m now) (NotOver now) → Refuses refusal (Ask moment source) s t
+  pub ask-open : (c : Condition) (refusal : Refusal) → condition_of source ≡ Ok c → Some refusal ≡ refuse_unless (int_lt m now) (NotOver now) → Refuses refusal (Ask moment source) s t
   ask-open c refusal e is = inl (fine c e ∙ sym is)
 
   filter-same : (p q : Doc → Bool) (docs : List Doc) → ((doc : Doc) → p doc ≡ q doc) → filter p docs ≡ filter q docs
@@ -59,7 +59,7 @@ module _ (s : Session) (moment source : List ℕ) (m now : ℤ) (is-m : moment_o
       (λ doc. ap (λ b. int_le doc.arrival m && b) (of-the-second c t (seen t.docs t.notes) doc m refl refl))
 
   -- a question that isn't refused
-  pub answers-ask : (c : Condition) (docs : List Doc) (notes : List Note) (nums : List DocNum) → condition_of source ≡ Ok c → None ≡ unless (int_lt m now) (NotOver now) → docs ≡ t.docs → notes ≡ t.notes
+  pub answers-ask : (c : Condition) (docs : List Doc) (notes : List Note) (nums : List DocNum) → condition_of source ≡ Ok c → None ≡ refuse_unless (int_lt m now) (NotOver now) → docs ≡ t.docs → notes ≡ t.notes
       → nums ≡ map (λ doc. doc.num) (snapshot (Holds.truth_of c) (seen docs notes) m) → Answers t s (Ask moment source) (Asked m nums) None s
   answers-ask c docs notes nums e over is-docs is-notes is =
       let accepted = answers-accepted t s (Ask moment source) (fine c e ∙ sym over) in

@@ -26,16 +26,17 @@ use Rattle.script_lang.specs.declared.command.Command.TheVariants.{Define, Run, 
 use Rattle.tap_model.specs.declared.limits.TheConstants.{USER_QUERY_LIMIT, QUERY_LIMIT, USER_LIMIT, STORE_LIMIT, RUN_LIMIT, PICK_LIMIT}
 use Rattle.tap_model.specs.declared.session.Session.{Session}
 use Rattle.tap_engine.specs.declared.engine.Engine.{Engine}
-use Rattle.tap_model.specs.Sessions.{or_zero, user_of, present}
+use Rattle.tap_model.specs.Sessions.{or_zero, user_of, moment_or_zero}
 use Rattle.tap_kept.specs.declared.kept_query.KeptQuery.{KeptQuery}
-use Rattle.tap_model.specs.Queries.{is_named, query_named, truth_of, start_of, hits_of}
+use Rattle.tap_model.specs.Queries.{query_named, truth_of, start_of, hits_of}
+use Rattle.tap_rows.specs.WellFormed.{is_query_of}
 use Rattle.tap_rows.specs.Results.{covered}
 use Rattle.restart_core.specs.Starts.{condition_text, stored_source}
-use Rattle.tap_model.specs.Limits.{passes}
-use Rattle.tap_model.specs.Verdicts.{first_refusal, verdict, missing, unless, no_moment, no_user, bad_name, reading_refusal, text_fault, is_early, hits_found}
+use Rattle.tap_model.specs.Limits.{limit_refusal}
+use Rattle.tap_model.specs.Verdicts.{first_refusal, verdict, missing, refuse_unless, no_moment, no_user, bad_name, reading_refusal, text_fault, is_early, hits_found}
 use Rattle.tap_kept.specs.Keeping.{kept_query, named_in, owned_in, hits_since}
-use Rattle.tap_engine.specs.Standing.{StandsFor, name_refusal, query_limits, define_refusal, query_refusal, look_refusal, run_refusal, kept_named, hits_kept, entries_kept, RefusedBy}
-use Rattle.tap_model.specs.Sound.{Sound, IsNow}
+use Rattle.tap_engine.specs.Standing.{Represents, name_refusal, query_limits, define_refusal, query_refusal, look_refusal, run_refusal, kept_named, hits_kept, entries_kept, RefusedBy}
+use Rattle.tap_model.specs.Sound.{IsSound, IsNow}
 use Rattle.tap_model.specs.Stories.{Refuses}
 use Rattle.tap_engine.specs.Answering.{Answers}
 use Rattle.tap_engine.proofs.AnswerTurns.{answers-accepted}
@@ -47,12 +48,12 @@ use Rattle.script_lang.specs.declared.reply.Reply.TheVariants.{Defined, BoxOf as
 use Rattle.tap_rows.specs.declared.change.Change.{Change}
 use Rattle.tap_rows.specs.declared.change.Change.TheVariants.{OneQuery}
 
-named-find : (t : Tables) (owner name : List ℕ) (qs : List QueryRow) → find (λ kept. is_named owner name kept.row) (map (kept_query t) qs) ≡ option_map (kept_query t) (find (is_named owner name) qs)
+named-find : (t : Tables) (owner name : List ℕ) (qs : List QueryRow) → find (λ kept. is_query_of owner name kept.row) (map (kept_query t) qs) ≡ option_map (kept_query t) (find (is_query_of owner name) qs)
 named-find t owner name [] = refl
-named-find t owner name (q ∷ qs) = elim (cases_Bool (is_named owner name q)) [ inl y ↦ rw y refl | inr n ↦ rw n (named-find t owner name qs) ]
+named-find t owner name (q ∷ qs) = elim (cases_Bool (is_query_of owner name q)) [ inl y ↦ rw y refl | inr n ↦ rw n (named-find t owner name qs) ]
 
 -- what is kept of a user's query of a name is of the row of that name
-pub named-kept : (t : Tables) (owner name : List ℕ) (qs : List QueryRow) → named_in owner name (map (kept_query t) qs) ≡ option_map (kept_query t) (find (is_named owner name) qs)
+pub named-kept : (t : Tables) (owner name : List ℕ) (qs : List QueryRow) → named_in owner name (map (kept_query t) qs) ≡ option_map (kept_query t) (find (is_query_of owner name) qs)
 unfolding named_in
 named-kept t owner name qs = named-find t owner name qs
 
@@ -77,19 +78,19 @@ limits-last None None None None (Some x) rest = refl
 limits-last None None None None None rest = refl
 
 -- a new query is refused as its verdict says
-pub define-verdict : (e : Engine) (t : Tables) (name source : List ℕ) → StandsFor e t → define_refusal e name source ≡ verdict (Define name source) e.session t
+pub define-verdict : (e : Engine) (t : Tables) (name source : List ℕ) → Represents e t → define_refusal e name source ≡ verdict (Define name source) e.session t
 unfolding name_refusal query_limits
-define-verdict e t name source stands =
-    limits-last (no_moment e.session) (no_user e.session) (bad_name name) (unless (is_none (named_in (user_of e.session) name e.queries)) Taken) (text_fault (condition_text source)) (query_limits e (user_of e.session) (length (stored_source source)))
-    ∙ rw (stands.queries, named-kept t (user_of e.session) name t.queries, none-map t (find (is_named (user_of e.session) name) t.queries), owned-kept t (user_of e.session) t.queries, length-map t.queries (kept_query t), stands.users, stands.owners (user_of e.session), stands.bytes) refl
+define-verdict e t name source represents =
+    limits-last (no_moment e.session) (no_user e.session) (bad_name name) (refuse_unless (is_none (named_in (user_of e.session) name e.queries)) Taken) (text_fault (condition_text source)) (query_limits e (user_of e.session) (length (stored_source source)))
+    ∙ rw (represents.queries, named-kept t (user_of e.session) name t.queries, none-map t (find (is_query_of (user_of e.session) name) t.queries), owned-kept t (user_of e.session) t.queries, length-map t.queries (kept_query t), represents.users, represents.owners (user_of e.session), represents.bytes) refl
 
 -- a command that is refused by its verdict, or for want of memory
-pub define-refuses : (e : Engine) (name source : List ℕ) (refusal : Refusal) → RefusedBy (define_refusal e name source) refusal → (t : Tables) → StandsFor e t → Refuses refusal (Define name source) e.session t
-define-refuses e name source refusal by t stands = subst (λ v. RefusedBy v refusal) (define-verdict e t name source stands) by
+pub define-refuses : (e : Engine) (name source : List ℕ) (refusal : Refusal) → RefusedBy (define_refusal e name source) refusal → (t : Tables) → Represents e t → Refuses refusal (Define name source) e.session t
+define-refuses e name source refusal by t represents = subst (λ v. RefusedBy v refusal) (define-verdict e t name source represents) by
 
 -- what is kept of the user's query of this name
-pub named-is : (e : Engine) (t : Tables) (name : List ℕ) → StandsFor e t → kept_named e name ≡ option_map (kept_query t) (query_named (user_of e.session) name t)
-named-is e t name stands = rw stands.queries (named-kept t (user_of e.session) name t.queries)
+pub named-is : (e : Engine) (t : Tables) (name : List ℕ) → Represents e t → kept_named e name ≡ option_map (kept_query t) (query_named (user_of e.session) name t)
+named-is e t name represents = rw represents.queries (named-kept t (user_of e.session) name t.queries)
 
 missing-map : (t : Tables) (o : Option QueryRow) → missing NoQuery (option_map (kept_query t) o) ≡ missing NoQuery o
 missing-map t None = refl
@@ -117,15 +118,15 @@ six None None None None None (Some x) = refl
 six None None None None None None = refl
 
 -- a box is refused as its verdict says
-pub box-verdict : (e : Engine) (t : Tables) (name : List ℕ) → StandsFor e t → look_refusal e name ≡ verdict (BoxOf name) e.session t
+pub box-verdict : (e : Engine) (t : Tables) (name : List ℕ) → Represents e t → look_refusal e name ≡ verdict (BoxOf name) e.session t
 unfolding look_refusal
-box-verdict e t name stands =
-    ap (λ o. option_or (no_user e.session) (option_or (bad_name name) (missing NoQuery o))) (named-is e t name stands)
+box-verdict e t name represents =
+    ap (λ o. option_or (no_user e.session) (option_or (bad_name name) (missing NoQuery o))) (named-is e t name represents)
     ∙ ap (λ c. option_or (no_user e.session) (option_or (bad_name name) c)) (missing-map t (query_named (user_of e.session) name t))
     ∙ three (no_user e.session) (bad_name name) (missing NoQuery (query_named (user_of e.session) name t))
 
-pub box-refuses : (e : Engine) (name : List ℕ) (refusal : Refusal) → RefusedBy (look_refusal e name) refusal → (t : Tables) → StandsFor e t → Refuses refusal (BoxOf name) e.session t
-box-refuses e name refusal by t stands = subst (λ v. RefusedBy v refusal) (box-verdict e t name stands) by
+pub box-refuses : (e : Engine) (name : List ℕ) (refusal : Refusal) → RefusedBy (look_refusal e name) refusal → (t : Tables) → Represents e t → Refuses refusal (BoxOf name) e.session t
+box-refuses e name refusal by t represents = subst (λ v. RefusedBy v refusal) (box-verdict e t name represents) by
 
 each-in : {A : Type 0} (P : A → Type 0) (xs : List A) (x : A) → Each P xs → In x xs → P x
 each-in P [] x each has = absurd has
@@ -133,64 +134,64 @@ each-in P (y ∷ ys) x each (inl e) = subst P (sym e) each.0
 each-in P (y ∷ ys) x each (inr has) = each-in P ys x each.1 has
 
 -- what a run of a query delivers, by what is kept
-pub hits-of-query : (e : Engine) (t : Tables) (q : QueryRow) → StandsFor e t → Sound t e.session → In q t.queries → (e.session.moment ≡ None → ⊥) → hits_kept e (Some (kept_query t q)) ≡ hits_of q t (present e.session)
-hits-of-query e t q stands sound has there =
-    ap (λ rows. hits_since (kept_query t q) rows (present e.session)) stands.rows ∙ run-of-sound t e.session q (present e.session) sound has (go e.session.moment refl sound.now) where
-      go : (o : Option ℤ) → e.session.moment ≡ o → IsNow o t → covered (start_of q) q.num.0 t.runs ≤ℤ present e.session
+pub hits-of-query : (e : Engine) (t : Tables) (q : QueryRow) → Represents e t → IsSound t e.session → In q t.queries → (e.session.moment ≡ None → ⊥) → hits_kept e (Some (kept_query t q)) ≡ hits_of q t (moment_or_zero e.session)
+hits-of-query e t q represents sound has there =
+    ap (λ rows. hits_since (kept_query t q) rows (moment_or_zero e.session)) represents.rows ∙ run-of-sound t e.session q (moment_or_zero e.session) sound has (go e.session.moment refl sound.now) where
+      go : (o : Option ℤ) → e.session.moment ≡ o → IsNow o t → covered (start_of q) q.num.0 t.runs ≤ℤ moment_or_zero e.session
       go None none now = absurd (there none)
       go (Some m) is now =
           subst (λ z. covered (start_of q) q.num.0 t.runs ≤ℤ z) (sym (ap or_zero is))
           (covered-each (λ z. z ≤ℤ m) (start_of q) q.num.0 t.runs (each-in (λ query. (query.arrival ≤ℤ m) × (start_of query ≤ℤ m)) t.queries q now.1.queries has).1 now.1.runs)
 
-hits-are : (e : Engine) (t : Tables) (name : List ℕ) → StandsFor e t → Sound t e.session → (e.session.moment ≡ None → ⊥)
-    → hits_kept e (option_map (kept_query t) (query_named (user_of e.session) name t)) ≡ hits_found (query_named (user_of e.session) name t) t (present e.session)
-hits-are e t name stands sound there = go (query_named (user_of e.session) name t) refl where
-  go : (o : Option QueryRow) → query_named (user_of e.session) name t ≡ o → hits_kept e (option_map (kept_query t) o) ≡ hits_found o t (present e.session)
+hits-are : (e : Engine) (t : Tables) (name : List ℕ) → Represents e t → IsSound t e.session → (e.session.moment ≡ None → ⊥)
+    → hits_kept e (option_map (kept_query t) (query_named (user_of e.session) name t)) ≡ hits_found (query_named (user_of e.session) name t) t (moment_or_zero e.session)
+hits-are e t name represents sound there = go (query_named (user_of e.session) name t) refl where
+  go : (o : Option QueryRow) → query_named (user_of e.session) name t ≡ o → hits_kept e (option_map (kept_query t) o) ≡ hits_found o t (moment_or_zero e.session)
   go None is = refl
-  go (Some q) is = hits-of-query e t q stands sound (find-in (is_named (user_of e.session) name) t.queries q is) there
+  go (Some q) is = hits-of-query e t q represents sound (find-in (is_query_of (user_of e.session) name) t.queries q is) there
 
 -- the checks of a run, by what is found of its query
 abbrev run_checks : Engine → ℕ → ℕ → Option Refusal → List Hit → Option Refusal
-run_checks e runs picks found hits = option_or (no_moment e.session) (option_or found (option_or (passes Runs RUN_LIMIT runs 1) (passes Picks PICK_LIMIT picks (length hits))))
+run_checks e runs picks found hits = option_or (no_moment e.session) (option_or found (option_or (limit_refusal Runs RUN_LIMIT runs 1) (limit_refusal Picks PICK_LIMIT picks (length hits))))
 
-run-there : (e : Engine) (t : Tables) (name : List ℕ) → StandsFor e t → Sound t e.session → (e.session.moment ≡ None → ⊥) → run_refusal e name ≡ verdict (Run name) e.session t
+run-there : (e : Engine) (t : Tables) (name : List ℕ) → Represents e t → IsSound t e.session → (e.session.moment ≡ None → ⊥) → run_refusal e name ≡ verdict (Run name) e.session t
 unfolding look_refusal
-run-there e t name stands sound there =
+run-there e t name represents sound there =
     let o = query_named (user_of e.session) name t in
     let look : Option KeptQuery → Option Refusal = λ k. option_or (no_user e.session) (option_or (bad_name name) (missing NoQuery k)) in
-    ap (λ k. run_checks e e.run_count e.pick_count (look k) (hits_kept e k)) (named-is e t name stands)
+    ap (λ k. run_checks e e.run_count e.pick_count (look k) (hits_kept e k)) (named-is e t name represents)
     ∙ ap (λ m. run_checks e e.run_count e.pick_count (option_or (no_user e.session) (option_or (bad_name name) m)) (hits_kept e (option_map (kept_query t) o))) (missing-map t o)
-    ∙ ap (run_checks e e.run_count e.pick_count (option_or (no_user e.session) (option_or (bad_name name) (missing NoQuery o)))) (hits-are e t name stands sound there)
-    ∙ ap (λ n. run_checks e n e.pick_count (option_or (no_user e.session) (option_or (bad_name name) (missing NoQuery o))) (hits_found o t (present e.session))) stands.run_count
-    ∙ ap (λ n. run_checks e (length t.runs) n (option_or (no_user e.session) (option_or (bad_name name) (missing NoQuery o))) (hits_found o t (present e.session))) stands.pick_count
-    ∙ six (no_moment e.session) (no_user e.session) (bad_name name) (missing NoQuery o) (passes Runs RUN_LIMIT (length t.runs) 1) (passes Picks PICK_LIMIT (length t.picks) (length (hits_found o t (present e.session))))
+    ∙ ap (run_checks e e.run_count e.pick_count (option_or (no_user e.session) (option_or (bad_name name) (missing NoQuery o)))) (hits-are e t name represents sound there)
+    ∙ ap (λ n. run_checks e n e.pick_count (option_or (no_user e.session) (option_or (bad_name name) (missing NoQuery o))) (hits_found o t (moment_or_zero e.session))) represents.run_count
+    ∙ ap (λ n. run_checks e (length t.runs) n (option_or (no_user e.session) (option_or (bad_name name) (missing NoQuery o))) (hits_found o t (moment_or_zero e.session))) represents.pick_count
+    ∙ six (no_moment e.session) (no_user e.session) (bad_name name) (missing NoQuery o) (limit_refusal Runs RUN_LIMIT (length t.runs) 1) (limit_refusal Picks PICK_LIMIT (length t.picks) (length (hits_found o t (moment_or_zero e.session))))
 
 -- a run is refused as its verdict says
-pub run-verdict : (e : Engine) (t : Tables) (name : List ℕ) → StandsFor e t → Sound t e.session → run_refusal e name ≡ verdict (Run name) e.session t
-run-verdict e t name stands sound = go e.session.moment refl where
+pub run-verdict : (e : Engine) (t : Tables) (name : List ℕ) → Represents e t → IsSound t e.session → run_refusal e name ≡ verdict (Run name) e.session t
+run-verdict e t name represents sound = go e.session.moment refl where
   go : (m : Option ℤ) → e.session.moment ≡ m → run_refusal e name ≡ verdict (Run name) e.session t
   go None none =
       let o = query_named (user_of e.session) name t in
-      ap (λ m. option_or (missing NoMoment m) (option_or (look_refusal e name) (option_or (passes Runs RUN_LIMIT e.run_count 1) (passes Picks PICK_LIMIT e.pick_count (length (hits_kept e (kept_named e name))))))) none
-      ∙ sym (ap (λ m. first_refusal (missing NoMoment m ∷ no_user e.session ∷ bad_name name ∷ missing NoQuery o ∷ passes Runs RUN_LIMIT (length t.runs) 1 ∷ passes Picks PICK_LIMIT (length t.picks) (length (hits_found o t (present e.session))) ∷ [])) none)
-  go (Some m) is = run-there e t name stands sound (some-moment e.session.moment m is)
+      ap (λ m. option_or (missing NoMoment m) (option_or (look_refusal e name) (option_or (limit_refusal Runs RUN_LIMIT e.run_count 1) (limit_refusal Picks PICK_LIMIT e.pick_count (length (hits_kept e (kept_named e name))))))) none
+      ∙ sym (ap (λ m. first_refusal (missing NoMoment m ∷ no_user e.session ∷ bad_name name ∷ missing NoQuery o ∷ limit_refusal Runs RUN_LIMIT (length t.runs) 1 ∷ limit_refusal Picks PICK_LIMIT (length t.picks) (length (hits_found o t (moment_or_zero e.session))) ∷ [])) none)
+  go (Some m) is = run-there e t name represents sound (some-moment e.session.moment m is)
 
 -- a run that isn't refused before its hits are counted
-pub run-left : (e : Engine) (name : List ℕ) (kept : KeptQuery) (m : ℤ) (hits : List Hit) → e.session.moment ≡ Some m → query_refusal e.session e.queries name ≡ None → passes Runs RUN_LIMIT e.run_count 1 ≡ None → kept_named e name ≡ Some kept
-    → hits ≡ hits_since kept e.index m → run_refusal e name ≡ passes Picks PICK_LIMIT e.pick_count (length hits)
+pub run-left : (e : Engine) (name : List ℕ) (kept : KeptQuery) (m : ℤ) (hits : List Hit) → e.session.moment ≡ Some m → query_refusal e.session e.queries name ≡ None → limit_refusal Runs RUN_LIMIT e.run_count 1 ≡ None → kept_named e name ≡ Some kept
+    → hits ≡ hits_since kept e.index m → run_refusal e name ≡ limit_refusal Picks PICK_LIMIT e.pick_count (length hits)
 unfolding look_refusal
 run-left e name kept m hits is-m look runs named is-hits =
-    let picks : List Hit → Option Refusal = λ hits. passes Picks PICK_LIMIT e.pick_count (length hits) in
+    let picks : List Hit → Option Refusal = λ hits. limit_refusal Picks PICK_LIMIT e.pick_count (length hits) in
     let last = picks (hits_kept e (kept_named e name)) in
-    ap (λ o. option_or (missing NoMoment o) (option_or (query_refusal e.session e.queries name) (option_or (passes Runs RUN_LIMIT e.run_count 1) last))) is-m
-    ∙ ap (λ x. option_or x (option_or (passes Runs RUN_LIMIT e.run_count 1) last)) look
+    ap (λ o. option_or (missing NoMoment o) (option_or (query_refusal e.session e.queries name) (option_or (limit_refusal Runs RUN_LIMIT e.run_count 1) last))) is-m
+    ∙ ap (λ x. option_or x (option_or (limit_refusal Runs RUN_LIMIT e.run_count 1) last)) look
     ∙ ap (λ x. option_or x last) runs
     ∙ ap (λ k. picks (hits_kept e k)) named
     ∙ ap (λ z. picks (hits_since kept e.index z)) (ap or_zero is-m)
     ∙ sym (ap picks is-hits)
 
-pub run-refuses : (e : Engine) (name : List ℕ) (refusal : Refusal) → RefusedBy (run_refusal e name) refusal → (t : Tables) → StandsFor e t → Sound t e.session → Refuses refusal (Run name) e.session t
-run-refuses e name refusal by t stands sound = subst (λ v. RefusedBy v refusal) (run-verdict e t name stands sound) by
+pub run-refuses : (e : Engine) (name : List ℕ) (refusal : Refusal) → RefusedBy (run_refusal e name) refusal → (t : Tables) → Represents e t → IsSound t e.session → Refuses refusal (Run name) e.session t
+run-refuses e name refusal by t represents sound = subst (λ v. RefusedBy v refusal) (run-verdict e t name represents sound) by
 
 -- a query isn't defined without a moment
 pub define-moment : (e : Engine) (name source : List ℕ) → define_refusal e name source ≡ None → e.session.moment ≡ None → ⊥
@@ -198,11 +199,11 @@ define-moment e name source none no_m = some-none NoMoment (sym (ap (λ m. optio
 
 -- a query is defined
 pub answers-define : (t : Tables) (s : Session) (name source shown : List ℕ) (n : ℕ) (row : QueryRow) (change : Change) (s' : Session) → verdict (Define name source) s t ≡ None → n ≡ length t.queries
-    → row ≡ record { num = record { 0 = n + 1 }; owner = user_of s; name = name; source = stored_source source; arrival = present s } → shown ≡ row.name → change ≡ OneQuery row → s' ≡ s
+    → row ≡ record { num = record { 0 = n + 1 }; owner = user_of s; name = name; source = stored_source source; arrival = moment_or_zero s } → shown ≡ row.name → change ≡ OneQuery row → s' ≡ s
     → Answers t s (Define name source) (Defined shown) (Some change) s'
 answers-define t s name source shown n row change s' none count is-row is-shown is-change is-s =
     let accepted = answers-accepted t s (Define name source) none in
-    let same : row ≡ next_query t s name (stored_source source) = is-row ∙ ap (λ n. record { num = record { 0 = n + 1 }; owner = user_of s; name = name; source = stored_source source; arrival = present s }) count in
+    let same : row ≡ next_query t s name (stored_source source) = is-row ∙ ap (λ n. record { num = record { 0 = n + 1 }; owner = user_of s; name = name; source = stored_source source; arrival = moment_or_zero s }) count in
     record {
       fine = none;
       reply_is = ap Defined (is-shown ∙ ap (λ r. r.name) same) ∙ accepted.reply_is;
@@ -220,8 +221,8 @@ text-late source rest late = go (condition_of source) where
   go (Err T.Memory) = late
   go (Ok c) = late
 
-pub passes-late : (name : LimitName) (limit count more : ℕ) → is_early (passes name limit count more) ≡ false
-passes-late name limit count more = elim ((more == 0) || nat_le (count + more) limit) as (λ b. is_early (if b then None else Some (Limit name)) ≡ false) [ true ↦ refl | false ↦ refl ]
+pub limit_refusal-late : (name : LimitName) (limit count more : ℕ) → is_early (limit_refusal name limit count more) ≡ false
+limit_refusal-late name limit count more = elim ((more == 0) || nat_le (count + more) limit) as (λ b. is_early (if b then None else Some (Limit name)) ≡ false) [ true ↦ refl | false ↦ refl ]
 
 pub late-first : (x : Option Refusal) (rest : List (Option Refusal)) → is_early x ≡ false → is_early (first_refusal rest) ≡ false → is_early (first_refusal (x ∷ rest)) ≡ false
 late-first None rest x-late rest-late = rest-late
@@ -230,10 +231,10 @@ late-first (Some x) rest x-late rest-late = x-late
 limits-late : (engine : Engine) (user : List ℕ) (len : ℕ) → is_early (first_refusal (query_limits engine user len)) ≡ false
 unfolding query_limits
 limits-late engine user len =
-    late-first _ _ (passes-late Queries USER_QUERY_LIMIT (owned_in user engine.queries) 1)
-    (late-first _ _ (passes-late AllQueries QUERY_LIMIT (length engine.queries) 1)
-    (late-first _ _ (passes-late Users USER_LIMIT (length engine.owners) (if holds engine.owners user then 0 else 1))
-    (late-first _ [] (passes-late Store STORE_LIMIT engine.bytes len) refl)))
+    late-first _ _ (limit_refusal-late Queries USER_QUERY_LIMIT (owned_in user engine.queries) 1)
+    (late-first _ _ (limit_refusal-late AllQueries QUERY_LIMIT (length engine.queries) 1)
+    (late-first _ _ (limit_refusal-late Users USER_LIMIT (length engine.owners) (if holds engine.owners user then 0 else 1))
+    (late-first _ [] (limit_refusal-late Store STORE_LIMIT engine.bytes len) refl)))
 
 -- a query is refused for its text, or for want of memory to read it, once it isn't for want of a moment, of a user or of a name
 pub text-refused : (e : Engine) (name source : List ℕ) (refusal : Refusal) → no_moment e.session ≡ None → no_user e.session ≡ None → None ≡ name_refusal e (user_of e.session) name
@@ -251,19 +252,19 @@ text-refused e name source refusal moment user named by =
     ]
 
 -- a box that isn't refused is of a query that there is
-pub answers-box : (e : Engine) (t : Tables) (name : List ℕ) (entries : List Entry) → StandsFor e t → Sound t e.session → look_refusal e name ≡ None → Some entries ≡ entries_kept (kept_named e name) → Answers t e.session (BoxOf name) (Boxed name entries) None e.session
-answers-box e t name entries stands sound none is = go (query_named (user_of e.session) name t) refl where
+pub answers-box : (e : Engine) (t : Tables) (name : List ℕ) (entries : List Entry) → Represents e t → IsSound t e.session → look_refusal e name ≡ None → Some entries ≡ entries_kept (kept_named e name) → Answers t e.session (BoxOf name) (Boxed name entries) None e.session
+answers-box e t name entries represents sound none is = go (query_named (user_of e.session) name t) refl where
   accepted : Answers t e.session (BoxOf name) (show_box (query_named (user_of e.session) name t) name e.session t).reply (show_box (query_named (user_of e.session) name t) name e.session t).change (show_box (query_named (user_of e.session) name t) name e.session t).session
-  accepted = answers-accepted t e.session (BoxOf name) (sym (box-verdict e t name stands) ∙ none)
+  accepted = answers-accepted t e.session (BoxOf name) (sym (box-verdict e t name represents) ∙ none)
 
   kept : Some entries ≡ entries_kept (option_map (kept_query t) (query_named (user_of e.session) name t))
-  kept = is ∙ ap entries_kept (named-is e t name stands)
+  kept = is ∙ ap entries_kept (named-is e t name represents)
 
   go : (o : Option QueryRow) → query_named (user_of e.session) name t ≡ o → Answers t e.session (BoxOf name) (Boxed name entries) None e.session
   go None none' = absurd (some-entries entries (kept ∙ ap (λ o. entries_kept (option_map (kept_query t) o)) none'))
   go (Some q) some =
       let same : entries ≡ delivered q.num.0 t = some-same entries (delivered q.num.0 t) (kept ∙ ap (λ o. entries_kept (option_map (kept_query t) o)) some) in
-      let box = box-is truth_of start_of truth-of-second t q t.queries (find-in (is_named (user_of e.session) name) t.queries q some) sound.kept.each in
+      let box = box-is truth_of start_of truth-of-second t q t.queries (find-in (is_query_of (user_of e.session) name) t.queries q some) sound.kept.each in
       record {
         fine = accepted.fine;
         reply_is = ap (Boxed name) (same ∙ box.box) ∙ sym (ap (λ o. (show_box o name e.session t).reply) some) ∙ accepted.reply_is;
@@ -273,4 +274,4 @@ answers-box e t name entries stands sound none is = go (query_named (user_of e.s
 
 -- a query isn't run without a moment
 pub run-moment : (e : Engine) (name : List ℕ) → run_refusal e name ≡ None → e.session.moment ≡ None → ⊥
-run-moment e name none no_m = some-none NoMoment (sym (ap (λ m. option_or (missing NoMoment m) (option_or (look_refusal e name) (option_or (passes Runs RUN_LIMIT e.run_count 1) (passes Picks PICK_LIMIT e.pick_count (length (hits_kept e (kept_named e name))))))) no_m) ∙ none)
+run-moment e name none no_m = some-none NoMoment (sym (ap (λ m. option_or (missing NoMoment m) (option_or (look_refusal e name) (option_or (limit_refusal Runs RUN_LIMIT e.run_count 1) (limit_refusal Picks PICK_LIMIT e.pick_count (length (hits_kept e (kept_named e name))))))) no_m) ∙ none)

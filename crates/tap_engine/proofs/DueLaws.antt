@@ -24,14 +24,15 @@ use Rattle.script_lang.specs.declared.reply.Reply.TheVariants.{Ran}
 use Rattle.tap_model.specs.declared.session.Session.{Session}
 use Rattle.tap_kept.specs.declared.kept_query.KeptQuery.{KeptQuery}
 use Rattle.query_eval.specs.Hits.{HitsWithRoom}
-use Rattle.tap_model.specs.Sound.{Sound}
+use Rattle.tap_model.specs.Sound.{IsSound}
 use Rattle.tap_engine.specs.declared.engine.Engine.{Engine}
 use Rattle.tap_engine.specs.declared.run.Due.{Due}
-use Rattle.tap_model.specs.Sessions.{user_of, present}
-use Rattle.tap_model.specs.Queries.{is_named, query_named, hits_of, truth_of, start_of}
+use Rattle.tap_model.specs.Sessions.{user_of, moment_or_zero}
+use Rattle.tap_model.specs.Queries.{query_named, hits_of, truth_of, start_of}
+use Rattle.tap_rows.specs.WellFormed.{is_query_of}
 use Rattle.tap_model.specs.Verdicts.{verdict}
 use Rattle.tap_kept.specs.Keeping.{kept_query, after_run}
-use Rattle.tap_engine.specs.Standing.{StandsFor, kept_named, hits_kept, due_of}
+use Rattle.tap_engine.specs.Standing.{Represents, kept_named, hits_kept, due_of}
 use Rattle.tap_model.specs.Replies.{run_query}
 use Rattle.tap_model.proofs.AnswerLaws.{find-in}
 use Rattle.tap_engine.specs.Answering.{Answers}
@@ -44,7 +45,7 @@ pub record IsDue (e : Engine) (t : Tables) (name : List ℕ) (due : Due) : Type 
   pub q : QueryRow
   pub some : query_named (user_of e.session) name t ≡ Some q
   pub has : In q t.queries
-  pub is : due ≡ record { query = q.num; moment = present e.session; runs = length (run_moments q.num.0 t.runs); hits = hits_of q t (present e.session) }
+  pub is : due ≡ record { query = q.num; moment = moment_or_zero e.session; runs = length (run_moments q.num.0 t.runs); hits = hits_of q t (moment_or_zero e.session) }
 
 no-due : (due : Due) → Some due ≡ None → ⊥
 no-due due e = cc
@@ -52,19 +53,19 @@ no-due due e = cc
 same-due : (x y : Due) → Some x ≡ Some y → x ≡ y
 same-due x y e = cc
 
-pub due-is : (e : Engine) (t : Tables) (name : List ℕ) (due : Due) → StandsFor e t → Sound t e.session → (e.session.moment ≡ None → ⊥) → Some due ≡ due_of e (kept_named e name) → IsDue e t name due
-due-is e t name due stands sound there is = go (query_named (user_of e.session) name t) refl where
+pub due-is : (e : Engine) (t : Tables) (name : List ℕ) (due : Due) → Represents e t → IsSound t e.session → (e.session.moment ≡ None → ⊥) → Some due ≡ due_of e (kept_named e name) → IsDue e t name due
+due-is e t name due represents sound there is = go (query_named (user_of e.session) name t) refl where
   kept : Some due ≡ due_of e (option_map (kept_query t) (query_named (user_of e.session) name t))
-  kept = is ∙ ap (due_of e) (named-is e t name stands)
+  kept = is ∙ ap (due_of e) (named-is e t name represents)
 
   go : (o : Option QueryRow) → query_named (user_of e.session) name t ≡ o → IsDue e t name due
   go None none = absurd (no-due due (kept ∙ ap (λ o. due_of e (option_map (kept_query t) o)) none))
   go (Some q) some = record {
     q = q;
     some = some;
-    has = find-in (is_named (user_of e.session) name) t.queries q some;
-    is = same-due due (record { query = q.num; moment = present e.session; runs = length (run_moments q.num.0 t.runs); hits = hits_kept e (Some (kept_query t q)) }) (kept ∙ ap (λ o. due_of e (option_map (kept_query t) o)) some)
-        ∙ ap (λ hits. record { query = q.num; moment = present e.session; runs = length (run_moments q.num.0 t.runs); hits = hits }) (hits-of-query e t q stands sound (find-in (is_named (user_of e.session) name) t.queries q some) there);
+    has = find-in (is_query_of (user_of e.session) name) t.queries q some;
+    is = same-due due (record { query = q.num; moment = moment_or_zero e.session; runs = length (run_moments q.num.0 t.runs); hits = hits_kept e (Some (kept_query t q)) }) (kept ∙ ap (λ o. due_of e (option_map (kept_query t) o)) some)
+        ∙ ap (λ hits. record { query = q.num; moment = moment_or_zero e.session; runs = length (run_moments q.num.0 t.runs); hits = hits }) (hits-of-query e t q represents sound (find-in (is_query_of (user_of e.session) name) t.queries q some) there);
   }
 
 abbrev kept_as : QueryRow → ℤ → ℕ → List Entry → KeptQuery
@@ -105,10 +106,10 @@ other-after t q other m kept differs =
     (ap (last_or (start_of other)) moments) (ap length moments) (ap (map (picked (t.runs ++ run ∷ []))) own ∙ old-picks other.num.0 t.runs run t.picks kept.picks)
 
 -- what is kept there
-pub due-kept : (e : Engine) (t : Tables) (due : Due) (q : QueryRow) (x : KeptQuery) → StandsFor e t → IsKept truth_of start_of t → In q t.queries → due.query.0 ≡ q.num.0 → slice_index_or e.queries (due.query.0 - 1) x ≡ kept_query t q
-due-kept e t due q x stands kept has is =
+pub due-kept : (e : Engine) (t : Tables) (due : Due) (q : QueryRow) (x : KeptQuery) → Represents e t → IsKept truth_of start_of t → In q t.queries → due.query.0 ≡ q.num.0 → slice_index_or e.queries (due.query.0 - 1) x ≡ kept_query t q
+due-kept e t due q x represents kept has is =
     let bounds = query-bounds 1 t.queries q kept.queries has in
-    rw stands.queries (placed (kept_query t) 1 (due.query.0 - 1) t.queries q x kept.queries has (omega (arith, is, bounds.0)))
+    rw represents.queries (placed (kept_query t) 1 (due.query.0 - 1) t.queries q x kept.queries has (omega (arith, is, bounds.0)))
 
 -- as many picks as hits
 rows-many : (num : ℕ) (query : QueryNum) (run : ℕ) (hits : List Hit) → length (pick_rows num query run hits) ≡ length hits
@@ -116,18 +117,18 @@ rows-many num query run [] = refl
 rows-many num query run (hit ∷ hits) = ap suc (rows-many (num + 1) query run hits)
 
 -- a run more
-stands-placed : (e : Engine) (t : Tables) (h : HitsWithRoom) (q : QueryRow) (i : ℕ) (m : ℤ) (kept : KeptQuery) → StandsFor e t → IsKept truth_of start_of t → In q t.queries → q.num.0 ≡ 1 + i → (e.session.moment ≡ None → ⊥) → kept ≡ kept_query t q
-    → StandsFor (record e { hits = h; queries = slice_set e.queries i (after_run m (map (entry_at (length (run_moments q.num.0 t.runs) + 1)) (hits_of q t m)) kept); run_count = e.run_count + 1; pick_count = e.pick_count + length (hits_of q t m) }) (after t (run_change (truth_of q) (start_of q) t q.num m))
-stands-placed e t h q i m kept stands is-kept has at there is = record {
-  rows = stands.rows;
-  queries = rw (stands.queries, is, sym (own-after t q m is-kept)) (placed-set (kept_query t) (kept_query (after t (run_change (truth_of q) (start_of q) t q.num m))) 1 i t.queries q is-kept.queries has at (λ other differs. other-after t q other m is-kept differs));
-  run_count = ap (λ n. n + 1) stands.run_count ∙ sym (length-append t.runs (next_run t q.num m ∷ []));
-  pick_count = ap (λ n. n + length (hits_of q t m)) stands.pick_count ∙ ap (λ n. length t.picks + n) (sym (rows-many (length t.picks + 1) q.num (length t.runs + 1) (hits_of q t m)))
+represents-placed : (e : Engine) (t : Tables) (h : HitsWithRoom) (q : QueryRow) (i : ℕ) (m : ℤ) (kept : KeptQuery) → Represents e t → IsKept truth_of start_of t → In q t.queries → q.num.0 ≡ 1 + i → (e.session.moment ≡ None → ⊥) → kept ≡ kept_query t q
+    → Represents (record e { hits = h; queries = slice_set e.queries i (after_run m (map (entry_at (length (run_moments q.num.0 t.runs) + 1)) (hits_of q t m)) kept); run_count = e.run_count + 1; pick_count = e.pick_count + length (hits_of q t m) }) (after t (run_change (truth_of q) (start_of q) t q.num m))
+represents-placed e t h q i m kept represents is-kept has at there is = record {
+  rows = represents.rows;
+  queries = rw (represents.queries, is, sym (own-after t q m is-kept)) (placed-set (kept_query t) (kept_query (after t (run_change (truth_of q) (start_of q) t q.num m))) 1 i t.queries q is-kept.queries has at (λ other differs. other-after t q other m is-kept differs));
+  run_count = ap (λ n. n + 1) represents.run_count ∙ sym (length-append t.runs (next_run t q.num m ∷ []));
+  pick_count = ap (λ n. n + length (hits_of q t m)) represents.pick_count ∙ ap (λ n. length t.picks + n) (sym (rows-many (length t.picks + 1) q.num (length t.runs + 1) (hits_of q t m)))
       ∙ sym (length-append t.picks (pick_rows (length t.picks + 1) q.num (length t.runs + 1) (hits_of q t m)));
-  bytes = stands.bytes;
-  users = stands.users;
-  owners = stands.owners;
-  filters = stands.filters;
+  bytes = represents.bytes;
+  users = represents.users;
+  owners = represents.owners;
+  filters = represents.filters;
   greatest = λ none. absurd (there none);
 }
 
@@ -135,32 +136,32 @@ stands-placed e t h q i m kept stands is-kept has at there is = record {
 abbrev pub run_rows : ℕ → ℕ → Due → Change
 run_rows runs picks due = RunDone (record { num = runs + 1; query = due.query; moment = due.moment }) (pick_rows (picks + 1) due.query (runs + 1) due.hits)
 
-rows-are : (e : Engine) (t : Tables) (name : List ℕ) (due : Due) → StandsFor e t → (d : IsDue e t name due) → run_rows e.run_count e.pick_count due ≡ run_change (truth_of d.q) (start_of d.q) t d.q.num (present e.session)
-rows-are e t name due stands d = ap (λ n. run_rows n e.pick_count due) stands.run_count ∙ ap (λ n. run_rows (length t.runs) n due) stands.pick_count ∙ ap (run_rows (length t.runs) (length t.picks)) d.is
+rows-are : (e : Engine) (t : Tables) (name : List ℕ) (due : Due) → Represents e t → (d : IsDue e t name due) → run_rows e.run_count e.pick_count due ≡ run_change (truth_of d.q) (start_of d.q) t d.q.num (moment_or_zero e.session)
+rows-are e t name due represents d = ap (λ n. run_rows n e.pick_count due) represents.run_count ∙ ap (λ n. run_rows (length t.runs) n due) represents.pick_count ∙ ap (run_rows (length t.runs) (length t.picks)) d.is
 
-pub stands-run : (e : Engine) (t : Tables) (name : List ℕ) (due : Due) (h : HitsWithRoom) (e' : Engine) → StandsFor e t → IsKept truth_of start_of t → (d : IsDue e t name due) → (e.session.moment ≡ None → ⊥)
+pub represents-run : (e : Engine) (t : Tables) (name : List ℕ) (due : Due) (h : HitsWithRoom) (e' : Engine) → Represents e t → IsKept truth_of start_of t → (d : IsDue e t name due) → (e.session.moment ≡ None → ⊥)
     → ((x : KeptQuery) → e' ≡ record e { hits = h; queries = slice_set e.queries (due.query.0 - 1) (after_run due.moment (map (entry_at (due.runs + 1)) due.hits) (slice_index_or e.queries (due.query.0 - 1) x)); run_count = e.run_count + 1; pick_count = e.pick_count + length due.hits })
-    → StandsFor e' (after t (run_rows e.run_count e.pick_count due))
-stands-run e t name due h e' stands kept d there is-e =
+    → Represents e' (after t (run_rows e.run_count e.pick_count due))
+represents-run e t name due h e' represents kept d there is-e =
     let q = d.q in
     let num : due.query.0 ≡ q.num.0 = ap (λ x. x.query.0) d.is in
     let x : KeptQuery = kept_query t q in
     let i : ℕ = due.query.0 - 1 in
     let bounds = query-bounds 1 t.queries q kept.queries d.has in
-    let engine : e' ≡ record e { hits = h; queries = slice_set e.queries i (after_run (present e.session) (map (entry_at (length (run_moments q.num.0 t.runs) + 1)) (hits_of q t (present e.session))) (slice_index_or e.queries i x)); run_count = e.run_count + 1; pick_count = e.pick_count + length (hits_of q t (present e.session)) } =
+    let engine : e' ≡ record e { hits = h; queries = slice_set e.queries i (after_run (moment_or_zero e.session) (map (entry_at (length (run_moments q.num.0 t.runs) + 1)) (hits_of q t (moment_or_zero e.session))) (slice_index_or e.queries i x)); run_count = e.run_count + 1; pick_count = e.pick_count + length (hits_of q t (moment_or_zero e.session)) } =
     is-e x ∙ ap (λ y. record e { hits = h; queries = slice_set e.queries i (after_run y.moment (map (entry_at (y.runs + 1)) y.hits) (slice_index_or e.queries i x)); run_count = e.run_count + 1; pick_count = e.pick_count + length y.hits }) d.is in
-    let rows : run_rows e.run_count e.pick_count due ≡ run_change (truth_of q) (start_of q) t q.num (present e.session) = rows-are e t name due stands d in
-    subst (λ change. StandsFor e' (after t change)) (sym rows) (subst (λ k. StandsFor k (after t (run_change (truth_of q) (start_of q) t q.num (present e.session)))) (sym engine) (stands-placed e t h q i (present e.session) (slice_index_or e.queries i x) stands kept d.has (omega (arith, num, bounds.0)) there (due-kept e t due q x stands kept d.has num)))
+    let rows : run_rows e.run_count e.pick_count due ≡ run_change (truth_of q) (start_of q) t q.num (moment_or_zero e.session) = rows-are e t name due represents d in
+    subst (λ change. Represents e' (after t change)) (sym rows) (subst (λ k. Represents k (after t (run_change (truth_of q) (start_of q) t q.num (moment_or_zero e.session)))) (sym engine) (represents-placed e t h q i (moment_or_zero e.session) (slice_index_or e.queries i x) represents kept d.has (omega (arith, num, bounds.0)) there (due-kept e t due q x represents kept d.has num)))
 
 -- a run that isn't refused
-pub answers-run : (e : Engine) (t : Tables) (name : List ℕ) (due : Due) (change : Change) (s' : Session) → StandsFor e t → verdict (Run name) e.session t ≡ None → (d : IsDue e t name due)
+pub answers-run : (e : Engine) (t : Tables) (name : List ℕ) (due : Due) (change : Change) (s' : Session) → Represents e t → verdict (Run name) e.session t ≡ None → (d : IsDue e t name due)
     → change ≡ run_rows e.run_count e.pick_count due → s' ≡ e.session → Answers t e.session (Run name) (Ran (due.runs + 1) due.moment due.hits) (Some change) s'
-answers-run e t name due change s' stands none d is-change is-s =
+answers-run e t name due change s' represents none d is-change is-s =
     let accepted = answers-accepted t e.session (Run name) none in
     let q = d.q in
     record {
       fine = none;
       reply_is = ap (λ due. Ran (due.runs + 1) due.moment due.hits) d.is ∙ sym (ap (λ o. (run_query o e.session t).reply) d.some) ∙ accepted.reply_is;
-      change_is = ap Some (is-change ∙ rows-are e t name due stands d) ∙ sym (ap (λ o. (run_query o e.session t).change) d.some) ∙ accepted.change_is;
+      change_is = ap Some (is-change ∙ rows-are e t name due represents d) ∙ sym (ap (λ o. (run_query o e.session t).change) d.some) ∙ accepted.change_is;
       session_is = is-s ∙ sym (ap (λ o. (run_query o e.session t).session) d.some) ∙ accepted.session_is;
     }

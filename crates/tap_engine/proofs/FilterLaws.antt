@@ -36,18 +36,19 @@ use Rattle.appraiser.specs.RuleTexts.{rules_of}
 use Rattle.appraiser.specs.Listings.{listing_of}
 use Rattle.tap_model.specs.declared.limits.TheConstants.{USER_LIMIT, FILTER_ROW_LIMIT, STORE_LIMIT}
 use Rattle.tap_model.specs.declared.session.Session.{Session}
-use Rattle.tap_model.specs.Limits.{passes, different}
-use Rattle.tap_model.specs.Sessions.{user_of, present}
+use Rattle.tap_model.specs.Limits.{limit_refusal, different}
+use Rattle.tap_model.specs.Sessions.{user_of, moment_or_zero}
 use Rattle.tap_model.specs.Filters.{or_none, rules_in_text, last_filter, filter_rules, rules_of_user}
-use Rattle.tap_model.specs.Queries.{is_named, query_named, truth_of, start_of, box_in, lines_of}
+use Rattle.tap_model.specs.Queries.{query_named, truth_of, start_of, box_in, lines_of}
+use Rattle.tap_rows.specs.WellFormed.{is_query_of}
 use Rattle.tap_model.specs.Verdicts.{first_refusal, verdict, missing, no_moment, no_user, long_filter, rules_refusal, filter_fault, text_of, is_early}
 use Rattle.tap_model.specs.Replies.{next_filter, show_list, show_lines}
-use Rattle.tap_model.specs.Sound.{Sound}
+use Rattle.tap_model.specs.Sound.{IsSound}
 use Rattle.tap_model.specs.Stories.{Refuses}
 use Rattle.tap_model.proofs.AnswerLaws.{some-none, find-in, truth-of-second}
 use Rattle.tap_engine.specs.declared.engine.Engine.{Engine}
 use Rattle.tap_kept.specs.Keeping.{kept_query, with_owner}
-use Rattle.tap_engine.specs.Standing.{StandsFor, RefusedBy, look_refusal, kept_named}
+use Rattle.tap_engine.specs.Standing.{Represents, RefusedBy, look_refusal, kept_named}
 use Rattle.tap_engine.specs.FilterChecks.{filter_limits, filter_refusal}
 use Rattle.tap_engine.specs.Lists.{rows_kept, lines_kept}
 use Rattle.tap_engine.specs.Answering.{Answers}
@@ -67,14 +68,14 @@ seven None None None None None None (Some r) = refl
 seven None None None None None None None = refl
 
 -- a filter is refused as its verdict says
-pub filter-verdict : (e : Engine) (t : Tables) (block : Block) → StandsFor e t → filter_refusal e block ≡ verdict (Filter block) e.session t
+pub filter-verdict : (e : Engine) (t : Tables) (block : Block) → Represents e t → filter_refusal e block ≡ verdict (Filter block) e.session t
 unfolding filter_limits
-filter-verdict e t block stands =
-    seven (no_moment e.session) (no_user e.session) (long_filter block) (passes Users USER_LIMIT (length e.owners) (if holds e.owners (user_of e.session) then 0 else 1)) (passes Filters FILTER_ROW_LIMIT (length e.filters) 1) (passes Store STORE_LIMIT e.bytes (length (text_of block))) (filter_fault (text_of block))
-    ∙ rw (stands.filters, stands.users, stands.owners (user_of e.session), stands.bytes) refl
+filter-verdict e t block represents =
+    seven (no_moment e.session) (no_user e.session) (long_filter block) (limit_refusal Users USER_LIMIT (length e.owners) (if holds e.owners (user_of e.session) then 0 else 1)) (limit_refusal Filters FILTER_ROW_LIMIT (length e.filters) 1) (limit_refusal Store STORE_LIMIT e.bytes (length (text_of block))) (filter_fault (text_of block))
+    ∙ rw (represents.filters, represents.users, represents.owners (user_of e.session), represents.bytes) refl
 
-pub filter-refuses : (e : Engine) (block : Block) (refusal : Refusal) → RefusedBy (filter_refusal e block) refusal → (t : Tables) → StandsFor e t → Refuses refusal (Filter block) e.session t
-filter-refuses e block refusal by t stands = subst (λ v. RefusedBy v refusal) (filter-verdict e t block stands) by
+pub filter-refuses : (e : Engine) (block : Block) (refusal : Refusal) → RefusedBy (filter_refusal e block) refusal → (t : Tables) → Represents e t → Refuses refusal (Filter block) e.session t
+filter-refuses e block refusal by t represents = subst (λ v. RefusedBy v refusal) (filter-verdict e t block represents) by
 
 -- a filter isn't added without a moment
 pub filter-moment : (e : Engine) (block : Block) → filter_refusal e block ≡ None → e.session.moment ≡ None → ⊥
@@ -107,11 +108,11 @@ text-refused e block refusal moment user long limits by =
 
 -- a filter is added
 pub answers-filter : (t : Tables) (s : Session) (block : Block) (n count : ℕ) (row : FilterRow) (change : Change) (s' : Session) → verdict (Filter block) s t ≡ None → n ≡ length t.filters
-    → row ≡ record { num = n + 1; owner = user_of s; source = text_of block; arrival = present s } → count ≡ length (rules_in_text (text_of block)) → change ≡ OneFilter row → s' ≡ s
+    → row ≡ record { num = n + 1; owner = user_of s; source = text_of block; arrival = moment_or_zero s } → count ≡ length (rules_in_text (text_of block)) → change ≡ OneFilter row → s' ≡ s
     → Answers t s (Filter block) (FilterAdded count) (Some change) s'
 answers-filter t s block n count row change s' none at is-row is-count is-change is-s =
     let accepted = answers-accepted t s (Filter block) none in
-    let same : row ≡ next_filter t s (text_of block) = is-row ∙ ap (λ n. record { num = n + 1; owner = user_of s; source = text_of block; arrival = present s }) at in
+    let same : row ≡ next_filter t s (text_of block) = is-row ∙ ap (λ n. record { num = n + 1; owner = user_of s; source = text_of block; arrival = moment_or_zero s }) at in
     record {
       fine = none;
       reply_is = ap FilterAdded is-count ∙ accepted.reply_is;
@@ -120,17 +121,17 @@ answers-filter t s block n count row change s' none at is-row is-count is-change
     }
 
 -- a filter more
-pub stands-filter : (e : Engine) (t : Tables) (row : FilterRow) → StandsFor e t → (e.session.moment ≡ None → ⊥)
-    → StandsFor (record e { filters = e.filters ++ row ∷ []; owners = with_owner e.owners row.owner; bytes = e.bytes + length row.source }) (after t (OneFilter row))
-stands-filter e t row stands there = record {
-  rows = stands.rows;
-  queries = stands.queries;
-  run_count = stands.run_count;
-  pick_count = stands.pick_count;
-  filters = ap (λ fs. fs ++ row ∷ []) stands.filters;
-  bytes = more (sum_by (λ doc. length doc.text) t.docs) (sum_by (λ note. length note.text) t.notes) (sum_by (λ query. length query.source) t.queries) (sum_by (λ filter. length filter.source) t.filters) _ _ (length row.source) stands.bytes (sum_by-append (λ filter. length filter.source) t.filters (row ∷ []));
-  users = users-more e.owners names [] row.owner (stands.users ∙ ap different (sym none-after)) (stands.owners row.owner ∙ ap (λ texts. holds texts row.owner) (sym none-after)) ∙ ap different (sym all);
-  owners = λ user. owners-more e.owners names [] row.owner user (λ w. stands.owners w ∙ ap (λ texts. holds texts w) (sym none-after)) ∙ ap (λ texts. holds texts user) (sym all);
+pub represents-filter : (e : Engine) (t : Tables) (row : FilterRow) → Represents e t → (e.session.moment ≡ None → ⊥)
+    → Represents (record e { filters = e.filters ++ row ∷ []; owners = with_owner e.owners row.owner; bytes = e.bytes + length row.source }) (after t (OneFilter row))
+represents-filter e t row represents there = record {
+  rows = represents.rows;
+  queries = represents.queries;
+  run_count = represents.run_count;
+  pick_count = represents.pick_count;
+  filters = ap (λ fs. fs ++ row ∷ []) represents.filters;
+  bytes = more (sum_by (λ doc. length doc.text) t.docs) (sum_by (λ note. length note.text) t.notes) (sum_by (λ query. length query.source) t.queries) (sum_by (λ filter. length filter.source) t.filters) _ _ (length row.source) represents.bytes (sum_by-append (λ filter. length filter.source) t.filters (row ∷ []));
+  users = users-more e.owners names [] row.owner (represents.users ∙ ap different (sym none-after)) (represents.owners row.owner ∙ ap (λ texts. holds texts row.owner) (sym none-after)) ∙ ap different (sym all);
+  owners = λ user. owners-more e.owners names [] row.owner user (λ w. represents.owners w ∙ ap (λ texts. holds texts w) (sym none-after)) ∙ ap (λ texts. holds texts user) (sym all);
   greatest = λ none. absurd (there none);
 } where
   names : List (List ℕ)
@@ -172,8 +173,8 @@ listing_short o docs entries rows is =
     All-weaker Classed (λ row. length row.class ≤ 32) (λ row. short row.class) rows (subst (All Classed) (sym is) (sorted-named (filter_rules o) docs entries (filter-named o)))
 
 -- a list is refused as a box is
-pub list-refuses : (e : Engine) (name : List ℕ) (refusal : Refusal) → RefusedBy (look_refusal e name) refusal → (t : Tables) → StandsFor e t → Refuses refusal (ListOf name) e.session t
-list-refuses e name refusal by t stands = subst (λ v. RefusedBy v refusal) (box-verdict e t name stands) by
+pub list-refuses : (e : Engine) (name : List ℕ) (refusal : Refusal) → RefusedBy (look_refusal e name) refusal → (t : Tables) → Represents e t → Refuses refusal (ListOf name) e.session t
+list-refuses e name refusal by t represents = subst (λ v. RefusedBy v refusal) (box-verdict e t name represents) by
 
 some-rows : (xs : List Listed) → Some xs ≡ None → ⊥
 some-rows xs e = cc
@@ -182,26 +183,26 @@ some-same : (xs ys : List Listed) → Some xs ≡ Some ys → xs ≡ ys
 some-same xs ys e = cc
 
 -- a list that isn't refused is of a query that there is
-pub answers-list : (e : Engine) (t : Tables) (name : List ℕ) (rows : List Listed) → StandsFor e t → Sound t e.session → look_refusal e name ≡ None → Some rows ≡ rows_kept e (kept_named e name) → Answers t e.session (ListOf name) (Listing name rows) None e.session
-answers-list e t name rows stands sound none is = go (query_named (user_of e.session) name t) refl where
+pub answers-list : (e : Engine) (t : Tables) (name : List ℕ) (rows : List Listed) → Represents e t → IsSound t e.session → look_refusal e name ≡ None → Some rows ≡ rows_kept e (kept_named e name) → Answers t e.session (ListOf name) (Listing name rows) None e.session
+answers-list e t name rows represents sound none is = go (query_named (user_of e.session) name t) refl where
   accepted : Answers t e.session (ListOf name) (show_list (query_named (user_of e.session) name t) name e.session t).reply (show_list (query_named (user_of e.session) name t) name e.session t).change (show_list (query_named (user_of e.session) name t) name e.session t).session
-  accepted = answers-accepted t e.session (ListOf name) (sym (box-verdict e t name stands) ∙ none)
+  accepted = answers-accepted t e.session (ListOf name) (sym (box-verdict e t name represents) ∙ none)
 
   rules : List Rule
   rules = rules_of_user (user_of e.session) t
 
   kept : Some rows ≡ rows_kept e (option_map (kept_query t) (query_named (user_of e.session) name t))
-  kept = is ∙ ap (rows_kept e) (named-is e t name stands)
+  kept = is ∙ ap (rows_kept e) (named-is e t name represents)
 
   go : (o : Option QueryRow) → query_named (user_of e.session) name t ≡ o → Answers t e.session (ListOf name) (Listing name rows) None e.session
   go None none' = absurd (some-rows rows (kept ∙ ap (λ o. rows_kept e (option_map (kept_query t) o)) none'))
   go (Some q) some =
       let by-kept : Some rows ≡ Some (listing_of (filter_rules (last_filter (user_of e.session) e.filters)) e.index.docs (delivered q.num.0 t)) = kept ∙ ap (λ o. rows_kept e (option_map (kept_query t) o)) some in
       let same : rows ≡ listing_of (filter_rules (last_filter (user_of e.session) e.filters)) e.index.docs (delivered q.num.0 t) = some-same rows _ by-kept in
-      let box = box-is truth_of start_of truth-of-second t q t.queries (find-in (is_named (user_of e.session) name) t.queries q some) sound.kept.each in
+      let box = box-is truth_of start_of truth-of-second t q t.queries (find-in (is_query_of (user_of e.session) name) t.queries q some) sound.kept.each in
       let whole : rows ≡ listing_of rules t.docs (box_in q t) =
-      same ∙ ap (λ fs. listing_of (filter_rules (last_filter (user_of e.session) fs)) e.index.docs (delivered q.num.0 t)) stands.filters
-      ∙ ap (λ docs. listing_of rules docs (delivered q.num.0 t)) (docs-are stands) ∙ ap (listing_of rules t.docs) box.box in
+      same ∙ ap (λ fs. listing_of (filter_rules (last_filter (user_of e.session) fs)) e.index.docs (delivered q.num.0 t)) represents.filters
+      ∙ ap (λ docs. listing_of rules docs (delivered q.num.0 t)) (docs-are represents) ∙ ap (listing_of rules t.docs) box.box in
       record {
         fine = accepted.fine;
         reply_is = ap (Listing name) whole ∙ sym (ap (λ o. (show_list o name e.session t).reply) some) ∙ accepted.reply_is;
@@ -210,8 +211,8 @@ answers-list e t name rows stands sound none is = go (query_named (user_of e.ses
       }
 
 -- an explanation is refused as a box is
-pub lines-refuses : (e : Engine) (name : List ℕ) (refusal : Refusal) → RefusedBy (look_refusal e name) refusal → (t : Tables) → StandsFor e t → Refuses refusal (Explain name) e.session t
-lines-refuses e name refusal by t stands = subst (λ v. RefusedBy v refusal) (box-verdict e t name stands) by
+pub lines-refuses : (e : Engine) (name : List ℕ) (refusal : Refusal) → RefusedBy (look_refusal e name) refusal → (t : Tables) → Represents e t → Refuses refusal (Explain name) e.session t
+lines-refuses e name refusal by t represents = subst (λ v. RefusedBy v refusal) (box-verdict e t name represents) by
 
 some-lines : (xs : List (List ℕ)) → Some xs ≡ None → ⊥
 some-lines xs e = cc
@@ -220,13 +221,13 @@ lines-same : (xs ys : List (List ℕ)) → Some xs ≡ Some ys → xs ≡ ys
 lines-same xs ys e = cc
 
 -- an explanation that isn't refused is of a query that there is
-pub answers-lines : (e : Engine) (t : Tables) (name : List ℕ) (lines : List (List ℕ)) → StandsFor e t → look_refusal e name ≡ None → Some lines ≡ lines_kept (kept_named e name) → Answers t e.session (Explain name) (Explained name lines) None e.session
-answers-lines e t name lines stands none is = go (query_named (user_of e.session) name t) refl where
+pub answers-lines : (e : Engine) (t : Tables) (name : List ℕ) (lines : List (List ℕ)) → Represents e t → look_refusal e name ≡ None → Some lines ≡ lines_kept (kept_named e name) → Answers t e.session (Explain name) (Explained name lines) None e.session
+answers-lines e t name lines represents none is = go (query_named (user_of e.session) name t) refl where
   accepted : Answers t e.session (Explain name) (show_lines (query_named (user_of e.session) name t) name e.session t).reply (show_lines (query_named (user_of e.session) name t) name e.session t).change (show_lines (query_named (user_of e.session) name t) name e.session t).session
-  accepted = answers-accepted t e.session (Explain name) (sym (box-verdict e t name stands) ∙ none)
+  accepted = answers-accepted t e.session (Explain name) (sym (box-verdict e t name represents) ∙ none)
 
   kept : Some lines ≡ lines_kept (option_map (kept_query t) (query_named (user_of e.session) name t))
-  kept = is ∙ ap lines_kept (named-is e t name stands)
+  kept = is ∙ ap lines_kept (named-is e t name represents)
 
   go : (o : Option QueryRow) → query_named (user_of e.session) name t ≡ o → Answers t e.session (Explain name) (Explained name lines) None e.session
   go None none' = absurd (some-lines lines (kept ∙ ap (λ o. lines_kept (option_map (kept_query t) o)) none'))

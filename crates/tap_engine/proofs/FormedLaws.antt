@@ -15,7 +15,7 @@ use Rattle.row_index.specs.Orders.{doc_number, doc_arrival, note_number, note_ar
 use Rattle.tap_rows.specs.Kept.{Each, HasRun, RunsFrom, QueriesFrom}
 use Rattle.tap_rows.specs.WellFormed.{may_follow, row_at, is_row, docs_stand, doc_stands, note_stands, notes_stand, query_stands, queries_stand, run_stands, runs_stand, is_picked, pick_stands, picks_stand, is_well_formed}
 use Rattle.tap_model.specs.Sound.{IsMoment}
-use Rattle.tap_kept.specs.Starting.{IsOneOf, AreStanding, AreLeft, AreOnce}
+use Rattle.tap_kept.specs.Starting.{IsOneOf, AreStanding, AreLeft, PicksAreDistinct}
 
 equal : (a b : ℕ) → (a == b) ≡ true → a ≡ b
 equal a b e = grind arith
@@ -132,7 +132,7 @@ not-true : (b : Bool) → not b ≡ true → b ≡ false
 not-true true e = absurd (false≢true e)
 not-true false e = refl
 
-picks-once : (runs : List RunRow) (docs : List Doc) (earlier : List Pick) (place : ℕ) (before : Option Pick) (picks : List Pick) → picks_stand runs docs earlier place before picks ≡ true → AreOnce earlier picks
+picks-once : (runs : List RunRow) (docs : List Doc) (earlier : List Pick) (place : ℕ) (before : Option Pick) (picks : List Pick) → picks_stand runs docs earlier place before picks ≡ true → PicksAreDistinct earlier picks
 picks-once runs docs earlier place before [] e = tt
 picks-once runs docs earlier place before (pick ∷ picks) e =
     let both = and_parts (pick_stands runs docs earlier place before pick) (picks_stand runs docs (earlier ++ pick ∷ []) (place + 1) (Some pick) picks) e in
@@ -151,7 +151,7 @@ pub record Formed (tables : Tables) : Type 0 where
   pub times : Each (λ run. IsMoment run.moment) tables.runs
   pub owned : Each (λ run. IsOneOf run.query.0 (length tables.queries)) tables.runs
   pub picked : Each (λ pick. HasRun pick.run pick.query.0 tables.runs) tables.picks
-  pub once : AreOnce [] tables.picks
+  pub once : PicksAreDistinct [] tables.picks
 
 pub formed : (tables : Tables) → is_well_formed tables ≡ true → Formed tables
 formed tables holds =

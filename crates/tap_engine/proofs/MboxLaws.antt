@@ -19,9 +19,9 @@ use Rattle.script_lang.specs.declared.command.Command.TheVariants.{Mail, Mbox}
 use Rattle.script_lang.specs.declared.reply.Reply.TheVariants.{OneDoc, Docs as DocsAdded}
 use Rattle.tap_model.specs.declared.limits.TheConstants.{DOCUMENT_LIMIT, STORE_LIMIT}
 use Rattle.tap_model.specs.declared.session.Session.{Session}
-use Rattle.tap_model.specs.Sessions.{present}
-use Rattle.tap_model.specs.Limits.{passes}
-use Rattle.tap_model.specs.Verdicts.{first_refusal, verdict, missing, unless, no_moment, messages_of, are_short, long_message, long_block, bytes_of, text_of, is_early}
+use Rattle.tap_model.specs.Sessions.{moment_or_zero}
+use Rattle.tap_model.specs.Limits.{limit_refusal}
+use Rattle.tap_model.specs.Verdicts.{first_refusal, verdict, missing, refuse_unless, no_moment, messages_of, are_short, long_message, long_block, bytes_of, text_of, is_early}
 use Rattle.tap_model.specs.Replies.{docs_from, next_docs, some_docs, tables_after}
 use Rattle.tap_model.specs.Stories.{Refuses}
 use Rattle.tap_model.proofs.AnswerLaws.{some-none}
@@ -30,28 +30,28 @@ use Rattle.tap_engine.proofs.RowTurns.{docs-are}
 use Rattle.tap_engine.proofs.AnswerTurns.{answers-accepted}
 use Rattle.query_eval.specs.Hits.{HitsWithRoom}
 use Rattle.tap_engine.specs.declared.engine.Engine.{Engine}
-use Rattle.tap_engine.specs.Standing.{StandsFor, mbox_bounds, mbox_refusal, RefusedBy}
-use Rattle.tap_engine.proofs.CheckLaws.{late-first, passes-late}
+use Rattle.tap_engine.specs.Standing.{Represents, mbox_bounds, mbox_refusal, RefusedBy}
+use Rattle.tap_engine.proofs.CheckLaws.{late-first, limit_refusal-late}
 
 first-or : (a : Option Refusal) (rest : List (Option Refusal)) → option_or a (first_refusal rest) ≡ first_refusal (a ∷ rest)
 first-or None rest = refl
 first-or (Some x) rest = refl
 
 -- a mailbox file is refused as its verdict says
-pub mbox-verdict : (e : Engine) (t : Tables) (block : Block) → StandsFor e t → mbox_refusal e block ≡ verdict (Mbox block) e.session t
+pub mbox-verdict : (e : Engine) (t : Tables) (block : Block) → Represents e t → mbox_refusal e block ≡ verdict (Mbox block) e.session t
 unfolding mbox_bounds
-mbox-verdict e t block stands =
-    first-or (no_moment e.session) (long_message (messages_of block) ∷ long_block block ∷ passes Documents DOCUMENT_LIMIT (length e.index.docs) (length (messages_of block)) ∷ passes Store STORE_LIMIT e.bytes (bytes_of (messages_of block)) ∷ [])
-    ∙ rw (docs-are stands, stands.bytes) refl
+mbox-verdict e t block represents =
+    first-or (no_moment e.session) (long_message (messages_of block) ∷ long_block block ∷ limit_refusal Documents DOCUMENT_LIMIT (length e.index.docs) (length (messages_of block)) ∷ limit_refusal Store STORE_LIMIT e.bytes (bytes_of (messages_of block)) ∷ [])
+    ∙ rw (docs-are represents, represents.bytes) refl
 
-pub mbox-refuses : (e : Engine) (block : Block) (refusal : Refusal) → RefusedBy (mbox_refusal e block) refusal → (t : Tables) → StandsFor e t → Refuses refusal (Mbox block) e.session t
-mbox-refuses e block refusal by t stands = subst (λ v. RefusedBy v refusal) (mbox-verdict e t block stands) by
+pub mbox-refuses : (e : Engine) (block : Block) (refusal : Refusal) → RefusedBy (mbox_refusal e block) refusal → (t : Tables) → Represents e t → Refuses refusal (Mbox block) e.session t
+mbox-refuses e block refusal by t represents = subst (λ v. RefusedBy v refusal) (mbox-verdict e t block represents) by
 
 -- none is added without a moment
 pub mbox-moment : (e : Engine) (block : Block) → mbox_refusal e block ≡ None → e.session.moment ≡ None → ⊥
 mbox-moment e block none no_m = some-none NoMoment (sym (ap (λ m. option_or (missing NoMoment m) (mbox_bounds e block (messages_of block))) no_m) ∙ none)
 
-message-late : (short : Bool) → is_early (unless short (Limit Message)) ≡ false
+message-late : (short : Bool) → is_early (refuse_unless short (Limit Message)) ≡ false
 message-late true = refl
 message-late false = refl
 
@@ -67,8 +67,8 @@ mbox-memory e block moment = inr (refl, ap (λ x. is_early (option_or x (mbox_bo
   late =
       late-first _ _ (message-late (are_short (messages_of block)))
       (late-first _ _ (block-late block)
-      (late-first _ _ (passes-late Documents DOCUMENT_LIMIT (length e.index.docs) (length (messages_of block)))
-      (late-first _ [] (passes-late Store STORE_LIMIT e.bytes (bytes_of (messages_of block))) refl)))
+      (late-first _ _ (limit_refusal-late Documents DOCUMENT_LIMIT (length e.index.docs) (length (messages_of block)))
+      (late-first _ [] (limit_refusal-late Store STORE_LIMIT e.bytes (bytes_of (messages_of block))) refl)))
 
 both-true : (a b : Bool) → (a && b) ≡ true → (a ≡ true) × (b ≡ true)
 both-true true true e = (refl, refl)
@@ -101,50 +101,50 @@ docs-bytes num moment (text ∷ texts) =
     ∙ ap (λ n. length text + n) (docs-bytes (num + 1) moment texts) ∙ sym (sum_by-cons length text texts)
 
 -- the messages are added
-pub answers-mbox : (t : Tables) (s : Session) (block : Block) (texts : List (List ℕ)) (count first : ℕ) (n : ℕ) (moment : ℤ) (change : Option Change) (s' : Session) → verdict (Mbox block) s t ≡ None → texts ≡ messages_of block → moment ≡ present s
+pub answers-mbox : (t : Tables) (s : Session) (block : Block) (texts : List (List ℕ)) (count first : ℕ) (n : ℕ) (moment : ℤ) (change : Option Change) (s' : Session) → verdict (Mbox block) s t ≡ None → texts ≡ messages_of block → moment ≡ moment_or_zero s
     → count ≡ length texts → n ≡ length t.docs → first ≡ n + 1 → change ≡ some_docs (docs_from (n + 1) moment texts) → s' ≡ s → Answers t s (Mbox block) (DocsAdded count first) change s'
 answers-mbox t s block texts count first n moment change s' none is at is-count is-n is-first is-change is-s =
     let accepted = answers-accepted t s (Mbox block) none in
     record {
       fine = none;
       reply_is = ap (λ n. DocsAdded n first) (is-count ∙ ap length is) ∙ ap (DocsAdded (length (messages_of block))) (is-first ∙ ap (λ n. n + 1) is-n) ∙ accepted.reply_is;
-      change_is = is-change ∙ ap (λ m. some_docs (docs_from (n + 1) m texts)) at ∙ ap (λ texts. some_docs (docs_from (n + 1) (present s) texts)) is ∙ ap (λ n. some_docs (docs_from (n + 1) (present s) (messages_of block))) is-n ∙ accepted.change_is;
+      change_is = is-change ∙ ap (λ m. some_docs (docs_from (n + 1) m texts)) at ∙ ap (λ texts. some_docs (docs_from (n + 1) (moment_or_zero s) texts)) is ∙ ap (λ n. some_docs (docs_from (n + 1) (moment_or_zero s) (messages_of block))) is-n ∙ accepted.change_is;
       session_is = is-s ∙ accepted.session_is;
     }
 
 -- documents more
-pub stands-docs : (e : Engine) (t : Tables) (h : HitsWithRoom) (moment : ℤ) (texts : List (List ℕ)) → StandsFor e t → (e.session.moment ≡ None → ⊥)
-    → StandsFor (record e { index = after e.index (Docs (next_docs t moment texts)); hits = h; bytes = e.bytes + bytes_of texts }) (tables_after (some_docs (next_docs t moment texts)) t)
-stands-docs e t h moment texts stands there = rw (docs-change t (next_docs t moment texts)) (record {
-  rows = ap (λ rows. after rows (Docs (next_docs t moment texts))) stands.rows;
-  queries = stands.queries;
-  run_count = stands.run_count;
-  pick_count = stands.pick_count;
-  bytes = more (sum_by (λ doc. length doc.text) t.docs) (sum_by (λ note. length note.text) t.notes) (sum_by (λ query. length query.source) t.queries) (sum_by (λ filter. length filter.source) t.filters) _ _ (bytes_of texts) stands.bytes
+pub represents-docs : (e : Engine) (t : Tables) (h : HitsWithRoom) (moment : ℤ) (texts : List (List ℕ)) → Represents e t → (e.session.moment ≡ None → ⊥)
+    → Represents (record e { index = after e.index (Docs (next_docs t moment texts)); hits = h; bytes = e.bytes + bytes_of texts }) (tables_after (some_docs (next_docs t moment texts)) t)
+represents-docs e t h moment texts represents there = rw (docs-change t (next_docs t moment texts)) (record {
+  rows = ap (λ rows. after rows (Docs (next_docs t moment texts))) represents.rows;
+  queries = represents.queries;
+  run_count = represents.run_count;
+  pick_count = represents.pick_count;
+  bytes = more (sum_by (λ doc. length doc.text) t.docs) (sum_by (λ note. length note.text) t.notes) (sum_by (λ query. length query.source) t.queries) (sum_by (λ filter. length filter.source) t.filters) _ _ (bytes_of texts) represents.bytes
       (sum_by-append (λ doc. length doc.text) t.docs (next_docs t moment texts) ∙ ap (λ n. sum_by (λ doc. length doc.text) t.docs + n) (docs-bytes (length t.docs + 1) moment texts));
-  users = stands.users;
-  owners = stands.owners;
-  filters = stands.filters;
+  users = represents.users;
+  owners = represents.owners;
+  filters = represents.filters;
   greatest = λ none. absurd (there none);
 }) where
   more : (a b c d a' n k : ℕ) → n ≡ a + b + c + d → a' ≡ a + k → n + k ≡ a' + b + c + d
   more a b c d a' n k is e = omega (arith, is, e)
 
 -- the same, by how many documents are kept
-pub stands-more : (e : Engine) (t : Tables) (h : HitsWithRoom) (moment : ℤ) (texts : List (List ℕ)) → StandsFor e t → (e.session.moment ≡ None → ⊥)
-    → StandsFor (record e { index = after e.index (Docs (docs_from (length e.index.docs + 1) moment texts)); hits = h; bytes = e.bytes + bytes_of texts }) (tables_after (some_docs (docs_from (length e.index.docs + 1) moment texts)) t)
-stands-more e t h moment texts stands there =
-    subst (λ n. StandsFor (record e { index = after e.index (Docs (docs_from (n + 1) moment texts)); hits = h; bytes = e.bytes + bytes_of texts }) (tables_after (some_docs (docs_from (n + 1) moment texts)) t)) (sym (ap length (docs-are stands))) (stands-docs e t h moment texts stands there)
+pub represents-more : (e : Engine) (t : Tables) (h : HitsWithRoom) (moment : ℤ) (texts : List (List ℕ)) → Represents e t → (e.session.moment ≡ None → ⊥)
+    → Represents (record e { index = after e.index (Docs (docs_from (length e.index.docs + 1) moment texts)); hits = h; bytes = e.bytes + bytes_of texts }) (tables_after (some_docs (docs_from (length e.index.docs + 1) moment texts)) t)
+represents-more e t h moment texts represents there =
+    subst (λ n. Represents (record e { index = after e.index (Docs (docs_from (n + 1) moment texts)); hits = h; bytes = e.bytes + bytes_of texts }) (tables_after (some_docs (docs_from (n + 1) moment texts)) t)) (sym (ap length (docs-are represents))) (represents-docs e t h moment texts represents there)
 
 -- a message is refused or added
-pub answers-mail : (t : Tables) (s : Session) (block : Block) (text : List ℕ) (n : ℕ) (num : DocNum) (moment : ℤ) (change : Change) (s' : Session) → verdict (Mail block) s t ≡ None → text ≡ text_of block → moment ≡ present s
+pub answers-mail : (t : Tables) (s : Session) (block : Block) (text : List ℕ) (n : ℕ) (num : DocNum) (moment : ℤ) (change : Change) (s' : Session) → verdict (Mail block) s t ≡ None → text ≡ text_of block → moment ≡ moment_or_zero s
     → n ≡ length t.docs → num.0 ≡ n + 1 → change ≡ Docs (docs_from (n + 1) moment (text ∷ [])) → s' ≡ s → Answers t s (Mail block) (OneDoc num) (Some change) s'
 answers-mail t s block text n num moment change s' none is at is-n is-num is-change is-s =
     let accepted = answers-accepted t s (Mail block) none in
     record {
       fine = none;
       reply_is = ap OneDoc (doc-num num (length t.docs + 1) (is-num ∙ ap (λ n. n + 1) is-n)) ∙ accepted.reply_is;
-      change_is = ap Some is-change ∙ ap (λ m. Some (Docs (docs_from (n + 1) m (text ∷ [])))) at ∙ ap (λ text. Some (Docs (docs_from (n + 1) (present s) (text ∷ [])))) is ∙ ap (λ n. Some (Docs (docs_from (n + 1) (present s) (text_of block ∷ [])))) is-n ∙ accepted.change_is;
+      change_is = ap Some is-change ∙ ap (λ m. Some (Docs (docs_from (n + 1) m (text ∷ [])))) at ∙ ap (λ text. Some (Docs (docs_from (n + 1) (moment_or_zero s) (text ∷ [])))) is ∙ ap (λ n. Some (Docs (docs_from (n + 1) (moment_or_zero s) (text_of block ∷ [])))) is-n ∙ accepted.change_is;
       session_is = is-s ∙ accepted.session_is;
     }
   where

@@ -14,13 +14,13 @@ use Rattle.script_lang.specs.declared.command.Command.TheVariants.{AddNote}
 use Rattle.script_lang.specs.declared.reply.Reply.TheVariants.{OneNote as NoteAdded}
 use Rattle.script_lang.specs.declared.refusal.LimitName.TheVariants.{Notes, Store}
 use Rattle.tap_model.specs.declared.limits.TheConstants.{NOTE_LIMIT, STORE_LIMIT}
-use Rattle.tap_model.specs.Limits.{passes}
+use Rattle.tap_model.specs.Limits.{limit_refusal}
 use Rattle.tap_model.specs.declared.session.Session.{Session}
 use Rattle.tap_engine.specs.declared.engine.Engine.{Engine}
-use Rattle.tap_model.specs.Sessions.{user_of, present}
+use Rattle.tap_model.specs.Sessions.{user_of, moment_or_zero}
 use Rattle.tap_model.specs.Verdicts.{first_refusal, verdict, missing, no_moment, no_user, bad_name, no_doc, long_note}
 use Rattle.tap_model.specs.Replies.{next_note}
-use Rattle.tap_engine.specs.Standing.{StandsFor, note_bounds, note_refusal, RefusedBy}
+use Rattle.tap_engine.specs.Standing.{Represents, note_bounds, note_refusal, RefusedBy}
 use Rattle.tap_model.specs.Stories.{Refuses}
 use Rattle.tap_model.proofs.AnswerLaws.{some-none}
 use Rattle.tap_engine.specs.Answering.{Answers}
@@ -34,14 +34,14 @@ four None None (Some x) rest = refl
 four None None None rest = refl
 
 -- a note is refused as its verdict says
-pub note-verdict : (e : Engine) (t : Tables) (doc : ℕ) (kind : List ℕ) (value : ℤ) (text : List ℕ) → StandsFor e t → note_refusal e doc kind text ≡ verdict (AddNote doc kind value text) e.session t
+pub note-verdict : (e : Engine) (t : Tables) (doc : ℕ) (kind : List ℕ) (value : ℤ) (text : List ℕ) → Represents e t → note_refusal e doc kind text ≡ verdict (AddNote doc kind value text) e.session t
 unfolding note_bounds
-note-verdict e t doc kind value text stands =
-    four (no_moment e.session) (no_user e.session) (bad_name kind) (no_doc doc (length e.index.docs) ∷ long_note (length text) ∷ passes Notes NOTE_LIMIT (length e.index.notes) 1 ∷ passes Store STORE_LIMIT e.bytes (length text) ∷ [])
-    ∙ rw (docs-are stands, notes-are stands, stands.bytes) refl
+note-verdict e t doc kind value text represents =
+    four (no_moment e.session) (no_user e.session) (bad_name kind) (no_doc doc (length e.index.docs) ∷ long_note (length text) ∷ limit_refusal Notes NOTE_LIMIT (length e.index.notes) 1 ∷ limit_refusal Store STORE_LIMIT e.bytes (length text) ∷ [])
+    ∙ rw (docs-are represents, notes-are represents, represents.bytes) refl
 
-pub note-refuses : (e : Engine) (doc : ℕ) (kind : List ℕ) (value : ℤ) (text : List ℕ) (refusal : Refusal) → RefusedBy (note_refusal e doc kind text) refusal → (t : Tables) → StandsFor e t → Refuses refusal (AddNote doc kind value text) e.session t
-note-refuses e doc kind value text refusal by t stands = subst (λ v. RefusedBy v refusal) (note-verdict e t doc kind value text stands) by
+pub note-refuses : (e : Engine) (doc : ℕ) (kind : List ℕ) (value : ℤ) (text : List ℕ) (refusal : Refusal) → RefusedBy (note_refusal e doc kind text) refusal → (t : Tables) → Represents e t → Refuses refusal (AddNote doc kind value text) e.session t
+note-refuses e doc kind value text refusal by t represents = subst (λ v. RefusedBy v refusal) (note-verdict e t doc kind value text represents) by
 
 -- a note isn't added without a moment
 pub note-moment : (e : Engine) (doc : ℕ) (kind text : List ℕ) → note_refusal e doc kind text ≡ None → e.session.moment ≡ None → ⊥
@@ -49,11 +49,11 @@ note-moment e doc kind text none no_m = some-none NoMoment (sym (ap (λ m. optio
 
 -- a note is added
 pub answers-note : (t : Tables) (s : Session) (doc : ℕ) (kind : List ℕ) (value : ℤ) (text : List ℕ) (n : ℕ) (note : Note) (change : Change) (s' : Session) → verdict (AddNote doc kind value text) s t ≡ None → n ≡ length t.notes
-    → note ≡ record { num = record { 0 = n + 1 }; doc = record { 0 = doc }; author = user_of s; kind = kind; value = value; arrival = present s; text = text } → change ≡ OneNote note → s' ≡ s
+    → note ≡ record { num = record { 0 = n + 1 }; doc = record { 0 = doc }; author = user_of s; kind = kind; value = value; arrival = moment_or_zero s; text = text } → change ≡ OneNote note → s' ≡ s
     → Answers t s (AddNote doc kind value text) (NoteAdded note.num) (Some change) s'
 answers-note t s doc kind value text n note change s' none count is-note is-change is-s =
     let accepted = answers-accepted t s (AddNote doc kind value text) none in
-    let same : note ≡ next_note t s doc kind value text = is-note ∙ ap (λ n. record { num = record { 0 = n + 1 }; doc = record { 0 = doc }; author = user_of s; kind = kind; value = value; arrival = present s; text = text }) count in
+    let same : note ≡ next_note t s doc kind value text = is-note ∙ ap (λ n. record { num = record { 0 = n + 1 }; doc = record { 0 = doc }; author = user_of s; kind = kind; value = value; arrival = moment_or_zero s; text = text }) count in
     record {
       fine = none;
       reply_is = ap (λ note. NoteAdded note.num) same ∙ accepted.reply_is;
@@ -62,16 +62,16 @@ answers-note t s doc kind value text n note change s' none count is-note is-chan
     }
 
 -- a note more
-pub stands-note : (e : Engine) (t : Tables) (note : Note) → StandsFor e t → (e.session.moment ≡ None → ⊥) → StandsFor (record e { index = after e.index (OneNote note); bytes = e.bytes + length note.text }) (after t (OneNote note))
-stands-note e t note stands there = record {
-  rows = ap (λ rows. after rows (OneNote note)) stands.rows;
-  queries = stands.queries;
-  run_count = stands.run_count;
-  pick_count = stands.pick_count;
-  bytes = more (sum_by (λ doc. length doc.text) t.docs) (sum_by (λ note. length note.text) t.notes) (sum_by (λ query. length query.source) t.queries) (sum_by (λ filter. length filter.source) t.filters) _ _ (length note.text) stands.bytes (sum_by-append (λ note. length note.text) t.notes (note ∷ []));
-  users = stands.users;
-  owners = stands.owners;
-  filters = stands.filters;
+pub represents-note : (e : Engine) (t : Tables) (note : Note) → Represents e t → (e.session.moment ≡ None → ⊥) → Represents (record e { index = after e.index (OneNote note); bytes = e.bytes + length note.text }) (after t (OneNote note))
+represents-note e t note represents there = record {
+  rows = ap (λ rows. after rows (OneNote note)) represents.rows;
+  queries = represents.queries;
+  run_count = represents.run_count;
+  pick_count = represents.pick_count;
+  bytes = more (sum_by (λ doc. length doc.text) t.docs) (sum_by (λ note. length note.text) t.notes) (sum_by (λ query. length query.source) t.queries) (sum_by (λ filter. length filter.source) t.filters) _ _ (length note.text) represents.bytes (sum_by-append (λ note. length note.text) t.notes (note ∷ []));
+  users = represents.users;
+  owners = represents.owners;
+  filters = represents.filters;
   greatest = λ none. absurd (there none);
 } where
   more : (a b c d b' n k : ℕ) → n ≡ a + b + c + d → b' ≡ b + (0 + k) → n + k ≡ a + b' + c + d

@@ -17,16 +17,16 @@ use Rattle.tap_model.specs.declared.session.Session.{Session}
 use Rattle.tap_model.specs.Verdicts.{verdict, is_early, is_spared}
 use Rattle.tap_model.specs.Replies.{answer_of, answer_by, tables_after, set_moment}
 use Rattle.tap_model.specs.Stories.{Step, next_tables}
-use Rattle.tap_model.specs.Sound.{Sound}
+use Rattle.tap_model.specs.Sound.{IsSound}
 use Rattle.tap_model.proofs.AnswerLaws.{some-none}
 use Rattle.tap_model.proofs.FitLaws.{accepted_fits}
 use Rattle.tap_model.proofs.NextLaws.{next-is}
 use Rattle.query_eval.specs.Hits.{HitsWithRoom}
-use Rattle.tap_engine.specs.Standing.{StandsFor}
+use Rattle.tap_engine.specs.Standing.{Represents}
 use Rattle.tap_engine.specs.declared.engine.Engine.{Engine}
 use Rattle.tap_engine.specs.declared.fault.EngineFault.{EngineFault}
 use Rattle.tap_engine.specs.declared.undo.Undo.{Undo}
-use Rattle.tap_engine.specs.Answering.{Answers, IsStill, TakesBack, fault_answer, fault_engine}
+use Rattle.tap_engine.specs.Answering.{Answers, IsUnchangedButHits, UndoRestores, fault_answer, fault_engine}
 
 no-change : (change : Change) → None ≡ Some change → ⊥
 no-change change e = cc
@@ -59,7 +59,7 @@ pub memory-step : (t : Tables) (s : Session) (c : Command) (reply : Reply) (chan
 memory-step t s c reply change s' answers = inr (record { reply_is = refl; tables_are = refl; session_is = refl; not_spared = unspared c s t change answers.fine (sym answers.change_is) })
 
 -- the rows of a command stand in order behind those of the tables
-pub rows-fit : (t : Tables) (s : Session) (c : Command) (reply : Reply) (change : Change) (s' : Session) → Sound t s → Answers t s c reply (Some change) s' → fits t change ≡ true
+pub rows-fit : (t : Tables) (s : Session) (c : Command) (reply : Reply) (change : Change) (s' : Session) → IsSound t s → Answers t s c reply (Some change) s' → fits t change ≡ true
 rows-fit t s c reply change s' sound answers = accepted_fits t s c change sound (sym answers.change_is)
 
 -- the tables with the rows of a command
@@ -90,16 +90,16 @@ pub one-of : (t x : Tables) (s : Session) (c : Command) (reply : Reply) (change 
 one-of t x s c reply change s' answers (inl e) = inl e
 one-of t x s c reply change s' answers (inr e) = inr (e ∙ ap (λ change. tables_after change t) answers.change_is)
 
-pub taken-there : (undo : Undo) (new old : Engine) (change : Option Change) (rows : Change) → change ≡ Some rows → OnSome change (TakesBack undo new old) → TakesBack undo new old
-taken-there undo new old change rows is takes = subst (λ change. OnSome change (TakesBack undo new old)) is takes
+pub taken-there : (undo : Undo) (new old : Engine) (change : Option Change) (rows : Change) → change ≡ Some rows → OnSome change (UndoRestores undo new old) → UndoRestores undo new old
+taken-there undo new old change rows is takes = subst (λ change. OnSome change (UndoRestores undo new old)) is takes
 
 -- the hits have no part in what an engine stands for
-stands-hits : (e : Engine) (t : Tables) (h : HitsWithRoom) → StandsFor e t → StandsFor (record e { hits = h }) t
-stands-hits e t h stands = record { rows = stands.rows; queries = stands.queries; filters = stands.filters; run_count = stands.run_count; pick_count = stands.pick_count; bytes = stands.bytes; users = stands.users; owners = stands.owners; greatest = stands.greatest }
+represents-hits : (e : Engine) (t : Tables) (h : HitsWithRoom) → Represents e t → Represents (record e { hits = h }) t
+represents-hits e t h represents = record { rows = represents.rows; queries = represents.queries; filters = represents.filters; run_count = represents.run_count; pick_count = represents.pick_count; bytes = represents.bytes; users = represents.users; owners = represents.owners; greatest = represents.greatest }
 
 -- what the engine stands for where the keeper didn't commit
-pub fault-stands : (fault : CommitFault) (t : Tables) (e back e' : Engine) (c : Command) (result : Result Reply EngineFault) → result ≡ fault_answer fault → e' ≡ fault_engine fault back → IsStill back e → StandsFor e t
-    → IfOk result (λ reply. StandsFor e' (next_tables c reply e.session t))
-fault-stands C.Memory t e back e' c result is to still stands =
-    subst (λ r. IfOk r (λ reply. StandsFor e' (next_tables c reply e.session t))) (sym is) (subst (λ k. StandsFor k t) (sym (to ∙ still.same)) (stands-hits e t back.hits stands))
-fault-stands C.Failed t e back e' c result is to still stands = subst (λ r. IfOk r (λ reply. StandsFor e' (next_tables c reply e.session t))) (sym is) tt
+pub fault-stands : (fault : CommitFault) (t : Tables) (e back e' : Engine) (c : Command) (result : Result Reply EngineFault) → result ≡ fault_answer fault → e' ≡ fault_engine fault back → IsUnchangedButHits back e → Represents e t
+    → IfOk result (λ reply. Represents e' (next_tables c reply e.session t))
+fault-stands C.Memory t e back e' c result is to still represents =
+    subst (λ r. IfOk r (λ reply. Represents e' (next_tables c reply e.session t))) (sym is) (subst (λ k. Represents k t) (sym (to ∙ still.same)) (represents-hits e t back.hits represents))
+fault-stands C.Failed t e back e' c result is to still represents = subst (λ r. IfOk r (λ reply. Represents e' (next_tables c reply e.session t))) (sym is) tt

@@ -16,11 +16,12 @@ use Rattle.row_index.specs.Orders as Index
 use Rattle.query_eval.specs.Hits.{HitsWithRoom}
 use Rattle.tap_rows.specs.Kept.{Each}
 use Rattle.script_lang.specs.declared.refusal.Refusal.TheVariants.{Backwards}
-use Rattle.tap_model.specs.Queries.{is_named, start_of}
+use Rattle.tap_model.specs.Queries.{start_of}
+use Rattle.tap_rows.specs.WellFormed.{is_query_of}
 use Rattle.tap_model.specs.Replies.{docs_from}
-use Rattle.tap_model.specs.Sessions.{or_zero, present}
+use Rattle.tap_model.specs.Sessions.{or_zero, moment_or_zero}
 use Rattle.tap_model.specs.Sound.{IsMoment}
-use Rattle.tap_model.specs.Verdicts.{is_back, unless}
+use Rattle.tap_model.specs.Verdicts.{is_back, refuse_unless}
 use Rattle.tap_model.proofs.AnswerLaws.{some-none}
 use Rattle.tap_kept.specs.declared.kept_query.KeptQuery.{KeptQuery}
 use Rattle.tap_engine.specs.declared.engine.Engine.{Engine}
@@ -28,7 +29,7 @@ use Rattle.tap_engine.specs.declared.run.Due.{Due}
 use Rattle.tap_kept.specs.Keeping.{named_in, new_kept, after_run, before_run, without_run}
 use Rattle.tap_engine.specs.Ready.{KeptFrom, RowsBy, IsTime, IsReady}
 use Rattle.tap_engine.specs.Standing.{kept_named, hits_kept, due_of}
-use Rattle.tap_engine.specs.Answering.{IsStill, TakesBack, undo_run}
+use Rattle.tap_engine.specs.Answering.{IsUnchangedButHits, UndoRestores, undo_run}
 
 -- what is kept of a query that stands at the place of its number
 pub record KeptAt (num runs : ℕ) (queries : List KeptQuery) (kept : KeptQuery) : Type 0 where
@@ -74,14 +75,14 @@ found-at p num runs (x ∷ queries) kept from e = go (p x) refl (found-at p (suc
 
 pub named-at : (owner name : List ℕ) (num runs : ℕ) (queries : List KeptQuery) (kept : KeptQuery) → KeptFrom num runs queries → named_in owner name queries ≡ Some kept → KeptAt num runs queries kept
 unfolding named_in
-named-at owner name num runs queries kept from e = found-at (λ kept. is_named owner name kept.row) num runs queries kept from e
+named-at owner name num runs queries kept from e = found-at (λ kept. is_query_of owner name kept.row) num runs queries kept from e
 
 -- what is due is due to a query that is kept at the place of its number
 pub record DueAt (e : Engine) (name : List ℕ) (due : Due) : Type 0 where
   pub kept : KeptQuery
   pub named : kept_named e name ≡ Some kept
   pub at : KeptAt 1 e.run_count e.queries kept
-  pub is : due ≡ record { query = kept.row.num; moment = present e.session; runs = kept.runs; hits = hits_kept e (Some kept) }
+  pub is : due ≡ record { query = kept.row.num; moment = moment_or_zero e.session; runs = kept.runs; hits = hits_kept e (Some kept) }
 
 no-due : (due : Due) → Some due ≡ None → ⊥
 no-due due e = cc
@@ -97,7 +98,7 @@ due-at e name due ready is = go (kept_named e name) refl where
     kept = kept;
     named = some;
     at = named-at _ name 1 e.run_count e.queries kept ready.queries some;
-    is = same-due due (record { query = kept.row.num; moment = present e.session; runs = kept.runs; hits = hits_kept e (Some kept) }) (is ∙ ap (due_of e) some);
+    is = same-due due (record { query = kept.row.num; moment = moment_or_zero e.session; runs = kept.runs; hits = hits_kept e (Some kept) }) (is ∙ ap (due_of e) some);
   }
 
 -- more runs of all
@@ -133,8 +134,8 @@ length-set (suc i) (kept ∷ queries) x = ap suc (length-set i queries x)
 
 -- the engine before a run
 pub undo-run : (e e' : Engine) (h : HitsWithRoom) (i : ℕ) (m : ℤ) (entries : List Entry) (runs picks : ℕ) (d : KeptQuery) → i < length e.queries → e.hits.room ≤ h.room
-    → e' ≡ record e { hits = h; queries = slice_set e.queries i (after_run m entries (slice_index_or e.queries i d)); run_count = runs; pick_count = picks } → TakesBack (undo_run e i (slice_index_or e.queries i d)) e' e
-undo-run e e' h i m entries runs picks d lt room is = subst (λ e'. TakesBack (undo_run e i (slice_index_or e.queries i d)) e' e) (sym is) (record {
+    → e' ≡ record e { hits = h; queries = slice_set e.queries i (after_run m entries (slice_index_or e.queries i d)); run_count = runs; pick_count = picks } → UndoRestores (undo_run e i (slice_index_or e.queries i d)) e' e
+undo-run e e' h i m entries runs picks d lt room is = subst (λ e'. UndoRestores (undo_run e i (slice_index_or e.queries i d)) e' e) (sym is) (record {
   there = subst (λ n. i < n) (sym (length-set i e.queries (after_run m entries (slice_index_or e.queries i d)))) lt;
   before_is = record { same = ap (λ l. record e { hits = h; queries = l }) (run-back i e.queries m entries d); room = room };
 })
@@ -149,23 +150,23 @@ each-both P [] ys left right = right
 each-both P (x ∷ xs) ys left right = (left.0, each-both P xs ys left.1 right)
 
 -- the rows arrived by the session's moment
-pub rows-by : {A : Type 0} (f : A → ℤ) (e : Engine) (rows : List A) → RowsBy f (option_or e.session.moment e.greatest) rows → (e.session.moment ≡ None → ⊥) → Each (λ row. f row ≤ℤ present e.session) rows
+pub rows-by : {A : Type 0} (f : A → ℤ) (e : Engine) (rows : List A) → RowsBy f (option_or e.session.moment e.greatest) rows → (e.session.moment ≡ None → ⊥) → Each (λ row. f row ≤ℤ moment_or_zero e.session) rows
 rows-by f e rows by there = go e.session.moment refl where
-  go : (o : Option ℤ) → e.session.moment ≡ o → Each (λ row. f row ≤ℤ present e.session) rows
+  go : (o : Option ℤ) → e.session.moment ≡ o → Each (λ row. f row ≤ℤ moment_or_zero e.session) rows
   go None none = absurd (there none)
   go (Some m) is = subst (λ z. Each (λ row. f row ≤ℤ z) rows) (sym (ap or_zero is)) (subst (λ o. RowsBy f (option_or o e.greatest) rows) is by)
 
-by-rows : {A : Type 0} (f : A → ℤ) (e : Engine) (rows : List A) → (e.session.moment ≡ None → ⊥) → Each (λ row. f row ≤ℤ present e.session) rows → RowsBy f (option_or e.session.moment e.greatest) rows
+by-rows : {A : Type 0} (f : A → ℤ) (e : Engine) (rows : List A) → (e.session.moment ≡ None → ⊥) → Each (λ row. f row ≤ℤ moment_or_zero e.session) rows → RowsBy f (option_or e.session.moment e.greatest) rows
 by-rows f e rows there each = go e.session.moment refl where
   go : (o : Option ℤ) → e.session.moment ≡ o → RowsBy f (option_or e.session.moment e.greatest) rows
   go None none = absurd (there none)
   go (Some m) is = subst (λ o. RowsBy f (option_or o e.greatest) rows) (sym is) (subst (λ z. Each (λ row. f row ≤ℤ z) rows) (ap or_zero is) each)
 
-pub ready-docs : (e : Engine) (h : HitsWithRoom) (texts : List (List ℕ)) (bytes : ℕ) → IsReady e → (e.session.moment ≡ None → ⊥) → length (e.index.docs ++ docs_from (length e.index.docs + 1) (present e.session) texts) ≤ h.room
-    → IsReady (record e { index = after e.index (Docs (docs_from (length e.index.docs + 1) (present e.session) texts)); hits = h; bytes = bytes })
+pub ready-docs : (e : Engine) (h : HitsWithRoom) (texts : List (List ℕ)) (bytes : ℕ) → IsReady e → (e.session.moment ≡ None → ⊥) → length (e.index.docs ++ docs_from (length e.index.docs + 1) (moment_or_zero e.session) texts) ≤ h.room
+    → IsReady (record e { index = after e.index (Docs (docs_from (length e.index.docs + 1) (moment_or_zero e.session) texts)); hits = h; bytes = bytes })
 ready-docs e h texts bytes ready there room = record {
-  docs = by-rows doc_arrival e (e.index.docs ++ docs_from (length e.index.docs + 1) (present e.session) texts) there
-      (each-both (λ doc. doc.arrival ≤ℤ present e.session) e.index.docs _ (rows-by doc_arrival e e.index.docs ready.docs there) (each-from (length e.index.docs + 1) (present e.session) texts));
+  docs = by-rows doc_arrival e (e.index.docs ++ docs_from (length e.index.docs + 1) (moment_or_zero e.session) texts) there
+      (each-both (λ doc. doc.arrival ≤ℤ moment_or_zero e.session) e.index.docs _ (rows-by doc_arrival e e.index.docs ready.docs there) (each-from (length e.index.docs + 1) (moment_or_zero e.session) texts));
   notes = ready.notes;
   queries = ready.queries;
   moment = ready.moment;
@@ -173,10 +174,10 @@ ready-docs e h texts bytes ready there room = record {
 }
 
 -- a note more, that arrives then
-pub ready-note : (e : Engine) (note : Note) (bytes : ℕ) → IsReady e → note.arrival ≡ present e.session → (e.session.moment ≡ None → ⊥) → IsReady (record e { index = after e.index (OneNote note); bytes = bytes })
+pub ready-note : (e : Engine) (note : Note) (bytes : ℕ) → IsReady e → note.arrival ≡ moment_or_zero e.session → (e.session.moment ≡ None → ⊥) → IsReady (record e { index = after e.index (OneNote note); bytes = bytes })
 ready-note e note bytes ready at there = record {
   docs = ready.docs;
-  notes = by-rows note_arrival e (e.index.notes ++ note ∷ []) there (each-both (λ note. note.arrival ≤ℤ present e.session) e.index.notes (note ∷ []) (rows-by note_arrival e e.index.notes ready.notes there) (omega (arith, ints, at), tt));
+  notes = by-rows note_arrival e (e.index.notes ++ note ∷ []) there (each-both (λ note. note.arrival ≤ℤ moment_or_zero e.session) e.index.notes (note ∷ []) (rows-by note_arrival e e.index.notes ready.notes there) (omega (arith, ints, at), tt));
   queries = ready.queries;
   moment = ready.moment;
   room = ready.room;
@@ -187,7 +188,7 @@ not-back : (last second : ℤ) → is_back (Some last) (Some second) ≡ None �
 not-back last second none = go (int_le last second) refl where
   go : (b : Bool) → int_le last second ≡ b → last ≤ℤ second
   go true y = grind (arith, ints)
-  go false n = absurd (some-none (Backwards last) (sym (ap (λ b. unless b (Backwards last)) n) ∙ none))
+  go false n = absurd (some-none (Backwards last) (sym (ap (λ b. refuse_unless b (Backwards last)) n) ∙ none))
 
 each-later : {A : Type 0} (f : A → ℤ) (m n : ℤ) (rows : List A) → m ≤ℤ n → Each (λ row. f row ≤ℤ m) rows → Each (λ row. f row ≤ℤ n) rows
 each-later f m n [] le each = tt
@@ -211,18 +212,18 @@ pub moment-in-range : (text : List ℕ) (m : ℤ) → moment_of text ≡ Some m 
 moment-in-range text m e = subst InRange e (moment-range text)
 
 -- the present moment of a session that has one
-pub present-moment : (e : Engine) → IsReady e → (e.session.moment ≡ None → ⊥) → IsMoment (present e.session)
-present-moment e ready there = go e.session.moment refl where
-  go : (o : Option ℤ) → e.session.moment ≡ o → IsMoment (present e.session)
+pub moment_or_zero-moment : (e : Engine) → IsReady e → (e.session.moment ≡ None → ⊥) → IsMoment (moment_or_zero e.session)
+moment_or_zero-moment e ready there = go e.session.moment refl where
+  go : (o : Option ℤ) → e.session.moment ≡ o → IsMoment (moment_or_zero e.session)
   go None none = absurd (there none)
   go (Some m) is = subst IsMoment (sym (ap or_zero is)) (subst IsTime is ready.moment)
 
 -- the same, as the index takes it
-pub index-moment : (e : Engine) → IsReady e → (e.session.moment ≡ None → ⊥) → Index.IsMoment (present e.session)
-index-moment e ready there = let moment = present-moment e ready there in record { early = moment.0; late = moment.1 }
+pub index-moment : (e : Engine) → IsReady e → (e.session.moment ≡ None → ⊥) → Index.IsMoment (moment_or_zero e.session)
+index-moment e ready there = let moment = moment_or_zero-moment e ready there in record { early = moment.0; late = moment.1 }
 
 -- what is left of the engine where nothing moved stays ready
-pub ready-still : (e e' : Engine) → IsReady e → IsStill e' e → IsReady e'
+pub ready-still : (e e' : Engine) → IsReady e → IsUnchangedButHits e' e → IsReady e'
 ready-still e e' ready still = subst IsReady (sym still.same) (record { docs = ready.docs; notes = ready.notes; queries = ready.queries; moment = ready.moment; room = omega (arith, ready.room, still.room) })
 
 pub some-moment : (moment : Option ℤ) (m : ℤ) → moment ≡ Some m → moment ≡ None → ⊥
@@ -231,5 +232,5 @@ some-moment moment m is none = no-moment m (sym is ∙ none) where
   no-moment m e = cc
 
 -- the engine with other hits stays ready
-pub ready-hits : (e e' : Engine) (h : HitsWithRoom) → e' ≡ record e { hits = h } → e.hits.room ≤ h.room → IsStill e' e
+pub ready-hits : (e e' : Engine) (h : HitsWithRoom) → e' ≡ record e { hits = h } → e.hits.room ≤ h.room → IsUnchangedButHits e' e
 ready-hits e e' h is room = record { same = is ∙ ap (λ h. record e { hits = h }) (sym (ap (λ k. k.hits) is)); room = subst (λ k. e.hits.room ≤ k.hits.room) (sym is) room }

@@ -11,13 +11,13 @@ use Rattle.tap_model.specs.Verdicts.{are_short}
 use Rattle.row_index.specs.Rows.{without_last_doc}
 use Rattle.tap_rows.specs.declared.tables.Tables.{Tables}
 use Rattle.tap_engine.specs.declared.engine.Engine.{Engine}
-use Rattle.tap_engine.specs.Standing.{StandsFor}
+use Rattle.tap_engine.specs.Standing.{Represents}
 
-pub docs-are : {e : Engine} {t : Tables} → StandsFor e t → e.index.docs ≡ t.docs
-docs-are stands = ap (λ (rows : Tables). rows.docs) stands.rows
+pub docs-are : {e : Engine} {t : Tables} → Represents e t → e.index.docs ≡ t.docs
+docs-are represents = ap (λ (rows : Tables). rows.docs) represents.rows
 
-pub notes-are : {e : Engine} {t : Tables} → StandsFor e t → e.index.notes ≡ t.notes
-notes-are stands = ap (λ (rows : Tables). rows.notes) stands.rows
+pub notes-are : {e : Engine} {t : Tables} → Represents e t → e.index.notes ≡ t.notes
+notes-are represents = ap (λ (rows : Tables). rows.notes) represents.rows
 
 take-take : {A : Type 0} (n m : ℕ) (xs : List A) → n ≤ m → take n (take m xs) ≡ take n xs
 take-take zero m xs le = refl

@@ -15,7 +15,7 @@ use Rattle.tap_base.specs.Words.{holds}
 use Rattle.tap_model.specs.Limits.{different}
 use Rattle.tap_model.specs.Queries.{truth_of, start_of}
 use Rattle.tap_kept.specs.Keeping.{kept_query, new_kept, with_owner}
-use Rattle.tap_engine.specs.Standing.{StandsFor}
+use Rattle.tap_engine.specs.Standing.{Represents}
 use Rattle.tap_engine.proofs.OwnerLaws.{users-more, owners-more}
 
 -- a query that is new was never run
@@ -24,17 +24,17 @@ new-is t row kept num =
     rw (runs-none row.num.0 t.runs (each-map (λ run. run.query.0 ≤ length t.queries) (λ run. run.query.0 < row.num.0) t.runs (λ run le. omega (arith, le, num)) kept.owned), no-picks row.num.0 (length t.queries) t.runs t.picks (omega (arith, num)) kept.owned kept.picks) refl
 
 -- a query more
-pub stands-query : (e : Engine) (t : Tables) (row : QueryRow) → StandsFor e t → IsKept truth_of start_of t → row.num.0 ≡ length t.queries + 1 → (e.session.moment ≡ None → ⊥)
-    → StandsFor (record e { queries = e.queries ++ new_kept row ∷ []; owners = with_owner e.owners row.owner; bytes = e.bytes + length row.source }) (after t (OneQuery row))
-stands-query e t row stands kept num there = record {
-  rows = stands.rows;
-  queries = rw stands.queries (ap (λ k. map (kept_query t) t.queries ++ k ∷ []) (sym (new-is t row kept num)) ∙ sym (map-append (kept_query t) t.queries (row ∷ [])));
-  run_count = stands.run_count;
-  pick_count = stands.pick_count;
-  bytes = more (sum_by (λ doc. length doc.text) t.docs) (sum_by (λ note. length note.text) t.notes) (sum_by (λ query. length query.source) t.queries) (sum_by (λ filter. length filter.source) t.filters) _ _ (length row.source) stands.bytes (sum_by-append (λ query. length query.source) t.queries (row ∷ []));
-  users = users-more e.owners names (map (λ filter. filter.owner) t.filters) row.owner stands.users (stands.owners row.owner) ∙ ap different (sym all);
-  owners = λ user. owners-more e.owners names (map (λ filter. filter.owner) t.filters) row.owner user stands.owners ∙ ap (λ texts. holds texts user) (sym all);
-  filters = stands.filters;
+pub represents-query : (e : Engine) (t : Tables) (row : QueryRow) → Represents e t → IsKept truth_of start_of t → row.num.0 ≡ length t.queries + 1 → (e.session.moment ≡ None → ⊥)
+    → Represents (record e { queries = e.queries ++ new_kept row ∷ []; owners = with_owner e.owners row.owner; bytes = e.bytes + length row.source }) (after t (OneQuery row))
+represents-query e t row represents kept num there = record {
+  rows = represents.rows;
+  queries = rw represents.queries (ap (λ k. map (kept_query t) t.queries ++ k ∷ []) (sym (new-is t row kept num)) ∙ sym (map-append (kept_query t) t.queries (row ∷ [])));
+  run_count = represents.run_count;
+  pick_count = represents.pick_count;
+  bytes = more (sum_by (λ doc. length doc.text) t.docs) (sum_by (λ note. length note.text) t.notes) (sum_by (λ query. length query.source) t.queries) (sum_by (λ filter. length filter.source) t.filters) _ _ (length row.source) represents.bytes (sum_by-append (λ query. length query.source) t.queries (row ∷ []));
+  users = users-more e.owners names (map (λ filter. filter.owner) t.filters) row.owner represents.users (represents.owners row.owner) ∙ ap different (sym all);
+  owners = λ user. owners-more e.owners names (map (λ filter. filter.owner) t.filters) row.owner user represents.owners ∙ ap (λ texts. holds texts user) (sym all);
+  filters = represents.filters;
   greatest = λ none. absurd (there none);
 } where
   names : List (List ℕ)

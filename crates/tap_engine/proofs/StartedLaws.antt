@@ -20,7 +20,7 @@ use Rattle.tap_model.specs.Limits.{stored_bytes, owners_in, different}
 use Rattle.tap_model.specs.Sessions.{no_session, later_of, greatest_of, greatest_moment}
 use Rattle.tap_engine.specs.declared.engine.Engine.{Engine}
 use Rattle.tap_kept.specs.Keeping.{kept_query, with_owner}
-use Rattle.tap_engine.specs.Standing.{StandsFor}
+use Rattle.tap_engine.specs.Standing.{Represents}
 use Rattle.tap_rows.specs.declared.rows.FilterRow.{FilterRow}
 use Rattle.tap_model.specs.Verdicts.{filter_fault}
 use Rattle.tap_kept.specs.declared.start_fault.StartFault.{StartFault}
@@ -32,7 +32,7 @@ use Rattle.tap_engine.proofs.OwnerLaws.{users-more, owners-more}
 use Rattle.tap_engine.proofs.FormedLaws.{Formed}
 
 -- the different ones of some texts, behind those that are held
-record Holds (held all : List (List ℕ)) : Type 0 where
+record HasAllOwners (held all : List (List ℕ)) : Type 0 where
   pub count : length held ≡ different all
   pub same : (text : List ℕ) → holds held text ≡ holds all text
 
@@ -42,17 +42,17 @@ with-more held xs x = go (holds held x) where
   go true = refl
   go false = refl
 
-new-holds : (held all xs : List (List ℕ)) → Holds held all → Holds (with_new held xs) (all ++ xs)
-new-holds held all [] is = subst (λ l. Holds held l) (sym (append-nil all)) is
+new-holds : (held all xs : List (List ℕ)) → HasAllOwners held all → HasAllOwners (with_new held xs) (all ++ xs)
+new-holds held all [] is = subst (λ l. HasAllOwners held l) (sym (append-nil all)) is
 new-holds held all (x ∷ xs) is =
     let none : all ++ [] ≡ all = append-nil all in
     let count : length held ≡ different (all ++ []) = is.count ∙ ap different (sym none) in
     let same : (text : List ℕ) → holds held text ≡ holds (all ++ []) text = λ text. is.same text ∙ ap (λ l. holds l text) (sym none) in
-    let one : Holds (with_owner held x) (all ++ x ∷ []) = record { count = users-more held all [] x count (same x); same = λ text. owners-more held all [] x text same } in
+    let one : HasAllOwners (with_owner held x) (all ++ x ∷ []) = record { count = users-more held all [] x count (same x); same = λ text. owners-more held all [] x text same } in
     let rest = new-holds (with_owner held x) (all ++ x ∷ []) xs one in
-    subst (λ l. Holds l (all ++ x ∷ xs)) (sym (with-more held xs x)) (subst (λ l. Holds (with_new (with_owner held x) xs) l) (append_assoc all (x ∷ []) xs) rest)
+    subst (λ l. HasAllOwners l (all ++ x ∷ xs)) (sym (with-more held xs x)) (subst (λ l. HasAllOwners (with_new (with_owner held x) xs) l) (append_assoc all (x ∷ []) xs) rest)
 
-new-all : (xs : List (List ℕ)) → Holds (with_new [] xs) xs
+new-all : (xs : List (List ℕ)) → HasAllOwners (with_new [] xs) xs
 new-all xs = new-holds [] [] xs (record { count = refl; same = λ text. refl })
 
 -- an engine made of these parts
@@ -68,8 +68,8 @@ pub record IsStarted (e : Engine) (t : Tables) : Type 0 where
   pub owners : e.owners ≡ with_new [] (owners_in t)
   pub greatest : e.greatest ≡ greatest_moment t
 
-pub stands-start : (e : Engine) (t : Tables) → IsStarted e t → StandsFor e t
-stands-start e t is = record {
+pub represents-start : (e : Engine) (t : Tables) → IsStarted e t → Represents e t
+represents-start e t is = record {
   rows = is.rows;
   queries = is.queries;
   filters = is.filters;

@@ -28,13 +28,13 @@ pub record Answers (tables : Tables) (session : Session) (command : Command) (re
   pub session_is : session' ≡ (answer_of command session tables).session
 
 -- the engine without the rows of a command
-abbrev pub taken_back : Undo → Engine → Engine
-taken_back Nothing engine = engine
-taken_back (Docs len bytes) engine = record engine { index = record engine.index { docs = take len engine.index.docs }; bytes = bytes }
-taken_back (Note bytes) engine = record engine { index = without_last_note engine.index; bytes = bytes }
-taken_back (Query len owners bytes) engine = record engine { queries = take len engine.queries; owners = take owners engine.owners; bytes = bytes }
-taken_back (Filter len owners bytes) engine = record engine { filters = take len engine.filters; owners = take owners engine.owners; bytes = bytes }
-taken_back (Run place covered runs entries run_count pick_count) engine =
+abbrev pub undone : Undo → Engine → Engine
+undone Nothing engine = engine
+undone (Docs len bytes) engine = record engine { index = record engine.index { docs = take len engine.index.docs }; bytes = bytes }
+undone (Note bytes) engine = record engine { index = without_last_note engine.index; bytes = bytes }
+undone (Query len owners bytes) engine = record engine { queries = take len engine.queries; owners = take owners engine.owners; bytes = bytes }
+undone (Filter len owners bytes) engine = record engine { filters = take len engine.filters; owners = take owners engine.owners; bytes = bytes }
+undone (Run place covered runs entries run_count pick_count) engine =
     record engine { queries = without_run place covered runs entries engine.queries; run_count = run_count; pick_count = pick_count }
 
 -- what takes the next run of the query at a place back, by what is kept of it
@@ -42,20 +42,20 @@ abbrev pub undo_run : Engine → ℕ → KeptQuery → Undo
 undo_run engine place kept = Run place kept.covered kept.runs (length kept.entries) engine.run_count engine.pick_count
 
 -- the note, or the query whose run, is taken back is there
-abbrev pub IsThere : Undo → Engine → Type 0
-IsThere (Note bytes) engine = 0 < length engine.index.notes
-IsThere (Run place covered runs entries run_count pick_count) engine = place < length engine.queries
-IsThere undo engine = ⊤
+abbrev pub CanUndo : Undo → Engine → Type 0
+CanUndo (Note bytes) engine = 0 < length engine.index.notes
+CanUndo (Run place covered runs entries run_count pick_count) engine = place < length engine.queries
+CanUndo undo engine = ⊤
 
 -- the engine is as before, but for what it keeps between commands without meaning: the hits, with room for no fewer
-pub record IsStill (engine before : Engine) : Type 0 where
+pub record IsUnchangedButHits (engine before : Engine) : Type 0 where
   pub same : engine ≡ record before { hits = engine.hits }
   pub room : before.hits.room ≤ engine.hits.room
 
 -- the engine is as before when the rows of a command are taken back
-pub record TakesBack (undo : Undo) (engine before : Engine) : Type 0 where
-  pub there : IsThere undo engine
-  pub before_is : IsStill (taken_back undo engine) before
+pub record UndoRestores (undo : Undo) (engine before : Engine) : Type 0 where
+  pub there : CanUndo undo engine
+  pub before_is : IsUnchangedButHits (undone undo engine) before
 
 -- what is answered where the keeper didn't commit
 abbrev pub fault_answer : CommitFault → Result Reply EngineFault

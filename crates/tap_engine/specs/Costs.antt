@@ -7,9 +7,9 @@ use Rattle.time_marks.specs.declared.window.Window.{Window}
 use Rattle.script_lang.specs.declared.command.Command.{Command}
 use Rattle.script_lang.specs.declared.command.Command.TheVariants.{Run}
 use Rattle.tap_model.specs.declared.session.Session.{Session}
-use Rattle.tap_model.specs.Sessions.{present, user_of}
+use Rattle.tap_model.specs.Sessions.{moment_or_zero, user_of}
 use Rattle.tap_model.specs.Queries.{start_of, query_named}
-use Rattle.tap_kept.specs.Costs.{IsQuiet, AreAlone, rows_due}
+use Rattle.tap_kept.specs.Costs.{HasNoMark, AreAlone, rows_due}
 
 -- the window of a query's next run: from the second that it has covered up to a moment
 abbrev pub next_window : Tables → QueryRow → ℤ → Window
@@ -18,7 +18,7 @@ next_window tables query moment = record { low = covered (start_of query) query.
 -- there is no such query, or no probe of it has a mark in the window of its next run
 abbrev pub IsQuietQuery : Option QueryRow → Session → Tables → Type 0
 IsQuietQuery None session tables = ⊤
-IsQuietQuery (Some query) session tables = IsQuiet tables (next_window tables query (present session)) query
+IsQuietQuery (Some query) session tables = HasNoMark tables (next_window tables query (moment_or_zero session)) query
 
 -- there is no such query, or the path of each of its probes is the document alone
 abbrev pub IsShortQuery : Option QueryRow → Type 0
@@ -28,7 +28,7 @@ IsShortQuery (Some query) = AreAlone query
 -- the rows due in the window of the query's next run
 abbrev pub query_due : Option QueryRow → Session → Tables → ℕ
 query_due None session tables = 0
-query_due (Some query) session tables = rows_due tables (next_window tables query (present session)) query
+query_due (Some query) session tables = rows_due tables (next_window tables query (moment_or_zero session)) query
 
 -- the command runs a query of which no probe has a mark in the window of this run
 abbrev pub IsQuietRun : Command → Session → Tables → Type 0

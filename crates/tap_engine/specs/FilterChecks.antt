@@ -6,7 +6,7 @@ use Rattle.mail_lines.specs.declared.block.Block.{Block}
 use Rattle.script_lang.specs.declared.refusal.Refusal.{Refusal}
 use Rattle.script_lang.specs.declared.refusal.LimitName.TheVariants.{Users, Filters, Store}
 use Rattle.tap_model.specs.declared.limits.TheConstants.{USER_LIMIT, FILTER_ROW_LIMIT, STORE_LIMIT}
-use Rattle.tap_model.specs.Limits.{passes}
+use Rattle.tap_model.specs.Limits.{limit_refusal}
 use Rattle.tap_model.specs.Sessions.{user_of}
 use Rattle.tap_model.specs.Verdicts.{first_refusal, no_moment, no_user, long_filter, filter_fault, text_of}
 use Rattle.tap_engine.specs.declared.engine.Engine.{Engine}
@@ -14,9 +14,9 @@ use Rattle.tap_engine.specs.declared.engine.Engine.{Engine}
 -- the limits of a filter of this user and length
 unfoldable pub filter_limits : Engine → List ℕ → ℕ → List (Option Refusal)
 filter_limits engine user len =
-    passes Users USER_LIMIT (length engine.owners) (if holds engine.owners user then 0 else 1)
-    ∷ passes Filters FILTER_ROW_LIMIT (length engine.filters) 1
-    ∷ passes Store STORE_LIMIT engine.bytes len
+    limit_refusal Users USER_LIMIT (length engine.owners) (if holds engine.owners user then 0 else 1)
+    ∷ limit_refusal Filters FILTER_ROW_LIMIT (length engine.filters) 1
+    ∷ limit_refusal Store STORE_LIMIT engine.bytes len
     ∷ []
 
 -- why a filter is refused

@@ -15,16 +15,16 @@ use Rattle.tap_kept.specs.declared.kept_query.KeptQuery.{KeptQuery}
 use Rattle.tap_engine.specs.declared.engine.Engine.{Engine}
 use Rattle.tap_engine.specs.declared.run.Due.{Due}
 use Rattle.tap_model.specs.declared.session.Session.{Session}
-use Rattle.tap_model.specs.Sessions.{present, user_of, greatest_moment}
-use Rattle.tap_model.specs.Limits.{stored_bytes, owners_in, different, passes}
-use Rattle.tap_model.specs.Verdicts.{missing, unless, first_refusal, no_moment, no_user, bad_name, text_fault, messages_of, long_message, long_block, bytes_of, no_doc, long_note, is_early}
+use Rattle.tap_model.specs.Sessions.{moment_or_zero, user_of, greatest_moment}
+use Rattle.tap_model.specs.Limits.{stored_bytes, owners_in, different, limit_refusal}
+use Rattle.tap_model.specs.Verdicts.{missing, refuse_unless, first_refusal, no_moment, no_user, bad_name, text_fault, messages_of, long_message, long_block, bytes_of, no_doc, long_note, is_early}
 use Rattle.restart_core.specs.Starts.{condition_text, stored_source}
 use Rattle.tap_kept.specs.Keeping.{kept_query, named_in, owned_in, hits_since}
 
 -- the engine stands for the tables: its index owns their documents and notes, and it keeps their queries and filters, how
 -- many runs and picks there are, how many bytes they store, and who owns a query or a filter; before the session has a moment
 -- it also keeps the greatest moment of the tables
-pub record StandsFor (engine : Engine) (tables : Tables) : Type 0 where
+pub record Represents (engine : Engine) (tables : Tables) : Type 0 where
   pub rows : engine.index ≡ rows_alone tables.docs tables.notes
   pub queries : engine.queries ≡ map (kept_query tables) tables.queries
   pub filters : engine.filters ≡ tables.filters
@@ -41,15 +41,15 @@ kept_named engine name = named_in (user_of engine.session) name engine.queries
 
 -- why a query of this user and name is refused for its name, by what is kept
 unfoldable pub name_refusal : Engine → List ℕ → List ℕ → Option Refusal
-name_refusal engine user name = option_or (bad_name name) (unless (is_none (named_in user name engine.queries)) Taken)
+name_refusal engine user name = option_or (bad_name name) (refuse_unless (is_none (named_in user name engine.queries)) Taken)
 
 -- the limits of a query of this user and length, by what is kept
 unfoldable pub query_limits : Engine → List ℕ → ℕ → List (Option Refusal)
 query_limits engine user len =
-    passes Queries USER_QUERY_LIMIT (owned_in user engine.queries) 1
-    ∷ passes AllQueries QUERY_LIMIT (length engine.queries) 1
-    ∷ passes Users USER_LIMIT (length engine.owners) (if holds engine.owners user then 0 else 1)
-    ∷ passes Store STORE_LIMIT engine.bytes len
+    limit_refusal Queries USER_QUERY_LIMIT (owned_in user engine.queries) 1
+    ∷ limit_refusal AllQueries QUERY_LIMIT (length engine.queries) 1
+    ∷ limit_refusal Users USER_LIMIT (length engine.owners) (if holds engine.owners user then 0 else 1)
+    ∷ limit_refusal Store STORE_LIMIT engine.bytes len
     ∷ []
 
 -- why a new query is refused, by what is kept
@@ -64,7 +64,7 @@ define_refusal engine name source =
 -- the bounds of these messages of a mailbox file, by what is kept
 unfoldable pub mbox_bounds : Engine → Block → List (List ℕ) → Option Refusal
 mbox_bounds engine block messages =
-    first_refusal (long_message messages ∷ long_block block ∷ passes Documents DOCUMENT_LIMIT (length engine.index.docs) (length messages) ∷ passes Store STORE_LIMIT engine.bytes (bytes_of messages) ∷ [])
+    first_refusal (long_message messages ∷ long_block block ∷ limit_refusal Documents DOCUMENT_LIMIT (length engine.index.docs) (length messages) ∷ limit_refusal Store STORE_LIMIT engine.bytes (bytes_of messages) ∷ [])
 
 -- why a mailbox file is refused, by what is kept
 abbrev pub mbox_refusal : Engine → Block → Option Refusal
@@ -73,7 +73,7 @@ mbox_refusal engine block = option_or (no_moment engine.session) (mbox_bounds en
 -- the bounds of a note on this document and of so many bytes, by what is kept
 unfoldable pub note_bounds : Engine → ℕ → ℕ → Option Refusal
 note_bounds engine doc len =
-    first_refusal (no_doc doc (length engine.index.docs) ∷ long_note len ∷ passes Notes NOTE_LIMIT (length engine.index.notes) 1 ∷ passes Store STORE_LIMIT engine.bytes len ∷ [])
+    first_refusal (no_doc doc (length engine.index.docs) ∷ long_note len ∷ limit_refusal Notes NOTE_LIMIT (length engine.index.notes) 1 ∷ limit_refusal Store STORE_LIMIT engine.bytes len ∷ [])
 
 -- why a note is refused, by what is kept
 abbrev pub note_refusal : Engine → ℕ → List ℕ → List ℕ → Option Refusal
@@ -91,7 +91,7 @@ look_refusal engine name = query_refusal engine.session engine.queries name
 -- what a run of this query delivers, by what is kept
 abbrev pub hits_kept : Engine → Option KeptQuery → List Hit
 hits_kept engine None = []
-hits_kept engine (Some kept) = hits_since kept engine.index (present engine.session)
+hits_kept engine (Some kept) = hits_since kept engine.index (moment_or_zero engine.session)
 
 -- what a query has delivered, by what is kept of it
 abbrev pub entries_kept : Option KeptQuery → Option (List Entry)
@@ -101,15 +101,15 @@ entries_kept (Some kept) = Some kept.entries
 -- what a run of this query is about to deliver
 abbrev pub due_of : Engine → Option KeptQuery → Option Due
 due_of engine None = None
-due_of engine (Some kept) = Some (record { query = kept.row.num; moment = present engine.session; runs = kept.runs; hits = hits_kept engine (Some kept) })
+due_of engine (Some kept) = Some (record { query = kept.row.num; moment = moment_or_zero engine.session; runs = kept.runs; hits = hits_kept engine (Some kept) })
 
 -- why a run is refused, by what is kept
 abbrev pub run_refusal : Engine → List ℕ → Option Refusal
 run_refusal engine name =
     option_or (no_moment engine.session)
     (option_or (look_refusal engine name)
-    (option_or (passes Runs RUN_LIMIT engine.run_count 1)
-    (passes Picks PICK_LIMIT engine.pick_count (length (hits_kept engine (kept_named engine name))))))
+    (option_or (limit_refusal Runs RUN_LIMIT engine.run_count 1)
+    (limit_refusal Picks PICK_LIMIT engine.pick_count (length (hits_kept engine (kept_named engine name))))))
 
 -- refused so, or for want of memory where it isn't refused for want of a moment, of a user or of a name
 abbrev pub RefusedBy : Option Refusal → Refusal → Type 0

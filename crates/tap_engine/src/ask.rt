@@ -4,9 +4,9 @@ ghost use Rattle.tap_rows.specs.declared.tables.Tables.{Tables};
 ghost use Rattle.script_lang.specs.declared.command.Command.{Command};
 ghost use Rattle.script_lang.specs.declared.refusal.Refusal.{Refusal};
 ghost use Rattle.script_lang.specs.Replies.{HasShortNames, is_accepted};
-ghost use Rattle.tap_model.specs.Sound.{Sound};
+ghost use Rattle.tap_model.specs.Sound.{IsSound};
 ghost use Rattle.tap_model.specs.Stories.{Refuses};
-ghost use Rattle.tap_model.specs.Verdicts.{unless};
+ghost use Rattle.tap_model.specs.Verdicts.{refuse_unless};
 
 use crate::engine::Engine;
 use crate::sessions::second_of;
@@ -19,7 +19,7 @@ use tap_kept::read_text;
 
 // Refuses a second that isn't over.
 fn refuse_open(second: i64, now: i64) -> Result<(), Refusal>
-    ensures { result_err result ≡ unless (int_lt second now) (Refusal.NotOver now) }
+    ensures { result_err result ≡ refuse_unless (int_lt second now) (Refusal.NotOver now) }
 {
     if second < now {
         Ok(())
@@ -29,7 +29,7 @@ fn refuse_open(second: i64, now: i64) -> Result<(), Refusal>
 }
 
 impl Engine {
-    ghost use Rattle.tap_engine.specs.Standing.{StandsFor};
+    ghost use Rattle.tap_engine.specs.Standing.{Represents};
     ghost use Rattle.tap_engine.specs.Answering.{Answers};
 
     // Lists the documents that a condition gives at a second that is over.
@@ -40,8 +40,8 @@ impl Engine {
         source: &[u8],
         steps: &mut Steps<L>,
     ) -> Result<Reply, Refusal>
-        ensures ok { IfOk result (λ reply. (t : Tables) → StandsFor self.now t → Sound t self.now.session → Answers t self.now.session (Command.Ask moment.now source.now) reply None self.now.session) }
-        ensures refusal { IfErr result (λ refusal. (t : Tables) → StandsFor self.now t → Refuses refusal (Command.Ask moment.now source.now) self.now.session t) }
+        ensures ok { IfOk result (λ reply. (t : Tables) → Represents self.now t → IsSound t self.now.session → Answers t self.now.session (Command.Ask moment.now source.now) reply None self.now.session) }
+        ensures refusal { IfErr result (λ refusal. (t : Tables) → Represents self.now t → Refuses refusal (Command.Ask moment.now source.now) self.now.session t) }
         ensures short { IfOk result (λ reply. HasShortNames reply) }
         ensures accepted { IfOk result (λ reply. is_accepted reply ≡ true) }
     {

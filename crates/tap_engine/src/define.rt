@@ -5,7 +5,7 @@ ghost use Rattle.tap_rows.specs.declared.change.Change.{Change as RowChange};
 ghost use Rattle.tap_rows.specs.declared.tables.Tables.{Tables};
 ghost use Rattle.script_lang.specs.declared.command.Command.{Command};
 ghost use Rattle.script_lang.specs.Replies.{HasShortNames, is_accepted};
-ghost use Rattle.tap_model.specs.Verdicts.{unless, first_refusal};
+ghost use Rattle.tap_model.specs.Verdicts.{refuse_unless, first_refusal};
 ghost use Rattle.script_lang.specs.declared.refusal.Refusal.{Refusal};
 ghost use Rattle.tql_core.specs.Bounds.{are_bounded};
 ghost use Rattle.tql_core.specs.Condition.{condition};
@@ -13,8 +13,8 @@ ghost use Rattle.tql_core.specs.Scope.{IsQuery};
 ghost use Rattle.tap_model.specs.Queries.{condition_by};
 ghost use Rattle.restart_core.specs.Starts.{stored_source};
 ghost use Rattle.tap_kept.specs.Keeping.{new_kept, with_owner, named_in};
-ghost use Rattle.tap_model.specs.Sessions.{present, user_of};
-ghost use Rattle.tap_model.specs.Sound.{Sound, IsMoment};
+ghost use Rattle.tap_model.specs.Sessions.{moment_or_zero, user_of};
+ghost use Rattle.tap_model.specs.Sound.{IsSound, IsMoment};
 ghost use Rattle.tap_base.specs.Names.{is_name};
 ghost use Rattle.tap_model.specs.Replies.{tables_after};
 ghost use Rattle.tap_model.specs.Stories.{Refuses};
@@ -65,9 +65,9 @@ fn push_query(
 }
 
 impl Engine {
-    ghost use Rattle.tap_engine.specs.Standing.{StandsFor, name_refusal, query_limits, define_refusal, RefusedBy};
+    ghost use Rattle.tap_engine.specs.Standing.{Represents, name_refusal, query_limits, define_refusal, RefusedBy};
     ghost use Rattle.tap_engine.specs.Ready.{IsReady};
-    ghost use Rattle.tap_engine.specs.Answering.{Answers, TakesBack};
+    ghost use Rattle.tap_engine.specs.Answering.{Answers, UndoRestores};
 
     // Adds a query, and gives it as a change.
     fn add_query(&mut self, alloc: Global, row: QueryRow, cond: Cond) -> Result<Change, Memory>
@@ -91,7 +91,7 @@ impl Engine {
 
     // Refuses a name that the user has used.
     fn refuse_taken(&self, user: &[u8], name: &[u8]) -> Result<(), Refusal>
-        ensures { result_err result ≡ unless (is_none (named_in user.now name.now self.now.queries)) Refusal.Taken }
+        ensures { result_err result ≡ refuse_unless (is_none (named_in user.now name.now self.now.queries)) Refusal.Taken }
     {
         if self.queries.named(user, name).is_some() {
             Err(Refusal::Taken)
@@ -148,7 +148,7 @@ impl Engine {
         source: Text,
     ) -> Result<(QueryRow, Cond), Refusal>
         ensures checks { OnOk result (define_refusal self.now name source ≡ None) }
-        ensures row { IfOk result (λ made. made.0 ≡ record { num = record { 0 = length self.now.queries + 1 }; owner = user_of self.now.session; name = name; source = stored_source source; arrival = present self.now.session }) }
+        ensures row { IfOk result (λ made. made.0 ≡ record { num = record { 0 = length self.now.queries + 1 }; owner = user_of self.now.session; name = name; source = stored_source source; arrival = moment_or_zero self.now.session }) }
         ensures cond { IfOk result (λ made. condition made.1 ≡ condition_by made.0) }
         ensures scoped { IfOk result (λ made. IsQuery (condition made.1)) }
         ensures bounded { IfOk result (λ made. are_bounded (condition made.1) ≡ true) }
@@ -183,11 +183,11 @@ impl Engine {
         source: Text,
     ) -> Result<Prepared, Refusal>
         requires ready { IsReady self.old }
-        ensures ok { IfOk result (λ made. (t : Tables) → StandsFor self.old t → Sound t self.old.session → Answers t self.old.session (Command.Define name source) made.reply made.change self.new.session) }
-        ensures stands { IfOk result (λ made. (t : Tables) → StandsFor self.old t → Sound t self.old.session → StandsFor self.new (tables_after made.change t)) }
-        ensures refusal { IfErr result (λ refusal. (t : Tables) → StandsFor self.old t → Refuses refusal (Command.Define name source) self.old.session t) }
+        ensures ok { IfOk result (λ made. (t : Tables) → Represents self.old t → IsSound t self.old.session → Answers t self.old.session (Command.Define name source) made.reply made.change self.new.session) }
+        ensures represents { IfOk result (λ made. (t : Tables) → Represents self.old t → IsSound t self.old.session → Represents self.new (tables_after made.change t)) }
+        ensures refusal { IfErr result (λ refusal. (t : Tables) → Represents self.old t → Refuses refusal (Command.Define name source) self.old.session t) }
         ensures err { OnErr result (self.new ≡ self.old) }
-        ensures undo { IfOk result (λ made. OnSome made.change (TakesBack made.undo self.new self.old)) }
+        ensures undo { IfOk result (λ made. OnSome made.change (UndoRestores made.undo self.new self.old)) }
         ensures ready { OnOk result (IsReady self.new) }
         ensures running { OnOk result (self.new.stopped ≡ self.old.stopped) }
         ensures short { IfOk result (λ made. HasShortNames made.reply) }

@@ -28,12 +28,12 @@ pub struct Engine {
 
 impl Engine {
     ghost use Rattle.tap_model.specs.Sessions.{no_session};
-    ghost use Rattle.tap_engine.specs.Standing.{StandsFor};
+    ghost use Rattle.tap_engine.specs.Standing.{Represents};
     ghost use Rattle.tap_engine.specs.Ready.{IsReady};
 
     /// An engine with a new session that stands for the empty tables.
     pub fn new(alloc: Global) -> Engine
-        ensures stands { StandsFor result no_rows }
+        ensures represents { Represents result no_rows }
         ensures session { result.session ≡ no_session }
         ensures running { result.stopped ≡ false }
         ensures ready { IsReady result }

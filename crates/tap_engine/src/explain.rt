@@ -3,7 +3,7 @@ ghost use Rattle.script_lang.specs.declared.command.Command.{Command};
 ghost use Rattle.script_lang.specs.Replies.{HasShortNames, is_accepted};
 ghost use Rattle.tap_base.specs.Names.{is_name};
 ghost use Rattle.tap_rows.specs.declared.tables.Tables.{Tables};
-ghost use Rattle.tap_model.specs.Sound.{Sound};
+ghost use Rattle.tap_model.specs.Sound.{IsSound};
 ghost use Rattle.tap_model.specs.Stories.{Refuses};
 
 use crate::engine::Engine;
@@ -13,7 +13,7 @@ use std::alloc::Global;
 use tap_base::{Text, Texts};
 
 impl Engine {
-    ghost use Rattle.tap_engine.specs.Standing.{StandsFor, look_refusal, kept_named, RefusedBy};
+    ghost use Rattle.tap_engine.specs.Standing.{Represents, look_refusal, kept_named, RefusedBy};
     ghost use Rattle.tap_engine.specs.Lists.{lines_kept};
     ghost use Rattle.tap_engine.specs.Answering.{Answers};
 
@@ -31,8 +31,8 @@ impl Engine {
 
     // Explains the user's query of this name.
     pub(crate) fn explain(&self, alloc: Global, name: Text) -> Result<Reply, Refusal>
-        ensures ok { IfOk result (λ reply. (t : Tables) → StandsFor self.now t → Sound t self.now.session → Answers t self.now.session (Command.Explain name) reply None self.now.session) }
-        ensures refusal { IfErr result (λ refusal. (t : Tables) → StandsFor self.now t → Refuses refusal (Command.Explain name) self.now.session t) }
+        ensures ok { IfOk result (λ reply. (t : Tables) → Represents self.now t → IsSound t self.now.session → Answers t self.now.session (Command.Explain name) reply None self.now.session) }
+        ensures refusal { IfErr result (λ refusal. (t : Tables) → Represents self.now t → Refuses refusal (Command.Explain name) self.now.session t) }
         ensures short { IfOk result (λ reply. HasShortNames reply) }
         ensures accepted { IfOk result (λ reply. is_accepted reply ≡ true) }
     {

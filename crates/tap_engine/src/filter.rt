@@ -8,8 +8,8 @@ ghost use Rattle.script_lang.specs.Replies.{HasShortNames, is_accepted};
 ghost use Rattle.appraiser.specs.Rules.{rules_in};
 ghost use Rattle.appraiser.specs.RuleTexts.{IsWithin};
 ghost use Rattle.tap_model.specs.Filters.{rules_in_text};
-ghost use Rattle.tap_model.specs.Sessions.{present, user_of};
-ghost use Rattle.tap_model.specs.Sound.{Sound};
+ghost use Rattle.tap_model.specs.Sessions.{moment_or_zero, user_of};
+ghost use Rattle.tap_model.specs.Sound.{IsSound};
 ghost use Rattle.tap_model.specs.Replies.{tables_after};
 ghost use Rattle.tap_model.specs.Stories.{Refuses};
 ghost use Rattle.tap_model.specs.Verdicts.{first_refusal, rule_refusal, filter_fault, long_filter, text_of};
@@ -92,9 +92,9 @@ fn push_filter(
 }
 
 impl Engine {
-    ghost use Rattle.tap_engine.specs.Standing.{StandsFor, RefusedBy};
+    ghost use Rattle.tap_engine.specs.Standing.{Represents, RefusedBy};
     ghost use Rattle.tap_engine.specs.Ready.{IsReady};
-    ghost use Rattle.tap_engine.specs.Answering.{Answers, TakesBack};
+    ghost use Rattle.tap_engine.specs.Answering.{Answers, UndoRestores};
     ghost use Rattle.tap_engine.specs.FilterChecks.{filter_limits, filter_refusal};
 
     // Refuses a filter of this user and length that would pass a limit.
@@ -117,7 +117,7 @@ impl Engine {
     // The row of a filter that isn't refused, and its rules.
     fn new_filter(&self, alloc: Global, block: Block) -> Result<(FilterRow, Rules), Refusal>
         ensures checks { OnOk result (filter_refusal self.now block ≡ None) }
-        ensures row { IfOk result (λ made. made.0 ≡ record { num = length self.now.filters + 1; owner = user_of self.now.session; source = text_of block; arrival = present self.now.session }) }
+        ensures row { IfOk result (λ made. made.0 ≡ record { num = length self.now.filters + 1; owner = user_of self.now.session; source = text_of block; arrival = moment_or_zero self.now.session }) }
         ensures rules { IfOk result (λ made. rules_in made.1 ≡ rules_in_text (text_of block)) }
         ensures few { IfOk result (λ made. length (rules_in made.1) ≤ RULE_LIMIT) }
         ensures refusal { IfErr result (λ refusal. RefusedBy (filter_refusal self.now block) refusal) }
@@ -160,11 +160,11 @@ impl Engine {
     // Sets the user's filter.
     pub(crate) fn filter(&mut self, alloc: Global, block: Block) -> Result<Prepared, Refusal>
         requires ready { IsReady self.old }
-        ensures ok { IfOk result (λ made. (t : Tables) → StandsFor self.old t → Sound t self.old.session → Answers t self.old.session (Command.Filter block) made.reply made.change self.new.session) }
-        ensures stands { IfOk result (λ made. (t : Tables) → StandsFor self.old t → Sound t self.old.session → StandsFor self.new (tables_after made.change t)) }
-        ensures refusal { IfErr result (λ refusal. (t : Tables) → StandsFor self.old t → Refuses refusal (Command.Filter block) self.old.session t) }
+        ensures ok { IfOk result (λ made. (t : Tables) → Represents self.old t → IsSound t self.old.session → Answers t self.old.session (Command.Filter block) made.reply made.change self.new.session) }
+        ensures represents { IfOk result (λ made. (t : Tables) → Represents self.old t → IsSound t self.old.session → Represents self.new (tables_after made.change t)) }
+        ensures refusal { IfErr result (λ refusal. (t : Tables) → Represents self.old t → Refuses refusal (Command.Filter block) self.old.session t) }
         ensures err { OnErr result (self.new ≡ self.old) }
-        ensures undo { IfOk result (λ made. OnSome made.change (TakesBack made.undo self.new self.old)) }
+        ensures undo { IfOk result (λ made. OnSome made.change (UndoRestores made.undo self.new self.old)) }
         ensures ready { OnOk result (IsReady self.new) }
         ensures running { OnOk result (self.new.stopped ≡ self.old.stopped) }
         ensures short { IfOk result (λ made. HasShortNames made.reply) }

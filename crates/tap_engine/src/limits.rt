@@ -1,6 +1,6 @@
 ghost use Rattle.std.specs.Prelude.{◌≡◌, ◌≤◌, ◌+◌, max, OnOk};
 ghost use Rattle.std.specs.Result.{result_err};
-ghost use Rattle.tap_model.specs.Limits.{passes};
+ghost use Rattle.tap_model.specs.Limits.{limit_refusal};
 
 use script_lang::{LimitName, Refusal};
 
@@ -11,7 +11,7 @@ pub(crate) fn refuse_more(
     count: usize,
     more: usize,
 ) -> Result<(), Refusal>
-    ensures value { result_err result ≡ passes name limit count more }
+    ensures value { result_err result ≡ limit_refusal name limit count more }
     ensures room { OnOk result (count + more ≤ max count limit) }
 {
     if more == 0 || (count <= limit && more <= limit - count) {

@@ -9,7 +9,7 @@ ghost use Rattle.script_lang.specs.declared.command.Command.{Command};
 ghost use Rattle.script_lang.specs.Replies.{HasShortNames, is_accepted};
 ghost use Rattle.tap_model.specs.Verdicts.{too_long, text_of};
 ghost use Rattle.tap_model.specs.Replies.{docs_from, tables_after};
-ghost use Rattle.tap_model.specs.Sound.{Sound};
+ghost use Rattle.tap_model.specs.Sound.{IsSound};
 ghost use Rattle.tap_model.specs.Stories.{Refuses};
 
 use crate::engine::Engine;
@@ -50,9 +50,9 @@ fn make_row(alloc: Global, num: DocNum, moment: i64, text: Text) -> Result<Rows<
 }
 
 impl Engine {
-    ghost use Rattle.tap_engine.specs.Standing.{StandsFor};
+    ghost use Rattle.tap_engine.specs.Standing.{Represents};
     ghost use Rattle.tap_engine.specs.Ready.{IsReady};
-    ghost use Rattle.tap_engine.specs.Answering.{Answers, IsStill, TakesBack};
+    ghost use Rattle.tap_engine.specs.Answering.{Answers, IsUnchangedButHits, UndoRestores};
 
     // Adds a document that arrives at this moment, and gives its number, and it as a change.
     fn add_doc(
@@ -71,7 +71,7 @@ impl Engine {
         ensures engine { OnOk result (self.new ≡ record self.old { index = after self.old.index (RowChange.Docs (docs_from (length self.old.index.docs + 1) moment (text ∷ []))); hits = self.new.hits; bytes = self.old.bytes + length text }) }
         ensures room { OnOk result (length self.new.index.docs ≤ self.new.hits.room) }
         ensures more { self.old.hits.room ≤ self.new.hits.room }
-        ensures err { OnErr result (IsStill self.new self.old) }
+        ensures err { OnErr result (IsUnchangedButHits self.new self.old) }
     {
         let len = text.len();
         let num = DocNum(self.index.docs() + 1);
@@ -86,11 +86,11 @@ impl Engine {
     // Adds a message.
     pub(crate) fn mail(&mut self, alloc: Global, block: Block) -> Result<Prepared, Refusal>
         requires ready { IsReady self.old }
-        ensures ok { IfOk result (λ made. (t : Tables) → StandsFor self.old t → Sound t self.old.session → Answers t self.old.session (Command.Mail block) made.reply made.change self.new.session) }
-        ensures stands { IfOk result (λ made. (t : Tables) → StandsFor self.old t → Sound t self.old.session → StandsFor self.new (tables_after made.change t)) }
-        ensures refusal { IfErr result (λ refusal. (t : Tables) → StandsFor self.old t → Refuses refusal (Command.Mail block) self.old.session t) }
-        ensures err { OnErr result (IsStill self.new self.old) }
-        ensures undo { IfOk result (λ made. OnSome made.change (TakesBack made.undo self.new self.old)) }
+        ensures ok { IfOk result (λ made. (t : Tables) → Represents self.old t → IsSound t self.old.session → Answers t self.old.session (Command.Mail block) made.reply made.change self.new.session) }
+        ensures represents { IfOk result (λ made. (t : Tables) → Represents self.old t → IsSound t self.old.session → Represents self.new (tables_after made.change t)) }
+        ensures refusal { IfErr result (λ refusal. (t : Tables) → Represents self.old t → Refuses refusal (Command.Mail block) self.old.session t) }
+        ensures err { OnErr result (IsUnchangedButHits self.new self.old) }
+        ensures undo { IfOk result (λ made. OnSome made.change (UndoRestores made.undo self.new self.old)) }
         ensures ready { OnOk result (IsReady self.new) }
         ensures running { OnOk result (self.new.stopped ≡ self.old.stopped) }
         ensures short { IfOk result (λ made. HasShortNames made.reply) }

@@ -7,10 +7,10 @@ ghost use Rattle.tap_rows.specs.Tables.{after};
 ghost use Rattle.row_index.specs.Orders.{IsMoment};
 ghost use Rattle.script_lang.specs.declared.command.Command.{Command};
 ghost use Rattle.script_lang.specs.Replies.{HasShortNames, is_accepted};
-ghost use Rattle.tap_model.specs.Sessions.{present};
+ghost use Rattle.tap_model.specs.Sessions.{moment_or_zero};
 ghost use Rattle.tap_model.specs.Verdicts.{messages_of, are_short, long_message, long_block, bytes_of};
 ghost use Rattle.tap_model.specs.Replies.{docs_from, some_docs, tables_after};
-ghost use Rattle.tap_model.specs.Sound.{Sound};
+ghost use Rattle.tap_model.specs.Sound.{IsSound};
 ghost use Rattle.tap_model.specs.Stories.{Refuses};
 
 use crate::engine::Engine;
@@ -153,9 +153,9 @@ fn add_all(alloc: Global, index: &mut RowIndex, moment: i64, texts: &[Text]) -> 
 }
 
 impl Engine {
-    ghost use Rattle.tap_engine.specs.Standing.{StandsFor, mbox_bounds, mbox_refusal, RefusedBy};
+    ghost use Rattle.tap_engine.specs.Standing.{Represents, mbox_bounds, mbox_refusal, RefusedBy};
     ghost use Rattle.tap_engine.specs.Ready.{IsReady};
-    ghost use Rattle.tap_engine.specs.Answering.{Answers, IsStill, TakesBack};
+    ghost use Rattle.tap_engine.specs.Answering.{Answers, IsUnchangedButHits, UndoRestores};
 
     // Refuses these messages of a mailbox file.
     #[tactic(auto, unfolding(crate::specs::Standing::mbox_bounds))]
@@ -179,7 +179,7 @@ impl Engine {
     // The messages of a mailbox file that isn't refused, and the moment at which they arrive.
     fn new_messages(&self, alloc: Global, block: &Block) -> Result<(i64, Texts), Refusal>
         ensures checks { OnOk result (mbox_refusal self.now block.now ≡ None) }
-        ensures moment { IfOk result (λ made. made.0 ≡ present self.now.session) }
+        ensures moment { IfOk result (λ made. made.0 ≡ moment_or_zero self.now.session) }
         ensures texts { IfOk result (λ made. made.1 ≡ messages_of block.now) }
         ensures refusal { IfErr result (λ refusal. RefusedBy (mbox_refusal self.now block.now) refusal) }
         ensures short { IfOk result (λ made. are_short made.1 ≡ true) }
@@ -211,7 +211,7 @@ impl Engine {
         ensures engine { OnOk result (self.new ≡ record self.old { index = after self.old.index (RowChange.Docs (docs_from (length self.old.index.docs + 1) moment texts.now)); hits = self.new.hits; bytes = self.old.bytes + bytes_of texts.now }) }
         ensures room { OnOk result (length self.new.index.docs ≤ self.new.hits.room) }
         ensures more { self.old.hits.room ≤ self.new.hits.room }
-        ensures err { OnErr result (IsStill self.new self.old) }
+        ensures err { OnErr result (IsUnchangedButHits self.new self.old) }
     {
         if texts.is_empty() {
             return Ok(None);
@@ -227,11 +227,11 @@ impl Engine {
     // Adds the messages of a mailbox file.
     pub(crate) fn mbox(&mut self, alloc: Global, block: Block) -> Result<Prepared, Refusal>
         requires ready { IsReady self.old }
-        ensures ok { IfOk result (λ made. (t : Tables) → StandsFor self.old t → Sound t self.old.session → Answers t self.old.session (Command.Mbox block) made.reply made.change self.new.session) }
-        ensures stands { IfOk result (λ made. (t : Tables) → StandsFor self.old t → Sound t self.old.session → StandsFor self.new (tables_after made.change t)) }
-        ensures refusal { IfErr result (λ refusal. (t : Tables) → StandsFor self.old t → Refuses refusal (Command.Mbox block) self.old.session t) }
-        ensures err { OnErr result (IsStill self.new self.old) }
-        ensures undo { IfOk result (λ made. OnSome made.change (TakesBack made.undo self.new self.old)) }
+        ensures ok { IfOk result (λ made. (t : Tables) → Represents self.old t → IsSound t self.old.session → Answers t self.old.session (Command.Mbox block) made.reply made.change self.new.session) }
+        ensures represents { IfOk result (λ made. (t : Tables) → Represents self.old t → IsSound t self.old.session → Represents self.new (tables_after made.change t)) }
+        ensures refusal { IfErr result (λ refusal. (t : Tables) → Represents self.old t → Refuses refusal (Command.Mbox block) self.old.session t) }
+        ensures err { OnErr result (IsUnchangedButHits self.new self.old) }
+        ensures undo { IfOk result (λ made. OnSome made.change (UndoRestores made.undo self.new self.old)) }
         ensures ready { OnOk result (IsReady self.new) }
         ensures running { OnOk result (self.new.stopped ≡ self.old.stopped) }
         ensures short { IfOk result (λ made. HasShortNames made.reply) }

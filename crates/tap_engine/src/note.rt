@@ -7,8 +7,8 @@ ghost use Rattle.tap_rows.specs.Tables.{after};
 ghost use Rattle.row_index.specs.Orders.{IsMoment};
 ghost use Rattle.script_lang.specs.declared.command.Command.{Command};
 ghost use Rattle.script_lang.specs.Replies.{HasShortNames, is_accepted};
-ghost use Rattle.tap_model.specs.Sessions.{present, user_of};
-ghost use Rattle.tap_model.specs.Sound.{Sound};
+ghost use Rattle.tap_model.specs.Sessions.{moment_or_zero, user_of};
+ghost use Rattle.tap_model.specs.Sound.{IsSound};
 ghost use Rattle.tap_model.specs.Replies.{tables_after};
 ghost use Rattle.tap_model.specs.Stories.{Refuses};
 ghost use Rattle.tap_model.specs.Verdicts.{no_doc, long_note};
@@ -48,9 +48,9 @@ fn refuse_long(len: usize) -> Result<(), Refusal>
 }
 
 impl Engine {
-    ghost use Rattle.tap_engine.specs.Standing.{StandsFor, note_bounds, note_refusal, RefusedBy};
+    ghost use Rattle.tap_engine.specs.Standing.{Represents, note_bounds, note_refusal, RefusedBy};
     ghost use Rattle.tap_engine.specs.Ready.{IsReady};
-    ghost use Rattle.tap_engine.specs.Answering.{Answers, TakesBack};
+    ghost use Rattle.tap_engine.specs.Answering.{Answers, UndoRestores};
 
     // Refuses a note on this document, of so many bytes.
     #[tactic(auto, unfolding(crate::specs::Standing::note_bounds))]
@@ -68,7 +68,7 @@ impl Engine {
     // The row of a note that isn't refused.
     fn new_note(&self, doc: u32, kind: Text, value: i64, text: Text) -> Result<Note, Refusal>
         ensures checks { OnOk result (note_refusal self.now doc kind text ≡ None) }
-        ensures row { IfOk result (λ note. note ≡ record { num = record { 0 = length self.now.index.notes + 1 }; doc = record { 0 = doc }; author = user_of self.now.session; kind = kind; value = value; arrival = present self.now.session; text = text }) }
+        ensures row { IfOk result (λ note. note ≡ record { num = record { 0 = length self.now.index.notes + 1 }; doc = record { 0 = doc }; author = user_of self.now.session; kind = kind; value = value; arrival = moment_or_zero self.now.session; text = text }) }
         ensures refusal { IfErr result (λ refusal. RefusedBy (note_refusal self.now doc kind text) refusal) }
         ensures few { OnOk result (length self.now.index.notes < NOTE_LIMIT) }
         ensures bytes { OnOk result (self.now.bytes + length text < 2 ^ 64) }
@@ -118,11 +118,11 @@ impl Engine {
         text: Text,
     ) -> Result<Prepared, Refusal>
         requires ready { IsReady self.old }
-        ensures ok { IfOk result (λ made. (t : Tables) → StandsFor self.old t → Sound t self.old.session → Answers t self.old.session (Command.AddNote doc kind value text) made.reply made.change self.new.session) }
-        ensures stands { IfOk result (λ made. (t : Tables) → StandsFor self.old t → Sound t self.old.session → StandsFor self.new (tables_after made.change t)) }
-        ensures refusal { IfErr result (λ refusal. (t : Tables) → StandsFor self.old t → Refuses refusal (Command.AddNote doc kind value text) self.old.session t) }
+        ensures ok { IfOk result (λ made. (t : Tables) → Represents self.old t → IsSound t self.old.session → Answers t self.old.session (Command.AddNote doc kind value text) made.reply made.change self.new.session) }
+        ensures represents { IfOk result (λ made. (t : Tables) → Represents self.old t → IsSound t self.old.session → Represents self.new (tables_after made.change t)) }
+        ensures refusal { IfErr result (λ refusal. (t : Tables) → Represents self.old t → Refuses refusal (Command.AddNote doc kind value text) self.old.session t) }
         ensures err { OnErr result (self.new ≡ self.old) }
-        ensures undo { IfOk result (λ made. OnSome made.change (TakesBack made.undo self.new self.old)) }
+        ensures undo { IfOk result (λ made. OnSome made.change (UndoRestores made.undo self.new self.old)) }
         ensures ready { OnOk result (IsReady self.new) }
         ensures running { OnOk result (self.new.stopped ≡ self.old.stopped) }
         ensures short { IfOk result (λ made. HasShortNames made.reply) }

@@ -1,9 +1,10 @@
 ghost use Rattle.std.specs.Prelude.{◌≡◌, ◌⊎◌, ◌↔◌, ◌≤◌, ◌+◌, None, true, false, OnOk, OnErr, IsErr, IfOk, IfErr, OnSome};
 ghost use Rattle.tap_rows.specs.declared.tables.Tables.{Tables};
-ghost use Rattle.keeper_core.specs.Keeping.{Rose, Holds};
+ghost use Rattle.keeper_core.specs.Keeping.{IsDurable};
+ghost use Rattle.tap_base.specs.Counts.{Rose};
 ghost use Rattle.script_lang.specs.Replies.{HasShortNames, is_accepted};
 ghost use Rattle.tap_model.specs.Replies.{answer_of, tables_after};
-ghost use Rattle.tap_model.specs.Sound.{Sound};
+ghost use Rattle.tap_model.specs.Sound.{IsSound};
 ghost use Rattle.tap_model.specs.Stories.{Refuses, Step, next_tables};
 ghost use Rattle.tap_model.specs.Verdicts.{verdict};
 
@@ -17,9 +18,9 @@ use std::sync::ledger::Ledger;
 use tap_base::Steps;
 
 impl Engine {
-    ghost use Rattle.tap_engine.specs.Standing.{StandsFor};
+    ghost use Rattle.tap_engine.specs.Standing.{Represents};
     ghost use Rattle.tap_engine.specs.Ready.{IsReady};
-    ghost use Rattle.tap_engine.specs.Answering.{Answers, IsStill, TakesBack, fault_answer, fault_engine};
+    ghost use Rattle.tap_engine.specs.Answering.{Answers, IsUnchangedButHits, UndoRestores, fault_answer, fault_engine};
     ghost use Rattle.tap_engine.specs.Costs.{IsQuietRun, IsShortRun, run_due};
 
     // Takes the memory for a command that isn't refused, and adds its rows here.
@@ -30,17 +31,17 @@ impl Engine {
         steps: &mut Steps<L>,
     ) -> Result<Prepared, Refusal>
         requires ready { IsReady self.old }
-        ensures ok { IfOk result (λ made. (t : Tables) → StandsFor self.old t → Sound t self.old.session → Answers t self.old.session command made.reply made.change self.new.session) }
-        ensures stands { IfOk result (λ made. (t : Tables) → StandsFor self.old t → Sound t self.old.session → StandsFor self.new (tables_after made.change t)) }
-        ensures refusal { IfErr result (λ refusal. (t : Tables) → StandsFor self.old t → Sound t self.old.session → Refuses refusal command self.old.session t) }
-        ensures err { OnErr result (IsStill self.new self.old) }
-        ensures undo { IfOk result (λ made. OnSome made.change (TakesBack made.undo self.new self.old)) }
+        ensures ok { IfOk result (λ made. (t : Tables) → Represents self.old t → IsSound t self.old.session → Answers t self.old.session command made.reply made.change self.new.session) }
+        ensures represents { IfOk result (λ made. (t : Tables) → Represents self.old t → IsSound t self.old.session → Represents self.new (tables_after made.change t)) }
+        ensures refusal { IfErr result (λ refusal. (t : Tables) → Represents self.old t → IsSound t self.old.session → Refuses refusal command self.old.session t) }
+        ensures err { OnErr result (IsUnchangedButHits self.new self.old) }
+        ensures undo { IfOk result (λ made. OnSome made.change (UndoRestores made.undo self.new self.old)) }
         ensures ready { OnOk result (IsReady self.new) }
         ensures running { OnOk result (self.new.stopped ≡ self.old.stopped) }
         ensures short { IfOk result (λ made. HasShortNames made.reply) }
         ensures accepted { IfOk result (λ made. is_accepted made.reply ≡ true) }
-        ensures quiet { (t : Tables) → StandsFor self.old t → IsQuietRun command self.old.session t → steps.new ≡ steps.old }
-        ensures due { (t : Tables) → StandsFor self.old t → IsShortRun command self.old.session t → steps.new ≤ steps.old + run_due command self.old.session t }
+        ensures quiet { (t : Tables) → Represents self.old t → IsQuietRun command self.old.session t → steps.new ≡ steps.old }
+        ensures due { (t : Tables) → Represents self.old t → IsShortRun command self.old.session t → steps.new ≤ steps.old + run_due command self.old.session t }
     {
         match command {
             Command::At(text) => self.at(text.as_slice()),
@@ -101,19 +102,19 @@ impl Engine {
         requires keeping { P.stopped keeper.old ≡ false }
 
         // The answer, over each tables that the engine stands for.
-        ensures step { (t : Tables) → StandsFor self.old t → Sound t self.old.session → IfOk result (λ reply. Step t self.old.session command reply (next_tables command reply self.old.session t) self.new.session) }
-        ensures stands { (t : Tables) → StandsFor self.old t → Sound t self.old.session → IfOk result (λ reply. StandsFor self.new (next_tables command reply self.old.session t)) }
-        ensures refused { IfOk result (λ reply. is_accepted reply ≡ false → IsStill self.new self.old) }
+        ensures step { (t : Tables) → Represents self.old t → IsSound t self.old.session → IfOk result (λ reply. Step t self.old.session command reply (next_tables command reply self.old.session t) self.new.session) }
+        ensures represents { (t : Tables) → Represents self.old t → IsSound t self.old.session → IfOk result (λ reply. Represents self.new (next_tables command reply self.old.session t)) }
+        ensures refused { IfOk result (λ reply. is_accepted reply ≡ false → IsUnchangedButHits self.new self.old) }
         ensures short { IfOk result (λ reply. HasShortNames reply) }
         ensures ready { OnOk result (IsReady self.new) }
 
         // The rows that a run takes from the index, whatever the answer is.
-        ensures quiet { (t : Tables) → StandsFor self.old t → IsQuietRun command self.old.session t → steps.new ≡ steps.old }
-        ensures due { (t : Tables) → StandsFor self.old t → IsShortRun command self.old.session t → steps.new ≤ steps.old + run_due command self.old.session t }
+        ensures quiet { (t : Tables) → Represents self.old t → IsQuietRun command self.old.session t → steps.new ≡ steps.old }
+        ensures due { (t : Tables) → Represents self.old t → IsShortRun command self.old.session t → steps.new ≤ steps.old + run_due command self.old.session t }
 
         // What the keeper keeps, and what a crash leaves.
-        ensures kept { (t : Tables) → StandsFor self.old t → Sound t self.old.session → P.honest keeper.new → Holds (P.tells keeper.old) (P.may_leave keeper.old) t → IfOk result (λ reply. Holds (P.tells keeper.new) (P.may_leave keeper.new) (next_tables command reply self.old.session t)) }
-        ensures crash { (t : Tables) → StandsFor self.old t → Sound t self.old.session → P.honest keeper.new → Holds (P.tells keeper.old) (P.may_leave keeper.old) t → OnErr result ((verdict command self.old.session t ≡ None) × ((x : Tables) → P.may_leave keeper.new x → (x ≡ t) ⊎ (x ≡ tables_after (answer_of command self.old.session t).change t))) }
+        ensures kept { (t : Tables) → Represents self.old t → IsSound t self.old.session → P.honest keeper.new → IsDurable (P.tells keeper.old) (P.may_leave keeper.old) t → IfOk result (λ reply. IsDurable (P.tells keeper.new) (P.may_leave keeper.new) (next_tables command reply self.old.session t)) }
+        ensures crash { (t : Tables) → Represents self.old t → IsSound t self.old.session → P.honest keeper.new → IsDurable (P.tells keeper.old) (P.may_leave keeper.old) t → OnErr result ((verdict command self.old.session t ≡ None) × ((x : Tables) → P.may_leave keeper.new x → (x ≡ t) ⊎ (x ≡ tables_after (answer_of command self.old.session t).change t))) }
 
         // A failure comes from the keeper alone.
         ensures cause { OnErr result (Rose (P.faults keeper.old) (P.faults keeper.new)) }

@@ -8,8 +8,8 @@ ghost use Rattle.script_lang.specs.declared.command.Command.{Command};
 ghost use Rattle.script_lang.specs.Replies.{HasShortNames, is_accepted};
 ghost use Rattle.tap_kept.specs.declared.kept_query.KeptQuery.{KeptQuery};
 ghost use Rattle.tap_kept.specs.Keeping.{after_run, AreNew};
-ghost use Rattle.tap_model.specs.Sessions.{present};
-ghost use Rattle.tap_model.specs.Sound.{Sound};
+ghost use Rattle.tap_model.specs.Sessions.{moment_or_zero};
+ghost use Rattle.tap_model.specs.Sound.{IsSound};
 ghost use Rattle.tap_model.specs.Replies.{tables_after};
 ghost use Rattle.tap_model.specs.Stories.{Refuses};
 
@@ -68,9 +68,9 @@ fn copy_hits(alloc: Global, hits: &[Hit]) -> Result<Rows<Hit>, Memory>
 }
 
 impl Engine {
-    ghost use Rattle.tap_engine.specs.Standing.{StandsFor, run_refusal, kept_named, due_of, RefusedBy};
+    ghost use Rattle.tap_engine.specs.Standing.{Represents, run_refusal, kept_named, due_of, RefusedBy};
     ghost use Rattle.tap_engine.specs.Ready.{IsReady};
-    ghost use Rattle.tap_engine.specs.Answering.{Answers, IsStill, TakesBack, undo_run};
+    ghost use Rattle.tap_engine.specs.Answering.{Answers, IsUnchangedButHits, UndoRestores, undo_run};
     ghost use Rattle.tap_engine.specs.Costs.{IsQuietRun, IsShortRun, run_due};
 
     // What a run of the user's query of this name delivers.
@@ -88,9 +88,9 @@ impl Engine {
         ensures new { IfOk result (λ due. IfSome (kept_named self.old name.now) (λ kept. AreNew kept.entries due.hits)) }
         ensures few { OnOk result (self.old.run_count < RUN_LIMIT) }
         ensures room { IfOk result (λ due. self.old.pick_count + length due.hits ≤ max self.old.pick_count PICK_LIMIT) }
-        ensures still { IsStill self.new self.old }
-        ensures quiet { (t : Tables) → StandsFor self.old t → IsQuietRun (Command.Run name.now) self.old.session t → steps.new ≡ steps.old }
-        ensures rows { (t : Tables) → StandsFor self.old t → IsShortRun (Command.Run name.now) self.old.session t → steps.new ≤ steps.old + run_due (Command.Run name.now) self.old.session t }
+        ensures still { IsUnchangedButHits self.new self.old }
+        ensures quiet { (t : Tables) → Represents self.old t → IsQuietRun (Command.Run name.now) self.old.session t → steps.new ≡ steps.old }
+        ensures rows { (t : Tables) → Represents self.old t → IsShortRun (Command.Run name.now) self.old.session t → steps.new ≤ steps.old + run_due (Command.Run name.now) self.old.session t }
     {
         let Some(moment) = self.session.moment else {
             return Err(Refusal::NoMoment);
@@ -164,17 +164,17 @@ impl Engine {
         steps: &mut Steps<L>,
     ) -> Result<Prepared, Refusal>
         requires ready { IsReady self.old }
-        ensures ok { IfOk result (λ made. (t : Tables) → StandsFor self.old t → Sound t self.old.session → Answers t self.old.session (Command.Run name.now) made.reply made.change self.new.session) }
-        ensures stands { IfOk result (λ made. (t : Tables) → StandsFor self.old t → Sound t self.old.session → StandsFor self.new (tables_after made.change t)) }
-        ensures refusal { IfErr result (λ refusal. (t : Tables) → StandsFor self.old t → Sound t self.old.session → Refuses refusal (Command.Run name.now) self.old.session t) }
-        ensures err { OnErr result (IsStill self.new self.old) }
-        ensures undo { IfOk result (λ made. OnSome made.change (TakesBack made.undo self.new self.old)) }
+        ensures ok { IfOk result (λ made. (t : Tables) → Represents self.old t → IsSound t self.old.session → Answers t self.old.session (Command.Run name.now) made.reply made.change self.new.session) }
+        ensures represents { IfOk result (λ made. (t : Tables) → Represents self.old t → IsSound t self.old.session → Represents self.new (tables_after made.change t)) }
+        ensures refusal { IfErr result (λ refusal. (t : Tables) → Represents self.old t → IsSound t self.old.session → Refuses refusal (Command.Run name.now) self.old.session t) }
+        ensures err { OnErr result (IsUnchangedButHits self.new self.old) }
+        ensures undo { IfOk result (λ made. OnSome made.change (UndoRestores made.undo self.new self.old)) }
         ensures ready { OnOk result (IsReady self.new) }
         ensures running { OnOk result (self.new.stopped ≡ self.old.stopped) }
         ensures short { IfOk result (λ made. HasShortNames made.reply) }
         ensures accepted { IfOk result (λ made. is_accepted made.reply ≡ true) }
-        ensures quiet { (t : Tables) → StandsFor self.old t → IsQuietRun (Command.Run name.now) self.old.session t → steps.new ≡ steps.old }
-        ensures due { (t : Tables) → StandsFor self.old t → IsShortRun (Command.Run name.now) self.old.session t → steps.new ≤ steps.old + run_due (Command.Run name.now) self.old.session t }
+        ensures quiet { (t : Tables) → Represents self.old t → IsQuietRun (Command.Run name.now) self.old.session t → steps.new ≡ steps.old }
+        ensures due { (t : Tables) → Represents self.old t → IsShortRun (Command.Run name.now) self.old.session t → steps.new ≤ steps.old + run_due (Command.Run name.now) self.old.session t }
     {
         let due = self.due_run(alloc, name, steps)?;
         let ordinal = due.runs as u32 + 1;

@@ -8,7 +8,7 @@ ghost use Rattle.script_lang.specs.declared.command.Command.{Command};
 ghost use Rattle.script_lang.specs.Replies.{HasShortNames, is_accepted};
 ghost use Rattle.tap_model.specs.Verdicts.{is_back, bad_name};
 ghost use Rattle.tap_model.specs.Replies.{tables_after};
-ghost use Rattle.tap_model.specs.Sound.{Sound};
+ghost use Rattle.tap_model.specs.Sound.{IsSound};
 ghost use Rattle.tap_model.specs.Stories.{Refuses};
 
 use crate::engine::Engine;
@@ -47,18 +47,18 @@ pub(crate) fn refuse_name(name: &[u8]) -> Result<(), Refusal>
 }
 
 impl Engine {
-    ghost use Rattle.tap_engine.specs.Standing.{StandsFor};
+    ghost use Rattle.tap_engine.specs.Standing.{Represents};
     ghost use Rattle.tap_engine.specs.Ready.{IsReady};
-    ghost use Rattle.tap_engine.specs.Answering.{Answers, TakesBack};
+    ghost use Rattle.tap_engine.specs.Answering.{Answers, UndoRestores};
 
     // Sets the session's moment.
     pub(crate) fn at(&mut self, text: &[u8]) -> Result<Prepared, Refusal>
         requires ready { IsReady self.old }
-        ensures ok { IfOk result (λ made. (t : Tables) → StandsFor self.old t → Sound t self.old.session → Answers t self.old.session (Command.At text.now) made.reply made.change self.new.session) }
-        ensures stands { IfOk result (λ made. (t : Tables) → StandsFor self.old t → Sound t self.old.session → StandsFor self.new (tables_after made.change t)) }
-        ensures refusal { IfErr result (λ refusal. (t : Tables) → StandsFor self.old t → Refuses refusal (Command.At text.now) self.old.session t) }
+        ensures ok { IfOk result (λ made. (t : Tables) → Represents self.old t → IsSound t self.old.session → Answers t self.old.session (Command.At text.now) made.reply made.change self.new.session) }
+        ensures represents { IfOk result (λ made. (t : Tables) → Represents self.old t → IsSound t self.old.session → Represents self.new (tables_after made.change t)) }
+        ensures refusal { IfErr result (λ refusal. (t : Tables) → Represents self.old t → Refuses refusal (Command.At text.now) self.old.session t) }
         ensures err { OnErr result (self.new ≡ self.old) }
-        ensures undo { IfOk result (λ made. OnSome made.change (TakesBack made.undo self.new self.old)) }
+        ensures undo { IfOk result (λ made. OnSome made.change (UndoRestores made.undo self.new self.old)) }
         ensures ready { OnOk result (IsReady self.new) }
         ensures running { OnOk result (self.new.stopped ≡ self.old.stopped) }
         ensures short { IfOk result (λ made. HasShortNames made.reply) }
@@ -75,11 +75,11 @@ impl Engine {
     // Sets the session's user.
     pub(crate) fn as_user(&mut self, name: Text) -> Result<Prepared, Refusal>
         requires ready { IsReady self.old }
-        ensures ok { IfOk result (λ made. (t : Tables) → StandsFor self.old t → Sound t self.old.session → Answers t self.old.session (Command.AsUser name) made.reply made.change self.new.session) }
-        ensures stands { IfOk result (λ made. (t : Tables) → StandsFor self.old t → Sound t self.old.session → StandsFor self.new (tables_after made.change t)) }
-        ensures refusal { IfErr result (λ refusal. (t : Tables) → StandsFor self.old t → Refuses refusal (Command.AsUser name) self.old.session t) }
+        ensures ok { IfOk result (λ made. (t : Tables) → Represents self.old t → IsSound t self.old.session → Answers t self.old.session (Command.AsUser name) made.reply made.change self.new.session) }
+        ensures represents { IfOk result (λ made. (t : Tables) → Represents self.old t → IsSound t self.old.session → Represents self.new (tables_after made.change t)) }
+        ensures refusal { IfErr result (λ refusal. (t : Tables) → Represents self.old t → Refuses refusal (Command.AsUser name) self.old.session t) }
         ensures err { OnErr result (self.new ≡ self.old) }
-        ensures undo { IfOk result (λ made. OnSome made.change (TakesBack made.undo self.new self.old)) }
+        ensures undo { IfOk result (λ made. OnSome made.change (UndoRestores made.undo self.new self.old)) }
         ensures ready { OnOk result (IsReady self.new) }
         ensures running { OnOk result (self.new.stopped ≡ self.old.stopped) }
         ensures short { IfOk result (λ made. HasShortNames made.reply) }

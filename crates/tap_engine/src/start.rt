@@ -13,12 +13,12 @@ impl Engine {
     ghost use Rattle.tap_kept.specs.declared.start_fault.StartFault.{StartFault as Fault};
     ghost use Rattle.tap_model.specs.Sessions.{no_session};
     ghost use Rattle.tap_model.specs.Sound.{IsStore};
-    ghost use Rattle.tap_engine.specs.Standing.{StandsFor};
+    ghost use Rattle.tap_engine.specs.Standing.{Represents};
     ghost use Rattle.tap_engine.specs.Ready.{IsReady};
 
     // The engine, from the parts of the tables: each row is looked at a fixed number of times.
     fn build(alloc: Global, sound: Sound) -> Result<Engine, StartFault>
-        ensures stands { IfOk result (λ engine. StandsFor engine sound) }
+        ensures represents { IfOk result (λ engine. Represents engine sound) }
         ensures session { IfOk result (λ engine. engine.session ≡ no_session) }
         ensures running { IfOk result (λ engine. engine.stopped ≡ false) }
         ensures ready { IfOk result (λ engine. IsReady engine) }
@@ -57,7 +57,7 @@ impl Engine {
     /// An engine with a new session that stands for sound tables. It looks at each row a fixed number of times. `Rules` comes
     /// exactly where a filter's text has a fault, with the first such filter, and never over tables that a session left.
     pub fn start(alloc: Global, sound: Sound) -> Result<Engine, StartFault>
-        ensures stands { IfOk result (λ engine. StandsFor engine sound) }
+        ensures represents { IfOk result (λ engine. Represents engine sound) }
         ensures session { IfOk result (λ engine. engine.session ≡ no_session) }
         ensures running { IfOk result (λ engine. engine.stopped ≡ false) }
         ensures ready { IfOk result (λ engine. IsReady engine) }

@@ -14,12 +14,12 @@ pub(crate) fn forget_docs(index: &mut RowIndex, len: usize)
 }
 
 impl Engine {
-    ghost use Rattle.tap_engine.specs.Answering.{taken_back, IsThere};
+    ghost use Rattle.tap_engine.specs.Answering.{undone, CanUndo};
 
     // Takes the rows of a command back.
     pub(crate) fn take_back(&mut self, undo: Undo)
-        requires { IsThere undo self.old }
-        ensures { self.new ≡ taken_back undo self.old }
+        requires { CanUndo undo self.old }
+        ensures { self.new ≡ undone undo self.old }
     {
         match undo {
             Undo::Nothing => {}

@@ -19,7 +19,7 @@ use Rattle.tap_rows.proofs.RunLaws.{last-more}
 use Rattle.tap_model.specs.Queries.{start_of}
 use Rattle.tap_kept.specs.declared.kept_query.KeptQuery.{KeptQuery}
 use Rattle.tap_kept.specs.Keeping.{kept_query, new_kept, after_run}
-use Rattle.tap_kept.specs.Starting.{rows_in, runs_alone, ordinal_in, with_entry, IsOneOf, is_again}
+use Rattle.tap_kept.specs.Starting.{rows_in, runs_alone, ordinal_in, with_entry, IsOneOf, picks_same}
 use Rattle.tap_kept.proofs.PlaceLaws.{placed, placed-set, runs-few}
 use Rattle.tap_kept.proofs.NewLaws.{picked-in}
 
@@ -179,7 +179,7 @@ pick-joins rows runs before pick queries new ordinals from numbered one has is n
 
 -- its document isn't among what its query has delivered
 pub pick-unseen : (rows : List QueryRow) (runs : List RunRow) (before : List Pick) (pick : Pick) (queries : List KeptQuery) (d : KeptQuery) → QueriesFrom 1 rows → IsOneOf pick.query.0 (length rows) → queries ≡ map (kept_query (runs_alone runs before)) rows
-    → list_any (is_again pick) before ≡ false → is_in pick.doc.0 (slice_index_or queries (pick.query.0 - 1) d).entries ≡ false
+    → list_any (picks_same pick) before ≡ false → is_in pick.doc.0 (slice_index_or queries (pick.query.0 - 1) d).entries ≡ false
 pick-unseen rows runs before pick queries d from one is once =
     let t = one-there pick.query.0 rows from one in
     let kept : slice_index_or queries (pick.query.0 - 1) d ≡ kept_query (runs_alone runs before) t.q =

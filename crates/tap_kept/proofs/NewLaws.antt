@@ -15,7 +15,7 @@ use Rattle.tap_rows.specs.Kept.{In}
 use Rattle.tap_rows.specs.Results.{entry_at, hit_of, put_in, in_order, is_before, hits_by}
 use Rattle.little_box.specs.Boxes.{is_in}
 use Rattle.tap_kept.specs.Keeping.{AreNew}
-use Rattle.tap_kept.specs.Starting.{is_again, AreOnce}
+use Rattle.tap_kept.specs.Starting.{picks_same, PicksAreDistinct}
 use Rattle.query_eval.specs.Nested.{was_seen}
 
 same-no : (m n : ℕ) → (m ≡ n → ⊥) → nat_eq m n ≡ false
@@ -97,23 +97,23 @@ pub found-new : (entries : List Entry) (second : Doc → Option ℤ) (docs : Lis
 found-new entries second docs arrived = order-new entries _ (hits-from entries (was_seen entries) (λ doc is. is) second 1 (pos 0) docs arrived).0
 
 -- a query that picks no document twice doesn't pick one again
-once-from : (earlier picks : List Pick) (i : ℕ) (d : Pick) → AreOnce earlier picks → i < length picks → list_any (is_again (slice_index_or picks i d)) (earlier ++ take i picks) ≡ false
+once-from : (earlier picks : List Pick) (i : ℕ) (d : Pick) → PicksAreDistinct earlier picks → i < length picks → list_any (picks_same (slice_index_or picks i d)) (earlier ++ take i picks) ≡ false
 once-from earlier [] i d once lt = absurd (omega (arith, lt))
-once-from earlier (pick ∷ picks) zero d once lt = subst (λ l. list_any (is_again pick) l ≡ false) (sym (append-nil earlier)) once.0
+once-from earlier (pick ∷ picks) zero d once lt = subst (λ l. list_any (picks_same pick) l ≡ false) (sym (append-nil earlier)) once.0
 once-from earlier (pick ∷ picks) (suc i) d once lt =
-    subst (λ l. list_any (is_again (slice_index_or picks i d)) l ≡ false) (append_assoc earlier (pick ∷ []) (take i picks)) (once-from (earlier ++ pick ∷ []) picks i d once.1 (omega (arith, lt)))
+    subst (λ l. list_any (picks_same (slice_index_or picks i d)) l ≡ false) (append_assoc earlier (pick ∷ []) (take i picks)) (once-from (earlier ++ pick ∷ []) picks i d once.1 (omega (arith, lt)))
 
-pub once-at : (picks : List Pick) (i : ℕ) (d : Pick) → AreOnce [] picks → i < length picks → list_any (is_again (slice_index_or picks i d)) (take i picks) ≡ false
+pub once-at : (picks : List Pick) (i : ℕ) (d : Pick) → PicksAreDistinct [] picks → i < length picks → list_any (picks_same (slice_index_or picks i d)) (take i picks) ≡ false
 once-at picks i d once lt = once-from [] picks i d once lt
 
 same-numbers : (m n : ℕ) → nat_eq m n ≡ (n == m)
 same-numbers m n = grind arith
 
 -- the documents that a query picked
-pub picked-in : (runs : List RunRow) (pick : Pick) (picks : List Pick) → is_in pick.doc.0 (map (picked runs) (picks_of pick.query.0 picks)) ≡ list_any (is_again pick) picks
+pub picked-in : (runs : List RunRow) (pick : Pick) (picks : List Pick) → is_in pick.doc.0 (map (picked runs) (picks_of pick.query.0 picks)) ≡ list_any (picks_same pick) picks
 picked-in runs pick [] = refl
 picked-in runs pick (other ∷ picks) = go (other.query.0 == pick.query.0) refl (picked-in runs pick picks) where
-  go : (b : Bool) → (other.query.0 == pick.query.0) ≡ b → is_in pick.doc.0 (map (picked runs) (picks_of pick.query.0 picks)) ≡ list_any (is_again pick) picks → is_in pick.doc.0 (map (picked runs) (picks_of pick.query.0 (other ∷ picks))) ≡ list_any (is_again pick) (other ∷ picks)
+  go : (b : Bool) → (other.query.0 == pick.query.0) ≡ b → is_in pick.doc.0 (map (picked runs) (picks_of pick.query.0 picks)) ≡ list_any (picks_same pick) picks → is_in pick.doc.0 (map (picked runs) (picks_of pick.query.0 (other ∷ picks))) ≡ list_any (picks_same pick) (other ∷ picks)
   go true is rest = rw is (ap (λ b. b || is_in pick.doc.0 (map (picked runs) (picks_of pick.query.0 picks))) (same-numbers pick.doc.0 other.doc.0) ∙ ap (λ b. (other.doc.0 == pick.doc.0) || b) rest)
   go false is rest = rw is rest
 

@@ -1,9 +1,8 @@
 -- The probes of a plan are probes, and what a query has covered.
 use Rattle.std.proofs.Common.{◌≡◌, sym, refl, ap, arith, subst, ℕ, zero, suc, ◌+◌, ℤ, List, [], ◌∷◌, ◌++◌, take, map, true, false, if◌then◌else◌}
 use Rattle.std.specs.Prelude.{◌==◌, option_to_list, slice_get}
-use Rattle.tql_core.specs.Scope.{In}
 use Rattle.tap_rows.specs.declared.rows.RunRow.{RunRow}
-use Rattle.tap_rows.specs.Kept.{Each}
+use Rattle.tap_rows.specs.Kept.{Each, In}
 use Rattle.tap_rows.specs.Results.{last_or, run_moments, covered, runs_of}
 use Rattle.time_marks.specs.declared.window_query.WindowQuery.{WindowQuery}
 use Rattle.time_marks.specs.declared.ranged_query.RangedQuery.{RangedQuery}
@@ -12,10 +11,10 @@ use Rattle.time_marks.specs.Found.{IsProbe}
 use Rattle.time_marks.specs.Probes.{Probe}
 use Rattle.time_marks.specs.Views.{probes_of, ranged_probes}
 use Rattle.time_marks.proofs.Repeats.{distinct_among}
-use Rattle.query_eval.specs.Runs.{AreProbes}
+use Rattle.query_eval.specs.Runs.{HasValidProbes}
 
-pub probes-kept : (x : WindowQuery) (r q : RangedQuery) → ((p : Probe) → In p (probes_of x) → IsProbe p) → ranged_probes r ≡ distinct_probes (probes_of x) → q ≡ r → AreProbes q
-probes-kept x r q s d e = subst AreProbes (sym e) (λ p i. s p (distinct_among (probes_of x) p (subst (In p) d i)))
+pub probes-kept : (x : WindowQuery) (r q : RangedQuery) → ((p : Probe) → In p (probes_of x) → IsProbe p) → ranged_probes r ≡ distinct_probes (probes_of x) → q ≡ r → HasValidProbes q
+probes-kept x r q s d e = subst HasValidProbes (sym e) (λ p i. s p (distinct_among (probes_of x) p (subst (In p) d i)))
 
 -- what holds of all moments of runs holds of the last of a query's
 moments-each : (P : ℤ → Type 0) (query : ℕ) (runs : List RunRow) → Each (λ run. P run.moment) runs → Each P (run_moments query runs)

@@ -2,7 +2,7 @@
 use Rattle.std.specs.Prelude.{ℕ, ℤ, List}
 use Rattle.tap_rows.specs.declared.tables.Tables.{Tables}
 use Rattle.tap_rows.specs.declared.rows.QueryRow.{QueryRow}
-use Rattle.tql_core.specs.Scope.{In}
+use Rattle.tap_rows.specs.Kept.{In}
 use Rattle.time_marks.specs.declared.window.Window.{Window}
 use Rattle.time_marks.specs.Probes.{Probe}
 use Rattle.query_eval.specs.Runs as runs
@@ -11,12 +11,12 @@ use Rattle.tap_model.specs.Queries.{probes_in}
 use Rattle.tap_kept.specs.declared.kept_query.KeptQuery.{KeptQuery}
 
 -- no probe of the query has a mark in the window
-abbrev pub IsQuiet : Tables → Window → QueryRow → Type 0
-IsQuiet rows w query = (p : Probe) → In p (probes_in query) → runs.IsQuiet rows w p
+abbrev pub HasNoMark : Tables → Window → QueryRow → Type 0
+HasNoMark rows w query = (p : Probe) → In p (probes_in query) → runs.HasNoMark rows w p
 
 -- the path of each probe of the query is the document alone
 abbrev pub AreAlone : QueryRow → Type 0
-AreAlone query = (p : Probe) → In p (probes_in query) → runs.IsAlone p
+AreAlone query = (p : Probe) → In p (probes_in query) → runs.PathIsDocument p
 
 -- for each probe of the query a step for each document whose mark lies in the window, and the work of the body there
 abbrev pub rows_due : Tables → Window → QueryRow → ℕ

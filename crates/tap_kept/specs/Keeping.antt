@@ -13,7 +13,8 @@ use Rattle.tap_rows.specs.Deliveries.{delivered}
 use Rattle.tap_rows.specs.Kept.{In}
 use Rattle.little_box.specs.Boxes.{is_in}
 use Rattle.tap_kept.specs.declared.kept_query.KeptQuery.{KeptQuery}
-use Rattle.tap_model.specs.Queries.{start_of, probes_in, is_named}
+use Rattle.tap_model.specs.Queries.{start_of, probes_in}
+use Rattle.tap_rows.specs.WellFormed.{is_query_of}
 
 -- what is kept of a query: its row, the second that it has covered up to, how many runs it had, and what it has delivered
 abbrev pub kept_query : Tables → QueryRow → KeptQuery
@@ -26,7 +27,7 @@ kept_query tables query = record {
 
 -- what is kept of a user's query of a name
 unfoldable pub named_in : List ℕ → List ℕ → List KeptQuery → Option KeptQuery
-named_in owner name queries = find (λ kept. is_named owner name kept.row) queries
+named_in owner name queries = find (λ kept. is_query_of owner name kept.row) queries
 
 -- how many of the queries are a user's
 unfoldable pub owned_in : List ℕ → List KeptQuery → ℕ

@@ -43,13 +43,13 @@ abbrev pub with_entry : Entry → KeptQuery → KeptQuery
 with_entry entry kept = record { row = kept.row; covered = kept.covered; runs = kept.runs; entries = kept.entries ++ entry ∷ [] }
 
 -- is the one pick of the query and the document of the other?
-abbrev pub is_again : Pick → Pick → Bool
-is_again pick other = (other.query.0 == pick.query.0) && (other.doc.0 == pick.doc.0)
+abbrev pub picks_same : Pick → Pick → Bool
+picks_same pick other = (other.query.0 == pick.query.0) && (other.doc.0 == pick.doc.0)
 
 -- no query picks a document twice, nor one that it picked earlier
-abbrev pub AreOnce : List Pick → List Pick → Type 0
-AreOnce earlier [] = Unit {0}
-AreOnce earlier (pick ∷ picks) = (list_any (is_again pick) earlier ≡ false) × AreOnce (earlier ++ pick ∷ []) picks
+abbrev pub PicksAreDistinct : List Pick → List Pick → Type 0
+PicksAreDistinct earlier [] = Unit {0}
+PicksAreDistinct earlier (pick ∷ picks) = (list_any (picks_same pick) earlier ≡ false) × PicksAreDistinct (earlier ++ pick ∷ []) picks
 
 -- the number of one of so many rows
 pub record IsOneOf (num count : ℕ) : Type 0 where

@@ -3,7 +3,7 @@ ghost use Rattle.little_box.specs.Boxes.{is_in};
 ghost use Rattle.tap_rows.specs.Kept.{Each, HasRun, RunsFrom, QueriesFrom};
 ghost use Rattle.tap_kept.specs.declared.kept_query.KeptQuery.{KeptQuery};
 ghost use Rattle.tap_kept.specs.Keeping.{kept_query, new_kept, after_run};
-ghost use Rattle.tap_kept.specs.Starting.{rows_in, runs_alone, ordinal_in, with_entry, IsOneOf, AreOnce};
+ghost use Rattle.tap_kept.specs.Starting.{rows_in, runs_alone, ordinal_in, with_entry, IsOneOf, PicksAreDistinct};
 
 use crate::kept_queries::KeptQueries;
 use std::alloc::Global;
@@ -77,7 +77,7 @@ pub(crate) fn deliver(
     requires runs { RunsFrom 1 runs.now }
     requires owned { Each (λ run. IsOneOf run.query.0 (length queries.old)) runs.now }
     requires picked { Each (λ pick. HasRun pick.run pick.query.0 runs.now) picks.now }
-    requires once { AreOnce [] picks.now }
+    requires once { PicksAreDistinct [] picks.now }
     ensures { OnOk result (queries.new ≡ map (kept_query (runs_alone runs.now picks.now)) (rows_in queries.old)) }
 {
     let ordinals = add_runs(alloc, queries, runs)?;

@@ -7,7 +7,7 @@ ghost use Rattle.restart_core.specs.Readings.{reading_of, readings_of, as_read};
 ghost use Rattle.tap_model.specs.Sound.{IsMoment};
 ghost use Rattle.tap_kept.specs.declared.start_fault.StartFault.{StartFault as Fault};
 ghost use Rattle.tap_kept.specs.Keeping.{kept_query, new_kept};
-ghost use Rattle.tap_kept.specs.Starting.{is_unread, first_unread, runs_alone, IsOneOf, AreOnce};
+ghost use Rattle.tap_kept.specs.Starting.{is_unread, first_unread, runs_alone, IsOneOf, PicksAreDistinct};
 
 use crate::deliveries::deliver;
 use crate::kept_filter::KeptFilter;
@@ -62,7 +62,7 @@ pub fn keep_delivered(
     requires runs { RunsFrom 1 runs.now }
     requires owned { Each (λ run. IsOneOf run.query.0 (length rows)) runs.now }
     requires picked { Each (λ pick. HasRun pick.run pick.query.0 runs.now) picks.now }
-    requires once { AreOnce [] picks.now }
+    requires once { PicksAreDistinct [] picks.now }
     ensures { IfOk result (λ queries. queries ≡ map (kept_query (runs_alone runs.now picks.now)) rows) }
 {
     let mut queries = keep_queries(alloc, rows, conds)?;

@@ -3,7 +3,7 @@ ghost use Rattle.std.specs.Option.{option_copied};
 ghost use Rattle.std.specs.Str.{bytes_eq};
 ghost use Rattle.little_box.specs.Boxes.{is_in};
 ghost use Rattle.tap_rows.specs.Results.{entry_at};
-ghost use Rattle.tap_model.specs.Queries.{is_named};
+ghost use Rattle.tap_rows.specs.WellFormed.{is_query_of};
 ghost use Rattle.tap_kept.specs.declared.kept_query.KeptQuery.{KeptQuery};
 ghost use Rattle.tap_kept.specs.Keeping.{after_run, without_run, named_in, owned_in, AreNew};
 ghost use Rattle.tap_kept.specs.Starting.{with_entry};
@@ -27,8 +27,8 @@ impl Model for KeptQueries {
 }
 
 // Is it this user's query of this name?
-fn is_named(query: &QueryRow, owner: &[u8], name: &[u8]) -> bool
-    ensures { result ≡ is_named owner.now name.now query.now }
+fn is_query_of(query: &QueryRow, owner: &[u8], name: &[u8]) -> bool
+    ensures { result ≡ is_query_of owner.now name.now query.now }
 {
     query.owner.as_slice() == owner && query.name.as_slice() == name
 }
@@ -64,7 +64,7 @@ impl KeptQueries {
         ensures { option_copied result ≡ named_in owner.now name.now self.now }
     {
         for kept in &self.items {
-            if is_named(kept.row.row(), owner, name) {
+            if is_query_of(kept.row.row(), owner, name) {
                 return Some(kept);
             }
         }

@@ -28,7 +28,7 @@ impl KeptQuery {
     ghost use Rattle.tap_model.specs.Queries.{start_of};
     ghost use Rattle.tap_kept.specs.Keeping.{new_kept, after_run, before_run, hits_since, AreNew};
     ghost use Rattle.tap_kept.specs.Starting.{with_entry};
-    ghost use Rattle.tap_kept.specs.Costs.{IsQuiet, AreAlone, rows_due, window_since};
+    ghost use Rattle.tap_kept.specs.Costs.{HasNoMark, AreAlone, rows_due, window_since};
 
     /// A query that was never run.
     pub fn new(alloc: Global, row: KeptRow) -> KeptQuery
@@ -58,7 +58,7 @@ impl KeptQuery {
         ensures hits { hits.new.hits ≡ hits_since self.now index.now moment }
         ensures new { AreNew self.now.entries hits.new.hits }
         ensures room { hits.new.room ≡ hits.old.room }
-        ensures quiet { IsQuiet index.now (window_since self.now moment) self.now.row → steps.new ≡ steps.old }
+        ensures quiet { HasNoMark index.now (window_since self.now moment) self.now.row → steps.new ≡ steps.old }
         ensures due { AreAlone self.now.row → steps.new ≤ steps.old + rows_due index.now (window_since self.now moment) self.now.row }
     {
         let _docs = index.docs();

@@ -5,7 +5,7 @@ ghost use Rattle.tql_core.specs.Scope.{IsQuery};
 ghost use Rattle.time_marks.specs.Distinct.{distinct_probes};
 ghost use Rattle.time_marks.specs.Views.{ranged_probes};
 ghost use Rattle.monotone_rewrite.specs.Query.{window};
-ghost use Rattle.query_eval.specs.Runs.{AreProbes};
+ghost use Rattle.query_eval.specs.Runs.{HasValidProbes};
 ghost use Rattle.tap_rows.specs.declared.rows.QueryRow.{QueryRow};
 ghost use Rattle.tap_model.specs.Queries.{condition_by, start_of, probes_in};
 ghost use Rattle.tap_model.specs.Sound.{IsMoment};
@@ -33,7 +33,7 @@ impl Model for KeptRow {
 
     ghost view = { λ kept. kept.row };
 
-    ghost invariant = { λ kept. (kept.start ≡ start_of kept.row) × ((ranged_probes kept.plan.query ≡ probes_in kept.row) × AreProbes kept.plan.query) };
+    ghost invariant = { λ kept. (kept.start ≡ start_of kept.row) × ((ranged_probes kept.plan.query ≡ probes_in kept.row) × HasValidProbes kept.plan.query) };
 }
 
 // The first second that a query covers.
@@ -54,7 +54,7 @@ fn make_plan(alloc: Global, cond: &Cond, start: i64) -> Result<Plan, Memory>
     requires bounded { are_bounded (condition cond.now) ≡ true }
     requires start { IsMoment start }
     ensures probes { IfOk result (λ made. ranged_probes made.query ≡ distinct_probes (window (condition cond.now) start)) }
-    ensures scopes { IfOk result (λ made. AreProbes made.query) }
+    ensures scopes { IfOk result (λ made. HasValidProbes made.query) }
 {
     let query = monotone_from(alloc, cond, start)?;
     let ranged = incremental(alloc, query)?;
@@ -86,7 +86,7 @@ impl KeptRow {
     /// The plan of its window query.
     pub fn plan(&self) -> &Plan
         ensures query { ranged_probes result.now.query ≡ probes_in self.now }
-        ensures probes { AreProbes result.now.query }
+        ensures probes { HasValidProbes result.now.query }
     {
         &self.plan
     }

@@ -18,8 +18,8 @@ use Rattle.tap_model.specs.declared.limits.TheConstants.{USER_QUERY_LIMIT, QUERY
 use Rattle.tap_model.specs.declared.session.Session.{Session}
 use Rattle.tap_model.specs.Sessions.{or_empty, user_of, last_moment, greatest_moment}
 use Rattle.tap_model.specs.Queries.{query_named}
-use Rattle.tap_model.specs.Limits.{passes, queries_of, stored_bytes, different, owners_in, new_users}
-use Rattle.tap_model.specs.Verdicts.{first_refusal, verdict, checks, missing, unless, is_back, taken, no_query, text_of, delivers, messages_of, bytes_of}
+use Rattle.tap_model.specs.Limits.{limit_refusal, queries_of, stored_bytes, different, owners_in, new_users}
+use Rattle.tap_model.specs.Verdicts.{first_refusal, verdict, checks, missing, refuse_unless, is_back, taken, no_query, text_of, delivers, messages_of, bytes_of}
 use Rattle.tap_model.specs.Privacy.{is_shared, is_user, concerns, owned_queries}
 use Rattle.tap_model.proofs.ViewLaws.{Core, core_of, cores, source_in, named-core}
 use Rattle.tap_model.proofs.CoreLaws.{same-text}
@@ -57,20 +57,20 @@ first-alike (Some x ∷ xs) (None ∷ ys) alike = elim (alike.0) [ inl e ↦ abs
 first-alike (Some x ∷ xs) (Some y ∷ ys) alike = elim (alike.0) [ inl e ↦ inr (inr e) | inr may ↦ inl may.0 ]
 
 -- a limit over all users
-may-pass : (name : LimitName) (limit count more : ℕ) → is_shared (Limit name) ≡ true → May (passes name limit count more)
+may-pass : (name : LimitName) (limit count more : ℕ) → is_shared (Limit name) ≡ true → May (limit_refusal name limit count more)
 may-pass name limit count more shared = elim ((more == 0) || nat_le (count + more) limit) as (λ b. May (if b then None else Some (Limit name))) [ true ↦ tt | false ↦ shared ]
 
 -- the rows of other tables, with the documents and notes of these
 abbrev pub twin : Tables → Tables → Tables
 twin tables other = record { docs = tables.docs; notes = tables.notes; queries = other.queries; runs = other.runs; picks = other.picks; filters = other.filters }
 
-both-may : (name : LimitName) (limit count count' more more' : ℕ) → is_shared (Limit name) ≡ true → May (passes name limit count more) × May (passes name limit count' more')
+both-may : (name : LimitName) (limit count count' more more' : ℕ) → is_shared (Limit name) ≡ true → May (limit_refusal name limit count more) × May (limit_refusal name limit count' more')
 both-may name limit count count' more more' shared = (may-pass name limit count more shared, may-pass name limit count' more' shared)
 
-store-may : (t o : Tables) (more : ℕ) → May (passes Store STORE_LIMIT (stored_bytes t) more) × May (passes Store STORE_LIMIT (stored_bytes (twin t o)) more)
+store-may : (t o : Tables) (more : ℕ) → May (limit_refusal Store STORE_LIMIT (stored_bytes t) more) × May (limit_refusal Store STORE_LIMIT (stored_bytes (twin t o)) more)
 store-may t o more = both-may Store STORE_LIMIT (stored_bytes t) (stored_bytes (twin t o)) more more refl
 
-users-may : (user : List ℕ) (t o : Tables) → May (passes Users USER_LIMIT (different (owners_in t)) (new_users user t)) × May (passes Users USER_LIMIT (different (owners_in (twin t o))) (new_users user (twin t o)))
+users-may : (user : List ℕ) (t o : Tables) → May (limit_refusal Users USER_LIMIT (different (owners_in t)) (new_users user t)) × May (limit_refusal Users USER_LIMIT (different (owners_in (twin t o))) (new_users user (twin t o)))
 users-may user t o = both-may Users USER_LIMIT (different (owners_in t)) (different (owners_in (twin t o))) (new_users user t) (new_users user (twin t o)) refl
 
 -- what the user sees of two tables with the same documents and notes is the same
@@ -110,7 +110,7 @@ missing-same s name t o twins =
 
 taken-same : (s : Session) (name : List ℕ) (t o : Tables) → AreTwins (user_of s) t o → taken s name t ≡ taken s name (twin t o)
 taken-same s name t o twins =
-    ap (λ b. unless b Taken) (sym (none-core t (query_named (user_of s) name t)) ∙ ap is_none (found-same (user_of s) name t o twins) ∙ none-core o (query_named (user_of s) name o))
+    ap (λ b. refuse_unless b Taken) (sym (none-core t (query_named (user_of s) name t)) ∙ ap is_none (found-same (user_of s) name t o twins) ∙ none-core o (query_named (user_of s) name o))
 
 count-same : (user : List ℕ) (t o : Tables) → AreTwins user t o → queries_of user t ≡ queries_of user o
 count-same user t o twins = sym (length-map (owned_queries user t) (core_of t.runs)) ∙ ap length twins.queries ∙ length-map (owned_queries user o) (core_of o.runs)
@@ -130,7 +130,7 @@ checks-alike (Mbox block) user s t o m at by twins = (inl refl, (inl refl, (inl 
 checks-alike (AddNote doc kind value text) user s t o m at by twins = (inl refl, (inl refl, (inl refl, (inl refl, (inl refl, (inl refl, (inr (store-may t o (length text)), tt)))))))
 checks-alike (Define name source) user s t o m at by twins =
     let own = own-twins user s t o by twins in
-    (inl refl, (inl refl, (inl refl, (inl (taken-same s name t o own), (inl refl, (inl (ap (λ n. passes Queries USER_QUERY_LIMIT n 1) (count-same (user_of s) t o own)), (inr (both-may AllQueries QUERY_LIMIT (length t.queries) (length o.queries) 1 1 refl), (inr (users-may (user_of s) t o), (inr (store-may t o (length (stored_source source))), tt)))))))))
+    (inl refl, (inl refl, (inl refl, (inl (taken-same s name t o own), (inl refl, (inl (ap (λ n. limit_refusal Queries USER_QUERY_LIMIT n 1) (count-same (user_of s) t o own)), (inr (both-may AllQueries QUERY_LIMIT (length t.queries) (length o.queries) 1 1 refl), (inr (users-may (user_of s) t o), (inr (store-may t o (length (stored_source source))), tt)))))))))
 checks-alike (Run name) user s t o m at by twins =
     let own = own-twins user s t o by twins in
     (inl refl, (inl refl, (inl refl, (inl (missing-same s name t o own), (inr (both-may Runs RUN_LIMIT (length t.runs) (length o.runs) 1 1 refl), (inr (both-may Picks PICK_LIMIT (length t.picks) (length o.picks) (delivers s name t) (delivers s name (twin t o)) refl), tt))))))

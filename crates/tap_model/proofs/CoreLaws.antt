@@ -13,7 +13,8 @@ use Rattle.tap_rows.specs.Results.{runs_of, run_moments}
 use Rattle.tap_rows.specs.Kept.{Each, QueriesFrom, IsKept}
 use Rattle.tap_rows.proofs.LaterLaws.{filter-none, each-map}
 use Rattle.tap_rows.proofs.PlaceLaws.{moments-new, moments-other, query-bounds, runs-none}
-use Rattle.tap_model.specs.Queries.{truth_of, start_of, is_named}
+use Rattle.tap_model.specs.Queries.{truth_of, start_of}
+use Rattle.tap_rows.specs.WellFormed.{is_query_of}
 use Rattle.tap_model.specs.Filters.{last_filter}
 use Rattle.std.proofs.lemmas.List.{reverse-append}
 use Rattle.std.proofs.lemmas.Slice.Eq.{bytes_eq-Decides}
@@ -70,19 +71,19 @@ with_run name moment (core ∷ rest) =
     if bytes_eq core.name name then record { name = core.name; source = core.source; arrival = core.arrival; runs = core.runs ++ moment ∷ [] } ∷ rest else core ∷ with_run name moment rest
 
 -- a run of the user's query of a name
-pub cores-run : (user name : List ℕ) (runs : List RunRow) (run : RunRow) (k : ℕ) (qs : List QueryRow) (q : QueryRow) → QueriesFrom k qs → find (is_named user name) qs ≡ Some q → run.query.0 ≡ q.num.0
+pub cores-run : (user name : List ℕ) (runs : List RunRow) (run : RunRow) (k : ℕ) (qs : List QueryRow) (q : QueryRow) → QueriesFrom k qs → find (is_query_of user name) qs ≡ Some q → run.query.0 ≡ q.num.0
     → cores user (runs ++ run ∷ []) qs ≡ with_run name run.moment (cores user runs qs)
 cores-run user name runs run k [] q from is of = refl
 cores-run user name runs run k (x ∷ qs) q from is of =
     go (bytes_eq x.owner user) refl (bytes_eq x.name name) refl (λ found. cores-run user name runs run (suc k) qs q from.1 found of) where
       -- the query that is found
-      found : (a b : Bool) → bytes_eq x.owner user ≡ a → bytes_eq x.name name ≡ b → (if a && b then Some x else find (is_named user name) qs) ≡ Some q
-      found a b e f = sym (ap (λ z. if z && bytes_eq x.name name then Some x else find (is_named user name) qs) e ∙ ap (λ z. if a && z then Some x else find (is_named user name) qs) f) ∙ is
+      found : (a b : Bool) → bytes_eq x.owner user ≡ a → bytes_eq x.name name ≡ b → (if a && b then Some x else find (is_query_of user name) qs) ≡ Some q
+      found a b e f = sym (ap (λ z. if z && bytes_eq x.name name then Some x else find (is_query_of user name) qs) e ∙ ap (λ z. if a && z then Some x else find (is_query_of user name) qs) f) ∙ is
 
-      later : find (is_named user name) qs ≡ Some q → (run.query.0 ≡ x.num.0 → ⊥)
-      later e = let bounds = query-bounds (suc k) qs q from.1 (find-in (is_named user name) qs q e) in λ same. absurd (omega (arith, bounds.0, from.0, of, same))
+      later : find (is_query_of user name) qs ≡ Some q → (run.query.0 ≡ x.num.0 → ⊥)
+      later e = let bounds = query-bounds (suc k) qs q from.1 (find-in (is_query_of user name) qs q e) in λ same. absurd (omega (arith, bounds.0, from.0, of, same))
 
-      go : (a : Bool) → bytes_eq x.owner user ≡ a → (b : Bool) → bytes_eq x.name name ≡ b → (find (is_named user name) qs ≡ Some q → cores user (runs ++ run ∷ []) qs ≡ with_run name run.moment (cores user runs qs))
+      go : (a : Bool) → bytes_eq x.owner user ≡ a → (b : Bool) → bytes_eq x.name name ≡ b → (find (is_query_of user name) qs ≡ Some q → cores user (runs ++ run ∷ []) qs ≡ with_run name run.moment (cores user runs qs))
           → map (core_of (runs ++ run ∷ [])) (if a then x ∷ filter (λ query. bytes_eq query.owner user) qs else filter (λ query. bytes_eq query.owner user) qs) ≡ with_run name run.moment (map (core_of runs) (if a then x ∷ filter (λ query. bytes_eq query.owner user) qs else filter (λ query. bytes_eq query.owner user) qs))
       go true e true f rest =
           let same : run.query.0 ≡ x.num.0 = of ∙ sym (ap (λ row. row.num.0) (some-row x q (found true true e f))) in
@@ -93,16 +94,16 @@ cores-run user name runs run k (x ∷ qs) q from is of =
       go false e b f rest = rest (found false b e f)
 
 -- a run of another user's query
-pub cores-run-other : (user owner name : List ℕ) (runs : List RunRow) (run : RunRow) (k : ℕ) (qs : List QueryRow) (q : QueryRow) → bytes_eq owner user ≡ false → QueriesFrom k qs → find (is_named owner name) qs ≡ Some q → run.query.0 ≡ q.num.0
+pub cores-run-other : (user owner name : List ℕ) (runs : List RunRow) (run : RunRow) (k : ℕ) (qs : List QueryRow) (q : QueryRow) → bytes_eq owner user ≡ false → QueriesFrom k qs → find (is_query_of owner name) qs ≡ Some q → run.query.0 ≡ q.num.0
     → cores user (runs ++ run ∷ []) qs ≡ cores user runs qs
 cores-run-other user owner name runs run k [] q other from is of = refl
 cores-run-other user owner name runs run k (x ∷ qs) q other from is of =
-    go (bytes_eq x.owner user) refl (is_named owner name x) refl (λ found. cores-run-other user owner name runs run (suc k) qs q other from.1 found of) where
-      found : (b : Bool) → is_named owner name x ≡ b → (if b then Some x else find (is_named owner name) qs) ≡ Some q
-      found b e = sym (ap (λ z. if z then Some x else find (is_named owner name) qs) e) ∙ is
+    go (bytes_eq x.owner user) refl (is_query_of owner name x) refl (λ found. cores-run-other user owner name runs run (suc k) qs q other from.1 found of) where
+      found : (b : Bool) → is_query_of owner name x ≡ b → (if b then Some x else find (is_query_of owner name) qs) ≡ Some q
+      found b e = sym (ap (λ z. if z then Some x else find (is_query_of owner name) qs) e) ∙ is
 
-      later : find (is_named owner name) qs ≡ Some q → (run.query.0 ≡ x.num.0 → ⊥)
-      later e = let bounds = query-bounds (suc k) qs q from.1 (find-in (is_named owner name) qs q e) in λ same. absurd (omega (arith, bounds.0, from.0, of, same))
+      later : find (is_query_of owner name) qs ≡ Some q → (run.query.0 ≡ x.num.0 → ⊥)
+      later e = let bounds = query-bounds (suc k) qs q from.1 (find-in (is_query_of owner name) qs q e) in λ same. absurd (omega (arith, bounds.0, from.0, of, same))
 
       left : (a b : Bool) → (a && b) ≡ true → a ≡ true
       left true b e = refl
@@ -111,7 +112,7 @@ cores-run-other user owner name runs run k (x ∷ qs) q other from is of =
       both : true ≡ false → ⊥
       both e = cc
 
-      go : (a : Bool) → bytes_eq x.owner user ≡ a → (b : Bool) → is_named owner name x ≡ b → (find (is_named owner name) qs ≡ Some q → cores user (runs ++ run ∷ []) qs ≡ cores user runs qs)
+      go : (a : Bool) → bytes_eq x.owner user ≡ a → (b : Bool) → is_query_of owner name x ≡ b → (find (is_query_of owner name) qs ≡ Some q → cores user (runs ++ run ∷ []) qs ≡ cores user runs qs)
           → map (core_of (runs ++ run ∷ [])) (if a then x ∷ filter (λ query. bytes_eq query.owner user) qs else filter (λ query. bytes_eq query.owner user) qs) ≡ map (core_of runs) (if a then x ∷ filter (λ query. bytes_eq query.owner user) qs else filter (λ query. bytes_eq query.owner user) qs)
       go true e true f rest =
           let named : x.owner ≡ owner = same-text x.owner owner (left (bytes_eq x.owner owner) (bytes_eq x.name name) f) in

@@ -13,7 +13,7 @@ use Rattle.tap_rows.specs.declared.change.Change.TheVariants.{Docs, OneNote, One
 use Rattle.tap_rows.specs.declared.rows.Doc.{Doc}
 use Rattle.tap_rows.specs.declared.rows.QueryRow.{QueryRow}
 use Rattle.tap_rows.specs.Deliveries.{run_change}
-use Rattle.tap_rows.specs.WellFormed.{may_follow, docs_stand}
+use Rattle.tap_rows.specs.WellFormed.{may_follow, docs_stand, is_query_of}
 use Rattle.tap_rows.specs.Fits.{low_of, fits}
 use Rattle.tap_rows.specs.Kept.{Each, In, IsBy}
 use Rattle.tap_rows.proofs.LaterLaws.{each-map}
@@ -27,13 +27,13 @@ use Rattle.script_lang.specs.declared.refusal.Refusal.TheVariants.{NoMoment, NoU
 use Rattle.script_lang.specs.declared.refusal.LimitName.TheVariants.{Message}
 use Rattle.restart_core.specs.Starts.{stored_source}
 use Rattle.tap_model.specs.declared.session.Session.{Session}
-use Rattle.tap_model.specs.Sessions.{present, or_zero, or_empty, user_of}
-use Rattle.tap_model.specs.Queries.{truth_of, start_of, is_named, query_named}
-use Rattle.tap_model.specs.Verdicts.{verdict, checks, first_refusal, missing, unless, bad_name, too_long, are_short, no_doc, text_of, messages_of}
+use Rattle.tap_model.specs.Sessions.{moment_or_zero, or_zero, or_empty, user_of}
+use Rattle.tap_model.specs.Queries.{truth_of, start_of, query_named}
+use Rattle.tap_model.specs.Verdicts.{verdict, checks, first_refusal, missing, refuse_unless, bad_name, too_long, are_short, no_doc, text_of, messages_of}
 use Rattle.tap_model.specs.Replies.{Answer, answer_of, answer_by, accepted, set_moment, docs_from, next_docs, some_docs, next_note, next_query, next_filter, run_query, show_box, show_list, show_lines, ask_at}
-use Rattle.tap_model.specs.Sound.{Sound, IsMoment, IsUser}
+use Rattle.tap_model.specs.Sound.{IsSound, IsMoment, IsUser}
 use Rattle.tap_model.proofs.AnswerLaws.{some-none, find-in}
-use Rattle.tap_model.proofs.HeldLaws.{Held, present-by, now-at}
+use Rattle.tap_model.proofs.HeldLaws.{Held, moment_or_zero-by, now-at}
 use Rattle.tap_model.proofs.RowLaws.{some-same, low-by, row-within}
 use Rattle.tap_model.proofs.RunFits.{run-fits}
 
@@ -43,17 +43,17 @@ all-none [] e = tt
 all-none (None ∷ checks) e = (refl, all-none checks e)
 all-none (Some refusal ∷ checks) e = absurd (some-none refusal e)
 
-pub unless-holds : (b : Bool) (refusal : Refusal) → unless b refusal ≡ None → b ≡ true
-unless-holds true refusal e = refl
-unless-holds false refusal e = absurd (some-none refusal e)
+pub refuse_unless-holds : (b : Bool) (refusal : Refusal) → refuse_unless b refusal ≡ None → b ≡ true
+refuse_unless-holds true refusal e = refl
+refuse_unless-holds false refusal e = absurd (some-none refusal e)
 
 pub name-is : (name : List ℕ) → bad_name name ≡ None → is_name name ≡ true
 unfolding bad_name
-name-is name e = unless-holds (is_name name) BadName e
+name-is name e = refuse_unless-holds (is_name name) BadName e
 
 doc-within : (doc count : ℕ) → no_doc doc count ≡ None → (1 ≤ doc) × (doc ≤ count)
 unfolding no_doc
-doc-within doc count e = let both = and_parts (nat_le 1 doc) (nat_le doc count) (unless-holds (nat_le 1 doc && nat_le doc count) NoDoc e) in (le 1 doc both.0, le doc count both.1) where
+doc-within doc count e = let both = and_parts (nat_le 1 doc) (nat_le doc count) (refuse_unless-holds (nat_le 1 doc && nat_le doc count) NoDoc e) in (le 1 doc both.0, le doc count both.1) where
   le : (a b : ℕ) → nat_le a b ≡ true → a ≤ b
   le a b e = grind arith
 
@@ -63,9 +63,9 @@ named None is e = absurd (some-none NoUser e)
 named (Some name) is e = is
 
 -- the present moment and the rows
-at-present : (tables : Tables) (session : Session) → Sound tables session → missing NoMoment session.moment ≡ None → IsMoment (present session) × IsBy start_of (present session) tables
-at-present tables session sound none =
-    let there = present-by session none in
+at-moment_or_zero : (tables : Tables) (session : Session) → IsSound tables session → missing NoMoment session.moment ≡ None → IsMoment (moment_or_zero session) × IsBy start_of (moment_or_zero session) tables
+at-moment_or_zero tables session sound none =
+    let there = moment_or_zero-by session none in
     let held : Held tables session = record { kept = sound.kept; now = sound.now } in
     subst (λ z. IsMoment z × IsBy start_of z tables) (sym (ap or_zero there.is)) (now-at tables session there.m there.is held)
 
@@ -103,23 +103,23 @@ some-fit : (tables : Tables) (docs : List Doc) (change : Change) → fits tables
 some-fit tables [] change fit e = absurd (no-change change e)
 some-fit tables (doc ∷ docs) change fit e = made tables (Docs (doc ∷ docs)) change fit e
 
-texts-fit : (texts : List (List ℕ)) (session : Session) (tables : Tables) → Sound tables session → missing NoMoment session.moment ≡ None → are_short texts ≡ true → fits tables (Docs (next_docs tables (present session) texts)) ≡ true
+texts-fit : (texts : List (List ℕ)) (session : Session) (tables : Tables) → IsSound tables session → missing NoMoment session.moment ≡ None → are_short texts ≡ true → fits tables (Docs (next_docs tables (moment_or_zero session) texts)) ≡ true
 texts-fit texts session tables sound none short =
-    let now = at-present tables session sound none in
-    docs-fit (length tables.docs + 1) (low_of (λ doc. doc.arrival) tables.docs) (present session) texts (low-by (λ doc. doc.arrival) (present session) tables.docs now.0.0 now.1.docs) now.0.1 short
+    let now = at-moment_or_zero tables session sound none in
+    docs-fit (length tables.docs + 1) (low_of (λ doc. doc.arrival) tables.docs) (moment_or_zero session) texts (low-by (λ doc. doc.arrival) (moment_or_zero session) tables.docs now.0.0 now.1.docs) now.0.1 short
 
 mail-short : (block : Block) → too_long block ≡ None → are_short (text_of block ∷ []) ≡ true
 mail-short Long e = refl
-mail-short (Whole text) e = and_from _ _ (unless-holds (nat_le (length text) MESSAGE_LIMIT) (Limit Message) e) refl
+mail-short (Whole text) e = and_from _ _ (refuse_unless-holds (nat_le (length text) MESSAGE_LIMIT) (Limit Message) e) refl
 
 -- a note of the moment on a document that is there
-note-fit : (doc : ℕ) (kind : List ℕ) (value : ℤ) (text : List ℕ) (session : Session) (tables : Tables) → Sound tables session → missing NoMoment session.moment ≡ None → missing NoUser session.user ≡ None → bad_name kind ≡ None → no_doc doc (length tables.docs) ≡ None
+note-fit : (doc : ℕ) (kind : List ℕ) (value : ℤ) (text : List ℕ) (session : Session) (tables : Tables) → IsSound tables session → missing NoMoment session.moment ≡ None → missing NoUser session.user ≡ None → bad_name kind ≡ None → no_doc doc (length tables.docs) ≡ None
     → fits tables (OneNote (next_note tables session doc kind value text)) ≡ true
 note-fit doc kind value text session tables sound none user name there =
-    let now = at-present tables session sound none in
+    let now = at-moment_or_zero tables session sound none in
     let within = doc-within doc (length tables.docs) there in
-    let arrived = row-within (λ doc. int_le doc.arrival (present session)) tables.docs doc within.0 within.1 (each-map (λ doc. doc.arrival ≤ℤ present session) (λ doc. int_le doc.arrival (present session) ≡ true) tables.docs (λ doc le. le-yes doc.arrival (present session) le) now.1.docs) in
-    and_from _ _ (and_from _ _ (and_from _ _ (and_from _ _ (same-num (length tables.notes + 1)) (behind (λ note. note.arrival) (present session) tables.notes now.0 now.1.notes)) arrived) (named session.user sound.user user)) (name-is kind name)
+    let arrived = row-within (λ doc. int_le doc.arrival (moment_or_zero session)) tables.docs doc within.0 within.1 (each-map (λ doc. doc.arrival ≤ℤ moment_or_zero session) (λ doc. int_le doc.arrival (moment_or_zero session) ≡ true) tables.docs (λ doc le. le-yes doc.arrival (moment_or_zero session) le) now.1.docs) in
+    and_from _ _ (and_from _ _ (and_from _ _ (and_from _ _ (same-num (length tables.notes + 1)) (behind (λ note. note.arrival) (moment_or_zero session) tables.notes now.0 now.1.notes)) arrived) (named session.user sound.user user)) (name-is kind name)
 
 -- a query of a name that the user has no query of
 none-found : (p : QueryRow → Bool) (queries : List QueryRow) → is_none (find p queries) ≡ true → list_any p queries ≡ false
@@ -131,25 +131,25 @@ none-found p (query ∷ queries) e = go (p query) refl (none-found p queries) e 
     differ e = cc
   go false is rest e = rw is (rest e)
 
-query-fit : (name source : List ℕ) (session : Session) (tables : Tables) → Sound tables session → missing NoMoment session.moment ≡ None → missing NoUser session.user ≡ None → bad_name name ≡ None → unless (is_none (query_named (user_of session) name tables)) Taken ≡ None
+query-fit : (name source : List ℕ) (session : Session) (tables : Tables) → IsSound tables session → missing NoMoment session.moment ≡ None → missing NoUser session.user ≡ None → bad_name name ≡ None → refuse_unless (is_none (query_named (user_of session) name tables)) Taken ≡ None
     → fits tables (OneQuery (next_query tables session name source)) ≡ true
 query-fit name source session tables sound none user bad free =
-    let now = at-present tables session sound none in
-    let by = each-map (λ query. (query.arrival ≤ℤ present session) × (start_of query ≤ℤ present session)) (λ query. query.arrival ≤ℤ present session) tables.queries (λ query le. le.0) now.1.queries in
-    let absent = none-found (is_named (user_of session) name) tables.queries (unless-holds (is_none (query_named (user_of session) name tables)) Taken free) in
-    and_from _ _ (and_from _ _ (and_from _ _ (and_from _ _ (same-num (length tables.queries + 1)) (behind (λ query. query.arrival) (present session) tables.queries now.0 by)) (named session.user sound.user user)) (name-is name bad)) (ap not absent)
+    let now = at-moment_or_zero tables session sound none in
+    let by = each-map (λ query. (query.arrival ≤ℤ moment_or_zero session) × (start_of query ≤ℤ moment_or_zero session)) (λ query. query.arrival ≤ℤ moment_or_zero session) tables.queries (λ query le. le.0) now.1.queries in
+    let absent = none-found (is_query_of (user_of session) name) tables.queries (refuse_unless-holds (is_none (query_named (user_of session) name tables)) Taken free) in
+    and_from _ _ (and_from _ _ (and_from _ _ (and_from _ _ (same-num (length tables.queries + 1)) (behind (λ query. query.arrival) (moment_or_zero session) tables.queries now.0 by)) (named session.user sound.user user)) (name-is name bad)) (ap not absent)
 
-filter-fit : (source : List ℕ) (session : Session) (tables : Tables) → Sound tables session → missing NoMoment session.moment ≡ None → missing NoUser session.user ≡ None → fits tables (OneFilter (next_filter tables session source)) ≡ true
+filter-fit : (source : List ℕ) (session : Session) (tables : Tables) → IsSound tables session → missing NoMoment session.moment ≡ None → missing NoUser session.user ≡ None → fits tables (OneFilter (next_filter tables session source)) ≡ true
 filter-fit source session tables sound none user =
-    let now = at-present tables session sound none in
-    and_from _ _ (and_from _ _ (same-num (length tables.filters + 1)) (behind (λ filter. filter.arrival) (present session) tables.filters now.0 now.1.filters)) (named session.user sound.user user)
+    let now = at-moment_or_zero tables session sound none in
+    and_from _ _ (and_from _ _ (same-num (length tables.filters + 1)) (behind (λ filter. filter.arrival) (moment_or_zero session) tables.filters now.0 now.1.filters)) (named session.user sound.user user)
 
 -- a run, in which each document is delivered for the first time
-run-fit : (session : Session) (tables : Tables) (query : Option QueryRow) → ((q : QueryRow) → query ≡ Some q → In q tables.queries) → Sound tables session → missing NoMoment session.moment ≡ None → Fit tables (run_query query session tables)
+run-fit : (session : Session) (tables : Tables) (query : Option QueryRow) → ((q : QueryRow) → query ≡ Some q → In q tables.queries) → IsSound tables session → missing NoMoment session.moment ≡ None → Fit tables (run_query query session tables)
 run-fit session tables None has sound none change e = absurd (no-change change e)
 run-fit session tables (Some q) has sound none change e =
-    let now = at-present tables session sound none in
-    made tables (run_change (truth_of q) (start_of q) tables q.num (present session)) change (run-fits truth_of start_of (present session) tables q sound.kept now.1 now.0.0 now.0.1 (has q refl)) e
+    let now = at-moment_or_zero tables session sound none in
+    made tables (run_change (truth_of q) (start_of q) tables q.num (moment_or_zero session)) change (run-fits truth_of start_of (moment_or_zero session) tables q sound.kept now.1 now.0.0 now.0.1 (has q refl)) e
 
 moment-fit : (second : Option ℤ) (session : Session) (tables : Tables) → Fit tables (set_moment second session)
 moment-fit None session tables change e = absurd (no-change change e)
@@ -171,19 +171,19 @@ ask-fit : (second : Option ℤ) (source : List ℕ) (session : Session) (tables 
 ask-fit None source session tables change e = absurd (no-change change e)
 ask-fit (Some second) source session tables change e = absurd (no-change change e)
 
-command-fits : (command : Command) (session : Session) (tables : Tables) → Sound tables session → Each (λ check. check ≡ None) (checks command session tables) → Fit tables (accepted command session tables)
+command-fits : (command : Command) (session : Session) (tables : Tables) → IsSound tables session → Each (λ check. check ≡ None) (checks command session tables) → Fit tables (accepted command session tables)
 command-fits (Bad refusal) session tables sound pass change e = absurd (no-change change e)
 command-fits (At text) session tables sound pass change e = moment-fit (moment_of text) session tables change e
 command-fits (AsUser name) session tables sound pass change e = absurd (no-change change e)
 command-fits (Mail block) session tables sound pass change e =
-    some-fit tables (next_docs tables (present session) (text_of block ∷ [])) change (texts-fit (text_of block ∷ []) session tables sound pass.0 (mail-short block pass.1.0)) e
+    some-fit tables (next_docs tables (moment_or_zero session) (text_of block ∷ [])) change (texts-fit (text_of block ∷ []) session tables sound pass.0 (mail-short block pass.1.0)) e
 command-fits (Define name source) session tables sound pass change e =
     made tables (OneQuery (next_query tables session name (stored_source source))) change (query-fit name (stored_source source) session tables sound pass.0 pass.1.0 pass.1.1.0 pass.1.1.1.0) e
 command-fits (Run name) session tables sound pass change e =
-    run-fit session tables (query_named (user_of session) name tables) (find-in (is_named (user_of session) name) tables.queries) sound pass.0 change e
+    run-fit session tables (query_named (user_of session) name tables) (find-in (is_query_of (user_of session) name) tables.queries) sound pass.0 change e
 command-fits (BoxOf name) session tables sound pass change e = box-fit (query_named (user_of session) name tables) name session tables change e
 command-fits (Mbox block) session tables sound pass change e =
-    some-fit tables (next_docs tables (present session) (messages_of block)) change (texts-fit (messages_of block) session tables sound pass.0 (unless-holds (are_short (messages_of block)) (Limit Message) pass.1.0)) e
+    some-fit tables (next_docs tables (moment_or_zero session) (messages_of block)) change (texts-fit (messages_of block) session tables sound pass.0 (refuse_unless-holds (are_short (messages_of block)) (Limit Message) pass.1.0)) e
 command-fits (AddNote doc kind value text) session tables sound pass change e =
     made tables (OneNote (next_note tables session doc kind value text)) change (note-fit doc kind value text session tables sound pass.0 pass.1.0 pass.1.1.0 pass.1.1.1.0) e
 command-fits (ListOf name) session tables sound pass change e = list-fit (query_named (user_of session) name tables) name session tables change e
@@ -196,7 +196,7 @@ command-fits (ScoresOf kind) session tables sound pass change e = absurd (no-cha
 command-fits (DigestOf name ordinal) session tables sound pass change e = absurd (no-change change e)
 
 -- the rows that a command adds at a sound point fit
-pub accepted_fits : (tables : Tables) (session : Session) (command : Command) (change : Change) → Sound tables session → (answer_of command session tables).change ≡ Some change → fits tables change ≡ true
+pub accepted_fits : (tables : Tables) (session : Session) (command : Command) (change : Change) → IsSound tables session → (answer_of command session tables).change ≡ Some change → fits tables change ≡ true
 accepted_fits tables session command change sound = go (verdict command session tables) refl where
   go : (v : Option Refusal) → verdict command session tables ≡ v → (answer_by v command session tables).change ≡ Some change → fits tables change ≡ true
   go None none e = command-fits command session tables sound (all-none (checks command session tables) none) change e

@@ -24,9 +24,10 @@ use Rattle.script_lang.specs.declared.refusal.Refusal.{Refusal}
 use Rattle.script_lang.specs.declared.refusal.Refusal.TheVariants.{BadMoment, Backwards, NoMoment}
 use Rattle.tap_model.specs.declared.session.Session.{Session}
 use Rattle.restart_core.specs.Starts.{is_from_now, stored_source}
-use Rattle.tap_model.specs.Sessions.{present, or_zero, user_of, later_of, greatest_of, moments_in, greatest_moment, last_moment}
-use Rattle.tap_model.specs.Queries.{truth_of, start_of, is_named, query_named}
-use Rattle.tap_model.specs.Verdicts.{verdict, first_refusal, missing, unless, is_back, text_of, messages_of}
+use Rattle.tap_model.specs.Sessions.{moment_or_zero, or_zero, user_of, later_of, greatest_of, moments_in, greatest_moment, last_moment}
+use Rattle.tap_model.specs.Queries.{truth_of, start_of, query_named}
+use Rattle.tap_rows.specs.WellFormed.{is_query_of}
+use Rattle.tap_model.specs.Verdicts.{verdict, first_refusal, missing, refuse_unless, is_back, text_of, messages_of}
 use Rattle.tap_model.specs.Replies.{Answer, answer_of, answer_by, accepted, tables_after, set_moment, next_doc, next_note, next_query, next_filter, run_query, show_box, show_list, show_lines, ask_at, docs_from, next_docs, some_docs, add_mbox}
 use Rattle.tap_model.specs.Sound.{IsNow, IsMoment}
 use Rattle.tap_model.proofs.AnswerLaws.{truth-of-second, find-in, second-none}
@@ -52,8 +53,8 @@ first-none : (x : Option Refusal) (rest : List (Option Refusal)) → first_refus
 first-none None rest e = refl
 first-none (Some x) rest e = absurd (some-refusal x e)
 
-pub present-by : (session : Session) → missing NoMoment session.moment ≡ None → Present session
-present-by session none = go session.moment refl where
+pub moment_or_zero-by : (session : Session) → missing NoMoment session.moment ≡ None → Present session
+moment_or_zero-by session none = go session.moment refl where
   go : (moment : Option ℤ) → session.moment ≡ moment → Present session
   go (Some m) is = record { m = m; is = is }
   go None is = absurd (some-refusal NoMoment (sym (ap (missing NoMoment) is) ∙ none))
@@ -134,7 +135,7 @@ not-back : (last second : ℤ) → is_back (Some last) (Some second) ≡ None �
 not-back last second none = go (int_le last second) refl where
   go : (b : Bool) → int_le last second ≡ b → last ≤ℤ second
   go true y = grind (arith, ints)
-  go false n = absurd (some-refusal (Backwards last) (sym (ap (λ b. unless b (Backwards last)) n) ∙ none))
+  go false n = absurd (some-refusal (Backwards last) (sym (ap (λ b. refuse_unless b (Backwards last)) n) ∙ none))
 
 -- the rows are by a moment that is not below the last one
 at-by : (tables : Tables) (session : Session) (m : ℤ) → Held tables session → pos 0 ≤ℤ m → is_back (last_moment session tables) (Some m) ≡ None → IsBy start_of m tables
@@ -165,7 +166,7 @@ mail-held : (block : Block) (session : Session) (tables : Tables) → Held table
 mail-held block session tables held there =
     let m = there.m in
     let now = now-at tables session m there.is held in
-    let doc : Doc = next_doc tables (present session) (text_of block) in
+    let doc : Doc = next_doc tables (moment_or_zero session) (text_of block) in
     let at : doc.arrival ≡ m = ap or_zero there.is in
     let le : doc.arrival ≤ℤ m = subst (λ z. z ≤ℤ m) (sym at) (omega (arith, ints)) in
     let ge : m ≤ℤ doc.arrival = subst (λ z. m ≤ℤ z) (sym at) (omega (arith, ints)) in
@@ -223,11 +224,11 @@ mbox-held : (texts : List (List ℕ)) (session : Session) (tables : Tables) → 
 mbox-held texts session tables held there =
     let m = there.m in
     let now = now-at tables session m there.is held in
-    let at : present session ≡ m = ap or_zero there.is in
-    docs-held (next_docs tables (present session) texts) m session tables held there.is
-    (each-at (λ doc. doc.arrival ≤ℤ m) (length tables.docs + 1) (present session) texts (λ doc e. subst (λ z. z ≤ℤ m) (sym (e ∙ at)) (omega (arith, ints))))
-    (each-at (λ doc. m ≤ℤ doc.arrival) (length tables.docs + 1) (present session) texts (λ doc e. subst (λ z. m ≤ℤ z) (sym (e ∙ at)) (omega (arith, ints))))
-    (arrived-all 1 (pos 0) m (present session) tables.docs texts (length tables.docs + 1) held.kept.docs now.1.docs now.0.0 at (omega arith))
+    let at : moment_or_zero session ≡ m = ap or_zero there.is in
+    docs-held (next_docs tables (moment_or_zero session) texts) m session tables held there.is
+    (each-at (λ doc. doc.arrival ≤ℤ m) (length tables.docs + 1) (moment_or_zero session) texts (λ doc e. subst (λ z. z ≤ℤ m) (sym (e ∙ at)) (omega (arith, ints))))
+    (each-at (λ doc. m ≤ℤ doc.arrival) (length tables.docs + 1) (moment_or_zero session) texts (λ doc e. subst (λ z. m ≤ℤ z) (sym (e ∙ at)) (omega (arith, ints))))
+    (arrived-all 1 (pos 0) m (moment_or_zero session) tables.docs texts (length tables.docs + 1) held.kept.docs now.1.docs now.0.0 at (omega arith))
 
 note-held : (doc : ℕ) (kind : List ℕ) (value : ℤ) (text : List ℕ) (session : Session) (tables : Tables) → Held tables session → Present session → Leaves tables (accepted (AddNote doc kind value text) session tables)
 note-held doc kind value text session tables held there =
@@ -277,7 +278,7 @@ run-held session tables None has held there = held
 run-held session tables (Some q) has held there =
     let m = there.m in
     let now = now-at tables session m there.is held in
-    let at : present session ≡ m = ap or_zero there.is in
+    let at : moment_or_zero session ≡ m = ap or_zero there.is in
     subst (λ z. Leaves tables (record { reply = (run_query (Some q) session tables).reply; session = session; change = Some (run_change (truth_of q) (start_of q) tables q.num z) })) (sym at) (record {
       kept = kept-run truth_of start_of truth-of-second m tables q held.kept now.1 (has q refl);
       now = subst (λ moment. IsNow moment (after tables (run_change (truth_of q) (start_of q) tables q.num m))) (sym there.is) (
@@ -333,15 +334,15 @@ ask-held (Some second) source session tables held = held
 accepted-held : (command : Command) (session : Session) (tables : Tables) → Held tables session → verdict command session tables ≡ None → Leaves tables (accepted command session tables)
 accepted-held (At text) session tables held none = at-held text session tables held none
 accepted-held (AsUser name) session tables held none = record { kept = held.kept; now = held.now }
-accepted-held (Mail block) session tables held none = mail-held block session tables held (present-by session (first-none (missing NoMoment session.moment) _ none))
-accepted-held (Define name source) session tables held none = define-held name source session tables held (present-by session (first-none (missing NoMoment session.moment) _ none))
-accepted-held (Run name) session tables held none = run-held session tables (query_named (user_of session) name tables) (find-in (is_named (user_of session) name) tables.queries) held (present-by session (first-none (missing NoMoment session.moment) _ none))
+accepted-held (Mail block) session tables held none = mail-held block session tables held (moment_or_zero-by session (first-none (missing NoMoment session.moment) _ none))
+accepted-held (Define name source) session tables held none = define-held name source session tables held (moment_or_zero-by session (first-none (missing NoMoment session.moment) _ none))
+accepted-held (Run name) session tables held none = run-held session tables (query_named (user_of session) name tables) (find-in (is_query_of (user_of session) name) tables.queries) held (moment_or_zero-by session (first-none (missing NoMoment session.moment) _ none))
 accepted-held (BoxOf name) session tables held none = box-held session tables (query_named (user_of session) name tables) name held
 accepted-held (Bad refusal) session tables held none = held
-accepted-held (Mbox block) session tables held none = mbox-held (messages_of block) session tables held (present-by session (first-none (missing NoMoment session.moment) _ none))
-accepted-held (AddNote doc kind value text) session tables held none = note-held doc kind value text session tables held (present-by session (first-none (missing NoMoment session.moment) _ none))
+accepted-held (Mbox block) session tables held none = mbox-held (messages_of block) session tables held (moment_or_zero-by session (first-none (missing NoMoment session.moment) _ none))
+accepted-held (AddNote doc kind value text) session tables held none = note-held doc kind value text session tables held (moment_or_zero-by session (first-none (missing NoMoment session.moment) _ none))
 accepted-held (ListOf name) session tables held none = list-held session tables (query_named (user_of session) name tables) name held
-accepted-held (Filter block) session tables held none = filter-held block session tables held (present-by session (first-none (missing NoMoment session.moment) _ none))
+accepted-held (Filter block) session tables held none = filter-held block session tables held (moment_or_zero-by session (first-none (missing NoMoment session.moment) _ none))
 accepted-held (Explain name) session tables held none = lines-held session tables (query_named (user_of session) name tables) name held
 accepted-held (Ask moment source) session tables held none = ask-held (moment_of moment) source session tables held
 accepted-held (Wake name) session tables held none = held

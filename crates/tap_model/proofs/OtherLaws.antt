@@ -12,12 +12,12 @@ use Rattle.script_lang.specs.declared.refusal.Refusal.{Refusal}
 use Rattle.script_lang.specs.declared.refusal.Refusal.TheVariants.{NoUser}
 use Rattle.restart_core.specs.Starts.{stored_source}
 use Rattle.tap_model.specs.declared.session.Session.{Session}
-use Rattle.tap_model.specs.Sessions.{present, user_of, or_empty}
+use Rattle.tap_model.specs.Sessions.{moment_or_zero, user_of, or_empty}
 use Rattle.tap_model.specs.Queries.{query_named}
 use Rattle.tap_model.specs.Verdicts.{verdict, missing, no_moment, no_user, text_of}
 use Rattle.tap_model.specs.Replies.{Answer, answer_of, answer_by, accepted, tables_after, next_query, next_filter, run_query, show_box, show_list, show_lines, ask_at}
 use Rattle.tap_model.specs.Stories.{Step}
-use Rattle.tap_model.specs.Sound.{Sound}
+use Rattle.tap_model.specs.Sound.{IsSound}
 use Rattle.tap_model.specs.Privacy.{is_user, concerns, view_of, Move}
 use Rattle.tap_model.proofs.AnswerLaws.{second-none}
 use Rattle.tap_model.proofs.SoundLaws.{step-sound}
@@ -46,10 +46,10 @@ define-other : (user name source : List ℕ) (s : Session) (t : Tables) → byte
 define-other user name source s t other =
     with-queries user s t (tables_after (accepted (Define name source) s t).change t) refl refl (cores-other user t.runs t.queries (next_query t s name (stored_source source)) other) refl
 
-run-other : (user name : List ℕ) (s : Session) (t : Tables) (q : Option QueryRow) → Sound t s → bytes_eq (user_of s) user ≡ false → query_named (user_of s) name t ≡ q → Leaves user s t (run_query q s t)
+run-other : (user name : List ℕ) (s : Session) (t : Tables) (q : Option QueryRow) → IsSound t s → bytes_eq (user_of s) user ≡ false → query_named (user_of s) name t ≡ q → Leaves user s t (run_query q s t)
 run-other user name s t None sound other is = refl
 run-other user name s t (Some q) sound other is =
-    with-queries user s t (tables_after (run_query (Some q) s t).change t) refl refl (cores-run-other user (user_of s) name t.runs (next_run t q.num (present s)) 1 t.queries q other sound.kept.queries is refl) refl
+    with-queries user s t (tables_after (run_query (Some q) s t).change t) refl refl (cores-run-other user (user_of s) name t.runs (next_run t q.num (moment_or_zero s)) 1 t.queries q other sound.kept.queries is refl) refl
 
 box-other : (user name : List ℕ) (s : Session) (t : Tables) (q : Option QueryRow) → Leaves user s t (show_box q name s t)
 box-other user name s t None = refl
@@ -74,7 +74,7 @@ ask-other user source s t (Some second) = refl
 no-false : true ≡ false → ⊥
 no-false e = cc
 
-accepted-other : (c : Command) (user : List ℕ) (s : Session) (t : Tables) → concerns user s c ≡ false → Sound t s → verdict c s t ≡ None → Leaves user s t (accepted c s t)
+accepted-other : (c : Command) (user : List ℕ) (s : Session) (t : Tables) → concerns user s c ≡ false → IsSound t s → verdict c s t ≡ None → Leaves user s t (accepted c s t)
 accepted-other (At text) user s t other sound none = absurd (no-false other)
 accepted-other (AsUser name) user s t other sound none = refl
 accepted-other (Mail block) user s t other sound none = absurd (no-false other)
@@ -92,7 +92,7 @@ accepted-other (ScoresOf kind) user s t other sound none = refl
 accepted-other (DigestOf name ordinal) user s t other sound none = refl
 accepted-other (Bad refusal) user s t other sound none = refl
 
-answer-other : (c : Command) (user : List ℕ) (s : Session) (t : Tables) → concerns user s c ≡ false → Sound t s → Leaves user s t (answer_of c s t)
+answer-other : (c : Command) (user : List ℕ) (s : Session) (t : Tables) → concerns user s c ≡ false → IsSound t s → Leaves user s t (answer_of c s t)
 answer-other c user s t other sound = go (verdict c s t) refl where
   go : (v : Option Refusal) → verdict c s t ≡ v → Leaves user s t (answer_by v c s t)
   go None none = accepted-other c user s t other sound none

@@ -24,12 +24,12 @@ use Rattle.script_lang.specs.declared.reply.Reply.{Reply}
 use Rattle.script_lang.specs.declared.reply.Reply.TheVariants.{Ran, BoxOf as Boxed, ListOf as Listing, Explain as Explained, Asked, No}
 use Rattle.restart_core.specs.Starts.{stored_source}
 use Rattle.tap_model.specs.declared.session.Session.{Session}
-use Rattle.tap_model.specs.Sessions.{present, user_of}
+use Rattle.tap_model.specs.Sessions.{moment_or_zero, user_of}
 use Rattle.tap_model.specs.Queries.{condition_in, query_named, hits_of, box_in}
 use Rattle.tap_model.specs.Filters.{last_filter, filter_rules, rules_in_text, rules_of_user}
 use Rattle.tap_model.specs.Verdicts.{verdict, text_of, messages_of}
 use Rattle.tap_model.specs.Replies.{Answer, answer_of, answer_by, accepted, tables_after, set_moment, next_query, next_filter, run_query, show_box, show_list, show_lines, some_docs, next_docs, ask_at, add_query, add_filter}
-use Rattle.tap_model.specs.Sound.{Sound}
+use Rattle.tap_model.specs.Sound.{IsSound}
 use Rattle.tap_model.specs.Privacy.{concerns}
 use Rattle.tap_model.proofs.ViewLaws.{Core, core_of, cores, source_in, Brief, brief_of, core_hits, core_entries, core_lines, hits-core, box-core, lines-core}
 use Rattle.tap_model.proofs.CoreLaws.{self-text, cores-new, with_run, cores-run, filter-own}
@@ -69,11 +69,11 @@ at-told : (user : List ℕ) (t o : Tables) (s : Session) (moment : Option ℤ) �
 at-told user t o s None twins = still user t o t s _ twins
 at-told user t o s (Some m) twins = still user t o t (record s { moment = Some m }) _ twins
 
-define-told : (user name source : List ℕ) (t o : Tables) (s : Session) → AreTwins user t o → Sound t s → Sound (twin t o) s → user_of s ≡ user
+define-told : (user name source : List ℕ) (t o : Tables) (s : Session) → AreTwins user t o → IsSound t s → IsSound (twin t o) s → user_of s ≡ user
     → told user t (add_query name source s t) ≡ told user (twin t o) (add_query name source s (twin t o))
 define-told user name source t o s twins sound sound' is =
     let own : bytes_eq (user_of s) user ≡ true = subst (λ u. bytes_eq (user_of s) u ≡ true) is (self-text (user_of s)) in
-    let new : Core = record { name = name; source = stored_source source; arrival = present s; runs = [] } in
+    let new : Core = record { name = name; source = stored_source source; arrival = moment_or_zero s; runs = [] } in
     let queries : cores user t.runs (t.queries ++ next_query t s name (stored_source source) ∷ []) ≡ cores user o.runs (o.queries ++ next_query (twin t o) s name (stored_source source) ∷ []) =
     cores-new user t (next_query t s name (stored_source source)) sound.kept refl own
     ∙ ap (λ cs. cs ++ new ∷ []) twins.queries
@@ -92,18 +92,18 @@ core-some c e = cc
 box-same : (t o : Tables) (q p : QueryRow) → core_of t.runs q ≡ core_of o.runs p → box_in q t ≡ box_in p (twin t o)
 box-same t o q p same = box-core q t ∙ ap (core_entries t.docs t.notes) same ∙ sym (box-core p (twin t o))
 
-run-one : (user name : List ℕ) (t o : Tables) (s : Session) (q p : QueryRow) → AreTwins user t o → Sound t s → Sound (twin t o) s → query_named user name t ≡ Some q → query_named user name o ≡ Some p → core_of t.runs q ≡ core_of o.runs p
+run-one : (user name : List ℕ) (t o : Tables) (s : Session) (q p : QueryRow) → AreTwins user t o → IsSound t s → IsSound (twin t o) s → query_named user name t ≡ Some q → query_named user name o ≡ Some p → core_of t.runs q ≡ core_of o.runs p
     → told user t (run_query (Some q) s t) ≡ told user (twin t o) (run_query (Some p) s (twin t o))
 run-one user name t o s q p twins sound sound' is is' same =
-    let hits : hits_of q t (present s) ≡ hits_of p (twin t o) (present s) = hits-core q t (present s) ∙ ap (λ c. core_hits t.docs t.notes c (present s)) same ∙ sym (hits-core p (twin t o) (present s)) in
+    let hits : hits_of q t (moment_or_zero s) ≡ hits_of p (twin t o) (moment_or_zero s) = hits-core q t (moment_or_zero s) ∙ ap (λ c. core_hits t.docs t.notes c (moment_or_zero s)) same ∙ sym (hits-core p (twin t o) (moment_or_zero s)) in
     let ordinal : length (run_moments q.num.0 t.runs) + 1 ≡ length (run_moments p.num.0 o.runs) + 1 = ap (λ (c : Core). length c.runs + 1) same in
-    let queries : cores user (t.runs ++ next_run t q.num (present s) ∷ []) t.queries ≡ cores user (o.runs ++ next_run (twin t o) p.num (present s) ∷ []) o.queries =
-    cores-run user name t.runs (next_run t q.num (present s)) 1 t.queries q sound.kept.queries is refl
-    ∙ ap (with_run name (present s)) twins.queries
-    ∙ sym (cores-run user name o.runs (next_run (twin t o) p.num (present s)) 1 o.queries p sound'.kept.queries is' refl) in
-    told-same _ _ _ _ (ap (λ n. Ran n (present s) (hits_of q t (present s))) ordinal ∙ ap (Ran (length (run_moments p.num.0 o.runs) + 1) (present s)) hits) (brief-twins t s _ _ _ _ queries twins.filter)
+    let queries : cores user (t.runs ++ next_run t q.num (moment_or_zero s) ∷ []) t.queries ≡ cores user (o.runs ++ next_run (twin t o) p.num (moment_or_zero s) ∷ []) o.queries =
+    cores-run user name t.runs (next_run t q.num (moment_or_zero s)) 1 t.queries q sound.kept.queries is refl
+    ∙ ap (with_run name (moment_or_zero s)) twins.queries
+    ∙ sym (cores-run user name o.runs (next_run (twin t o) p.num (moment_or_zero s)) 1 o.queries p sound'.kept.queries is' refl) in
+    told-same _ _ _ _ (ap (λ n. Ran n (moment_or_zero s) (hits_of q t (moment_or_zero s))) ordinal ∙ ap (Ran (length (run_moments p.num.0 o.runs) + 1) (moment_or_zero s)) hits) (brief-twins t s _ _ _ _ queries twins.filter)
 
-run-told : (user name : List ℕ) (t o : Tables) (s : Session) (q p : Option QueryRow) → AreTwins user t o → Sound t s → Sound (twin t o) s → query_named user name t ≡ q → query_named user name o ≡ p → option_map (core_of t.runs) q ≡ option_map (core_of o.runs) p
+run-told : (user name : List ℕ) (t o : Tables) (s : Session) (q p : Option QueryRow) → AreTwins user t o → IsSound t s → IsSound (twin t o) s → query_named user name t ≡ q → query_named user name o ≡ p → option_map (core_of t.runs) q ≡ option_map (core_of o.runs) p
     → told user t (run_query q s t) ≡ told user (twin t o) (run_query p s (twin t o))
 run-told user name t o s None None twins sound sound' is is' same = answered user t o s _ _ twins refl
 run-told user name t o s (Some q) (Some p) twins sound sound' is is' same = run-one user name t o s q p twins sound sound' is is' (core-same (core_of t.runs q) (core_of o.runs p) same)
@@ -171,11 +171,11 @@ no-true : false ≡ true → ⊥
 no-true e = cc
 
 -- what is accepted
-accepted-told : (c : Command) (user : List ℕ) (s : Session) (t o : Tables) → concerns user s c ≡ true → AreTwins user t o → Sound t s → Sound (twin t o) s → told user t (accepted c s t) ≡ told user (twin t o) (accepted c s (twin t o))
+accepted-told : (c : Command) (user : List ℕ) (s : Session) (t o : Tables) → concerns user s c ≡ true → AreTwins user t o → IsSound t s → IsSound (twin t o) s → told user t (accepted c s t) ≡ told user (twin t o) (accepted c s (twin t o))
 accepted-told (At text) user s t o by twins sound sound' = at-told user t o s (moment_of text) twins
 accepted-told (AsUser name) user s t o by twins sound sound' = absurd (no-true by)
 accepted-told (Mail block) user s t o by twins sound sound' = still user t o (tables_after (accepted (Mail block) s t).change t) s _ twins
-accepted-told (Mbox block) user s t o by twins sound sound' = docs-told user t o s _ (next_docs t (present s) (messages_of block)) twins
+accepted-told (Mbox block) user s t o by twins sound sound' = docs-told user t o s _ (next_docs t (moment_or_zero s) (messages_of block)) twins
 accepted-told (AddNote doc kind value text) user s t o by twins sound sound' = still user t o (tables_after (accepted (AddNote doc kind value text) s t).change t) s _ twins
 accepted-told (Define name source) user s t o by twins sound sound' = define-told user name source t o s twins sound sound' (user-is user s by)
 accepted-told (Run name) user s t o by twins sound sound' =
@@ -194,7 +194,7 @@ accepted-told (DigestOf name ordinal) user s t o by twins sound sound' = still u
 accepted-told (Bad refusal) user s t o by twins sound sound' = still user t o t s _ twins
 
 -- the answer by a verdict
-pub told-alike : (c : Command) (user : List ℕ) (s : Session) (t o : Tables) (m : ℤ) → s.moment ≡ Some m → concerns user s c ≡ true → AreTwins user t o → Sound t s → Sound (twin t o) s
+pub told-alike : (c : Command) (user : List ℕ) (s : Session) (t o : Tables) (m : ℤ) → s.moment ≡ Some m → concerns user s c ≡ true → AreTwins user t o → IsSound t s → IsSound (twin t o) s
     → IsShared (verdict c s t) ⊎ (IsShared (verdict c s (twin t o)) ⊎ (told user t (answer_of c s t) ≡ told user (twin t o) (answer_of c s (twin t o))))
 told-alike c user s t o m at by twins sound sound' = elim (verdict-alike c user s t o m at by twins) [
   | inl shared ↦ inl shared

@@ -20,7 +20,7 @@ use Rattle.tap_rows.specs.Results.{Truth, is_given, first_second, hit_of, at_lea
 use Rattle.tap_rows.specs.Deliveries.{delivered, picked, picks_of, pick_rows, next_run, run_hits, run_change}
 use Rattle.tap_rows.specs.WellFormed.{may_follow, row_at, was_defined, is_picked, comes_after, picks_stand}
 use Rattle.tap_rows.specs.Fits.{last_row, low_of, fits}
-use Rattle.tap_rows.specs.Kept.{Each, In, HasRun, RunsFrom, Rising, KeptQuery, IsKept, IsBy}
+use Rattle.tap_rows.specs.Kept.{Each, In, HasRun, RunsFrom, Rising, IsKeptQuery, IsKept, IsBy}
 use Rattle.tap_rows.proofs.LaterLaws.{each-map, each-append}
 use Rattle.tap_rows.proofs.SecondsLaws.{least_second-within, least_second-more}
 use Rattle.tap_rows.proofs.RunLaws.{rising-le}
@@ -334,8 +334,8 @@ run-fits truth start t tables query kept by positive last has = and_from _ _ (an
   defined : was_defined tables.queries query.num.0 t ≡ true
   defined = rw (placed-row (λ query. query.num.0) tables.queries query (queries-placed 1 tables.queries kept.queries) has) (le-yes query.arrival t starts.0)
 
-  this : KeptQuery truth start tables query
-  this = in-each (KeptQuery truth start tables) tables.queries query has kept.each
+  this : IsKeptQuery truth start tables query
+  this = in-each (IsKeptQuery truth start tables) tables.queries query has kept.each
 
   picks : picks_stand (tables.runs ++ run ∷ []) tables.docs tables.picks (length tables.picks + 1) (last_row tables.picks) (pick_rows (length tables.picks + 1) query.num run.num (run_hits (truth query) (start query) tables query.num.0 t)) ≡ true
   picks =

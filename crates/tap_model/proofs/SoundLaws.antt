@@ -13,38 +13,38 @@ use Rattle.script_lang.specs.declared.command.Command.{Command}
 use Rattle.script_lang.specs.declared.reply.Reply.{Reply}
 use Rattle.restart_core.specs.Starts.{is_from_now}
 use Rattle.tap_model.specs.declared.session.Session.{Session}
-use Rattle.tap_model.specs.Sessions.{no_session, present, or_zero}
+use Rattle.tap_model.specs.Sessions.{no_session, moment_or_zero, or_zero}
 use Rattle.tap_model.specs.Queries.{truth_of, start_of}
 use Rattle.tap_model.specs.Replies.{answer_of, tables_after}
 use Rattle.tap_model.specs.Stories.{Step}
-use Rattle.tap_model.specs.Sound.{Sound, IsStore, IsNow, IsMoment}
+use Rattle.tap_model.specs.Sound.{IsSound, IsStore, IsNow, IsMoment}
 use Rattle.tap_model.proofs.AnswerLaws.{truth-of-second}
 use Rattle.tap_model.proofs.HeldLaws.{answer-held}
 use Rattle.tap_model.proofs.FitLaws.{accepted_fits}
 use Rattle.tap_model.proofs.TextLaws.{answer-read}
 
 -- the rows stand in order after a command
-answer-formed : (command : Command) (session : Session) (tables : Tables) → Sound tables session → is_well_formed (tables_after (answer_of command session tables).change tables) ≡ true
+answer-formed : (command : Command) (session : Session) (tables : Tables) → IsSound tables session → is_well_formed (tables_after (answer_of command session tables).change tables) ≡ true
 answer-formed command session tables sound = go (answer_of command session tables).change (λ change e. accepted_fits tables session command change sound e) where
   go : (o : Option Change) → ((change : Change) → o ≡ Some change → fits tables change ≡ true) → is_well_formed (tables_after o tables) ≡ true
   go None fit = sound.formed
   go (Some change) fit = fits-is tables change sound.formed ∙ fit change refl
 
 -- what an answer leaves is sound
-pub answer-sound : (command : Command) (session : Session) (tables : Tables) → Sound tables session → Sound (tables_after (answer_of command session tables).change tables) (answer_of command session tables).session
+pub answer-sound : (command : Command) (session : Session) (tables : Tables) → IsSound tables session → IsSound (tables_after (answer_of command session tables).change tables) (answer_of command session tables).session
 answer-sound command session tables sound =
     let held = answer-held command session tables (record { kept = sound.kept; now = sound.now }) in
     let read = answer-read command session tables (record { sources = sound.sources; rules = sound.rules; user = sound.user }) in
     record { kept = held.kept; now = held.now; formed = answer-formed command session tables sound; sources = read.sources; rules = read.rules; user = read.user }
 
 -- so does each step of a story
-pub step-sound : (tables : Tables) (session : Session) (command : Command) (reply : Reply) (tables' : Tables) (session' : Session) → Step tables session command reply tables' session' → Sound tables session → Sound tables' session'
+pub step-sound : (tables : Tables) (session : Session) (command : Command) (reply : Reply) (tables' : Tables) (session' : Session) → Step tables session command reply tables' session' → IsSound tables session → IsSound tables' session'
 step-sound tables session command reply tables' session' (inl follows) sound = rw (follows.tables_are, follows.session_is) (answer-sound command session tables sound)
 step-sound tables session command reply tables' session' (inr stays) sound = rw (stays.tables_are, stays.session_is) sound
 
 -- the present moment is one
-pub present-moment : (tables : Tables) (session : Session) → Sound tables session → IsMoment (present session)
-present-moment tables session sound = go session.moment sound.now where
+pub moment_or_zero-moment : (tables : Tables) (session : Session) → IsSound tables session → IsMoment (moment_or_zero session)
+moment_or_zero-moment tables session sound = go session.moment sound.now where
   go : (moment : Option ℤ) → IsNow moment tables → IsMoment (or_zero moment)
   go None now = (omega (arith, ints), omega (arith, ints))
   go (Some m) now = now.0
@@ -55,13 +55,13 @@ unfolding start_of
 start-moment query range = elim (is_from_now query.source) as (λ b. IsMoment (if b then query.arrival else pos 0)) [ true ↦ range | false ↦ (omega (arith, ints), omega (arith, ints)) ]
 
 -- a new session over no rows begins so
-pub sound-start : Sound no_rows no_session
+pub sound-start : IsSound no_rows no_session
 sound-start = record { kept = kept-empty truth_of start_of truth-of-second; now = tt; formed = refl; sources = tt; rules = tt; user = tt }
 
 -- a session leaves tables that another may begin with
-pub sound-store : (tables : Tables) (session : Session) → Sound tables session → IsStore tables
+pub sound-store : (tables : Tables) (session : Session) → IsSound tables session → IsStore tables
 sound-store tables session sound = record { kept = sound.kept; now = tt; formed = sound.formed; sources = sound.sources; rules = sound.rules; user = tt }
 
 -- so do the tables after a command, whoever is told of it
-pub answer-store : (command : Command) (session : Session) (tables : Tables) → Sound tables session → IsStore (tables_after (answer_of command session tables).change tables)
+pub answer-store : (command : Command) (session : Session) (tables : Tables) → IsSound tables session → IsStore (tables_after (answer_of command session tables).change tables)
 answer-store command session tables sound = sound-store (tables_after (answer_of command session tables).change tables) (answer_of command session tables).session (answer-sound command session tables sound)

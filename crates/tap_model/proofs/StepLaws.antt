@@ -14,7 +14,7 @@ use Rattle.tap_model.specs.Queries.{truth_of, start_of}
 use Rattle.tap_model.specs.Verdicts.{verdict}
 use Rattle.tap_model.specs.Replies.{answer_of, answer_by, set_moment}
 use Rattle.tap_model.specs.Stories.{Follows, GivesUp, Step}
-use Rattle.tap_model.specs.Sound.{Sound, IsNow}
+use Rattle.tap_model.specs.Sound.{IsSound, IsNow}
 use Rattle.tap_model.specs.Privacy.{is_shared_reply, concerns, giver, Deed, deed_of, view_of, Move}
 use Rattle.tap_model.proofs.SoundLaws.{step-sound}
 use Rattle.tap_model.proofs.ViewLaws.{Brief, brief_of, brief-same, view-same}
@@ -78,7 +78,7 @@ ends-giver user c s t m u v t' same (inr (inl shared)) = inr (inl (subst IsShare
 ends-giver user c s t m u v t' same (inr (inr e)) = inr (inr (e ∙ giver-told user c m u v t' same))
 
 -- at two points with equal views, with one command
-pub ends-same : (user : List ℕ) (c : Command) (s s' : Session) (t t' : Tables) (m : ℤ) → s.moment ≡ Some m → concerns user s c ≡ true → brief_of user s t ≡ brief_of user s' t' → giver s c ≡ giver s' c → Sound t s → Sound t' s' → Ends user c s t s' t'
+pub ends-same : (user : List ℕ) (c : Command) (s s' : Session) (t t' : Tables) (m : ℤ) → s.moment ≡ Some m → concerns user s c ≡ true → brief_of user s t ≡ brief_of user s' t' → giver s c ≡ giver s' c → IsSound t s → IsSound t' s' → Ends user c s t s' t'
 ends-same user c s s' t t' m at by same giver-is sound sound' =
     let docs : t'.docs ≡ t.docs = sym (ap (λ (b : Brief). b.docs) same) in
     let notes : t'.notes ≡ t.notes = sym (ap (λ (b : Brief). b.notes) same) in
@@ -87,7 +87,7 @@ ends-same user c s s' t t' m at by same giver-is sound sound' =
     let session : s' ≡ session_by s.moment s'.user = ap (λ m. session_by m s'.user) moment in
     let kept : IsKept truth_of start_of (twin t t') = subst (λ t'. IsKept truth_of start_of t') tables sound'.kept in
     let now : IsNow s.moment (twin t t') = subst (λ m. IsNow m (twin t t')) moment (subst (λ t'. IsNow s'.moment t') tables sound'.now) in
-    let there : Sound (twin t t') s = record {
+    let there : IsSound (twin t t') s = record {
       kept = kept;
       now = now;
       formed = subst (λ t'. is_well_formed t' ≡ true) tables sound'.formed;
@@ -115,7 +115,7 @@ gives-up t s c r t' s' stays = ap is_shared_reply stays.reply_is
 follows-told : (user : List ℕ) (t : Tables) (s : Session) (c : Command) (r : Reply) (t' : Tables) (s' : Session) → Follows t s c r t' s' → brief_of user s' t' ≡ (told user t (answer_of c s t)).brief
 follows-told user t s c r t' s' follows = ap (λ s. brief_of user s t') follows.session_is ∙ ap (λ t'. brief_of user (answer_of c s t).session t') follows.tables_are
 
-both-follow : (user : List ℕ) (a b : Move) (c : Command) → Follows a.tables a.session c a.reply a.tables' a.session' → Follows b.tables b.session c b.reply b.tables' b.session' → Sound a.tables' a.session' → Sound b.tables' b.session'
+both-follow : (user : List ℕ) (a b : Move) (c : Command) → Follows a.tables a.session c a.reply a.tables' a.session' → Follows b.tables b.session c b.reply b.tables' b.session' → IsSound a.tables' a.session' → IsSound b.tables' b.session'
     → Ends user c a.session a.tables b.session b.tables → Ended user a.reply a.session' a.tables' b.reply b.session' b.tables'
 both-follow user a b c f g sound sound' (inl shared) = inl (ap is_shared_reply f.reply_is ∙ shared-reply (verdict c a.session a.tables) c a.session a.tables shared)
 both-follow user a b c f g sound sound' (inr (inl shared)) = inr (inl (ap is_shared_reply g.reply_is ∙ shared-reply (verdict c b.session b.tables) c b.session b.tables shared))
@@ -135,10 +135,10 @@ step-same user moment a b at same deed by = go a.step b.step where
   is : b.command ≡ c
   is = sym (ap (λ (d : Deed). d.command) deed)
 
-  after : Sound a.tables' a.session'
+  after : IsSound a.tables' a.session'
   after = step-sound a.tables a.session a.command a.reply a.tables' a.session' a.step a.sound
 
-  after' : Sound b.tables' b.session'
+  after' : IsSound b.tables' b.session'
   after' = step-sound b.tables b.session b.command b.reply b.tables' b.session' b.step b.sound
 
   ends : Ends user c a.session a.tables b.session b.tables

@@ -14,7 +14,7 @@ use Rattle.tap_model.specs.Queries.{query_named}
 use Rattle.tap_model.specs.Verdicts.{verdict}
 use Rattle.tap_model.specs.Replies.{answer_by, accepted, set_moment, run_query, show_box, show_list, show_lines, ask_at}
 use Rattle.tap_model.specs.Stories.{Step, Story}
-use Rattle.tap_model.specs.Sound.{Sound}
+use Rattle.tap_model.specs.Sound.{IsSound}
 use Rattle.tap_model.specs.Privacy.{view_of, is_shared_reply, concerns, Deed, deed_of, Act, Move, Tale, acts_along, acts_of, deeds, replies_in}
 use Rattle.tap_model.proofs.HeldLaws.{Present}
 use Rattle.tap_model.proofs.SoundLaws.{step-sound}
@@ -84,11 +84,11 @@ both-replies r q rs qs e f = rw (e, f) refl
 not-both : (b : Bool) → b ≡ true → b ≡ false → ⊥
 not-both b t f = cc
 
-abbrev move_of : (t : Tables) (s : Session) (c : Command) (r : Reply) (t' : Tables) (s' : Session) → Step t s c r t' s' → Sound t s → Move
+abbrev move_of : (t : Tables) (s : Session) (c : Command) (r : Reply) (t' : Tables) (s' : Session) → Step t s c r t' s' → IsSound t s → Move
 move_of t s c r t' s' step sound = record { tables = t; session = s; command = c; reply = r; tables' = t'; session' = s'; sound = sound; step = step }
 
 -- a story without an act that concerns the user leaves what the user sees
-no-acts : (user : List ℕ) (t : Tables) (s : Session) (cs : List Command) (rs : List Reply) (t' : Tables) (s' : Session) (story : Story t s cs rs t' s') → Sound t s → deeds (acts_along user t s cs rs t' s' story) ≡ []
+no-acts : (user : List ℕ) (t : Tables) (s : Session) (cs : List Command) (rs : List Reply) (t' : Tables) (s' : Session) (story : Story t s cs rs t' s') → IsSound t s → deeds (acts_along user t s cs rs t' s' story) ≡ []
     → (replies_in (acts_along user t s cs rs t' s' story) ≡ []) × (view_of user s' t' ≡ view_of user s t)
 no-acts user t s [] [] t' s' story sound none = (refl, ap (λ s. view_of user s t') story.1 ∙ ap (view_of user s) story.0)
 no-acts user t s [] (r ∷ rs) t' s' story sound none = absurd story
@@ -110,7 +110,7 @@ no-acts user t s (c ∷ cs) (r ∷ rs) t' s' story sound none =
 abbrev AgreesWithAll : List ℕ → List Act → Session → Tables → Session → Tables → Type 0
 AgreesWithAll user acts s t s' t' =
     (u : Tables) (v : Session) (ds : List Command) (qs : List Reply) (u' : Tables) (v' : Session) (story : Story u v ds qs u' v')
-    → Sound u v → view_of user s t ≡ view_of user v u → deeds acts ≡ deeds (acts_along user u v ds qs u' v' story) → Unshared (acts_along user u v ds qs u' v' story)
+    → IsSound u v → view_of user s t ≡ view_of user v u → deeds acts ≡ deeds (acts_along user u v ds qs u' v' story) → Unshared (acts_along user u v ds qs u' v' story)
     → (replies_in acts ≡ replies_in (acts_along user u v ds qs u' v' story)) × (view_of user s' t' ≡ view_of user v' u')
 
 -- an act before them
@@ -124,7 +124,7 @@ act-before user a acts s' t' by there plain rest u v (d ∷ ds) (q ∷ qs) u' v'
       b : Move
       b = move_of u v d q story.0 story.1 story.2 sound
 
-      mid : Sound story.0 story.1
+      mid : IsSound story.0 story.1
       mid = step-sound u v d q story.0 story.1 story.2 sound
 
       act : Act
@@ -151,7 +151,7 @@ act-before user a acts s' t' by there plain rest u v (d ∷ ds) (q ∷ qs) u' v'
       ]
 
 -- the acts of a story agree with those of each other one
-agrees : (user : List ℕ) (t : Tables) (s : Session) (cs : List Command) (rs : List Reply) (t' : Tables) (s' : Session) (story : Story t s cs rs t' s') → Sound t s → Present s → Unshared (acts_along user t s cs rs t' s' story)
+agrees : (user : List ℕ) (t : Tables) (s : Session) (cs : List Command) (rs : List Reply) (t' : Tables) (s' : Session) (story : Story t s cs rs t' s') → IsSound t s → Present s → Unshared (acts_along user t s cs rs t' s' story)
     → AgreesWithAll user (acts_along user t s cs rs t' s' story) s t s' t'
 agrees user t s [] [] t' s' story sound there plain = λ u v ds qs u' v' story' sound' same deed plain'.
     let none = no-acts user u v ds qs u' v' story' sound' (sym deed) in

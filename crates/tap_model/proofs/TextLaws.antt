@@ -12,7 +12,7 @@ use Rattle.script_lang.specs.declared.refusal.Refusal.{Refusal}
 use Rattle.restart_core.specs.Starts.{condition_text, stored_source}
 use Rattle.restart_core.proofs.StartLaws.{stored-text}
 use Rattle.tap_model.specs.declared.session.Session.{Session}
-use Rattle.tap_model.specs.Sessions.{present, user_of}
+use Rattle.tap_model.specs.Sessions.{moment_or_zero, user_of}
 use Rattle.tap_model.specs.Queries.{query_named}
 use Rattle.tap_model.specs.Verdicts.{verdict, checks, text_fault, filter_fault, text_of, messages_of}
 use Rattle.tap_model.specs.Replies.{Answer, answer_of, answer_by, accepted, tables_after, set_moment, next_docs, some_docs, next_query, next_filter, run_query, show_box, show_list, show_lines, ask_at}
@@ -59,7 +59,7 @@ accepted-read : (command : Command) (session : Session) (tables : Tables) → Re
 accepted-read (Bad refusal) session tables read pass = read
 accepted-read (At text) session tables read pass = moment-read (moment_of text) session tables read
 accepted-read (AsUser name) session tables read pass = record { sources = read.sources; rules = read.rules; user = name-is name pass.0 }
-accepted-read (Mail block) session tables read pass = docs-read (next_docs tables (present session) (text_of block ∷ [])) session tables read
+accepted-read (Mail block) session tables read pass = docs-read (next_docs tables (moment_or_zero session) (text_of block ∷ [])) session tables read
 accepted-read (Define name source) session tables read pass = record {
   sources = each-append (λ query. text_fault (condition_text query.source) ≡ None) tables.queries (next_query tables session name (stored_source source) ∷ []) read.sources (ap text_fault (stored-text source) ∙ pass.1.1.1.1.0, tt);
   rules = read.rules;
@@ -67,7 +67,7 @@ accepted-read (Define name source) session tables read pass = record {
 }
 accepted-read (Run name) session tables read pass = run-read (query_named (user_of session) name tables) session tables read
 accepted-read (BoxOf name) session tables read pass = box-read (query_named (user_of session) name tables) name session tables read
-accepted-read (Mbox block) session tables read pass = docs-read (next_docs tables (present session) (messages_of block)) session tables read
+accepted-read (Mbox block) session tables read pass = docs-read (next_docs tables (moment_or_zero session) (messages_of block)) session tables read
 accepted-read (AddNote doc kind value text) session tables read pass = record { sources = read.sources; rules = read.rules; user = read.user }
 accepted-read (ListOf name) session tables read pass = list-read (query_named (user_of session) name tables) name session tables read
 accepted-read (Filter block) session tables read pass = record {

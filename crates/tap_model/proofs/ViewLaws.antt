@@ -12,12 +12,13 @@ use Rattle.tap_rows.specs.declared.rows.RunRow.{RunRow}
 use Rattle.tap_rows.specs.declared.results.Hit.{Hit}
 use Rattle.tap_rows.specs.declared.results.Entry.{Entry}
 use Rattle.tap_rows.specs.Results.{run_moments, covered, last_or, fresh_in, union_until, entries_from}
-use Rattle.tap_rows.specs.Kept.{Each, KeptQuery}
+use Rattle.tap_rows.specs.Kept.{Each, IsKeptQuery}
 use Rattle.tap_rows.proofs.LaterLaws.{fresh-later, grown-same}
 use Rattle.tap_model.specs.declared.session.Session.{Session}
-use Rattle.tap_model.specs.Queries.{truth_of, start_of, is_named, hits_of, box_in, lines_of}
+use Rattle.tap_model.specs.Queries.{truth_of, start_of, hits_of, box_in, lines_of}
+use Rattle.tap_rows.specs.WellFormed.{is_query_of}
 use Rattle.tap_model.specs.Filters.{last_filter}
-use Rattle.tap_model.specs.Sound.{Sound}
+use Rattle.tap_model.specs.Sound.{IsSound}
 use Rattle.tap_model.specs.Privacy.{QueryView, query_view, owned_queries, View, view_of}
 use Rattle.tap_model.proofs.AnswerLaws.{truth-of-second}
 
@@ -111,10 +112,10 @@ full_query docs notes core = record { name = core.name; source = core.source; ar
 abbrev full_view : Brief → View
 full_view brief = record { docs = brief.docs; notes = brief.notes; queries = map (full_query brief.docs brief.notes) brief.queries; filter = brief.filter; moment = brief.moment }
 
-full-one : (q : QueryRow) (t : Tables) → KeptQuery truth_of start_of t q → query_view t q ≡ full_query t.docs t.notes (core_of t.runs q)
+full-one : (q : QueryRow) (t : Tables) → IsKeptQuery truth_of start_of t q → query_view t q ≡ full_query t.docs t.notes (core_of t.runs q)
 full-one q t kept = ap (λ entries. record { name = q.name; source = q.source; arrival = q.arrival; runs = run_moments q.num.0 t.runs; entries = entries }) (kept.box ∙ box-core q t)
 
-full-queries : (user : List ℕ) (t : Tables) (qs : List QueryRow) → Each (KeptQuery truth_of start_of t) qs → map (query_view t) (filter (λ query. bytes_eq query.owner user) qs) ≡ map (full_query t.docs t.notes) (cores user t.runs qs)
+full-queries : (user : List ℕ) (t : Tables) (qs : List QueryRow) → Each (IsKeptQuery truth_of start_of t) qs → map (query_view t) (filter (λ query. bytes_eq query.owner user) qs) ≡ map (full_query t.docs t.notes) (cores user t.runs qs)
 full-queries user t [] each = refl
 full-queries user t (q ∷ qs) each = go (bytes_eq q.owner user) (full-queries user t qs each.1) where
   both : (x y : QueryView) (xs ys : List QueryView) → x ≡ y → xs ≡ ys → x ∷ xs ≡ y ∷ ys
@@ -125,19 +126,19 @@ full-queries user t (q ∷ qs) each = go (bytes_eq q.owner user) (full-queries u
   go true rest = both _ _ _ _ (full-one q t each.0) rest
   go false rest = rest
 
-view-is : (user : List ℕ) (s : Session) (t : Tables) → Sound t s → view_of user s t ≡ full_view (brief_of user s t)
+view-is : (user : List ℕ) (s : Session) (t : Tables) → IsSound t s → view_of user s t ≡ full_view (brief_of user s t)
 view-is user s t sound = ap (λ qs. record { docs = t.docs; notes = t.notes; queries = qs; filter = source_in t user; moment = s.moment }) (full-queries user t t.queries sound.kept.each)
 
 -- at sound points what is equal without deliveries is equal with them
-pub view-same : (user : List ℕ) (s s' : Session) (t t' : Tables) → Sound t s → Sound t' s' → brief_of user s t ≡ brief_of user s' t' → view_of user s t ≡ view_of user s' t'
+pub view-same : (user : List ℕ) (s s' : Session) (t t' : Tables) → IsSound t s → IsSound t' s' → brief_of user s t ≡ brief_of user s' t' → view_of user s t ≡ view_of user s' t'
 view-same user s s' t t' sound sound' same = view-is user s t sound ∙ ap full_view same ∙ sym (view-is user s' t' sound')
 
 -- the user's query of a name is the first core of that name
-pub named-core : (user name : List ℕ) (runs : List RunRow) (qs : List QueryRow) → option_map (core_of runs) (find (is_named user name) qs) ≡ find (λ core. bytes_eq core.name name) (cores user runs qs)
+pub named-core : (user name : List ℕ) (runs : List RunRow) (qs : List QueryRow) → option_map (core_of runs) (find (is_query_of user name) qs) ≡ find (λ core. bytes_eq core.name name) (cores user runs qs)
 named-core user name runs [] = refl
 named-core user name runs (q ∷ qs) = go (bytes_eq q.owner user) (bytes_eq q.name name) refl (named-core user name runs qs) where
-  go : (a b : Bool) → bytes_eq q.name name ≡ b → option_map (core_of runs) (find (is_named user name) qs) ≡ find (λ core. bytes_eq core.name name) (cores user runs qs)
-      → option_map (core_of runs) (if a && b then Some q else find (is_named user name) qs) ≡ find (λ core. bytes_eq core.name name) (map (core_of runs) (if a then q ∷ filter (λ query. bytes_eq query.owner user) qs else filter (λ query. bytes_eq query.owner user) qs))
+  go : (a b : Bool) → bytes_eq q.name name ≡ b → option_map (core_of runs) (find (is_query_of user name) qs) ≡ find (λ core. bytes_eq core.name name) (cores user runs qs)
+      → option_map (core_of runs) (if a && b then Some q else find (is_query_of user name) qs) ≡ find (λ core. bytes_eq core.name name) (map (core_of runs) (if a then q ∷ filter (λ query. bytes_eq query.owner user) qs else filter (λ query. bytes_eq query.owner user) qs))
   go true true e rest = rw e refl
   go true false e rest = rw e rest
   go false true e rest = rest

@@ -13,7 +13,7 @@ use Rattle.tap_rows.specs.declared.results.Hit.{Hit}
 use Rattle.tap_base.specs.Names.{is_name}
 use Rattle.tap_rows.specs.Arrivals.{Arrived}
 use Rattle.tap_rows.specs.WellFormed.{may_follow, is_query_of, query_stands, queries_stand, docs_stand, notes_stand, runs_stand, picks_stand, filters_stand, is_well_formed}
-use Rattle.tap_rows.specs.Kept.{Each, In, Rising, KeptQuery}
+use Rattle.tap_rows.specs.Kept.{Each, In, Rising, IsKeptQuery}
 use Rattle.tap_rows.specs.Results.{Truth, is_given, first_second, hit_of, at_least, hits_by, put_in, is_before, in_order, run_of, entry_at, entries_of, entries_from, last_or, run_moments, covered, union_until, fresh_in, box_of}
 use Rattle.tap_rows.specs.Seconds.{least_second}
 use Rattle.tap_rows.specs.Deliveries.{delivered}
@@ -44,7 +44,7 @@ use Rattle.monotone_rewrite.proofs.Windows.{distinct_is_union}
 use Rattle.restart_core.specs.Starts.{is_from_now, condition_text}
 use Rattle.tap_model.specs.declared.session.Session.{Session}
 use Rattle.tap_model.specs.Queries.{or_never, condition_in, condition_by, truth_of, start_of, probes_in, hits_of}
-use Rattle.tap_model.specs.Sound.{Sound}
+use Rattle.tap_model.specs.Sound.{IsSound}
 use Rattle.tap_model.specs.WindowRuns.{is_delivered, asked_rows, found_since, RunsAreWindows}
 
 -- two tests that pass alike
@@ -236,7 +236,7 @@ from-start truth tables d start t = go (first_second truth tables d start t) ref
   go (Some f) e = rw (le-yes start f (least_second-within (is_given truth tables d) start t f e).0) refl
 
 -- what was delivered are the documents that were given before the last run
-delivered-before : (truth : QueryRow → Truth) (start : QueryRow → ℤ) (tables : Tables) (query : QueryRow) (d : Doc) → KeptQuery truth start tables query → Arrived 1 (pos 0) tables.docs → In d tables.docs
+delivered-before : (truth : QueryRow → Truth) (start : QueryRow → ℤ) (tables : Tables) (query : QueryRow) (d : Doc) → IsKeptQuery truth start tables query → Arrived 1 (pos 0) tables.docs → In d tables.docs
     → is_delivered (delivered query.num.0 tables) d ≡ is_some (first_second (truth query) tables d (start query) (covered (start query) query.num.0 tables.runs))
 delivered-before truth start tables query d kept arrived has =
     let last = covered (start query) query.num.0 tables.runs in
@@ -318,7 +318,7 @@ start-positive : (query : QueryRow) → pos 0 ≤ℤ query.arrival → pos 0 ≤
 unfolding start_of
 start-positive query le = elim (is_from_now query.source) as (λ b. pos 0 ≤ℤ (if b then query.arrival else pos 0)) [ true ↦ le | false ↦ omega (arith, ints) ]
 
-pub run-is-window : (tables : Tables) (query : QueryRow) (moment : ℤ) → KeptQuery truth_of start_of tables query → Arrived 1 (pos 0) tables.docs → pos 0 ≤ℤ start_of query
+pub run-is-window : (tables : Tables) (query : QueryRow) (moment : ℤ) → IsKeptQuery truth_of start_of tables query → Arrived 1 (pos 0) tables.docs → pos 0 ≤ℤ start_of query
     → covered (start_of query) query.num.0 tables.runs ≤ℤ moment → found_since query tables moment ≡ hits_of query tables moment
 run-is-window tables query moment kept arrived positive le =
     let start = start_of query in
@@ -342,7 +342,7 @@ queries-late earlier place low (x ∷ queries) query stand le (inr has) =
 
 pub run-of-sound : RunsAreWindows
 run-of-sound tables session query moment sound has le =
-    run-is-window tables query moment (each-in (KeptQuery truth_of start_of tables) tables.queries query sound.kept.each has) sound.kept.docs (start-positive query (late tables query sound.formed has)) le
+    run-is-window tables query moment (each-in (IsKeptQuery truth_of start_of tables) tables.queries query sound.kept.each has) sound.kept.docs (start-positive query (late tables query sound.formed has)) le
   where
     late : (tables : Tables) (query : QueryRow) → is_well_formed tables ≡ true → In query tables.queries → pos 0 ≤ℤ query.arrival
     late t query formed has =

@@ -15,22 +15,22 @@ use Rattle.tap_model.specs.declared.session.Session.{Session}
 use Rattle.tap_model.specs.Sessions.{no_session}
 use Rattle.tap_model.specs.Replies.{answer_of}
 use Rattle.tap_model.specs.Stories.{Step, next_tables}
-use Rattle.tap_model.specs.Sound.{Sound, IsStore}
+use Rattle.tap_model.specs.Sound.{IsSound, IsStore}
 
 -- a new session over no rows is sound, and each step keeps that
 pub record StepsAreSound : Type 0 where
-  pub first : Sound no_rows no_session
-  pub next : (tables : Tables) (session : Session) (command : Command) (reply : Reply) (tables' : Tables) (session' : Session) → Step tables session command reply tables' session' → Sound tables session → Sound tables' session'
+  pub first : IsSound no_rows no_session
+  pub next : (tables : Tables) (session : Session) (command : Command) (reply : Reply) (tables' : Tables) (session' : Session) → Step tables session command reply tables' session' → IsSound tables session → IsSound tables' session'
 
 -- at a sound point the rows that a command adds stand in order behind those of the tables
 abbrev pub AcceptedChangesFit : Type 0
 AcceptedChangesFit =
     (tables : Tables) (session : Session) (command : Command) (change : Change)
-    → Sound tables session → (answer_of command session tables).change ≡ Some change → fits tables change ≡ true
+    → IsSound tables session → (answer_of command session tables).change ≡ Some change → fits tables change ≡ true
 
 -- a session may begin with the tables that any other left
 abbrev pub SessionsLeaveStores : Type 0
-SessionsLeaveStores = (tables : Tables) (session : Session) → Sound tables session → IsStore tables
+SessionsLeaveStores = (tables : Tables) (session : Session) → IsSound tables session → IsStore tables
 
 -- each step leads to the tables after its reply
 abbrev pub StepsLeadToNextTables : Type 0

@@ -31,5 +31,5 @@ abbrev pub new_users : List ℕ → Tables → ℕ
 new_users user tables = if holds (owners_in tables) user then 0 else 1
 
 -- the limit, if it would be passed by so many more; a count that stays passes none
-abbrev pub passes : LimitName → ℕ → ℕ → ℕ → Option Refusal
-passes name limit count more = if (more == 0) || nat_le (count + more) limit then None else Some (Limit name)
+abbrev pub limit_refusal : LimitName → ℕ → ℕ → ℕ → Option Refusal
+limit_refusal name limit count more = if (more == 0) || nat_le (count + more) limit then None else Some (Limit name)

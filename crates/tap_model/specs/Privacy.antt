@@ -19,7 +19,7 @@ use Rattle.script_lang.specs.declared.reply.Reply.TheVariants.{No}
 use Rattle.tap_model.specs.declared.session.Session.{Session}
 use Rattle.tap_model.specs.Filters.{last_filter}
 use Rattle.tap_model.specs.Stories.{Step, Story}
-use Rattle.tap_model.specs.Sound.{Sound}
+use Rattle.tap_model.specs.Sound.{IsSound}
 
 -- a query as its user sees it: the moments of its runs, and what they delivered
 pub record QueryView : Type 0 where
@@ -117,7 +117,7 @@ pub record Move : Type 0 where
   pub reply : Reply
   pub tables' : Tables
   pub session' : Session
-  pub sound : Sound tables session
+  pub sound : IsSound tables session
   pub step : Step tables session command reply tables' session'
 
 -- a story from a sound point
@@ -128,7 +128,7 @@ pub record Tale : Type 0 where
   pub replies : List Reply
   pub tables' : Tables
   pub session' : Session
-  pub sound : Sound tables session
+  pub sound : IsSound tables session
   pub story : Story tables session commands replies tables' session'
 
 -- the acts along a story that concern the user

@@ -5,6 +5,7 @@ use Rattle.tap_rows.specs.declared.tables.Tables.{Tables}
 use Rattle.tap_rows.specs.declared.rows.QueryRow.{QueryRow}
 use Rattle.tap_rows.specs.declared.results.Hit.{Hit}
 use Rattle.tap_rows.specs.declared.results.Entry.{Entry}
+use Rattle.tap_rows.specs.WellFormed.{is_query_of}
 use Rattle.tap_rows.specs.Results.{Truth, box_of}
 use Rattle.tap_rows.specs.Deliveries.{run_hits}
 use Rattle.tql_core.specs.Condition.{Condition, Never}
@@ -46,13 +47,9 @@ probes_in query = distinct_probes (window (condition_by query) (start_of query))
 abbrev pub lines_of : QueryRow → List (List ℕ)
 lines_of query = explain_lines (probes_in query)
 
--- is it this user's query of this name?
-abbrev pub is_named : List ℕ → List ℕ → QueryRow → Bool
-is_named owner name query = bytes_eq query.owner owner && bytes_eq query.name name
-
 -- the user's query of this name
 abbrev pub query_named : List ℕ → List ℕ → Tables → Option QueryRow
-query_named owner name tables = find (is_named owner name) tables.queries
+query_named owner name tables = find (is_query_of owner name) tables.queries
 
 -- what a run of the query at this moment delivers
 abbrev pub hits_of : QueryRow → Tables → ℤ → List Hit

@@ -19,7 +19,7 @@ use Rattle.script_lang.specs.declared.refusal.Refusal.TheVariants.{NotBuilt, Bad
 use Rattle.script_lang.specs.declared.reply.Reply.{Reply}
 use Rattle.script_lang.specs.declared.reply.Reply.TheVariants.{At as SetAt, AsUser as SetUser, OneDoc, OneNote as NoteAdded, Defined, Ran, BoxOf as Boxed, ListOf as Listing, Filter as FilterAdded, Explain as Explained, Asked, No, Docs as DocsAdded}
 use Rattle.tap_model.specs.declared.session.Session.{Session}
-use Rattle.tap_model.specs.Sessions.{present, user_of}
+use Rattle.tap_model.specs.Sessions.{moment_or_zero, user_of}
 use Rattle.tap_model.specs.Queries.{condition_in, truth_of, start_of, query_named, hits_of, box_in, lines_of}
 use Rattle.appraiser.specs.Listings.{listing_of}
 use Rattle.tap_model.specs.Filters.{rules_in_text, rules_of_user}
@@ -54,7 +54,7 @@ abbrev pub add_mail : List ℕ → Session → Tables → Answer
 add_mail text session tables = record {
   reply = OneDoc (record { 0 = length tables.docs + 1 });
   session = session;
-  change = Some (Docs (next_doc tables (present session) text ∷ []));
+  change = Some (Docs (next_doc tables (moment_or_zero session) text ∷ []));
 }
 
 -- documents with these texts, numbered from this one on
@@ -76,13 +76,13 @@ abbrev pub add_mbox : List (List ℕ) → Session → Tables → Answer
 add_mbox texts session tables = record {
   reply = DocsAdded (length texts) (length tables.docs + 1);
   session = session;
-  change = some_docs (next_docs tables (present session) texts);
+  change = some_docs (next_docs tables (moment_or_zero session) texts);
 }
 
 -- the next query
 abbrev pub next_query : Tables → Session → List ℕ → List ℕ → QueryRow
 next_query tables session name source =
-    record { num = record { 0 = length tables.queries + 1 }; owner = user_of session; name = name; source = source; arrival = present session }
+    record { num = record { 0 = length tables.queries + 1 }; owner = user_of session; name = name; source = source; arrival = moment_or_zero session }
 
 -- a query of the user
 abbrev pub add_query : List ℕ → List ℕ → Session → Tables → Answer
@@ -100,7 +100,7 @@ next_note tables session doc kind value text = record {
   author = user_of session;
   kind = kind;
   value = value;
-  arrival = present session;
+  arrival = moment_or_zero session;
   text = text;
 }
 
@@ -116,9 +116,9 @@ add_note doc kind value text session tables = record {
 abbrev pub run_query : Option QueryRow → Session → Tables → Answer
 run_query None session tables = refused NoQuery session
 run_query (Some query) session tables = record {
-  reply = Ran (length (run_moments query.num.0 tables.runs) + 1) (present session) (hits_of query tables (present session));
+  reply = Ran (length (run_moments query.num.0 tables.runs) + 1) (moment_or_zero session) (hits_of query tables (moment_or_zero session));
   session = session;
-  change = Some (run_change (truth_of query) (start_of query) tables query.num (present session));
+  change = Some (run_change (truth_of query) (start_of query) tables query.num (moment_or_zero session));
 }
 
 -- the box of this query
@@ -143,7 +143,7 @@ show_lines (Some query) name session tables = record { reply = Explained name (l
 -- the next filter
 abbrev pub next_filter : Tables → Session → List ℕ → FilterRow
 next_filter tables session source =
-    record { num = length tables.filters + 1; owner = user_of session; source = source; arrival = present session }
+    record { num = length tables.filters + 1; owner = user_of session; source = source; arrival = moment_or_zero session }
 
 -- a filter of the user with this text
 abbrev pub add_filter : List ℕ → Session → Tables → Answer

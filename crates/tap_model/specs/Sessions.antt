@@ -19,8 +19,8 @@ or_empty None = []
 or_empty (Some text) = text
 
 -- the session's moment
-abbrev pub present : Session → ℤ
-present session = or_zero session.moment
+abbrev pub moment_or_zero : Session → ℤ
+moment_or_zero session = or_zero session.moment
 
 -- the session's user
 abbrev pub user_of : Session → List ℕ

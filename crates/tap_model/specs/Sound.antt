@@ -27,7 +27,7 @@ IsUser (Some name) = is_name name ≡ true
 
 -- the rows stand in order, with each query's deliveries equal to its box; the session's moment is not below them; the texts
 -- of queries and filters can be read; and the session's user is a name
-pub record Sound (tables : Tables) (session : Session) : Type 0 where
+pub record IsSound (tables : Tables) (session : Session) : Type 0 where
   pub kept : IsKept truth_of start_of tables
   pub now : IsNow session.moment tables
   pub formed : is_well_formed tables ≡ true
@@ -37,4 +37,4 @@ pub record Sound (tables : Tables) (session : Session) : Type 0 where
 
 -- tables that a session may begin with: those that one left
 abbrev pub IsStore : Tables → Type 0
-IsStore tables = Sound tables no_session
+IsStore tables = IsSound tables no_session

@@ -28,9 +28,9 @@ use Rattle.appraiser.specs.RuleTexts.{rules_of}
 use Rattle.restart_core.specs.Starts.{condition_text, stored_source}
 use Rattle.tap_model.specs.declared.session.Session.{Session}
 use Rattle.tap_model.specs.declared.limits.TheConstants.{DOCUMENT_LIMIT, NOTE_TEXT_LIMIT, NOTE_LIMIT, USER_QUERY_LIMIT, QUERY_LIMIT, USER_LIMIT, FILTER_ROW_LIMIT, RUN_LIMIT, PICK_LIMIT, STORE_LIMIT}
-use Rattle.tap_model.specs.Sessions.{present, user_of, last_moment}
+use Rattle.tap_model.specs.Sessions.{moment_or_zero, user_of, last_moment}
 use Rattle.tap_model.specs.Queries.{query_named, hits_of}
-use Rattle.tap_model.specs.Limits.{stored_bytes, owners_in, different, queries_of, new_users, passes}
+use Rattle.tap_model.specs.Limits.{stored_bytes, owners_in, different, queries_of, new_users, limit_refusal}
 
 -- the first refusal of some checks
 abbrev pub first_refusal : List (Option Refusal) → Option Refusal
@@ -44,8 +44,8 @@ missing refusal None = Some refusal
 missing refusal (Some x) = None
 
 -- refused unless this holds
-abbrev pub unless : Bool → Refusal → Option Refusal
-unless holds refusal = if holds then None else Some refusal
+abbrev pub refuse_unless : Bool → Refusal → Option Refusal
+refuse_unless holds refusal = if holds then None else Some refusal
 
 abbrev pub no_moment : Session → Option Refusal
 no_moment session = missing NoMoment session.moment
@@ -54,7 +54,7 @@ abbrev pub no_user : Session → Option Refusal
 no_user session = missing NoUser session.user
 
 unfoldable pub bad_name : List ℕ → Option Refusal
-bad_name name = unless (is_name name) BadName
+bad_name name = refuse_unless (is_name name) BadName
 
 -- the refusal of a text's fault
 abbrev pub fault_refusal : TextFault → Option Refusal
@@ -76,17 +76,17 @@ text_fault text = reading_refusal (condition_of text)
 abbrev pub is_back : Option ℤ → Option ℤ → Option Refusal
 is_back None second = None
 is_back (Some last) None = None
-is_back (Some last) (Some second) = unless (int_le last second) (Backwards last)
+is_back (Some last) (Some second) = refuse_unless (int_le last second) (Backwards last)
 
 -- a second that isn't below the present one
 abbrev pub not_over : Option ℤ → Option ℤ → Option Refusal
 not_over None now = None
 not_over (Some second) None = None
-not_over (Some second) (Some now) = unless (int_lt second now) (NotOver now)
+not_over (Some second) (Some now) = refuse_unless (int_lt second now) (NotOver now)
 
 -- the user has a query of this name
 abbrev pub taken : Session → List ℕ → Tables → Option Refusal
-taken session name tables = unless (is_none (query_named (user_of session) name tables)) Taken
+taken session name tables = refuse_unless (is_none (query_named (user_of session) name tables)) Taken
 
 -- the user has no query of this name
 abbrev pub no_query : Session → List ℕ → Tables → Option Refusal
@@ -95,7 +95,7 @@ no_query session name tables = missing NoQuery (query_named (user_of session) na
 -- a message that is too long
 abbrev pub too_long : Block → Option Refusal
 too_long Long = Some (Limit Message)
-too_long (Whole text) = unless (nat_le (length text) MESSAGE_LIMIT) (Limit Message)
+too_long (Whole text) = refuse_unless (nat_le (length text) MESSAGE_LIMIT) (Limit Message)
 
 -- the messages of a mailbox file; a block that is too long has none
 abbrev pub messages_of : Block → List (List ℕ)
@@ -108,7 +108,7 @@ are_short messages = list_all (λ message. nat_le (length message) MESSAGE_LIMIT
 
 -- one of the messages is too long
 abbrev pub long_message : List (List ℕ) → Option Refusal
-long_message messages = unless (are_short messages) (Limit Message)
+long_message messages = refuse_unless (are_short messages) (Limit Message)
 
 -- a mailbox file that is too long
 abbrev pub long_block : Block → Option Refusal
@@ -121,11 +121,11 @@ bytes_of messages = sum_by length messages
 
 -- a number that is no document's, where there are so many
 unfoldable pub no_doc : ℕ → ℕ → Option Refusal
-no_doc doc count = unless (nat_le 1 doc && nat_le doc count) NoDoc
+no_doc doc count = refuse_unless (nat_le 1 doc && nat_le doc count) NoDoc
 
 -- a note of so many bytes that is too long
 unfoldable pub long_note : ℕ → Option Refusal
-long_note len = unless (nat_le len NOTE_TEXT_LIMIT) (Limit Note)
+long_note len = refuse_unless (nat_le len NOTE_TEXT_LIMIT) (Limit Note)
 
 -- the refusal of a fault of a filter's text
 abbrev pub rule_refusal : RuleFault → Option Refusal
@@ -144,7 +144,7 @@ filter_fault source = rules_refusal (rules_of source)
 -- a filter's block that is too long
 abbrev pub long_filter : Block → Option Refusal
 long_filter Long = Some (Limit BlockLimit)
-long_filter (Whole text) = unless (nat_le (length text) FILTER_LIMIT) (Limit BlockLimit)
+long_filter (Whole text) = refuse_unless (nat_le (length text) FILTER_LIMIT) (Limit BlockLimit)
 
 -- the text of a block; one that is too long has none
 abbrev pub text_of : Block → List ℕ
@@ -158,7 +158,7 @@ hits_found (Some query) tables moment = hits_of query tables moment
 
 -- how many documents a run of the user's query of this name delivers now
 abbrev pub delivers : Session → List ℕ → Tables → ℕ
-delivers session name tables = length (hits_found (query_named (user_of session) name tables) tables (present session))
+delivers session name tables = length (hits_found (query_named (user_of session) name tables) tables (moment_or_zero session))
 
 -- the checks of a command, in their order
 abbrev pub checks : Command → Session → Tables → List (Option Refusal)
@@ -168,8 +168,8 @@ checks (AsUser name) session tables = bad_name name ∷ []
 checks (Mail block) session tables =
     no_moment session
     ∷ too_long block
-    ∷ passes Documents DOCUMENT_LIMIT (length tables.docs) 1
-    ∷ passes Store STORE_LIMIT (stored_bytes tables) (length (text_of block))
+    ∷ limit_refusal Documents DOCUMENT_LIMIT (length tables.docs) 1
+    ∷ limit_refusal Store STORE_LIMIT (stored_bytes tables) (length (text_of block))
     ∷ []
 checks (Define name source) session tables =
     no_moment session
@@ -177,26 +177,26 @@ checks (Define name source) session tables =
     ∷ bad_name name
     ∷ taken session name tables
     ∷ text_fault (condition_text source)
-    ∷ passes Queries USER_QUERY_LIMIT (queries_of (user_of session) tables) 1
-    ∷ passes AllQueries QUERY_LIMIT (length tables.queries) 1
-    ∷ passes Users USER_LIMIT (different (owners_in tables)) (new_users (user_of session) tables)
-    ∷ passes Store STORE_LIMIT (stored_bytes tables) (length (stored_source source))
+    ∷ limit_refusal Queries USER_QUERY_LIMIT (queries_of (user_of session) tables) 1
+    ∷ limit_refusal AllQueries QUERY_LIMIT (length tables.queries) 1
+    ∷ limit_refusal Users USER_LIMIT (different (owners_in tables)) (new_users (user_of session) tables)
+    ∷ limit_refusal Store STORE_LIMIT (stored_bytes tables) (length (stored_source source))
     ∷ []
 checks (Run name) session tables =
     no_moment session
     ∷ no_user session
     ∷ bad_name name
     ∷ no_query session name tables
-    ∷ passes Runs RUN_LIMIT (length tables.runs) 1
-    ∷ passes Picks PICK_LIMIT (length tables.picks) (delivers session name tables)
+    ∷ limit_refusal Runs RUN_LIMIT (length tables.runs) 1
+    ∷ limit_refusal Picks PICK_LIMIT (length tables.picks) (delivers session name tables)
     ∷ []
 checks (BoxOf name) session tables = no_user session ∷ bad_name name ∷ no_query session name tables ∷ []
 checks (Mbox block) session tables =
     no_moment session
     ∷ long_message (messages_of block)
     ∷ long_block block
-    ∷ passes Documents DOCUMENT_LIMIT (length tables.docs) (length (messages_of block))
-    ∷ passes Store STORE_LIMIT (stored_bytes tables) (bytes_of (messages_of block))
+    ∷ limit_refusal Documents DOCUMENT_LIMIT (length tables.docs) (length (messages_of block))
+    ∷ limit_refusal Store STORE_LIMIT (stored_bytes tables) (bytes_of (messages_of block))
     ∷ []
 checks (AddNote doc kind value text) session tables =
     no_moment session
@@ -204,17 +204,17 @@ checks (AddNote doc kind value text) session tables =
     ∷ bad_name kind
     ∷ no_doc doc (length tables.docs)
     ∷ long_note (length text)
-    ∷ passes Notes NOTE_LIMIT (length tables.notes) 1
-    ∷ passes Store STORE_LIMIT (stored_bytes tables) (length text)
+    ∷ limit_refusal Notes NOTE_LIMIT (length tables.notes) 1
+    ∷ limit_refusal Store STORE_LIMIT (stored_bytes tables) (length text)
     ∷ []
 checks (ListOf name) session tables = no_user session ∷ bad_name name ∷ no_query session name tables ∷ []
 checks (Filter block) session tables =
     no_moment session
     ∷ no_user session
     ∷ long_filter block
-    ∷ passes Users USER_LIMIT (different (owners_in tables)) (new_users (user_of session) tables)
-    ∷ passes Filters FILTER_ROW_LIMIT (length tables.filters) 1
-    ∷ passes Store STORE_LIMIT (stored_bytes tables) (length (text_of block))
+    ∷ limit_refusal Users USER_LIMIT (different (owners_in tables)) (new_users (user_of session) tables)
+    ∷ limit_refusal Filters FILTER_ROW_LIMIT (length tables.filters) 1
+    ∷ limit_refusal Store STORE_LIMIT (stored_bytes tables) (length (text_of block))
     ∷ filter_fault (text_of block)
     ∷ []
 checks (Explain name) session tables = no_user session ∷ bad_name name ∷ no_query session name tables ∷ []

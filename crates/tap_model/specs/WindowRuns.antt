@@ -13,7 +13,7 @@ use Rattle.tap_rows.specs.Kept.{In}
 use Rattle.time_marks.specs.Probes.{meaning_without}
 use Rattle.tap_model.specs.declared.session.Session.{Session}
 use Rattle.tap_model.specs.Queries.{start_of, probes_in, hits_of}
-use Rattle.tap_model.specs.Sound.{Sound}
+use Rattle.tap_model.specs.Sound.{IsSound}
 
 -- is the document among these deliveries?
 abbrev pub is_delivered : List Entry → Doc → Bool
@@ -32,5 +32,5 @@ found_since query tables moment =
 -- a run at a moment that is not before the last delivers what the window query finds
 abbrev pub RunsAreWindows : Type 0
 RunsAreWindows =
-    (tables : Tables) (session : Session) (query : QueryRow) (moment : ℤ) → Sound tables session → In query tables.queries
+    (tables : Tables) (session : Session) (query : QueryRow) (moment : ℤ) → IsSound tables session → In query tables.queries
     → covered (start_of query) query.num.0 tables.runs ≤ℤ moment → found_since query tables moment ≡ hits_of query tables moment

@@ -18,7 +18,7 @@ use Rattle.tap_rows.specs.Tables.{no_rows, after}
 use Rattle.tap_rows.specs.Arrivals.{Arrived}
 use Rattle.tap_rows.specs.Results.{Truth, runs_of, run_moments, last_or, covered, entries_from, entry_at, union_until, box_of}
 use Rattle.tap_rows.specs.Deliveries.{delivered, picked, picks_of, pick_rows, next_run, run_hits, run_change, run_ordinal}
-use Rattle.tap_rows.specs.Kept.{Each, In, IsOfTheSecond, QueriesFrom, Rising, HasRun, KeptQuery, IsKept, IsBy}
+use Rattle.tap_rows.specs.Kept.{Each, In, IsOfTheSecond, QueriesFrom, Rising, HasRun, IsKeptQuery, IsKept, IsBy}
 use Rattle.tap_rows.specs.Grown.{Grown}
 use Rattle.tap_rows.proofs.LaterLaws.{grown-same, fresh-later, filter-none, each-map, each-append}
 use Rattle.tap_rows.proofs.PlaceLaws.{ordinal-new, moments-new, moments-other, old-picks, picks-all, picks-none, new-picks, picks-have-run, run-stays, run-last, runs-more, queries-more, query-bounds, runs-none, no-picks}
@@ -49,7 +49,7 @@ rising-more low t (m ∷ ms) rising le = (rising.0, rising-more m t ms rising.1 
 
 module _ (truth : QueryRow → Truth) (start : QueryRow → ℤ) (causal : (query : QueryRow) → IsOfTheSecond (truth query)) where
   -- a query keeps its box where only later documents and notes are added
-  query-later : (t : ℤ) (tables later : Tables) (query : QueryRow) → later.runs ≡ tables.runs → later.picks ≡ tables.picks → Grown t tables later → covered (start query) query.num.0 tables.runs ≤ℤ t → KeptQuery truth start tables query → KeptQuery truth start later query
+  query-later : (t : ℤ) (tables later : Tables) (query : QueryRow) → later.runs ≡ tables.runs → later.picks ≡ tables.picks → Grown t tables later → covered (start query) query.num.0 tables.runs ≤ℤ t → IsKeptQuery truth start tables query → IsKeptQuery truth start later query
   query-later t tables later query runs picks grown le kept =
       let moments : run_moments query.num.0 later.runs ≡ run_moments query.num.0 tables.runs = ap (run_moments query.num.0) runs in
       let until : covered (start query) query.num.0 later.runs ≡ covered (start query) query.num.0 tables.runs = ap (last_or (start query)) moments in
@@ -64,7 +64,7 @@ module _ (truth : QueryRow → Truth) (start : QueryRow → ℤ) (causal : (quer
   covered-by : (t : ℤ) (query : QueryRow) (runs : List RunRow) → start query ≤ℤ t → Each (λ run. run.moment ≤ℤ t) runs → covered (start query) query.num.0 runs ≤ℤ t
   covered-by t query runs le each = last-by (start query) t (run_moments query.num.0 runs) le (moments-by query.num.0 t runs each)
 
-  queries-later : (t : ℤ) (tables later : Tables) (queries : List QueryRow) → later.runs ≡ tables.runs → later.picks ≡ tables.picks → Grown t tables later → Each (λ run. run.moment ≤ℤ t) tables.runs → Each (λ query. (query.arrival ≤ℤ t) × (start query ≤ℤ t)) queries → Each (KeptQuery truth start tables) queries → Each (KeptQuery truth start later) queries
+  queries-later : (t : ℤ) (tables later : Tables) (queries : List QueryRow) → later.runs ≡ tables.runs → later.picks ≡ tables.picks → Grown t tables later → Each (λ run. run.moment ≤ℤ t) tables.runs → Each (λ query. (query.arrival ≤ℤ t) × (start query ≤ℤ t)) queries → Each (IsKeptQuery truth start tables) queries → Each (IsKeptQuery truth start later) queries
   queries-later t tables later [] runs picks grown by starts each = tt
   queries-later t tables later (query ∷ queries) runs picks grown by starts each =
       (query-later t tables later query runs picks grown (covered-by t query tables.runs starts.0.1 by) each.0, queries-later t tables later queries runs picks grown by starts.1 each.1)
@@ -111,7 +111,7 @@ module _ (truth : QueryRow → Truth) (start : QueryRow → ℤ) (causal : (quer
   less n (run ∷ runs) each = (omega (arith, each.0), less n runs each.1)
 
   -- a new query has no run and no delivery
-  query-new : (tables : Tables) (query : QueryRow) → IsKept truth start tables → query.num.0 ≡ length tables.queries + 1 → KeptQuery truth start (after tables (OneQuery query)) query
+  query-new : (tables : Tables) (query : QueryRow) → IsKept truth start tables → query.num.0 ≡ length tables.queries + 1 → IsKeptQuery truth start (after tables (OneQuery query)) query
   query-new tables query kept is =
       let none : runs_of query.num.0 tables.runs ≡ [] = runs-none query.num.0 tables.runs (subst (λ n. Each (λ run. run.query.0 < n) tables.runs) (sym is) (less (length tables.queries) tables.runs kept.owned)) in
       let moments : run_moments query.num.0 tables.runs ≡ [] = ap (map (λ run. run.moment)) none in
@@ -131,7 +131,7 @@ module _ (truth : QueryRow → Truth) (start : QueryRow → ℤ) (causal : (quer
     runs = kept.runs;
     owned = each-map (λ run. run.query.0 ≤ length tables.queries) (λ run. run.query.0 ≤ length (tables.queries ++ query ∷ [])) tables.runs (λ run le. longer run.query.0 tables.queries query le) kept.owned;
     picks = kept.picks;
-    each = each-append (KeptQuery truth start (after tables (OneQuery query))) tables.queries (query ∷ [])
+    each = each-append (IsKeptQuery truth start (after tables (OneQuery query))) tables.queries (query ∷ [])
         (queries-later t tables (after tables (OneQuery query)) tables.queries refl refl (grown-same t tables (after tables (OneQuery query)) refl refl) by.runs by.queries kept.each)
         (query-new tables query kept is, tt);
   } where
@@ -139,7 +139,7 @@ module _ (truth : QueryRow → Truth) (start : QueryRow → ℤ) (causal : (quer
     longer n queries query le = omega (arith, le, length-append queries (query ∷ []))
 
   -- the query of a run: its box grows by what the run delivers
-  query-run : (t : ℤ) (tables : Tables) (query : QueryRow) → IsKept truth start tables → covered (start query) query.num.0 tables.runs ≤ℤ t → KeptQuery truth start tables query → KeptQuery truth start (after tables (run_change (truth query) (start query) tables query.num t)) query
+  query-run : (t : ℤ) (tables : Tables) (query : QueryRow) → IsKept truth start tables → covered (start query) query.num.0 tables.runs ≤ℤ t → IsKeptQuery truth start tables query → IsKeptQuery truth start (after tables (run_change (truth query) (start query) tables query.num t)) query
   query-run t tables query kept le this =
       let run = next_run tables query.num t in
       let hits = run_hits (truth query) (start query) tables query.num.0 t in
@@ -163,7 +163,7 @@ module _ (truth : QueryRow → Truth) (start : QueryRow → ℤ) (causal : (quer
       parts a a' b b' e f = rw (e, f) refl
 
   -- the other queries keep theirs
-  query-other : (t : ℤ) (tables : Tables) (query other : QueryRow) → IsKept truth start tables → (query.num.0 ≡ other.num.0 → ⊥) → KeptQuery truth start tables other → KeptQuery truth start (after tables (run_change (truth query) (start query) tables query.num t)) other
+  query-other : (t : ℤ) (tables : Tables) (query other : QueryRow) → IsKept truth start tables → (query.num.0 ≡ other.num.0 → ⊥) → IsKeptQuery truth start tables other → IsKeptQuery truth start (after tables (run_change (truth query) (start query) tables query.num t)) other
   query-other t tables query other kept differs this =
       let run = next_run tables query.num t in
       let hits = run_hits (truth query) (start query) tables query.num.0 t in
@@ -180,15 +180,15 @@ module _ (truth : QueryRow → Truth) (start : QueryRow → ℤ) (causal : (quer
         box = given ∙ this.box ∙ sym (entries-same (run_moments other.num.0 (tables.runs ++ run ∷ [])) (run_moments other.num.0 tables.runs) (union_until (truth other) later (start other) (covered (start other) other.num.0 (tables.runs ++ run ∷ []))) (union_until (truth other) tables (start other) (covered (start other) other.num.0 tables.runs)) moments (there ∙ union));
       }
 
-  queries-above : (t : ℤ) (tables : Tables) (query : QueryRow) (k : ℕ) (queries : List QueryRow) → IsKept truth start tables → QueriesFrom k queries → query.num.0 < k → Each (KeptQuery truth start tables) queries → Each (KeptQuery truth start (after tables (run_change (truth query) (start query) tables query.num t))) queries
+  queries-above : (t : ℤ) (tables : Tables) (query : QueryRow) (k : ℕ) (queries : List QueryRow) → IsKept truth start tables → QueriesFrom k queries → query.num.0 < k → Each (IsKeptQuery truth start tables) queries → Each (IsKeptQuery truth start (after tables (run_change (truth query) (start query) tables query.num t))) queries
   queries-above t tables query k [] kept from lt each = tt
   queries-above t tables query k (other ∷ queries) kept from lt each =
       (query-other t tables query other kept (λ e. absurd (omega (arith, e, from.0))) each.0, queries-above t tables query (suc k) queries kept from.1 (omega arith) each.1)
 
-  queries-run : (t : ℤ) (tables : Tables) (query : QueryRow) (k : ℕ) (queries : List QueryRow) → IsKept truth start tables → covered (start query) query.num.0 tables.runs ≤ℤ t → QueriesFrom k queries → In query queries → Each (KeptQuery truth start tables) queries → Each (KeptQuery truth start (after tables (run_change (truth query) (start query) tables query.num t))) queries
+  queries-run : (t : ℤ) (tables : Tables) (query : QueryRow) (k : ℕ) (queries : List QueryRow) → IsKept truth start tables → covered (start query) query.num.0 tables.runs ≤ℤ t → QueriesFrom k queries → In query queries → Each (IsKeptQuery truth start tables) queries → Each (IsKeptQuery truth start (after tables (run_change (truth query) (start query) tables query.num t))) queries
   queries-run t tables query k [] kept le from has each = tt
   queries-run t tables query k (other ∷ queries) kept le from (inl e) each = (
-    subst (λ row. KeptQuery truth start (after tables (run_change (truth query) (start query) tables query.num t)) row) e (query-run t tables query kept le (subst (λ row. KeptQuery truth start tables row) (sym e) each.0)),
+    subst (λ row. IsKeptQuery truth start (after tables (run_change (truth query) (start query) tables query.num t)) row) e (query-run t tables query kept le (subst (λ row. IsKeptQuery truth start tables row) (sym e) each.0)),
     queries-above t tables query (suc k) queries kept from.1 (let is : query.num.0 ≡ k = ap (λ row. row.num.0) e ∙ from.0 in omega (arith, is)) each.1,
   )
   queries-run t tables query k (other ∷ queries) kept le from (inr h) each =
@@ -217,7 +217,7 @@ module _ (truth : QueryRow → Truth) (start : QueryRow → ℤ) (causal : (quer
       }
 
   -- a query that is there has delivered its box
-  pub box-is : (tables : Tables) (query : QueryRow) (queries : List QueryRow) → In query queries → Each (KeptQuery truth start tables) queries → KeptQuery truth start tables query
+  pub box-is : (tables : Tables) (query : QueryRow) (queries : List QueryRow) → In query queries → Each (IsKeptQuery truth start tables) queries → IsKeptQuery truth start tables query
   box-is tables query [] has each = absurd has
-  box-is tables query (other ∷ queries) (inl e) each = subst (λ row. KeptQuery truth start tables row) (sym e) each.0
+  box-is tables query (other ∷ queries) (inl e) each = subst (λ row. IsKeptQuery truth start tables row) (sym e) each.0
   box-is tables query (other ∷ queries) (inr h) each = box-is tables query queries h each.1

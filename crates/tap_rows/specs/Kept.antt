@@ -46,7 +46,7 @@ HasRun num query [] = ⊥
 HasRun num query (run ∷ runs) = ((run.num ≡ num) × (run.query.0 ≡ query)) ⊎ HasRun num query runs
 
 -- what a query keeps: its runs never go back, and what it has delivered is its box
-pub record KeptQuery (truth : QueryRow → Truth) (start : QueryRow → ℤ) (tables : Tables) (query : QueryRow) : Type 0 where
+pub record IsKeptQuery (truth : QueryRow → Truth) (start : QueryRow → ℤ) (tables : Tables) (query : QueryRow) : Type 0 where
   pub rising : Rising (start query) (run_moments query.num.0 tables.runs)
   pub box : delivered query.num.0 tables ≡ box_of (truth query) tables (start query) query.num.0
 
@@ -56,7 +56,7 @@ pub record IsKept (truth : QueryRow → Truth) (start : QueryRow → ℤ) (table
   pub runs : RunsFrom 1 tables.runs
   pub owned : Each (λ run. run.query.0 ≤ length tables.queries) tables.runs
   pub picks : Each (λ pick. HasRun pick.run pick.query.0 tables.runs) tables.picks
-  pub each : Each (KeptQuery truth start tables) tables.queries
+  pub each : Each (IsKeptQuery truth start tables) tables.queries
 
 -- no row arrived after this moment, no run was after it, and no query starts after it
 pub record IsBy (start : QueryRow → ℤ) (moment : ℤ) (tables : Tables) : Type 0 where

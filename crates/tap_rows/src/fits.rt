@@ -66,7 +66,7 @@ fn note_fits(docs: &[Doc], place: usize, low: i64, note: &Note) -> bool
 }
 
 // Is it the query of this name of this user?
-fn is_named(owner: &[u8], name: &[u8], query: &QueryRow) -> bool
+fn is_query_of(owner: &[u8], name: &[u8], query: &QueryRow) -> bool
     ensures { result ≡ is_query_of owner.now name.now query.now }
 {
     query.owner.as_slice() == owner && query.name.as_slice() == name
@@ -76,7 +76,7 @@ fn is_named(owner: &[u8], name: &[u8], query: &QueryRow) -> bool
 fn has_query(queries: &[QueryRow], owner: &[u8], name: &[u8]) -> bool
     ensures { result ≡ list_any (is_query_of owner.now name.now) queries.now }
 {
-    queries.iter().any(|query| is_named(owner, name, query))
+    queries.iter().any(|query| is_query_of(owner, name, query))
 }
 
 // Does the query stand at this place?

@@ -14,18 +14,18 @@ use Rattle.script_lang.specs.Script.{script, complete}
 use Rattle.script_lang.proofs.Puts.{Appends-none}
 use Rattle.tap_model.specs.declared.session.Session.{Session}
 use Rattle.tap_model.specs.Sessions.{no_session}
-use Rattle.tap_model.specs.Sound.{Sound, IsStore}
+use Rattle.tap_model.specs.Sound.{IsSound, IsStore}
 use Rattle.tap_model.specs.Replies.{answer_of, tables_after}
 use Rattle.tap_model.specs.Stories.{Story}
 use Rattle.tap_model.proofs.SoundLaws.{sound-store}
-use Rattle.keeper_core.specs.Keeping.{Holds}
+use Rattle.keeper_core.specs.Keeping.{IsDurable}
 use Rattle.tap_engine.specs.declared.engine.Engine.{Engine}
-use Rattle.tap_engine.specs.Standing.{StandsFor}
+use Rattle.tap_engine.specs.Standing.{Represents}
 use Rattle.tap_top.specs.declared.top.TheConstants.{SCRIPT_LIMIT}
-use Rattle.tap_top.specs.Points.{SoundAlong, IsAt}
+use Rattle.tap_top.specs.Points.{SoundAlong, EngineMatchesKeeper}
 use Rattle.tap_top.specs.Answers.{Answered}
-use Rattle.tap_top.specs.Statuses.{AreFirst, IsFront, Whole, ReadCut, TooLong, Starved, PutCut, KeeperCut}
-use Rattle.tap_top.specs.Crashes.{IsPrefix, LieWhole, AreSaid, LeavesPrefix}
+use Rattle.tap_top.specs.Statuses.{AreFirst, IsFront, Whole, ReadCut, TooLong, OutOfMemory, PutCut, KeeperCut}
+use Rattle.tap_top.specs.Crashes.{IsPrefix, AreFullyWritten, AreWrittenReplies, LeavesPrefix}
 use Rattle.tap_top.proofs.Stories.{Story-then, Story-sound, Answered-none}
 use Rattle.tap_top.proofs.Runs.{Consumes-none, same-front}
 
@@ -50,18 +50,18 @@ whole-prefix t cs rs t' s' n x story few is =
     }
 
 -- the first of some replies lie whole in the bytes of all
-first-whole : (n : ℕ) (rs : List Reply) → LieWhole n rs (flat_map reply_bytes rs)
+first-whole : (n : ℕ) (rs : List Reply) → AreFullyWritten n rs (flat_map reply_bytes rs)
 first-whole n rs = record {
   rest = flat_map reply_bytes (drop n rs);
   is = ap (flat_map reply_bytes) (sym (take-append-drop n rs)) ∙ flat_map-append reply_bytes (take n rs) (drop n rs);
 }
 
 -- all replies were written
-all-said : (rs : List Reply) → AreSaid rs (flat_map reply_bytes rs)
+all-said : (rs : List Reply) → AreWrittenReplies rs (flat_map reply_bytes rs)
 all-said rs = record { rest = []; front = sym (append-nil (flat_map reply_bytes rs)); most = first-whole (length rs - 1) rs }
 
 -- all replies but the last were written, and a front of its bytes
-cut-said : (rs : List Reply) (r : Reply) (front back : List ℕ) → front ++ back ≡ reply_bytes r → AreSaid (rs ++ r ∷ []) (flat_map reply_bytes rs ++ front)
+cut-said : (rs : List Reply) (r : Reply) (front back : List ℕ) → front ++ back ≡ reply_bytes r → AreWrittenReplies (rs ++ r ∷ []) (flat_map reply_bytes rs ++ front)
 cut-said rs r front back split =
     let all = flat_map reply_bytes rs in
     let l = length-append rs (r ∷ []) in
@@ -74,11 +74,11 @@ cut-said rs r front back split =
     }
 
 -- all replies but the last were written
-next-said : (rs : List Reply) (r : Reply) → AreSaid (rs ++ r ∷ []) (flat_map reply_bytes rs)
-next-said rs r = subst (λ bytes. AreSaid (rs ++ r ∷ []) bytes) (append-nil (flat_map reply_bytes rs)) (cut-said rs r [] (reply_bytes r) refl)
+next-said : (rs : List Reply) (r : Reply) → AreWrittenReplies (rs ++ r ∷ []) (flat_map reply_bytes rs)
+next-said rs r = subst (λ bytes. AreWrittenReplies (rs ++ r ∷ []) bytes) (append-nil (flat_map reply_bytes rs)) (cut-said rs r [] (reply_bytes r) refl)
 
 -- a story whose end alone a crash leaves
-story-leaves : (t : Tables) (left left' out out' : Option (List ℕ)) (versions : ℤ → Type 0) (leaves : Tables → Type 0) (bytes : List ℕ) (cs : List Command) (rs : List Reply) (t' : Tables) (s' : Session) (written : List ℕ) → Consumes left left' bytes → AreFirst cs (take SCRIPT_LIMIT bytes) left' → Story t no_session cs rs t' s' → Appends out out' written → ((v : ℤ) → versions v → (v ≡ pos 1) ⊎ (v ≡ pos 2) → AreSaid rs written) → ((x : Tables) → leaves x → x ≡ t') → LeavesPrefix t left left' out out' versions leaves
+story-leaves : (t : Tables) (left left' out out' : Option (List ℕ)) (versions : ℤ → Type 0) (leaves : Tables → Type 0) (bytes : List ℕ) (cs : List Command) (rs : List Reply) (t' : Tables) (s' : Session) (written : List ℕ) → Consumes left left' bytes → AreFirst cs (take SCRIPT_LIMIT bytes) left' → Story t no_session cs rs t' s' → Appends out out' written → ((v : ℤ) → versions v → (v ≡ pos 1) ⊎ (v ≡ pos 2) → AreWrittenReplies rs written) → ((x : Tables) → leaves x → x ≡ t') → LeavesPrefix t left left' out out' versions leaves
 story-leaves t left left' out out' versions leaves bytes cs rs t' s' written taken first story put said alone = record {
   bytes = bytes;
   taken = taken;
@@ -95,35 +95,35 @@ story-leaves t left left' out out' versions leaves bytes cs rs t' s' written tak
 }
 
 -- nothing was read
-pub none-leaves : (t : Tables) (left left' out out' : Option (List ℕ)) (versions : ℤ → Type 0) (leaves : Tables → Type 0) (written : List ℕ) → left' ≡ left → Appends out out' written → ((v : ℤ) → versions v → (v ≡ pos 1) ⊎ (v ≡ pos 2) → AreSaid [] written) → ((x : Tables) → leaves x → x ≡ t) → LeavesPrefix t left left' out out' versions leaves
+pub none-leaves : (t : Tables) (left left' out out' : Option (List ℕ)) (versions : ℤ → Type 0) (leaves : Tables → Type 0) (written : List ℕ) → left' ≡ left → Appends out out' written → ((v : ℤ) → versions v → (v ≡ pos 1) ⊎ (v ≡ pos 2) → AreWrittenReplies [] written) → ((x : Tables) → leaves x → x ≡ t) → LeavesPrefix t left left' out out' versions leaves
 none-leaves t left left' out out' versions leaves written unread put said alone =
     story-leaves t left left' out out' versions leaves [] [] [] t no_session written (subst (λ l. Consumes left l []) (sym unread) (Consumes-none left)) (inl (record { rest = complete (take SCRIPT_LIMIT []); is = refl })) (refl, refl) put said alone
 
 pub nothing-leaves : (t : Tables) (left left' out out' : Option (List ℕ)) (versions : ℤ → Type 0) (leaves : Tables → Type 0) → left' ≡ left → out' ≡ out → ((x : Tables) → leaves x → x ≡ t) → LeavesPrefix t left left' out out' versions leaves
 nothing-leaves t left left' out out' versions leaves unread unwritten alone = none-leaves t left left' out out' versions leaves [] unread (subst (λ o. Appends out o []) (sym unwritten) (Appends-none out)) (λ v has known. all-said []) alone
 
-answered-leaves : (t : Tables) (left left' out out' : Option (List ℕ)) (versions : ℤ → Type 0) (tells leaves : Tables → Type 0) (bytes : List ℕ) (cs : List Command) (s' : Session) (ok : Bool) → Consumes left left' bytes → AreFirst cs (take SCRIPT_LIMIT bytes) left' → Answered t no_session cs out out' (Holds tells leaves) s' ok → LeavesPrefix t left left' out out' versions leaves
+answered-leaves : (t : Tables) (left left' out out' : Option (List ℕ)) (versions : ℤ → Type 0) (tells leaves : Tables → Type 0) (bytes : List ℕ) (cs : List Command) (s' : Session) (ok : Bool) → Consumes left left' bytes → AreFirst cs (take SCRIPT_LIMIT bytes) left' → Answered t no_session cs out out' (IsDurable tells leaves) s' ok → LeavesPrefix t left left' out out' versions leaves
 answered-leaves t left left' out out' versions tells leaves bytes cs s' ok taken first one = story-leaves t left left' out out' versions leaves bytes cs one.replies one.tables' s' (flat_map reply_bytes one.replies) taken first one.story one.written (λ v has known. all-said one.replies) one.ends.alone
 
 all-of : (cs : List Command) → IsFront cs cs
 all-of cs = record { rest = []; is = sym (append-nil cs) }
 
-whole-leaves : (t : Tables) (left left' out out' : Option (List ℕ)) (versions : ℤ → Type 0) (tells leaves : Tables → Type 0) (ok : Bool) → Whole t left left' out out' (Holds tells leaves) ok → LeavesPrefix t left left' out out' versions leaves
+whole-leaves : (t : Tables) (left left' out out' : Option (List ℕ)) (versions : ℤ → Type 0) (tells leaves : Tables → Type 0) (ok : Bool) → Whole t left left' out out' (IsDurable tells leaves) ok → LeavesPrefix t left left' out out' versions leaves
 whole-leaves t left left' out out' versions tells leaves ok run =
     answered-leaves t left left' out out' versions tells leaves run.bytes (script run.bytes) run.session ok run.taken (inr (run.ended, subst (λ xs. IsFront (script run.bytes) (script xs)) (sym (same-front SCRIPT_LIMIT run.bytes run.fits)) (all-of (script run.bytes)))) run.answered
 
-read-leaves : (t : Tables) (left left' out out' : Option (List ℕ)) (versions : ℤ → Type 0) (tells leaves : Tables → Type 0) → ReadCut t left left' out out' (Holds tells leaves) → LeavesPrefix t left left' out out' versions leaves
+read-leaves : (t : Tables) (left left' out out' : Option (List ℕ)) (versions : ℤ → Type 0) (tells leaves : Tables → Type 0) → ReadCut t left left' out out' (IsDurable tells leaves) → LeavesPrefix t left left' out out' versions leaves
 read-leaves t left left' out out' versions tells leaves run =
     answered-leaves t left left' out out' versions tells leaves run.bytes (complete run.bytes) run.session run.all_ok run.taken (inl (subst (λ xs. IsFront (complete run.bytes) (complete xs)) (sym (same-front SCRIPT_LIMIT run.bytes run.fits)) (all-of (complete run.bytes)))) run.answered
 
-long-leaves : (t : Tables) (left left' out out' : Option (List ℕ)) (versions : ℤ → Type 0) (tells leaves : Tables → Type 0) → TooLong t left left' out out' (Holds tells leaves) → LeavesPrefix t left left' out out' versions leaves
+long-leaves : (t : Tables) (left left' out out' : Option (List ℕ)) (versions : ℤ → Type 0) (tells leaves : Tables → Type 0) → TooLong t left left' out out' (IsDurable tells leaves) → LeavesPrefix t left left' out out' versions leaves
 long-leaves t left left' out out' versions tells leaves run =
     answered-leaves t left left' out out' versions tells leaves run.long.bytes (complete (take SCRIPT_LIMIT run.long.bytes)) run.session run.all_ok run.long.taken (inl (all-of (complete (take SCRIPT_LIMIT run.long.bytes)))) run.answered
 
-starved-leaves : (t : Tables) (left left' out out' : Option (List ℕ)) (versions : ℤ → Type 0) (tells leaves : Tables → Type 0) → Starved t left left' out out' (Holds tells leaves) → LeavesPrefix t left left' out out' versions leaves
+starved-leaves : (t : Tables) (left left' out out' : Option (List ℕ)) (versions : ℤ → Type 0) (tells leaves : Tables → Type 0) → OutOfMemory t left left' out out' (IsDurable tells leaves) → LeavesPrefix t left left' out out' versions leaves
 starved-leaves t left left' out out' versions tells leaves run = answered-leaves t left left' out out' versions tells leaves run.bytes run.commands run.session run.all_ok run.taken run.first run.answered
 
-put-leaves : (t : Tables) (left left' out out' : Option (List ℕ)) (versions : ℤ → Type 0) (tells leaves : Tables → Type 0) → PutCut t left left' out out' (Holds tells leaves) → LeavesPrefix t left left' out out' versions leaves
+put-leaves : (t : Tables) (left left' out out' : Option (List ℕ)) (versions : ℤ → Type 0) (tells leaves : Tables → Type 0) → PutCut t left left' out out' (IsDurable tells leaves) → LeavesPrefix t left left' out out' versions leaves
 put-leaves t left left' out out' versions tells leaves run =
     let cut = run.cut in
     story-leaves t left left' out out' versions leaves run.bytes (run.done ++ run.last ∷ []) (cut.replies ++ cut.reply ∷ []) cut.tables' cut.session' (flat_map reply_bytes cut.replies ++ take cut.n (reply_bytes cut.reply)) run.taken run.first cut.story cut.written (λ v has known. cut-said cut.replies cut.reply (take cut.n (reply_bytes cut.reply)) (drop cut.n (reply_bytes cut.reply)) (take-append-drop cut.n (reply_bytes cut.reply))) cut.ends.alone
@@ -138,7 +138,7 @@ le-or (suc a) zero = inr (omega arith)
 le-or (suc a) (suc b) = elim (le-or a b) [ inl le ↦ inl (omega arith) | inr lt ↦ inr (omega arith) ]
 
 -- the reply to a command whose commit failed isn't whole
-not-whole : (rs : List Reply) (r : Reply) (n : ℕ) → n ≤ length (rs ++ r ∷ []) → LieWhole n (rs ++ r ∷ []) (flat_map reply_bytes rs) → n ≤ length rs
+not-whole : (rs : List Reply) (r : Reply) (n : ℕ) → n ≤ length (rs ++ r ∷ []) → AreFullyWritten n (rs ++ r ∷ []) (flat_map reply_bytes rs) → n ≤ length rs
 not-whole rs r n few lie = elim (le-or n (length rs)) [
   | inl le ↦ le
   | inr lt ↦
@@ -191,7 +191,7 @@ uncommitted-leaves t left left' out out' versions leaves run =
     }
 
 -- each end of a run
-pub run-leaves : (t : Tables) (left left' out out' : Option (List ℕ)) (versions : ℤ → Type 0) (tells leaves : Tables → Type 0) (ok : Bool) (status : ℕ) → (status ≤ 1 ⊎ (status ≡ 3 ⊎ (status ≡ 4 ⊎ (status ≡ 5 ⊎ (status ≡ 7 ⊎ status ≡ 8))))) → (status ≤ 1 → Whole t left left' out out' (Holds tells leaves) ok) → (status ≡ 3 → ReadCut t left left' out out' (Holds tells leaves)) → (status ≡ 4 → PutCut t left left' out out' (Holds tells leaves)) → (status ≡ 5 → KeeperCut t left left' out out' leaves) → (status ≡ 7 → Starved t left left' out out' (Holds tells leaves)) → (status ≡ 8 → TooLong t left left' out out' (Holds tells leaves)) → LeavesPrefix t left left' out out' versions leaves
+pub run-leaves : (t : Tables) (left left' out out' : Option (List ℕ)) (versions : ℤ → Type 0) (tells leaves : Tables → Type 0) (ok : Bool) (status : ℕ) → (status ≤ 1 ⊎ (status ≡ 3 ⊎ (status ≡ 4 ⊎ (status ≡ 5 ⊎ (status ≡ 7 ⊎ status ≡ 8))))) → (status ≤ 1 → Whole t left left' out out' (IsDurable tells leaves) ok) → (status ≡ 3 → ReadCut t left left' out out' (IsDurable tells leaves)) → (status ≡ 4 → PutCut t left left' out out' (IsDurable tells leaves)) → (status ≡ 5 → KeeperCut t left left' out out' leaves) → (status ≡ 7 → OutOfMemory t left left' out out' (IsDurable tells leaves)) → (status ≡ 8 → TooLong t left left' out out' (IsDurable tells leaves)) → LeavesPrefix t left left' out out' versions leaves
 run-leaves t left left' out out' versions tells leaves ok status (inl low) whole read put cut short long = whole-leaves t left left' out out' versions tells leaves ok (whole low)
 run-leaves t left left' out out' versions tells leaves ok status (inr (inl is)) whole read put cut short long = read-leaves t left left' out out' versions tells leaves (read is)
 run-leaves t left left' out out' versions tells leaves ok status (inr (inr (inl is))) whole read put cut short long = put-leaves t left left' out out' versions tells leaves (put is)
@@ -199,7 +199,7 @@ run-leaves t left left' out out' versions tells leaves ok status (inr (inr (inr 
 run-leaves t left left' out out' versions tells leaves ok status (inr (inr (inr (inr (inl is))))) whole read put cut short long = starved-leaves t left left' out out' versions tells leaves (short is)
 run-leaves t left left' out out' versions tells leaves ok status (inr (inr (inr (inr (inr is))))) whole read put cut short long = long-leaves t left left' out out' versions tells leaves (long is)
 
-last-sound : (t : Tables) (s : Session) (cs : List Command) (rs : List Reply) (t' : Tables) (s' : Session) (story : Story t s cs rs t' s') → SoundAlong t s cs rs t' s' story → Sound t' s'
+last-sound : (t : Tables) (s : Session) (cs : List Command) (rs : List Reply) (t' : Tables) (s' : Session) (story : Story t s cs rs t' s') → SoundAlong t s cs rs t' s' story → IsSound t' s'
 last-sound t s [] [] t' s' story along = along
 last-sound t s (c ∷ cs) (r ∷ rs) t' s' story along = last-sound story.0 story.1 cs rs t' s' story.3 along.1
 last-sound t s [] (r ∷ rs) t' s' story along = absurd story
@@ -217,12 +217,12 @@ leaves-stores t left left' out out' versions leaves store crash x may =
     story-store t (take front.k crash.commands) (take front.k crash.replies) x front.session front.story store
 
 -- a run begins over a store
-pub opened-at : (engine : Engine) (tells leaves : Tables → Type 0) (t : Tables) → engine.session ≡ no_session → StandsFor engine t → Holds tells leaves t → IsStore t → IsAt engine tells leaves t
-opened-at engine tells leaves t new stands holds store = record { stands = stands; sound = subst (λ s. Sound t s) (sym new) store; holds = holds }
+pub opened-at : (engine : Engine) (tells leaves : Tables → Type 0) (t : Tables) → engine.session ≡ no_session → Represents engine t → IsDurable tells leaves t → IsStore t → EngineMatchesKeeper engine tells leaves t
+opened-at engine tells leaves t new represents holds store = record { represents = represents; sound = subst (λ s. IsSound t s) (sym new) store; holds = holds }
 
 -- no memory to open a store
-pub Starved-none : (t : Tables) (left left' out out' : Option (List ℕ)) (Ends : Tables → Type 0) → left' ≡ left → out' ≡ out → IsStore t → Ends t → Starved t left left' out out' Ends
-Starved-none t left left' out out' Ends unread unwritten store ends = record {
+pub OutOfMemory-none : (t : Tables) (left left' out out' : Option (List ℕ)) (Ends : Tables → Type 0) → left' ≡ left → out' ≡ out → IsStore t → Ends t → OutOfMemory t left left' out out' Ends
+OutOfMemory-none t left left' out out' Ends unread unwritten store ends = record {
   bytes = [];
   taken = subst (λ l. Consumes left l []) (sym unread) (Consumes-none left);
   few = omega arith;

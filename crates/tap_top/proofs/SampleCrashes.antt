@@ -11,10 +11,10 @@ use Rattle.tap_model.specs.Sessions.{no_session}
 use Rattle.tap_model.specs.Sound.{IsStore}
 use Rattle.tap_model.specs.Replies.{answer_of, tables_after}
 use Rattle.tap_model.specs.Stories.{Story}
-use Rattle.keeper_core.specs.Keeping.{Holds}
+use Rattle.keeper_core.specs.Keeping.{IsDurable}
 use Rattle.tap_top.specs.Statuses.{IsFront}
 use Rattle.tap_top.specs.Crashes.{IsPrefix}
-use Rattle.tap_top.specs.Samples.{Performed, FirstPerformed, NextUncommitted, Sampled, SampledCut, LeavesFirst, LeavesAlone}
+use Rattle.tap_top.specs.Samples.{Performed, FirstPerformed, NextUncommitted, Sampled, SampledCut, LeavesFirst, LeavesOnly}
 use Rattle.tap_top.proofs.Stories.{Story-then}
 use Rattle.tap_top.proofs.Crashes.{whole-prefix, front-prefix, story-store}
 
@@ -22,7 +22,7 @@ no-less : (n : ℕ) → 0 ≤ n
 no-less n = omega arith
 
 -- the end of these commands alone
-performed-leaves : (t : Tables) (cs done : List Command) (Ends : List Reply → Tables → Type 0) (s' : Session) (leaves : Tables → Type 0) → IsFront done cs → (one : Performed t no_session done Ends s') → LeavesAlone one.tables' leaves → LeavesFirst t cs leaves
+performed-leaves : (t : Tables) (cs done : List Command) (Ends : List Reply → Tables → Type 0) (s' : Session) (leaves : Tables → Type 0) → IsFront done cs → (one : Performed t no_session done Ends s') → LeavesOnly one.tables' leaves → LeavesFirst t cs leaves
 performed-leaves t cs done Ends s' leaves first one alone = record {
   done = done;
   first = first;
@@ -33,7 +33,7 @@ performed-leaves t cs done Ends s' leaves first one alone = record {
   each = λ x may. whole-prefix t done one.replies one.tables' s' 0 x one.story (no-less (length one.replies)) (alone x may);
 }
 
-pub alone-leaves : (t : Tables) (cs : List Command) (leaves : Tables → Type 0) → LeavesAlone t leaves → LeavesFirst t cs leaves
+pub alone-leaves : (t : Tables) (cs : List Command) (leaves : Tables → Type 0) → LeavesOnly t leaves → LeavesFirst t cs leaves
 alone-leaves t cs leaves alone = record {
   done = [];
   first = record { rest = cs; is = refl };
@@ -67,7 +67,7 @@ next-leaves t cs leaves run =
     }
 
 -- each end of a sample
-pub sample-leaves : (t : Tables) (n : ℕ) (out out' : Option (List ℕ)) (tells leaves : Tables → Type 0) (ok : Bool) (status : ℕ) → (status ≤ 1 ⊎ (status ≡ 4 ⊎ (status ≡ 5 ⊎ status ≡ 7))) → (status ≤ 1 → Sampled t n out out' (Holds tells leaves) ok) → (status ≡ 4 → SampledCut t n out out' (Holds tells leaves)) → (status ≡ 5 → NextUncommitted t no_session (sample_of n) leaves) → (status ≡ 7 → FirstPerformed t no_session (sample_of n) (Holds tells leaves)) → LeavesFirst t (sample_of n) leaves
+pub sample-leaves : (t : Tables) (n : ℕ) (out out' : Option (List ℕ)) (tells leaves : Tables → Type 0) (ok : Bool) (status : ℕ) → (status ≤ 1 ⊎ (status ≡ 4 ⊎ (status ≡ 5 ⊎ status ≡ 7))) → (status ≤ 1 → Sampled t n out out' (IsDurable tells leaves) ok) → (status ≡ 4 → SampledCut t n out out' (IsDurable tells leaves)) → (status ≡ 5 → NextUncommitted t no_session (sample_of n) leaves) → (status ≡ 7 → FirstPerformed t no_session (sample_of n) (IsDurable tells leaves)) → LeavesFirst t (sample_of n) leaves
 sample-leaves t n out out' tells leaves ok status (inl low) whole cut next short = let run = whole low in performed-leaves t (sample_of n) (sample_of n) _ run.session' leaves (all-front (sample_of n)) run.performed run.performed.ends.1.alone
 sample-leaves t n out out' tells leaves ok status (inr (inl is)) whole cut next short = let run = cut is in performed-leaves t (sample_of n) (sample_of n) _ run.session' leaves (all-front (sample_of n)) run.performed run.performed.ends.1.alone
 sample-leaves t n out out' tells leaves ok status (inr (inr (inl is))) whole cut next short = next-leaves t (sample_of n) leaves (next is)

@@ -12,18 +12,18 @@ use Rattle.script_lang.specs.declared.reply.Reply.{Reply}
 use Rattle.script_lang.specs.declared.reply.Reply.TheVariants.{No}
 use Rattle.script_lang.specs.Replies.{is_accepted}
 use Rattle.tap_model.specs.declared.session.Session.{Session}
-use Rattle.keeper_core.specs.Keeping.{Holds}
+use Rattle.keeper_core.specs.Keeping.{IsDurable}
 use Rattle.tap_model.specs.Sessions.{no_session}
-use Rattle.tap_model.specs.Sound.{Sound}
+use Rattle.tap_model.specs.Sound.{IsSound}
 use Rattle.tap_model.specs.Verdicts.{verdict}
 use Rattle.tap_model.specs.Replies.{answer_of, tables_after}
 use Rattle.tap_model.specs.Stories.{Step, Story}
 use Rattle.tap_model.proofs.SoundLaws.{step-sound}
 use Rattle.tap_top.specs.declared.tally.Tally.{Tally}
 use Rattle.tap_engine.specs.declared.engine.Engine.{Engine}
-use Rattle.tap_engine.specs.Standing.{StandsFor}
-use Rattle.tap_top.specs.Points.{SoundAlong, IsAt}
-use Rattle.tap_top.specs.Answers.{MayAdd}
+use Rattle.tap_engine.specs.Standing.{Represents}
+use Rattle.tap_top.specs.Points.{SoundAlong, EngineMatchesKeeper}
+use Rattle.tap_top.specs.Answers.{MayHaveCommitted}
 use Rattle.tap_top.specs.Statuses.{IsFront}
 use Rattle.sample_gen.specs.Samples.{sample_of}
 use Rattle.sample_gen.specs.Summaries.{summary_lines}
@@ -75,10 +75,10 @@ Counted-then before after xs ys one two = record {
   none = each-append xs ys one.none two.none;
 }
 
-pub Performed-none : (t : Tables) (s : Session) (Ends : List Reply → Tables → Type 0) → Sound t s → Ends [] t → Performed t s [] Ends s
+pub Performed-none : (t : Tables) (s : Session) (Ends : List Reply → Tables → Type 0) → IsSound t s → Ends [] t → Performed t s [] Ends s
 Performed-none t s Ends sound ends = record { replies = []; tables' = t; story = (refl, refl); sound = sound; ends = ends }
 
-pub Performed-one : (t : Tables) (s : Session) (c : Command) (r : Reply) (Ends : List Reply → Tables → Type 0) (t' : Tables) (s' : Session) → Sound t s → Step t s c r t' s' → Ends (r ∷ []) t' → Performed t s (c ∷ []) Ends s'
+pub Performed-one : (t : Tables) (s : Session) (c : Command) (r : Reply) (Ends : List Reply → Tables → Type 0) (t' : Tables) (s' : Session) → IsSound t s → Step t s c r t' s' → Ends (r ∷ []) t' → Performed t s (c ∷ []) Ends s'
 Performed-one t s c r Ends t' s' sound step ends = record { replies = r ∷ []; tables' = t'; story = (t', s', step, (refl, refl)); sound = (sound, step-sound t s c r t' s' step sound); ends = ends }
 
 pub Performed-then : (t : Tables) (s : Session) (xs : List Command) (Mid : List Reply → Tables → Type 0) (s1 : Session) (ys : List Command) (Ends Both : List Reply → Tables → Type 0) (s2 : Session) → (one : Performed t s xs Mid s1) → (two : Performed one.tables' s1 ys Ends s2) → Both (one.replies ++ two.replies) two.tables' → Performed t s (xs ++ ys) Both s2
@@ -95,7 +95,7 @@ pub Performed-with : (t : Tables) (s : Session) (xs : List Command) (Ends Less :
 Performed-with t s xs Ends Less s1 one less = record { replies = one.replies; tables' = one.tables'; story = one.story; sound = one.sound; ends = less }
 
 -- a command for which there may have been no memory
-pub FirstPerformed-one : (t : Tables) (s : Session) (c : Command) (r : Reply) (Ends : Tables → Type 0) (t' : Tables) (s' : Session) → Sound t s → Step t s c r t' s' → Ends t' → FirstPerformed t s (c ∷ []) Ends
+pub FirstPerformed-one : (t : Tables) (s : Session) (c : Command) (r : Reply) (Ends : Tables → Type 0) (t' : Tables) (s' : Session) → IsSound t s → Step t s c r t' s' → Ends t' → FirstPerformed t s (c ∷ []) Ends
 FirstPerformed-one t s c r Ends t' s' sound step ends =
     let last : LastStarved (r ∷ []) = record { most = []; last = r ∷ []; split = refl; none = tt; few = omega arith } in record {
       done = c ∷ [];
@@ -105,7 +105,7 @@ FirstPerformed-one t s c r Ends t' s' sound step ends =
     }
 
 -- nothing was performed
-pub FirstPerformed-none : (t : Tables) (s : Session) (commands : List Command) (Ends : Tables → Type 0) → Sound t s → Ends t → FirstPerformed t s commands Ends
+pub FirstPerformed-none : (t : Tables) (s : Session) (commands : List Command) (Ends : Tables → Type 0) → IsSound t s → Ends t → FirstPerformed t s commands Ends
 FirstPerformed-none t s commands Ends sound ends =
     let last : LastStarved [] = record { most = []; last = []; split = refl; none = tt; few = omega arith } in record {
       done = [];
@@ -125,14 +125,14 @@ FirstPerformed-all t s commands Ends Less tally s' less one =
     }
 
 -- the commit of a command failed
-pub NextUncommitted-one : (t : Tables) (s : Session) (c : Command) (leaves : Tables → Type 0) → Sound t s → verdict c s t ≡ None → ((x : Tables) → leaves x → (x ≡ t) ⊎ (x ≡ tables_after (answer_of c s t).change t)) → NextUncommitted t s (c ∷ []) leaves
+pub NextUncommitted-one : (t : Tables) (s : Session) (c : Command) (leaves : Tables → Type 0) → IsSound t s → verdict c s t ≡ None → ((x : Tables) → leaves x → (x ≡ t) ⊎ (x ≡ tables_after (answer_of c s t).change t)) → NextUncommitted t s (c ∷ []) leaves
 NextUncommitted-one t s c leaves sound accepted either =
-    let may : MayAdd leaves c s t = record { accepted = accepted; either = either } in record {
+    let may : MayHaveCommitted leaves c s t = record { accepted = accepted; either = either } in record {
       done = [];
       next = c;
       first = record { rest = []; is = refl };
       session' = s;
-      performed = Performed-none t s (λ replies x. NoneStarved replies × MayAdd leaves c s x) sound (tt, may);
+      performed = Performed-none t s (λ replies x. NoneStarved replies × MayHaveCommitted leaves c s x) sound (tt, may);
     }
 
 -- a loop over commands: those that were performed, and those that are left
@@ -141,7 +141,7 @@ pub record Performing (all left : List Command) (t : Tables) (s : Session) (Ends
   pub split : all ≡ done ++ left
   pub performed : Performed t s done (λ replies x. Ends x × Counted tally replies) s1
 
-pub Performing-start : (all : List Command) (t : Tables) (s : Session) (Ends : Tables → Type 0) (tally : Tally) → Sound t s → Ends t → tally.refused ≡ 0 → tally.delivered ≡ 0 → Performing all all t s Ends tally s
+pub Performing-start : (all : List Command) (t : Tables) (s : Session) (Ends : Tables → Type 0) (tally : Tally) → IsSound t s → Ends t → tally.refused ≡ 0 → tally.delivered ≡ 0 → Performing all all t s Ends tally s
 Performing-start all t s Ends tally sound ends refused delivered = record { done = []; split = refl; performed = Performed-none t s (λ replies x. Ends x × Counted tally replies) sound (ends, Counted-none tally refused delivered) }
 
 pub Performing-more : (all left : List Command) (c : Command) (rest : List Command) (t : Tables) (s : Session) (Mid : Tables → Type 0) (tally : Tally) (s1 : Session) (Ends : Tables → Type 0) (after : Tally) (s2 : Session) → Performing all left t s Mid tally s1 → left ≡ c ∷ rest → ((x : Tables) → Mid x → Performed x s1 (c ∷ []) (λ replies y. Ends y × Adds tally after replies) s2) → Performing all rest t s Ends after s2
@@ -185,7 +185,7 @@ Performing-uncommitted all left c rest t s Mid tally s1 leaves before next one =
       next = q.next;
       first = subst (λ cs. IsFront cs all) (sym (append_assoc before.done q.done (q.next ∷ []))) (longer-front all left before.done (c ∷ []) rest before.split next (q.done ++ q.next ∷ []) q.first);
       session' = q.session';
-      performed = Performed-then t s before.done (λ replies x. Mid x × Counted tally replies) s1 q.done (λ replies x. NoneStarved replies × MayAdd leaves q.next q.session' x) (λ replies x. NoneStarved replies × MayAdd leaves q.next q.session' x) q.session' p r (each-append p.replies r.replies p.ends.1.none r.ends.0, r.ends.1);
+      performed = Performed-then t s before.done (λ replies x. Mid x × Counted tally replies) s1 q.done (λ replies x. NoneStarved replies × MayHaveCommitted leaves q.next q.session' x) (λ replies x. NoneStarved replies × MayHaveCommitted leaves q.next q.session' x) q.session' p r (each-append p.replies r.replies p.ends.1.none r.ends.0, r.ends.1);
     }
 
 pub none-left : (xs : List Command) → length xs ≡ 0 → xs ≡ []
@@ -202,16 +202,16 @@ at-start P s cs n new all holds = subst (λ ds. P no_session ds) all (subst (λ 
 
 -- all commands were performed by an engine, and these are their counts
 abbrev pub AllPerformed : Tables → Session → List Command → Engine → (Tables → Type 0) → (Tables → Type 0) → Tally → Session → Type 0
-AllPerformed t s cs engine tells leaves tally s' = Performed t s cs (λ replies x. IsAt engine tells leaves x × Counted tally replies) s'
+AllPerformed t s cs engine tells leaves tally s' = Performed t s cs (λ replies x. EngineMatchesKeeper engine tells leaves x × Counted tally replies) s'
 
 summed : (t : Tables) (n : ℕ) (cs : List Command) (engine : Engine) (tells leaves : Tables → Type 0) (tally : Tally) (s' : Session) (summary : Summary) (count : ℕ) → count ≡ length cs → cs ≡ sample_of n → (one : AllPerformed t no_session (sample_of n) engine tells leaves tally s') → summary ≡ record { messages = n; commands = count; refused = tally.refused; documents = length engine.index.docs; notes = length engine.index.notes; delivered = tally.delivered } → summary ≡ summary_of n one.replies one.tables'
 summed t n cs engine tells leaves tally s' summary count long all one is =
-    Summary-of summary n count tally.refused (length engine.index.docs) (length engine.index.notes) tally.delivered one.replies one.tables' is (long ∙ ap length all) one.ends.1.refused (ap (λ rows. length rows.docs) one.ends.0.stands.rows) (ap (λ rows. length rows.notes) one.ends.0.stands.rows) one.ends.1.delivered
+    Summary-of summary n count tally.refused (length engine.index.docs) (length engine.index.notes) tally.delivered one.replies one.tables' is (long ∙ ap length all) one.ends.1.refused (ap (λ rows. length rows.docs) one.ends.0.represents.rows) (ap (λ rows. length rows.notes) one.ends.0.represents.rows) one.ends.1.delivered
 
-ended : (t : Tables) (n : ℕ) (engine : Engine) (tells leaves : Tables → Type 0) (tally : Tally) (s' : Session) → AllPerformed t no_session (sample_of n) engine tells leaves tally s' → Performed t no_session (sample_of n) (λ replies x. NoneStarved replies × Holds tells leaves x) s'
-ended t n engine tells leaves tally s' one = Performed-with t no_session (sample_of n) (λ replies x. IsAt engine tells leaves x × Counted tally replies) (λ replies x. NoneStarved replies × Holds tells leaves x) s' one (one.ends.1.none, one.ends.0.holds)
+ended : (t : Tables) (n : ℕ) (engine : Engine) (tells leaves : Tables → Type 0) (tally : Tally) (s' : Session) → AllPerformed t no_session (sample_of n) engine tells leaves tally s' → Performed t no_session (sample_of n) (λ replies x. NoneStarved replies × IsDurable tells leaves x) s'
+ended t n engine tells leaves tally s' one = Performed-with t no_session (sample_of n) (λ replies x. EngineMatchesKeeper engine tells leaves x × Counted tally replies) (λ replies x. NoneStarved replies × IsDurable tells leaves x) s' one (one.ends.1.none, one.ends.0.holds)
 
-pub Sampled-put : (t : Tables) (n : ℕ) (s : Session) (cs : List Command) (engine : Engine) (tells leaves : Tables → Type 0) (tally : Tally) (s' : Session) (summary : Summary) (count : ℕ) (out out' : Option (List ℕ)) (ok : Bool) → count ≡ length cs → s ≡ no_session → cs ≡ sample_of n → AllPerformed t s cs engine tells leaves tally s' → summary ≡ record { messages = n; commands = count; refused = tally.refused; documents = length engine.index.docs; notes = length engine.index.notes; delivered = tally.delivered } → Appends out out' (summary_lines summary) → ok ≡ (summary.refused == 0) → Sampled t n out out' (Holds tells leaves) ok
+pub Sampled-put : (t : Tables) (n : ℕ) (s : Session) (cs : List Command) (engine : Engine) (tells leaves : Tables → Type 0) (tally : Tally) (s' : Session) (summary : Summary) (count : ℕ) (out out' : Option (List ℕ)) (ok : Bool) → count ≡ length cs → s ≡ no_session → cs ≡ sample_of n → AllPerformed t s cs engine tells leaves tally s' → summary ≡ record { messages = n; commands = count; refused = tally.refused; documents = length engine.index.docs; notes = length engine.index.notes; delivered = tally.delivered } → Appends out out' (summary_lines summary) → ok ≡ (summary.refused == 0) → Sampled t n out out' (IsDurable tells leaves) ok
 unfolding ended at-start Performed-with
 Sampled-put t n s cs engine tells leaves tally s' summary count out out' ok long new all one is put fine =
     let moved = at-start (λ x ds. AllPerformed t x ds engine tells leaves tally s') s cs n new all one in
@@ -222,7 +222,7 @@ Sampled-put t n s cs engine tells leaves tally s' summary count out out' ok long
       ok = fine ∙ ap (λ y. y.refused == 0) e ∙ all-accepted moved.replies;
     }
 
-pub Sampled-cut : (t : Tables) (n : ℕ) (s : Session) (cs : List Command) (engine : Engine) (tells leaves : Tables → Type 0) (tally : Tally) (s' : Session) (summary : Summary) (count : ℕ) (out out' : Option (List ℕ)) → count ≡ length cs → s ≡ no_session → cs ≡ sample_of n → AllPerformed t s cs engine tells leaves tally s' → summary ≡ record { messages = n; commands = count; refused = tally.refused; documents = length engine.index.docs; notes = length engine.index.notes; delivered = tally.delivered } → FrontPut (summary_lines summary) out out' → SampledCut t n out out' (Holds tells leaves)
+pub Sampled-cut : (t : Tables) (n : ℕ) (s : Session) (cs : List Command) (engine : Engine) (tells leaves : Tables → Type 0) (tally : Tally) (s' : Session) (summary : Summary) (count : ℕ) (out out' : Option (List ℕ)) → count ≡ length cs → s ≡ no_session → cs ≡ sample_of n → AllPerformed t s cs engine tells leaves tally s' → summary ≡ record { messages = n; commands = count; refused = tally.refused; documents = length engine.index.docs; notes = length engine.index.notes; delivered = tally.delivered } → FrontPut (summary_lines summary) out out' → SampledCut t n out out' (IsDurable tells leaves)
 unfolding ended at-start Performed-with
 Sampled-cut t n s cs engine tells leaves tally s' summary count out out' long new all one is cut =
     let moved = at-start (λ x ds. AllPerformed t x ds engine tells leaves tally s') s cs n new all one in

@@ -12,13 +12,13 @@ use Rattle.script_lang.specs.Replies.{reply_bytes, TookSome, is_accepted}
 use Rattle.script_lang.proofs.Puts.{Appends-more, Appends-none}
 use Rattle.tap_edges.specs.declared.edges.PutFailed.{PutFailed}
 use Rattle.tap_model.specs.declared.session.Session.{Session}
-use Rattle.tap_model.specs.Sound.{Sound}
+use Rattle.tap_model.specs.Sound.{IsSound}
 use Rattle.tap_model.specs.Verdicts.{verdict}
 use Rattle.tap_model.specs.Replies.{answer_of, tables_after}
 use Rattle.tap_model.specs.Stories.{Step, Story}
 use Rattle.tap_model.proofs.SoundLaws.{step-sound}
 use Rattle.tap_top.specs.Points.{SoundAlong}
-use Rattle.tap_top.specs.Answers.{Answered, CutOff, MayAdd, Uncommitted}
+use Rattle.tap_top.specs.Answers.{Answered, CutOff, MayHaveCommitted, Uncommitted}
 
 pub Story-then : (t : Tables) (s : Session) (xs : List Command) (rs : List Reply) (t1 : Tables) (s1 : Session) (ys : List Command) (qs : List Reply) (t2 : Tables) (s2 : Session) → Story t s xs rs t1 s1 → Story t1 s1 ys qs t2 s2 → Story t s (xs ++ ys) (rs ++ qs) t2 s2
 Story-then t s [] [] t1 s1 ys qs t2 s2 same more = subst (λ t. Story t s ys qs t2 s2) same.0 (subst (λ s. Story t1 s ys qs t2 s2) same.1 more)
@@ -27,15 +27,15 @@ Story-then t s [] (r ∷ rs) t1 s1 ys qs t2 s2 story more = absurd story
 Story-then t s (x ∷ xs) [] t1 s1 ys qs t2 s2 story more = absurd story
 
 -- a story that begins sound is sound at each point
-pub Story-sound : (t : Tables) (s : Session) (xs : List Command) (rs : List Reply) (t1 : Tables) (s1 : Session) (story : Story t s xs rs t1 s1) → Sound t s → SoundAlong t s xs rs t1 s1 story
-Story-sound t s [] [] t1 s1 story sound = subst (λ x. Sound x s1) (sym story.0) (subst (λ y. Sound t y) (sym story.1) sound)
+pub Story-sound : (t : Tables) (s : Session) (xs : List Command) (rs : List Reply) (t1 : Tables) (s1 : Session) (story : Story t s xs rs t1 s1) → IsSound t s → SoundAlong t s xs rs t1 s1 story
+Story-sound t s [] [] t1 s1 story sound = subst (λ x. IsSound x s1) (sym story.0) (subst (λ y. IsSound t y) (sym story.1) sound)
 Story-sound t s (x ∷ xs) (r ∷ rs) t1 s1 story sound = (sound, Story-sound story.0 story.1 xs rs t1 s1 story.3 (step-sound t s x r story.0 story.1 story.2 sound))
 Story-sound t s [] (r ∷ rs) t1 s1 story sound = absurd story
 Story-sound t s (x ∷ xs) [] t1 s1 story sound = absurd story
 
 -- it began so
-pub first-sound : (t : Tables) (s : Session) (xs : List Command) (rs : List Reply) (t1 : Tables) (s1 : Session) (story : Story t s xs rs t1 s1) → SoundAlong t s xs rs t1 s1 story → Sound t s
-first-sound t s [] [] t1 s1 story along = subst (λ x. Sound x s) story.0 (subst (λ y. Sound t1 y) story.1 along)
+pub first-sound : (t : Tables) (s : Session) (xs : List Command) (rs : List Reply) (t1 : Tables) (s1 : Session) (story : Story t s xs rs t1 s1) → SoundAlong t s xs rs t1 s1 story → IsSound t s
+first-sound t s [] [] t1 s1 story along = subst (λ x. IsSound x s) story.0 (subst (λ y. IsSound t1 y) story.1 along)
 first-sound t s (x ∷ xs) (r ∷ rs) t1 s1 story along = along.0
 first-sound t s [] (r ∷ rs) t1 s1 story along = absurd story
 first-sound t s (x ∷ xs) [] t1 s1 story along = absurd story
@@ -45,11 +45,11 @@ list_all-append [] ys = refl
 list_all-append (x ∷ xs) ys = elim (is_accepted x) as (λ b. (b && list_all is_accepted (xs ++ ys)) ≡ ((b && list_all is_accepted xs) && list_all is_accepted ys)) [ true ↦ list_all-append xs ys | false ↦ refl ]
 
 -- nothing is answered yet
-pub Answered-none : (t : Tables) (s : Session) (out : Option (List ℕ)) (Ends : Tables → Type 0) → Sound t s → Ends t → Answered t s [] out out Ends s true
+pub Answered-none : (t : Tables) (s : Session) (out : Option (List ℕ)) (Ends : Tables → Type 0) → IsSound t s → Ends t → Answered t s [] out out Ends s true
 Answered-none t s out Ends sound ends = record { replies = []; tables' = t; story = (refl, refl); sound = sound; written = Appends-none out; ok = refl; ends = ends }
 
 -- one command is answered
-pub Answered-one : (t : Tables) (s : Session) (c : Command) (r : Reply) (out out' : Option (List ℕ)) (Ends : Tables → Type 0) (t' : Tables) (s' : Session) (ok : Bool) → Sound t s → Step t s c r t' s' → Appends out out' (reply_bytes r) → ok ≡ is_accepted r → Ends t' → Answered t s (c ∷ []) out out' Ends s' ok
+pub Answered-one : (t : Tables) (s : Session) (c : Command) (r : Reply) (out out' : Option (List ℕ)) (Ends : Tables → Type 0) (t' : Tables) (s' : Session) (ok : Bool) → IsSound t s → Step t s c r t' s' → Appends out out' (reply_bytes r) → ok ≡ is_accepted r → Ends t' → Answered t s (c ∷ []) out out' Ends s' ok
 Answered-one t s c r out out' Ends t' s' ok sound step written is ends = record {
   replies = r ∷ [];
   tables' = t';
@@ -79,7 +79,7 @@ pub Answered-less : (t : Tables) (s : Session) (xs : List Command) (out new : Op
 Answered-less t s xs out new Ends Less s1 a less one = record { replies = one.replies; tables' = one.tables'; story = one.story; sound = one.sound; written = one.written; ok = one.ok; ends = less one.tables' one.ends }
 
 -- one command's reply is cut off
-pub CutOff-one : (t : Tables) (s : Session) (c : Command) (r : Reply) (out out' : Option (List ℕ)) (Ends : Tables → Type 0) (t' : Tables) (s' : Session) (failed : PutFailed) → Sound t s → Step t s c r t' s' → TookSome 0 out out' (reply_bytes r) failed → Ends t' → CutOff t s [] c out out' Ends
+pub CutOff-one : (t : Tables) (s : Session) (c : Command) (r : Reply) (out out' : Option (List ℕ)) (Ends : Tables → Type 0) (t' : Tables) (s' : Session) (failed : PutFailed) → IsSound t s → Step t s c r t' s' → TookSome 0 out out' (reply_bytes r) failed → Ends t' → CutOff t s [] c out out' Ends
 CutOff-one t s c r out out' Ends t' s' failed sound step cut ends = record {
   replies = [];
   reply = r;
@@ -115,14 +115,14 @@ CutOff-then t s xs out mid Mid s1 a done last new Ends one cut =
       joined a b c e = sym (append_assoc a b c) ∙ ap (λ xs. xs ++ c) (sym e)
 
 -- the commit of a command failed
-pub Uncommitted-one : (t : Tables) (s : Session) (c : Command) (out : Option (List ℕ)) (leaves : Tables → Type 0) → Sound t s → verdict c s t ≡ None → ((x : Tables) → leaves x → (x ≡ t) ⊎ (x ≡ tables_after (answer_of c s t).change t)) → Uncommitted t s [] c out out leaves
+pub Uncommitted-one : (t : Tables) (s : Session) (c : Command) (out : Option (List ℕ)) (leaves : Tables → Type 0) → IsSound t s → verdict c s t ≡ None → ((x : Tables) → leaves x → (x ≡ t) ⊎ (x ≡ tables_after (answer_of c s t).change t)) → Uncommitted t s [] c out out leaves
 Uncommitted-one t s c out leaves sound accepted either =
-    let may : MayAdd leaves c s t = record { accepted = accepted; either = either } in record { session' = s; all_ok = true; answered = Answered-none t s out (MayAdd leaves c s) sound may }
+    let may : MayHaveCommitted leaves c s t = record { accepted = accepted; either = either } in record { session' = s; all_ok = true; answered = Answered-none t s out (MayHaveCommitted leaves c s) sound may }
 
 -- a commit failed after commands that were answered
 pub Uncommitted-then : (t : Tables) (s : Session) (xs : List Command) (out mid : Option (List ℕ)) (Mid : Tables → Type 0) (s1 : Session) (a : Bool) (done : List Command) (next : Command) (new : Option (List ℕ)) (leaves : Tables → Type 0) → (one : Answered t s xs out mid Mid s1 a) → Uncommitted one.tables' s1 done next mid new leaves → Uncommitted t s (xs ++ done) next out new leaves
 Uncommitted-then t s xs out mid Mid s1 a done next new leaves one cut = record {
   session' = cut.session';
   all_ok = a && cut.all_ok;
-  answered = Answered-then t s xs out mid Mid s1 a done new (MayAdd leaves next cut.session') cut.session' cut.all_ok one cut.answered;
+  answered = Answered-then t s xs out mid Mid s1 a done new (MayHaveCommitted leaves next cut.session') cut.session' cut.all_ok one cut.answered;
 }

@@ -37,7 +37,7 @@ pub record CutOff (tables : Tables) (session : Session) (done : List Command) (l
   pub ends : Ends tables'
 
 -- the next command is accepted, and a crash leaves these tables or those with the rows that it adds
-pub record MayAdd (leaves : Tables → Type 0) (next : Command) (session : Session) (tables : Tables) : Type 0 where
+pub record MayHaveCommitted (leaves : Tables → Type 0) (next : Command) (session : Session) (tables : Tables) : Type 0 where
   pub accepted : verdict next session tables ≡ None
   pub either : (x : Tables) → leaves x → (x ≡ tables) ⊎ (x ≡ tables_after (answer_of next session tables).change tables)
 
@@ -45,7 +45,7 @@ pub record MayAdd (leaves : Tables → Type 0) (next : Command) (session : Sessi
 pub record Uncommitted (tables : Tables) (session : Session) (done : List Command) (next : Command) (out out' : Option (List ℕ)) (leaves : Tables → Type 0) : Type 0 where
   pub session' : Session
   pub all_ok : Bool
-  pub answered : Answered tables session done out out' (MayAdd leaves next session') session' all_ok
+  pub answered : Answered tables session done out out' (MayHaveCommitted leaves next session') session' all_ok
 
 -- the last commands were answered; whether all replies begin `ok`, those before them too
 pub record Closed (tables : Tables) (session : Session) (commands : List Command) (out out' : Option (List ℕ)) (Ends : Tables → Type 0) (before all_ok : Bool) : Type 0 where

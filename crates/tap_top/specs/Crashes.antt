@@ -21,15 +21,15 @@ pub record IsPrefix (tables : Tables) (commands : List Command) (replies : List 
   pub story : Story tables no_session (take k commands) (take k replies) x session
 
 -- the first n replies lie whole in these bytes
-pub record LieWhole (n : ℕ) (replies : List Reply) (bytes : List ℕ) : Type 0 where
+pub record AreFullyWritten (n : ℕ) (replies : List Reply) (bytes : List ℕ) : Type 0 where
   pub rest : List ℕ
   pub is : bytes ≡ flat_map reply_bytes (take n replies) ++ rest
 
 -- these bytes are a front of the bytes of these replies, and all replies but the last lie whole in them
-pub record AreSaid (replies : List Reply) (bytes : List ℕ) : Type 0 where
+pub record AreWrittenReplies (replies : List Reply) (bytes : List ℕ) : Type 0 where
   pub rest : List ℕ
   pub front : flat_map reply_bytes replies ≡ bytes ++ rest
-  pub most : LieWhole (length replies - 1) replies bytes
+  pub most : AreFullyWritten (length replies - 1) replies bytes
 
 -- a crash leaves the tables after some first commands of the script, with all those among them whose replies lie whole in
 -- what was written; over a store of a known version nothing else was written than these replies, of which the last may be
@@ -45,5 +45,5 @@ pub record LeavesPrefix (tables : Tables) (left left' out out' : Option (List �
   pub story : Story tables no_session commands replies tables' session'
   pub written : List ℕ
   pub put : Appends out out' written
-  pub said : (v : ℤ) → versions v → (v ≡ pos 1) ⊎ (v ≡ pos 2) → AreSaid replies written
-  pub each : (n : ℕ) → n ≤ length replies → LieWhole n replies written → (x : Tables) → leaves x → IsPrefix tables commands replies n x
+  pub said : (v : ℤ) → versions v → (v ≡ pos 1) ⊎ (v ≡ pos 2) → AreWrittenReplies replies written
+  pub each : (n : ℕ) → n ≤ length replies → AreFullyWritten n replies written → (x : Tables) → leaves x → IsPrefix tables commands replies n x

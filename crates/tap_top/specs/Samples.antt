@@ -17,7 +17,7 @@ use Rattle.tap_model.specs.Sessions.{no_session}
 use Rattle.tap_model.specs.Stories.{Story}
 use Rattle.tap_top.specs.declared.tally.Tally.{Tally}
 use Rattle.tap_top.specs.Points.{SoundAlong}
-use Rattle.tap_top.specs.Answers.{MayAdd}
+use Rattle.tap_top.specs.Answers.{MayHaveCommitted}
 use Rattle.tap_top.specs.Statuses.{IsFront}
 use Rattle.tap_top.specs.Crashes.{IsPrefix}
 
@@ -80,7 +80,7 @@ pub record NextUncommitted (tables : Tables) (session : Session) (commands : Lis
   pub next : Command
   pub first : IsFront (done ++ next ∷ []) commands
   pub session' : Session
-  pub performed : Performed tables session done (λ replies tables'. NoneStarved replies × MayAdd leaves next session' tables') session'
+  pub performed : Performed tables session done (λ replies tables'. NoneStarved replies × MayHaveCommitted leaves next session' tables') session'
 
 -- the summary of a sample with n messages: of these replies, and of the tables at the end
 abbrev pub summary_of : ℕ → List Reply → Tables → Summary
@@ -122,5 +122,5 @@ pub record LeavesFirst (tables : Tables) (commands : List Command) (leaves : Tab
   pub each : (x : Tables) → leaves x → IsPrefix tables done replies 0 x
 
 -- and here these tables alone
-abbrev pub LeavesAlone : Tables → (Tables → Type 0) → Type 0
-LeavesAlone tables leaves = (x : Tables) → leaves x → x ≡ tables
+abbrev pub LeavesOnly : Tables → (Tables → Type 0) → Type 0
+LeavesOnly tables leaves = (x : Tables) → leaves x → x ≡ tables

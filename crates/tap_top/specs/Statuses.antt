@@ -79,7 +79,7 @@ pub record Unattached (tables : Tables) (left left' out out' : Option (List ℕ)
   pub alone : (x : Tables) → leaves x → x ≡ tables
 
 -- status 7: some first commands were answered
-pub record Starved (tables : Tables) (left left' out out' : Option (List ℕ)) (Ends : Tables → Type 0) : Type 0 where
+pub record OutOfMemory (tables : Tables) (left left' out out' : Option (List ℕ)) (Ends : Tables → Type 0) : Type 0 where
   pub bytes : List ℕ
   pub taken : Consumes left left' bytes
   pub few : length bytes ≤ SCRIPT_LIMIT + PIECE

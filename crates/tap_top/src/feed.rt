@@ -1,12 +1,12 @@
 ghost use Rattle.std.specs.Prelude.{◌≡◌, ◌≤◌, ◌<◌, ◌↔◌, [], ◌∷◌, Some, None, true, length, take, drop, OnOk, IfOk, IsErrOf};
-ghost use Rattle.keeper_core.specs.Keeping.{Holds};
-ghost use Rattle.tap_edges.specs.Edges.{Rose};
+ghost use Rattle.keeper_core.specs.Keeping.{IsDurable};
+ghost use Rattle.tap_base.specs.Counts.{Rose};
 ghost use Rattle.tap_rows.specs.declared.tables.Tables.{Tables};
 ghost use Rattle.script_lang.specs.Replies.{is_accepted};
 ghost use Rattle.script_lang.specs.Script.{script_from, complete_from};
-ghost use Rattle.tap_top.specs.Points.{CanPerform, IsAt, GoesOn};
+ghost use Rattle.tap_top.specs.Points.{CanPerform, EngineMatchesKeeper, KeeperFrame};
 ghost use Rattle.tap_top.specs.Answers.{Answered, CutOff, Uncommitted, ClosedCut};
-ghost use Rattle.tap_top.specs.Pieces.{Went, WentCut, WentShort};
+ghost use Rattle.tap_top.specs.Pieces.{PieceAnswered, PieceCut, PieceOutOfMemory};
 ghost use Rattle.tap_top.specs.declared.feed.Stop.{Stop};
 
 use keeper_core::Keeper;
@@ -45,16 +45,16 @@ pub fn answer<K: Sink, P: Keeper, L: Ledger>(
     sink: &mut K,
 ) -> Result<bool, Stop>
     requires can { CanPerform engine.old (P.attached keeper.old) (P.stopped keeper.old) }
-    ensures ok { IfOk result (λ ok. (t : Tables) → P.honest keeper.new → IsAt engine.old (P.tells keeper.old) (P.may_leave keeper.old) t → Answered t engine.old.session (command ∷ []) (K.out sink.old) (K.out sink.new) (IsAt engine.new (P.tells keeper.new) (P.may_leave keeper.new)) engine.new.session ok) }
-    ensures put { IsErrOf result Stop.Put → (t : Tables) → P.honest keeper.new → IsAt engine.old (P.tells keeper.old) (P.may_leave keeper.old) t → CutOff t engine.old.session [] command (K.out sink.old) (K.out sink.new) (Holds (P.tells keeper.new) (P.may_leave keeper.new)) }
-    ensures uncommitted { IsErrOf result Stop.Keeper → (t : Tables) → P.honest keeper.new → IsAt engine.old (P.tells keeper.old) (P.may_leave keeper.old) t → Uncommitted t engine.old.session [] command (K.out sink.old) (K.out sink.new) (P.may_leave keeper.new) }
+    ensures ok { IfOk result (λ ok. (t : Tables) → P.honest keeper.new → EngineMatchesKeeper engine.old (P.tells keeper.old) (P.may_leave keeper.old) t → Answered t engine.old.session (command ∷ []) (K.out sink.old) (K.out sink.new) (EngineMatchesKeeper engine.new (P.tells keeper.new) (P.may_leave keeper.new)) engine.new.session ok) }
+    ensures put { IsErrOf result Stop.Put → (t : Tables) → P.honest keeper.new → EngineMatchesKeeper engine.old (P.tells keeper.old) (P.may_leave keeper.old) t → CutOff t engine.old.session [] command (K.out sink.old) (K.out sink.new) (IsDurable (P.tells keeper.new) (P.may_leave keeper.new)) }
+    ensures uncommitted { IsErrOf result Stop.Keeper → (t : Tables) → P.honest keeper.new → EngineMatchesKeeper engine.old (P.tells keeper.old) (P.may_leave keeper.old) t → Uncommitted t engine.old.session [] command (K.out sink.old) (K.out sink.new) (P.may_leave keeper.new) }
     ensures able { IsErrOf result Stop.Memory → ⊥ }
     ensures can { OnOk result (CanPerform engine.new (P.attached keeper.new) (P.stopped keeper.new)) }
     ensures stopped { (P.stopped keeper.new ≡ true) ↔ IsErrOf result Stop.Keeper }
     ensures cause { IsErrOf result Stop.Put → Rose (K.faults sink.old) (K.faults sink.new) }
     ensures kept_cause { IsErrOf result Stop.Keeper → Rose (P.faults keeper.old) (P.faults keeper.new) }
     ensures later { K.faults sink.old ≤ K.faults sink.new }
-    ensures keeper { GoesOn (P.place keeper.old) (P.place keeper.new) (P.faults keeper.old) (P.faults keeper.new) (P.honest keeper.old) (P.honest keeper.new) }
+    ensures keeper { KeeperFrame (P.place keeper.old) (P.place keeper.new) (P.faults keeper.old) (P.faults keeper.new) (P.honest keeper.old) (P.honest keeper.new) }
 {
     let reply = match engine.perform(alloc, keeper, command, steps) {
         Ok(reply) => reply,
@@ -67,7 +67,7 @@ pub fn answer<K: Sink, P: Keeper, L: Ledger>(
 }
 
 // What follows the first `n` bytes.
-fn after(bytes: &[u8], n: usize) -> &[u8]
+fn rest_from(bytes: &[u8], n: usize) -> &[u8]
     requires { n ≤ length bytes.now }
     ensures { result.now ≡ drop n bytes.now }
 {
@@ -76,7 +76,7 @@ fn after(bytes: &[u8], n: usize) -> &[u8]
 
 /// How many bytes a step took, and whether the reply to the command that they completed begins `ok`.
 #[derive(Clone, Copy, Debug, PartialEq, Eq)]
-struct Stepped {
+struct LineTaken {
     used: usize,
     ok: bool,
 }
@@ -90,21 +90,21 @@ fn take_one<K: Sink, P: Keeper, L: Ledger>(
     keeper: &mut P,
     steps: &mut Steps<L>,
     sink: &mut K,
-) -> Result<Stepped, Stop>
+) -> Result<LineTaken, Stop>
     requires some { 0 < length piece.now }
     requires can { CanPerform engine.old (P.attached keeper.old) (P.stopped keeper.old) }
     ensures within { IfOk result (λ step. (0 < step.used) × (step.used ≤ length piece.now)) }
     ensures open { OnOk result (complete_from reader.new [] ≡ []) }
-    ensures ok { IfOk result (λ step. (t : Tables) → P.honest keeper.new → IsAt engine.old (P.tells keeper.old) (P.may_leave keeper.old) t → Went (take step.used piece.now) reader.old reader.new t engine.old.session (K.out sink.old) (K.out sink.new) (IsAt engine.new (P.tells keeper.new) (P.may_leave keeper.new)) engine.new.session step.ok) }
-    ensures put { IsErrOf result Stop.Put → (t : Tables) → P.honest keeper.new → IsAt engine.old (P.tells keeper.old) (P.may_leave keeper.old) t → WentCut piece.now reader.old (λ done last. CutOff t engine.old.session done last (K.out sink.old) (K.out sink.new) (Holds (P.tells keeper.new) (P.may_leave keeper.new))) }
-    ensures uncommitted { IsErrOf result Stop.Keeper → (t : Tables) → P.honest keeper.new → IsAt engine.old (P.tells keeper.old) (P.may_leave keeper.old) t → WentCut piece.now reader.old (λ done next. Uncommitted t engine.old.session done next (K.out sink.old) (K.out sink.new) (P.may_leave keeper.new)) }
+    ensures ok { IfOk result (λ step. (t : Tables) → P.honest keeper.new → EngineMatchesKeeper engine.old (P.tells keeper.old) (P.may_leave keeper.old) t → PieceAnswered (take step.used piece.now) reader.old reader.new t engine.old.session (K.out sink.old) (K.out sink.new) (EngineMatchesKeeper engine.new (P.tells keeper.new) (P.may_leave keeper.new)) engine.new.session step.ok) }
+    ensures put { IsErrOf result Stop.Put → (t : Tables) → P.honest keeper.new → EngineMatchesKeeper engine.old (P.tells keeper.old) (P.may_leave keeper.old) t → PieceCut piece.now reader.old (λ done last. CutOff t engine.old.session done last (K.out sink.old) (K.out sink.new) (IsDurable (P.tells keeper.new) (P.may_leave keeper.new))) }
+    ensures uncommitted { IsErrOf result Stop.Keeper → (t : Tables) → P.honest keeper.new → EngineMatchesKeeper engine.old (P.tells keeper.old) (P.may_leave keeper.old) t → PieceCut piece.now reader.old (λ done next. Uncommitted t engine.old.session done next (K.out sink.old) (K.out sink.new) (P.may_leave keeper.new)) }
     ensures memory { IsErrOf result Stop.Memory → (keeper.new ≡ keeper.old) × ((engine.new ≡ engine.old) × (K.out sink.new ≡ K.out sink.old)) }
     ensures can { OnOk result (CanPerform engine.new (P.attached keeper.new) (P.stopped keeper.new)) }
     ensures stopped { (P.stopped keeper.new ≡ true) ↔ IsErrOf result Stop.Keeper }
     ensures cause { IsErrOf result Stop.Put → Rose (K.faults sink.old) (K.faults sink.new) }
     ensures kept_cause { IsErrOf result Stop.Keeper → Rose (P.faults keeper.old) (P.faults keeper.new) }
     ensures later { K.faults sink.old ≤ K.faults sink.new }
-    ensures keeper { GoesOn (P.place keeper.old) (P.place keeper.new) (P.faults keeper.old) (P.faults keeper.new) (P.honest keeper.old) (P.honest keeper.new) }
+    ensures keeper { KeeperFrame (P.place keeper.old) (P.place keeper.new) (P.faults keeper.old) (P.faults keeper.new) (P.honest keeper.old) (P.honest keeper.new) }
 {
     let got = match reader.take(piece) {
         Ok(got) => got,
@@ -112,9 +112,9 @@ fn take_one<K: Sink, P: Keeper, L: Ledger>(
     };
     let Got { used, command } = got;
     match command {
-        None => Ok(Stepped { used, ok: true }),
+        None => Ok(LineTaken { used, ok: true }),
         Some(command) => match answer(alloc, engine, keeper, command, steps, sink) {
-            Ok(ok) => Ok(Stepped { used, ok }),
+            Ok(ok) => Ok(LineTaken { used, ok }),
             Err(stop) => Err(stop),
         },
     }
@@ -133,16 +133,16 @@ pub fn feed<K: Sink, P: Keeper, L: Ledger>(
     requires open { complete_from reader.old [] ≡ [] }
     requires can { CanPerform engine.old (P.attached keeper.old) (P.stopped keeper.old) }
     ensures open { OnOk result (complete_from reader.new [] ≡ []) }
-    ensures ok { IfOk result (λ ok. (t : Tables) → P.honest keeper.new → IsAt engine.old (P.tells keeper.old) (P.may_leave keeper.old) t → Went piece.now reader.old reader.new t engine.old.session (K.out sink.old) (K.out sink.new) (IsAt engine.new (P.tells keeper.new) (P.may_leave keeper.new)) engine.new.session ok) }
-    ensures put { IsErrOf result Stop.Put → (t : Tables) → P.honest keeper.new → IsAt engine.old (P.tells keeper.old) (P.may_leave keeper.old) t → WentCut piece.now reader.old (λ done last. CutOff t engine.old.session done last (K.out sink.old) (K.out sink.new) (Holds (P.tells keeper.new) (P.may_leave keeper.new))) }
-    ensures uncommitted { IsErrOf result Stop.Keeper → (t : Tables) → P.honest keeper.new → IsAt engine.old (P.tells keeper.old) (P.may_leave keeper.old) t → WentCut piece.now reader.old (λ done next. Uncommitted t engine.old.session done next (K.out sink.old) (K.out sink.new) (P.may_leave keeper.new)) }
-    ensures memory { IsErrOf result Stop.Memory → (t : Tables) → P.honest keeper.new → IsAt engine.old (P.tells keeper.old) (P.may_leave keeper.old) t → WentShort piece.now reader.old t engine.old.session (K.out sink.old) (K.out sink.new) (Holds (P.tells keeper.new) (P.may_leave keeper.new)) }
+    ensures ok { IfOk result (λ ok. (t : Tables) → P.honest keeper.new → EngineMatchesKeeper engine.old (P.tells keeper.old) (P.may_leave keeper.old) t → PieceAnswered piece.now reader.old reader.new t engine.old.session (K.out sink.old) (K.out sink.new) (EngineMatchesKeeper engine.new (P.tells keeper.new) (P.may_leave keeper.new)) engine.new.session ok) }
+    ensures put { IsErrOf result Stop.Put → (t : Tables) → P.honest keeper.new → EngineMatchesKeeper engine.old (P.tells keeper.old) (P.may_leave keeper.old) t → PieceCut piece.now reader.old (λ done last. CutOff t engine.old.session done last (K.out sink.old) (K.out sink.new) (IsDurable (P.tells keeper.new) (P.may_leave keeper.new))) }
+    ensures uncommitted { IsErrOf result Stop.Keeper → (t : Tables) → P.honest keeper.new → EngineMatchesKeeper engine.old (P.tells keeper.old) (P.may_leave keeper.old) t → PieceCut piece.now reader.old (λ done next. Uncommitted t engine.old.session done next (K.out sink.old) (K.out sink.new) (P.may_leave keeper.new)) }
+    ensures memory { IsErrOf result Stop.Memory → (t : Tables) → P.honest keeper.new → EngineMatchesKeeper engine.old (P.tells keeper.old) (P.may_leave keeper.old) t → PieceOutOfMemory piece.now reader.old t engine.old.session (K.out sink.old) (K.out sink.new) (IsDurable (P.tells keeper.new) (P.may_leave keeper.new)) }
     ensures can { OnOk result (CanPerform engine.new (P.attached keeper.new) (P.stopped keeper.new)) }
     ensures stopped { (P.stopped keeper.new ≡ true) ↔ IsErrOf result Stop.Keeper }
     ensures cause { IsErrOf result Stop.Put → Rose (K.faults sink.old) (K.faults sink.new) }
     ensures kept_cause { IsErrOf result Stop.Keeper → Rose (P.faults keeper.old) (P.faults keeper.new) }
     ensures later { K.faults sink.old ≤ K.faults sink.new }
-    ensures keeper { GoesOn (P.place keeper.old) (P.place keeper.new) (P.faults keeper.old) (P.faults keeper.new) (P.honest keeper.old) (P.honest keeper.new) }
+    ensures keeper { KeeperFrame (P.place keeper.old) (P.place keeper.new) (P.faults keeper.old) (P.faults keeper.new) (P.honest keeper.old) (P.honest keeper.new) }
 {
     let mut all_ok = true;
     let mut rest = piece;
@@ -150,7 +150,7 @@ pub fn feed<K: Sink, P: Keeper, L: Ledger>(
         match take_one(alloc, reader, rest, engine, keeper, steps, sink) {
             Ok(step) => {
                 all_ok &= step.ok;
-                rest = after(rest, step.used);
+                rest = rest_from(rest, step.used);
             }
             Err(Stop::Put) => return Err(Stop::Put),
             Err(Stop::Keeper) => return Err(Stop::Keeper),
@@ -170,15 +170,15 @@ pub fn finish<K: Sink, P: Keeper, L: Ledger>(
     sink: &mut K,
 ) -> Result<bool, Stop>
     requires can { CanPerform engine.old (P.attached keeper.old) (P.stopped keeper.old) }
-    ensures ok { IfOk result (λ ok. (t : Tables) → P.honest keeper.new → IsAt engine.old (P.tells keeper.old) (P.may_leave keeper.old) t → Answered t engine.old.session (script_from reader.old []) (K.out sink.old) (K.out sink.new) (IsAt engine.new (P.tells keeper.new) (P.may_leave keeper.new)) engine.new.session ok) }
-    ensures put { IsErrOf result Stop.Put → (t : Tables) → P.honest keeper.new → IsAt engine.old (P.tells keeper.old) (P.may_leave keeper.old) t → ClosedCut (script_from reader.old []) (λ done last. CutOff t engine.old.session done last (K.out sink.old) (K.out sink.new) (Holds (P.tells keeper.new) (P.may_leave keeper.new))) }
-    ensures uncommitted { IsErrOf result Stop.Keeper → (t : Tables) → P.honest keeper.new → IsAt engine.old (P.tells keeper.old) (P.may_leave keeper.old) t → ClosedCut (script_from reader.old []) (λ done next. Uncommitted t engine.old.session done next (K.out sink.old) (K.out sink.new) (P.may_leave keeper.new)) }
+    ensures ok { IfOk result (λ ok. (t : Tables) → P.honest keeper.new → EngineMatchesKeeper engine.old (P.tells keeper.old) (P.may_leave keeper.old) t → Answered t engine.old.session (script_from reader.old []) (K.out sink.old) (K.out sink.new) (EngineMatchesKeeper engine.new (P.tells keeper.new) (P.may_leave keeper.new)) engine.new.session ok) }
+    ensures put { IsErrOf result Stop.Put → (t : Tables) → P.honest keeper.new → EngineMatchesKeeper engine.old (P.tells keeper.old) (P.may_leave keeper.old) t → ClosedCut (script_from reader.old []) (λ done last. CutOff t engine.old.session done last (K.out sink.old) (K.out sink.new) (IsDurable (P.tells keeper.new) (P.may_leave keeper.new))) }
+    ensures uncommitted { IsErrOf result Stop.Keeper → (t : Tables) → P.honest keeper.new → EngineMatchesKeeper engine.old (P.tells keeper.old) (P.may_leave keeper.old) t → ClosedCut (script_from reader.old []) (λ done next. Uncommitted t engine.old.session done next (K.out sink.old) (K.out sink.new) (P.may_leave keeper.new)) }
     ensures memory { IsErrOf result Stop.Memory → (keeper.new ≡ keeper.old) × ((engine.new ≡ engine.old) × (K.out sink.new ≡ K.out sink.old)) }
     ensures stopped { (P.stopped keeper.new ≡ true) ↔ IsErrOf result Stop.Keeper }
     ensures cause { IsErrOf result Stop.Put → Rose (K.faults sink.old) (K.faults sink.new) }
     ensures kept_cause { IsErrOf result Stop.Keeper → Rose (P.faults keeper.old) (P.faults keeper.new) }
     ensures later { K.faults sink.old ≤ K.faults sink.new }
-    ensures keeper { GoesOn (P.place keeper.old) (P.place keeper.new) (P.faults keeper.old) (P.faults keeper.new) (P.honest keeper.old) (P.honest keeper.new) }
+    ensures keeper { KeeperFrame (P.place keeper.old) (P.place keeper.new) (P.faults keeper.old) (P.faults keeper.new) (P.honest keeper.old) (P.honest keeper.new) }
 {
     match reader.finish() {
         Ok(None) => Ok(true),

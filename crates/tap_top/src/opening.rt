@@ -1,8 +1,9 @@
 ghost use Rattle.std.specs.Prelude.{◌≡◌, ◌⊎◌, ◌↔◌, ◌≤◌, ℤ, true, false, Some, None, IfOk, OnOk, IsErrOf};
-ghost use Rattle.keeper_core.specs.Keeping.{Rose, Holds};
+ghost use Rattle.keeper_core.specs.Keeping.{IsDurable};
+ghost use Rattle.tap_base.specs.Counts.{Rose};
 ghost use Rattle.tap_rows.specs.declared.tables.Tables.{Tables as TableRows};
 ghost use Rattle.tap_model.specs.Sessions.{no_session};
-ghost use Rattle.tap_engine.specs.Standing.{StandsFor};
+ghost use Rattle.tap_engine.specs.Standing.{Represents};
 ghost use Rattle.tap_top.specs.Points.{CanPerform};
 ghost use Rattle.tap_top.specs.Refusals.{row_fault, fault_of};
 ghost use Rattle.tap_top.specs.Opened.{IfRefused};
@@ -27,7 +28,7 @@ pub enum OpenFault {
 fn start(alloc: Global, tables: Tables) -> Result<Engine, OpenFault>
     ensures can { IfOk result (λ engine. CanPerform engine true false) }
     ensures session { IfOk result (λ engine. engine.session ≡ no_session) }
-    ensures stands { IfOk result (λ engine. StandsFor engine tables) }
+    ensures represents { IfOk result (λ engine. Represents engine tables) }
     ensures sure { OnOk result (row_fault tables ≡ None) }
     ensures refused { IfRefused result (λ fault. row_fault tables ≡ Some fault) }
     ensures asked { IsErrOf result OpenFault.Keeper → ⊥ }
@@ -60,8 +61,8 @@ pub fn open_store<P: Keeper>(
     requires running { P.stopped keeper.old ≡ false }
     ensures can { IfOk result (λ engine. CanPerform engine (P.attached keeper.new) (P.stopped keeper.new)) }
     ensures session { IfOk result (λ engine. engine.session ≡ no_session) }
-    ensures stands { IfOk result (λ engine. P.honest keeper.new → (t : TableRows) → P.tells keeper.old t → StandsFor engine t) }
-    ensures kept { P.honest keeper.new → (t : TableRows) → P.tells keeper.old t → P.stopped keeper.new ≡ false → Holds (P.tells keeper.new) (P.may_leave keeper.new) t }
+    ensures represents { IfOk result (λ engine. P.honest keeper.new → (t : TableRows) → P.tells keeper.old t → Represents engine t) }
+    ensures kept { P.honest keeper.new → (t : TableRows) → P.tells keeper.old t → P.stopped keeper.new ≡ false → IsDurable (P.tells keeper.new) (P.may_leave keeper.new) t }
     ensures crash { P.honest keeper.new → (t : TableRows) → P.tells keeper.old t → (x : TableRows) → P.may_leave keeper.new x → x ≡ t }
     ensures sure { OnOk result (P.honest keeper.new → (t : TableRows) → P.tells keeper.old t → (v : ℤ) → P.has_version keeper.old v → fault_of v t ≡ None) }
     ensures refused { IfRefused result (λ fault. P.honest keeper.new → (t : TableRows) → P.tells keeper.old t → (v : ℤ) → P.has_version keeper.old v → fault_of v t ≡ Some fault) }

@@ -1,5 +1,5 @@
 ghost use Rattle.std.specs.Prelude.{◌≡◌, ◌⊎◌};
-ghost use Rattle.tap_edges.specs.Edges.{Rose};
+ghost use Rattle.tap_base.specs.Counts.{Rose};
 ghost use Rattle.tap_top.specs.Refusals.{stop_line, CutLine};
 
 use crate::StoreFault;

@@ -1,7 +1,7 @@
 ghost use Rattle.std.specs.Prelude.{◌≡◌, ◌≢◌, ◌≤◌, ◌+◌, ◌⊎◌, ◌↔◌, ◌==◌, ℕ, ℤ, pos, List, [], ◌∷◌, Option, Some, None, true, false, length, OnOk, IfOk, IfSome, IsErrOf};
 ghost use Rattle.std.specs.Io.KnownBytes.{Appends};
-ghost use Rattle.keeper_core.specs.Keeping.{Holds};
-ghost use Rattle.tap_edges.specs.Edges.{Rose};
+ghost use Rattle.keeper_core.specs.Keeping.{IsDurable};
+ghost use Rattle.tap_base.specs.Counts.{Rose};
 ghost use Rattle.tap_rows.specs.declared.tables.Tables.{Tables};
 ghost use Rattle.script_lang.specs.declared.reply.Reply.{Reply as ReplyOf};
 ghost use Rattle.script_lang.specs.declared.refusal.Refusal.{Refusal as RefusalOf};
@@ -11,8 +11,8 @@ ghost use Rattle.tap_model.specs.Sessions.{no_session};
 ghost use Rattle.tap_model.specs.Sound.{IsStore};
 ghost use Rattle.tap_top.specs.declared.store_fault.StoreFault.{StoreFault as StoreFaultOf};
 ghost use Rattle.tap_top.specs.Refusals.{fault_of, Refused};
-ghost use Rattle.tap_top.specs.Points.{CanPerform, IsAt, GoesOn};
-ghost use Rattle.tap_top.specs.Samples.{refusals_in, hits_in, Performed, Counted, Adds, FirstPerformed, NextUncommitted, FrontPut, Sampled, SampledCut, LeavesFirst, LeavesAlone};
+ghost use Rattle.tap_top.specs.Points.{CanPerform, EngineMatchesKeeper, KeeperFrame};
+ghost use Rattle.tap_top.specs.Samples.{refusals_in, hits_in, Performed, Counted, Adds, FirstPerformed, NextUncommitted, FrontPut, Sampled, SampledCut, LeavesFirst, LeavesOnly};
 ghost use Rattle.tap_top.specs.declared.sampled.Cut.{Cut};
 
 use crate::opening::{OpenFault, open_store};
@@ -56,13 +56,13 @@ fn perform_one<P: Keeper, L: Ledger>(
     tally: Tally,
 ) -> Result<Tally, Cut>
     requires can { CanPerform engine.old (P.attached keeper.old) (P.stopped keeper.old) }
-    ensures ok { IfOk result (λ counted. (t : Tables) → P.honest keeper.new → IsAt engine.old (P.tells keeper.old) (P.may_leave keeper.old) t → Performed t engine.old.session (command ∷ []) (λ replies x. IsAt engine.new (P.tells keeper.new) (P.may_leave keeper.new) x × Adds tally counted replies) engine.new.session) }
-    ensures memory { IsErrOf result Cut.Memory → (t : Tables) → P.honest keeper.new → IsAt engine.old (P.tells keeper.old) (P.may_leave keeper.old) t → FirstPerformed t engine.old.session (command ∷ []) (Holds (P.tells keeper.new) (P.may_leave keeper.new)) }
-    ensures keeper { IsErrOf result Cut.Keeper → (t : Tables) → P.honest keeper.new → IsAt engine.old (P.tells keeper.old) (P.may_leave keeper.old) t → NextUncommitted t engine.old.session (command ∷ []) (P.may_leave keeper.new) }
+    ensures ok { IfOk result (λ counted. (t : Tables) → P.honest keeper.new → EngineMatchesKeeper engine.old (P.tells keeper.old) (P.may_leave keeper.old) t → Performed t engine.old.session (command ∷ []) (λ replies x. EngineMatchesKeeper engine.new (P.tells keeper.new) (P.may_leave keeper.new) x × Adds tally counted replies) engine.new.session) }
+    ensures memory { IsErrOf result Cut.Memory → (t : Tables) → P.honest keeper.new → EngineMatchesKeeper engine.old (P.tells keeper.old) (P.may_leave keeper.old) t → FirstPerformed t engine.old.session (command ∷ []) (IsDurable (P.tells keeper.new) (P.may_leave keeper.new)) }
+    ensures keeper { IsErrOf result Cut.Keeper → (t : Tables) → P.honest keeper.new → EngineMatchesKeeper engine.old (P.tells keeper.old) (P.may_leave keeper.old) t → NextUncommitted t engine.old.session (command ∷ []) (P.may_leave keeper.new) }
     ensures can { OnOk result (CanPerform engine.new (P.attached keeper.new) (P.stopped keeper.new)) }
     ensures stopped { (P.stopped keeper.new ≡ true) ↔ IsErrOf result Cut.Keeper }
     ensures kept_cause { IsErrOf result Cut.Keeper → Rose (P.faults keeper.old) (P.faults keeper.new) }
-    ensures goes_on { GoesOn (P.place keeper.old) (P.place keeper.new) (P.faults keeper.old) (P.faults keeper.new) (P.honest keeper.old) (P.honest keeper.new) }
+    ensures goes_on { KeeperFrame (P.place keeper.old) (P.place keeper.new) (P.faults keeper.old) (P.faults keeper.new) (P.honest keeper.old) (P.honest keeper.new) }
 {
     let reply = match engine.perform(alloc, keeper, command, steps) {
         Ok(reply) => reply,
@@ -83,13 +83,13 @@ fn perform_all<P: Keeper, L: Ledger>(
     steps: &mut Steps<L>,
 ) -> Result<Tally, Cut>
     requires can { CanPerform engine.old (P.attached keeper.old) (P.stopped keeper.old) }
-    ensures ok { IfOk result (λ tally. (t : Tables) → P.honest keeper.new → IsAt engine.old (P.tells keeper.old) (P.may_leave keeper.old) t → Performed t engine.old.session commands (λ replies x. IsAt engine.new (P.tells keeper.new) (P.may_leave keeper.new) x × Counted tally replies) engine.new.session) }
-    ensures memory { IsErrOf result Cut.Memory → (t : Tables) → P.honest keeper.new → IsAt engine.old (P.tells keeper.old) (P.may_leave keeper.old) t → FirstPerformed t engine.old.session commands (Holds (P.tells keeper.new) (P.may_leave keeper.new)) }
-    ensures keeper { IsErrOf result Cut.Keeper → (t : Tables) → P.honest keeper.new → IsAt engine.old (P.tells keeper.old) (P.may_leave keeper.old) t → NextUncommitted t engine.old.session commands (P.may_leave keeper.new) }
+    ensures ok { IfOk result (λ tally. (t : Tables) → P.honest keeper.new → EngineMatchesKeeper engine.old (P.tells keeper.old) (P.may_leave keeper.old) t → Performed t engine.old.session commands (λ replies x. EngineMatchesKeeper engine.new (P.tells keeper.new) (P.may_leave keeper.new) x × Counted tally replies) engine.new.session) }
+    ensures memory { IsErrOf result Cut.Memory → (t : Tables) → P.honest keeper.new → EngineMatchesKeeper engine.old (P.tells keeper.old) (P.may_leave keeper.old) t → FirstPerformed t engine.old.session commands (IsDurable (P.tells keeper.new) (P.may_leave keeper.new)) }
+    ensures keeper { IsErrOf result Cut.Keeper → (t : Tables) → P.honest keeper.new → EngineMatchesKeeper engine.old (P.tells keeper.old) (P.may_leave keeper.old) t → NextUncommitted t engine.old.session commands (P.may_leave keeper.new) }
     ensures can { OnOk result (CanPerform engine.new (P.attached keeper.new) (P.stopped keeper.new)) }
     ensures stopped { (P.stopped keeper.new ≡ true) ↔ IsErrOf result Cut.Keeper }
     ensures kept_cause { IsErrOf result Cut.Keeper → Rose (P.faults keeper.old) (P.faults keeper.new) }
-    ensures goes_on { GoesOn (P.place keeper.old) (P.place keeper.new) (P.faults keeper.old) (P.faults keeper.new) (P.honest keeper.old) (P.honest keeper.new) }
+    ensures goes_on { KeeperFrame (P.place keeper.old) (P.place keeper.new) (P.faults keeper.old) (P.faults keeper.new) (P.honest keeper.old) (P.honest keeper.new) }
 {
     let mut tally = Tally::new();
     for command in commands.into_vec() {
@@ -144,16 +144,16 @@ fn run_sample<K: Sink, P: Keeper, L: Ledger>(
     requires few { n ≤ 100000 }
     requires can { CanPerform engine.old (P.attached keeper.old) (P.stopped keeper.old) }
     requires session { engine.old.session ≡ no_session }
-    ensures whole { result ≤ 1 → (t : Tables) → P.honest keeper.new → IsAt engine.old (P.tells keeper.old) (P.may_leave keeper.old) t → Sampled t n (K.out sink.old) (K.out sink.new) (Holds (P.tells keeper.new) (P.may_leave keeper.new)) (result == 0) }
-    ensures cut { result ≡ 4 → (t : Tables) → P.honest keeper.new → IsAt engine.old (P.tells keeper.old) (P.may_leave keeper.old) t → SampledCut t n (K.out sink.old) (K.out sink.new) (Holds (P.tells keeper.new) (P.may_leave keeper.new)) }
-    ensures uncommitted { result ≡ 5 → (t : Tables) → P.honest keeper.new → IsAt engine.old (P.tells keeper.old) (P.may_leave keeper.old) t → NextUncommitted t no_session (sample_of n) (P.may_leave keeper.new) }
-    ensures memory { result ≡ 7 → (t : Tables) → P.honest keeper.new → IsAt engine.old (P.tells keeper.old) (P.may_leave keeper.old) t → FirstPerformed t no_session (sample_of n) (Holds (P.tells keeper.new) (P.may_leave keeper.new)) }
+    ensures whole { result ≤ 1 → (t : Tables) → P.honest keeper.new → EngineMatchesKeeper engine.old (P.tells keeper.old) (P.may_leave keeper.old) t → Sampled t n (K.out sink.old) (K.out sink.new) (IsDurable (P.tells keeper.new) (P.may_leave keeper.new)) (result == 0) }
+    ensures cut { result ≡ 4 → (t : Tables) → P.honest keeper.new → EngineMatchesKeeper engine.old (P.tells keeper.old) (P.may_leave keeper.old) t → SampledCut t n (K.out sink.old) (K.out sink.new) (IsDurable (P.tells keeper.new) (P.may_leave keeper.new)) }
+    ensures uncommitted { result ≡ 5 → (t : Tables) → P.honest keeper.new → EngineMatchesKeeper engine.old (P.tells keeper.old) (P.may_leave keeper.old) t → NextUncommitted t no_session (sample_of n) (P.may_leave keeper.new) }
+    ensures memory { result ≡ 7 → (t : Tables) → P.honest keeper.new → EngineMatchesKeeper engine.old (P.tells keeper.old) (P.may_leave keeper.old) t → FirstPerformed t no_session (sample_of n) (IsDurable (P.tells keeper.new) (P.may_leave keeper.new)) }
     ensures silent { (result ≡ 5) ⊎ (result ≡ 7) → K.out sink.new ≡ K.out sink.old }
     ensures statuses { result ≤ 1 ⊎ (result ≡ 4 ⊎ (result ≡ 5 ⊎ result ≡ 7)) }
     ensures stopped { (P.stopped keeper.new ≡ true) ↔ (result ≡ 5) }
     ensures cause { result ≡ 4 → Rose (K.faults sink.old) (K.faults sink.new) }
     ensures kept_cause { result ≡ 5 → Rose (P.faults keeper.old) (P.faults keeper.new) }
-    ensures goes_on { GoesOn (P.place keeper.old) (P.place keeper.new) (P.faults keeper.old) (P.faults keeper.new) (P.honest keeper.old) (P.honest keeper.new) }
+    ensures goes_on { KeeperFrame (P.place keeper.old) (P.place keeper.new) (P.faults keeper.old) (P.faults keeper.new) (P.honest keeper.old) (P.honest keeper.new) }
 {
     let Ok(commands) = sample(alloc, n) else {
         return 7;
@@ -181,16 +181,16 @@ fn sample_with<K: Sink, P: Keeper, L: Ledger>(
     requires few { n ≤ 100000 }
     requires can { CanPerform engine (P.attached keeper.old) (P.stopped keeper.old) }
     requires session { engine.session ≡ no_session }
-    ensures whole { result ≤ 1 → (t : Tables) → P.honest keeper.new → IsAt engine (P.tells keeper.old) (P.may_leave keeper.old) t → Sampled t n (K.out sink.old) (K.out sink.new) (Holds (P.tells keeper.new) (P.may_leave keeper.new)) (result == 0) }
-    ensures cut { result ≡ 4 → (t : Tables) → P.honest keeper.new → IsAt engine (P.tells keeper.old) (P.may_leave keeper.old) t → SampledCut t n (K.out sink.old) (K.out sink.new) (Holds (P.tells keeper.new) (P.may_leave keeper.new)) }
-    ensures uncommitted { result ≡ 5 → (t : Tables) → P.honest keeper.new → IsAt engine (P.tells keeper.old) (P.may_leave keeper.old) t → NextUncommitted t no_session (sample_of n) (P.may_leave keeper.new) }
-    ensures memory { result ≡ 7 → (t : Tables) → P.honest keeper.new → IsAt engine (P.tells keeper.old) (P.may_leave keeper.old) t → FirstPerformed t no_session (sample_of n) (Holds (P.tells keeper.new) (P.may_leave keeper.new)) }
+    ensures whole { result ≤ 1 → (t : Tables) → P.honest keeper.new → EngineMatchesKeeper engine (P.tells keeper.old) (P.may_leave keeper.old) t → Sampled t n (K.out sink.old) (K.out sink.new) (IsDurable (P.tells keeper.new) (P.may_leave keeper.new)) (result == 0) }
+    ensures cut { result ≡ 4 → (t : Tables) → P.honest keeper.new → EngineMatchesKeeper engine (P.tells keeper.old) (P.may_leave keeper.old) t → SampledCut t n (K.out sink.old) (K.out sink.new) (IsDurable (P.tells keeper.new) (P.may_leave keeper.new)) }
+    ensures uncommitted { result ≡ 5 → (t : Tables) → P.honest keeper.new → EngineMatchesKeeper engine (P.tells keeper.old) (P.may_leave keeper.old) t → NextUncommitted t no_session (sample_of n) (P.may_leave keeper.new) }
+    ensures memory { result ≡ 7 → (t : Tables) → P.honest keeper.new → EngineMatchesKeeper engine (P.tells keeper.old) (P.may_leave keeper.old) t → FirstPerformed t no_session (sample_of n) (IsDurable (P.tells keeper.new) (P.may_leave keeper.new)) }
     ensures silent { (result ≡ 5) ⊎ (result ≡ 7) → K.out sink.new ≡ K.out sink.old }
     ensures statuses { result ≤ 1 ⊎ (result ≡ 4 ⊎ (result ≡ 5 ⊎ result ≡ 7)) }
     ensures stopped { (P.stopped keeper.new ≡ true) ↔ (result ≡ 5) }
     ensures cause { result ≡ 4 → Rose (K.faults sink.old) (K.faults sink.new) }
     ensures kept_cause { result ≡ 5 → Rose (P.faults keeper.old) (P.faults keeper.new) }
-    ensures goes_on { GoesOn (P.place keeper.old) (P.place keeper.new) (P.faults keeper.old) (P.faults keeper.new) (P.honest keeper.old) (P.honest keeper.new) }
+    ensures goes_on { KeeperFrame (P.place keeper.old) (P.place keeper.new) (P.faults keeper.old) (P.faults keeper.new) (P.honest keeper.old) (P.honest keeper.new) }
 {
     run_sample(alloc, n, sink, &mut engine, keeper, steps)
 }
@@ -209,15 +209,15 @@ pub fn sample_store<K: Sink, P: Keeper, L: Ledger>(
     requires few { n ≤ 100000 }
     requires free { P.attached keeper.old ≡ false }
     requires running { P.stopped keeper.old ≡ false }
-    ensures whole { result ≤ 1 → (t : Tables) → P.honest keeper.new → Holds (P.tells keeper.old) (P.may_leave keeper.old) t → IsStore t → Sampled t n (K.out sink.old) (K.out sink.new) (Holds (P.tells keeper.new) (P.may_leave keeper.new)) (result == 0) }
-    ensures cut { result ≡ 4 → (t : Tables) → P.honest keeper.new → Holds (P.tells keeper.old) (P.may_leave keeper.old) t → IsStore t → (v : ℤ) → P.has_version keeper.old v → (v ≡ pos 1) ⊎ (v ≡ pos 2) → SampledCut t n (K.out sink.old) (K.out sink.new) (Holds (P.tells keeper.new) (P.may_leave keeper.new)) }
-    ensures keeper { result ≡ 5 → (t : Tables) → P.honest keeper.new → Holds (P.tells keeper.old) (P.may_leave keeper.old) t → IsStore t → LeavesAlone t (P.may_leave keeper.new) ⊎ NextUncommitted t no_session (sample_of n) (P.may_leave keeper.new) }
-    ensures memory { result ≡ 7 → (t : Tables) → P.honest keeper.new → Holds (P.tells keeper.old) (P.may_leave keeper.old) t → IsStore t → FirstPerformed t no_session (sample_of n) (Holds (P.tells keeper.new) (P.may_leave keeper.new)) }
+    ensures whole { result ≤ 1 → (t : Tables) → P.honest keeper.new → IsDurable (P.tells keeper.old) (P.may_leave keeper.old) t → IsStore t → Sampled t n (K.out sink.old) (K.out sink.new) (IsDurable (P.tells keeper.new) (P.may_leave keeper.new)) (result == 0) }
+    ensures cut { result ≡ 4 → (t : Tables) → P.honest keeper.new → IsDurable (P.tells keeper.old) (P.may_leave keeper.old) t → IsStore t → (v : ℤ) → P.has_version keeper.old v → (v ≡ pos 1) ⊎ (v ≡ pos 2) → SampledCut t n (K.out sink.old) (K.out sink.new) (IsDurable (P.tells keeper.new) (P.may_leave keeper.new)) }
+    ensures keeper { result ≡ 5 → (t : Tables) → P.honest keeper.new → IsDurable (P.tells keeper.old) (P.may_leave keeper.old) t → IsStore t → LeavesOnly t (P.may_leave keeper.new) ⊎ NextUncommitted t no_session (sample_of n) (P.may_leave keeper.new) }
+    ensures memory { result ≡ 7 → (t : Tables) → P.honest keeper.new → IsDurable (P.tells keeper.old) (P.may_leave keeper.old) t → IsStore t → FirstPerformed t no_session (sample_of n) (IsDurable (P.tells keeper.new) (P.may_leave keeper.new)) }
     ensures silent { (result ≡ 5) ⊎ (result ≡ 7) → K.out sink.new ≡ K.out sink.old }
-    ensures crash { (t : Tables) → P.honest keeper.new → Holds (P.tells keeper.old) (P.may_leave keeper.old) t → IsStore t → LeavesFirst t (sample_of n) (P.may_leave keeper.new) }
-    ensures refused { (t : Tables) → P.honest keeper.new → Holds (P.tells keeper.old) (P.may_leave keeper.old) t → (v : ℤ) → P.has_version keeper.old v → (fault : StoreFaultOf) → fault_of v t ≡ Some fault → (left : Option (List ℕ)) → Refused result fault left left (K.out sink.old) (K.out sink.new) (P.tells keeper.new) (P.may_leave keeper.new) t }
-    ensures fine { (t : Tables) → P.honest keeper.new → Holds (P.tells keeper.old) (P.may_leave keeper.old) t → (v : ℤ) → P.has_version keeper.old v → fault_of v t ≡ None → result ≢ 6 }
-    ensures known { (t : Tables) → P.honest keeper.new → Holds (P.tells keeper.old) (P.may_leave keeper.old) t → IsStore t → (v : ℤ) → P.has_version keeper.old v → (v ≡ pos 1) ⊎ (v ≡ pos 2) → result ≢ 6 }
+    ensures crash { (t : Tables) → P.honest keeper.new → IsDurable (P.tells keeper.old) (P.may_leave keeper.old) t → IsStore t → LeavesFirst t (sample_of n) (P.may_leave keeper.new) }
+    ensures refused { (t : Tables) → P.honest keeper.new → IsDurable (P.tells keeper.old) (P.may_leave keeper.old) t → (v : ℤ) → P.has_version keeper.old v → (fault : StoreFaultOf) → fault_of v t ≡ Some fault → (left : Option (List ℕ)) → Refused result fault left left (K.out sink.old) (K.out sink.new) (P.tells keeper.new) (P.may_leave keeper.new) t }
+    ensures fine { (t : Tables) → P.honest keeper.new → IsDurable (P.tells keeper.old) (P.may_leave keeper.old) t → (v : ℤ) → P.has_version keeper.old v → fault_of v t ≡ None → result ≢ 6 }
+    ensures known { (t : Tables) → P.honest keeper.new → IsDurable (P.tells keeper.old) (P.may_leave keeper.old) t → IsStore t → (v : ℤ) → P.has_version keeper.old v → (v ≡ pos 1) ⊎ (v ≡ pos 2) → result ≢ 6 }
     ensures cause { result ≡ 4 → Rose (K.faults sink.old) (K.faults sink.new) }
     ensures stopped { (P.stopped keeper.new ≡ true) ↔ (result ≡ 5) }
     ensures kept_cause { result ≡ 5 → Rose (P.faults keeper.old) (P.faults keeper.new) }

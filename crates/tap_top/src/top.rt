@@ -6,19 +6,19 @@ ghost use Rattle.sample_gen.specs.Samples.{sample_of};
 ghost use Rattle.command_words.specs.Options.{app};
 ghost use Rattle.command_words.specs.Words.{place_in, sample_in};
 ghost use Rattle.command_words.specs.WellWorded.{IsWellWorded, place_of};
-ghost use Rattle.keeper_core.specs.Keeping.{Holds};
-ghost use Rattle.tap_edges.specs.Edges.{Rose};
+ghost use Rattle.keeper_core.specs.Keeping.{IsDurable};
+ghost use Rattle.tap_base.specs.Counts.{Rose};
 ghost use Rattle.tap_rows.specs.declared.tables.Tables.{Tables};
 ghost use Rattle.script_lang.specs.Script.{script_from};
 ghost use Rattle.tap_model.specs.Sessions.{no_session};
 ghost use Rattle.tap_model.specs.Sound.{IsStore};
 ghost use Rattle.tap_top.specs.declared.store_fault.StoreFault.{StoreFault as StoreFaultOf};
-ghost use Rattle.tap_top.specs.Points.{CanPerform, IsAt, GoesOn};
+ghost use Rattle.tap_top.specs.Points.{CanPerform, EngineMatchesKeeper, KeeperFrame};
 ghost use Rattle.tap_top.specs.Answers.{CutOff, Uncommitted, Closed, ClosedCut};
-ghost use Rattle.tap_top.specs.Statuses.{Whole, ReadCut, TookMany, TooLong, Starved, PutCut, KeeperCut, Unattached, HoldsScript};
+ghost use Rattle.tap_top.specs.Statuses.{Whole, ReadCut, TookMany, TooLong, OutOfMemory, PutCut, KeeperCut, Unattached, HoldsScript};
 ghost use Rattle.tap_top.specs.Refusals.{fault_of, Refused};
 ghost use Rattle.tap_top.specs.Crashes.{LeavesPrefix};
-ghost use Rattle.tap_top.specs.Samples.{Sampled, SampledCut, NextUncommitted, FirstPerformed, LeavesFirst, LeavesAlone};
+ghost use Rattle.tap_top.specs.Samples.{Sampled, SampledCut, NextUncommitted, FirstPerformed, LeavesFirst, LeavesOnly};
 
 use crate::StoreFault;
 use crate::feed::{Stop, feed, finish};
@@ -66,16 +66,16 @@ fn close<K: Sink, P: Keeper, L: Ledger>(
     all_ok: bool,
 ) -> u8
     requires can { CanPerform engine.old (P.attached keeper.old) (P.stopped keeper.old) }
-    ensures whole { result ≤ 1 → (t : Tables) → P.honest keeper.new → IsAt engine.old (P.tells keeper.old) (P.may_leave keeper.old) t → Closed t engine.old.session (script_from reader.old []) (K.out sink.old) (K.out sink.new) (Holds (P.tells keeper.new) (P.may_leave keeper.new)) all_ok (result == 0) }
-    ensures put { result ≡ 4 → (t : Tables) → P.honest keeper.new → IsAt engine.old (P.tells keeper.old) (P.may_leave keeper.old) t → ClosedCut (script_from reader.old []) (λ done last. CutOff t engine.old.session done last (K.out sink.old) (K.out sink.new) (Holds (P.tells keeper.new) (P.may_leave keeper.new))) }
-    ensures uncommitted { result ≡ 5 → (t : Tables) → P.honest keeper.new → IsAt engine.old (P.tells keeper.old) (P.may_leave keeper.old) t → ClosedCut (script_from reader.old []) (λ done next. Uncommitted t engine.old.session done next (K.out sink.old) (K.out sink.new) (P.may_leave keeper.new)) }
+    ensures whole { result ≤ 1 → (t : Tables) → P.honest keeper.new → EngineMatchesKeeper engine.old (P.tells keeper.old) (P.may_leave keeper.old) t → Closed t engine.old.session (script_from reader.old []) (K.out sink.old) (K.out sink.new) (IsDurable (P.tells keeper.new) (P.may_leave keeper.new)) all_ok (result == 0) }
+    ensures put { result ≡ 4 → (t : Tables) → P.honest keeper.new → EngineMatchesKeeper engine.old (P.tells keeper.old) (P.may_leave keeper.old) t → ClosedCut (script_from reader.old []) (λ done last. CutOff t engine.old.session done last (K.out sink.old) (K.out sink.new) (IsDurable (P.tells keeper.new) (P.may_leave keeper.new))) }
+    ensures uncommitted { result ≡ 5 → (t : Tables) → P.honest keeper.new → EngineMatchesKeeper engine.old (P.tells keeper.old) (P.may_leave keeper.old) t → ClosedCut (script_from reader.old []) (λ done next. Uncommitted t engine.old.session done next (K.out sink.old) (K.out sink.new) (P.may_leave keeper.new)) }
     ensures memory { result ≡ 7 → (keeper.new ≡ keeper.old) × ((engine.new ≡ engine.old) × (K.out sink.new ≡ K.out sink.old)) }
     ensures statuses { result ≤ 1 ⊎ (result ≡ 4 ⊎ (result ≡ 5 ⊎ result ≡ 7)) }
     ensures stopped { (P.stopped keeper.new ≡ true) ↔ (result ≡ 5) }
     ensures cause { result ≡ 4 → Rose (K.faults sink.old) (K.faults sink.new) }
     ensures kept_cause { result ≡ 5 → Rose (P.faults keeper.old) (P.faults keeper.new) }
     ensures later { K.faults sink.old ≤ K.faults sink.new }
-    ensures keeper { GoesOn (P.place keeper.old) (P.place keeper.new) (P.faults keeper.old) (P.faults keeper.new) (P.honest keeper.old) (P.honest keeper.new) }
+    ensures keeper { KeeperFrame (P.place keeper.old) (P.place keeper.new) (P.faults keeper.old) (P.faults keeper.new) (P.honest keeper.old) (P.honest keeper.new) }
 {
     match finish(alloc, reader, engine, keeper, steps, sink) {
         Ok(ok) => status(all_ok && ok),
@@ -96,19 +96,19 @@ fn run<S: Source, K: Sink, P: Keeper, L: Ledger>(
 ) -> u8
     requires can { CanPerform engine.old (P.attached keeper.old) (P.stopped keeper.old) }
     requires session { engine.old.session ≡ no_session }
-    ensures whole { result ≤ 1 → (t : Tables) → P.honest keeper.new → IsAt engine.old (P.tells keeper.old) (P.may_leave keeper.old) t → Whole t (S.left source.old) (S.left source.new) (K.out sink.old) (K.out sink.new) (Holds (P.tells keeper.new) (P.may_leave keeper.new)) (result == 0) }
-    ensures read { result ≡ 3 → (t : Tables) → P.honest keeper.new → IsAt engine.old (P.tells keeper.old) (P.may_leave keeper.old) t → ReadCut t (S.left source.old) (S.left source.new) (K.out sink.old) (K.out sink.new) (Holds (P.tells keeper.new) (P.may_leave keeper.new)) }
-    ensures put { result ≡ 4 → (t : Tables) → P.honest keeper.new → IsAt engine.old (P.tells keeper.old) (P.may_leave keeper.old) t → PutCut t (S.left source.old) (S.left source.new) (K.out sink.old) (K.out sink.new) (Holds (P.tells keeper.new) (P.may_leave keeper.new)) }
-    ensures uncommitted { result ≡ 5 → (t : Tables) → P.honest keeper.new → IsAt engine.old (P.tells keeper.old) (P.may_leave keeper.old) t → KeeperCut t (S.left source.old) (S.left source.new) (K.out sink.old) (K.out sink.new) (P.may_leave keeper.new) }
-    ensures memory { result ≡ 7 → (t : Tables) → P.honest keeper.new → IsAt engine.old (P.tells keeper.old) (P.may_leave keeper.old) t → Starved t (S.left source.old) (S.left source.new) (K.out sink.old) (K.out sink.new) (Holds (P.tells keeper.new) (P.may_leave keeper.new)) }
-    ensures long { result ≡ 8 → (t : Tables) → P.honest keeper.new → IsAt engine.old (P.tells keeper.old) (P.may_leave keeper.old) t → TooLong t (S.left source.old) (S.left source.new) (K.out sink.old) (K.out sink.new) (Holds (P.tells keeper.new) (P.may_leave keeper.new)) }
+    ensures whole { result ≤ 1 → (t : Tables) → P.honest keeper.new → EngineMatchesKeeper engine.old (P.tells keeper.old) (P.may_leave keeper.old) t → Whole t (S.left source.old) (S.left source.new) (K.out sink.old) (K.out sink.new) (IsDurable (P.tells keeper.new) (P.may_leave keeper.new)) (result == 0) }
+    ensures read { result ≡ 3 → (t : Tables) → P.honest keeper.new → EngineMatchesKeeper engine.old (P.tells keeper.old) (P.may_leave keeper.old) t → ReadCut t (S.left source.old) (S.left source.new) (K.out sink.old) (K.out sink.new) (IsDurable (P.tells keeper.new) (P.may_leave keeper.new)) }
+    ensures put { result ≡ 4 → (t : Tables) → P.honest keeper.new → EngineMatchesKeeper engine.old (P.tells keeper.old) (P.may_leave keeper.old) t → PutCut t (S.left source.old) (S.left source.new) (K.out sink.old) (K.out sink.new) (IsDurable (P.tells keeper.new) (P.may_leave keeper.new)) }
+    ensures uncommitted { result ≡ 5 → (t : Tables) → P.honest keeper.new → EngineMatchesKeeper engine.old (P.tells keeper.old) (P.may_leave keeper.old) t → KeeperCut t (S.left source.old) (S.left source.new) (K.out sink.old) (K.out sink.new) (P.may_leave keeper.new) }
+    ensures memory { result ≡ 7 → (t : Tables) → P.honest keeper.new → EngineMatchesKeeper engine.old (P.tells keeper.old) (P.may_leave keeper.old) t → OutOfMemory t (S.left source.old) (S.left source.new) (K.out sink.old) (K.out sink.new) (IsDurable (P.tells keeper.new) (P.may_leave keeper.new)) }
+    ensures long { result ≡ 8 → (t : Tables) → P.honest keeper.new → EngineMatchesKeeper engine.old (P.tells keeper.old) (P.may_leave keeper.old) t → TooLong t (S.left source.old) (S.left source.new) (K.out sink.old) (K.out sink.new) (IsDurable (P.tells keeper.new) (P.may_leave keeper.new)) }
     ensures many { result ≡ 8 → TookMany (S.left source.old) (S.left source.new) }
     ensures statuses { result ≤ 1 ⊎ (result ≡ 3 ⊎ (result ≡ 4 ⊎ (result ≡ 5 ⊎ (result ≡ 7 ⊎ result ≡ 8)))) }
     ensures stopped { (P.stopped keeper.new ≡ true) ↔ (result ≡ 5) }
     ensures read_cause { result ≡ 3 → Rose (S.faults source.old) (S.faults source.new) }
     ensures cause { result ≡ 4 → Rose (K.faults sink.old) (K.faults sink.new) }
     ensures kept_cause { result ≡ 5 → Rose (P.faults keeper.old) (P.faults keeper.new) }
-    ensures keeper { GoesOn (P.place keeper.old) (P.place keeper.new) (P.faults keeper.old) (P.faults keeper.new) (P.honest keeper.old) (P.honest keeper.new) }
+    ensures keeper { KeeperFrame (P.place keeper.old) (P.place keeper.new) (P.faults keeper.old) (P.faults keeper.new) (P.honest keeper.old) (P.honest keeper.new) }
 {
     let mut reader = ScriptReader::new(alloc);
     let mut piece = [0u8; PIECE];
@@ -153,19 +153,19 @@ fn run_with<S: Source, K: Sink, P: Keeper, L: Ledger>(
 ) -> u8
     requires can { CanPerform engine (P.attached keeper.old) (P.stopped keeper.old) }
     requires session { engine.session ≡ no_session }
-    ensures whole { result ≤ 1 → (t : Tables) → P.honest keeper.new → IsAt engine (P.tells keeper.old) (P.may_leave keeper.old) t → Whole t (S.left source.old) (S.left source.new) (K.out sink.old) (K.out sink.new) (Holds (P.tells keeper.new) (P.may_leave keeper.new)) (result == 0) }
-    ensures read { result ≡ 3 → (t : Tables) → P.honest keeper.new → IsAt engine (P.tells keeper.old) (P.may_leave keeper.old) t → ReadCut t (S.left source.old) (S.left source.new) (K.out sink.old) (K.out sink.new) (Holds (P.tells keeper.new) (P.may_leave keeper.new)) }
-    ensures put { result ≡ 4 → (t : Tables) → P.honest keeper.new → IsAt engine (P.tells keeper.old) (P.may_leave keeper.old) t → PutCut t (S.left source.old) (S.left source.new) (K.out sink.old) (K.out sink.new) (Holds (P.tells keeper.new) (P.may_leave keeper.new)) }
-    ensures uncommitted { result ≡ 5 → (t : Tables) → P.honest keeper.new → IsAt engine (P.tells keeper.old) (P.may_leave keeper.old) t → KeeperCut t (S.left source.old) (S.left source.new) (K.out sink.old) (K.out sink.new) (P.may_leave keeper.new) }
-    ensures memory { result ≡ 7 → (t : Tables) → P.honest keeper.new → IsAt engine (P.tells keeper.old) (P.may_leave keeper.old) t → Starved t (S.left source.old) (S.left source.new) (K.out sink.old) (K.out sink.new) (Holds (P.tells keeper.new) (P.may_leave keeper.new)) }
-    ensures long { result ≡ 8 → (t : Tables) → P.honest keeper.new → IsAt engine (P.tells keeper.old) (P.may_leave keeper.old) t → TooLong t (S.left source.old) (S.left source.new) (K.out sink.old) (K.out sink.new) (Holds (P.tells keeper.new) (P.may_leave keeper.new)) }
+    ensures whole { result ≤ 1 → (t : Tables) → P.honest keeper.new → EngineMatchesKeeper engine (P.tells keeper.old) (P.may_leave keeper.old) t → Whole t (S.left source.old) (S.left source.new) (K.out sink.old) (K.out sink.new) (IsDurable (P.tells keeper.new) (P.may_leave keeper.new)) (result == 0) }
+    ensures read { result ≡ 3 → (t : Tables) → P.honest keeper.new → EngineMatchesKeeper engine (P.tells keeper.old) (P.may_leave keeper.old) t → ReadCut t (S.left source.old) (S.left source.new) (K.out sink.old) (K.out sink.new) (IsDurable (P.tells keeper.new) (P.may_leave keeper.new)) }
+    ensures put { result ≡ 4 → (t : Tables) → P.honest keeper.new → EngineMatchesKeeper engine (P.tells keeper.old) (P.may_leave keeper.old) t → PutCut t (S.left source.old) (S.left source.new) (K.out sink.old) (K.out sink.new) (IsDurable (P.tells keeper.new) (P.may_leave keeper.new)) }
+    ensures uncommitted { result ≡ 5 → (t : Tables) → P.honest keeper.new → EngineMatchesKeeper engine (P.tells keeper.old) (P.may_leave keeper.old) t → KeeperCut t (S.left source.old) (S.left source.new) (K.out sink.old) (K.out sink.new) (P.may_leave keeper.new) }
+    ensures memory { result ≡ 7 → (t : Tables) → P.honest keeper.new → EngineMatchesKeeper engine (P.tells keeper.old) (P.may_leave keeper.old) t → OutOfMemory t (S.left source.old) (S.left source.new) (K.out sink.old) (K.out sink.new) (IsDurable (P.tells keeper.new) (P.may_leave keeper.new)) }
+    ensures long { result ≡ 8 → (t : Tables) → P.honest keeper.new → EngineMatchesKeeper engine (P.tells keeper.old) (P.may_leave keeper.old) t → TooLong t (S.left source.old) (S.left source.new) (K.out sink.old) (K.out sink.new) (IsDurable (P.tells keeper.new) (P.may_leave keeper.new)) }
     ensures many { result ≡ 8 → TookMany (S.left source.old) (S.left source.new) }
     ensures statuses { result ≤ 1 ⊎ (result ≡ 3 ⊎ (result ≡ 4 ⊎ (result ≡ 5 ⊎ (result ≡ 7 ⊎ result ≡ 8)))) }
     ensures stopped { (P.stopped keeper.new ≡ true) ↔ (result ≡ 5) }
     ensures read_cause { result ≡ 3 → Rose (S.faults source.old) (S.faults source.new) }
     ensures cause { result ≡ 4 → Rose (K.faults sink.old) (K.faults sink.new) }
     ensures kept_cause { result ≡ 5 → Rose (P.faults keeper.old) (P.faults keeper.new) }
-    ensures keeper { GoesOn (P.place keeper.old) (P.place keeper.new) (P.faults keeper.old) (P.faults keeper.new) (P.honest keeper.old) (P.honest keeper.new) }
+    ensures keeper { KeeperFrame (P.place keeper.old) (P.place keeper.new) (P.faults keeper.old) (P.faults keeper.new) (P.honest keeper.old) (P.honest keeper.new) }
 {
     run(alloc, source, sink, &mut engine, keeper, steps)
 }
@@ -183,21 +183,21 @@ fn run_store<S: Source, K: Sink, P: Keeper, L: Ledger>(
     requires running { P.stopped keeper.old ≡ false }
 
     // The statuses over a store that a session left.
-    ensures whole { result ≤ 1 → (t : Tables) → P.honest keeper.new → Holds (P.tells keeper.old) (P.may_leave keeper.old) t → IsStore t → Whole t (S.left source.old) (S.left source.new) (K.out sink.old) (K.out sink.new) (Holds (P.tells keeper.new) (P.may_leave keeper.new)) (result == 0) }
-    ensures read { result ≡ 3 → (t : Tables) → P.honest keeper.new → Holds (P.tells keeper.old) (P.may_leave keeper.old) t → IsStore t → ReadCut t (S.left source.old) (S.left source.new) (K.out sink.old) (K.out sink.new) (Holds (P.tells keeper.new) (P.may_leave keeper.new)) }
-    ensures put { result ≡ 4 → (t : Tables) → P.honest keeper.new → Holds (P.tells keeper.old) (P.may_leave keeper.old) t → IsStore t → (v : ℤ) → P.has_version keeper.old v → (v ≡ pos 1) ⊎ (v ≡ pos 2) → PutCut t (S.left source.old) (S.left source.new) (K.out sink.old) (K.out sink.new) (Holds (P.tells keeper.new) (P.may_leave keeper.new)) }
-    ensures keeper { result ≡ 5 → (t : Tables) → P.honest keeper.new → Holds (P.tells keeper.old) (P.may_leave keeper.old) t → IsStore t → Unattached t (S.left source.old) (S.left source.new) (K.out sink.old) (K.out sink.new) (P.may_leave keeper.new) ⊎ KeeperCut t (S.left source.old) (S.left source.new) (K.out sink.old) (K.out sink.new) (P.may_leave keeper.new) }
-    ensures memory { result ≡ 7 → (t : Tables) → P.honest keeper.new → Holds (P.tells keeper.old) (P.may_leave keeper.old) t → IsStore t → Starved t (S.left source.old) (S.left source.new) (K.out sink.old) (K.out sink.new) (Holds (P.tells keeper.new) (P.may_leave keeper.new)) }
-    ensures long { result ≡ 8 → (t : Tables) → P.honest keeper.new → Holds (P.tells keeper.old) (P.may_leave keeper.old) t → IsStore t → TooLong t (S.left source.old) (S.left source.new) (K.out sink.old) (K.out sink.new) (Holds (P.tells keeper.new) (P.may_leave keeper.new)) }
+    ensures whole { result ≤ 1 → (t : Tables) → P.honest keeper.new → IsDurable (P.tells keeper.old) (P.may_leave keeper.old) t → IsStore t → Whole t (S.left source.old) (S.left source.new) (K.out sink.old) (K.out sink.new) (IsDurable (P.tells keeper.new) (P.may_leave keeper.new)) (result == 0) }
+    ensures read { result ≡ 3 → (t : Tables) → P.honest keeper.new → IsDurable (P.tells keeper.old) (P.may_leave keeper.old) t → IsStore t → ReadCut t (S.left source.old) (S.left source.new) (K.out sink.old) (K.out sink.new) (IsDurable (P.tells keeper.new) (P.may_leave keeper.new)) }
+    ensures put { result ≡ 4 → (t : Tables) → P.honest keeper.new → IsDurable (P.tells keeper.old) (P.may_leave keeper.old) t → IsStore t → (v : ℤ) → P.has_version keeper.old v → (v ≡ pos 1) ⊎ (v ≡ pos 2) → PutCut t (S.left source.old) (S.left source.new) (K.out sink.old) (K.out sink.new) (IsDurable (P.tells keeper.new) (P.may_leave keeper.new)) }
+    ensures keeper { result ≡ 5 → (t : Tables) → P.honest keeper.new → IsDurable (P.tells keeper.old) (P.may_leave keeper.old) t → IsStore t → Unattached t (S.left source.old) (S.left source.new) (K.out sink.old) (K.out sink.new) (P.may_leave keeper.new) ⊎ KeeperCut t (S.left source.old) (S.left source.new) (K.out sink.old) (K.out sink.new) (P.may_leave keeper.new) }
+    ensures memory { result ≡ 7 → (t : Tables) → P.honest keeper.new → IsDurable (P.tells keeper.old) (P.may_leave keeper.old) t → IsStore t → OutOfMemory t (S.left source.old) (S.left source.new) (K.out sink.old) (K.out sink.new) (IsDurable (P.tells keeper.new) (P.may_leave keeper.new)) }
+    ensures long { result ≡ 8 → (t : Tables) → P.honest keeper.new → IsDurable (P.tells keeper.old) (P.may_leave keeper.old) t → IsStore t → TooLong t (S.left source.old) (S.left source.new) (K.out sink.old) (K.out sink.new) (IsDurable (P.tells keeper.new) (P.may_leave keeper.new)) }
 
     // What a crash leaves, at every exit: the tables after some first commands, all acknowledged ones among them.
-    ensures crash { (t : Tables) → P.honest keeper.new → Holds (P.tells keeper.old) (P.may_leave keeper.old) t → IsStore t → LeavesPrefix t (S.left source.old) (S.left source.new) (K.out sink.old) (K.out sink.new) (P.has_version keeper.old) (P.may_leave keeper.new) }
-    ensures kept { (t : Tables) → P.honest keeper.new → Holds (P.tells keeper.old) (P.may_leave keeper.old) t → IsStore t → (x : Tables) → P.may_leave keeper.new x → IsStore x }
+    ensures crash { (t : Tables) → P.honest keeper.new → IsDurable (P.tells keeper.old) (P.may_leave keeper.old) t → IsStore t → LeavesPrefix t (S.left source.old) (S.left source.new) (K.out sink.old) (K.out sink.new) (P.has_version keeper.old) (P.may_leave keeper.new) }
+    ensures kept { (t : Tables) → P.honest keeper.new → IsDurable (P.tells keeper.old) (P.may_leave keeper.old) t → IsStore t → (x : Tables) → P.may_leave keeper.new x → IsStore x }
 
     // A store is refused exactly for its version or its rows.
-    ensures refused { (t : Tables) → P.honest keeper.new → Holds (P.tells keeper.old) (P.may_leave keeper.old) t → (v : ℤ) → P.has_version keeper.old v → (fault : StoreFaultOf) → fault_of v t ≡ Some fault → Refused result fault (S.left source.old) (S.left source.new) (K.out sink.old) (K.out sink.new) (P.tells keeper.new) (P.may_leave keeper.new) t }
-    ensures fine { (t : Tables) → P.honest keeper.new → Holds (P.tells keeper.old) (P.may_leave keeper.old) t → (v : ℤ) → P.has_version keeper.old v → fault_of v t ≡ None → result ≢ 6 }
-    ensures known { (t : Tables) → P.honest keeper.new → Holds (P.tells keeper.old) (P.may_leave keeper.old) t → IsStore t → (v : ℤ) → P.has_version keeper.old v → (v ≡ pos 1) ⊎ (v ≡ pos 2) → result ≢ 6 }
+    ensures refused { (t : Tables) → P.honest keeper.new → IsDurable (P.tells keeper.old) (P.may_leave keeper.old) t → (v : ℤ) → P.has_version keeper.old v → (fault : StoreFaultOf) → fault_of v t ≡ Some fault → Refused result fault (S.left source.old) (S.left source.new) (K.out sink.old) (K.out sink.new) (P.tells keeper.new) (P.may_leave keeper.new) t }
+    ensures fine { (t : Tables) → P.honest keeper.new → IsDurable (P.tells keeper.old) (P.may_leave keeper.old) t → (v : ℤ) → P.has_version keeper.old v → fault_of v t ≡ None → result ≢ 6 }
+    ensures known { (t : Tables) → P.honest keeper.new → IsDurable (P.tells keeper.old) (P.may_leave keeper.old) t → IsStore t → (v : ℤ) → P.has_version keeper.old v → (v ≡ pos 1) ⊎ (v ≡ pos 2) → result ≢ 6 }
 
     // When each status comes.
     ensures read_cause { result ≡ 3 → Rose (S.faults source.old) (S.faults source.new) }
@@ -255,30 +255,30 @@ pub fn tapestry<S: Source, K: Sink, P: Keeper, L: Ledger>(
     ensures named { (path : Option (List ℕ)) (number : Option ℕ) → IsWellWorded words.now path number → (place_in words.now ≡ place_of path) × (sample_in words.now ≡ number) }
 
     // The statuses of a script, over a store that a session left.
-    ensures whole { sample_in words.now ≡ None → result ≤ 1 → (t : Tables) → P.honest keeper.new → Holds (P.tells keeper.old) (P.may_leave keeper.old) t → IsStore t → Whole t (S.left source.old) (S.left source.new) (K.out sink.old) (K.out sink.new) (Holds (P.tells keeper.new) (P.may_leave keeper.new)) (result == 0) }
-    ensures read { sample_in words.now ≡ None → result ≡ 3 → (t : Tables) → P.honest keeper.new → Holds (P.tells keeper.old) (P.may_leave keeper.old) t → IsStore t → ReadCut t (S.left source.old) (S.left source.new) (K.out sink.old) (K.out sink.new) (Holds (P.tells keeper.new) (P.may_leave keeper.new)) }
-    ensures put { sample_in words.now ≡ None → result ≡ 4 → (t : Tables) → P.honest keeper.new → Holds (P.tells keeper.old) (P.may_leave keeper.old) t → IsStore t → (v : ℤ) → P.has_version keeper.old v → (v ≡ pos 1) ⊎ (v ≡ pos 2) → PutCut t (S.left source.old) (S.left source.new) (K.out sink.old) (K.out sink.new) (Holds (P.tells keeper.new) (P.may_leave keeper.new)) }
-    ensures keeper { sample_in words.now ≡ None → result ≡ 5 → (t : Tables) → P.honest keeper.new → Holds (P.tells keeper.old) (P.may_leave keeper.old) t → IsStore t → Unattached t (S.left source.old) (S.left source.new) (K.out sink.old) (K.out sink.new) (P.may_leave keeper.new) ⊎ KeeperCut t (S.left source.old) (S.left source.new) (K.out sink.old) (K.out sink.new) (P.may_leave keeper.new) }
-    ensures memory { sample_in words.now ≡ None → result ≡ 7 → (t : Tables) → P.honest keeper.new → Holds (P.tells keeper.old) (P.may_leave keeper.old) t → IsStore t → Starved t (S.left source.old) (S.left source.new) (K.out sink.old) (K.out sink.new) (Holds (P.tells keeper.new) (P.may_leave keeper.new)) }
-    ensures long { sample_in words.now ≡ None → result ≡ 8 → (t : Tables) → P.honest keeper.new → Holds (P.tells keeper.old) (P.may_leave keeper.old) t → IsStore t → TooLong t (S.left source.old) (S.left source.new) (K.out sink.old) (K.out sink.new) (Holds (P.tells keeper.new) (P.may_leave keeper.new)) }
+    ensures whole { sample_in words.now ≡ None → result ≤ 1 → (t : Tables) → P.honest keeper.new → IsDurable (P.tells keeper.old) (P.may_leave keeper.old) t → IsStore t → Whole t (S.left source.old) (S.left source.new) (K.out sink.old) (K.out sink.new) (IsDurable (P.tells keeper.new) (P.may_leave keeper.new)) (result == 0) }
+    ensures read { sample_in words.now ≡ None → result ≡ 3 → (t : Tables) → P.honest keeper.new → IsDurable (P.tells keeper.old) (P.may_leave keeper.old) t → IsStore t → ReadCut t (S.left source.old) (S.left source.new) (K.out sink.old) (K.out sink.new) (IsDurable (P.tells keeper.new) (P.may_leave keeper.new)) }
+    ensures put { sample_in words.now ≡ None → result ≡ 4 → (t : Tables) → P.honest keeper.new → IsDurable (P.tells keeper.old) (P.may_leave keeper.old) t → IsStore t → (v : ℤ) → P.has_version keeper.old v → (v ≡ pos 1) ⊎ (v ≡ pos 2) → PutCut t (S.left source.old) (S.left source.new) (K.out sink.old) (K.out sink.new) (IsDurable (P.tells keeper.new) (P.may_leave keeper.new)) }
+    ensures keeper { sample_in words.now ≡ None → result ≡ 5 → (t : Tables) → P.honest keeper.new → IsDurable (P.tells keeper.old) (P.may_leave keeper.old) t → IsStore t → Unattached t (S.left source.old) (S.left source.new) (K.out sink.old) (K.out sink.new) (P.may_leave keeper.new) ⊎ KeeperCut t (S.left source.old) (S.left source.new) (K.out sink.old) (K.out sink.new) (P.may_leave keeper.new) }
+    ensures memory { sample_in words.now ≡ None → result ≡ 7 → (t : Tables) → P.honest keeper.new → IsDurable (P.tells keeper.old) (P.may_leave keeper.old) t → IsStore t → OutOfMemory t (S.left source.old) (S.left source.new) (K.out sink.old) (K.out sink.new) (IsDurable (P.tells keeper.new) (P.may_leave keeper.new)) }
+    ensures long { sample_in words.now ≡ None → result ≡ 8 → (t : Tables) → P.honest keeper.new → IsDurable (P.tells keeper.old) (P.may_leave keeper.old) t → IsStore t → TooLong t (S.left source.old) (S.left source.new) (K.out sink.old) (K.out sink.new) (IsDurable (P.tells keeper.new) (P.may_leave keeper.new)) }
 
     // The statuses of a sample, over such a store: nothing is read.
-    ensures sampled { (n : ℕ) → sample_in words.now ≡ Some n → result ≤ 1 → (t : Tables) → P.honest keeper.new → Holds (P.tells keeper.old) (P.may_leave keeper.old) t → IsStore t → Sampled t n (K.out sink.old) (K.out sink.new) (Holds (P.tells keeper.new) (P.may_leave keeper.new)) (result == 0) }
-    ensures sample_put { (n : ℕ) → sample_in words.now ≡ Some n → result ≡ 4 → (t : Tables) → P.honest keeper.new → Holds (P.tells keeper.old) (P.may_leave keeper.old) t → IsStore t → (v : ℤ) → P.has_version keeper.old v → (v ≡ pos 1) ⊎ (v ≡ pos 2) → SampledCut t n (K.out sink.old) (K.out sink.new) (Holds (P.tells keeper.new) (P.may_leave keeper.new)) }
-    ensures sample_keeper { (n : ℕ) → sample_in words.now ≡ Some n → result ≡ 5 → (t : Tables) → P.honest keeper.new → Holds (P.tells keeper.old) (P.may_leave keeper.old) t → IsStore t → LeavesAlone t (P.may_leave keeper.new) ⊎ NextUncommitted t no_session (sample_of n) (P.may_leave keeper.new) }
-    ensures sample_memory { (n : ℕ) → sample_in words.now ≡ Some n → result ≡ 7 → (t : Tables) → P.honest keeper.new → Holds (P.tells keeper.old) (P.may_leave keeper.old) t → IsStore t → FirstPerformed t no_session (sample_of n) (Holds (P.tells keeper.new) (P.may_leave keeper.new)) }
+    ensures sampled { (n : ℕ) → sample_in words.now ≡ Some n → result ≤ 1 → (t : Tables) → P.honest keeper.new → IsDurable (P.tells keeper.old) (P.may_leave keeper.old) t → IsStore t → Sampled t n (K.out sink.old) (K.out sink.new) (IsDurable (P.tells keeper.new) (P.may_leave keeper.new)) (result == 0) }
+    ensures sample_put { (n : ℕ) → sample_in words.now ≡ Some n → result ≡ 4 → (t : Tables) → P.honest keeper.new → IsDurable (P.tells keeper.old) (P.may_leave keeper.old) t → IsStore t → (v : ℤ) → P.has_version keeper.old v → (v ≡ pos 1) ⊎ (v ≡ pos 2) → SampledCut t n (K.out sink.old) (K.out sink.new) (IsDurable (P.tells keeper.new) (P.may_leave keeper.new)) }
+    ensures sample_keeper { (n : ℕ) → sample_in words.now ≡ Some n → result ≡ 5 → (t : Tables) → P.honest keeper.new → IsDurable (P.tells keeper.old) (P.may_leave keeper.old) t → IsStore t → LeavesOnly t (P.may_leave keeper.new) ⊎ NextUncommitted t no_session (sample_of n) (P.may_leave keeper.new) }
+    ensures sample_memory { (n : ℕ) → sample_in words.now ≡ Some n → result ≡ 7 → (t : Tables) → P.honest keeper.new → IsDurable (P.tells keeper.old) (P.may_leave keeper.old) t → IsStore t → FirstPerformed t no_session (sample_of n) (IsDurable (P.tells keeper.new) (P.may_leave keeper.new)) }
     ensures sample_silent { (n : ℕ) → sample_in words.now ≡ Some n → (result ≡ 5) ⊎ (result ≡ 7) → K.out sink.new ≡ K.out sink.old }
-    ensures sample_crash { (n : ℕ) → sample_in words.now ≡ Some n → (t : Tables) → P.honest keeper.new → Holds (P.tells keeper.old) (P.may_leave keeper.old) t → IsStore t → LeavesFirst t (sample_of n) (P.may_leave keeper.new) }
+    ensures sample_crash { (n : ℕ) → sample_in words.now ≡ Some n → (t : Tables) → P.honest keeper.new → IsDurable (P.tells keeper.old) (P.may_leave keeper.old) t → IsStore t → LeavesFirst t (sample_of n) (P.may_leave keeper.new) }
     ensures sample_unread { (n : ℕ) → sample_in words.now ≡ Some n → (S.left source.new ≡ S.left source.old) × ((result ≢ 3) × (result ≢ 8)) }
 
     // What a crash leaves of a script, at every exit: the tables after some first commands, all acknowledged ones among them.
-    ensures crash { sample_in words.now ≡ None → (t : Tables) → P.honest keeper.new → Holds (P.tells keeper.old) (P.may_leave keeper.old) t → IsStore t → LeavesPrefix t (S.left source.old) (S.left source.new) (K.out sink.old) (K.out sink.new) (P.has_version keeper.old) (P.may_leave keeper.new) }
-    ensures kept { (t : Tables) → P.honest keeper.new → Holds (P.tells keeper.old) (P.may_leave keeper.old) t → IsStore t → (x : Tables) → P.may_leave keeper.new x → IsStore x }
+    ensures crash { sample_in words.now ≡ None → (t : Tables) → P.honest keeper.new → IsDurable (P.tells keeper.old) (P.may_leave keeper.old) t → IsStore t → LeavesPrefix t (S.left source.old) (S.left source.new) (K.out sink.old) (K.out sink.new) (P.has_version keeper.old) (P.may_leave keeper.new) }
+    ensures kept { (t : Tables) → P.honest keeper.new → IsDurable (P.tells keeper.old) (P.may_leave keeper.old) t → IsStore t → (x : Tables) → P.may_leave keeper.new x → IsStore x }
 
     // A store is refused exactly for its version or its rows.
-    ensures refused { (t : Tables) → P.honest keeper.new → Holds (P.tells keeper.old) (P.may_leave keeper.old) t → (v : ℤ) → P.has_version keeper.old v → (fault : StoreFaultOf) → fault_of v t ≡ Some fault → Refused result fault (S.left source.old) (S.left source.new) (K.out sink.old) (K.out sink.new) (P.tells keeper.new) (P.may_leave keeper.new) t }
-    ensures fine { (t : Tables) → P.honest keeper.new → Holds (P.tells keeper.old) (P.may_leave keeper.old) t → (v : ℤ) → P.has_version keeper.old v → fault_of v t ≡ None → result ≢ 6 }
-    ensures known { (t : Tables) → P.honest keeper.new → Holds (P.tells keeper.old) (P.may_leave keeper.old) t → IsStore t → (v : ℤ) → P.has_version keeper.old v → (v ≡ pos 1) ⊎ (v ≡ pos 2) → result ≢ 6 }
+    ensures refused { (t : Tables) → P.honest keeper.new → IsDurable (P.tells keeper.old) (P.may_leave keeper.old) t → (v : ℤ) → P.has_version keeper.old v → (fault : StoreFaultOf) → fault_of v t ≡ Some fault → Refused result fault (S.left source.old) (S.left source.new) (K.out sink.old) (K.out sink.new) (P.tells keeper.new) (P.may_leave keeper.new) t }
+    ensures fine { (t : Tables) → P.honest keeper.new → IsDurable (P.tells keeper.old) (P.may_leave keeper.old) t → (v : ℤ) → P.has_version keeper.old v → fault_of v t ≡ None → result ≢ 6 }
+    ensures known { (t : Tables) → P.honest keeper.new → IsDurable (P.tells keeper.old) (P.may_leave keeper.old) t → IsStore t → (v : ℤ) → P.has_version keeper.old v → (v ≡ pos 1) ⊎ (v ≡ pos 2) → result ≢ 6 }
 
     // When each status comes.
     ensures read_cause { result ≡ 3 → Rose (S.faults source.old) (S.faults source.new) }

@@ -7,7 +7,7 @@ ghost use Rattle.std.specs.Str.{IsUtf8};
 
 use keeper_core::Keeper;
 use keeper_file::{FileKeeper, PathOpener};
-use program_words::{WordsFault, words_of_line};
+use command_words::{WordsFault, words_of_line};
 use sqlite::Unknown;
 use std::alloc::Global;
 use std::marker::Brand;

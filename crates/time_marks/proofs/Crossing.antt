@@ -13,9 +13,10 @@ use Rattle.tap_rows.specs.declared.tables.Tables.{Tables}
 use Rattle.tap_rows.specs.Results.{visible}
 use Rattle.tql_core.specs.Values.{Env, bind, on_row, plus_to, value, both, true_atom}
 use Rattle.tql_core.specs.Holds.{truth}
-use Rattle.tql_core.specs.Scope.{In, Scoped}
+use Rattle.tql_core.specs.Scope.{Scoped}
+use Rattle.tap_rows.specs.Kept.{In}
 use Rattle.time_marks.specs.declared.mark.Mark.{Mark}
-use Rattle.time_marks.specs.Marks.{copy, copy_term, arrival_term, step_of, after, mark_if, marks}
+use Rattle.time_marks.specs.Marks.{copy, copy_term, arrival_term, step_of, under_step, mark_if, marks}
 use Rattle.time_marks.specs.Laws.{Keeps, Crossed}
 use Rattle.time_marks.proofs.Lists.{in_map, in_left, in_right, visible_in, visible_none}
 use Rattle.time_marks.proofs.Seconds.{reached, still, passed, not_back}
@@ -71,11 +72,11 @@ module _ (T : Tables) (s : ℤ) where
   crossed_here scope env penv false e y v h = absurd (false≢true y)
 
   -- one more step before the path
-  pub crossed_after : (scope : List ℕ) (env penv : Env) (v : Var) (t : Table) (x : Condition) (r : Row) (ms : List Mark) (T' : Tables) (s' : ℤ) → (In v.0 scope → ⊥) → Scoped (v.0 ∷ scope) x → In r (rows_of t T) → int_le (arrival r) s ≡ true → truth T' s' x (bind v r env) ≡ true → Crossed T s (v.0 ∷ scope) (bind v r env) (bind (copy v) r penv) ms → Crossed T s scope env penv (map (after (step_of v t x)) ms)
+  pub crossed_after : (scope : List ℕ) (env penv : Env) (v : Var) (t : Table) (x : Condition) (r : Row) (ms : List Mark) (T' : Tables) (s' : ℤ) → (In v.0 scope → ⊥) → Scoped (v.0 ∷ scope) x → In r (rows_of t T) → int_le (arrival r) s ≡ true → truth T' s' x (bind v r env) ≡ true → Crossed T s (v.0 ∷ scope) (bind v r env) (bind (copy v) r penv) ms → Crossed T s scope env penv (map (under_step (step_of v t x)) ms)
   crossed_after scope env penv v t x r ms T' s' new sc i come y c =
       record {
-        mark = after (step_of v t x) c.mark;
-        is_mark = in_map (after (step_of v t x)) ms c.mark c.is_mark;
+        mark = under_step (step_of v t x) c.mark;
+        is_mark = in_map (under_step (step_of v t x)) ms c.mark c.is_mark;
         final = c.final;
         along = (r, i, come, c.along);
         guards = and_from _ _ (guards_hold (v.0 ∷ scope) (bind v r env) c.final c.keeps T' s' x sc y) c.guards;

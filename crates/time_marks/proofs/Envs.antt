@@ -16,9 +16,10 @@ use Rattle.tql_core.specs.declared.atom.TextExpr.TheVariants as X
 use Rattle.tql_core.specs.Condition.{Condition, Plain, All}
 use Rattle.tql_core.specs.Row.{Row, arrival, date}
 use Rattle.tap_rows.specs.declared.tables.Tables.{Tables}
-use Rattle.tql_core.specs.Values.{Env, bind, lookup, on_row, up, day_of, base_value, plus_to, value, field, number, text_field, text, true_atom}
+use Rattle.tql_core.specs.Values.{Env, bind, lookup, on_row, round_up_to_day, day_of, base_value, plus_to, value, field, number, text_field, text, true_atom}
 use Rattle.tql_core.specs.Holds.{truth}
-use Rattle.tql_core.specs.Scope.{In, BaseIn, NumIn, TextIn, AtomIn, Scoped}
+use Rattle.tql_core.specs.Scope.{BaseIn, NumIn, TextIn, AtomIn, Scoped}
+use Rattle.tap_rows.specs.Kept.{In}
 use Rattle.time_marks.specs.Marks.{copied, copy, copy_base, copy_term, copy_number, copy_text, copy_atom, guards_of}
 use Rattle.time_marks.specs.Laws.{Keeps, Same}
 use Rattle.time_marks.proofs.Lists.{all_append}
@@ -69,7 +70,7 @@ module _ (scope : List ℕ) (env final : Env) (h : Keeps scope env final) where
   base_copy (Arrival v) i = ap (λ o. on_row o (λ r. Some (arrival r))) (h v.0 i)
   base_copy (Date v) i = ap (λ o. on_row o date) (h v.0 i)
   base_copy Fixed i = refl
-  base_copy (ArrivalDay v n) i = ap (λ o. on_row o (λ r. Some (up (arrival r +ℤ n)))) (h v.0 i)
+  base_copy (ArrivalDay v n) i = ap (λ o. on_row o (λ r. Some (round_up_to_day (arrival r +ℤ n)))) (h v.0 i)
   base_copy (DateDay v n) i = ap (λ o. on_row o (λ r. day_of n (date r))) (h v.0 i)
 
   pub value_copy : (e : Term) → BaseIn scope e.base → value (copy_term e) final ≡ value e env
@@ -106,7 +107,7 @@ module _ (scope : List ℕ) (env final : Env) (h : Same scope env final) where
   base_same (Arrival v) i = ap (λ o. on_row o (λ r. Some (arrival r))) (h v.0 i)
   base_same (Date v) i = ap (λ o. on_row o date) (h v.0 i)
   base_same Fixed i = refl
-  base_same (ArrivalDay v n) i = ap (λ o. on_row o (λ r. Some (up (arrival r +ℤ n)))) (h v.0 i)
+  base_same (ArrivalDay v n) i = ap (λ o. on_row o (λ r. Some (round_up_to_day (arrival r +ℤ n)))) (h v.0 i)
   base_same (DateDay v n) i = ap (λ o. on_row o (λ r. day_of n (date r))) (h v.0 i)
 
   pub value_same : (e : Term) → BaseIn scope e.base → value e final ≡ value e env
@@ -131,7 +132,7 @@ pub base_stays : (b : Base) (v : Var) (r : Row) (env : Env) → 1 ≤ v.0 → v.
 base_stays (Arrival w) v r env a b = ap (λ o. on_row o (λ r. Some (arrival r))) (bind_other (copied w.0) v r env (copied_apart w.0 v.0 a b))
 base_stays (Date w) v r env a b = ap (λ o. on_row o date) (bind_other (copied w.0) v r env (copied_apart w.0 v.0 a b))
 base_stays Fixed v r env a b = refl
-base_stays (ArrivalDay w n) v r env a b = ap (λ o. on_row o (λ r. Some (up (arrival r +ℤ n)))) (bind_other (copied w.0) v r env (copied_apart w.0 v.0 a b))
+base_stays (ArrivalDay w n) v r env a b = ap (λ o. on_row o (λ r. Some (round_up_to_day (arrival r +ℤ n)))) (bind_other (copied w.0) v r env (copied_apart w.0 v.0 a b))
 base_stays (DateDay w n) v r env a b = ap (λ o. on_row o (λ r. day_of n (date r))) (bind_other (copied w.0) v r env (copied_apart w.0 v.0 a b))
 
 pub copy_stays : (e : Term) (v : Var) (r : Row) (env : Env) → 1 ≤ v.0 → v.0 ≤ 5 → value (copy_term e) (bind v r env) ≡ value (copy_term e) env

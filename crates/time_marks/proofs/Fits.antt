@@ -9,7 +9,8 @@ use Rattle.tql_core.specs.declared.atom.Atom.TheVariants.{Numbers, Texts, Times,
 use Rattle.tql_core.specs.declared.atom.TextExpr.{TextExpr}
 use Rattle.tql_core.specs.declared.atom.TextExpr.TheVariants as X
 use Rattle.tql_core.specs.Condition.{Condition, Always, Never, Plain, NowAtLeast, NowBefore, All, Either, Not, Exists}
-use Rattle.tql_core.specs.Scope.{In, BaseIn, NumIn, TextIn, AtomIn, Scoped, IsQuery, BaseFits, NumFits, TextFits, AtomFits, CondFits}
+use Rattle.tql_core.specs.Scope.{BaseIn, NumIn, TextIn, AtomIn, Scoped, IsQuery, BaseFits, NumFits, TextFits, AtomFits, CondFits}
+use Rattle.tap_rows.specs.Kept.{In}
 
 base_fits : (scope : List ℕ) → ((k : ℕ) → In k scope → k ≤ 5) → (b : Base) → BaseIn scope b → BaseFits b
 base_fits scope h (Arrival v) i = h v.0 i

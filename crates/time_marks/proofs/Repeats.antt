@@ -12,7 +12,7 @@ use Rattle.tap_rows.specs.Seconds.{least_second}
 use Rattle.tql_core.specs.contracts.term.TermEq.TheImpl.Laws as term_laws
 use Rattle.tql_core.specs.contracts.atom.AtomPartialEq.TheImpl as atom
 use Rattle.tql_core.specs.Exact.{var_is, table_is, term_is, atom_is}
-use Rattle.tql_core.specs.Scope.{In}
+use Rattle.tap_rows.specs.Kept.{In}
 use Rattle.tql_core.proofs.Equal.{condition_is, itself}
 use Rattle.time_marks.specs.declared.mark.Step.{Step}
 use Rattle.time_marks.specs.contracts.mark.StepPartialEq.TheImpl as step

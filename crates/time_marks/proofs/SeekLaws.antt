@@ -9,7 +9,7 @@ use Rattle.tql_core.specs.declared.term.Base.{Base}
 use Rattle.tql_core.specs.declared.term.Base.TheVariants as B
 use Rattle.tql_core.specs.Bounds.{is_bounded_base, is_near}
 use Rattle.tql_core.specs.Row.{Row, arrival, date}
-use Rattle.tql_core.specs.Values.{Env, lookup, on_row, up, day_of, plus_to, base_value}
+use Rattle.tql_core.specs.Values.{Env, lookup, on_row, round_up_to_day, day_of, plus_to, base_value}
 use Rattle.time_marks.specs.declared.seek.Seek.{Seek}
 use Rattle.time_marks.specs.declared.seek.Seek.TheVariants.{Arrived, Dated, Fixed, ArrivedDay, DatedDay}
 use Rattle.time_marks.specs.declared.window.Window.{Window}
@@ -59,11 +59,11 @@ plus_same var n (Some x) = refl
 
 day_same : (var : Var) (n : ℤ) (o : Option ℤ) → plus_to (day_of n o) (pos 0) ≡ mark_of (DatedDay var n) o
 day_same var n None = refl
-day_same var n (Some x) = ap Some (none_plus (up (x +ℤ n)))
+day_same var n (Some x) = ap Some (none_plus (round_up_to_day (x +ℤ n)))
 
-arrival_same : (var : Var) (n : ℤ) (o : Option Row) → plus_to (on_row o (λ r. Some (up (arrival r +ℤ n)))) (pos 0) ≡ mark_of (ArrivedDay var n) (on_row o (λ r. Some (arrival r)))
+arrival_same : (var : Var) (n : ℤ) (o : Option Row) → plus_to (on_row o (λ r. Some (round_up_to_day (arrival r +ℤ n)))) (pos 0) ≡ mark_of (ArrivedDay var n) (on_row o (λ r. Some (arrival r)))
 arrival_same var n None = refl
-arrival_same var n (Some r) = ap Some (none_plus (up (arrival r +ℤ n)))
+arrival_same var n (Some r) = ap Some (none_plus (round_up_to_day (arrival r +ℤ n)))
 
 date_same : (var : Var) (n : ℤ) (o : Option Row) → plus_to (on_row o (λ r. day_of n (date r))) (pos 0) ≡ mark_of (DatedDay var n) (on_row o date)
 date_same var n None = refl

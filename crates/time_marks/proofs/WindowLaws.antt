@@ -2,7 +2,7 @@
 use Rattle.std.proofs.Common.{◌≡◌, ◌∙◌, sym, ap, refl, arith, zero, suc, ℤ, pos, negsuc, Bool, true, false, ◌+◌, ◌/◌}
 use Rattle.std.specs.Prelude.{◌+ℤ◌, ◌-ℤ◌, ◌*ℤ◌, ◌≤ℤ◌, ◌<ℤ◌, neg_ℤ, ◌&&◌, not, int_le, int_lt}
 use Rattle.std.proofs.lemmas.Int.{ints, by_lt_z}
-use Rattle.tql_core.specs.Values.{up}
+use Rattle.tql_core.specs.Values.{round_up_to_day}
 use Rattle.time_marks.specs.declared.window.Window.{Window}
 use Rattle.time_marks.specs.Windows.{is_within, moved, days_window}
 
@@ -31,15 +31,15 @@ pub record IsDay (x y : ℤ) : Type 0 where
   pub reached : x ≤ℤ y
   pub near : y <ℤ (x +ℤ pos 86400)
 
-pub up-day : (x : ℤ) → IsDay x (up x)
-up-day (pos zero) = record { days = pos 0; whole = refl; reached = omega (arith, ints); near = omega (arith, ints) }
-up-day (pos (suc n)) = record {
+pub round_up_to_day-day : (x : ℤ) → IsDay x (round_up_to_day x)
+round_up_to_day-day (pos zero) = record { days = pos 0; whole = refl; reached = omega (arith, ints); near = omega (arith, ints) }
+round_up_to_day-day (pos (suc n)) = record {
   days = pos (n / 86400 + 1);
   whole = omega (arith, ints);
   reached = omega (arith, ints);
   near = omega (arith, ints);
 }
-up-day (negsuc n) = record {
+round_up_to_day-day (negsuc n) = record {
   days = neg_ℤ (pos (suc n / 86400));
   whole = omega (arith, ints);
   reached = omega (arith, ints);
@@ -66,9 +66,9 @@ day-low a x a' x' d e =
 not-below : (a b : ℤ) → int_lt a b ≡ not (int_le b a)
 not-below a b = grind (arith, ints)
 
-pub days-within : (w : Window) (x : ℤ) → is_within (days_window w) x ≡ is_within w (up x)
+pub days-within : (w : Window) (x : ℤ) → is_within (days_window w) x ≡ is_within w (round_up_to_day x)
 days-within w x =
-    let low : int_le (up w.low -ℤ pos 86399) x ≡ int_le w.low (up x) = day-low w.low x (up w.low) (up x) (up-day w.low) (up-day x) in
-    let below : int_le (up w.high -ℤ pos 86399) x ≡ int_le w.high (up x) = day-low w.high x (up w.high) (up x) (up-day w.high) (up-day x) in
-    let high : int_lt x (up w.high -ℤ pos 86399) ≡ int_lt (up x) w.high = not-below x (up w.high -ℤ pos 86399) ∙ ap not below ∙ sym (not-below (up x) w.high) in
+    let low : int_le (round_up_to_day w.low -ℤ pos 86399) x ≡ int_le w.low (round_up_to_day x) = day-low w.low x (round_up_to_day w.low) (round_up_to_day x) (round_up_to_day-day w.low) (round_up_to_day-day x) in
+    let below : int_le (round_up_to_day w.high -ℤ pos 86399) x ≡ int_le w.high (round_up_to_day x) = day-low w.high x (round_up_to_day w.high) (round_up_to_day x) (round_up_to_day-day w.high) (round_up_to_day-day x) in
+    let high : int_lt x (round_up_to_day w.high -ℤ pos 86399) ≡ int_lt (round_up_to_day x) w.high = not-below x (round_up_to_day w.high -ℤ pos 86399) ∙ ap not below ∙ sym (not-below (round_up_to_day x) w.high) in
     rw (low, high) refl

@@ -6,7 +6,7 @@ use Rattle.tap_rows.specs.declared.rows.Doc.{Doc}
 use Rattle.tap_rows.specs.declared.tables.Tables.{Tables}
 use Rattle.tql_core.specs.contracts.term.TermPartialEq.TheImpl as term
 use Rattle.tql_core.specs.Same.{same_condition}
-use Rattle.tql_core.specs.Scope.{In}
+use Rattle.tap_rows.specs.Kept.{In}
 use Rattle.time_marks.specs.contracts.mark.StepPartialEq.TheImpl as step
 use Rattle.time_marks.specs.declared.window.Window.{Window}
 use Rattle.time_marks.specs.Probes.{Probe, window_meaning, meaning_without}

@@ -9,7 +9,8 @@ use Rattle.tql_core.specs.Values.{Env, bind, lookup, value}
 use Rattle.tql_core.specs.Holds.{truth}
 use Rattle.time_marks.specs.declared.mark.Step.{Step}
 use Rattle.time_marks.specs.declared.mark.Mark.{Mark}
-use Rattle.tql_core.specs.Scope.{In, Scoped}
+use Rattle.tql_core.specs.Scope.{Scoped}
+use Rattle.tap_rows.specs.Kept.{In}
 use Rattle.time_marks.specs.Marks.{copied, copy_term, marks, body}
 use Rattle.time_marks.specs.Probes.{guards_true}
 

@@ -63,8 +63,8 @@ abbrev pub step_of : Var → Table → Condition → Step
 step_of v t x = record { var = copy v; table = t; guards = map copy_atom (guards_of x) }
 
 -- the mark, with one more step before its path
-abbrev pub after : Step → Mark → Mark
-after step mark = record { path = step ∷ mark.path; at = mark.at }
+abbrev pub under_step : Step → Mark → Mark
+under_step step mark = record { path = step ∷ mark.path; at = mark.at }
 
 -- the mark, with more steps before its path
 abbrev pub below : List Step → Mark → Mark
@@ -85,25 +85,25 @@ marks (NowBefore e) up = mark_if (not up) (copy_term e)
 marks (All l r) up = marks l up ++ marks r up
 marks (Either l r) up = marks l up ++ marks r up
 marks (Not x) up = marks x (not up)
-marks (Exists v t x) up = map (after (step_of v t x)) (mark_if up (arrival_term (copy v)) ++ marks x up)
+marks (Exists v t x) up = map (under_step (step_of v t x)) (mark_if up (arrival_term (copy v)) ++ marks x up)
 
-abbrev pub m : Var
-m = record { 0 = 0 }
+abbrev pub document_var : Var
+document_var = record { 0 = 0 }
 
 -- the seconds at which a document can begin to be given
 abbrev pub rising : Condition → List Mark
-rising c = map (after (step_of m Docs c)) (mark_if true (arrival_term m) ++ marks c true)
+rising c = map (under_step (step_of document_var Docs c)) (mark_if true (arrival_term document_var) ++ marks c true)
 
 abbrev pub fixed_term : ℤ → Term
 fixed_term a = record { base = Fixed; plus = a }
 
 -- the marks below the first step: the rising ones, and the start where it is above 0
 abbrev pub marks_from : Condition → ℤ → List Mark
-marks_from c a = (mark_if true (arrival_term m) ++ marks c true) ++ mark_if (int_lt (pos 0) a) (fixed_term a)
+marks_from c a = (mark_if true (arrival_term document_var) ++ marks c true) ++ mark_if (int_lt (pos 0) a) (fixed_term a)
 
 -- the seconds from a on at which a document can begin to be given
 abbrev pub rising_from : Condition → ℤ → List Mark
-rising_from c a = map (after (step_of m Docs c)) (marks_from c a)
+rising_from c a = map (under_step (step_of document_var Docs c)) (marks_from c a)
 
 -- the condition with the term in the place of now, over all rows
 abbrev pub body : Condition → Term → Condition

@@ -5,7 +5,7 @@ use Rattle.tql_core.specs.declared.term.Base.TheVariants as B
 use Rattle.tql_core.specs.declared.term.Term.{Term}
 use Rattle.tql_core.specs.Bounds.{is_bounded}
 use Rattle.tql_core.specs.Row.{arrival, date}
-use Rattle.tql_core.specs.Values.{Env, lookup, on_row, up, value}
+use Rattle.tql_core.specs.Values.{Env, lookup, on_row, round_up_to_day, value}
 use Rattle.time_marks.specs.declared.seek.Seek.{Seek}
 use Rattle.time_marks.specs.declared.seek.Seek.TheVariants.{Arrived, Dated, Fixed, ArrivedDay, DatedDay}
 use Rattle.time_marks.specs.declared.window.Window.{Window}
@@ -42,8 +42,8 @@ abbrev pub marked_at : Seek → ℤ → ℤ
 marked_at (Arrived v n) x = x +ℤ n
 marked_at (Dated v n) x = x +ℤ n
 marked_at (Fixed moment) x = x
-marked_at (ArrivedDay v n) x = up (x +ℤ n)
-marked_at (DatedDay v n) x = up (x +ℤ n)
+marked_at (ArrivedDay v n) x = round_up_to_day (x +ℤ n)
+marked_at (DatedDay v n) x = round_up_to_day (x +ℤ n)
 
 -- the window of the stored seconds whose marks lie in the window
 abbrev pub seek_window : Window → Seek → Window

@@ -1,6 +1,6 @@
 ghost use Rattle.std.specs.Prelude.{◌≡◌, ℤ, pos, ◌+ℤ◌, ◌-ℤ◌, ◌&&◌, int_le, int_lt};
 ghost use Rattle.jiff_core.specs.Calendar.{IsWithin};
-ghost use Rattle.tql_core.specs.Values.{up};
+ghost use Rattle.tql_core.specs.Values.{round_up_to_day};
 ghost use Rattle.time_marks.specs.Windows.{is_within, moved, days_window};
 
 /// The seconds from `low` up to but not with `high`, since 1970-01-01T00:00:00Z.
@@ -11,9 +11,9 @@ pub struct Window {
 }
 
 // The start of the day, or of the next one where the day has begun.
-fn up(x: i64) -> i64
+fn round_up_to_day(x: i64) -> i64
     requires { IsWithin 900000000000 x }
-    ensures { result ≡ up x }
+    ensures { result ≡ round_up_to_day x }
 {
     x + (-x).rem_euclid(86_400)
 }
@@ -44,9 +44,9 @@ fn moved_end(end: i64, by: i64) -> i64
 // The end of a window of days.
 fn day_end(end: i64) -> i64
     requires { IsWithin 900000000000 end }
-    ensures { result ≡ up end -ℤ pos 86399 }
+    ensures { result ≡ round_up_to_day end -ℤ pos 86399 }
 {
-    up(end) - 86_399
+    round_up_to_day(end) - 86_399
 }
 
 impl Window {
@@ -86,7 +86,7 @@ impl Window {
         requires low { IsWithin 900000000000 self.low }
         requires high { IsWithin 900000000000 self.high }
         ensures ends { result ≡ days_window self }
-        ensures seconds { (x : ℤ) → is_within result x ≡ is_within self (up x) }
+        ensures seconds { (x : ℤ) → is_within result x ≡ is_within self (round_up_to_day x) }
     {
         Window {
             low: day_end(self.low),

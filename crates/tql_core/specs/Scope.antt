@@ -1,5 +1,6 @@
 -- Which variables a condition may name, and where.
 use Rattle.std.specs.Prelude.{◌≡◌, ℕ, ◌≤◌, ◌⊎◌, List, [], ◌∷◌}
+use Rattle.tap_rows.specs.Kept.{In}
 use Rattle.tql_core.specs.declared.term.Base.{Base}
 use Rattle.tql_core.specs.declared.term.Base.TheVariants.{Arrival, Date, Fixed, ArrivalDay, DateDay}
 use Rattle.tql_core.specs.declared.atom.NumExpr.{NumExpr}
@@ -9,11 +10,6 @@ use Rattle.tql_core.specs.declared.atom.Atom.TheVariants.{Numbers, Texts, Times,
 use Rattle.tql_core.specs.declared.atom.TextExpr.{TextExpr}
 use Rattle.tql_core.specs.declared.atom.TextExpr.TheVariants as X
 use Rattle.tql_core.specs.Condition.{Condition, Always, Never, Plain, NowAtLeast, NowBefore, All, Either, Not, Exists}
-
--- x is an element of the list
-abbrev pub In : {A : Type 0} → A → List A → Type 0
-In x [] = ⊥
-In x (y ∷ ys) = (x ≡ y) ⊎ In x ys
 
 abbrev pub BaseIn : List ℕ → Base → Type 0
 BaseIn scope (Arrival v) = In v.0 scope

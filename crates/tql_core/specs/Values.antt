@@ -49,20 +49,20 @@ on_row None f = None
 on_row (Some r) f = f r
 
 -- the least multiple of a day's 86,400 seconds that is at least x
-abbrev pub up : ℤ → ℤ
-up x = x +ℤ int_rem_euclid (neg_ℤ x) (pos 86400)
+abbrev pub round_up_to_day : ℤ → ℤ
+round_up_to_day x = x +ℤ int_rem_euclid (neg_ℤ x) (pos 86400)
 
 -- the start of the day of a second that may be absent, and so many seconds more
 abbrev pub day_of : ℤ → Option ℤ → Option ℤ
 day_of n None = None
-day_of n (Some x) = Some (up (x +ℤ n))
+day_of n (Some x) = Some (round_up_to_day (x +ℤ n))
 
 -- what a time is counted from
 abbrev pub base_value : Base → Env → Option ℤ
 base_value (Arrival v) env = on_row (lookup v.0 env) (λ r. Some (arrival r))
 base_value (Date v) env = on_row (lookup v.0 env) date
 base_value Fixed env = Some (pos 0)
-base_value (ArrivalDay v n) env = on_row (lookup v.0 env) (λ r. Some (up (arrival r +ℤ n)))
+base_value (ArrivalDay v n) env = on_row (lookup v.0 env) (λ r. Some (round_up_to_day (arrival r +ℤ n)))
 base_value (DateDay v n) env = on_row (lookup v.0 env) (λ r. day_of n (date r))
 
 -- a second that may be absent, and so many seconds more

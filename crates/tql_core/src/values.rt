@@ -1,17 +1,17 @@
 ghost use Rattle.std.specs.Prelude.{◌≡◌, ◌≤ℤ◌, ◌+ℤ◌, ℤ, pos, negsuc, IfSome, Option, Some, None};
 ghost use Rattle.tql_core.specs.Bounds.{IsWide};
 ghost use Rattle.tql_core.specs.Row.{arrival, date};
-ghost use Rattle.tql_core.specs.Values.{up, lookup, base_value, value, day_of, on_row};
+ghost use Rattle.tql_core.specs.Values.{round_up_to_day, lookup, base_value, value, day_of, on_row};
 ghost use Rattle.tql_core.specs.Bindings.{row_of, option_row};
 
 use crate::row_ref::{arrival, date};
 use crate::{Base, Env, RowRef, Term};
 
 // The start of the day, or of the next one where the day has begun.
-fn up(x: i128) -> i128
+fn round_up_to_day(x: i128) -> i128
     requires low { negsuc 18446744073709551615 ≤ℤ x }
     requires high { x ≤ℤ pos 18446744073709551615 }
-    ensures value { result ≡ up x }
+    ensures value { result ≡ round_up_to_day x }
     ensures range { IsWide result }
 {
     x + (-x).rem_euclid(86_400)
@@ -20,9 +20,9 @@ fn up(x: i128) -> i128
 // The start of the day of a row's arrival and so many seconds more.
 fn start_of_day(row: RowRef<'_>, plus: i64) -> i128
     ensures range { IsWide result }
-    ensures value { result ≡ up (arrival (row_of row.entry) +ℤ plus) }
+    ensures value { result ≡ round_up_to_day (arrival (row_of row.entry) +ℤ plus) }
 {
-    up(i128::from(arrival(row)) + i128::from(plus))
+    round_up_to_day(i128::from(arrival(row)) + i128::from(plus))
 }
 
 // The start of the day of a date and so many seconds more.
@@ -32,7 +32,7 @@ fn day_of(plus: i64, date: Option<i64>) -> Option<i128>
 {
     match date {
         None => None,
-        Some(x) => Some(up(i128::from(x) + i128::from(plus))),
+        Some(x) => Some(round_up_to_day(i128::from(x) + i128::from(plus))),
     }
 }
 

@@ -13,7 +13,7 @@ use Rattle.tql_lex.specs.declared.kind.Kind.TheVariants.{Number, Str, Mark}
 use Rattle.tql_lex.specs.declared.token.Token.{Token}
 use Rattle.tql_lex.specs.declared.fault.LexFault.{LexFault}
 use Rattle.tql_lex.specs.declared.fault.LexFault.TheVariants as F
-use Rattle.tql_lex.specs.Tokens.{is_blank, begins_word, is_digit, run, quoted, short_sign, long_sign, most, token, word_token, number_token, text_token, sign_token, token_at, tokens_from, onto, with_front, lexed}
+use Rattle.tql_lex.specs.Tokens.{is_between_tokens, begins_word, is_digit, run, quoted, short_sign, long_sign, most, token, word_token, number_token, text_token, sign_token, token_at, tokens_from, onto, with_front, lexed}
 use Rattle.tql_lex.specs.Spelling.{between_quotes, Spells, word_is, number_is, text_is, short_is, long_is, ends_before}
 use Rattle.tql_lex.specs.Faults.{Reaches, here, blank, one, HasFault, FaultIn}
 use Rattle.tql_lex.proofs.Runs.{run_all, lexed-short}
@@ -65,12 +65,12 @@ sign_begins b s k w d q n (text_is content) others h = let g : b ≡ 39 = cc in 
 sign_begins b s k w d q n (short_is c sign e) others h = let g : c ≡ b = cc in let f : ◌≡◌ {A = Option Sign} None (Some sign) = sym n ∙ rw (← g) e in cc
 sign_begins b s k w d q n (long_is c x sign e) others h = let g : c ≡ b = cc in long_is_short c x sign e (rw g n)
 
-bad_byte : (place b : ℕ) (rest : List ℕ) (l o : Option Sign) → is_blank b ≡ false → begins_word b ≡ false → is_digit b ≡ false → (b == 39) ≡ false → short_sign b ≡ o → OnFault place (b ∷ rest) (sign_token place l o)
+bad_byte : (place b : ℕ) (rest : List ℕ) (l o : Option Sign) → is_between_tokens b ≡ false → begins_word b ≡ false → is_digit b ≡ false → (b == 39) ≡ false → short_sign b ≡ o → OnFault place (b ∷ rest) (sign_token place l o)
 bad_byte place b rest (Some x) o n w d q e = tt
 bad_byte place b rest None (Some x) n w d q e = tt
 bad_byte place b rest None None n w d q e = (refl, record { byte = b; behind = rest; is = refl; is_no_blank = n; begins_nothing = λ others k h. sign_begins b (b ∷ others) k w d q e h others refl })
 
-on_fault : (place b : ℕ) (rest : List ℕ) → is_blank b ≡ false → OnFault place (b ∷ rest) (token_at place (b ∷ rest))
+on_fault : (place b : ℕ) (rest : List ℕ) → is_between_tokens b ≡ false → OnFault place (b ∷ rest) (token_at place (b ∷ rest))
 on_fault place b rest n = go (begins_word b) (is_digit b) (b == 39) refl refl refl
   where
     go : (w d q : Bool) → begins_word b ≡ w → is_digit b ≡ d → (b == 39) ≡ q → OnFault place (b ∷ rest) (if w then word_token place (b ∷ rest) else if d then number_token place (b ∷ rest) else if q then text_token place (quoted (drop 1 (b ∷ rest))) else sign_token place (long_sign b (get_or (b ∷ rest) 1 0)) (short_sign b))
@@ -83,7 +83,7 @@ abbrev OnFaults : ℕ → List ℕ → Result (List Token) LexFault → Type 0
 OnFaults place text (Ok tokens) = Unit {0}
 OnFaults place text (Err fault) = FaultIn place text fault
 
-behind_blank : (place b : ℕ) (rest : List ℕ) (r : Result (List Token) LexFault) → is_blank b ≡ true → OnFaults (place + 1) rest r → OnFaults place (b ∷ rest) r
+behind_blank : (place b : ℕ) (rest : List ℕ) (r : Result (List Token) LexFault) → is_between_tokens b ≡ true → OnFaults (place + 1) rest r → OnFaults place (b ∷ rest) r
 behind_blank place b rest (Ok tokens) e h = tt
 behind_blank place b rest (Err fault) e h = record { at = h.at; rest = h.rest; reaches = blank place b rest h.at h.rest e h.reaches; cause = h.cause }
 
@@ -116,8 +116,8 @@ on_faults zero place (b ∷ rest) =
     let none : place + 0 ≡ place = omega arith in
     let more : place + 1 + 0 ≡ place + 1 = omega arith in
     let F : ℕ → Type 0 = λ at. OnFaults at rest (tokens_from 0 (place + 1) rest) in
-    let G : ℕ → Type 0 = λ at. OnFaults at (b ∷ rest) (if is_blank b then tokens_from zero (place + 1) rest else onto (token_at place (b ∷ rest)) (λ end. tokens_from (end - (place + 1)) (place + 1) rest)) in
-    subst G (sym none) (elim (is_blank b) as (λ t. is_blank b ≡ t → OnFaults place (b ∷ rest) (if t then tokens_from zero (place + 1) rest else onto (token_at place (b ∷ rest)) (λ end. tokens_from (end - (place + 1)) (place + 1) rest))) [
+    let G : ℕ → Type 0 = λ at. OnFaults at (b ∷ rest) (if is_between_tokens b then tokens_from zero (place + 1) rest else onto (token_at place (b ∷ rest)) (λ end. tokens_from (end - (place + 1)) (place + 1) rest)) in
+    subst G (sym none) (elim (is_between_tokens b) as (λ t. is_between_tokens b ≡ t → OnFaults place (b ∷ rest) (if t then tokens_from zero (place + 1) rest else onto (token_at place (b ∷ rest)) (λ end. tokens_from (end - (place + 1)) (place + 1) rest))) [
       | true ↦ λ e. behind_blank place b rest (tokens_from 0 (place + 1) rest) e (subst F more (on_faults 0 (place + 1) rest))
       | false ↦ λ e. behind_onto place b rest (token_at place (b ∷ rest)) (on_token place b rest) (on_fault place b rest e) (λ k. on_faults k (place + 1) rest)
     ] refl)
@@ -193,13 +193,13 @@ number_is_big place b r rest all stops great =
     let big : nat_lt most (digits_value 10 (b ∷ r)) ≡ true = lt-ltb most (digits_value 10 (b ∷ r)) great in
     is_number ∙ ap (λ n. of n (take n ((b ∷ r) ++ rest))) n ∙ ap (of (length (b ∷ r))) (take-append_seam (b ∷ r) rest) ∙ rw big refl
 
-front_fault : (place b : ℕ) (rest : List ℕ) (fault : LexFault) → is_blank b ≡ false → token_at place (b ∷ rest) ≡ Err fault → tokens_from 0 place (b ∷ rest) ≡ Err fault
+front_fault : (place b : ℕ) (rest : List ℕ) (fault : LexFault) → is_between_tokens b ≡ false → token_at place (b ∷ rest) ≡ Err fault → tokens_from 0 place (b ∷ rest) ≡ Err fault
 front_fault place b rest fault calm e =
     let others : ℕ → Result (List Token) LexFault = λ end. tokens_from (end - (place + 1)) (place + 1) rest in
     let front : tokens_from 0 place (b ∷ rest) ≡ onto (token_at place (b ∷ rest)) others = rw calm refl in
     front ∙ ap (λ r. onto r others) e
 
-digit_no_blank : (b : ℕ) → is_digit b ≡ true → is_blank b ≡ false
+digit_no_blank : (b : ℕ) → is_digit b ≡ true → is_between_tokens b ≡ false
 digit_no_blank b e = grind (arith, nat_tests)
 
 cause_here : (place : ℕ) (text : List ℕ) (fault : LexFault) → HasFault text fault place → tokens_from 0 place text ≡ Err fault

@@ -15,7 +15,7 @@ use Rattle.tql_lex.specs.declared.kind.Kind.TheVariants.{Word, Number, Str, Mark
 use Rattle.tql_lex.specs.declared.token.Token.{Token}
 use Rattle.tql_lex.specs.declared.fault.LexFault.{LexFault}
 use Rattle.tql_lex.specs.declared.fault.LexFault.TheVariants as F
-use Rattle.tql_lex.specs.Tokens.{is_blank, begins_word, is_digit, is_of_word, run, quoted, with_content, short_sign, long_sign, most, token, word_token, number_token, text_token, token_at, tokens_from, onto, with_front, lexed}
+use Rattle.tql_lex.specs.Tokens.{is_between_tokens, begins_word, is_digit, is_of_word, run, quoted, with_content, short_sign, long_sign, most, token, word_token, number_token, text_token, token_at, tokens_from, onto, with_front, lexed}
 use Rattle.tql_lex.specs.Spelling.{between_quotes, Spells, word_is, number_is, text_is, short_is, long_is, goes_on, ends_before, AreTokens, none, blank, one}
 use Rattle.tql_lex.proofs.Runs.{tokens_skip, lexed-short}
 
@@ -37,15 +37,15 @@ run_over test (b ∷ s) rest all stops = let p = and_parts (test b) (list_all te
 pub digit_begins_no_word : (b : ℕ) → is_digit b ≡ true → begins_word b ≡ false
 digit_begins_no_word b e = grind (arith, nat_tests)
 
-word_is_not_blank : (b : ℕ) → begins_word b ≡ true → is_blank b ≡ false
+word_is_not_blank : (b : ℕ) → begins_word b ≡ true → is_between_tokens b ≡ false
 word_is_not_blank b e = grind (arith, nat_tests)
 
-digit_is_not_blank : (b : ℕ) → is_digit b ≡ true → is_blank b ≡ false
+digit_is_not_blank : (b : ℕ) → is_digit b ≡ true → is_between_tokens b ≡ false
 digit_is_not_blank b e = grind (arith, nat_tests)
 
 -- no word, number, text or blank begins with a byte of a sign
 abbrev pub IsSignByte : ℕ → Type 0
-IsSignByte b = (begins_word b ≡ false) × (is_digit b ≡ false) × ((b == 39) ≡ false) × (is_blank b ≡ false)
+IsSignByte b = (begins_word b ≡ false) × (is_digit b ≡ false) × ((b == 39) ≡ false) × (is_between_tokens b ≡ false)
 
 by_value : (b k : ℕ) → (b == k) ≡ true → IsSignByte k → IsSignByte b
 by_value b k e h = let q : b ≡ k = grind (arith, nat_tests) in rw q h
@@ -148,7 +148,7 @@ pub record First (s : List ℕ) : Type 0 where
   pub byte : ℕ
   pub others : List ℕ
   pub is : s ≡ byte ∷ others
-  pub not_blank : is_blank byte ≡ false
+  pub not_blank : is_between_tokens byte ≡ false
 
 pub first_of : (s : List ℕ) (kind : Kind) → Spells s kind → First s
 first_of s kind (word_is b r e all) = record { byte = b; others = r; is = refl; not_blank = word_is_not_blank b e }
@@ -157,7 +157,7 @@ first_of s kind (text_is content) = record { byte = 39; others = between_quotes 
 first_of s kind (short_is b sign e) = record { byte = b; others = []; is = refl; not_blank = (short_byte b sign e).3 }
 first_of s kind (long_is b c sign e) = record { byte = b; others = c ∷ []; is = refl; not_blank = (long_byte b c sign e).3 }
 
-front_read : (place b : ℕ) (tail rest : List ℕ) (kind : Kind) → is_blank b ≡ false → token_at place ((b ∷ tail) ++ rest) ≡ Ok (token kind place (length (b ∷ tail))) → tokens_from 0 place ((b ∷ tail) ++ rest) ≡ with_front (token kind place (length (b ∷ tail)) ∷ []) (tokens_from 0 (place + length (b ∷ tail)) rest)
+front_read : (place b : ℕ) (tail rest : List ℕ) (kind : Kind) → is_between_tokens b ≡ false → token_at place ((b ∷ tail) ++ rest) ≡ Ok (token kind place (length (b ∷ tail))) → tokens_from 0 place ((b ∷ tail) ++ rest) ≡ with_front (token kind place (length (b ∷ tail)) ∷ []) (tokens_from 0 (place + length (b ∷ tail)) rest)
 front_read place b tail rest kind calm is =
     let end = place + length (b ∷ tail) in
     let others : ℕ → Result (List Token) LexFault = λ end. tokens_from (end - (place + 1)) (place + 1) (tail ++ rest) in

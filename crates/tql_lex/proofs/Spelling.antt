@@ -13,7 +13,7 @@ use Rattle.tql_lex.specs.declared.kind.Kind.TheVariants.{Word, Number, Str, Mark
 use Rattle.tql_lex.specs.declared.token.Token.{Token}
 use Rattle.tql_lex.specs.declared.fault.LexFault.{LexFault}
 use Rattle.tql_lex.specs.declared.fault.LexFault.TheVariants as F
-use Rattle.tql_lex.specs.Tokens.{is_blank, begins_word, is_digit, is_of_word, run, quoted, with_content, short_sign, long_sign, most, token, word_token, number_token, text_token, short_token, sign_token, token_at, tokens_from, onto, with_front, lexed}
+use Rattle.tql_lex.specs.Tokens.{is_between_tokens, begins_word, is_digit, is_of_word, run, quoted, with_content, short_sign, long_sign, most, token, word_token, number_token, text_token, short_token, sign_token, token_at, tokens_from, onto, with_front, lexed}
 use Rattle.tql_lex.specs.Spelling.{between_quotes, Spells, word_is, number_is, text_is, short_is, long_is, ends_before, AreTokens, none, blank, one}
 use Rattle.tql_lex.proofs.Runs.{run_all}
 use Rattle.tql_lex.proofs.Spelled.{Stops, no_long_end}
@@ -201,7 +201,7 @@ abbrev OnTokens : ℕ → List ℕ → Result (List Token) LexFault → Type 0
 OnTokens place text (Ok tokens) = AreTokens place text tokens
 OnTokens place text (Err fault) = Unit {0}
 
-on_blank : (place b : ℕ) (rest : List ℕ) (r : Result (List Token) LexFault) → is_blank b ≡ true → OnTokens (place + 1) rest r → OnTokens place (b ∷ rest) r
+on_blank : (place b : ℕ) (rest : List ℕ) (r : Result (List Token) LexFault) → is_between_tokens b ≡ true → OnTokens (place + 1) rest r → OnTokens place (b ∷ rest) r
 on_blank place b rest (Ok tokens) e h = blank place b rest tokens e h
 on_blank place b rest (Err fault) e h = tt
 
@@ -236,8 +236,8 @@ on_tokens zero place (b ∷ rest) =
     let none : place + 0 ≡ place = omega arith in
     let more : place + 1 + 0 ≡ place + 1 = omega arith in
     let F : ℕ → Type 0 = λ at. OnTokens at rest (tokens_from 0 (place + 1) rest) in
-    let G : ℕ → Type 0 = λ at. OnTokens at (b ∷ rest) (if is_blank b then tokens_from zero (place + 1) rest else onto (token_at place (b ∷ rest)) (λ end. tokens_from (end - (place + 1)) (place + 1) rest)) in
-    subst G (sym none) (elim (is_blank b) as (λ t. is_blank b ≡ t → OnTokens place (b ∷ rest) (if t then tokens_from zero (place + 1) rest else onto (token_at place (b ∷ rest)) (λ end. tokens_from (end - (place + 1)) (place + 1) rest))) [
+    let G : ℕ → Type 0 = λ at. OnTokens at (b ∷ rest) (if is_between_tokens b then tokens_from zero (place + 1) rest else onto (token_at place (b ∷ rest)) (λ end. tokens_from (end - (place + 1)) (place + 1) rest)) in
+    subst G (sym none) (elim (is_between_tokens b) as (λ t. is_between_tokens b ≡ t → OnTokens place (b ∷ rest) (if t then tokens_from zero (place + 1) rest else onto (token_at place (b ∷ rest)) (λ end. tokens_from (end - (place + 1)) (place + 1) rest))) [
       | true ↦ λ e. on_blank place b rest (tokens_from 0 (place + 1) rest) e (subst F more (on_tokens 0 (place + 1) rest))
       | false ↦ λ e. on_onto place b rest (token_at place (b ∷ rest)) (on_token place b rest) (λ k. on_tokens k (place + 1) rest)
     ] refl)

@@ -6,13 +6,13 @@ use Rattle.tql_lex.specs.declared.kind.Kind.{Kind}
 use Rattle.tql_lex.specs.declared.kind.Kind.TheVariants.{Str}
 use Rattle.tql_lex.specs.declared.fault.LexFault.{LexFault}
 use Rattle.tql_lex.specs.declared.fault.LexFault.TheVariants.{BadByte, OpenString, BigNumber, TooLong, Memory}
-use Rattle.tql_lex.specs.Tokens.{is_blank, is_digit, most}
+use Rattle.tql_lex.specs.Tokens.{is_between_tokens, is_digit, most}
 use Rattle.tql_lex.specs.Spelling.{between_quotes, Spells, ends_before}
 
 -- Blanks and whole tokens, each as long as it can be, lead from a place and a text to a later place and the text there.
 pub data Reaches : ℕ → List ℕ → ℕ → List ℕ → Type 0 where
   here : (place : ℕ) (text : List ℕ) → Reaches place text place text
-  blank : (place b : ℕ) (text : List ℕ) (end : ℕ) (rest : List ℕ) → is_blank b ≡ true → Reaches (place + 1) text end rest → Reaches place (b ∷ text) end rest
+  blank : (place b : ℕ) (text : List ℕ) (end : ℕ) (rest : List ℕ) → is_between_tokens b ≡ true → Reaches (place + 1) text end rest → Reaches place (b ∷ text) end rest
   one : (place : ℕ) (spelling text : List ℕ) (kind : Kind) (end : ℕ) (rest : List ℕ) → Spells spelling kind → ends_before kind text ≡ true → Reaches (place + length spelling) text end rest → Reaches place (spelling ++ text) end rest
 
 -- no token begins with the first byte, which is no blank
@@ -20,7 +20,7 @@ pub record IsBadByte (text : List ℕ) : Type 0 where
   pub byte : ℕ
   pub behind : List ℕ
   pub is : text ≡ byte ∷ behind
-  pub is_no_blank : is_blank byte ≡ false
+  pub is_no_blank : is_between_tokens byte ≡ false
   pub begins_nothing : (others : List ℕ) (kind : Kind) → Spells (byte ∷ others) kind → ⊥
 
 -- a text begins, and no quote behind it ends one

@@ -9,7 +9,7 @@ use Rattle.tql_lex.specs.declared.sign.Sign.TheVariants.{Compare}
 use Rattle.tql_lex.specs.declared.kind.Kind.{Kind}
 use Rattle.tql_lex.specs.declared.kind.Kind.TheVariants.{Word, Number, Str, Mark}
 use Rattle.tql_lex.specs.declared.token.Token.{Token}
-use Rattle.tql_lex.specs.Tokens.{is_blank, begins_word, is_digit, is_of_word, short_sign, long_sign, most, token}
+use Rattle.tql_lex.specs.Tokens.{is_between_tokens, begins_word, is_digit, is_of_word, short_sign, long_sign, most, token}
 
 -- a quote within a text is written twice
 abbrev pub doubled : ℕ → List ℕ
@@ -44,7 +44,7 @@ ends_before kind (b ∷ rest) = not (goes_on kind b)
 -- The text from a place on is these tokens: each is as long as it can be, and only blanks and line ends lie between them.
 pub data AreTokens : ℕ → List ℕ → List Token → Type 0 where
   none : (place : ℕ) → AreTokens place [] []
-  blank : (place b : ℕ) (rest : List ℕ) (tokens : List Token) → is_blank b ≡ true → AreTokens (place + 1) rest tokens → AreTokens place (b ∷ rest) tokens
+  blank : (place b : ℕ) (rest : List ℕ) (tokens : List Token) → is_between_tokens b ≡ true → AreTokens (place + 1) rest tokens → AreTokens place (b ∷ rest) tokens
   one : (place : ℕ) (spelling rest : List ℕ) (kind : Kind) (tokens : List Token) → Spells spelling kind → ends_before kind rest ≡ true → AreTokens (place + length spelling) rest tokens → AreTokens place (spelling ++ rest) (token kind place (length spelling) ∷ tokens)
 
 -- the tokens stand one behind another, from a place on and up to an end, and none is empty

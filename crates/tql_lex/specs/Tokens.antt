@@ -13,8 +13,8 @@ use Rattle.tql_lex.specs.declared.fault.LexFault.{LexFault}
 use Rattle.tql_lex.specs.declared.fault.LexFault.TheVariants.{BadByte, OpenString, BigNumber, TooLong}
 
 -- a byte between tokens: a space, a tab or a line's end
-abbrev pub is_blank : ℕ → Bool
-is_blank b = b == 32 || b == 9 || b == 10
+abbrev pub is_between_tokens : ℕ → Bool
+is_between_tokens b = b == 32 || b == 9 || b == 10
 
 -- a byte that a word begins with: a letter or `_`
 abbrev pub begins_word : ℕ → Bool
@@ -106,7 +106,7 @@ onto (Ok t) others = with_front (t ∷ []) (others t.end)
 abbrev pub tokens_from : ℕ → ℕ → List ℕ → Result (List Token) LexFault
 tokens_from inside place [] = Ok []
 tokens_from (suc inside) place (b ∷ rest) = tokens_from inside (place + 1) rest
-tokens_from zero place (b ∷ rest) = if is_blank b then tokens_from zero (place + 1) rest else onto (token_at place (b ∷ rest)) (λ end. tokens_from (end - (place + 1)) (place + 1) rest)
+tokens_from zero place (b ∷ rest) = if is_between_tokens b then tokens_from zero (place + 1) rest else onto (token_at place (b ∷ rest)) (λ end. tokens_from (end - (place + 1)) (place + 1) rest)
 
 -- the tokens of a text, or its first fault
 abbrev pub lexed : List ℕ → Result (List Token) LexFault

@@ -14,7 +14,7 @@ use Rattle.tql_parse.specs.Reading.{Read, ◌>>=◌, one, compare_at, chain, cha
 use Rattle.tql_parse.proofs.Chains.{Shrinks, same}
 use Rattle.tql_parse.proofs.Lengths.{unit_shrinks, conj_shrinks}
 use Rattle.tql_parse.proofs.Units.{at_zero, at_suc, unit_end, unit_compare}
-use Rattle.tql_parse.proofs.Tame.{Sim, here, there, Spent, NotEnd, IsAt, Out, go, spent, early, stuck, Tame, spent_bind, tame_ok, tame_bind, tame_one, tame_compare, tame_head, tame_unit_at}
+use Rattle.tql_parse.proofs.Lookahead.{Sim, here, there, Spent, NotEnd, IsAt, Out, go, spent, early, stuck, Lookahead, spent_bind, tame_ok, tame_bind, tame_one, tame_compare, tame_head, tame_unit_at}
 use Rattle.tql_parse.proofs.Shallow.{Shallow, shallow_ok, shallow_bind, shallow_one, shallow_compare, shallow_head}
 use Rattle.tql_parse.proofs.First.{fails_at, not_end_fails}
 use Rattle.tql_parse.proofs.Whole.{pair_same}
@@ -70,7 +70,7 @@ of_out A t x y z (early d q) e n = before d (Err d) (Err d) q
 of_out A t x y z (stuck u d i) e n = stuck_at A t u (Err d) d i (λ p q. n p (ap (λ (d : ParseFault). Err d) q))
 
 -- a part without levels
-free : (A : Type 0) (f : List Token → Read A) → Tame A f → Shallow A f → Digs A f f
+free : (A : Type 0) (f : List Token → Read A) → Lookahead A f → Shallow A f → Digs A f f
 free A f tf sf = record { spent = tf.spent; out = λ t b r m. of_out A t (f b) (f r) (f r) (tf.out t b r r (sim_of t b r m)) refl (λ p e. sf r p e) }
 
 three : (A : Type 0) (t : Token) (x y z x' y' z' : Read A) → x ≡ x' → y ≡ y' → z ≡ z' → Dig A t x' y' z' → Dig A t x y z

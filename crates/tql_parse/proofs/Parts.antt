@@ -34,7 +34,7 @@ use Rattle.tql_parse.proofs.Sound.{on_unit_at, on_cond}
 use Rattle.tql_parse.proofs.Complete.{no_shift}
 use Rattle.tql_parse.proofs.Queries.{query_ok}
 use Rattle.tql_parse.proofs.Units.{at_zero, at_suc, unit_end, unit_true}
-use Rattle.tql_parse.proofs.Tame.{Spent}
+use Rattle.tql_parse.proofs.Lookahead.{Spent}
 use Rattle.tql_parse.proofs.First.{fails_at}
 use Rattle.tql_parse.proofs.Whole.{joins, Calm, Finish, Whole, pair_same, whole_ok, whole_bind, Choice, taken, refused, kept, whole_choice, whole_one}
 

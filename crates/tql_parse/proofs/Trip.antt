@@ -23,8 +23,8 @@ use Rattle.tql_parse.specs.Keys.{word_key, bytes, is_name, is_and, is_or, is_whe
 use Rattle.tql_tree.specs.Proper.{is_plain}
 use Rattle.tql_parse.specs.Grammar.{IsExpr, IsTable, docs, notes, IsCompare, compare, has, Part, Cond, Conj, One, Reads, conj_alone, or_conj, unit_alone, and_unit, not_unit, group, true_is, false_is, exists_is, compare_is, IsQuery}
 use Rattle.tql_parse.specs.RoundTrip.{ReadsAs}
-use Rattle.tql_parse.proofs.Good.{IsVar, GoodExpr, Good, are_of_text, reads_good}
-use Rattle.tql_parse.proofs.Back.{Lexes, Next, next, Back, put, skip, turn, nest, closes, closes_ends, open_ends, is_key, ExprBack, expr_back, name_key}
+use Rattle.tql_parse.proofs.TokenBounds.{IsVar, GoodExpr, TokenBounds, are_of_text, reads_good}
+use Rattle.tql_parse.proofs.ExprRoundTrip.{Lexes, Next, next, ExprRoundTrip, put, skip, turn, nest, closes, closes_ends, open_ends, is_key, ExprBack, expr_back, name_key}
 
 -- the part of the grammar that a query is without parentheses
 abbrev part_of : Syntax → Part
@@ -122,7 +122,7 @@ read_levels p n ts x rest (compare_is m us y r h) = compare_levels us y r h m
 
 -- a query is read back as this part
 abbrev TreeBack : Part → ℕ → Syntax → (List Token → Type 0) → List Token → Type 0
-TreeBack p n x Q ts = Back Syntax (Reads p n) (λ y. plain y ≡ plain x) Q ts
+TreeBack p n x Q ts = ExprRoundTrip Syntax (Reads p n) (λ y. plain y ≡ plain x) Q ts
 
 abbrev Reader : Part → ℕ → Syntax → List ℕ → Type 1
 Reader p n x text = (rest : List ℕ) (Q : List Token → Type 0) → closes rest ≡ true → Lexes rest Q → Lexes (text ++ rest) (TreeBack p n x Q)
@@ -313,7 +313,7 @@ true_reader n rest Q c l = turn _ _ _ (made_true n Q) (put (codes "TRUE") rest (
 false_reader : (n : ℕ) → Reader One n False (canonical False)
 false_reader n rest Q c l = turn _ _ _ (made_false n Q) (put (codes "FALSE") rest (W.Word (codes "false")) Q (word_is 70 (codes "ALSE") refl refl) (closes_ends (W.Word (codes "false")) rest c) l)
 
-reader : (x : Syntax) → Good x → (n : ℕ) → levels x ≤ n → Reader (part_of x) n x (canonical x)
+reader : (x : Syntax) → TokenBounds x → (n : ℕ) → levels x ≤ n → Reader (part_of x) n x (canonical x)
 reader True g n le = true_reader n
 reader False g n le = false_reader n
 reader (Or l r) g n le = or_reader n l r (lifted (part_of l) Cond n l (canonical l) (cond_least (part_of l)) (reader l g.0 n (left_fits (levels l) (wrapped (weaker r 1) (levels r)) n le))) (wrap_reader r Conj n (λ m h. reader r g.1 m h) (right_fits (levels l) (wrapped (weaker r 1) (levels r)) n le))

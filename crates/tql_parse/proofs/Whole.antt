@@ -8,7 +8,7 @@ use Rattle.tql_parse.specs.declared.fault.ParseFault.{ParseFault}
 use Rattle.tql_parse.specs.declared.fault.ParseFault.TheVariants.{Unexpected, Ended, Deep, Memory}
 use Rattle.tql_parse.specs.Keys.{key, is_and, is_or, is_shift_sign}
 use Rattle.tql_parse.specs.Reading.{Read, ◌>>=◌, one, next_is}
-use Rattle.tql_parse.proofs.Tame.{Spent, IsAt}
+use Rattle.tql_parse.proofs.Lookahead.{Spent, IsAt}
 
 -- no shift, AND or OR begins here
 abbrev pub joins : Key → Bool

@@ -17,7 +17,7 @@ use Rattle.tql_core.specs.declared.term.Var.{Var}
 use Rattle.tql_core.specs.declared.atom.TextExpr.{TextExpr}
 use Rattle.tql_core.specs.Bounds.{is_near, is_bounded_base, is_bounded, are_bounded}
 use Rattle.tql_core.specs.Condition.{Condition}
-use Rattle.tql_core.specs.Values.{up, compare}
+use Rattle.tql_core.specs.Values.{round_up_to_day, compare}
 use Rattle.tql_types.specs.declared.scope.Variable.{Variable}
 use Rattle.tql_types.specs.declared.field.Field.{Field}
 use Rattle.tql_types.specs.declared.field.Field.TheVariants as F
@@ -94,20 +94,20 @@ clock scope (E.Field var var_place field field_place shift) =
 clock scope (E.Number place value) = ((λ n. refl), omega (arith, ints), omega (arith, ints))
 clock scope (E.Str place bytes) = ((λ n. refl), omega (arith, ints), omega (arith, ints))
 
-up-low : (x : ℤ) → x ≤ℤ up x
-up-low (pos zero) = omega (arith, ints)
-up-low (pos (suc n)) = omega (arith, ints)
-up-low (negsuc n) = omega (arith, ints)
+round_up_to_day-low : (x : ℤ) → x ≤ℤ round_up_to_day x
+round_up_to_day-low (pos zero) = omega (arith, ints)
+round_up_to_day-low (pos (suc n)) = omega (arith, ints)
+round_up_to_day-low (negsuc n) = omega (arith, ints)
 
-up-high : (x : ℤ) → up x ≤ℤ (x +ℤ pos 86399)
-up-high (pos zero) = omega (arith, ints)
-up-high (pos (suc n)) = omega (arith, ints)
-up-high (negsuc n) = omega (arith, ints)
+round_up_to_day-high : (x : ℤ) → round_up_to_day x ≤ℤ (x +ℤ pos 86399)
+round_up_to_day-high (pos zero) = omega (arith, ints)
+round_up_to_day-high (pos (suc n)) = omega (arith, ints)
+round_up_to_day-high (negsuc n) = omega (arith, ints)
 
 day-bounded : (b : Base) (n : ℤ) → Free b → negsuc 450000000000 ≤ℤ n → n ≤ℤ pos 450000000001 → is_bounded (day_of_term (record { base = b; plus = n }) b) ≡ true
 day-bounded (Arrival v) n free l h = let e = near n (omega (arith, ints, l)) (omega (arith, ints, h)) in and_from _ _ refl (and_from _ _ e refl)
 day-bounded (Date v) n free l h = let e = near n (omega (arith, ints, l)) (omega (arith, ints, h)) in and_from _ _ refl (and_from _ _ e refl)
-day-bounded Fixed n free l h = and_from _ _ (near (up n) (omega (arith, ints, l, up-low n)) (omega (arith, ints, h, up-high n))) refl
+day-bounded Fixed n free l h = and_from _ _ (near (round_up_to_day n) (omega (arith, ints, l, round_up_to_day-low n)) (omega (arith, ints, h, round_up_to_day-high n))) refl
 day-bounded (ArrivalDay v k) n free l h = bounded (ArrivalDay v k) n free (omega (arith, ints, l)) (omega (arith, ints, h))
 day-bounded (DateDay v k) n free l h = bounded (DateDay v k) n free (omega (arith, ints, l)) (omega (arith, ints, h))
 

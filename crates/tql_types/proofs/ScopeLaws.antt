@@ -15,7 +15,8 @@ use Rattle.tql_core.specs.declared.term.Var.{Var}
 use Rattle.tql_core.specs.declared.atom.TextExpr.{TextExpr}
 use Rattle.tql_core.specs.declared.atom.TextExpr.TheVariants as X
 use Rattle.tql_core.specs.Condition.{Condition}
-use Rattle.tql_core.specs.Scope.{In, BaseIn, NumIn, TextIn, Scoped, IsQuery}
+use Rattle.tql_core.specs.Scope.{BaseIn, NumIn, TextIn, Scoped, IsQuery}
+use Rattle.tap_rows.specs.Kept.{In}
 use Rattle.tql_types.specs.declared.scope.Variable.{Variable}
 use Rattle.tql_types.specs.declared.field.Field.{Field}
 use Rattle.tql_types.specs.declared.field.Field.TheVariants as F
@@ -24,7 +25,7 @@ use Rattle.tql_types.specs.declared.sort.Sort.TheVariants.{Number, Text, Time, L
 use Rattle.tql_types.specs.declared.clock.Clock.{Clock}
 use Rattle.tql_types.specs.declared.clock.Clock.TheVariants as K
 use Rattle.tql_types.specs.declared.fault.TypeFault.{TypeFault}
-use Rattle.tql_types.specs.Scopes.{is_named, variable_named, first_scope, entered, next_variable, variables_after}
+use Rattle.tql_types.specs.Scopes.{is_variable_named, variable_named, first_scope, entered, next_variable, variables_after}
 use Rattle.tql_types.specs.Faults.{sooner, place_of}
 use Rattle.tql_types.specs.Sorts.{field_in, sort_of}
 use Rattle.tql_types.specs.Clocks.{base_of, base_in, clock_of, later, day, day_of_term, turned, half_line, times_core}
@@ -86,7 +87,7 @@ num-in scope names (E.Field var var_place name place shift) knows = go (variable
 
   go : (found : Option Variable) → variable_named var scope ≡ found → NumIn names (num_field (variable_named var scope) (field_in (variable_named var scope) name))
   go None e = rw e tt
-  go (Some variable) e = rw e (field variable (field_in (Some variable) name) (knows variable (find-in (is_named var) scope variable e)))
+  go (Some variable) e = rw e (field variable (field_in (Some variable) name) (knows variable (find-in (is_variable_named var) scope variable e)))
 
 text-in : (scope : List Variable) (names : List ℕ) (expr : Expr) → Knows scope names → TextIn names (text_of scope expr)
 text-in scope names (E.Number place value) knows = tt
@@ -105,7 +106,7 @@ text-in scope names (E.Field var var_place name place shift) knows = go (variabl
 
   go : (found : Option Variable) → variable_named var scope ≡ found → TextIn names (text_field (variable_named var scope) (field_in (variable_named var scope) name))
   go None e = rw e tt
-  go (Some variable) e = rw e (field variable (field_in (Some variable) name) (knows variable (find-in (is_named var) scope variable e)))
+  go (Some variable) e = rw e (field variable (field_in (Some variable) name) (knows variable (find-in (is_variable_named var) scope variable e)))
 
 lowered-in : (names : List ℕ) (text : TextExpr) → TextIn names text → TextIn names (lowered text)
 lowered-in names (X.Literal bytes) i = tt
@@ -128,7 +129,7 @@ has-in scope names (E.Field var var_place name place shift) text knows i = go (v
 
   go : (found : Option Variable) → variable_named var scope ≡ found → Scoped names (has_field (variable_named var scope) (field_in (variable_named var scope) name) text)
   go None e = rw e tt
-  go (Some variable) e = rw e (field variable (field_in (Some variable) name) (knows variable (find-in (is_named var) scope variable e)))
+  go (Some variable) e = rw e (field variable (field_in (Some variable) name) (knows variable (find-in (is_variable_named var) scope variable e)))
 
 -- the time of a clock is of a variable in scope
 abbrev ClockIn : List ℕ → Clock → Type 0
@@ -153,7 +154,7 @@ clock-in scope names (E.Field var var_place name place shift) knows = go (variab
 
   go : (found : Option Variable) → variable_named var scope ≡ found → BaseIn names (base_in (variable_named var scope) name)
   go None e = rw e tt
-  go (Some variable) e = rw e (field variable.var (field_in (Some variable) name) (knows variable (find-in (is_named var) scope variable e)))
+  go (Some variable) e = rw e (field variable.var (field_in (Some variable) name) (knows variable (find-in (is_variable_named var) scope variable e)))
 
 half-in : (names : List ℕ) (op : Op) (at next : Term) → BaseIn names at.base → BaseIn names next.base → Scoped names (half_line op at next)
 half-in names Ge at next i j = i

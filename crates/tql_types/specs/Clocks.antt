@@ -11,7 +11,7 @@ use Rattle.tql_core.specs.declared.term.Base.TheVariants.{Arrival, Date, Fixed, 
 use Rattle.tql_core.specs.declared.term.Term.{Term}
 use Rattle.tql_core.specs.declared.atom.Atom.TheVariants.{Times}
 use Rattle.tql_core.specs.Condition.{Condition, Always, Never, Plain, NowAtLeast, NowBefore, All, Either}
-use Rattle.tql_core.specs.Values.{up, compare}
+use Rattle.tql_core.specs.Values.{round_up_to_day, compare}
 use Rattle.tql_types.specs.declared.scope.Variable.{Variable}
 use Rattle.tql_types.specs.declared.field.Field.{Field}
 use Rattle.tql_types.specs.declared.field.Field.TheVariants as F
@@ -48,7 +48,7 @@ later term n = record { base = term.base; plus = term.plus +ℤ n }
 abbrev pub day_of_term : Term → Base → Term
 day_of_term term (Arrival var) = record { base = ArrivalDay var term.plus; plus = pos 0 }
 day_of_term term (Date var) = record { base = DateDay var term.plus; plus = pos 0 }
-day_of_term term Fixed = record { base = Fixed; plus = up term.plus }
+day_of_term term Fixed = record { base = Fixed; plus = round_up_to_day term.plus }
 day_of_term term (ArrivalDay var n) = term
 day_of_term term (DateDay var n) = term
 

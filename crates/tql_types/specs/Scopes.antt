@@ -7,12 +7,12 @@ use Rattle.tql_tree.specs.Syntax.{Syntax, True, False, Or, And, Not, Exists, Com
 use Rattle.tql_types.specs.declared.scope.Variable.{Variable}
 
 -- is this the variable's name?
-abbrev pub is_named : List ℕ → Variable → Bool
-is_named name variable = bytes_eq variable.name name
+abbrev pub is_variable_named : List ℕ → Variable → Bool
+is_variable_named name variable = bytes_eq variable.name name
 
 -- the variable of a name, if it is in scope
 abbrev pub variable_named : List ℕ → List Variable → Option Variable
-variable_named name scope = find (is_named name) scope
+variable_named name scope = find (is_variable_named name) scope
 
 -- m, a document, is always in scope
 abbrev pub first_scope : List Variable

@@ -2,7 +2,7 @@ ghost use Rattle.std.specs.Prelude.{◌≡◌, ◌≤ℤ◌, ℤ, pos, negsuc, n
 ghost use Rattle.std.specs.Option.{option_copied};
 ghost use Rattle.tap_base.specs.Numbers.{moment_of};
 ghost use Rattle.tql_core.specs.Condition.{condition};
-ghost use Rattle.tql_core.specs.Values.{up, compare};
+ghost use Rattle.tql_core.specs.Values.{round_up_to_day, compare};
 ghost use Rattle.tql_types.specs.Spans.{amount_of};
 ghost use Rattle.tql_types.specs.Clocks.{base_of, base_in, clock_of, later, day, day_of_term, turned, half_line, now_core, today_core, constant, times_core};
 ghost use Rattle.tql_types.specs.Bounds.{IsNearClock};
@@ -130,7 +130,7 @@ fn next_second(term: Term) -> Term
 fn up_to_day(x: i64) -> i64
     requires low { negsuc 599999999999 ≤ℤ x }
     requires high { x ≤ℤ pos 600000000000 }
-    ensures { result ≡ up x }
+    ensures { result ≡ round_up_to_day x }
 {
     x + (-x).rem_euclid(86400)
 }

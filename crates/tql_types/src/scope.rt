@@ -1,7 +1,7 @@
 ghost use Rattle.std.specs.Prelude.{◌≡◌, ◌++◌, ◌∷◌, ◌==◌, ◌≤◌, ◌<◌, [], List, ℕ, IfOk, find, length, codes};
 ghost use Rattle.std.specs.Option.{option_copied};
 ghost use Rattle.std.specs.Str.{bytes_eq};
-ghost use Rattle.tql_types.specs.Scopes.{is_named, variable_named, entered, first_scope, next_variable};
+ghost use Rattle.tql_types.specs.Scopes.{is_variable_named, variable_named, entered, first_scope, next_variable};
 
 use std::alloc::Global;
 use tap_base::{Copied, Memory, Rows, Text};
@@ -28,7 +28,7 @@ impl Copied for Variable {
 
 // Is this the variable's name?
 fn has_name(name: &[u8], variable: &Variable) -> bool
-    ensures { result ≡ is_named name.now variable.now }
+    ensures { result ≡ is_variable_named name.now variable.now }
 {
     variable.name.as_slice() == name
 }

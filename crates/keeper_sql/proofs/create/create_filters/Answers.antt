@@ -1,5 +1,5 @@
 use Rattle.sqlite.specs.Held.{state}
-use Rattle.keeper_sql.specs.Schema.{first_6, first_7, create_filters}
+use Rattle.keeper_sql.specs.Schema.{schema_prefix_6, schema_prefix_7, create_filters}
 use Rattle.keeper_sql.proofs.Creates.{makes_by, makes_filters, keeps_filters}
 use Rattle.keeper_sql.proofs.create.create_filters.Goals as goal
 
@@ -7,4 +7,4 @@ pub returns-in-Ok-clause-ok : goal.returns-in-Ok-clause-ok
 returns-in-Ok-clause-ok g c clean inside =
     let old = state g.S.Store c.args.tx.now.conn.now in
     let new = state g.S.Store c.execute.new.self.conn.now in
-    makes_by first_6 6 first_7 7 old new create_filters c.in-Ok.field-0 (c.in-Ok.ensures.runs clean inside) (λ was ran. makes_filters old new c.in-Ok.field-0 was ran) (λ has ran. keeps_filters old new c.in-Ok.field-0 has ran)
+    makes_by schema_prefix_6 6 schema_prefix_7 7 old new create_filters c.in-Ok.field-0 (c.in-Ok.ensures.runs clean inside) (λ was ran. makes_filters old new c.in-Ok.field-0 was ran) (λ has ran. keeps_filters old new c.in-Ok.field-0 has ran)

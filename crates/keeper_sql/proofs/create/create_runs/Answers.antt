@@ -1,5 +1,5 @@
 use Rattle.sqlite.specs.Held.{state}
-use Rattle.keeper_sql.specs.Schema.{first_4, first_5, create_runs}
+use Rattle.keeper_sql.specs.Schema.{schema_prefix_4, schema_prefix_5, create_runs}
 use Rattle.keeper_sql.proofs.Creates.{makes_by, makes_runs, keeps_runs}
 use Rattle.keeper_sql.proofs.create.create_runs.Goals as goal
 
@@ -7,4 +7,4 @@ pub returns-in-Ok-clause-ok : goal.returns-in-Ok-clause-ok
 returns-in-Ok-clause-ok g c clean inside =
     let old = state g.S.Store c.args.tx.now.conn.now in
     let new = state g.S.Store c.execute.new.self.conn.now in
-    makes_by first_4 4 first_5 5 old new create_runs c.in-Ok.field-0 (c.in-Ok.ensures.runs clean inside) (λ was ran. makes_runs old new c.in-Ok.field-0 was ran) (λ has ran. keeps_runs old new c.in-Ok.field-0 has ran)
+    makes_by schema_prefix_4 4 schema_prefix_5 5 old new create_runs c.in-Ok.field-0 (c.in-Ok.ensures.runs clean inside) (λ was ran. makes_runs old new c.in-Ok.field-0 was ran) (λ has ran. keeps_runs old new c.in-Ok.field-0 has ran)

@@ -1,25 +1,25 @@
 use Rattle.std.proofs.Common.{arith, Err, ap, sym, subst}
-use Rattle.keeper_core.specs.Keeping.{Holds}
-use Rattle.tap_top.specs.Points.{IsAt}
-use Rattle.tap_top.proofs.Steps.{Feeding-start, Feeding-more, Feeding-cut, Feeding-uncommitted, Feeding-short, GoesOn-start, GoesOn-then}
+use Rattle.keeper_core.specs.Keeping.{IsDurable}
+use Rattle.tap_top.specs.Points.{EngineMatchesKeeper}
+use Rattle.tap_top.proofs.Steps.{Feeding-start, Feeding-more, Feeding-cut, Feeding-uncommitted, Feeding-short, KeeperFrame-start, KeeperFrame-then}
 use Rattle.tap_top.proofs.feed.feed.Goals as goal
 
 pub loop-rest-init : goal.loop-rest-init
 loop-rest-init g c = record {
-  feeding = λ t honest at. Feeding-start c.args.piece.now c.args.reader.now t _ _ (IsAt c.args.engine.now (g.P.Keeper.tells c.args.keeper.now) (g.P.Keeper.may_leave c.args.keeper.now)) c.requires.open at.sound at;
+  feeding = λ t honest at. Feeding-start c.args.piece.now c.args.reader.now t _ _ (EngineMatchesKeeper c.args.engine.now (g.P.Keeper.tells c.args.keeper.now) (g.P.Keeper.may_leave c.args.keeper.now)) c.requires.open at.sound at;
   ended = c.requires.open;
   can = c.requires.can;
   later = omega arith;
-  keeper = GoesOn-start _ _ _;
+  keeper = KeeperFrame-start _ _ _;
 }
 
 pub loop-rest-preserved : goal.loop-rest-preserved
 loop-rest-preserved g c = record {
-  feeding = λ t honest at. Feeding-more _ _ _ c.in-Ok.step.used _ _ _ t _ _ _ _ _ c.loop-rest.all_ok _ _ _ c.in-Ok.step.ok (c.loop-rest.invariant.feeding t (c.in-Ok.ensures.keeper.before honest) at) c.after-rest.ensures (λ t1 there. c.in-Ok.ensures.ok t1 honest there);
+  feeding = λ t honest at. Feeding-more _ _ _ c.in-Ok.step.used _ _ _ t _ _ _ _ _ c.loop-rest.all_ok _ _ _ c.in-Ok.step.ok (c.loop-rest.invariant.feeding t (c.in-Ok.ensures.keeper.before honest) at) c.rest_from-rest.ensures (λ t1 there. c.in-Ok.ensures.ok t1 honest there);
   ended = c.in-Ok.ensures.open;
   can = c.in-Ok.ensures.can;
   later = (let a = c.loop-rest.invariant.later in let b = c.in-Ok.ensures.later in omega arith);
-  keeper = GoesOn-then _ _ _ _ _ _ _ _ _ c.loop-rest.invariant.keeper c.in-Ok.ensures.keeper;
+  keeper = KeeperFrame-then _ _ _ _ _ _ _ _ _ c.loop-rest.invariant.keeper c.in-Ok.ensures.keeper;
 }
 
 pub returns-in-Err-Put-clause-put : goal.returns-in-Err-Put-clause-put
@@ -33,4 +33,4 @@ returns-in-Err-Keeper-clause-uncommitted g c = λ _ t honest at.
 pub returns-in-Err-Memory-clause-memory : goal.returns-in-Err-Memory-clause-memory
 returns-in-Err-Memory-clause-memory g c = λ _ t honest at.
     let same = c.in-Err-Memory.ensures.memory (ap Err c.in-Err-Memory.field-0-is) in
-    Feeding-short _ _ _ _ t _ _ _ _ _ _ _ _ (λ x there. subst (λ k. Holds (g.P.Keeper.tells k) (g.P.Keeper.may_leave k) x) (sym same.0) there.holds) same.1.1 (c.loop-rest.invariant.feeding t (c.in-Err-Memory.ensures.keeper.before honest) at)
+    Feeding-short _ _ _ _ t _ _ _ _ _ _ _ _ (λ x there. subst (λ k. IsDurable (g.P.Keeper.tells k) (g.P.Keeper.may_leave k) x) (sym same.0) there.holds) same.1.1 (c.loop-rest.invariant.feeding t (c.in-Err-Memory.ensures.keeper.before honest) at)

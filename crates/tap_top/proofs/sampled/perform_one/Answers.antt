@@ -1,26 +1,26 @@
 use Rattle.tap_model.specs.Stories.{next_tables}
 use Rattle.tap_model.proofs.SoundLaws.{step-sound}
-use Rattle.tap_top.specs.Points.{IsAt}
+use Rattle.tap_top.specs.Points.{EngineMatchesKeeper}
 use Rattle.tap_top.specs.Samples.{Adds}
 use Rattle.tap_top.proofs.Samples.{Performed-one, FirstPerformed-one, NextUncommitted-one, Adds-one}
 use Rattle.tap_top.proofs.sampled.perform_one.Goals as goal
 
 pub returns-in-Err-KeeperFailed-clause-keeper : goal.returns-in-Err-KeeperFailed-clause-keeper
 returns-in-Err-KeeperFailed-clause-keeper g c = λ _ t honest at.
-    let crash = c.in-Err-KeeperFailed.ensures.crash t at.stands at.sound honest at.holds in
+    let crash = c.in-Err-KeeperFailed.ensures.crash t at.represents at.sound honest at.holds in
     NextUncommitted-one t _ c.args.command _ at.sound crash.0 crash.1
 
 pub returns-in-Some-clause-ok : goal.returns-in-Some-clause-ok
 returns-in-Some-clause-ok g c = λ t honest at.
-    let step = c.in-Ok.ensures.step t at.stands at.sound in
-    let there : IsAt c.perform.new.self (g.P.Keeper.tells c.perform.new.keeper) (g.P.Keeper.may_leave c.perform.new.keeper) (next_tables c.args.command c.in-Ok.reply c.args.engine.now.session t) =
+    let step = c.in-Ok.ensures.step t at.represents at.sound in
+    let there : EngineMatchesKeeper c.perform.new.self (g.P.Keeper.tells c.perform.new.keeper) (g.P.Keeper.may_leave c.perform.new.keeper) (next_tables c.args.command c.in-Ok.reply c.args.engine.now.session t) =
     record {
-      stands = c.in-Ok.ensures.stands t at.stands at.sound;
+      represents = c.in-Ok.ensures.represents t at.represents at.sound;
       sound = step-sound t c.args.engine.now.session c.args.command c.in-Ok.reply (next_tables c.args.command c.in-Ok.reply c.args.engine.now.session t) c.perform.new.self.session step at.sound;
-      holds = c.in-Ok.ensures.kept t at.stands at.sound honest at.holds;
+      holds = c.in-Ok.ensures.kept t at.represents at.sound honest at.holds;
     } in
-    Performed-one t _ c.args.command c.in-Ok.reply (λ replies x. IsAt c.perform.new.self (g.P.Keeper.tells c.perform.new.keeper) (g.P.Keeper.may_leave c.perform.new.keeper) x × Adds c.args.tally c.in-Some.tally replies) _ _ at.sound step (there, Adds-one c.args.tally c.in-Some.tally c.in-Ok.reply c.in-Some.ensures.refused c.in-Some.ensures.delivered c.in-Some.ensures.able)
+    Performed-one t _ c.args.command c.in-Ok.reply (λ replies x. EngineMatchesKeeper c.perform.new.self (g.P.Keeper.tells c.perform.new.keeper) (g.P.Keeper.may_leave c.perform.new.keeper) x × Adds c.args.tally c.in-Some.tally replies) _ _ at.sound step (there, Adds-one c.args.tally c.in-Some.tally c.in-Ok.reply c.in-Some.ensures.refused c.in-Some.ensures.delivered c.in-Some.ensures.able)
 
 pub returns-clause-memory : goal.returns-clause-memory
 returns-clause-memory g c = λ _ t honest at.
-    FirstPerformed-one t _ c.args.command c.in-Ok.reply _ (next_tables c.args.command c.in-Ok.reply c.args.engine.now.session t) _ at.sound (c.in-Ok.ensures.step t at.stands at.sound) (c.in-Ok.ensures.kept t at.stands at.sound honest at.holds)
+    FirstPerformed-one t _ c.args.command c.in-Ok.reply _ (next_tables c.args.command c.in-Ok.reply c.args.engine.now.session t) _ at.sound (c.in-Ok.ensures.step t at.represents at.sound) (c.in-Ok.ensures.kept t at.represents at.sound honest at.holds)

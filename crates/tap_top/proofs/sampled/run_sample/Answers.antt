@@ -1,12 +1,12 @@
 use Rattle.std.proofs.Common.{subst}
 use Rattle.std.specs.Prelude.{◌==◌}
 use Rattle.sample_gen.specs.Samples.{sample_of}
-use Rattle.tap_model.specs.Sound.{Sound}
+use Rattle.tap_model.specs.Sound.{IsSound}
 use Rattle.tap_top.proofs.Samples.{FirstPerformed-none, Sampled-put, Sampled-cut}
 use Rattle.tap_top.proofs.sampled.run_sample.Goals as goal
 
 pub returns-in_default-clause-memory : goal.returns-in_default-clause-memory
-returns-in_default-clause-memory g c = λ _ t honest at. FirstPerformed-none t _ (sample_of c.args.n) _ (subst (λ s. Sound t s) c.requires.session at.sound) at.holds
+returns-in_default-clause-memory g c = λ _ t honest at. FirstPerformed-none t _ (sample_of c.args.n) _ (subst (λ s. IsSound t s) c.requires.session at.sound) at.holds
 
 pub returns-clause-whole : goal.returns-clause-whole
 returns-clause-whole g c = λ low t honest at.

@@ -12,13 +12,13 @@ use Rattle.tap_top.proofs.sampled.sample_store.Goals as goal
 pub returns-in-Ok-clause-crash : goal.returns-in-Ok-clause-crash
 returns-in-Ok-clause-crash g c = λ t honest holds store.
     let opened = c.sample_with.ensures.goes_on.before honest in
-    let at = opened-at c.in-Ok.engine _ _ t c.in-Ok.ensures.session (c.in-Ok.ensures.stands opened t holds.told) (c.in-Ok.ensures.kept opened t holds.told c.in-Ok.ensures.can.keeping) store in
+    let at = opened-at c.in-Ok.engine _ _ t c.in-Ok.ensures.session (c.in-Ok.ensures.represents opened t holds.told) (c.in-Ok.ensures.kept opened t holds.told c.in-Ok.ensures.can.keeping) store in
     sample-leaves t c.args.n _ _ (g.P.Keeper.tells c.sample_with.new.keeper) (g.P.Keeper.may_leave c.sample_with.new.keeper) (c.sample_with.result == 0) c.sample_with.result c.sample_with.ensures.statuses (λ e. c.sample_with.ensures.whole e t honest at) (λ e. c.sample_with.ensures.cut e t honest at) (λ e. c.sample_with.ensures.uncommitted e t honest at) (λ e. c.sample_with.ensures.memory e t honest at)
 
 pub returns-in-Ok-clause-keeper : goal.returns-in-Ok-clause-keeper
 returns-in-Ok-clause-keeper g c = λ is t honest holds store.
     let opened = c.sample_with.ensures.goes_on.before honest in
-    let at = opened-at c.in-Ok.engine _ _ t c.in-Ok.ensures.session (c.in-Ok.ensures.stands opened t holds.told) (c.in-Ok.ensures.kept opened t holds.told c.in-Ok.ensures.can.keeping) store in
+    let at = opened-at c.in-Ok.engine _ _ t c.in-Ok.ensures.session (c.in-Ok.ensures.represents opened t holds.told) (c.in-Ok.ensures.kept opened t holds.told c.in-Ok.ensures.can.keeping) store in
     inr (c.sample_with.ensures.uncommitted is t honest at)
 
 pub returns-in-Err-Refused-clause-cut : goal.returns-in-Err-Refused-clause-cut

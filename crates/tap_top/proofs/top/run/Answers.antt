@@ -1,22 +1,22 @@
-use Rattle.keeper_core.specs.Keeping.{Holds}
+use Rattle.keeper_core.specs.Keeping.{IsDurable}
 use Rattle.std.proofs.Common.{arith, ap, sym, subst, refl, Err, ◌≤◌, ◌<◌, length}
 use Rattle.std.specs.Prelude.{◌==◌}
 use Rattle.tap_top.specs.declared.top.TheConstants.{PIECE}
-use Rattle.tap_top.specs.Points.{IsAt}
-use Rattle.tap_top.proofs.Steps.{GoesOn-start, GoesOn-then}
-use Rattle.tap_top.proofs.Runs.{Taking-start, Taking-more, Running-start, Running-more, Running-read, Running-cut, Running-uncommitted, Running-short, Running-closed, Running-end-cut, Running-end-uncommitted, Running-end-short, Running-long, none-taken, few-taken, Starved-same}
+use Rattle.tap_top.specs.Points.{EngineMatchesKeeper}
+use Rattle.tap_top.proofs.Steps.{KeeperFrame-start, KeeperFrame-then}
+use Rattle.tap_top.proofs.Runs.{Taking-start, Taking-more, Running-start, Running-more, Running-read, Running-cut, Running-uncommitted, Running-short, Running-closed, Running-end-cut, Running-end-uncommitted, Running-end-short, Running-long, none-taken, few-taken, OutOfMemory-same}
 use Rattle.tap_top.proofs.top.run.Goals as goal
 
 pub pieces-init : goal.pieces-init
 pieces-init g c = record {
   taking = Taking-start (g.S.Source.left c.args.source.now);
-  running = λ t honest at. rw c.new-reader.ensures (Running-start (g.S.Source.left c.args.source.now) t c.args.engine.now.session (g.K.Sink.out c.args.sink.now) (IsAt c.args.engine.now (g.P.Keeper.tells c.args.keeper.now) (g.P.Keeper.may_leave c.args.keeper.now)) c.requires.session at.sound at);
+  running = λ t honest at. rw c.new-reader.ensures (Running-start (g.S.Source.left c.args.source.now) t c.args.engine.now.session (g.K.Sink.out c.args.sink.now) (EngineMatchesKeeper c.args.engine.now (g.P.Keeper.tells c.args.keeper.now) (g.P.Keeper.may_leave c.args.keeper.now)) c.requires.session at.sound at);
   few = omega arith;
   ended = rw c.new-reader.ensures refl;
   can = c.requires.can;
   reads = omega arith;
   puts = omega arith;
-  keeper = GoesOn-start _ _ _;
+  keeper = KeeperFrame-start _ _ _;
 }
 
 pub returns-in-Err-clause-read : goal.returns-in-Err-clause-read
@@ -31,7 +31,7 @@ pieces-preserved g c = record {
   can = c.in-Ok-feed.ensures.can;
   reads = (let a = c.pieces.invariant.reads in let b = c.in-Ok.ensures.cause.later in omega arith);
   puts = (let a = c.pieces.invariant.puts in let b = c.in-Ok-feed.ensures.later in omega arith);
-  keeper = GoesOn-then _ _ _ _ _ _ _ _ _ c.pieces.invariant.keeper c.in-Ok-feed.ensures.keeper;
+  keeper = KeeperFrame-then _ _ _ _ _ _ _ _ _ c.pieces.invariant.keeper c.in-Ok-feed.ensures.keeper;
 }
 
 pub returns-then-n-eq0-clause-whole : goal.returns-then-n-eq0-clause-whole
@@ -52,8 +52,8 @@ returns-then-n-eq0-clause-uncommitted g c = λ is t honest at.
 pub returns-then-n-eq0-clause-memory : goal.returns-then-n-eq0-clause-memory
 returns-then-n-eq0-clause-memory g c = λ is t honest at.
     let same = c.close.ensures.memory is in
-    Starved-same t _ _ _ _ _ _ same.1.1
-    (Running-end-short _ _ _ _ _ t _ _ _ _ _ _ (λ x there. subst (λ k. Holds (g.P.Keeper.tells k) (g.P.Keeper.may_leave k) x) (sym same.0) there.holds) (c.pieces.invariant.running t (c.close.ensures.keeper.before honest) at) c.pieces-test.true (none-taken _ _ c.in-Ok.n c.piece.new.into c.if-n-eq0.true c.in-Ok.ensures.bytes.0))
+    OutOfMemory-same t _ _ _ _ _ _ same.1.1
+    (Running-end-short _ _ _ _ _ t _ _ _ _ _ _ (λ x there. subst (λ k. IsDurable (g.P.Keeper.tells k) (g.P.Keeper.may_leave k) x) (sym same.0) there.holds) (c.pieces.invariant.running t (c.close.ensures.keeper.before honest) at) c.pieces-test.true (none-taken _ _ c.in-Ok.n c.piece.new.into c.if-n-eq0.true c.in-Ok.ensures.bytes.0))
 
 pub returns-in-Err-Put-clause-put : goal.returns-in-Err-Put-clause-put
 returns-in-Err-Put-clause-put g c = λ _ t honest at.

@@ -2,20 +2,20 @@ use Rattle.std.proofs.Common.{◌≡◌, ◌≤◌, ◌-◌, ◌+◌, []}
 use Rattle.tap_rows.specs.declared.tables.Tables.{Tables}
 use Rattle.script_lang.specs.Script.{complete_from}
 use Rattle.tap_top.specs.declared.top.TheConstants.{SCRIPT_LIMIT, PIECE}
-use Rattle.tap_top.specs.Points.{CanPerform, IsAt, GoesOn}
+use Rattle.tap_top.specs.Points.{CanPerform, EngineMatchesKeeper, KeeperFrame}
 use Rattle.tap_top.proofs.Runs.{Taking, Running}
 use Rattle.tap_top.proofs.top.run.Given as goal
 
 abbrev pub invariant-pieces : goal.invariant-pieces
 invariant-pieces g l = record {
   taking : Taking (g.S.Source.left l.fn.source) (g.S.Source.left l.source) l.taken;
-  running : (t : Tables) → g.P.Keeper.honest l.keeper → IsAt l.fn.engine (g.P.Keeper.tells l.fn.keeper) (g.P.Keeper.may_leave l.fn.keeper) t → Running (g.S.Source.left l.fn.source) (g.S.Source.left l.source) l.taken l.reader t (g.K.Sink.out l.fn.sink) (g.K.Sink.out l.sink) (IsAt l.engine (g.P.Keeper.tells l.keeper) (g.P.Keeper.may_leave l.keeper)) l.engine.session l.all_ok;
+  running : (t : Tables) → g.P.Keeper.honest l.keeper → EngineMatchesKeeper l.fn.engine (g.P.Keeper.tells l.fn.keeper) (g.P.Keeper.may_leave l.fn.keeper) t → Running (g.S.Source.left l.fn.source) (g.S.Source.left l.source) l.taken l.reader t (g.K.Sink.out l.fn.sink) (g.K.Sink.out l.sink) (EngineMatchesKeeper l.engine (g.P.Keeper.tells l.keeper) (g.P.Keeper.may_leave l.keeper)) l.engine.session l.all_ok;
   few : l.taken ≤ SCRIPT_LIMIT + PIECE;
   ended : complete_from l.reader [] ≡ [];
   can : CanPerform l.engine (g.P.Keeper.attached l.keeper) (g.P.Keeper.stopped l.keeper);
   reads : g.S.Source.faults l.fn.source ≤ g.S.Source.faults l.source;
   puts : g.K.Sink.faults l.fn.sink ≤ g.K.Sink.faults l.sink;
-  keeper : GoesOn (g.P.Keeper.place l.fn.keeper) (g.P.Keeper.place l.keeper) (g.P.Keeper.faults l.fn.keeper) (g.P.Keeper.faults l.keeper) (g.P.Keeper.honest l.fn.keeper) (g.P.Keeper.honest l.keeper);
+  keeper : KeeperFrame (g.P.Keeper.place l.fn.keeper) (g.P.Keeper.place l.keeper) (g.P.Keeper.faults l.fn.keeper) (g.P.Keeper.faults l.keeper) (g.P.Keeper.honest l.fn.keeper) (g.P.Keeper.honest l.keeper);
 }
 
 abbrev pub decreases-pieces : goal.decreases-pieces

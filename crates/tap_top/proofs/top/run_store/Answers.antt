@@ -3,13 +3,13 @@ use Rattle.std.specs.Prelude.{◌==◌}
 use Rattle.tap_model.specs.Sound.{IsStore}
 use Rattle.tap_top.specs.Refusals.{fault_of}
 use Rattle.tap_top.proofs.Refusals.{fine-store, some-or-none, Refused-none, refused-for, not-stopped}
-use Rattle.tap_top.proofs.Crashes.{nothing-leaves, none-leaves, run-leaves, leaves-stores, opened-at, Starved-none}
+use Rattle.tap_top.proofs.Crashes.{nothing-leaves, none-leaves, run-leaves, leaves-stores, opened-at, OutOfMemory-none}
 use Rattle.tap_top.proofs.top.run_store.Goals as goal
 
 pub returns-in-Ok-clause-crash : goal.returns-in-Ok-clause-crash
 returns-in-Ok-clause-crash g c = λ t honest holds store.
     let opened = c.run_with.ensures.keeper.before honest in
-    let at = opened-at c.in-Ok.engine _ _ t c.in-Ok.ensures.session (c.in-Ok.ensures.stands opened t holds.told) (c.in-Ok.ensures.kept opened t holds.told c.in-Ok.ensures.can.keeping) store in
+    let at = opened-at c.in-Ok.engine _ _ t c.in-Ok.ensures.session (c.in-Ok.ensures.represents opened t holds.told) (c.in-Ok.ensures.kept opened t holds.told c.in-Ok.ensures.can.keeping) store in
     run-leaves t _ _ _ _ (g.P.Keeper.has_version c.args.keeper.now) (g.P.Keeper.tells c.run_with.new.keeper) (g.P.Keeper.may_leave c.run_with.new.keeper) (c.run_with.result == 0) c.run_with.result c.run_with.ensures.statuses (λ e. c.run_with.ensures.whole e t honest at) (λ e. c.run_with.ensures.read e t honest at) (λ e. c.run_with.ensures.put e t honest at) (λ e. c.run_with.ensures.uncommitted e t honest at) (λ e. c.run_with.ensures.memory e t honest at) (λ e. c.run_with.ensures.long e t honest at)
 
 pub returns-in-Ok-clause-kept : goal.returns-in-Ok-clause-kept
@@ -34,7 +34,7 @@ pub returns-in-Err-Keeper-clause-refused : goal.returns-in-Err-Keeper-clause-ref
 returns-in-Err-Keeper-clause-refused g c = λ t honest holds v version fault is. Refused-none 5 fault _ _ _ _ _ _ t (inr (inr (inl refl))) (λ e. cc) refl refl (λ no. absurd (no refl)) (c.in-Err-Keeper.ensures.crash honest t holds.told)
 
 pub returns-in-Err-Memory-clause-memory : goal.returns-in-Err-Memory-clause-memory
-returns-in-Err-Memory-clause-memory g c = λ _ t honest holds store. Starved-none t _ _ _ _ _ refl refl store (c.in-Err-Memory.ensures.kept honest t holds.told (not-stopped (g.P.Keeper.stopped c.open_store.new.keeper) c.in-Err-Memory.ensures.stopped.0 (λ e. cc)))
+returns-in-Err-Memory-clause-memory g c = λ _ t honest holds store. OutOfMemory-none t _ _ _ _ _ refl refl store (c.in-Err-Memory.ensures.kept honest t holds.told (not-stopped (g.P.Keeper.stopped c.open_store.new.keeper) c.in-Err-Memory.ensures.stopped.0 (λ e. cc)))
 
 pub returns-in-Err-Memory-clause-crash : goal.returns-in-Err-Memory-clause-crash
 returns-in-Err-Memory-clause-crash g c = λ t honest holds store. nothing-leaves t _ _ _ _ _ _ refl refl (c.in-Err-Memory.ensures.crash honest t holds.told)

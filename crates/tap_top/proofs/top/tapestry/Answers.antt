@@ -3,12 +3,12 @@ use Rattle.command_words.specs.declared.fault.WordFault.{WordFault}
 use Rattle.command_words.specs.declared.fault.WordFault.TheVariants.{Refused as RefusedWords, Memory}
 use Rattle.command_words.specs.Words.{sample_in}
 use Rattle.command_words.proofs.Worded.{worded}
-use Rattle.keeper_core.specs.Keeping.{Holds}
+use Rattle.keeper_core.specs.Keeping.{IsDurable}
 use Rattle.sample_gen.specs.Samples.{sample_of}
 use Rattle.tap_model.specs.Sessions.{no_session}
 use Rattle.tap_top.specs.Samples.{SampledCut}
 use Rattle.tap_top.proofs.Refusals.{Refused-none}
-use Rattle.tap_top.proofs.Crashes.{nothing-leaves, Starved-none}
+use Rattle.tap_top.proofs.Crashes.{nothing-leaves, OutOfMemory-none}
 use Rattle.tap_top.proofs.Samples.{FirstPerformed-none}
 use Rattle.tap_top.proofs.SampleCrashes.{alone-leaves, first-stores}
 use Rattle.tap_top.proofs.top.tapestry.Goals as goal
@@ -41,7 +41,7 @@ pub returns-in-Err-Memory-clause-named : goal.returns-in-Err-Memory-clause-named
 returns-in-Err-Memory-clause-named g c = λ path number named. let asked = worded c.args.words.now path number named in (asked.place, asked.sample)
 
 pub returns-in-Err-Memory-clause-memory : goal.returns-in-Err-Memory-clause-memory
-returns-in-Err-Memory-clause-memory g c = λ _ _ t honest holds store. Starved-none t _ _ _ _ _ refl refl store holds
+returns-in-Err-Memory-clause-memory g c = λ _ _ t honest holds store. OutOfMemory-none t _ _ _ _ _ refl refl store holds
 
 pub returns-in-Err-Memory-clause-sample_memory : goal.returns-in-Err-Memory-clause-sample_memory
 returns-in-Err-Memory-clause-sample_memory g c = λ n _ _ t honest holds store. FirstPerformed-none t no_session (sample_of n) _ store holds
@@ -58,7 +58,7 @@ returns-in-Err-Memory-clause-refused g c = λ t honest holds v version fault is.
 pub returns-in-Some-clause-sample_put : goal.returns-in-Some-clause-sample_put
 returns-in-Some-clause-sample_put g c = λ n asked is t honest holds store v version known.
     let same : c.in-Some.n ≡ n = same-number (sample_in c.args.words.now) c.in-Some.n n (sym c.in-Ok.ensures.sample ∙ c.in-Some.is) asked in
-    subst (λ m. SampledCut t m (g.K.Sink.out c.args.sink.now) (g.K.Sink.out c.sample_store.new.sink) (Holds (g.P.Keeper.tells c.sample_store.new.keeper) (g.P.Keeper.may_leave c.sample_store.new.keeper))) same (c.sample_store.ensures.cut is t honest holds store v version known)
+    subst (λ m. SampledCut t m (g.K.Sink.out c.args.sink.now) (g.K.Sink.out c.sample_store.new.sink) (IsDurable (g.P.Keeper.tells c.sample_store.new.keeper) (g.P.Keeper.may_leave c.sample_store.new.keeper))) same (c.sample_store.ensures.cut is t honest holds store v version known)
 
 pub returns-in-Some-clause-kept : goal.returns-in-Some-clause-kept
 returns-in-Some-clause-kept g c = λ t honest holds store x may. first-stores t (sample_of c.in-Some.n) _ store (c.sample_store.ensures.crash t honest holds store) x may

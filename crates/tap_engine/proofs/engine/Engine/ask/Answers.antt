@@ -3,7 +3,7 @@ use Rattle.tap_base.specs.Numbers.{moment_of}
 use Rattle.tap_rows.specs.declared.tables.Tables.{Tables}
 use Rattle.script_lang.specs.declared.command.Command.TheVariants.{Ask}
 use Rattle.tap_model.specs.Stories.{Refuses}
-use Rattle.tap_engine.specs.Standing.{StandsFor}
+use Rattle.tap_engine.specs.Standing.{Represents}
 use Rattle.tql_core.specs.Condition.{condition}
 use Rattle.tap_engine.proofs.RowTurns.{docs-are, notes-are}
 use Rattle.tap_engine.proofs.AskLaws.{ask-text, ask-open, answers-ask}
@@ -19,10 +19,10 @@ pub returns-in_err-refuse_open-clause-refusal : goal.returns-in_err-refuse_open-
 returns-in_err-refuse_open-clause-refusal g c =
     let is : moment_of c.args.moment.now ≡ Some c.in-Some.second = search rules in
     let there : c.args.self.now.session.moment ≡ Some c.in-Some-moment.now = search rules in
-    let by : (t : Tables) → StandsFor c.args.self.now t → Refuses c.in_err-refuse_open.field-0.0 (Ask c.args.moment.now c.args.source.now) c.args.self.now.session t = λ t stands. ask-open c.args.self.now.session c.args.moment.now c.args.source.now c.in-Some.second c.in-Some-moment.now is there t (condition c.in_ok-cond.cond) c.in_err-refuse_open.field-0.0 c.in_ok-cond.ensures.cond (search rules) in search (rules, by)
+    let by : (t : Tables) → Represents c.args.self.now t → Refuses c.in_err-refuse_open.field-0.0 (Ask c.args.moment.now c.args.source.now) c.args.self.now.session t = λ t represents. ask-open c.args.self.now.session c.args.moment.now c.args.source.now c.in-Some.second c.in-Some-moment.now is there t (condition c.in_ok-cond.cond) c.in_err-refuse_open.field-0.0 c.in_ok-cond.ensures.cond (search rules) in search (rules, by)
 
 pub returns-clause-ok : goal.returns-clause-ok
-returns-clause-ok g c = λ t stands sound.
+returns-clause-ok g c = λ t represents sound.
     let is : moment_of c.args.moment.now ≡ Some c.in-Some.second = search rules in
     let there : c.args.self.now.session.moment ≡ Some c.in-Some-moment.now = search rules in
-    let answers = answers-ask c.args.self.now.session c.args.moment.now c.args.source.now c.in-Some.second c.in-Some-moment.now is there t (condition c.in_ok-cond.cond) c.every_doc.result.now c.every_note.result.now c.in_ok-docs.docs c.in_ok-cond.ensures.cond (search rules) (c.every_doc.ensures.docs ∙ docs-are stands) (c.every_note.ensures.notes ∙ notes-are stands) (search rules) in search (rules, answers)
+    let answers = answers-ask c.args.self.now.session c.args.moment.now c.args.source.now c.in-Some.second c.in-Some-moment.now is there t (condition c.in_ok-cond.cond) c.every_doc.result.now c.every_note.result.now c.in_ok-docs.docs c.in_ok-cond.ensures.cond (search rules) (c.every_doc.ensures.docs ∙ docs-are represents) (c.every_note.ensures.notes ∙ notes-are represents) (search rules) in search (rules, answers)

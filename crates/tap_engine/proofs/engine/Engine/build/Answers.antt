@@ -5,11 +5,11 @@ use Rattle.tap_rows.specs.Kept.{Each, HasRun, RunsFrom}
 use Rattle.tap_rows.specs.WellFormed.{is_well_formed}
 use Rattle.tap_engine.specs.declared.engine.Engine.{Engine}
 use Rattle.tap_kept.specs.Keeping.{kept_query}
-use Rattle.tap_engine.specs.Standing.{StandsFor}
-use Rattle.tap_kept.specs.Starting.{runs_alone, IsOneOf, AreOnce}
+use Rattle.tap_engine.specs.Standing.{Represents}
+use Rattle.tap_kept.specs.Starting.{runs_alone, IsOneOf, PicksAreDistinct}
 use Rattle.tap_engine.proofs.FormedLaws.{Formed, formed}
 use Rattle.tap_engine.proofs.SumLaws.{bytes-of, greatest-in}
-use Rattle.tap_engine.proofs.StartedLaws.{IsStarted, stands-start, ready-start}
+use Rattle.tap_engine.proofs.StartedLaws.{IsStarted, represents-start, ready-start}
 use Rattle.tap_engine.proofs.engine.Engine.build.Goals as goal
 
 from-sound : (tables sound : Tables) → tables ≡ sound → is_well_formed sound ≡ true → Formed tables
@@ -42,7 +42,7 @@ keep_delivered-requires-clause-picked c =
 pub keep_delivered-requires-clause-once : goal.keep_delivered-requires-clause-once
 keep_delivered-requires-clause-once c =
     let f = from-sound c.into_parts-tables.result.0 c.args.sound c.into_parts-tables.ensures.tables c.into_parts-tables.ensures.formed in
-    subst (AreOnce []) (sym c.as_slice-4.ensures) f.once
+    subst (PicksAreDistinct []) (sym c.as_slice-4.ensures) f.once
 
 pub index_rows-requires-clause-docs : goal.index_rows-requires-clause-docs
 index_rows-requires-clause-docs c = (from-sound c.into_parts-tables.result.0 c.args.sound c.into_parts-tables.ensures.tables c.into_parts-tables.ensures.formed).docs
@@ -82,7 +82,7 @@ returns c =
       greatest = ap (λ sums. sums.greatest) c.in_ok-sums.ensures ∙ greatest-in t;
     } in
     record {
-      stands = subst (λ tables. StandsFor e tables) c.into_parts-tables.ensures.tables (stands-start e t is);
+      represents = subst (λ tables. Represents e tables) c.into_parts-tables.ensures.tables (represents-start e t is);
       session = is.session;
       running = refl;
       ready = ready-start e t is (from-sound t c.args.sound c.into_parts-tables.ensures.tables c.into_parts-tables.ensures.formed);

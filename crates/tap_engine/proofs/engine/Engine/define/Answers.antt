@@ -5,9 +5,9 @@ use Rattle.script_lang.specs.declared.refusal.Refusal.TheVariants.{Memory}
 use Rattle.tap_engine.proofs.AnswerTurns.{for-memory, undo-query}
 use Rattle.tap_model.specs.Sound.{IsMoment}
 use Rattle.tap_model.proofs.SoundLaws.{start-moment}
-use Rattle.tap_engine.proofs.ReadyLaws.{kept-more, present-moment}
+use Rattle.tap_engine.proofs.ReadyLaws.{kept-more, moment_or_zero-moment}
 use Rattle.tap_engine.proofs.CheckLaws.{define-verdict, define-refuses, answers-define, define-moment}
-use Rattle.tap_engine.proofs.StandingLaws.{stands-query}
+use Rattle.tap_engine.proofs.StandingLaws.{represents-query}
 use Rattle.tap_engine.proofs.engine.Engine.define.Goals as goal
 
 pub returns-in_err-row-clause-refusal : goal.returns-in_err-row-clause-refusal
@@ -20,17 +20,17 @@ pub returns-in_err-change-clause-refusal : goal.returns-in_err-change-clause-ref
 returns-in_err-change-clause-refusal c = let by = define-refuses c.args.self.now c.args.name c.args.source Memory (for-memory _ c.in_ok-row.ensures.checks) in search (rules, by)
 
 pub returns-clause-ok : goal.returns-clause-ok
-returns-clause-ok c = λ t stands sound.
-    let none = sym (define-verdict c.args.self.now t c.args.name c.args.source stands) ∙ c.in_ok-row.ensures.checks in
+returns-clause-ok c = λ t represents sound.
+    let none = sym (define-verdict c.args.self.now t c.args.name c.args.source represents) ∙ c.in_ok-row.ensures.checks in
     answers-define t c.args.self.now.session c.args.name c.args.source c.in_ok-shown.shown (length c.args.self.now.queries) c.in_ok-row.row c.in_ok-change.change c.add_query.new.self.session none
-    (ap length stands.queries ∙ length-map t.queries (kept_query t))
+    (ap length represents.queries ∙ length-map t.queries (kept_query t))
     c.in_ok-row.ensures.row c.in_ok-shown.ensures c.in_ok-change.ensures.change (ap (λ e. e.session) c.in_ok-change.ensures.engine)
 
 pub returns-clause-stands : goal.returns-clause-stands
-returns-clause-stands c = λ t stands sound.
-    let count = ap length stands.queries ∙ length-map t.queries (kept_query t) in
+returns-clause-stands c = λ t represents sound.
+    let count = ap length represents.queries ∙ length-map t.queries (kept_query t) in
     rw (c.in_ok-change.ensures.engine, c.in_ok-change.ensures.change)
-    (stands-query c.args.self.now t c.in_ok-row.row stands sound.kept (ap (λ r. r.num.0) c.in_ok-row.ensures.row ∙ ap (λ n. n + 1) count) (define-moment c.args.self.now c.args.name c.args.source c.in_ok-row.ensures.checks))
+    (represents-query c.args.self.now t c.in_ok-row.row represents sound.kept (ap (λ r. r.num.0) c.in_ok-row.ensures.row ∙ ap (λ n. n + 1) count) (define-moment c.args.self.now c.args.name c.args.source c.in_ok-row.ensures.checks))
 
 pub returns-clause-undo : goal.returns-clause-undo
 returns-clause-undo c = rw c.in_ok-change.ensures.engine (undo-query c.args.self.now (new_kept c.in_ok-row.row ∷ []) c.in_ok-row.row.owner _ c.len.result c.len-2.result c.len.ensures c.len-2.ensures)
@@ -38,7 +38,7 @@ returns-clause-undo c = rw c.in_ok-change.ensures.engine (undo-query c.args.self
 pub returns-clause-ready : goal.returns-clause-ready
 returns-clause-ready c =
     let is : c.in_ok-row.row.num.0 ≡ length c.args.self.now.queries + 1 = ap (λ r. r.num.0) c.in_ok-row.ensures.row in
-    let moment : IsMoment c.in_ok-row.row.arrival = subst IsMoment (sym (ap (λ r. r.arrival) c.in_ok-row.ensures.row)) (present-moment c.args.self.now c.requires.ready (define-moment c.args.self.now c.args.name c.args.source c.in_ok-row.ensures.checks)) in
+    let moment : IsMoment c.in_ok-row.row.arrival = subst IsMoment (sym (ap (λ r. r.arrival) c.in_ok-row.ensures.row)) (moment_or_zero-moment c.args.self.now c.requires.ready (define-moment c.args.self.now c.args.name c.args.source c.in_ok-row.ensures.checks)) in
     rw c.in_ok-change.ensures.engine (record {
       docs = c.requires.ready.docs;
       notes = c.requires.ready.notes;

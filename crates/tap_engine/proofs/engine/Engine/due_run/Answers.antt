@@ -1,10 +1,10 @@
 use Rattle.std.proofs.Common.{rules, ◌≡◌, ◌∙◌, ◌+◌, ◌≤◌, ap, subst, inl, length, Some, None, w64, to_z, of_z}
 use Rattle.script_lang.specs.declared.refusal.LimitName.TheVariants.{Runs, Picks}
 use Rattle.tap_model.specs.declared.limits.TheConstants.{RUN_LIMIT, PICK_LIMIT}
-use Rattle.tap_model.specs.Limits.{passes}
+use Rattle.tap_model.specs.Limits.{limit_refusal}
 use Rattle.tap_kept.specs.Keeping.{hits_since}
 use Rattle.tap_engine.specs.Standing.{query_refusal, run_refusal, RefusedBy}
-use Rattle.tap_kept.specs.Costs.{IsQuiet, AreAlone, rows_due, window_since}
+use Rattle.tap_kept.specs.Costs.{HasNoMark, AreAlone, rows_due, window_since}
 use Rattle.tap_engine.proofs.CheckLaws.{run-left}
 use Rattle.tap_engine.proofs.CostLaws.{quiet-named, due-named}
 use Rattle.tap_model.specs.Sessions.{user_of}
@@ -19,10 +19,10 @@ returns-in_err-refuse_more-2-clause-refusal g c =
     let e = c.args.self.now in
     let is-m : e.session.moment ≡ Some c.in-Some.moment = search rules in
     let look : query_refusal e.session e.queries c.args.name.now ≡ None = search rules in
-    let runs : passes Runs RUN_LIMIT e.run_count 1 ≡ None = search rules in
+    let runs : limit_refusal Runs RUN_LIMIT e.run_count 1 ≡ None = search rules in
     let same : to_z w64 (of_z w64 c.in-Some.moment) ≡ c.in-Some.moment = search rules in
     let hits : c.find.new.hits.hits ≡ hits_since c.in_ok-kept.kept.now e.index c.in-Some.moment = c.find.ensures.hits ∙ ap (hits_since c.in_ok-kept.kept.now e.index) same in
-    let refused : passes Picks PICK_LIMIT e.pick_count (length c.find.new.hits.hits) ≡ Some c.in_err-refuse_more-2.field-0.0 = search rules in
+    let refused : limit_refusal Picks PICK_LIMIT e.pick_count (length c.find.new.hits.hits) ≡ Some c.in_err-refuse_more-2.field-0.0 = search rules in
     let by : RefusedBy (run_refusal e c.args.name.now) c.in_err-refuse_more-2.field-0.0 = inl (run-left e c.args.name.now c.in_ok-kept.kept.now c.in-Some.moment c.find.new.hits.hits is-m look runs c.in_ok-kept.ensures.ok hits ∙ refused) in search (rules, by)
 
 pub returns-clause-verdict : goal.returns-clause-verdict
@@ -30,10 +30,10 @@ returns-clause-verdict g c =
     let e = c.args.self.now in
     let is-m : e.session.moment ≡ Some c.in-Some.moment = search rules in
     let look : query_refusal e.session e.queries c.args.name.now ≡ None = search rules in
-    let runs : passes Runs RUN_LIMIT e.run_count 1 ≡ None = search rules in
+    let runs : limit_refusal Runs RUN_LIMIT e.run_count 1 ≡ None = search rules in
     let same : to_z w64 (of_z w64 c.in-Some.moment) ≡ c.in-Some.moment = search rules in
     let hits : c.find.new.hits.hits ≡ hits_since c.in_ok-kept.kept.now e.index c.in-Some.moment = c.find.ensures.hits ∙ ap (hits_since c.in_ok-kept.kept.now e.index) same in
-    let fine : passes Picks PICK_LIMIT e.pick_count (length c.find.new.hits.hits) ≡ None = search rules in
+    let fine : limit_refusal Picks PICK_LIMIT e.pick_count (length c.find.new.hits.hits) ≡ None = search rules in
     run-left e c.args.name.now c.in_ok-kept.kept.now c.in-Some.moment c.find.new.hits.hits is-m look runs c.in_ok-kept.ensures.ok hits ∙ fine
 
 pub returns-in_err-refuse_more-2-clause-quiet : goal.returns-in_err-refuse_more-2-clause-quiet
@@ -42,7 +42,7 @@ returns-in_err-refuse_more-2-clause-quiet g c =
     let kept = c.in_ok-kept.kept.now in
     let is-m : e.session.moment ≡ Some c.in-Some.moment = search rules in
     let same : to_z w64 (of_z w64 c.in-Some.moment) ≡ c.in-Some.moment = search rules in
-    quiet-named e c.args.name.now kept c.in-Some.moment is-m c.in_ok-kept.ensures.ok (subst (λ m. IsQuiet e.index (window_since kept m) kept.row → c.find.new.steps ≡ c.args.steps.now) same c.find.ensures.quiet)
+    quiet-named e c.args.name.now kept c.in-Some.moment is-m c.in_ok-kept.ensures.ok (subst (λ m. HasNoMark e.index (window_since kept m) kept.row → c.find.new.steps ≡ c.args.steps.now) same c.find.ensures.quiet)
 
 pub returns-in_err-refuse_more-2-clause-rows : goal.returns-in_err-refuse_more-2-clause-rows
 returns-in_err-refuse_more-2-clause-rows g c =
@@ -58,7 +58,7 @@ returns-in_err-copy_hits-clause-quiet g c =
     let kept = c.in_ok-kept.kept.now in
     let is-m : e.session.moment ≡ Some c.in-Some.moment = search rules in
     let same : to_z w64 (of_z w64 c.in-Some.moment) ≡ c.in-Some.moment = search rules in
-    quiet-named e c.args.name.now kept c.in-Some.moment is-m c.in_ok-kept.ensures.ok (subst (λ m. IsQuiet e.index (window_since kept m) kept.row → c.find.new.steps ≡ c.args.steps.now) same c.find.ensures.quiet)
+    quiet-named e c.args.name.now kept c.in-Some.moment is-m c.in_ok-kept.ensures.ok (subst (λ m. HasNoMark e.index (window_since kept m) kept.row → c.find.new.steps ≡ c.args.steps.now) same c.find.ensures.quiet)
 
 pub returns-in_err-copy_hits-clause-rows : goal.returns-in_err-copy_hits-clause-rows
 returns-in_err-copy_hits-clause-rows g c =
@@ -74,7 +74,7 @@ returns-clause-quiet g c =
     let kept = c.in_ok-kept.kept.now in
     let is-m : e.session.moment ≡ Some c.in-Some.moment = search rules in
     let same : to_z w64 (of_z w64 c.in-Some.moment) ≡ c.in-Some.moment = search rules in
-    quiet-named e c.args.name.now kept c.in-Some.moment is-m c.in_ok-kept.ensures.ok (subst (λ m. IsQuiet e.index (window_since kept m) kept.row → c.find.new.steps ≡ c.args.steps.now) same c.find.ensures.quiet)
+    quiet-named e c.args.name.now kept c.in-Some.moment is-m c.in_ok-kept.ensures.ok (subst (λ m. HasNoMark e.index (window_since kept m) kept.row → c.find.new.steps ≡ c.args.steps.now) same c.find.ensures.quiet)
 
 pub returns-clause-rows : goal.returns-clause-rows
 returns-clause-rows g c =

@@ -9,6 +9,6 @@ returns-in_err-lines-clause-refusal c =
     let by = lines-refuses c.args.self.now c.args.name c.in_err-lines.field-0.0 (subst (λ n. RefusedBy (look_refusal c.args.self.now n) c.in_err-lines.field-0.0) c.as_slice.ensures c.in_err-lines.ensures.refusal) in search (rules, by)
 
 pub returns-clause-ok : goal.returns-clause-ok
-returns-clause-ok c = λ t stands sound. answers-lines c.args.self.now t c.args.name c.in_ok-lines.lines stands
+returns-clause-ok c = λ t represents sound. answers-lines c.args.self.now t c.args.name c.in_ok-lines.lines represents
     (sym (ap (look_refusal c.args.self.now) c.as_slice.ensures) ∙ c.in_ok-lines.ensures.look)
     (c.in_ok-lines.ensures.lines ∙ ap (λ n. lines_kept (kept_named c.args.self.now n)) c.as_slice.ensures)

@@ -1,7 +1,7 @@
 use Rattle.std.proofs.Common.{rules, ◌∙◌, sym, ap, length, ◌∷◌, []}
 use Rattle.script_lang.specs.declared.refusal.Refusal.TheVariants.{Memory}
 use Rattle.tap_engine.proofs.AnswerTurns.{for-memory, undo-filter}
-use Rattle.tap_engine.proofs.FilterLaws.{filter-verdict, filter-refuses, filter-moment, answers-filter, stands-filter}
+use Rattle.tap_engine.proofs.FilterLaws.{filter-verdict, filter-refuses, filter-moment, answers-filter, represents-filter}
 use Rattle.tap_engine.proofs.engine.Engine.filter.Goals as goal
 
 pub returns-in_err-row-clause-refusal : goal.returns-in_err-row-clause-refusal
@@ -11,15 +11,15 @@ pub returns-in_err-change-clause-refusal : goal.returns-in_err-change-clause-ref
 returns-in_err-change-clause-refusal c = let by = filter-refuses c.args.self.now c.args.block Memory (for-memory _ c.in_ok-row.ensures.checks) in search (rules, by)
 
 pub returns-clause-ok : goal.returns-clause-ok
-returns-clause-ok c = λ t stands sound.
-    let none = sym (filter-verdict c.args.self.now t c.args.block stands) ∙ c.in_ok-row.ensures.checks in
+returns-clause-ok c = λ t represents sound.
+    let none = sym (filter-verdict c.args.self.now t c.args.block represents) ∙ c.in_ok-row.ensures.checks in
     answers-filter t c.args.self.now.session c.args.block (length c.args.self.now.filters) c.len-count.result c.in_ok-row.row c.in_ok-change.change c.add_filter.new.self.session none
-    (ap length stands.filters) c.in_ok-row.ensures.row (c.len-count.ensures ∙ ap length c.in_ok-row.ensures.rules) c.in_ok-change.ensures.change (ap (λ e. e.session) c.in_ok-change.ensures.engine)
+    (ap length represents.filters) c.in_ok-row.ensures.row (c.len-count.ensures ∙ ap length c.in_ok-row.ensures.rules) c.in_ok-change.ensures.change (ap (λ e. e.session) c.in_ok-change.ensures.engine)
 
 pub returns-clause-stands : goal.returns-clause-stands
-returns-clause-stands c = λ t stands sound.
+returns-clause-stands c = λ t represents sound.
     rw (c.in_ok-change.ensures.engine, c.in_ok-change.ensures.change)
-    (stands-filter c.args.self.now t c.in_ok-row.row stands (filter-moment c.args.self.now c.args.block c.in_ok-row.ensures.checks))
+    (represents-filter c.args.self.now t c.in_ok-row.row represents (filter-moment c.args.self.now c.args.block c.in_ok-row.ensures.checks))
 
 pub returns-clause-undo : goal.returns-clause-undo
 returns-clause-undo c = rw c.in_ok-change.ensures.engine (undo-filter c.args.self.now (c.in_ok-row.row ∷ []) c.in_ok-row.row.owner _ c.len.result c.len-2.result c.len.ensures c.len-2.ensures)

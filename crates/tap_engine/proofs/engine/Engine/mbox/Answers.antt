@@ -7,14 +7,14 @@ use Rattle.row_index.specs.Orders.{doc_arrival, IsMoment}
 use Rattle.tap_model.specs.Verdicts.{bytes_of}
 use Rattle.tap_model.specs.Replies.{docs_from, some_docs, tables_after}
 use Rattle.tap_engine.specs.declared.undo.Undo.TheVariants.{Docs as Rows}
-use Rattle.tap_engine.specs.Answering.{TakesBack}
-use Rattle.tap_engine.specs.Standing.{StandsFor}
+use Rattle.tap_engine.specs.Answering.{UndoRestores}
+use Rattle.tap_engine.specs.Standing.{Represents}
 use Rattle.tap_engine.specs.Ready.{IsReady}
 use Rattle.tap_engine.proofs.RowTurns.{docs-are}
 use Rattle.script_lang.specs.declared.refusal.Refusal.TheVariants.{Memory}
 use Rattle.tap_engine.proofs.AnswerTurns.{for-memory, undo-docs, some-undo}
 use Rattle.tap_engine.proofs.ReadyLaws.{ready-docs, rows-by, index-moment}
-use Rattle.tap_engine.proofs.MboxLaws.{mbox-verdict, mbox-refuses, mbox-moment, answers-mbox, stands-more}
+use Rattle.tap_engine.proofs.MboxLaws.{mbox-verdict, mbox-refuses, mbox-moment, answers-mbox, represents-more}
 use Rattle.tap_engine.proofs.engine.Engine.mbox.Goals as goal
 
 pub returns-in_err-moment-clause-refusal : goal.returns-in_err-moment-clause-refusal
@@ -24,23 +24,23 @@ pub returns-in_err-change-clause-refusal : goal.returns-in_err-change-clause-ref
 returns-in_err-change-clause-refusal c = let by = mbox-refuses c.args.self.now c.args.block Memory (for-memory _ c.in_ok-moment.ensures.checks) in search (rules, by)
 
 pub returns-clause-ok : goal.returns-clause-ok
-returns-clause-ok c = λ t stands sound.
-    let none = sym (mbox-verdict c.args.self.now t c.args.block stands) ∙ c.in_ok-moment.ensures.checks in
+returns-clause-ok c = λ t represents sound.
+    let none = sym (mbox-verdict c.args.self.now t c.args.block represents) ∙ c.in_ok-moment.ensures.checks in
     let first : c.from-first.result + 1 ≡ length c.args.self.now.index.docs + 1 = search rules in
     let change : c.in_ok-change.change ≡ some_docs (docs_from (length c.args.self.now.index.docs + 1) c.in_ok-moment.moment c.in_ok-moment.texts) = search rules in
     answers-mbox t c.args.self.now.session c.args.block c.in_ok-moment.texts c.len.result (c.from-first.result + 1) (length c.args.self.now.index.docs) c.in_ok-moment.moment c.in_ok-change.change c.add_docs.new.self.session
-    none c.in_ok-moment.ensures.texts c.in_ok-moment.ensures.moment c.len.ensures (ap length (docs-are stands)) first change (ap (λ e. e.session) c.in_ok-change.ensures.engine)
+    none c.in_ok-moment.ensures.texts c.in_ok-moment.ensures.moment c.len.ensures (ap length (docs-are represents)) first change (ap (λ e. e.session) c.in_ok-change.ensures.engine)
 
 pub returns-clause-stands : goal.returns-clause-stands
-returns-clause-stands c = λ t stands sound.
+returns-clause-stands c = λ t represents sound.
     let change : c.in_ok-change.change ≡ some_docs (docs_from (length c.args.self.now.index.docs + 1) c.in_ok-moment.moment c.in_ok-moment.texts) = search rules in
     let engine : c.add_docs.new.self ≡ record c.args.self.now { index = after c.args.self.now.index (Docs (docs_from (length c.args.self.now.index.docs + 1) c.in_ok-moment.moment c.in_ok-moment.texts)); hits = c.add_docs.new.self.hits; bytes = c.args.self.now.bytes + bytes_of c.in_ok-moment.texts } = search rules in
-    rw change (subst (λ e. StandsFor e (tables_after (some_docs (docs_from (length c.args.self.now.index.docs + 1) c.in_ok-moment.moment c.in_ok-moment.texts)) t)) (sym engine) (stands-more c.args.self.now t c.add_docs.new.self.hits c.in_ok-moment.moment c.in_ok-moment.texts stands (mbox-moment c.args.self.now c.args.block c.in_ok-moment.ensures.checks)))
+    rw change (subst (λ e. Represents e (tables_after (some_docs (docs_from (length c.args.self.now.index.docs + 1) c.in_ok-moment.moment c.in_ok-moment.texts)) t)) (sym engine) (represents-more c.args.self.now t c.add_docs.new.self.hits c.in_ok-moment.moment c.in_ok-moment.texts represents (mbox-moment c.args.self.now c.args.block c.in_ok-moment.ensures.checks)))
 
 pub returns-clause-undo : goal.returns-clause-undo
 returns-clause-undo c =
     let engine : c.add_docs.new.self ≡ record c.args.self.now { index = after c.args.self.now.index (Docs (docs_from (length c.args.self.now.index.docs + 1) c.in_ok-moment.moment c.in_ok-moment.texts)); hits = c.add_docs.new.self.hits; bytes = c.args.self.now.bytes + bytes_of c.in_ok-moment.texts } = search rules in
-    some-undo c.in_ok-change.change (subst (λ e. TakesBack (Rows c.docs.result c.args.self.now.bytes) e c.args.self.now) (sym engine) (undo-docs c.args.self.now (docs_from (length c.args.self.now.index.docs + 1) c.in_ok-moment.moment c.in_ok-moment.texts) c.add_docs.new.self.hits (c.args.self.now.bytes + bytes_of c.in_ok-moment.texts) c.docs.result c.docs.ensures.count c.add_docs.ensures.more))
+    some-undo c.in_ok-change.change (subst (λ e. UndoRestores (Rows c.docs.result c.args.self.now.bytes) e c.args.self.now) (sym engine) (undo-docs c.args.self.now (docs_from (length c.args.self.now.index.docs + 1) c.in_ok-moment.moment c.in_ok-moment.texts) c.add_docs.new.self.hits (c.args.self.now.bytes + bytes_of c.in_ok-moment.texts) c.docs.result c.docs.ensures.count c.add_docs.ensures.more))
 
 pub returns-clause-ready : goal.returns-clause-ready
 returns-clause-ready c =

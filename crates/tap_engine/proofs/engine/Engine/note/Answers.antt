@@ -4,11 +4,11 @@ use Rattle.std.proofs.lemmas.Int.{to_z-of_z}
 use Rattle.tap_rows.specs.Kept.{Each}
 use Rattle.row_index.specs.Orders.{note_arrival, IsMoment}
 use Rattle.script_lang.specs.declared.refusal.Refusal.TheVariants.{Memory}
-use Rattle.tap_model.specs.Sessions.{user_of, present}
+use Rattle.tap_model.specs.Sessions.{user_of, moment_or_zero}
 use Rattle.tap_engine.proofs.RowTurns.{notes-are}
 use Rattle.tap_engine.proofs.AnswerTurns.{for-memory, undo-note}
 use Rattle.tap_engine.proofs.ReadyLaws.{ready-note, rows-by, index-moment}
-use Rattle.tap_engine.proofs.NoteLaws.{note-verdict, note-refuses, note-moment, answers-note, stands-note}
+use Rattle.tap_engine.proofs.NoteLaws.{note-verdict, note-refuses, note-moment, answers-note, represents-note}
 use Rattle.tap_engine.proofs.engine.Engine.note.Goals as goal
 
 pub returns-in_err-note-clause-refusal : goal.returns-in_err-note-clause-refusal
@@ -18,16 +18,16 @@ pub returns-in_err-change-clause-refusal : goal.returns-in_err-change-clause-ref
 returns-in_err-change-clause-refusal c = let by = note-refuses c.args.self.now c.args.doc c.args.kind c.args.value c.args.text Memory (for-memory _ c.in_ok-note.ensures.checks) in search (rules, by)
 
 pub returns-clause-ok : goal.returns-clause-ok
-returns-clause-ok c = λ t stands sound.
-    let none = sym (note-verdict c.args.self.now t c.args.doc c.args.kind c.args.value c.args.text stands) ∙ c.in_ok-note.ensures.checks in
-    let answers = answers-note t c.args.self.now.session c.args.doc c.args.kind c.args.value c.args.text (length c.args.self.now.index.notes) c.in_ok-note.note c.in_ok-change.change c.add_note.new.self.session none (ap length (notes-are stands))
-    (c.in_ok-note.ensures.row ∙ ap (λ v. record { num = record { 0 = length c.args.self.now.index.notes + 1 }; doc = record { 0 = c.args.doc }; author = user_of c.args.self.now.session; kind = c.args.kind; value = v; arrival = present c.args.self.now.session; text = c.args.text }) (to_z-of_z w64 c.args.value c.ranges.value))
+returns-clause-ok c = λ t represents sound.
+    let none = sym (note-verdict c.args.self.now t c.args.doc c.args.kind c.args.value c.args.text represents) ∙ c.in_ok-note.ensures.checks in
+    let answers = answers-note t c.args.self.now.session c.args.doc c.args.kind c.args.value c.args.text (length c.args.self.now.index.notes) c.in_ok-note.note c.in_ok-change.change c.add_note.new.self.session none (ap length (notes-are represents))
+    (c.in_ok-note.ensures.row ∙ ap (λ v. record { num = record { 0 = length c.args.self.now.index.notes + 1 }; doc = record { 0 = c.args.doc }; author = user_of c.args.self.now.session; kind = c.args.kind; value = v; arrival = moment_or_zero c.args.self.now.session; text = c.args.text }) (to_z-of_z w64 c.args.value c.ranges.value))
     c.in_ok-change.ensures.change (ap (λ e. e.session) c.in_ok-change.ensures.engine) in search (rules, answers)
 
 pub returns-clause-stands : goal.returns-clause-stands
-returns-clause-stands c = λ t stands sound.
+returns-clause-stands c = λ t represents sound.
     rw (c.in_ok-change.ensures.engine, c.in_ok-change.ensures.change)
-    (stands-note c.args.self.now t c.in_ok-note.note stands (note-moment c.args.self.now c.args.doc c.args.kind c.args.text c.in_ok-note.ensures.checks))
+    (represents-note c.args.self.now t c.in_ok-note.note represents (note-moment c.args.self.now c.args.doc c.args.kind c.args.text c.in_ok-note.ensures.checks))
 
 pub returns-clause-undo : goal.returns-clause-undo
 returns-clause-undo c = rw c.in_ok-change.ensures.engine (undo-note c.args.self.now c.in_ok-note.note _)

@@ -1,6 +1,6 @@
 use Rattle.std.proofs.Common.{◌∙◌, sym, ap, subst, Some}
-use Rattle.keeper_core.specs.Keeping.{Holds}
-use Rattle.tap_engine.specs.Answering.{Answers, IsStill}
+use Rattle.keeper_core.specs.Keeping.{IsDurable}
+use Rattle.tap_engine.specs.Answering.{Answers, IsUnchangedButHits}
 use Rattle.tap_engine.proofs.PerformLaws.{memory-step, rows-fit, rows-next, fault-step, fault-stands, fault-kept, on-err, one-of, taken-there}
 use Rattle.tap_engine.proofs.engine.Engine.perform.Goals as goal
 
@@ -8,31 +8,31 @@ pub returns-in_default-clause-halted : goal.returns-in_default-clause-halted
 returns-in_default-clause-halted g c = c.in-Ok.ensures.running ∙ c.requires.running ∙ sym c.requires.keeping
 
 pub returns-in-Ok-commit-clause-kept : goal.returns-in-Ok-commit-clause-kept
-returns-in-Ok-commit-clause-kept g c = λ t stands sound honest holds.
-    let answers : Answers t c.args.self.now.session c.args.command c.in-Ok.prepared.reply (Some c.in-Some.change) c.prepare.new.self.session = subst (λ change. Answers t c.args.self.now.session c.args.command c.in-Ok.prepared.reply change c.prepare.new.self.session) c.in-Some.is (c.in-Ok.ensures.ok t stands sound) in
-    subst (Holds (g.P.Keeper.tells c.commit.new.self) (g.P.Keeper.may_leave c.commit.new.self)) (rows-next t c.args.self.now.session c.args.command c.in-Ok.prepared.reply c.in-Some.change c.prepare.new.self.session answers)
+returns-in-Ok-commit-clause-kept g c = λ t represents sound honest holds.
+    let answers : Answers t c.args.self.now.session c.args.command c.in-Ok.prepared.reply (Some c.in-Some.change) c.prepare.new.self.session = subst (λ change. Answers t c.args.self.now.session c.args.command c.in-Ok.prepared.reply change c.prepare.new.self.session) c.in-Some.is (c.in-Ok.ensures.ok t represents sound) in
+    subst (IsDurable (g.P.Keeper.tells c.commit.new.self) (g.P.Keeper.may_leave c.commit.new.self)) (rows-next t c.args.self.now.session c.args.command c.in-Ok.prepared.reply c.in-Some.change c.prepare.new.self.session answers)
     (c.in-Ok-commit.ensures.ok honest t holds.told sound.formed (rows-fit t c.args.self.now.session c.args.command c.in-Ok.prepared.reply c.in-Some.change c.prepare.new.self.session sound answers))
 
 pub returns-in-Err-commit-clause-step : goal.returns-in-Err-commit-clause-step
-returns-in-Err-commit-clause-step g c = λ t stands sound.
-    let answers : Answers t c.args.self.now.session c.args.command c.in-Ok.prepared.reply (Some c.in-Some.change) c.prepare.new.self.session = subst (λ change. Answers t c.args.self.now.session c.args.command c.in-Ok.prepared.reply change c.prepare.new.self.session) c.in-Some.is (c.in-Ok.ensures.ok t stands sound) in
+returns-in-Err-commit-clause-step g c = λ t represents sound.
+    let answers : Answers t c.args.self.now.session c.args.command c.in-Ok.prepared.reply (Some c.in-Some.change) c.prepare.new.self.session = subst (λ change. Answers t c.args.self.now.session c.args.command c.in-Ok.prepared.reply change c.prepare.new.self.session) c.in-Some.is (c.in-Ok.ensures.ok t represents sound) in
     let takes = taken-there c.in-Ok.prepared.undo c.prepare.new.self c.args.self.now c.in-Ok.prepared.change c.in-Some.change c.in-Some.is c.in-Ok.ensures.undo in
     fault-step c.in-Err-commit.fault t c.args.self.now c.take_back.new.self c.not_committed.new.self c.args.command c.not_committed.result c.not_committed.ensures.0 c.not_committed.ensures.1 (ap (λ e. e.session) (c.take_back.ensures ∙ takes.before_is.same))
     (memory-step t c.args.self.now.session c.args.command c.in-Ok.prepared.reply c.in-Some.change c.prepare.new.self.session answers)
 
 pub returns-in-Err-commit-clause-crash : goal.returns-in-Err-commit-clause-crash
-returns-in-Err-commit-clause-crash g c = λ t stands sound honest holds.
-    let answers : Answers t c.args.self.now.session c.args.command c.in-Ok.prepared.reply (Some c.in-Some.change) c.prepare.new.self.session = subst (λ change. Answers t c.args.self.now.session c.args.command c.in-Ok.prepared.reply change c.prepare.new.self.session) c.in-Some.is (c.in-Ok.ensures.ok t stands sound) in
+returns-in-Err-commit-clause-crash g c = λ t represents sound honest holds.
+    let answers : Answers t c.args.self.now.session c.args.command c.in-Ok.prepared.reply (Some c.in-Some.change) c.prepare.new.self.session = subst (λ change. Answers t c.args.self.now.session c.args.command c.in-Ok.prepared.reply change c.prepare.new.self.session) c.in-Some.is (c.in-Ok.ensures.ok t represents sound) in
     let fit = rows-fit t c.args.self.now.session c.args.command c.in-Ok.prepared.reply c.in-Some.change c.prepare.new.self.session sound answers in
     on-err c.not_committed.result (answers.fine, λ x leaves. one-of t x c.args.self.now.session c.args.command c.in-Ok.prepared.reply c.in-Some.change c.prepare.new.self.session answers (c.in-Err-commit.ensures.crash honest t holds.told sound.formed fit x leaves))
 
 pub returns-in-Err-commit-clause-kept : goal.returns-in-Err-commit-clause-kept
-returns-in-Err-commit-clause-kept g c = λ t stands sound honest holds.
-    fault-kept c.in-Err-commit.fault (Holds (g.P.Keeper.tells c.commit.new.self) (g.P.Keeper.may_leave c.commit.new.self)) t c.args.self.now.session c.args.command c.not_committed.result c.not_committed.ensures.0
+returns-in-Err-commit-clause-kept g c = λ t represents sound honest holds.
+    fault-kept c.in-Err-commit.fault (IsDurable (g.P.Keeper.tells c.commit.new.self) (g.P.Keeper.may_leave c.commit.new.self)) t c.args.self.now.session c.args.command c.not_committed.result c.not_committed.ensures.0
     (c.in-Err-commit.ensures.memory honest t holds.told)
 
 pub returns-in-Err-commit-clause-stands : goal.returns-in-Err-commit-clause-stands
-returns-in-Err-commit-clause-stands g c = λ t stands sound.
+returns-in-Err-commit-clause-stands g c = λ t represents sound.
     let takes = taken-there c.in-Ok.prepared.undo c.prepare.new.self c.args.self.now c.in-Ok.prepared.change c.in-Some.change c.in-Some.is c.in-Ok.ensures.undo in
     fault-stands c.in-Err-commit.fault t c.args.self.now c.take_back.new.self c.not_committed.new.self c.args.command c.not_committed.result c.not_committed.ensures.0 c.not_committed.ensures.1
-    (subst (λ k. IsStill k c.args.self.now) (sym c.take_back.ensures) takes.before_is) stands
+    (subst (λ k. IsUnchangedButHits k c.args.self.now) (sym c.take_back.ensures) takes.before_is) represents

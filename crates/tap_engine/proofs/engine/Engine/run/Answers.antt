@@ -4,16 +4,16 @@ use Rattle.script_lang.specs.declared.refusal.Refusal.TheVariants.{Memory}
 use Rattle.tap_kept.specs.Keeping.{new_kept, after_run, AreNew}
 use Rattle.tap_rows.specs.Results.{entry_at}
 use Rattle.tap_rows.specs.Tables.{after}
-use Rattle.tap_engine.specs.Standing.{StandsFor}
+use Rattle.tap_engine.specs.Standing.{Represents}
 use Rattle.tap_engine.specs.Ready.{IsReady}
 use Rattle.tap_model.specs.Sound.{IsMoment}
 use Rattle.tap_engine.specs.declared.engine.Engine.{Engine}
 use Rattle.tap_kept.specs.declared.kept_query.KeptQuery.{KeptQuery}
-use Rattle.tap_engine.specs.Answering.{IsStill, TakesBack, undo_run}
+use Rattle.tap_engine.specs.Answering.{IsUnchangedButHits, UndoRestores, undo_run}
 use Rattle.tap_engine.proofs.AnswerTurns.{for-memory}
 use Rattle.tap_engine.proofs.CheckLaws.{run-verdict, run-refuses, run-moment}
-use Rattle.tap_engine.proofs.ReadyLaws.{due-at, kept-run, undo-run, present-moment, ready-still}
-use Rattle.tap_engine.proofs.DueLaws.{due-is, stands-run, answers-run, run_rows}
+use Rattle.tap_engine.proofs.ReadyLaws.{due-at, kept-run, undo-run, moment_or_zero-moment, ready-still}
+use Rattle.tap_engine.proofs.DueLaws.{due-is, represents-run, answers-run, run_rows}
 use Rattle.tap_engine.proofs.engine.Engine.run.Goals as goal
 
 pub returns-in_err-due-clause-refusal : goal.returns-in_err-due-clause-refusal
@@ -64,32 +64,32 @@ pub returns-in_err-change-clause-refusal : goal.returns-in_err-change-clause-ref
 returns-in_err-change-clause-refusal g c = let by = run-refuses c.args.self.now c.args.name.now Memory (for-memory _ c.in_ok-due.ensures.verdict) in search (rules, by)
 
 pub returns-in_err-change-clause-err : goal.returns-in_err-change-clause-err
-returns-in_err-change-clause-err g c = let by = subst (λ k. IsStill k c.args.self.now) (sym c.in_err-change.ensures.err) c.due_run.ensures.still in search (rules, by)
+returns-in_err-change-clause-err g c = let by = subst (λ k. IsUnchangedButHits k c.args.self.now) (sym c.in_err-change.ensures.err) c.due_run.ensures.still in search (rules, by)
 
 pub returns-clause-ok : goal.returns-clause-ok
-returns-clause-ok g c = λ t stands sound.
+returns-clause-ok g c = λ t represents sound.
     let e = c.args.self.now in
     let due = c.in_ok-due.due in
     let same = c.due_run.ensures.still.same in
-    let none = sym (run-verdict e t c.args.name.now stands sound) ∙ c.in_ok-due.ensures.verdict in
-    let d = due-is e t c.args.name.now due stands sound (run-moment e c.args.name.now c.in_ok-due.ensures.verdict) c.in_ok-due.ensures.due in
+    let none = sym (run-verdict e t c.args.name.now represents sound) ∙ c.in_ok-due.ensures.verdict in
+    let d = due-is e t c.args.name.now due represents sound (run-moment e c.args.name.now c.in_ok-due.ensures.verdict) c.in_ok-due.ensures.due in
     let raw : c.in_ok-change.change ≡ run_rows c.due_run.new.self.run_count c.due_run.new.self.pick_count due = search rules in
     let change : c.in_ok-change.change ≡ run_rows e.run_count e.pick_count due = raw ∙ ap (λ k. run_rows k.run_count k.pick_count due) same in
-    let answers = answers-run e t c.args.name.now due c.in_ok-change.change c.deliver.new.self.session stands none d change (ap (λ k. k.session) (c.in_ok-change.ensures.engine (new_kept d.q)) ∙ ap (λ k. k.session) same) in search (rules, answers)
+    let answers = answers-run e t c.args.name.now due c.in_ok-change.change c.deliver.new.self.session represents none d change (ap (λ k. k.session) (c.in_ok-change.ensures.engine (new_kept d.q)) ∙ ap (λ k. k.session) same) in search (rules, answers)
 
 pub returns-clause-stands : goal.returns-clause-stands
-returns-clause-stands g c = λ t stands sound.
+returns-clause-stands g c = λ t represents sound.
     let e = c.args.self.now in
     let due = c.in_ok-due.due in
     let next : Engine → KeptQuery → Engine = λ k x. record k { queries = slice_set k.queries (due.query.0 - 1) (after_run due.moment (map (entry_at (due.runs + 1)) due.hits) (slice_index_or k.queries (due.query.0 - 1) x)); run_count = k.run_count + 1; pick_count = k.pick_count + length due.hits } in
     let same = c.due_run.ensures.still.same in
     let there = run-moment e c.args.name.now c.in_ok-due.ensures.verdict in
-    let d = due-is e t c.args.name.now due stands sound there c.in_ok-due.ensures.due in
+    let d = due-is e t c.args.name.now due represents sound there c.in_ok-due.ensures.due in
     let raw-change : c.in_ok-change.change ≡ run_rows c.due_run.new.self.run_count c.due_run.new.self.pick_count due = search rules in
     let change : c.in_ok-change.change ≡ run_rows e.run_count e.pick_count due = raw-change ∙ ap (λ k. run_rows k.run_count k.pick_count due) same in
     let raw : (x : KeptQuery) → c.deliver.new.self ≡ next c.due_run.new.self x = search rules in
-    subst (λ change. StandsFor c.deliver.new.self (after t change)) (sym change)
-    (stands-run e t c.args.name.now due c.due_run.new.self.hits c.deliver.new.self stands sound.kept d there (λ x. raw x ∙ ap (λ k. next k x) same))
+    subst (λ change. Represents c.deliver.new.self (after t change)) (sym change)
+    (represents-run e t c.args.name.now due c.due_run.new.self.hits c.deliver.new.self represents sound.kept d there (λ x. raw x ∙ ap (λ k. next k x) same))
 
 pub returns-clause-undo : goal.returns-clause-undo
 returns-clause-undo g c =
@@ -100,7 +100,7 @@ returns-clause-undo g c =
     let same = c.due_run.ensures.still.same in
     let d = due-at e c.args.name.now due c.requires.ready c.in_ok-due.ensures.due in
     let place : due.query.0 - 1 < length e.queries = omega (arith, ap (λ x. x.query.0) d.is, d.at.low, d.at.high) in
-    subst (λ undo. TakesBack undo c.deliver.new.self e) (sym (c.undo_run-undo.ensures d.kept ∙ ap (λ k. undo_run k (due.query.0 - 1) (slice_index_or k.queries (due.query.0 - 1) d.kept)) same))
+    subst (λ undo. UndoRestores undo c.deliver.new.self e) (sym (c.undo_run-undo.ensures d.kept ∙ ap (λ k. undo_run k (due.query.0 - 1) (slice_index_or k.queries (due.query.0 - 1) d.kept)) same))
     (undo-run e c.deliver.new.self c.due_run.new.self.hits (due.query.0 - 1) due.moment (map (entry_at (due.runs + 1)) due.hits) (e.run_count + 1) (e.pick_count + length due.hits) d.kept place c.due_run.ensures.still.room
     (raw d.kept ∙ ap (λ k. next k d.kept) same))
 
@@ -110,7 +110,7 @@ returns-clause-ready g c =
     let due = c.in_ok-due.due in
     let same = c.due_run.ensures.still.same in
     let d = due-at e c.args.name.now due c.requires.ready c.in_ok-due.ensures.due in
-    let moment : IsMoment due.moment = subst IsMoment (sym (ap (λ x. x.moment) d.is)) (present-moment e c.requires.ready (run-moment e c.args.name.now c.in_ok-due.ensures.verdict)) in
+    let moment : IsMoment due.moment = subst IsMoment (sym (ap (λ x. x.moment) d.is)) (moment_or_zero-moment e c.requires.ready (run-moment e c.args.name.now c.in_ok-due.ensures.verdict)) in
     let ready : IsReady c.due_run.new.self = ready-still e c.due_run.new.self c.requires.ready c.due_run.ensures.still in
     subst IsReady (sym (c.in_ok-change.ensures.engine d.kept)) (record {
       docs = ready.docs;

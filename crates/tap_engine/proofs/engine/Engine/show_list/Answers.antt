@@ -9,6 +9,6 @@ returns-in_err-rows-clause-refusal g c =
     let by = list-refuses c.args.self.now c.args.name c.in_err-rows.field-0.0 (subst (λ n. RefusedBy (look_refusal c.args.self.now n) c.in_err-rows.field-0.0) c.as_slice.ensures c.in_err-rows.ensures.refusal) in search (rules, by)
 
 pub returns-clause-ok : goal.returns-clause-ok
-returns-clause-ok g c = λ t stands sound. answers-list c.args.self.now t c.args.name c.in_ok-rows.rows stands sound
+returns-clause-ok g c = λ t represents sound. answers-list c.args.self.now t c.args.name c.in_ok-rows.rows represents sound
     (sym (ap (look_refusal c.args.self.now) c.as_slice.ensures) ∙ c.in_ok-rows.ensures.look)
     (c.in_ok-rows.ensures.rows ∙ ap (λ n. rows_kept c.args.self.now (kept_named c.args.self.now n)) c.as_slice.ensures)

@@ -1,0 +1,50 @@
+use Rattle.std.proofs.Common.{rules, ◌≡◌, ◌+◌, ◌≤◌, ◌<◌, ◌∷◌, ◌∙◌, Some, length, drop, arith, subst, sym, ap}
+use Rattle.std.specs.Prelude.{slice_get, slice_index_or, option_to_list}
+use Rattle.tql_core.specs.Trees.{tree_at}
+use Rattle.time_marks.specs.Found.{nested}
+use Rattle.time_marks.specs.Views.{probe_in}
+use Rattle.query_eval.specs.Lowest.{keeping}
+use Rattle.query_eval.specs.Drivers.{seek_var, seek_hits, seek_cost}
+use Rattle.query_eval.specs.Runs.{part_order, part_hits, part_cost}
+use Rattle.query_eval.proofs.Founds.{part_fits}
+use Rattle.query_eval.proofs.Plans.{get_in}
+use Rattle.query_eval.proofs.Steps.{hits_step, part_step, rest_at, item_at}
+use Rattle.query_eval.proofs.runs.collect_parts.Goals as goal
+
+pub collect_part-requires-clause-room : goal.collect_part-requires-clause-room
+collect_part-requires-clause-room g c =
+    let q = c.args.plan.now.query in
+    let part = c.part-item.result in
+    let below : c.loop-place.place < length q.parts = search rules in
+    let is : part ≡ slice_index_or q.parts c.loop-place.place part = search rules in
+    let s : slice_get q.parts c.loop-place.place ≡ Some part = item_at q.parts c.loop-place.place part part below is in
+    let o : c.order_at.result.now ≡ part_order part = c.order_at.ensures part s in
+    let f = part_fits q c.requires.probes part (get_in q.parts c.loop-place.place part s) in
+    subst (λ z. length (option_to_list (seek_var part.seek)) + length z + nested (tree_at q.pool part.probe.body.0) ≤ 16) (sym o) f.room
+
+pub loop-place-preserved : goal.loop-place-preserved
+loop-place-preserved g c =
+    let q = c.args.plan.now.query in
+    let part = c.part-item.result in
+    let entries = c.args.seen.now in
+    let T = c.args.index.now in
+    let w = c.args.w in
+    let p = probe_in q.pool part.probe in
+    let below : c.loop-place.place < length q.parts = search rules in
+    let is : part ≡ slice_index_or q.parts c.loop-place.place part = search rules in
+    let s : slice_get q.parts c.loop-place.place ≡ Some part = item_at q.parts c.loop-place.place part part below is in
+    let o : c.order_at.result.now ≡ part_order part = c.order_at.ensures part s in
+    let e : drop c.loop-place.place q.parts ≡ part ∷ drop (c.loop-place.place + 1) q.parts = rest_at q.parts c.loop-place.place part s in
+    let h : c.collect_part.new.into.hits.items ≡ keeping (length c.loop-place.into.places.items) c.loop-place.into.hits.items (seek_hits entries T w p c.order_at.result.now part.seek (seek_var part.seek)) = search rules in
+    let k : c.collect_part.new.steps ≤ c.loop-place.steps + seek_cost T w p c.order_at.result.now part.seek (seek_var part.seek) = search rules in
+    let h' : c.collect_part.new.into.hits.items ≡ keeping (length c.loop-place.into.places.items) c.loop-place.into.hits.items (part_hits entries T w q.pool part) = h ∙ ap (λ z. keeping (length c.loop-place.into.places.items) c.loop-place.into.hits.items (seek_hits entries T w p z part.seek (seek_var part.seek))) o in
+    let k' : c.collect_part.new.steps ≤ c.loop-place.steps + part_cost T w q.pool part = subst (λ z. c.collect_part.new.steps ≤ c.loop-place.steps + seek_cost T w p z part.seek (seek_var part.seek)) o k in
+    let i = c.loop-place.invariant.more in
+    let m = c.collect_part.ensures.more in
+    record {
+      hits = hits_step (part_hits entries T w q.pool) _ _ _ _ _ _ _ part c.loop-place.invariant.hits e h' c.collect_part.ensures.places;
+      ready = c.collect_part.ensures.ready;
+      places = c.collect_part.ensures.places ∙ c.loop-place.invariant.places;
+      steps = part_step (part_cost T w q.pool) _ _ _ _ _ part c.loop-place.invariant.steps e k';
+      more = omega (arith, i, m);
+    }
