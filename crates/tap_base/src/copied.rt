@@ -1,10 +1,11 @@
+//! Values that can be copied.
 ghost use Rattle.std.specs.Prelude.{◌≡◌, IfOk};
 
 use crate::{Memory, Text, Texts};
 
-/// A value of which there can be a second one.
+/// A value that can be copied, unless memory runs out.
 pub trait Copied: Drop {
-    /// The same value once more.
+    /// Returns an equal value. Fails with `Memory` when out of memory.
     fn copied(&self) -> Result<Self, Memory>
     where
         Self: Sized,

@@ -1,4 +1,4 @@
-//! Numbers, texts, words and the counter of steps.
+//! Numbers, texts, words, and the counter of steps.
 #![tactic(auto)]
 
 mod copied;
@@ -18,9 +18,11 @@ mod words;
 
 pub use copied::Copied;
 pub use decimal::put_decimal;
-pub use line_words::{has_words, is_blank_or_comment, nth_word, skip_words};
+pub use line_words::{
+    blank_place, has_words, is_blank_byte, is_blank_or_comment, nth_word, skip_blanks, skip_words,
+};
 pub use memory::Memory;
-pub use moments::{LAST_MOMENT, read_moment, read_number, read_signed};
+pub use moments::{LAST_MOMENT, all_digits, read_moment, read_number, read_signed};
 pub use names::is_name;
 pub use numbers::{DocNum, MomentFault, NoteNum, Op, QueryNum};
 pub use rows::Rows;
@@ -28,7 +30,7 @@ pub use steps::Steps;
 pub use text::Text;
 pub use texts::Texts;
 pub use word_set::WordSet;
-pub use words::{lower, words_of};
+pub use words::{after_byte, lower, words_of};
 
 #[cfg(test)]
 mod word_tests;

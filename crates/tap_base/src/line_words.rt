@@ -1,17 +1,18 @@
+//! The words of a line by their places, which blanks (spaces and tabs) separate.
 ghost use Rattle.std.specs.Prelude.{◌≡◌, ◌≤◌, ◌<◌, length, IsTrue};
 ghost use Rattle.std.specs.List.{position_or_len, prefix_len};
 ghost use Rattle.tap_base.specs.Bytes.{is_blank};
 ghost use Rattle.tap_base.specs.LineWords.{after_blanks, after_word, after_words, first_word, word, is_skipped, has_words};
 
-// Is it a space or a tab?
-fn is_blank_byte(b: u8) -> bool
+/// Returns whether the byte is a blank: a space or a tab.
+pub fn is_blank_byte(b: u8) -> bool
     ensures { result ≡ is_blank b }
 {
     b == b' ' || b == b'\t'
 }
 
-// How many bytes come before the next blank.
-fn word_len(bytes: &[u8]) -> usize
+/// Returns how many bytes come before the first blank; all of them if there is no blank.
+pub fn blank_place(bytes: &[u8]) -> usize
     ensures value { result ≡ position_or_len is_blank bytes.now }
     ensures within { result ≤ length bytes.now }
 {
@@ -23,7 +24,7 @@ fn word_len(bytes: &[u8]) -> usize
     bytes.len()
 }
 
-// How many blanks are at the front.
+// Returns how many blanks are at the front.
 fn blanks_len(bytes: &[u8]) -> usize
     ensures value { result ≡ prefix_len is_blank bytes.now }
     ensures within { result ≤ length bytes.now }
@@ -36,21 +37,22 @@ fn blanks_len(bytes: &[u8]) -> usize
     bytes.len()
 }
 
-// What follows the blanks at the front.
-fn skip_blanks(text: &[u8]) -> &[u8]
+/// Returns what follows the blanks at the front.
+pub fn skip_blanks(text: &[u8]) -> &[u8]
     ensures { result.now ≡ after_blanks text.now }
 {
     &text[blanks_len(text)..]
 }
 
-// What follows the word at the front.
+// Returns what follows the word at the front.
 fn skip_word(text: &[u8]) -> &[u8]
     ensures { result.now ≡ after_word text.now }
 {
-    &text[word_len(text)..]
+    &text[blank_place(text)..]
 }
 
-/// What follows the first `n` words of a line and the blanks after them.
+/// Returns what follows the first `n` words of a line and the blanks after them. A line of the script language has fewer
+/// than 8 words that are read by their places, which bounds the recursion.
 pub fn skip_words(line: &[u8], n: usize) -> &[u8]
     requires { n < 8 }
     ensures { result.now ≡ after_words n line.now }
@@ -62,16 +64,16 @@ pub fn skip_words(line: &[u8], n: usize) -> &[u8]
     }
 }
 
-/// The word of place `n` in a line, which is empty where there is none.
+/// Returns the word of place `n`, from 0, in a line. It is empty if there is none.
 pub fn nth_word(line: &[u8], n: usize) -> &[u8]
     requires { n < 8 }
     ensures { result.now ≡ word n line.now }
 {
     let text = skip_words(line, n);
-    &text[..word_len(text)]
+    &text[..blank_place(text)]
 }
 
-/// Has the line `n` words, and no more?
+/// Returns whether the line has exactly `n` words.
 pub fn has_words(line: &[u8], n: usize) -> bool
     requires some { 0 < n }
     requires few { n < 8 }
@@ -80,7 +82,7 @@ pub fn has_words(line: &[u8], n: usize) -> bool
     !nth_word(line, n - 1).is_empty() && nth_word(line, n).is_empty()
 }
 
-/// Has the line no words, or does its first one begin with `#`? Such a line is skipped.
+/// Returns whether a line is skipped: it has no words, or its first word begins with `#`.
 pub fn is_blank_or_comment(line: &[u8]) -> bool
     ensures { result ≡ is_skipped line.now }
 {

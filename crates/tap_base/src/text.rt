@@ -1,3 +1,4 @@
+//! A text of bytes.
 ghost use Rattle.std.specs.Prelude.{◌≡◌, ◌++◌, ◌<◌, ◌^◌, List, [], ℕ, OnOk, OnErr, IfOk, length, take};
 
 use crate::Memory;
@@ -5,7 +6,7 @@ use std::alloc::Global;
 use std::hash::{Hash, Hasher};
 use std::marker::Model;
 
-/// A text: a list of bytes.
+/// A text: a list of bytes, which need not be UTF-8.
 #[derive(Drop)]
 pub struct Text {
     bytes: Vec<u8>,
@@ -53,7 +54,7 @@ impl Hash for Text {
 }
 
 impl Text {
-    /// The empty text.
+    /// Returns the empty text, without an allocation.
     pub fn new(alloc: Global) -> Text
         ensures { result ≡ [] }
     {
@@ -63,7 +64,7 @@ impl Text {
         }
     }
 
-    /// A text of these bytes.
+    /// Returns a text of these bytes. Fails with `Memory` when out of memory.
     pub fn from_slice(alloc: Global, bytes: &[u8]) -> Result<Text, Memory>
         ensures { IfOk result (λ text. text ≡ bytes.now) }
     {
@@ -71,14 +72,14 @@ impl Text {
         Ok(Text { bytes, alloc })
     }
 
-    /// A text of the bytes of a vector.
+    /// Returns a text of the bytes of a vector.
     pub fn from_vec(alloc: Global, bytes: Vec<u8>) -> Text
         ensures { result ≡ bytes.items }
     {
         Text { bytes, alloc }
     }
 
-    /// Appends these bytes.
+    /// Appends these bytes. The text is unchanged if this fails, which it does when out of memory.
     pub fn push_slice(&mut self, bytes: &[u8]) -> Result<(), Memory>
         ensures ok { OnOk result (self.new ≡ self.old ++ bytes.now) }
         ensures err { OnErr result (self.new ≡ self.old) }
@@ -87,28 +88,28 @@ impl Text {
         Ok(())
     }
 
-    /// All bytes.
+    /// Returns all bytes.
     pub fn as_slice(&self) -> &[u8]
         ensures { result.now ≡ self.now }
     {
         &self.bytes
     }
 
-    /// How many bytes there are.
+    /// Returns how many bytes there are.
     pub fn len(&self) -> usize
         ensures { result ≡ length self.now }
     {
         self.bytes.len()
     }
 
-    /// Keeps the first `len` bytes.
+    /// Removes all bytes but the first `len`.
     pub fn cut(&mut self, len: usize)
         ensures { self.new ≡ take len self.old }
     {
         self.bytes.truncate(len);
     }
 
-    /// The same text once more.
+    /// Returns a copy of the text. Fails with `Memory` when out of memory.
     pub fn copy(&self) -> Result<Text, Memory>
         ensures { IfOk result (λ text. text ≡ self.now) }
     {

@@ -1,3 +1,4 @@
+//! A list of texts.
 ghost use Rattle.std.specs.Prelude.{◌≡◌, ◌++◌, ◌∷◌, ◌<◌, ◌^◌, List, [], ℕ, OnOk, OnErr, IfOk, length, slice_get, take};
 ghost use Rattle.tap_base.specs.Words.{holds};
 ghost use Rattle.std.specs.Option.{option_copied};
@@ -6,7 +7,7 @@ use crate::{Memory, Text};
 use std::alloc::Global;
 use std::marker::Model;
 
-/// A list of texts.
+/// A list of texts in order. It grows by itself.
 #[derive(Drop)]
 pub struct Texts {
     items: Vec<Text>,
@@ -19,7 +20,7 @@ impl Model for Texts {
 }
 
 impl Texts {
-    /// The empty list.
+    /// Returns the empty list.
     pub fn new(alloc: Global) -> Texts
         ensures { result ≡ [] }
     {
@@ -28,7 +29,7 @@ impl Texts {
         }
     }
 
-    /// Appends a text.
+    /// Appends a text. The list is unchanged if this fails, which it does when out of memory.
     pub fn push(&mut self, text: Text) -> Result<(), Memory>
         ensures ok { OnOk result (self.new ≡ self.old ++ text ∷ []) }
         ensures err { OnErr result (self.new ≡ self.old) }
@@ -37,7 +38,7 @@ impl Texts {
         Ok(())
     }
 
-    /// Appends these texts.
+    /// Appends these texts. The list is unchanged if this fails, which it does when out of memory.
     pub fn append(&mut self, texts: Texts) -> Result<(), Memory>
         ensures ok { OnOk result (self.new ≡ self.old ++ texts) }
         ensures err { OnErr result (self.new ≡ self.old) }
@@ -47,42 +48,42 @@ impl Texts {
         Ok(())
     }
 
-    /// How many texts there are.
+    /// Returns how many texts there are.
     pub fn len(&self) -> usize
         ensures { result ≡ length self.now }
     {
         self.items.len()
     }
 
-    /// The text at this place.
+    /// Returns the text at this place, from 0.
     pub fn get(&self, i: usize) -> Option<&Text>
         ensures { option_copied result ≡ slice_get self.now i }
     {
         self.items.get(i)
     }
 
-    /// All texts.
+    /// Returns all texts.
     pub fn as_slice(&self) -> &[Text]
         ensures { result.now ≡ self.now }
     {
         &self.items
     }
 
-    /// Is this text one of them?
+    /// Returns whether this text is one of them. It compares with each.
     pub fn holds(&self, text: &[u8]) -> bool
         ensures { result ≡ holds self.now text.now }
     {
         self.items.iter().any(|other| text == other.as_slice())
     }
 
-    /// Keeps the first `len` texts.
+    /// Removes all texts but the first `len`.
     pub fn cut(&mut self, len: usize)
         ensures { self.new ≡ take len self.old }
     {
         self.items.truncate(len);
     }
 
-    /// The same texts once more.
+    /// Returns a copy of all texts. Fails with `Memory` when out of memory.
     pub fn copy(&self) -> Result<Texts, Memory>
         ensures { IfOk result (λ texts. texts ≡ self.now) }
     {

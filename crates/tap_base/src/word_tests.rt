@@ -1,3 +1,4 @@
+//! Tests of words and of copied rows.
 use crate::{Memory, Rows, Text, Texts, lower, words_of};
 
 #[test]

@@ -1,7 +1,7 @@
 use Rattle.std.proofs.Common.{◌≡◌, ◌+◌, drop}
 use Rattle.std.specs.List.{position_or_len}
 use Rattle.tap_base.specs.Bytes.{is_blank}
-use Rattle.tap_base.proofs.line_words.word_len.Given as goal
+use Rattle.tap_base.proofs.line_words.blank_place.Given as goal
 
 -- the end is among the bytes that are left
 abbrev pub invariant-loop-i : goal.invariant-loop-i
