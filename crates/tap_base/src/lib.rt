@@ -22,7 +22,7 @@ pub use line_words::{
     blank_place, has_words, is_blank_byte, is_blank_or_comment, nth_word, skip_blanks, skip_words,
 };
 pub use memory::Memory;
-pub use moments::{LAST_MOMENT, all_digits, read_moment, read_number, read_signed};
+pub use moments::{LAST_MOMENT, all_digits, read_moment, read_number, read_signed, within_moments};
 pub use names::is_name;
 pub use numbers::{DocNum, MomentFault, NoteNum, Op, QueryNum};
 pub use rows::Rows;

@@ -1,14 +1,16 @@
 -- The second of a Date field's value (RFC 5322 3.3 and 4.3).
-use Rattle.std.specs.Prelude.{ℕ, zero, suc, List, [], ◌∷◌, Bool, false, ◌&&◌, ◌||◌, not, nat_le, nat_lt, ◌==◌, ◌+◌, ◌*◌, length, take, drop, filter, if◌then◌else◌, codes, Option, Some, None, ℤ, pos, neg_ℤ, ◌+ℤ◌, ◌-ℤ◌, ◌*ℤ◌, position}
+use Rattle.std.specs.Prelude.{ℕ, zero, suc, List, [], ◌∷◌, Bool, false, ◌&&◌, ◌||◌, not, nat_le, nat_lt, ◌==◌, ◌+◌, ◌*◌}
+use Rattle.std.specs.Prelude.{length, take, drop, filter, if◌then◌else◌, codes, Option, Some, None, position}
+use Rattle.std.specs.Prelude.{ℤ, pos, neg_ℤ, ◌+ℤ◌, ◌-ℤ◌, ◌*ℤ◌}
 use Rattle.std.specs.List.{slice_split}
 use Rattle.std.specs.Option.{option_map, option_and_then}
 use Rattle.std.specs.Str.{str_eq_ignore_ascii_case, all_ascii_digits}
 use Rattle.std.specs.Str.Parse.{digits_value}
-use Rattle.std.specs.Int.Signed.{lt_z}
 use Rattle.jiff_core.specs.Calendar.{days_from_civil, days_in_month}
 use Rattle.tap_base.specs.Bytes.{is_blank}
+use Rattle.tap_base.specs.Numbers.{moment_at}
 
--- the bytes with each comment as one blank, where so many comments are open; a comment that isn't closed goes to the end
+-- the bytes with each comment as one blank, if `depth` comments are open before them; one that isn't closed goes to the end
 abbrev pub without_comments : ℕ → List ℕ → List ℕ
 without_comments depth [] = []
 without_comments zero (b ∷ bytes) = if b == 40 then 32 ∷ without_comments 1 bytes else b ∷ without_comments zero bytes
@@ -38,27 +40,30 @@ abbrev pub without_weekday : List (List ℕ) → List (List ℕ)
 without_weekday [] = []
 without_weekday (part ∷ parts) = if begins_with_letter part then parts else part ∷ parts
 
--- the number of a part with so many digits, at least and at most
+-- the number of a part of `least` to `most` digits
 abbrev pub digits_within : ℕ → ℕ → List ℕ → Option ℕ
 digits_within least most part =
     if nat_le least (length part) && nat_le (length part) most && all_ascii_digits part then Some (digits_value 10 part) else None
 
 -- the names of the months, from January on
 abbrev pub months : List (List ℕ)
-months = codes "jan" ∷ codes "feb" ∷ codes "mar" ∷ codes "apr" ∷ codes "may" ∷ codes "jun" ∷ codes "jul" ∷ codes "aug" ∷ codes "sep" ∷ codes "oct" ∷ codes "nov" ∷ codes "dec" ∷ []
+months =
+    codes "jan" ∷ codes "feb" ∷ codes "mar" ∷ codes "apr" ∷ codes "may" ∷ codes "jun"
+    ∷ codes "jul" ∷ codes "aug" ∷ codes "sep" ∷ codes "oct" ∷ codes "nov" ∷ codes "dec" ∷ []
 
 -- the month of a part, from 1, without regard to ASCII case
 abbrev pub month_of : List ℕ → Option ℕ
 month_of part = option_map (λ i. i + 1) (position (λ month. str_eq_ignore_ascii_case part month) months)
 
--- the year that a number of so many digits means
+-- the year that a number of so many digits means (RFC 5322 4.3)
 abbrev pub full_year : ℕ → ℕ → ℕ
 full_year digits n = if digits == 4 then n else (if digits == 2 && nat_lt n 50 then n + 2000 else n + 1900)
 
+-- the year of a part of two to four digits
 abbrev pub year_of : List ℕ → Option ℕ
 year_of part = option_map (full_year (length part)) (digits_within 2 4 part)
 
--- a number of one or two digits, at most this
+-- the number of a part of one or two digits, if it is at most `most`
 abbrev pub clock_number : ℕ → List ℕ → Option ℕ
 clock_number most part = option_and_then (λ n. if nat_le n most then Some n else None) (digits_within 1 2 part)
 
@@ -69,7 +74,7 @@ clock_second (Some h) (Some m) None = None
 clock_second (Some h) None s = None
 clock_second None m s = None
 
--- the second of the day of two or three numbers
+-- the second of the day of two or three numbers: hour, minute, second
 abbrev pub clock_of : List (List ℕ) → Option ℕ
 clock_of (h ∷ m ∷ []) = clock_second (clock_number 23 h) (clock_number 59 m) (Some 0)
 clock_of (h ∷ m ∷ s ∷ []) = clock_second (clock_number 23 h) (clock_number 59 m) (clock_number 60 s)
@@ -81,7 +86,7 @@ clock_of (h ∷ m ∷ s ∷ x ∷ more) = None
 abbrev pub time_of : List ℕ → Option ℕ
 time_of part = clock_of (slice_split (λ b. b == 58) part)
 
--- how many hours west of Greenwich a zone of this name is
+-- how many hours west of Greenwich a zone of this name is (RFC 5322 4.3); a name that isn't known is Greenwich
 abbrev pub hours_west : List ℕ → ℕ
 hours_west name =
     if str_eq_ignore_ascii_case name (codes "EDT") then 4
@@ -104,25 +109,21 @@ zone_of (b ∷ bytes) =
     else (if b == 45 then option_map (λ n. neg_ℤ (pos n)) (offset_of bytes)
     else (if is_letter b then Some (neg_ℤ (pos (hours_west (b ∷ bytes) * 3600))) else None))
 
--- the zone of the parts after the time: the first of them, or Greenwich where there is none
+-- the zone of the parts after the time: the first of them, or Greenwich if there is none
 abbrev pub first_zone : List (List ℕ) → Option ℤ
 first_zone [] = Some (pos 0)
 first_zone (part ∷ parts) = zone_of part
-
--- a second that a message can have
-abbrev pub in_range : ℤ → Option ℤ
-in_range z = if lt_z z (pos 0) || lt_z (pos 250000000000) z then None else Some z
 
 -- does the month of the year have such a day?
 abbrev pub has_day : ℕ → ℕ → ℕ → Bool
 has_day year month day = nat_le 1 day && nat_le day (days_in_month (pos year) month)
 
--- the second of a civil date, a second of the day and a zone
+-- the second of a civil date, a second of the day and a zone, if it is a moment's
 abbrev pub second_of : ℕ → ℕ → ℕ → ℕ → ℤ → Option ℤ
 second_of year month day time zone =
-    if has_day year month day then in_range (pos 86400 *ℤ days_from_civil (pos year) month day +ℤ pos time -ℤ zone) else None
+    if has_day year month day then moment_at (pos 86400 *ℤ days_from_civil (pos year) month day +ℤ pos time -ℤ zone) else None
 
--- the same, where each part has its form
+-- the second of the parts of a date, if each part has its form
 abbrev pub second_of_parts : Option ℕ → Option ℕ → Option ℕ → Option ℕ → Option ℤ → Option ℤ
 second_of_parts (Some day) (Some month) (Some year) (Some time) (Some zone) = second_of year month day time zone
 second_of_parts (Some day) (Some month) (Some year) (Some time) None = None
@@ -139,6 +140,6 @@ date_from (day ∷ []) = None
 date_from (day ∷ month ∷ []) = None
 date_from (day ∷ month ∷ year ∷ []) = None
 
--- the second of a Date field's value, where it is a date
+-- the second of a Date field's value, if it is a date
 abbrev pub date_of : List ℕ → Option ℤ
 date_of value = date_from (without_weekday (date_parts (without_comments 0 value)))

@@ -1,4 +1,4 @@
--- What the stored runs and picks say that a query has delivered, and what a run adds to them.
+-- What a query has delivered by the stored runs and picks, and what a run adds to them.
 use Rattle.std.specs.Prelude.{ℕ, ◌+◌, ℤ, List, [], ◌∷◌, length, ◌==◌, filter, map}
 use Rattle.std.specs.List.{position_or_len}
 use Rattle.tap_base.specs.declared.numbers.QueryNum.{QueryNum}

@@ -5,7 +5,7 @@ use Rattle.std.specs.Str.{str_to_ascii_lowercase}
 use Rattle.tap_base.specs.Bytes.{is_blank}
 use Rattle.tap_rows.specs.Headers.{trimmed}
 
--- the address of an entry: what stands between the first `<` and the next `>`, or else what comes before the first `(`, trimmed
+-- the address of an entry: what is between the first `<` and the next `>`, or else what is before the first `(`, trimmed
 abbrev pub address_of : List ℕ → List ℕ
 address_of part =
     if list_any (λ b. b == 62) (after_first (λ b. b == 60) part) then before_first (λ b. b == 62) (after_first (λ b. b == 60) part)
@@ -15,21 +15,22 @@ address_of part =
 abbrev pub entries_of : List (List ℕ) → List (List ℕ)
 entries_of parts = filter (λ entry. not (length entry == 0)) (map (λ part. str_to_ascii_lowercase (address_of part)) parts)
 
--- the parts between the commas that stand after an even number of quotes
+-- the parts between the commas outside quotes; do the bytes begin inside quotes?
 abbrev pub comma_parts_from : Bool → List ℕ → List (List ℕ)
 comma_parts_from quoted [] = [] ∷ []
 comma_parts_from quoted (b ∷ bytes) =
     if b == 34 then onto_first b (comma_parts_from (not quoted) bytes)
     else (if b == 44 && not quoted then [] ∷ comma_parts_from quoted bytes else onto_first b (comma_parts_from quoted bytes))
 
+-- the parts of a value between the commas outside quotes
 abbrev pub comma_parts : List ℕ → List (List ℕ)
 comma_parts value = comma_parts_from false value
 
--- the entries of a list of addresses
+-- the entries of a value that commas cut
 abbrev pub listed : List ℕ → List (List ℕ)
 listed value = entries_of (comma_parts value)
 
--- the entries of a list of references
+-- the entries of a value that blanks cut
 abbrev pub referred : List ℕ → List (List ℕ)
 referred value = entries_of (slice_split is_blank value)
 

@@ -13,7 +13,7 @@ use Rattle.tap_rows.specs.Dates.{date_of}
 abbrev pub value_of : List ℕ → List HeaderField → Option (List ℕ)
 value_of name header = first_of (values_of name header)
 
--- the first entry of a single field
+-- the first entry of a field's value, if there is one
 abbrev pub entry_of : (List ℕ → List (List ℕ)) → Option (List ℕ) → Option (List ℕ)
 entry_of entries value = option_and_then (λ v. first_of (entries v)) value
 
@@ -21,7 +21,7 @@ entry_of entries value = option_and_then (λ v. first_of (entries v)) value
 abbrev pub message_words : Option (List ℕ) → List (List ℕ) → List (List ℕ)
 message_words subject body = with_new [] (flat_map words (option_to_list subject ++ body))
 
--- the fields of a header and a body, of a text of this size
+-- the fields of a header and a body of a text of this size in bytes
 abbrev pub fields_in : List HeaderField → List (List ℕ) → ℕ → Fields
 fields_in header body size = record {
   date = option_and_then date_of (value_of (codes "Date") header);

@@ -1,4 +1,4 @@
--- The changes whose rows stand in order behind the rows that are there.
+-- Whether the rows of a change stand in order behind the stored rows.
 use Rattle.std.specs.Prelude.{◌+◌, ℤ, pos, List, [], ◌∷◌, ◌++◌, length, Bool, ◌&&◌, Option, Some, None}
 use Rattle.tap_rows.specs.declared.tables.Tables.{Tables}
 use Rattle.tap_rows.specs.declared.change.Change.{Change}
@@ -9,7 +9,7 @@ use Rattle.tap_rows.specs.WellFormed.{row_at, docs_stand, note_stands, query_sta
 abbrev pub last_row : {A : Type 0} → List A → Option A
 last_row rows = row_at (length rows) rows
 
--- the moment of a row, or 0 where there is none
+-- the moment of a row, or 0 if there is none
 abbrev pub moment_or_start : {A : Type 0} → (A → ℤ) → Option A → ℤ
 moment_or_start moment None = pos 0
 moment_or_start moment (Some row) = moment row

@@ -1,38 +1,37 @@
 -- The header and the body of a message, by its lines (RFC 5322 2.1 and 2.2).
-use Rattle.std.specs.Prelude.{ℕ, List, [], ◌∷◌, ◌++◌, Bool, true, false, ◌||◌, ◌&&◌, not, nat_le, nat_lt, ◌==◌, ◌-◌, length, take, drop, if◌then◌else◌, codes, nat_eq, Option, Some, None}
+use Rattle.std.specs.Prelude.{ℕ, List, [], ◌∷◌, ◌++◌, Bool, true, false, ◌||◌, ◌&&◌, not, nat_le, nat_lt, nat_eq, ◌==◌, ◌-◌}
+use Rattle.std.specs.Prelude.{length, take, drop, if◌then◌else◌, codes, Option, Some, None}
 use Rattle.std.specs.List.{prefix_len, suffix_len, take_while, starts_with, concat}
 use Rattle.std.specs.Str.{str_eq_ignore_ascii_case}
 use Rattle.std.specs.Str.Lines.{lines}
 use Rattle.tap_base.specs.Bytes.{is_blank}
+use Rattle.tap_base.specs.LineWords.{after_blanks}
 use Rattle.tap_rows.specs.declared.header_field.HeaderField.{HeaderField}
 
--- the bytes without the blanks at their start, and without those at their end
-abbrev pub without_blank_start : List ℕ → List ℕ
-without_blank_start bytes = drop (prefix_len is_blank bytes) bytes
-
+-- the bytes without the blanks at their end
 abbrev pub without_blank_end : List ℕ → List ℕ
 without_blank_end bytes = take (length bytes - suffix_len is_blank bytes) bytes
 
 -- the bytes without the blanks at both ends
 abbrev pub trimmed : List ℕ → List ℕ
-trimmed bytes = without_blank_end (without_blank_start bytes)
+trimmed bytes = without_blank_end (after_blanks bytes)
 
 -- the lines, without a first one that begins with `From `
 abbrev pub without_from_line : List (List ℕ) → List (List ℕ)
 without_from_line [] = []
 without_from_line (line ∷ lines) = if starts_with nat_eq line (codes "From ") then lines else line ∷ lines
 
--- a byte of a field's name: a visible ASCII character that isn't the colon
-abbrev pub is_name_byte : ℕ → Bool
-is_name_byte b = nat_le 33 b && nat_le b 126 && not (b == 58)
+-- a byte of a field's name: a visible ASCII character that isn't the colon (RFC 5322 2.2)
+abbrev pub is_field_name_byte : ℕ → Bool
+is_field_name_byte b = nat_le 33 b && nat_le b 126 && not (b == 58)
 
--- how many bytes at the line's start are of a name
+-- how many bytes at the line's start are of a field's name
 abbrev pub name_length : List ℕ → ℕ
-name_length line = prefix_len is_name_byte line
+name_length line = prefix_len is_field_name_byte line
 
 -- the line after its name and the blanks that follow it
 abbrev pub after_name : List ℕ → List ℕ
-after_name line = without_blank_start (drop (name_length line) line)
+after_name line = after_blanks (drop (name_length line) line)
 
 -- does the text begin with a colon?
 abbrev pub begins_with_colon : List ℕ → Bool
@@ -43,7 +42,7 @@ begins_with_colon (b ∷ bytes) = b == 58
 abbrev pub begins_field : List ℕ → Bool
 begins_field line = nat_lt 0 (name_length line) && begins_with_colon (after_name line)
 
--- a line that continues a field begins with a blank
+-- a line that continues a field begins with a blank (RFC 5322 2.2.3)
 abbrev pub continues_field : List ℕ → Bool
 continues_field [] = false
 continues_field (b ∷ bytes) = is_blank b
@@ -73,7 +72,7 @@ abbrev pub without_empty_start : List (List ℕ) → List (List ℕ)
 without_empty_start [] = []
 without_empty_start (line ∷ lines) = if length line == 0 then lines else line ∷ lines
 
--- the lines of a message, without the first where that begins with `From `
+-- the lines of a message, without the first if that begins with `From `
 abbrev pub message_lines : List ℕ → List (List ℕ)
 message_lines text = without_from_line (lines text)
 
@@ -86,7 +85,7 @@ lacks_header (line ∷ lines) = continues_field line
 abbrev pub header_of : List (List ℕ) → List HeaderField
 header_of lines = if lacks_header lines then [] else fields_from lines
 
--- the lines of a message's body: those after the empty line that ended the header, or from the other line on that ended it
+-- the lines of a message's body: those after the empty line that ends the header, or from any other line on that ends it
 abbrev pub body_of : List (List ℕ) → List (List ℕ)
 body_of lines = if lacks_header lines then lines else without_empty_start (after_header lines)
 

@@ -1,4 +1,4 @@
--- What holds of the stored tables at every point: the rows stand in order, and each query's deliveries are its box.
+-- What holds of the stored tables after every command: the rows stand in order, and each query's deliveries are its box.
 use Rattle.std.specs.Prelude.{ℕ, suc, ◌≡◌, ◌≤◌, ◌⊎◌, ℤ, pos, ◌≤ℤ◌, List, [], ◌∷◌, length}
 use Rattle.tap_rows.specs.declared.tables.Tables.{Tables}
 use Rattle.tap_rows.specs.declared.rows.Doc.{Doc}
@@ -8,7 +8,7 @@ use Rattle.tap_rows.specs.Arrivals.{Arrived}
 use Rattle.tap_rows.specs.Results.{Truth, visible, run_moments, box_of}
 use Rattle.tap_rows.specs.Deliveries.{delivered}
 
--- each of the rows
+-- `holds` for each of the rows
 abbrev pub Each : {A : Type 0} → (A → Type 0) → List A → Type 0
 Each holds [] = Unit {0}
 Each holds (x ∷ xs) = holds x × Each holds xs
@@ -18,38 +18,39 @@ abbrev pub In : {A : Type 0} → A → List A → Type 0
 In x [] = ⊥
 In x (y ∷ ys) = (x ≡ y) ⊎ In x ys
 
--- a truth that looks at no row which arrives after the second that is asked for, nor at any row but documents and notes
+-- the truth at a second depends on nothing but the documents and notes that arrived by then
 abbrev pub IsOfTheSecond : Truth → Type 0
 IsOfTheSecond truth =
     (tables later : Tables) (doc : Doc) (s : ℤ)
     → (visible later s).docs ≡ (visible tables s).docs → (visible later s).notes ≡ (visible tables s).notes
     → truth later doc s ≡ truth tables doc s
 
--- the queries have their places as numbers, from this one on
+-- the queries are numbered from num on
 abbrev pub QueriesFrom : ℕ → List QueryRow → Type 0
 QueriesFrom num [] = Unit {0}
 QueriesFrom num (query ∷ queries) = (query.num.0 ≡ num) × QueriesFrom (suc num) queries
 
--- the runs have their places as numbers, from this one on
+-- the runs are numbered from num on
 abbrev pub RunsFrom : ℕ → List RunRow → Type 0
 RunsFrom num [] = Unit {0}
 RunsFrom num (run ∷ runs) = (run.num ≡ num) × RunsFrom (suc num) runs
 
--- moments that never fall, from this second on
+-- the moments never fall, from the second `low` on
 abbrev pub Rising : ℤ → List ℤ → Type 0
 Rising low [] = Unit {0}
 Rising low (m ∷ ms) = (low ≤ℤ m) × Rising m ms
 
--- a run of this number and query is among these
+-- one of these runs has this number and this query
 abbrev pub HasRun : ℕ → ℕ → List RunRow → Type 0
 HasRun num query [] = ⊥
 HasRun num query (run ∷ runs) = ((run.num ≡ num) × (run.query.0 ≡ query)) ⊎ HasRun num query runs
 
--- what a query keeps: its runs never go back, and what it has delivered is its box
+-- a query's run moments never fall from its start on, and what it has delivered is its box
 pub record IsKeptQuery (truth : QueryRow → Truth) (start : QueryRow → ℤ) (tables : Tables) (query : QueryRow) : Type 0 where
   pub rising : Rising (start query) (run_moments query.num.0 tables.runs)
   pub box : delivered query.num.0 tables ≡ box_of (truth query) tables (start query) query.num.0
 
+-- the rows are numbered by their places, runs and picks refer to rows that are there, and `IsKeptQuery` holds of each query
 pub record IsKept (truth : QueryRow → Truth) (start : QueryRow → ℤ) (tables : Tables) : Type 0 where
   pub docs : Arrived 1 (pos 0) tables.docs
   pub queries : QueriesFrom 1 tables.queries

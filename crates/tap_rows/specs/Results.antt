@@ -1,6 +1,7 @@
--- What a query gives at a second, over some seconds, and run by run. `truth` is the query's condition: its truth of a
+-- What a query gives at a second, over some seconds, and run by run. `truth` is the query's condition: whether it holds of a
 -- document at a second over some tables. `start` is the first second that the query covers.
-use Rattle.std.specs.Prelude.{ℕ, suc, ◌+◌, List, [], ◌∷◌, ◌++◌, Bool, ◌&&◌, ◌||◌, ◌==◌, not, nat_lt, int_le, int_lt, Option, Some, None, ℤ, filter, map, if◌then◌else◌}
+use Rattle.std.specs.Prelude.{ℕ, suc, ◌+◌, List, [], ◌∷◌, ◌++◌, Bool, ◌&&◌, ◌||◌, ◌==◌, not, nat_lt, int_le, int_lt}
+use Rattle.std.specs.Prelude.{Option, Some, None, ℤ, filter, map, if◌then◌else◌}
 use Rattle.std.specs.List.{filter_map}
 use Rattle.tap_rows.specs.declared.tables.Tables.{Tables}
 use Rattle.tap_rows.specs.declared.rows.Doc.{Doc}
@@ -9,7 +10,7 @@ use Rattle.tap_rows.specs.declared.results.Hit.{Hit}
 use Rattle.tap_rows.specs.declared.results.Entry.{Entry}
 use Rattle.tap_rows.specs.Seconds.{least_second}
 
--- a condition's truth
+-- a condition: whether it holds of a document at a second over some tables
 abbrev pub Truth : Type 0
 Truth = Tables → Doc → ℤ → Bool
 
@@ -20,7 +21,7 @@ visible tables s = record tables {
   notes = filter (λ note. int_le note.arrival s) tables.notes;
 }
 
--- is the document there at this second, and does the condition hold of it then?
+-- has the document arrived by this second, and does the condition hold of it then?
 abbrev pub is_given : Truth → Tables → Doc → ℤ → Bool
 is_given truth tables doc s = int_le doc.arrival s && truth tables doc s
 
@@ -32,11 +33,11 @@ snapshot truth tables s = filter (λ doc. is_given truth tables doc s) tables.do
 abbrev pub first_second : Truth → Tables → Doc → ℤ → ℤ → Option ℤ
 first_second truth tables doc a t = least_second (is_given truth tables doc) a t
 
--- does the one hit stand before the other? By first second, then by number
+-- is the hit x before the hit y, by first second and then by number?
 abbrev pub is_before : Hit → Hit → Bool
 is_before x y = int_lt x.first y.first || (not (int_lt y.first x.first) && nat_lt x.doc.0 y.doc.0)
 
--- a hit at its place among hits in order
+-- the hits in order, with one more at its place
 abbrev pub put_in : Hit → List Hit → List Hit
 put_in hit [] = hit ∷ []
 put_in hit (other ∷ hits) = if is_before hit other then hit ∷ other ∷ hits else other ∷ put_in hit hits
@@ -76,12 +77,12 @@ runs_of query runs = filter (λ run. run.query.0 == query) runs
 abbrev pub run_moments : ℕ → List RunRow → List ℤ
 run_moments query runs = map (λ run. run.moment) (runs_of query runs)
 
--- the last of some moments, or this second where there is none
+-- the last of some moments, or this second if there is none
 abbrev pub last_or : ℤ → List ℤ → ℤ
 last_or second [] = second
 last_or second (m ∷ ms) = last_or m ms
 
--- the second that a query has covered up to: its last run's moment, or its start where it was never run
+-- the second up to which a query has been run: its last run's moment, or its start if it has no run
 abbrev pub covered : ℤ → ℕ → List RunRow → ℤ
 covered start query runs = last_or start (run_moments query runs)
 
@@ -98,12 +99,12 @@ entry_at run hit = record { doc = hit.doc; first = hit.first; run = run }
 abbrev pub entries_of : List ℤ → List Hit → ℕ → List Entry
 entries_of moments hits run = map (entry_at run) (filter (λ hit. run_of hit.first moments == run) hits)
 
--- the entries of the runs from this ordinal on, a run for each moment that is left
+-- the entries of the runs from the ordinal `run` on, one run for each moment that is left
 abbrev pub entries_from : List ℤ → List Hit → ℕ → List ℤ → List Entry
 entries_from moments hits run [] = []
 entries_from moments hits run (m ∷ ms) = entries_of moments hits run ++ entries_from moments hits (run + 1) ms
 
--- the box of a query: for each of its runs the documents whose first second it was the first run after
+-- the box of a query: for each of its runs, the documents whose first second is before its moment and before that of no earlier run
 abbrev pub box_of : Truth → Tables → ℤ → ℕ → List Entry
 box_of truth tables start query =
     entries_from (run_moments query tables.runs) (union_until truth tables start (covered start query tables.runs)) 1 (run_moments query tables.runs)

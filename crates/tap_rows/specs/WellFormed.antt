@@ -1,6 +1,7 @@
--- Rows that stand in order: each with its place as its number, a moment that is not below the one before, and references
--- to rows that are there. The texts of queries and filters are not looked at here.
-use Rattle.std.specs.Prelude.{ℕ, ◌+◌, ◌-◌, ℤ, pos, List, [], ◌∷◌, ◌++◌, length, Bool, true, false, not, ◌&&◌, ◌||◌, ◌==◌, nat_le, nat_lt, int_le, int_lt, Option, Some, None, slice_get, if◌then◌else◌}
+-- Rows that stand in order: each row's number is its place, its moment is not below the one before, and it refers to rows
+-- that are there. The texts of queries and filters are not looked at here.
+use Rattle.std.specs.Prelude.{ℕ, ◌+◌, ◌-◌, ℤ, pos, List, [], ◌∷◌, ◌++◌, length, Bool, true, false, not, ◌&&◌, ◌||◌, ◌==◌}
+use Rattle.std.specs.Prelude.{nat_le, nat_lt, int_le, int_lt, Option, Some, None, slice_get, if◌then◌else◌}
 use Rattle.std.specs.List.{list_any}
 use Rattle.std.specs.Str.{bytes_eq}
 use Rattle.tap_base.specs.Names.{is_name}
@@ -22,6 +23,7 @@ may_follow low moment = int_le low moment && int_le moment (pos LAST_MOMENT)
 abbrev pub row_at : {A : Type 0} → ℕ → List A → Option A
 row_at num rows = if num == 0 then None else slice_get rows (num - 1)
 
+-- is there a row, and does it pass the test?
 abbrev pub is_row : {A : Type 0} → (A → Bool) → Option A → Bool
 is_row test None = false
 is_row test (Some row) = test row
@@ -30,6 +32,7 @@ is_row test (Some row) = test row
 abbrev pub doc_stands : ℕ → ℤ → Doc → Bool
 doc_stands place low doc = (doc.num.0 == place) && may_follow low doc.arrival && nat_le (length doc.text) MESSAGE_LIMIT
 
+-- the documents from this place on, behind a moment `low`
 abbrev pub docs_stand : ℕ → ℤ → List Doc → Bool
 docs_stand place low [] = true
 docs_stand place low (doc ∷ docs) = doc_stands place low doc && docs_stand (place + 1) doc.arrival docs
@@ -43,22 +46,26 @@ abbrev pub note_stands : List Doc → ℕ → ℤ → Note → Bool
 note_stands docs place low note =
     (note.num.0 == place) && may_follow low note.arrival && has_arrived docs note.doc.0 note.arrival && is_name note.author && is_name note.kind
 
+-- the notes from this place on, behind a moment `low`
 abbrev pub notes_stand : List Doc → ℕ → ℤ → List Note → Bool
 notes_stand docs place low [] = true
 notes_stand docs place low (note ∷ notes) = note_stands docs place low note && notes_stand docs (place + 1) note.arrival notes
 
--- has this user a query of this name?
+-- is it this user's query of this name?
 abbrev pub is_query_of : List ℕ → List ℕ → QueryRow → Bool
 is_query_of owner name query = bytes_eq query.owner owner && bytes_eq query.name name
 
--- a query: its place, its arrival, its names, and that no earlier one is its owner's and has its name
+-- a query: its place, its arrival, its names, and that no earlier one has its owner and its name
 abbrev pub query_stands : List QueryRow → ℕ → ℤ → QueryRow → Bool
 query_stands earlier place low query =
-    (query.num.0 == place) && may_follow low query.arrival && is_name query.owner && is_name query.name && not (list_any (is_query_of query.owner query.name) earlier)
+    (query.num.0 == place) && may_follow low query.arrival && is_name query.owner && is_name query.name
+    && not (list_any (is_query_of query.owner query.name) earlier)
 
+-- the queries from this place on, behind the earlier ones and a moment `low`
 abbrev pub queries_stand : List QueryRow → ℕ → ℤ → List QueryRow → Bool
 queries_stand earlier place low [] = true
-queries_stand earlier place low (query ∷ queries) = query_stands earlier place low query && queries_stand (earlier ++ query ∷ []) (place + 1) query.arrival queries
+queries_stand earlier place low (query ∷ queries) =
+    query_stands earlier place low query && queries_stand (earlier ++ query ∷ []) (place + 1) query.arrival queries
 
 -- the query of this number had arrived by this moment
 abbrev pub was_defined : List QueryRow → ℕ → ℤ → Bool
@@ -68,6 +75,7 @@ was_defined queries num moment = is_row (λ query. int_le query.arrival moment) 
 abbrev pub run_stands : List QueryRow → ℕ → ℤ → RunRow → Bool
 run_stands queries place low run = (run.num == place) && may_follow low run.moment && was_defined queries run.query.0 run.moment
 
+-- the runs from this place on, behind a moment `low`
 abbrev pub runs_stand : List QueryRow → ℕ → ℤ → List RunRow → Bool
 runs_stand queries place low [] = true
 runs_stand queries place low (run ∷ runs) = run_stands queries place low run && runs_stand queries (place + 1) run.moment runs
@@ -82,14 +90,20 @@ is_picked pick (Some run) None = false
 abbrev pub comes_after : Option Pick → Pick → Bool
 comes_after None pick = true
 comes_after (Some before) pick =
-    nat_lt before.run pick.run || ((before.run == pick.run) && (int_lt before.first pick.first || (int_le before.first pick.first && nat_lt before.doc.0 pick.doc.0)))
+    nat_lt before.run pick.run
+    || ((before.run == pick.run) && (int_lt before.first pick.first || (int_le before.first pick.first && nat_lt before.doc.0 pick.doc.0)))
+
+-- do both picks pick the same document for the same query?
+abbrev pub picks_same : Pick → Pick → Bool
+picks_same pick other = (other.query.0 == pick.query.0) && (other.doc.0 == pick.doc.0)
 
 -- a pick: its place, what it refers to, that its query picks the document for the first time, and its order
 abbrev pub pick_stands : List RunRow → List Doc → List Pick → ℕ → Option Pick → Pick → Bool
 pick_stands runs docs earlier place before pick =
     (pick.num == place) && is_picked pick (row_at pick.run runs) (row_at pick.doc.0 docs)
-    && not (list_any (λ other. (other.query.0 == pick.query.0) && (other.doc.0 == pick.doc.0)) earlier) && comes_after before pick
+    && not (list_any (picks_same pick) earlier) && comes_after before pick
 
+-- the picks from this place on, behind the earlier ones
 abbrev pub picks_stand : List RunRow → List Doc → List Pick → ℕ → Option Pick → List Pick → Bool
 picks_stand runs docs earlier place before [] = true
 picks_stand runs docs earlier place before (pick ∷ picks) =
@@ -99,6 +113,7 @@ picks_stand runs docs earlier place before (pick ∷ picks) =
 abbrev pub filter_stands : ℕ → ℤ → FilterRow → Bool
 filter_stands place low filter = (filter.num == place) && may_follow low filter.arrival && is_name filter.owner
 
+-- the filters from this place on, behind a moment `low`
 abbrev pub filters_stand : ℕ → ℤ → List FilterRow → Bool
 filters_stand place low [] = true
 filters_stand place low (filter ∷ filters) = filter_stands place low filter && filters_stand (place + 1) filter.arrival filters

@@ -1,3 +1,4 @@
+//! Copies of rows, tables and changes.
 ghost use Rattle.std.specs.Prelude.{◌≡◌, IfOk};
 
 use crate::{Change, Doc, FilterRow, Note, Pick, QueryRow, RunRow, Tables};
@@ -71,7 +72,7 @@ impl Copied for FilterRow {
 }
 
 impl Tables {
-    /// The same rows once more.
+    /// Returns a copy of all rows. Fails with `Memory` when out of memory.
     pub fn copy(&self) -> Result<Tables, Memory>
         ensures { IfOk result (λ tables. tables ≡ self.now) }
     {
@@ -93,7 +94,7 @@ impl Tables {
 }
 
 impl Change {
-    /// The same change once more.
+    /// Returns a copy of the change. Fails with `Memory` when out of memory.
     pub fn copy(&self) -> Result<Change, Memory>
         ensures { IfOk result (λ change. change ≡ self.now) }
     {

@@ -1,35 +1,39 @@
-ghost use Rattle.std.specs.Prelude.{◌≡◌, ◌≤◌, ◌<◌, ◌+◌, ◌^◌, ◌++◌, ◌∷◌, ◌&&◌, ◌||◌, ◌==◌, true, int_lt, int_le, nat_lt, take, [], List, ℕ, length, Option};
+//! Whether the rows of a change stand in order behind those of the tables.
+ghost use Rattle.std.specs.Prelude.{◌≡◌, ◌≤◌, ◌<◌, ◌+◌, ◌^◌, ◌++◌, ◌∷◌, ◌&&◌, ◌||◌, ◌==◌, true};
+ghost use Rattle.std.specs.Prelude.{int_lt, int_le, nat_lt, take, [], List, ℕ, length, Option};
 ghost use Rattle.std.specs.List.{list_any};
 ghost use Rattle.std.specs.Option.{option_copied};
-ghost use Rattle.tap_rows.specs.WellFormed.{row_at, may_follow, doc_stands, docs_stand, has_arrived, note_stands, is_query_of, query_stands, was_defined, run_stands, is_picked, comes_after, pick_stands, picks_stand, filter_stands, is_well_formed};
+ghost use Rattle.tap_rows.specs.WellFormed.{row_at, may_follow, doc_stands, docs_stand, has_arrived, note_stands, is_query_of};
+ghost use Rattle.tap_rows.specs.WellFormed.{query_stands, was_defined, run_stands, is_picked, comes_after, pick_stands, picks_stand};
+ghost use Rattle.tap_rows.specs.WellFormed.{filter_stands, is_well_formed, picks_same};
 ghost use Rattle.tap_rows.specs.Tables.{after};
 ghost use Rattle.tap_rows.specs.Fits.{low_of, last_row, fits};
 
 use crate::{Change, Doc, FilterRow, MESSAGE_LIMIT, Note, Pick, QueryRow, RunRow, Tables};
 use tap_base::{LAST_MOMENT, is_name};
 
-// The row of a number, counted from 1.
+// Returns the row of a number, counted from 1.
 fn row<T>(rows: &[T], num: usize) -> Option<&T>
     ensures { option_copied result ≡ row_at num rows.now }
 {
     if num == 0 { None } else { rows.get(num - 1) }
 }
 
-// May a row of this moment follow one of the moment `low`?
+// Returns whether a row of this moment may follow one of the moment `low`.
 fn follows(low: i64, moment: i64) -> bool
     ensures { result ≡ may_follow low moment }
 {
     low <= moment && moment <= LAST_MOMENT as i64
 }
 
-// Does the document stand at this place?
+// Returns whether the document may stand at this place, counted from 1, behind a moment `low`.
 fn doc_fits(place: usize, low: i64, doc: &Doc) -> bool
     ensures { result ≡ doc_stands place low doc.now }
 {
     doc.num.0 as usize == place && follows(low, doc.arrival) && doc.text.len() <= MESSAGE_LIMIT
 }
 
-// Do the documents stand from this place on?
+// Returns whether the documents may stand from this place on.
 fn docs_fit(place: usize, low: i64, docs: &[Doc]) -> bool
     requires { place + length docs.now < 2 ^ 64 }
     ensures { result ≡ docs_stand place low docs.now }
@@ -44,7 +48,7 @@ fn docs_fit(place: usize, low: i64, docs: &[Doc]) -> bool
     true
 }
 
-// Had the document of this number arrived by this moment?
+// Returns whether the document of this number had arrived by this moment.
 fn has_come(docs: &[Doc], num: u32, moment: i64) -> bool
     ensures { result ≡ has_arrived docs.now num moment }
 {
@@ -54,7 +58,7 @@ fn has_come(docs: &[Doc], num: u32, moment: i64) -> bool
     }
 }
 
-// Does the note stand at this place?
+// Returns whether the note may stand at this place.
 fn note_fits(docs: &[Doc], place: usize, low: i64, note: &Note) -> bool
     ensures { result ≡ note_stands docs.now place low note.now }
 {
@@ -65,21 +69,21 @@ fn note_fits(docs: &[Doc], place: usize, low: i64, note: &Note) -> bool
         && is_name(note.kind.as_slice())
 }
 
-// Is it the query of this name of this user?
+// Returns whether it is this user's query of this name.
 fn is_query_of(owner: &[u8], name: &[u8], query: &QueryRow) -> bool
     ensures { result ≡ is_query_of owner.now name.now query.now }
 {
     query.owner.as_slice() == owner && query.name.as_slice() == name
 }
 
-// Has this user a query of this name?
+// Returns whether this user has a query of this name.
 fn has_query(queries: &[QueryRow], owner: &[u8], name: &[u8]) -> bool
     ensures { result ≡ list_any (is_query_of owner.now name.now) queries.now }
 {
     queries.iter().any(|query| is_query_of(owner, name, query))
 }
 
-// Does the query stand at this place?
+// Returns whether the query may stand at this place.
 fn query_fits(earlier: &[QueryRow], place: usize, low: i64, query: &QueryRow) -> bool
     ensures { result ≡ query_stands earlier.now place low query.now }
 {
@@ -90,7 +94,7 @@ fn query_fits(earlier: &[QueryRow], place: usize, low: i64, query: &QueryRow) ->
         && !has_query(earlier, query.owner.as_slice(), query.name.as_slice())
 }
 
-// Was the query of this number defined by this moment?
+// Returns whether the query of this number was defined by this moment.
 fn is_defined(queries: &[QueryRow], num: u32, moment: i64) -> bool
     ensures { result ≡ was_defined queries.now num moment }
 {
@@ -100,7 +104,7 @@ fn is_defined(queries: &[QueryRow], num: u32, moment: i64) -> bool
     }
 }
 
-// Does the run stand at this place?
+// Returns whether the run may stand at this place.
 fn run_fits(queries: &[QueryRow], place: usize, low: i64, run: &RunRow) -> bool
     ensures { result ≡ run_stands queries.now place low run.now }
 {
@@ -109,14 +113,14 @@ fn run_fits(queries: &[QueryRow], place: usize, low: i64, run: &RunRow) -> bool
         && is_defined(queries, run.query.0, run.moment)
 }
 
-// Does the filter stand at this place?
+// Returns whether the filter may stand at this place.
 fn filter_fits(place: usize, low: i64, filter: &FilterRow) -> bool
     ensures { result ≡ filter_stands place low filter.now }
 {
     filter.num as usize == place && follows(low, filter.arrival) && is_name(filter.owner.as_slice())
 }
 
-// The run of a number, where this one follows those stored.
+// Returns the run of a number, counted from 1, among those stored and this one behind them.
 fn run_at<'a>(runs: &'a [RunRow], run: &'a RunRow, num: usize) -> Option<&'a RunRow>
     ensures { option_copied result ≡ row_at num (runs.now ++ run.now ∷ []) }
 {
@@ -127,7 +131,7 @@ fn run_at<'a>(runs: &'a [RunRow], run: &'a RunRow, num: usize) -> Option<&'a Run
     }
 }
 
-// Is the pick one of this run and this document?
+// Returns whether the pick may be one of this run and this document.
 fn is_pick_of(pick: &Pick, run: Option<&RunRow>, doc: Option<&Doc>) -> bool
     ensures { result ≡ is_picked pick.now (option_copied run.entry) (option_copied doc.entry) }
 {
@@ -139,28 +143,28 @@ fn is_pick_of(pick: &Pick, run: Option<&RunRow>, doc: Option<&Doc>) -> bool
     }
 }
 
-// Do both picks pick the same document for the same query?
+// Returns whether both picks pick the same document for the same query.
 fn is_same_pick(pick: &Pick, other: &Pick) -> bool
-    ensures { result ≡ ((other.now.query.0 == pick.now.query.0) && (other.now.doc.0 == pick.now.doc.0)) }
+    ensures { result ≡ picks_same pick.now other.now }
 {
     other.query == pick.query && other.doc == pick.doc
 }
 
-// Was the pick's document picked for its query before?
+// Returns whether one of these earlier picks picks the same document for the same query.
 fn is_repeated(pick: &Pick, earlier: &[Pick]) -> bool
-    ensures { result ≡ list_any (λ other. (other.query.0 == pick.now.query.0) && (other.doc.0 == pick.now.doc.0)) earlier.now }
+    ensures { result ≡ list_any (picks_same pick.now) earlier.now }
 {
     earlier.iter().any(|other| is_same_pick(pick, other))
 }
 
-// Does the pick come after the one before, by first second and document?
+// Returns whether the pick comes after the one before, by first second and document.
 fn is_later(before: &Pick, pick: &Pick) -> bool
     ensures { result ≡ (int_lt before.now.first pick.now.first || (int_le before.now.first pick.now.first && nat_lt before.now.doc.0 pick.now.doc.0)) }
 {
     before.first < pick.first || (before.first <= pick.first && before.doc.0 < pick.doc.0)
 }
 
-// Does the pick come after the one before, by run, first second and document?
+// Returns whether the pick comes after the one before, by run, first second and document.
 fn is_after(before: Option<&Pick>, pick: &Pick) -> bool
     ensures { result ≡ comes_after (option_copied before.entry) pick.now }
 {
@@ -172,7 +176,7 @@ fn is_after(before: Option<&Pick>, pick: &Pick) -> bool
     }
 }
 
-// Does the pick stand behind these, which come in two parts?
+// Returns whether the pick may stand behind all earlier ones, which come in two parts: those stored and those of its run.
 fn pick_fits(
     runs: &[RunRow],
     run: &RunRow,
@@ -196,7 +200,7 @@ fn pick_fits(
         && is_after(before, pick)
 }
 
-// Do the picks stand behind those stored? Each is compared with all before it.
+// Returns whether the picks may stand behind those stored. Each is compared with all before it.
 fn picks_fit(runs: &[RunRow], run: &RunRow, docs: &[Doc], stored: &[Pick], picks: &[Pick]) -> bool
     ensures { result ≡ picks_stand (runs.now ++ run.now ∷ []) docs.now stored.now (length stored.now + 1) (last_row stored.now) picks.now }
 {
@@ -219,7 +223,7 @@ fn picks_fit(runs: &[RunRow], run: &RunRow, docs: &[Doc], stored: &[Pick], picks
     true
 }
 
-// The moment of the last document; 0 where there is none.
+// Returns the moment of the last document; 0 if there is none.
 fn last_doc(docs: &[Doc]) -> i64
     ensures { result ≡ low_of (λ doc. doc.arrival) docs.now }
 {
@@ -229,7 +233,7 @@ fn last_doc(docs: &[Doc]) -> i64
     }
 }
 
-// The moment of the last note; 0 where there is none.
+// Returns the moment of the last note; 0 if there is none.
 fn last_note(notes: &[Note]) -> i64
     ensures { result ≡ low_of (λ note. note.arrival) notes.now }
 {
@@ -239,7 +243,7 @@ fn last_note(notes: &[Note]) -> i64
     }
 }
 
-// The moment of the last query; 0 where there is none.
+// Returns the moment of the last query; 0 if there is none.
 fn last_query(queries: &[QueryRow]) -> i64
     ensures { result ≡ low_of (λ query. query.arrival) queries.now }
 {
@@ -249,7 +253,7 @@ fn last_query(queries: &[QueryRow]) -> i64
     }
 }
 
-// The moment of the last run; 0 where there is none.
+// Returns the moment of the last run; 0 if there is none.
 fn last_run(runs: &[RunRow]) -> i64
     ensures { result ≡ low_of (λ run. run.moment) runs.now }
 {
@@ -259,7 +263,7 @@ fn last_run(runs: &[RunRow]) -> i64
     }
 }
 
-// The moment of the last filter; 0 where there is none.
+// Returns the moment of the last filter; 0 if there is none.
 fn last_filter(filters: &[FilterRow]) -> i64
     ensures { result ≡ low_of (λ filter. filter.arrival) filters.now }
 {
@@ -270,7 +274,7 @@ fn last_filter(filters: &[FilterRow]) -> i64
 }
 
 impl Tables {
-    // Do the rows of the change stand in order behind those of the tables?
+    // Returns whether the rows of the change stand in order behind those of the tables.
     fn rows_fit(&self, change: &Change) -> bool
         ensures { result ≡ fits self.now change.now }
     {
@@ -314,9 +318,13 @@ impl Tables {
         }
     }
 
-    /// Do the rows of the change stand in order behind those of the tables: each with its place as its number, a moment
-    /// from 0 to 250,000,000,000 that is not below the last one's, names that are names, and references to rows that are
-    /// there? The texts of queries and filters are not looked at. A run's picks are each compared with all picks before.
+    /// Returns whether the rows of the change stand in order behind those of the tables:
+    ///
+    /// - each row's number is its place, from 1;
+    /// - its moment is from 0 to 250,000,000,000 and not below that of the row before;
+    /// - its names are names, and its references are to rows that are there.
+    ///
+    /// The texts of queries and filters are not looked at. Each pick of a run is compared with all picks before it.
     pub fn fits(&self, change: &Change) -> bool
         ensures rows { result ≡ fits self.now change.now }
         ensures order { is_well_formed self.now ≡ true → result ≡ is_well_formed (after self.now change.now) }

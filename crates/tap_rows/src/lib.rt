@@ -1,4 +1,4 @@
-//! The rows that are kept, how they change, and what a query gives of them.
+//! The rows that are stored, how they change, and what a query gives of them.
 #![tactic(auto)]
 
 mod change;

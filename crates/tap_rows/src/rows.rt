@@ -1,6 +1,8 @@
+//! The rows of the tables.
 use tap_base::{DocNum, NoteNum, QueryNum, Text};
 
-/// A document.
+/// A stored document. A number is a row's place in its table, from 1; an arrival is in seconds since 1970-01-01T00:00:00Z, as
+/// every moment of a row.
 #[derive(Drop)]
 pub struct Doc {
     pub num: DocNum,
@@ -8,7 +10,7 @@ pub struct Doc {
     pub text: Text,
 }
 
-/// A note on a document.
+/// A note of an author on a document, of a kind, with a value.
 #[derive(Drop)]
 pub struct Note {
     pub num: NoteNum,
@@ -20,7 +22,7 @@ pub struct Note {
     pub text: Text,
 }
 
-/// A query of a user.
+/// A user's query, by its name, with the text of its condition.
 #[derive(Drop)]
 pub struct QueryRow {
     pub num: QueryNum,
@@ -30,7 +32,7 @@ pub struct QueryRow {
     pub arrival: i64,
 }
 
-/// A run of a query.
+/// A run of a query: it delivered what was first given before its moment.
 #[derive(Clone, Copy, Debug, PartialEq, Eq)]
 pub struct RunRow {
     pub num: u32,
@@ -38,7 +40,7 @@ pub struct RunRow {
     pub moment: i64,
 }
 
-/// A document that a run delivered.
+/// A document that a run delivered, with the first second at which the query gives it.
 #[derive(Clone, Copy, Debug, PartialEq, Eq)]
 pub struct Pick {
     pub num: u32,
@@ -48,7 +50,7 @@ pub struct Pick {
     pub first: i64,
 }
 
-/// A user's filter.
+/// A user's filter, with its text.
 #[derive(Drop)]
 pub struct FilterRow {
     pub num: u32,
