@@ -3,7 +3,7 @@ use Rattle.std.proofs.Common.{◌≡◌, ◌∙◌, sym, ap, refl, arith, ℕ, L
 use Rattle.std.specs.List.{concat, take_while}
 use Rattle.std.proofs.lemmas.List.{append_assoc}
 use Rattle.std.proofs.lemmas.List.Sums.{take_while-cons}
-use Rattle.tap_rows.specs.Headers.{continues_field, begins_field, fields_from, after_header, is_name_byte, name_length, after_name}
+use Rattle.tap_rows.specs.Headers.{continues_field, begins_field, fields_from, after_header, is_field_name_byte, name_length, after_name}
 use Rattle.tap_rows.specs.declared.header_field.HeaderField.{HeaderField}
 use Rattle.tap_base.specs.Bytes.{is_blank}
 use Rattle.mail_fields.specs.Rests.{after_continued, continues_first}
@@ -16,7 +16,7 @@ pub continued-after : (line : List ℕ) (ls rest : List (List ℕ)) → ls ≡ l
 continued-after line ls rest is does = rw is (rw does refl)
 
 -- a line that continues a field begins no other
-blank_is_of_no_name : (b : ℕ) → is_blank b ≡ true → is_name_byte b ≡ false
+blank_is_of_no_name : (b : ℕ) → is_blank b ≡ true → is_field_name_byte b ≡ false
 blank_is_of_no_name b does = grind arith
 
 begins_none : (line : List ℕ) → continues_field line ≡ true → begins_field line ≡ false

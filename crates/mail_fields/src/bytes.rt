@@ -1,18 +1,13 @@
-ghost use Rattle.std.specs.Prelude.{◌≡◌, ◌≤◌, ◌+◌, ◌-◌, ◌==◌, ℕ, length, drop, take};
-ghost use Rattle.std.specs.List.{position_or_len, prefix_len, suffix_len};
+//! Places of bytes and blanks.
+ghost use Rattle.std.specs.Prelude.{◌≡◌, ◌≤◌, ◌-◌, ◌==◌, length};
+ghost use Rattle.std.specs.List.{position_or_len, suffix_len};
 ghost use Rattle.tap_base.specs.Bytes.{is_blank};
-ghost use Rattle.tap_rows.specs.Headers.{trimmed, without_blank_start, without_blank_end};
+ghost use Rattle.tap_rows.specs.Headers.{trimmed, without_blank_end};
 
 use memchr::memchr;
+use tap_base::{is_blank_byte, skip_blanks};
 
-// Is this a space or a tab?
-pub(crate) fn is_blank_byte(b: u8) -> bool
-    ensures { result ≡ is_blank b }
-{
-    b == b' ' || b == b'\t'
-}
-
-// How many bytes come before the first one that is `b`.
+// Returns how many bytes come before the first one that is `b`; all of them if there is none.
 pub(crate) fn place_of(b: u8, bytes: &[u8]) -> usize
     ensures value { result ≡ position_or_len (λ x. x == b) bytes.now }
     ensures within { result ≤ length bytes.now }
@@ -23,20 +18,7 @@ pub(crate) fn place_of(b: u8, bytes: &[u8]) -> usize
     }
 }
 
-// How many blanks stand at the start.
-fn blanks_at_start(bytes: &[u8]) -> usize
-    ensures value { result ≡ prefix_len is_blank bytes.now }
-    ensures within { result ≤ length bytes.now }
-{
-    for (i, b) in bytes.iter().enumerate() {
-        if !is_blank_byte(*b) {
-            return i;
-        }
-    }
-    bytes.len()
-}
-
-// How many bytes there are without the blanks at the end.
+// Returns how many bytes there are without the blanks at the end.
 fn len_without_blank_end(bytes: &[u8]) -> usize
     ensures value { result ≡ length bytes.now - suffix_len is_blank bytes.now }
     ensures within { result ≤ length bytes.now }
@@ -48,41 +30,10 @@ fn len_without_blank_end(bytes: &[u8]) -> usize
     len
 }
 
-// The bytes without the blanks at the start.
-pub(crate) fn without_blanks(bytes: &[u8]) -> &[u8]
-    ensures { result.now ≡ without_blank_start bytes.now }
-{
-    &bytes[blanks_at_start(bytes)..]
-}
-
-// The bytes without the blanks at both ends.
+// Returns the bytes without the blanks at both ends.
 pub(crate) fn trim(bytes: &[u8]) -> &[u8]
     ensures { result.now ≡ trimmed bytes.now }
 {
-    let rest = without_blanks(bytes);
+    let rest = skip_blanks(bytes);
     &rest[..len_without_blank_end(rest)]
-}
-
-// How many bytes there are before the first blank.
-pub(crate) fn blank_place(bytes: &[u8]) -> usize
-    ensures value { result ≡ position_or_len is_blank bytes.now }
-    ensures within { result ≤ length bytes.now }
-{
-    for (i, b) in bytes.iter().enumerate() {
-        if is_blank_byte(*b) {
-            return i;
-        }
-    }
-    bytes.len()
-}
-
-// What follows the byte at this place.
-pub(crate) fn after_byte(bytes: &[u8], at: usize) -> &[u8]
-    ensures { result.now ≡ drop (at + 1) bytes.now }
-{
-    if at < bytes.len() {
-        &bytes[at + 1..]
-    } else {
-        &[]
-    }
 }

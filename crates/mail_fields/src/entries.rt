@@ -1,14 +1,15 @@
+//! The entries of a field's value.
 ghost use Rattle.std.specs.Prelude.{◌≡◌, ◌≤◌, ◌<◌, ◌++◌, ◌∷◌, List, [], ℕ, false, length, drop, take, OnOk, OnErr, IfOk};
 ghost use Rattle.std.specs.List.{list_any, slice_split};
 ghost use Rattle.tap_base.specs.Bytes.{is_blank};
 ghost use Rattle.tap_rows.specs.Entries.{address_of, entries_of, listed, referred};
 ghost use Rattle.mail_fields.specs.Rests.{comma_place};
 
-use crate::bytes::{after_byte, blank_place, place_of, trim};
+use crate::bytes::{place_of, trim};
 use std::alloc::Global;
-use tap_base::{Memory, Texts, lower};
+use tap_base::{Memory, Texts, after_byte, blank_place, lower};
 
-// The address of an entry: what stands between `<` and `>`, or else what comes before a comment.
+// Returns the address of an entry: what is between `<` and `>`, or else what comes before a comment.
 fn address(part: &[u8]) -> &[u8]
     ensures { result.now ≡ address_of part.now }
 {
@@ -21,7 +22,7 @@ fn address(part: &[u8]) -> &[u8]
     }
 }
 
-/// Appends the entry of this part, where it isn't empty.
+// Appends the entry of this part, unless it is empty.
 pub(crate) fn push_entry(alloc: Global, part: &[u8], into: &mut Texts) -> Result<(), Memory>
     ensures { OnOk result (into.new ≡ into.old ++ entries_of (part.now ∷ [])) }
 {
@@ -32,7 +33,7 @@ pub(crate) fn push_entry(alloc: Global, part: &[u8], into: &mut Texts) -> Result
     into.push(entry)
 }
 
-// How many bytes come before the first comma outside quotes.
+// Returns how many bytes come before the first comma outside quotes.
 fn comma_len(value: &[u8]) -> usize
     ensures value { result ≡ comma_place false value.now }
     ensures within { result ≤ length value.now }
@@ -48,7 +49,7 @@ fn comma_len(value: &[u8]) -> usize
     value.len()
 }
 
-/// Appends the entries of a list of addresses.
+// Appends the entries of a value that commas cut, such as a list of addresses.
 pub(crate) fn push_listed(alloc: Global, value: &[u8], into: &mut Texts) -> Result<(), Memory>
     ensures { OnOk result (into.new ≡ into.old ++ listed value.now) }
 {
@@ -61,7 +62,7 @@ pub(crate) fn push_listed(alloc: Global, value: &[u8], into: &mut Texts) -> Resu
     Ok(())
 }
 
-/// Appends the entries of a list of references.
+// Appends the entries of a value that blanks cut, such as a list of references.
 pub(crate) fn push_referred(alloc: Global, value: &[u8], into: &mut Texts) -> Result<(), Memory>
     ensures { OnOk result (into.new ≡ into.old ++ referred value.now) }
 {

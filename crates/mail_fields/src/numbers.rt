@@ -1,21 +1,13 @@
-ghost use Rattle.std.specs.Prelude.{◌≡◌, ◌≤◌, ◌<◌, ◌+◌, ◌*◌, ◌^◌, ℕ, Some, None, true, length, if◌then◌else◌, ◌==◌, IfSome, nat_le, ◌&&◌};
+//! The numbers of a date.
+ghost use Rattle.std.specs.Prelude.{◌≡◌, ◌≤◌, ◌<◌, ◌+◌, ◌*◌, ◌^◌, ◌==◌, ◌&&◌, ℕ, nat_le, true, length};
+ghost use Rattle.std.specs.Prelude.{Some, None, IfSome, if◌then◌else◌};
 ghost use Rattle.std.specs.Str.{all_ascii_digits};
 ghost use Rattle.std.specs.Str.Parse.{digits_value};
 ghost use Rattle.tap_rows.specs.Dates.{digits_within, clock_number, full_year, year_of};
 
-// Are all bytes ASCII digits?
-pub(crate) fn are_digits(part: &[u8]) -> bool
-    ensures { result ≡ all_ascii_digits part.now }
-{
-    for b in part {
-        if !b.is_ascii_digit() {
-            return false;
-        }
-    }
-    true
-}
+use tap_base::all_digits;
 
-// The number of at most four digits.
+// Returns the number of at most four digits.
 pub(crate) fn value_of_digits(part: &[u8]) -> u32
     requires digits { all_ascii_digits part.now ≡ true }
     requires short { length part.now ≤ 4 }
@@ -30,7 +22,7 @@ pub(crate) fn value_of_digits(part: &[u8]) -> u32
     n
 }
 
-/// The number of a part of so many digits.
+// Returns the number of a part of `least` to `most` digits.
 pub(crate) fn number(least: usize, most: usize, part: &[u8]) -> Option<u32>
     requires { most ≤ 4 }
     ensures value { result ≡ digits_within least most part.now }
@@ -38,14 +30,14 @@ pub(crate) fn number(least: usize, most: usize, part: &[u8]) -> Option<u32>
     ensures below { IfSome result (λ n. n < 10000) }
     ensures long { IfSome result (λ _. (least ≤ length part.now) × (length part.now ≤ most)) }
 {
-    if least <= part.len() && part.len() <= most && are_digits(part) {
+    if least <= part.len() && part.len() <= most && all_digits(part) {
         Some(value_of_digits(part))
     } else {
         None
     }
 }
 
-/// The number of one or two digits, where it is at most this.
+// Returns the number of one or two digits, if it is at most `most`.
 pub(crate) fn number_at_most(most: u32, part: &[u8]) -> Option<u32>
     ensures value { result ≡ clock_number most part.now }
     ensures small { IfSome result (λ n. n ≤ most) }
@@ -56,7 +48,7 @@ pub(crate) fn number_at_most(most: u32, part: &[u8]) -> Option<u32>
     }
 }
 
-// The year that a number of so many digits means.
+// Returns the year that a number of so many digits means (RFC 5322 4.3).
 fn full(digits: usize, n: u32) -> u32
     requires small { n < 10 ^ digits }
     requires below { n < 10000 }
@@ -73,7 +65,7 @@ fn full(digits: usize, n: u32) -> u32
     }
 }
 
-/// The year of a part.
+// Returns the year of a part of two to four digits.
 pub(crate) fn year(part: &[u8]) -> Option<u32>
     ensures value { result ≡ year_of part.now }
     ensures below { IfSome result (λ n. n ≤ 9999) }

@@ -1,11 +1,13 @@
-ghost use Rattle.std.specs.Prelude.{◌≡◌, ◌≤◌, ◌<◌, ◌+◌, ◌==◌, ◌∷◌, ℕ, length, take, drop, IfSome, IfNone, OnSome, slice_index, if◌then◌else◌};
+//! The lines of a text that is all there.
+ghost use Rattle.std.specs.Prelude.{◌≡◌, ◌≤◌, ◌<◌, ◌+◌, ◌==◌, ◌∷◌, ℕ, length, take, drop};
+ghost use Rattle.std.specs.Prelude.{IfSome, IfNone, OnSome, slice_index, if◌then◌else◌};
 ghost use Rattle.std.specs.List.{position_or_len, slice_range};
 ghost use Rattle.std.specs.Str.Lines.{lines, strip_carriage_return};
 ghost use Rattle.mail_lines.specs.Lines.{is_end};
 
 use memchr::memchr;
 
-/// Where a line stands in its text, and where the next one begins.
+/// The place of a line in its text: its bytes are from `start` to `end`, and the next line begins at `next`.
 #[derive(Clone, Copy, Debug, PartialEq, Eq)]
 pub struct LineAt {
     pub start: usize,
@@ -13,14 +15,14 @@ pub struct LineAt {
     pub next: usize,
 }
 
-/// A line, and the text after its LF.
+/// A line, and the text after it and its LF.
 #[derive(Clone, Copy)]
 pub struct FirstLine<'a> {
     pub line: &'a [u8],
     pub rest: &'a [u8],
 }
 
-// How many bytes come before the first LF.
+// Returns how many bytes come before the first LF; all of them if there is none.
 pub(crate) fn end_of_line(text: &[u8]) -> usize
     ensures value { result ≡ position_or_len is_end text.now }
     ensures within { result ≤ length text.now }
@@ -31,7 +33,7 @@ pub(crate) fn end_of_line(text: &[u8]) -> usize
     }
 }
 
-// How many bytes of a line there are without one CR at its end.
+// Returns how many bytes a line has without one CR at its end.
 fn without_carriage_return(line: &[u8]) -> usize
     ensures value { take result line.now ≡ strip_carriage_return line.now }
     ensures within { result ≤ length line.now }
@@ -43,12 +45,14 @@ fn without_carriage_return(line: &[u8]) -> usize
     }
 }
 
-/// The line from `at` on, without its LF and without a CR directly before that LF. A last line without an LF
-/// keeps all its bytes. `None` comes exactly at the end of the text.
+/// Returns the place of the line from `at` on, without its LF and without a CR directly before that LF. A last line without
+/// an LF has all its bytes. Returns `None` if and only if `at` is the end of the text.
 pub fn next_line(text: &[u8], at: usize) -> Option<LineAt>
     requires { at ≤ length text.now }
-    ensures some { IfSome result (λ l. lines (drop at text.now) ≡ slice_range text.now l.start l.end ∷ lines (drop l.next text.now)) }
-    ensures within { IfSome result (λ l. (l.start ≡ at) × (l.start ≤ l.end) × (l.end ≤ l.next) × (l.next ≤ length text.now) × (at < l.next)) }
+    ensures some { IfSome result (λ l.
+        lines (drop at text.now) ≡ slice_range text.now l.start l.end ∷ lines (drop l.next text.now)) }
+    ensures within { IfSome result (λ l.
+        (l.start ≡ at) × (l.start ≤ l.end) × (l.end ≤ l.next) × (l.next ≤ length text.now) × (at < l.next)) }
     ensures none { IfNone result (at ≡ length text.now) }
 {
     if at == text.len() {
@@ -70,7 +74,8 @@ pub fn next_line(text: &[u8], at: usize) -> Option<LineAt>
     })
 }
 
-/// The first line of a text that isn't empty, without its LF and without a CR directly before that LF.
+/// Returns the first line of a text that isn't empty, without its LF and without a CR directly before that LF, and the text
+/// after it. A last line without an LF has all its bytes.
 pub fn first_line(text: &[u8]) -> FirstLine<'_>
     requires { 0 < length text.now }
     ensures lines { lines text.now ≡ result.line.now ∷ lines result.rest.now }

@@ -1,20 +1,22 @@
+//! The messages of a mailbox file.
 ghost use Rattle.std.specs.Prelude.{◌≡◌, ◌≤◌, ◌<◌, ◌++◌, ◌==◌, List, [], ℕ, true, false, length, OnOk, OnErr, IfOk};
 ghost use Rattle.std.specs.List.{prefix_len};
 ghost use Rattle.std.specs.Str.Lines.{lines};
-ghost use Rattle.mail_lines.specs.Mbox.{is_from_line, message_from, messages_from, quotes, unquoted, message_text, mbox_messages, at_message, written};
+ghost use Rattle.mail_lines.specs.Mbox.{is_from_line, message_from, messages_from, quotes, unquoted};
+ghost use Rattle.mail_lines.specs.Mbox.{message_text, mbox_messages, at_message, written};
 
 use crate::lines::first_line;
 use std::alloc::Global;
 use tap_base::{Memory, Text, Texts};
 
-// Does the line begin with `From `?
+// Returns whether the line begins with `From `.
 fn is_from(line: &[u8]) -> bool
     ensures { result ≡ is_from_line line.now }
 {
     line.starts_with(b"From ".as_slice())
 }
 
-// How many `>` stand at the line's start.
+// Returns how many `>` stand at the line's start.
 fn quotes_of(line: &[u8]) -> usize
     ensures value { result ≡ quotes line.now }
     ensures within { result ≤ length line.now }
@@ -27,7 +29,7 @@ fn quotes_of(line: &[u8]) -> usize
     line.len()
 }
 
-// The line without the `>` that quotes a `From `.
+// Returns the line without the `>` that quotes a `From `, if it has one.
 fn unquote(line: &[u8]) -> &[u8]
     ensures { result.now ≡ unquoted line.now }
 {
@@ -39,7 +41,8 @@ fn unquote(line: &[u8]) -> &[u8]
     }
 }
 
-// Writes a line, and before it the empty line that waits.
+// Appends a line, and before it the empty line that waits, if one does. An empty line waits until the next line shows that it
+// isn't the last of its message, which is left out.
 fn write_line(into: &mut Text, opens: bool, line: &[u8]) -> Result<(), Memory>
     ensures { OnOk result (into.new ≡ into.old ++ written opens line.now) }
 {
@@ -49,7 +52,7 @@ fn write_line(into: &mut Text, opens: bool, line: &[u8]) -> Result<(), Memory>
     write_filled(into, line)
 }
 
-// Writes a line, where it isn't empty.
+// Appends a line and its LF, unless it is empty: then it waits.
 fn write_filled(into: &mut Text, line: &[u8]) -> Result<(), Memory>
     ensures { OnOk result (into.new ≡ into.old ++ written false line.now) }
 {
@@ -60,7 +63,7 @@ fn write_filled(into: &mut Text, line: &[u8]) -> Result<(), Memory>
     into.push_slice(b"\n")
 }
 
-// The text from the next message on.
+// Returns the text from the next message on.
 fn next_message(text: &[u8]) -> &[u8]
     ensures same { messages_from true (lines result.now) ≡ messages_from true (lines text.now) }
     ensures start { at_message (lines result.now) ≡ true }
@@ -78,7 +81,7 @@ fn next_message(text: &[u8]) -> &[u8]
     rest
 }
 
-// Writes the text of the message at the start, and gives the text from the next message on.
+// Appends the text of the message at the start, and returns the text from the next message on.
 fn take_message<'a>(into: &mut Text, text: &'a [u8]) -> Result<&'a [u8], Memory>
     ensures text { OnOk result (into.new ≡ into.old ++ message_text (message_from false (lines text.now))) }
     ensures same { IfOk result (λ rest. messages_from true (lines rest.now) ≡ messages_from false (lines text.now)) }
@@ -99,9 +102,10 @@ fn take_message<'a>(into: &mut Text, text: &'a [u8]) -> Result<&'a [u8], Memory>
     Ok(rest)
 }
 
-/// The texts of the messages of a mailbox file in mbox form. A message begins after a line that begins with `From ` and is
-/// the first or follows an empty line; lines before the first such line are left out. A last empty line is left out, a line
-/// of one or more `>` and then `From ` loses one `>`, and each line ends by LF. `Memory` comes only for want of memory.
+/// Returns the texts of the messages of a mailbox file in mbox form (RFC 4155). A message begins after a line that begins
+/// with `From ` and is the first or follows an empty line; lines before the first such line are left out. A last empty line of
+/// a message is left out, a line of one or more `>` and then `From ` loses one `>`, and each line ends by LF. Fails with
+/// `Memory` when out of memory.
 pub fn cut_mbox(alloc: Global, text: &[u8]) -> Result<Texts, Memory>
     ensures { IfOk result (λ texts. texts ≡ mbox_messages text.now) }
 {

@@ -1,10 +1,11 @@
+//! Tests of lines and of mailbox files.
 ghost use Rattle.std.specs.Prelude.{◌≡◌};
 
-use crate::cut_mbox;
+use crate::{LineAt, cut_mbox, next_line};
 use std::alloc::Global;
 use tap_base::{Memory, Text};
 
-// The messages of an mbox text, each in braces.
+// Returns the messages of an mbox text, each in braces.
 fn cut(alloc: Global, text: &[u8]) -> Result<Text, Memory> {
     let messages = cut_mbox(alloc, text)?;
     let mut shown = Text::new(alloc);
@@ -48,5 +49,31 @@ fn mbox_texts_are_cut(rt: HostRuntime) -> Result<(), Memory> {
         let shown = cut(rt.alloc(), text)?;
         assert_eq!(rt; shown.as_slice(), want);
     }
+    Ok(())
+}
+
+#[test]
+fn lines_have_places(rt: HostRuntime) -> Result<(), Memory> {
+    // a CR before an LF is of no line, an empty line has no bytes, and a last line without an LF has its CR
+    let text: &[u8] = b"a\r\n\nb\r";
+    let first = LineAt {
+        start: 0,
+        end: 1,
+        next: 3,
+    };
+    assert_eq!(rt; next_line(text, 0), Some(first));
+    let empty = LineAt {
+        start: 3,
+        end: 3,
+        next: 4,
+    };
+    assert_eq!(rt; next_line(text, 3), Some(empty));
+    let last = LineAt {
+        start: 4,
+        end: 6,
+        next: 6,
+    };
+    assert_eq!(rt; next_line(text, 4), Some(last));
+    assert_eq!(rt; next_line(text, 6), None);
     Ok(())
 }

@@ -1,19 +1,19 @@
--- Pools of nodes: lists, in which a node's place is its number.
+-- Pools of nodes: lists in which a node's place is its number.
 use Rattle.std.specs.Prelude.{◌≡◌, ℕ, ◌<◌, ◌^◌, Bool, true, List, [], ◌∷◌, ◌++◌, Some, length, slice_get, nat_lt, if◌then◌else◌}
 use Rattle.std.specs.List.{list_all, list_any, position_or_len}
 
--- each number is below the limit
+-- is each number below the limit?
 abbrev pub are_below : ℕ → List ℕ → Bool
 are_below limit numbers = list_all (λ number. nat_lt number limit) numbers
 
--- no two nodes are equal, each stands behind its children, and there are fewer than 4,294,967,296
+-- no two nodes are equal, each stands behind its children, and their count fits in 32 bits
 pub record IsPool {N : Type 0} (kids : N → List ℕ) (nodes : List N) : Type 0 where
   pub once : (i j : ℕ) (node : N) → slice_get nodes i ≡ Some node → slice_get nodes j ≡ Some node → i ≡ j
   pub behind : (id : ℕ) (node : N) → slice_get nodes id ≡ Some node → are_below id (kids node) ≡ true
   pub few : length nodes < 2 ^ 32
 
 module _ {N : Type 0} (eq : N → N → Bool) (nodes : List N) (node : N) where
-  -- the nodes with this one, at the end where it is new
+  -- the nodes with this one, which is appended if it is new
   abbrev pub with_node : List N
   with_node = if list_any (eq node) nodes then nodes else nodes ++ node ∷ []
 
@@ -21,7 +21,7 @@ module _ {N : Type 0} (eq : N → N → Bool) (nodes : List N) (node : N) where
   abbrev pub number_of : ℕ
   number_of = position_or_len (eq node) nodes
 
--- the new list goes on from the old one
+-- the new list is the old one and more
 pub record Extends {N : Type 0} (old new : List N) : Type 0 where
   pub more : List N
   pub is : new ≡ old ++ more

@@ -1,11 +1,11 @@
-//! Shared nodes by number.
+//! A pool of shared nodes, each named by its number.
 #![tactic(auto)]
 
 mod node;
 mod pool;
 
 pub use node::{NodeId, PoolNode};
-pub use pool::Pool;
+pub use pool::{NODE_LIMIT, Pool};
 
 #[cfg(test)]
 mod tests;

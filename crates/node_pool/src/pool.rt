@@ -1,3 +1,4 @@
+//! A pool of nodes.
 ghost use Rattle.std.specs.Prelude.{◌≡◌, ◌<◌, ◌^◌, List, [], length, slice_get, Some, true, IfOk, OnOk, OnErr};
 ghost use Rattle.node_pool.specs.Pools.{are_below, IsPool, with_node, number_of, Extends};
 
@@ -7,7 +8,10 @@ use std::alloc::Global;
 use std::marker::Model;
 use tap_base::Memory;
 
-/// Nodes that stay, each one once and behind its children. A node's number is its place.
+/// How many nodes a pool may have at most: a count of nodes fits in 32 bits.
+pub const NODE_LIMIT: u32 = 4294967295;
+
+/// A list of nodes that only grows: no two nodes are equal, and each stands behind its children. A node's number is its place.
 #[derive(Drop)]
 pub struct Pool<N: PoolNode + Drop> {
     nodes: IndexSet<N>,
@@ -25,7 +29,7 @@ impl<N: PoolNode + Drop> Model for Pool<N> {
 }
 
 impl<N: PoolNode + Drop> Pool<N> {
-    /// No nodes.
+    /// Returns a pool without nodes.
     pub fn new(alloc: Global) -> Pool<N>
         ensures { result ≡ [] }
     {
@@ -34,11 +38,11 @@ impl<N: PoolNode + Drop> Pool<N> {
         }
     }
 
-    /// The number of the equal node where there is one, else the next number, under which the node is then kept. The
-    /// nodes that are there stay as they are, and `Memory` leaves the pool as it was.
+    /// Returns the number of the equal node if the pool has one; else appends the node and returns its new number. The other
+    /// nodes are unchanged. Fails with `Memory` when out of memory, and the pool is unchanged then.
     pub fn intern(&mut self, node: N) -> Result<NodeId, Memory>
         requires kids { are_below (length self.old) (N.kids node) ≡ true }
-        requires room { length self.old < 4294967295 }
+        requires room { length self.old < NODE_LIMIT }
         ensures nodes { OnOk result (self.new ≡ with_node N.eq self.old node) }
         ensures number { IfOk result (λ id. id.0 ≡ number_of N.eq self.old node) }
         ensures found { IfOk result (λ id. slice_get self.new id.0 ≡ Some node) }
@@ -50,7 +54,7 @@ impl<N: PoolNode + Drop> Pool<N> {
         Ok(NodeId(index as u32))
     }
 
-    /// The node of this number.
+    /// Returns the node of this number.
     pub fn get(&self, id: NodeId) -> &N
         requires { id.0 < length self.now }
         ensures node { slice_get self.now id.0 ≡ Some result.now }
@@ -59,7 +63,7 @@ impl<N: PoolNode + Drop> Pool<N> {
         &self.nodes.as_slice()[id.0 as usize]
     }
 
-    /// How many nodes there are. No two are equal, and each stands behind its children.
+    /// Returns how many nodes there are.
     pub fn len(&self) -> u32
         ensures value { result ≡ length self.now }
         ensures is_pool { IsPool N.kids self.now }

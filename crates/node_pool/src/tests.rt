@@ -1,3 +1,4 @@
+//! Tests of a pool at a concrete type of nodes.
 ghost use Rattle.std.specs.Prelude.{◌≡◌, true, [], IfOk, OnOk, ◌≤◌, ◌+◌, length};
 ghost use Rattle.node_pool.specs.Pools.{are_below};
 
@@ -26,7 +27,10 @@ impl PoolNode for Part {
         }
     }
 
-    ghost exact = { elim [ Leaf n ↦ elim [ Leaf k ↦ λ h. ap Leaf (eqb-true n k h) | Not k ↦ λ h. absurd (false≢true h) ] | Not x ↦ elim [ Leaf k ↦ λ h. absurd (false≢true h) | Not y ↦ λ h. ap (λ i. Not (record { 0 = i })) (eqb-true x.0 y.0 h) ] ] };
+    ghost exact = { elim [
+      | Leaf n ↦ elim [ Leaf k ↦ λ h. ap Leaf (eqb-true n k h) | Not k ↦ λ h. absurd (false≢true h) ]
+      | Not x ↦ elim [ Leaf k ↦ λ h. absurd (false≢true h) | Not y ↦ λ h. ap (λ i. Not (record { 0 = i })) (eqb-true x.0 y.0 h) ]
+    ] };
 }
 
 #[test]
