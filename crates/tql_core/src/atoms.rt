@@ -11,8 +11,8 @@ use crate::{Atom, Env, ListField, NumExpr, NumField, RowRef, TextExpr, TextField
 use std::cmp::Ordering;
 use tap_base::{Op, Text, Texts};
 
-// Does the comparison hold?
-fn compares(op: Op, x: i128, y: i128) -> bool
+/// Returns whether the comparison of the two numbers holds.
+pub fn compares(op: Op, x: i128, y: i128) -> bool
     ensures { result ≡ compare op x y }
 {
     match op {

@@ -2,7 +2,7 @@ ghost use Rattle.std.specs.Prelude.{◌≡◌, ◌≤ℤ◌, ℤ, pos, negsuc, n
 ghost use Rattle.std.specs.Option.{option_copied};
 ghost use Rattle.tap_base.specs.Numbers.{moment_of};
 ghost use Rattle.tql_core.specs.Condition.{condition};
-ghost use Rattle.tql_core.specs.Values.{round_up_to_day, compare};
+ghost use Rattle.tql_core.specs.Values.{round_up_to_day};
 ghost use Rattle.tql_types.specs.Spans.{amount_of};
 ghost use Rattle.tql_types.specs.Clocks.{base_of, base_in, clock_of, later, day, day_of_term, turned, half_line, now_core, today_core, constant, times_core};
 ghost use Rattle.tql_types.specs.Bounds.{IsNearClock};
@@ -14,7 +14,7 @@ use crate::sort::variable_field;
 use crate::spans::shift_amount;
 use std::alloc::Global;
 use tap_base::{Memory, Op, read_moment};
-use tql_core::{Atom, Base, Cond, Term, Var};
+use tql_core::{Atom, Base, Cond, Term, Var, compares};
 use tql_tree::{Expr, Shift};
 
 /// A time, or now or today and how many seconds they are shifted.
@@ -212,25 +212,11 @@ fn today_condition(alloc: Global, op: Op, a: i64, term: Term) -> Result<Cond, Me
     compare_now(alloc, op, first_day(at), first_day(next_second(at)))
 }
 
-// Does the comparison of two numbers hold?
-fn holds(op: Op, a: i64, b: i64) -> bool
-    ensures { result ≡ compare op a b }
-{
-    match op {
-        Op::Eq => a == b,
-        Op::Ne => a != b,
-        Op::Lt => a < b,
-        Op::Le => a <= b,
-        Op::Gt => a > b,
-        Op::Ge => a >= b,
-    }
-}
-
 // The truth of two numbers compared.
 fn constant_condition(op: Op, a: i64, b: i64) -> Cond
     ensures { condition result ≡ constant op a b }
 {
-    if holds(op, a, b) {
+    if compares(op, i128::from(a), i128::from(b)) {
         Cond::True
     } else {
         Cond::False
