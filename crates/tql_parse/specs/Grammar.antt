@@ -101,3 +101,8 @@ pub record UnexpectedAt (n : ℕ) (ts : List Token) (place : ℕ) : Type 0 where
   pub place_is : place ≡ at.place
   pub begins : Begins n before
   pub stops : (m : ℕ) → Begins m (before ++ at ∷ []) → ⊥
+
+-- The tokens begin a query, and are none.
+pub record EndsEarly (n : ℕ) (ts : List Token) : Type 0 where
+  pub begins : Begins n ts
+  pub is_none : (x : Syntax) → IsQuery n ts x → ⊥

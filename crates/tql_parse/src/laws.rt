@@ -4,6 +4,7 @@ ghost use Rattle.std.specs.Prelude.{◌≡◌, ℕ, List};
 ghost use Rattle.tql_tree.specs.Syntax.{Syntax};
 ghost use Rattle.tql_lex.specs.declared.token.Token.{Token as TheToken};
 ghost use Rattle.tql_parse.specs.Grammar.{IsQuery};
+ghost use Rattle.tql_parse.specs.Laws.{TokensAreReadByGrammar};
 ghost use Rattle.tql_parse.specs.RoundTrip.{ReadsBack};
 
 /// Tokens are at most one query, however many levels it has.
@@ -15,4 +16,10 @@ pub fn one_tree()
 /// again, places aside.
 pub fn canonical_text_reads_back()
     ensures { ReadsBack }
+{}
+
+/// Reading tokens from left to right gives a tree if and only if the grammar does, and each fault if and only if its
+/// definition holds.
+pub fn tokens_are_read_by_the_grammar()
+    ensures { TokensAreReadByGrammar }
 {}
