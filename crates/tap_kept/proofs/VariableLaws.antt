@@ -27,7 +27,6 @@ use Rattle.tql_types.specs.declared.sort.Sort.TheVariants.{Number, Text, Time, L
 use Rattle.tql_types.specs.declared.clock.Clock.{Clock}
 use Rattle.tql_types.specs.declared.clock.Clock.TheVariants as K
 use Rattle.tql_types.specs.declared.fault.TypeFault.{TypeFault}
-use Rattle.tql_types.specs.declared.checker.TheConstants.{NODE_LIMIT}
 use Rattle.tql_types.specs.Scopes.{variable_named, first_scope, next_variable, variables_after}
 use Rattle.tql_types.specs.Faults.{sooner, place_of}
 use Rattle.tql_types.specs.Sorts.{field_in, sort_of}
@@ -168,7 +167,7 @@ ok c = Ok c
 typed-parts : (fault : Option TypeFault) (c x : Condition) → unless_fault fault c ≡ Ok x → (fault ≡ None) × (c ≡ x)
 typed-parts (Some f) c x e = absurd cc
 typed-parts None c x e =
-    elim (cases_Bool (nat_le (nodes c) NODE_LIMIT)) [
+    elim (cases_Bool (nat_le (nodes c) 128)) [
       | inl y ↦ (refl, ok-same (rw y at e))
       | inr n ↦ absurd (err-ok (rw n at e))
     ]

@@ -30,7 +30,6 @@ use Rattle.tql_types.specs.Faults.{sooner, place_of}
 use Rattle.tql_types.specs.Sorts.{field_in, sort_of}
 use Rattle.tql_types.specs.Clocks.{base_of, base_in, clock_of, later, day, day_of_term, turned, half_line, times_core}
 use Rattle.tql_types.specs.Core.{binder_fault, inner_scope, first_fault, num_field, num_of, text_field, text_of, lowered, has_field, has_core, compare_core, core, nodes, unless_fault, typed}
-use Rattle.tql_types.specs.declared.checker.TheConstants.{NODE_LIMIT}
 
 -- the numbers of a scope's variables are among these
 abbrev Knows : List Variable → List ℕ → Type 0
@@ -284,7 +283,7 @@ ok c = Ok c
 pub typed-parts : (fault : Option TypeFault) (c x : Condition) → unless_fault fault c ≡ Ok x → (fault ≡ None) × (c ≡ x)
 typed-parts (Some f) c x e = absurd cc
 typed-parts None c x e =
-    elim (cases_Bool (nat_le (nodes c) NODE_LIMIT)) [
+    elim (cases_Bool (nat_le (nodes c) 128)) [
       | inl y ↦ (refl, ok-same (rw y at e))
       | inr n ↦ absurd (err-ok (rw n at e))
     ]

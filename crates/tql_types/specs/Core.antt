@@ -20,7 +20,6 @@ use Rattle.tql_types.specs.declared.sort.Sort.{Sort}
 use Rattle.tql_types.specs.declared.sort.Sort.TheVariants.{Number, Text}
 use Rattle.tql_types.specs.declared.fault.TypeFault.{TypeFault}
 use Rattle.tql_types.specs.declared.fault.TypeFault.TheVariants.{Shadow, ManyVars, ManyNodes}
-use Rattle.tql_types.specs.declared.checker.TheConstants.{NODE_LIMIT}
 use Rattle.tql_types.specs.Scopes.{variable_named, first_scope, entered, next_variable, variables_after}
 use Rattle.tql_types.specs.Faults.{sooner}
 use Rattle.tql_types.specs.Sorts.{field_in, expr_fault, sort_of, comparable, holdable, clash}
@@ -113,9 +112,9 @@ nodes (Plain a) = 1
 nodes (NowAtLeast e) = 1
 nodes (NowBefore e) = 1
 
--- the condition, if it is not too large
+-- the condition, if it has at most 128 nodes
 abbrev pub sized : Condition → Result Condition TypeFault
-sized condition = if nat_le (nodes condition) NODE_LIMIT then Ok condition else Err ManyNodes
+sized condition = if nat_le (nodes condition) 128 then Ok condition else Err ManyNodes
 
 -- the condition, or the fault where there is one
 abbrev pub unless_fault : Option TypeFault → Condition → Result Condition TypeFault

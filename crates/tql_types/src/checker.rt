@@ -1,5 +1,4 @@
 ghost use Rattle.std.specs.Prelude.{◌≡◌, ◌^◌, ◌-◌, ◌+◌, IfOk, min, not, nat_le};
-ghost use Rattle.tql_types.specs.declared.checker.TheConstants.{NODE_LIMIT};
 ghost use Rattle.tql_tree.specs.Syntax.{syntax};
 ghost use Rattle.tql_core.specs.Condition.{condition};
 ghost use Rattle.tql_types.specs.Core.{first_fault, nodes, typed};
@@ -91,7 +90,7 @@ fn count_nodes(cond: &Cond) -> u64
 
 // Has the condition more nodes than it may?
 fn is_too_large(cond: &Cond) -> bool
-    ensures { result ≡ not (nat_le (nodes (condition cond.now)) NODE_LIMIT) }
+    ensures { result ≡ not (nat_le (nodes (condition cond.now)) 128) }
 {
     count_nodes(cond) > NODE_LIMIT
 }
