@@ -105,9 +105,9 @@ ends_early n ts h = record { begins = ended_begins n ts h; is_none = ended_none 
 
 pub read_by_grammar : (n : ℕ) (ts : List Token) → IsReadByGrammar n ts
 read_by_grammar n ts = record {
-    tree = λ x. (found n ts x, query_is n ts x);
-    unexpected = λ p. (first_unexpected n ts p, λ u. unexpected_is n ts p u (query_at n ts) refl);
-    deep = λ p. (first_deep n ts p, λ d. deep_is n ts p d (query_at n ts) refl);
-    ended = (ends_early n ts, λ e. ended_is n ts e (query_at n ts) refl);
-    no_memory = no_memory n ts
-  }
+  tree = λ x. (found n ts x, query_is n ts x);
+  unexpected = λ p. (first_unexpected n ts p, λ u. unexpected_is n ts p u (query_at n ts) refl);
+  deep = λ p. (first_deep n ts p, λ d. deep_is n ts p d (query_at n ts) refl);
+  ended = (ends_early n ts, λ e. ended_is n ts e (query_at n ts) refl);
+  no_memory = no_memory n ts;
+}

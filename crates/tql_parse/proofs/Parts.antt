@@ -30,7 +30,7 @@ use Rattle.tql_parse.specs.Grammar.{Begins, IsQuery}
 use Rattle.tql_parse.specs.Reading.{query_at, end_of}
 use Rattle.tql_parse.proofs.Chains.{Shrinks, same}
 use Rattle.tql_parse.proofs.Lengths.{unit_shrinks, conj_shrinks}
-use Rattle.tql_parse.proofs.Sound.{on_unit_at, on_cond}
+use Rattle.tql_parse.proofs.Soundness.{on_unit_at, on_cond}
 use Rattle.tql_parse.proofs.Complete.{no_shift}
 use Rattle.tql_parse.proofs.Queries.{query_ok}
 use Rattle.tql_parse.proofs.Units.{at_zero, at_suc, unit_end, unit_true}
