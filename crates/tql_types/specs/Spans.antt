@@ -22,12 +22,12 @@ abbrev pub span_fault : Option Shift → Option TypeFault
 span_fault None = None
 span_fault (Some shift) = if int_lt (pos 100000000000) (span_of shift) then Some (BigSpan shift.count_place) else None
 
--- a shift where none may stand
+-- the fault of a shift that may not stand here
 abbrev pub shift_fault : Option Shift → Option TypeFault
 shift_fault None = None
 shift_fault (Some shift) = Some (Clash shift.place)
 
--- so many seconds, if a duration may have them, and else none
+-- so many seconds if a duration may have them, and else 0
 abbrev pub kept_span : ℤ → ℤ
 kept_span n = if int_le (pos 0) n && int_le n (pos 100000000000) then n else pos 0
 
