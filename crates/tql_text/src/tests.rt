@@ -1,11 +1,12 @@
+//! Worked texts: their faults and their limits.
 use crate::{TextFault, read_condition};
-use std::alloc::{AllocError, Global};
+use std::alloc::Global;
 use std::test::Fail;
 use tql_lex::LexFault;
 use tql_parse::ParseFault;
 use tql_types::TypeFault;
 
-// Does the text have this fault?
+// Returns whether the text has this fault.
 fn has_fault(alloc: Global, text: &[u8], fault: TextFault) -> bool {
     match read_condition(alloc, text) {
         Ok(_) => false,
@@ -13,7 +14,7 @@ fn has_fault(alloc: Global, text: &[u8], fault: TextFault) -> bool {
     }
 }
 
-// Is the text a condition?
+// Returns whether the text is a condition.
 fn is_condition(alloc: Global, text: &[u8]) -> bool {
     read_condition(alloc, text).is_ok()
 }
@@ -145,7 +146,7 @@ fn limits_are_exact(rt: HostRuntime) -> Result<(), Fail> {
 }
 
 // Returns a chain of 64 TRUEs behind this front: 127 nodes, and those of the front.
-fn many_nodes(alloc: Global, front: &[u8]) -> Result<Vec<u8>, AllocError> {
+fn many_nodes(alloc: Global, front: &[u8]) -> Result<Vec<u8>, Fail> {
     let mut text = Vec::new(alloc);
     text.extend_from_slice(front)?;
     for _ in 0..63 {
