@@ -18,7 +18,7 @@ use Rattle.time_marks.specs.Probes.{guards_true}
 abbrev pub Keeps : List ℕ → Env → Env → Type 0
 Keeps scope env final = (k : ℕ) → In k scope → lookup (copied k) final ≡ lookup k env
 
--- both have the same for the variables in scope
+-- both have equal rows for the variables in scope
 abbrev pub Same : List ℕ → Env → Env → Type 0
 Same scope env final = (k : ℕ) → In k scope → lookup k final ≡ lookup k env
 

@@ -1,4 +1,4 @@
--- Which variables a condition may name, and where.
+-- The variables that a condition may name.
 use Rattle.std.specs.Prelude.{ℕ, ◌≤◌, List, [], ◌∷◌}
 use Rattle.tap_rows.specs.Kept.{In}
 use Rattle.tql_core.specs.declared.term.Base.{Base}
