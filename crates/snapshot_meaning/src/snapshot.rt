@@ -1,4 +1,5 @@
-ghost use Rattle.std.specs.Prelude.{◌≡◌, ◌+◌, ◌≤◌, ℤ, Some, length, map, int_le, ◌++◌, ◌∷◌, [], IfOk, OnOk};
+//! Asks a condition at a second from scratch.
+ghost use Rattle.std.specs.Prelude.{◌≡◌, ◌+◌, ◌≤◌, Some, length, map, int_le, ◌++◌, ◌∷◌, [], IfOk, OnOk};
 ghost use Rattle.tap_base.specs.declared.numbers.Op.TheVariants.{Le, Gt};
 ghost use Rattle.tap_rows.specs.Results.{snapshot, is_given};
 ghost use Rattle.tql_core.specs.Condition.{condition};
@@ -12,7 +13,7 @@ use tap_rows::{KeptDoc, Note};
 use tql_core::{Cond, Env, RowRef, Term, Var, true_atom, value};
 use tql_tree::Table;
 
-// Is the second at the term or later?
+// Returns whether the second is that of the term or later.
 fn is_at_least(term: Term, env: &Env, s: i64) -> bool
     ensures { result ≡ both Le (value term env.now) (Some s) }
 {
@@ -22,7 +23,7 @@ fn is_at_least(term: Term, env: &Env, s: i64) -> bool
     }
 }
 
-// Is the second before the term?
+// Returns whether the second is before that of the term.
 fn is_before(term: Term, env: &Env, s: i64) -> bool
     ensures { result ≡ both Gt (value term env.now) (Some s) }
 {
@@ -32,21 +33,21 @@ fn is_before(term: Term, env: &Env, s: i64) -> bool
     }
 }
 
-// Has the document arrived by this second?
+// Returns whether the document arrived by this second.
 fn has_doc_come(doc: &KeptDoc, s: i64) -> bool
     ensures { result ≡ int_le doc.now.arrival s }
 {
     doc.doc().arrival <= s
 }
 
-// Has the note arrived by this second?
+// Returns whether the note arrived by this second.
 fn has_note_come(note: &Note, s: i64) -> bool
     ensures { result ≡ int_le note.now.arrival s }
 {
     note.arrival <= s
 }
 
-/// The truth of a condition at a second, over the rows that have arrived by then. There must be room for its EXISTS
+/// Returns whether the condition holds at a second, over the rows that arrived by then. There must be room for its EXISTS
 /// variables in the environment, which has 16 places. It takes no memory.
 pub fn holds_at<'a>(
     cond: &'a Cond,
@@ -92,8 +93,8 @@ pub fn holds_at<'a>(
     }
 }
 
-/// Is the document given at this second: has it arrived by then, and does the condition hold of it over the rows that
-/// arrived by then? It takes no memory.
+/// Returns whether the document is given at this second: it arrived by then, and the condition holds of it over the rows
+/// that arrived by then. It takes no memory.
 pub fn is_doc_given<'a>(
     cond: &'a Cond,
     doc: &'a KeptDoc,
@@ -111,7 +112,7 @@ pub fn is_doc_given<'a>(
     holds_at(cond, &env, docs, notes, s)
 }
 
-// Appends the document's number, where it is given at this second.
+// Appends the document's number, if it is given at this second.
 fn add_given<'a>(
     cond: &'a Cond,
     doc: &'a KeptDoc,
@@ -129,8 +130,8 @@ fn add_given<'a>(
     Ok(())
 }
 
-/// The numbers of the documents that the condition gives at a second, in their order: each arrived by then, and the
-/// condition holds of it over the rows that arrived by then. `Memory` comes only for want of memory.
+/// Returns the numbers of the documents that the condition gives at a second, in their order: each arrived by then, and
+/// the condition holds of it over the rows that arrived by then. `Memory` if out of memory.
 pub fn gives<'a>(
     alloc: Global,
     cond: &'a Cond,

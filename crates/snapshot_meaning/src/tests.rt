@@ -1,3 +1,4 @@
+//! What a condition gives over no rows.
 use crate::gives;
 use tap_base::{Memory, Rows};
 use tql_core::Cond;

@@ -1,7 +1,6 @@
 -- The EXISTS of a condition that is read bind at most five variables.
-use Rattle.std.proofs.Common.{◌≡◌, ◌∙◌, ap, refl, arith, ℕ, ◌+◌, ◌≤◌, Bool, true, false, Option, Some, None, List, inl, inr, if◌then◌else◌}
-use Rattle.std.specs.Prelude.{nat_lt, nat_le, is_some, Result, Ok, Err}
-use Rattle.std.proofs.lemmas.Bool.{cases_Bool}
+use Rattle.std.proofs.Common.{◌≡◌, ◌∙◌, ap, refl, arith, ℕ, ◌+◌, ◌≤◌, Bool, true, false, Option, Some, None, List, if◌then◌else◌}
+use Rattle.std.specs.Prelude.{nat_lt, Result, Ok, Err}
 use Rattle.tap_base.specs.declared.numbers.Op.{Op}
 use Rattle.tap_base.specs.declared.numbers.Op.TheVariants.{Eq, Ne, Lt, Le, Gt, Ge}
 use Rattle.tql_lex.specs.declared.fault.LexFault.{LexFault}
@@ -17,7 +16,7 @@ use Rattle.tql_core.specs.declared.atom.TextExpr.{TextExpr}
 use Rattle.tql_core.specs.Condition.{Condition, Always, Never}
 use Rattle.tql_core.specs.Bounds.{are_bounded}
 use Rattle.tql_core.specs.Scope.{IsQuery}
-use Rattle.tql_types.proofs.ScopeLaws.{typed-is-query}
+use Rattle.tql_types.proofs.ScopeLaws.{none-parts, next-grows, after-grows, binder-fine, typed-parts, typed-is-query}
 use Rattle.tql_types.proofs.BoundLaws.{typed-bounded}
 use Rattle.tql_types.specs.declared.scope.Variable.{Variable}
 use Rattle.tql_types.specs.declared.field.Field.{Field}
@@ -27,27 +26,12 @@ use Rattle.tql_types.specs.declared.sort.Sort.TheVariants.{Number, Text, Time, L
 use Rattle.tql_types.specs.declared.clock.Clock.{Clock}
 use Rattle.tql_types.specs.declared.clock.Clock.TheVariants as K
 use Rattle.tql_types.specs.declared.fault.TypeFault.{TypeFault}
-use Rattle.tql_types.specs.declared.checker.TheConstants.{NODE_LIMIT}
 use Rattle.tql_types.specs.Scopes.{variable_named, first_scope, next_variable, variables_after}
-use Rattle.tql_types.specs.Faults.{sooner, place_of}
 use Rattle.tql_types.specs.Sorts.{field_in, sort_of}
 use Rattle.tql_types.specs.Clocks.{clock_of, turned, half_line, times_core}
-use Rattle.tql_types.specs.Core.{binder_fault, inner_scope, first_fault, text_of, lowered, has_field, has_core, compare_core, core, nodes, unless_fault, typed}
+use Rattle.tql_types.specs.Core.{binder_fault, inner_scope, first_fault, text_of, lowered, has_field, has_core, compare_core, core, typed}
 use Rattle.tql_text.specs.Texts.{of_typing, of_tree, of_tokens, condition_of}
 use Rattle.snapshot_meaning.specs.Seen.{exists_in}
-
-none-parts : (f g : Option TypeFault) → sooner f g ≡ None → (f ≡ None) × (g ≡ None)
-none-parts None None e = (refl, refl)
-none-parts None (Some g) e = absurd cc
-none-parts (Some f) None e = absurd cc
-none-parts (Some f) (Some g) e =
-    elim (cases_Bool (nat_le (place_of f) (place_of g))) [
-      | inl y ↦ absurd (some-none (rw y at e))
-      | inr n ↦ absurd (some-none (rw n at e))
-    ]
-  where
-    some-none : {f : TypeFault} → Some f ≡ None → ⊥
-    some-none e = cc
 
 half-none : (op : Op) (at next : Term) → exists_in (half_line op at next) ≡ 0
 half-none Ge at next = refl
@@ -98,37 +82,6 @@ has-none scope (E.Today place shift) text = refl
 has-none scope (E.Moment place moment shift) text = refl
 has-none scope (E.Field var var_place name place shift) text = field-none (variable_named var scope) (field_in (variable_named var scope) name) text
 
-next-grows : (count : ℕ) → count ≤ 6 → (count ≤ next_variable count) × (next_variable count ≤ 6)
-next-grows count le = elim (cases_Bool (nat_lt count 6)) [
-  | inl y ↦ rw y (omega arith, below count y)
-  | inr n ↦ rw n (le, omega arith)
-] where
-  below : (n : ℕ) → nat_lt n 6 ≡ true → n + 1 ≤ 6
-  below n h = grind arith
-
-after-grows : (count : ℕ) (s : Syntax) → count ≤ 6 → (count ≤ variables_after count s) × (variables_after count s ≤ 6)
-after-grows count True le = (omega arith, le)
-after-grows count False le = (omega arith, le)
-after-grows count (Or l r) le = let a = after-grows count l le in let b = after-grows (variables_after count l) r a.1 in (omega (arith, a.0, b.0), b.1)
-after-grows count (And l r) le = let a = after-grows count l le in let b = after-grows (variables_after count l) r a.1 in (omega (arith, a.0, b.0), b.1)
-after-grows count (Not x) le = after-grows count x le
-after-grows count (Exists name place table body) le = let a = next-grows count le in let b = after-grows (next_variable count) body a.1 in (omega (arith, a.0, b.0), b.1)
-after-grows count (Compare left op place right) le = (omega arith, le)
-after-grows count (Has left place right) le = (omega arith, le)
-
-binder-fine : (scope : List Variable) (count : ℕ) (name : List ℕ) (place : ℕ) → binder_fault scope count name place ≡ None → nat_lt count 6 ≡ true
-binder-fine scope count name place e =
-    elim (cases_Bool (is_some (variable_named name scope))) [
-      | inl y ↦ absurd (some-none (rw y at e))
-      | inr n ↦ elim (cases_Bool (nat_lt count 6)) [
-        | inl y ↦ y
-        | inr m ↦ absurd (some-none (rw (n, m) at e))
-      ]
-    ]
-  where
-    some-none : {f : TypeFault} → Some f ≡ None → ⊥
-    some-none e = cc
-
 up : (n : ℕ) → nat_lt n 6 ≡ true → next_variable n ≡ n + 1
 up n h = rw h refl
 
@@ -161,23 +114,6 @@ within scope count (Exists name place table body) high fine =
     (within inner (next_variable count) body (next-grows count high).1 parts.1)
 within scope count (Compare left op place right) high fine = none-within (exists_in (compare_core (sort_of scope left) scope left op right)) count (compare-none (sort_of scope left) scope left op right)
 within scope count (Has left place right) high fine = none-within (exists_in (has_core scope left (lowered (text_of scope right)))) count (has-none scope left (lowered (text_of scope right)))
-
-abbrev ok : Condition → Result Condition TypeFault
-ok c = Ok c
-
-typed-parts : (fault : Option TypeFault) (c x : Condition) → unless_fault fault c ≡ Ok x → (fault ≡ None) × (c ≡ x)
-typed-parts (Some f) c x e = absurd cc
-typed-parts None c x e =
-    elim (cases_Bool (nat_le (nodes c) NODE_LIMIT)) [
-      | inl y ↦ (refl, ok-same (rw y at e))
-      | inr n ↦ absurd (err-ok (rw n at e))
-    ]
-  where
-    ok-same : {a b : Condition} → ok a ≡ ok b → a ≡ b
-    ok-same e = cc
-
-    err-ok : {f : TypeFault} {b : Condition} → Err f ≡ Ok b → ⊥
-    err-ok e = cc
 
 typed-few : (s : Syntax) (c : Condition) → typed s ≡ Ok c → exists_in c ≤ 5
 typed-few s c e =

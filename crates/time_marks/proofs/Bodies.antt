@@ -1,4 +1,4 @@
--- A body at a mark is true just where its condition holds at the mark's value.
+-- A body at a mark is true if and only if its condition holds at the mark's value.
 use Rattle.std.proofs.Common.{◌≡◌, ℕ, ℤ, pos, not, Option, Some, None, List, ◌∷◌, refl, sym, ap, ◌∙◌}
 use Rattle.std.specs.Prelude.{◌&&◌, int_le}
 use Rattle.tql_core.specs.declared.term.Var.{Var}

@@ -85,7 +85,7 @@ module _ (T : Tables) (s : ℤ) where
       }
 
 module _ (T : Tables) (u s : ℤ) (next : s ≡ u +ℤ pos 1) where
-  -- the truth of a condition changes only where a mark of the change's sign has the value s
+  -- the truth of a condition changes only if a mark of the change's sign has the value s
   pub crossing : (c : Condition) (up : Bool) (scope : List ℕ) (env penv : Env) → Scoped scope c → Keeps scope env penv → truth (visible T u) u c env ≡ not up → truth (visible T s) s c env ≡ up → Crossed T s scope env penv (marks c up)
   crossing Always up scope env penv sc h a b = absurd (no_change up true a b)
   crossing Never up scope env penv sc h a b = absurd (no_change up false a b)

@@ -32,7 +32,7 @@ in_any p [] x i h = absurd i
 in_any p (y ∷ ys) x (inl e) h = or_left (p y) (list_any p ys) (ap p (sym e) ∙ h)
 in_any p (y ∷ ys) x (inr i) h = or_right (p y) (list_any p ys) (in_any p ys x i h)
 
--- each element fails where none passes
+-- if none passes, each element fails
 pub none_in : {A : Type 0} (p : A → Bool) (xs : List A) (x : A) → list_any p xs ≡ false → In x xs → p x ≡ false
 none_in p xs x h i =
     elim (cases_Bool (p x)) [ inl e ↦ absurd (both_ways _ h (in_any p xs x i e)) | inr e ↦ e ]
@@ -100,7 +100,7 @@ visible_in t T s p h =
     let b = and_parts (int_le (arrival a.0) s) (p a.0) a.2 in
     (a.0, a.1, b.0, b.1)
 
--- each visible row fails where none passes
+-- if none passes, each visible row fails
 pub visible_none : (t : Table) (T : Tables) (s : ℤ) (p : Row → Bool) → list_any p (rows_of t (visible T s)) ≡ false → (r : Row) → In r (rows_of t T) → int_le (arrival r) s ≡ true → p r ≡ false
 visible_none t T s p h r i e =
     let n = none_in (λ r. int_le (arrival r) s && p r) (rows_of t T) r (sym (any_visible t T s p) ∙ h) i in

@@ -5,14 +5,14 @@ use Rattle.std.proofs.lemmas.Int.{ints}
 use Rattle.std.proofs.lemmas.Bool.{cases_Bool, both_ways}
 use Rattle.tap_rows.specs.Seconds.{first_from}
 
--- reached in just this second
+-- reached in this second
 pub reached : (u s x : ℤ) → s ≡ u +ℤ pos 1 → int_le x u ≡ false → int_le x s ≡ true → x ≡ s
 reached u s x n a b = grind (arith, ints)
 
 pub still : (u s x : ℤ) → s ≡ u +ℤ pos 1 → int_le x u ≡ true → int_le x s ≡ true
 still u s x n a = grind (arith, ints)
 
--- passed in just this second
+-- passed in this second
 pub passed : (u s x : ℤ) → s ≡ u +ℤ pos 1 → int_lt u x ≡ true → int_lt s x ≡ false → x ≡ s
 passed u s x n a b = grind (arith, ints)
 
@@ -22,7 +22,7 @@ not_back u s x n a = grind (arith, ints)
 pub le_self : (s x : ℤ) → x ≡ s → int_le x s ≡ true
 le_self s x e = grind (arith, ints)
 
--- two tests have the same first number, where whatever passes the second passes the first, and the first begins or turns true only where the second is true
+-- two tests have one first number, if what passes the second passes the first, and the first begins or turns true only with the second
 pub first_same : (p q : ℤ → Bool) (n : ℕ) (a : ℤ) → (p a ≡ true → q a ≡ true) → ((x : ℤ) → q x ≡ true → p x ≡ true) → ((u x : ℤ) → x ≡ u +ℤ pos 1 → p u ≡ false → p x ≡ true → q x ≡ true) → first_from p n a ≡ first_from q n a
 first_same p q zero a st back up = refl
 first_same p q (suc n) a st back up =

@@ -46,7 +46,7 @@ round_up_to_day-day (negsuc n) = record {
   near = omega (arith, ints);
 }
 
--- an end is reached just where its day is
+-- a second reaches an end if and only if its day reaches the day of the end
 day-low : (a x a' x' : ℤ) → IsDay a a' → IsDay x x' → int_le (a' -ℤ pos 86399) x ≡ int_le a x'
 day-low a x a' x' d e =
     by_lt_z x' a

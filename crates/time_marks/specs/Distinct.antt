@@ -12,14 +12,14 @@ use Rattle.time_marks.specs.declared.window.Window.{Window}
 use Rattle.time_marks.specs.Probes.{Probe, window_meaning, meaning_without}
 
 module _ {A : Type 0} (same : A → A → Bool) where
-  -- the kept ones with one more, unless it equals one of them
+  -- the list with one more at its end, unless it equals one of them
   abbrev pub kept_with : List A → A → List A
-  kept_with kept x = if list_any (same x) kept then kept else kept ++ x ∷ []
+  kept_with xs x = if list_any (same x) xs then xs else xs ++ x ∷ []
 
-  -- those kept, and then each that equals none before it
+  -- the first list, and then each of the second that equals none before it
   abbrev pub distinct_onto : List A → List A → List A
-  distinct_onto kept [] = kept
-  distinct_onto kept (x ∷ xs) = distinct_onto (kept_with kept x) xs
+  distinct_onto front [] = front
+  distinct_onto front (x ∷ xs) = distinct_onto (kept_with front x) xs
 
   -- the list without each that equals an earlier one
   abbrev pub distinct : List A → List A
@@ -29,7 +29,7 @@ module _ {A : Type 0} (same : A → A → Bool) where
 abbrev pub same_probe : Probe → Probe → Bool
 same_probe p q = pointwise step.ghosts.eq p.path q.path && (term.ghosts.eq p.at q.at && same_condition p.body q.body)
 
--- the test is true just of equal probes
+-- the test is true if and only if the probes are equal
 abbrev pub SameProbeIsEqual : Type 0
 SameProbeIsEqual = (p q : Probe) → ((same_probe p q ≡ true) ↔ (p ≡ q))
 

@@ -22,9 +22,11 @@ abbrev pub copied : ℕ → ℕ
 copied zero = 0
 copied (suc k) = suc k + 8
 
+-- a variable's path copy
 abbrev pub copy : Var → Var
 copy v = record { 0 = copied v.0 }
 
+-- a base with the copy of its variable
 abbrev pub copy_base : Base → Base
 copy_base (Arrival v) = Arrival (copy v)
 copy_base (Date v) = Date (copy v)
@@ -32,29 +34,34 @@ copy_base Fixed = Fixed
 copy_base (ArrivalDay v n) = ArrivalDay (copy v) n
 copy_base (DateDay v n) = DateDay (copy v) n
 
+-- a term with the copy of its variable
 abbrev pub copy_term : Term → Term
 copy_term e = record { base = copy_base e.base; plus = e.plus }
 
+-- a number with the copy of its variable
 abbrev pub copy_number : NumExpr → NumExpr
 copy_number (Literal n) = Literal n
 copy_number (Field v f) = Field (copy v) f
 
+-- a text with the copy of its variable
 abbrev pub copy_text : TextExpr → TextExpr
 copy_text (X.Literal t) = X.Literal t
 copy_text (X.Field v f) = X.Field (copy v) f
 
+-- an atom with the copies of its variables
 abbrev pub copy_atom : Atom → Atom
 copy_atom (Numbers x op y) = Numbers (copy_number x) op (copy_number y)
 copy_atom (Texts x op y) = Texts (copy_text x) op (copy_text y)
-copy_atom (Has v f y) = Has (copy v) f (copy_text y)
 copy_atom (Times x op y) = Times (copy_term x) op (copy_term y)
+copy_atom (Has v f y) = Has (copy v) f (copy_text y)
 
--- the atoms that are true wherever the condition is
+-- atoms that are true if the condition is
 abbrev pub guards_of : Condition → List Atom
 guards_of (Plain a) = a ∷ []
 guards_of (All l r) = guards_of l ++ guards_of r
 guards_of _ = []
 
+-- the arrival of a variable's row
 abbrev pub arrival_term : Var → Term
 arrival_term v = record { base = Arrival v; plus = pos 0 }
 
@@ -70,12 +77,12 @@ under_step step mark = record { path = step ∷ mark.path; at = mark.at }
 abbrev pub below : List Step → Mark → Mark
 below path mark = record { path = path ++ mark.path; at = mark.at }
 
--- the term as a mark with no path, where the flag is set
+-- the term as a mark with no path, if the flag is set
 abbrev pub mark_if : Bool → Term → List Mark
 mark_if true e = record { path = []; at = e } ∷ []
 mark_if false e = []
 
--- the marks of sign plus (true), where the condition can become true, or of sign minus (false), where it can become false
+-- the marks of sign plus (true), at which the condition can become true, or of sign minus (false), at which it can become false
 abbrev pub marks : Condition → Bool → List Mark
 marks Always up = []
 marks Never up = []
@@ -87,6 +94,7 @@ marks (Either l r) up = marks l up ++ marks r up
 marks (Not x) up = marks x (not up)
 marks (Exists v t x) up = map (under_step (step_of v t x)) (mark_if up (arrival_term (copy v)) ++ marks x up)
 
+-- m, the document that is asked about
 abbrev pub document_var : Var
 document_var = record { 0 = 0 }
 
@@ -94,10 +102,11 @@ document_var = record { 0 = 0 }
 abbrev pub rising : Condition → List Mark
 rising c = map (under_step (step_of document_var Docs c)) (mark_if true (arrival_term document_var) ++ marks c true)
 
+-- a fixed second
 abbrev pub fixed_term : ℤ → Term
 fixed_term a = record { base = Fixed; plus = a }
 
--- the marks below the first step: the rising ones, and the start where it is above 0
+-- the marks below the first step: the rising ones, and the start if it is above 0
 abbrev pub marks_from : Condition → ℤ → List Mark
 marks_from c a = (mark_if true (arrival_term document_var) ++ marks c true) ++ mark_if (int_lt (pos 0) a) (fixed_term a)
 

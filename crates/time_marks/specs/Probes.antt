@@ -30,7 +30,7 @@ abbrev pub some_rows : Tables → Doc → List Step → Env → (Env → Bool) �
 some_rows T d [] env test = test env
 some_rows T d (step ∷ path) env test = list_any (λ r. some_rows T d path (bind step.var r env) test) (choices T d step)
 
--- is the second there, and this one?
+-- is the second there, and is it this one?
 abbrev pub is_value : Option ℤ → ℤ → Bool
 is_value None b = false
 is_value (Some x) b = int_eq x b
@@ -39,11 +39,11 @@ is_value (Some x) b = int_eq x b
 abbrev pub guards_true : List Step → Env → Bool
 guards_true path env = list_all (λ step. list_all (λ a. true_atom a env) step.guards) path
 
--- the rows of the path have come by b
+-- the rows of the path arrived by b
 abbrev pub come_by : ℤ → Env → Bool
 come_by b env = list_all (λ bound. int_le (arrival bound.row) b) env
 
--- the body is evaluated over all rows. It has no now, so the 0 is never looked at
+-- the rows of env make the probe true at b; the body speaks of no now, so its second 0 doesn't matter
 abbrev pub fits : Probe → Tables → ℤ → Env → Bool
 fits p T b env = guards_true p.path env && is_value (value p.at env) b && come_by b env && truth T (pos 0) p.body env
 
@@ -51,7 +51,7 @@ fits p T b env = guards_true p.path env && is_value (value p.at env) b && come_b
 abbrev pub finds : Tables → Doc → ℤ → Probe → Bool
 finds T d b p = some_rows T d p.path [] (fits p T b)
 
--- some probe does
+-- some probe finds the document with the mark b
 abbrev pub found : List Probe → Tables → Doc → ℤ → Bool
 found X T d b = list_any (finds T d b) X
 
@@ -63,6 +63,6 @@ least X T d w = least_second (found X T d) w.low w.high
 abbrev pub window_meaning : List Probe → Tables → Window → List Hit
 window_meaning X T w = hits_by (λ d. least X T d w) T.docs
 
--- the same, without some documents
+-- the documents that some probe finds in the window, without those that were seen
 abbrev pub meaning_without : (Doc → Bool) → List Probe → Tables → Window → List Hit
 meaning_without seen X T w = hits_by (λ d. least X T d w) (filter (λ d. not (seen d)) T.docs)

@@ -11,6 +11,7 @@ use Rattle.time_marks.specs.declared.seek.Seek.TheVariants.{Arrived, Dated, Fixe
 use Rattle.time_marks.specs.declared.window.Window.{Window}
 use Rattle.time_marks.specs.Windows.{is_within, moved, days_window}
 
+-- the seek of a mark with this base
 abbrev pub seek_from : Base → ℤ → Seek
 seek_from (B.Arrival v) plus = Arrived v plus
 seek_from (B.Date v) plus = Dated v plus
@@ -22,6 +23,7 @@ seek_from (B.DateDay v n) plus = DatedDay v n
 abbrev pub seek_of : Term → Seek
 seek_of e = seek_from e.base e.plus
 
+-- the seconds that a seek adds to the stored second
 abbrev pub seek_plus : Seek → ℤ
 seek_plus (Arrived v n) = n
 seek_plus (Dated v n) = n
@@ -58,6 +60,8 @@ abbrev pub lies_in : Window → Option ℤ → Bool
 lies_in w None = false
 lies_in w (Some x) = is_within w x
 
--- a mark lies in a window just where the stored second lies in the seek's window
+-- a mark lies in a window if and only if the stored second lies in the seek's window
 abbrev pub SeeksSolveMarks : Type 0
-SeeksSolveMarks = (e : Term) (w : Window) (env : Env) → is_bounded e ≡ true → lies_in w (value e env) ≡ lies_in (seek_window w (seek_of e)) (stored (seek_of e) env)
+SeeksSolveMarks =
+    (e : Term) (w : Window) (env : Env) → is_bounded e ≡ true
+    → lies_in w (value e env) ≡ lies_in (seek_window w (seek_of e)) (stored (seek_of e) env)

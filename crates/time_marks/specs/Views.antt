@@ -7,10 +7,11 @@ use Rattle.time_marks.specs.declared.window_query.WindowQuery.{WindowQuery}
 use Rattle.time_marks.specs.declared.ranged_query.RangedQuery.{RangedQuery}
 use Rattle.time_marks.specs.Probes.{Probe}
 
--- a probe, as every definition and law reads it: its body is what the pool says at its number
+-- a probe, as every definition and law reads it: its body is the pool's condition at its number
 abbrev pub probe_in : List TNode → CodeProbe → Probe
 probe_in nodes p = record { path = p.path; at = p.at; body = tree_at nodes p.body.0 }
 
+-- the probes of a list
 abbrev pub probes_in : List TNode → List CodeProbe → List Probe
 probes_in nodes probes = map (probe_in nodes) probes
 

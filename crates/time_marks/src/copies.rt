@@ -1,3 +1,4 @@
+//! Copies of terms and atoms for a path.
 ghost use Rattle.std.specs.Prelude.{◌≡◌, ◌≤◌, IfOk};
 ghost use Rattle.time_marks.specs.Marks.{copy, copy_base, copy_term, copy_number, copy_text, copy_atom, arrival_term};
 ghost use Rattle.tql_core.specs.Scope.{BaseFits, NumFits, TextFits, AtomFits};
@@ -5,15 +6,23 @@ ghost use Rattle.tql_core.specs.Scope.{BaseFits, NumFits, TextFits, AtomFits};
 use tap_base::Memory;
 use tql_core::{Atom, Base, NumExpr, Term, TextExpr, Var};
 
-// The variable's copy in a path.
+// What is added to a variable's number for its copy in a path.
+const COPY_OFFSET: u8 = 8;
+
+// Returns the variable's copy in a path; `m` is its own copy.
 pub(crate) fn copy(var: Var) -> Var
     requires { var.0 ≤ 5 }
     ensures { result ≡ copy var }
 {
-    if var.0 == 0 { Var(0) } else { Var(var.0 + 8) }
+    if var.0 == 0 {
+        Var(0)
+    } else {
+        // A path's copies come behind all variables of a query, which are at most 5.
+        Var(var.0 + COPY_OFFSET)
+    }
 }
 
-// The arrival of a variable's row.
+// Returns the arrival of a variable's row as a time.
 pub(crate) fn arrival_term(var: Var) -> Term
     ensures { result ≡ arrival_term var }
 {
@@ -23,7 +32,7 @@ pub(crate) fn arrival_term(var: Var) -> Term
     }
 }
 
-// The base, of the path copies.
+// Returns the base with the copy of its variable.
 fn copy_base(base: Base) -> Base
     requires { BaseFits base }
     ensures { result ≡ copy_base base }
@@ -37,7 +46,7 @@ fn copy_base(base: Base) -> Base
     }
 }
 
-// The term, of the path copies.
+// Returns the term with the copy of its variable.
 pub(crate) fn copy_term(term: &Term) -> Term
     requires { BaseFits term.now.base }
     ensures { result ≡ copy_term term.now }
@@ -48,7 +57,7 @@ pub(crate) fn copy_term(term: &Term) -> Term
     }
 }
 
-// The number, of the path copies.
+// Returns the number with the copy of its variable.
 fn copy_number(x: NumExpr) -> NumExpr
     requires { NumFits x }
     ensures { result ≡ copy_number x }
@@ -59,7 +68,7 @@ fn copy_number(x: NumExpr) -> NumExpr
     }
 }
 
-// The text, of the path copies.
+// Returns the text with the copy of its variable. `Memory` if out of memory.
 fn copy_text(x: &TextExpr) -> Result<TextExpr, Memory>
     requires { TextFits x.now }
     ensures { IfOk result (λ r. r ≡ copy_text x.now) }
@@ -70,7 +79,7 @@ fn copy_text(x: &TextExpr) -> Result<TextExpr, Memory>
     }
 }
 
-// The atom, of the path copies.
+// Returns the atom with the copies of its variables. `Memory` if out of memory.
 pub(crate) fn copy_atom(atom: &Atom) -> Result<Atom, Memory>
     requires { AtomFits atom.now }
     ensures { IfOk result (λ r. r ≡ copy_atom atom.now) }

@@ -1,10 +1,10 @@
-ghost use Rattle.std.specs.Prelude.{◌≡◌, IfOk};
+//! Marks and their paths.
 
 use tap_base::{Copied, Memory, Rows};
 use tql_core::{Atom, Term, Var};
 use tql_tree::Table;
 
-/// A row to be found: its variable, its table, and atoms that it makes true.
+/// Asks for a row: its variable, its table, and the atoms that it makes true.
 #[derive(PartialEq, Eq, Drop)]
 pub struct Step {
     pub var: Var,
@@ -12,7 +12,7 @@ pub struct Step {
     pub guards: Rows<Atom>,
 }
 
-/// A second at which a condition may change, for each choice of rows for the path.
+/// Gives a second at which a condition may change, for each choice of rows for the path.
 #[derive(Drop)]
 pub struct Mark {
     pub path: Rows<Step>,

@@ -1,3 +1,4 @@
+//! Window queries whose marks are solved.
 ghost use Rattle.std.specs.Prelude.{◌≡◌, true};
 ghost use Rattle.time_marks.specs.KeptParts.{parts_kept};
 
@@ -6,7 +7,7 @@ use node_pool::Pool;
 use tap_base::Rows;
 use tql_core::TNode;
 
-/// A window query whose marks are solved. It keeps what `WindowQuery` keeps.
+/// Holds a window query whose marks are solved. What `WindowQuery` guarantees it guarantees.
 #[derive(Drop)]
 pub struct RangedQuery {
     pub pool: Pool<TNode>,

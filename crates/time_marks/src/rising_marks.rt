@@ -1,6 +1,7 @@
-ghost use Rattle.std.specs.Prelude.{◌≡◌, ◌≤◌, List, [], ◌∷◌, ◌++◌, pos, map, IfOk, OnOk};
+//! The marks at which a document can begin to be given.
+ghost use Rattle.std.specs.Prelude.{◌≡◌, ◌≤◌, [], ◌∷◌, ◌++◌, pos, map, IfOk, OnOk};
 ghost use Rattle.tql_core.specs.Condition.{condition};
-ghost use Rattle.time_marks.specs.Marks.{copied, copy, copy_atom, guards_of, arrival_term, step_of, mark_if, marks, fixed_term, rising, rising_from, below};
+ghost use Rattle.time_marks.specs.Marks.{copy, copy_atom, guards_of, arrival_term, step_of, mark_if, marks, rising, rising_from, below};
 ghost use Rattle.tql_core.specs.Scope.{CondFits, IsQuery};
 
 use crate::copies::{arrival_term, copy, copy_atom, copy_term};
@@ -10,7 +11,7 @@ use tap_base::{Memory, Rows};
 use tql_core::{Atom, Base, Cond, Term, Var};
 use tql_tree::Table;
 
-// Appends the guards of the condition, of the path copies.
+// Appends the guards of the condition, with the copies of their variables.
 fn add_guards(cond: &Cond, guards: &mut Rows<Atom>) -> Result<(), Memory>
     requires { CondFits (condition cond.now) }
     ensures { OnOk result (guards.new ≡ guards.old ++ map copy_atom (guards_of (condition cond.now))) }
@@ -28,7 +29,7 @@ fn add_guards(cond: &Cond, guards: &mut Rows<Atom>) -> Result<(), Memory>
     }
 }
 
-// The path with the step of a bound variable at its end.
+// Returns the path with the step of a bound variable at its end.
 fn longer(
     alloc: Global,
     path: &Rows<Step>,
@@ -50,7 +51,7 @@ fn longer(
     Ok(steps)
 }
 
-// Appends the term as a mark with this path, where the flag is set.
+// Appends the term as a mark with this path, if the flag is set.
 fn add_mark_if(up: bool, path: &Rows<Step>, at: Term, out: &mut Rows<Mark>) -> Result<(), Memory>
     ensures { OnOk result (out.new ≡ out.old ++ map (below path.now) (mark_if up at)) }
 {
@@ -61,7 +62,7 @@ fn add_mark_if(up: bool, path: &Rows<Step>, at: Term, out: &mut Rows<Mark>) -> R
     Ok(())
 }
 
-// Appends the marks of the sign, each below the path.
+// Appends the marks of the sign, each with the path before its own.
 fn add_marks(
     alloc: Global,
     cond: &Cond,
@@ -97,7 +98,7 @@ fn add_marks(
     }
 }
 
-// The marks of the sign plus, and the arrival.
+// Returns the arrival of the document and the marks of the sign plus.
 fn rising_of(alloc: Global, cond: &Cond) -> Result<Rows<Mark>, Memory>
     requires { CondFits (condition cond.now) }
     ensures { IfOk result (λ found. found ≡ rising (condition cond.now)) }
@@ -111,7 +112,7 @@ fn rising_of(alloc: Global, cond: &Cond) -> Result<Rows<Mark>, Memory>
     Ok(found)
 }
 
-// The rising marks, and the start where it is above 0.
+// Returns the rising marks, and the start if it is above 0.
 fn marks_from(alloc: Global, cond: &Cond, start: i64) -> Result<Rows<Mark>, Memory>
     requires { CondFits (condition cond.now) }
     ensures { IfOk result (λ found. found ≡ rising_from (condition cond.now) start) }
@@ -127,9 +128,10 @@ fn marks_from(alloc: Global, cond: &Cond, start: i64) -> Result<Rows<Mark>, Memo
     Ok(found)
 }
 
-/// The marks at which a document can begin to be given from the start on, each with the path of rows that it stands
-/// for: the document's arrival first, then those of the condition where it stands, and the start where it is above 0.
-/// The condition names no variable but `m` and those that its EXISTS bind.
+/// Returns the marks at which a document can begin to be given from the start on, each with the path of its rows: the
+/// document's arrival first, then the marks of the condition in their order, and the start if it is above 0. `start` is
+/// in seconds since 1970-01-01T00:00:00Z. `Memory` if out of memory. The condition names no variable but `m` and those
+/// that its EXISTS bind.
 pub fn rising_from(alloc: Global, cond: &Cond, start: i64) -> Result<Rows<Mark>, Memory>
     requires { IsQuery (condition cond.now) }
     ensures { IfOk result (λ found. found ≡ rising_from (condition cond.now) start) }
@@ -138,7 +140,7 @@ pub fn rising_from(alloc: Global, cond: &Cond, start: i64) -> Result<Rows<Mark>,
     Ok(found)
 }
 
-/// The rising marks of a condition that is asked for all seconds from 0.
+/// Returns the rising marks of a condition that is asked for all seconds from 0. `Memory` if out of memory.
 pub fn rising(alloc: Global, cond: &Cond) -> Result<Rows<Mark>, Memory>
     requires { IsQuery (condition cond.now) }
     ensures { IfOk result (λ found. found ≡ rising_from (condition cond.now) (pos 0)) }

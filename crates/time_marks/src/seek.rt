@@ -1,3 +1,4 @@
+//! Where the stored seconds of driving rows are looked for.
 ghost use Rattle.std.specs.Prelude.{◌≡◌, ℤ, true, neg_ℤ};
 ghost use Rattle.jiff_core.specs.Calendar.{IsWithin};
 ghost use Rattle.tql_core.specs.Bounds.{is_near};
@@ -7,9 +8,9 @@ ghost use Rattle.time_marks.specs.Seeks.{seek_of, seek_plus, seek_window, marked
 use crate::Window;
 use tql_core::{Base, Term, Var};
 
-/// Where the stored seconds of a driving row are looked for: a mark is the stored second, the arrival or the date of the
-/// variable's row, and `plus` seconds more, or the start of the UTC day that is not before that. A fixed mark has no
-/// driving row.
+/// Says where the stored seconds of a driving row are looked for. A mark is the stored second, which is the arrival or the
+/// date of the variable's row, plus `plus` seconds, or the start of the first UTC day that is not before that. A fixed
+/// mark has no driving row.
 #[derive(Clone, Copy, Debug, PartialEq, Eq)]
 pub enum Seek {
     Arrived { var: Var, plus: i64 },
@@ -19,7 +20,7 @@ pub enum Seek {
     DatedDay { var: Var, plus: i64 },
 }
 
-// The window moved back by so many seconds.
+// Returns the window moved back by so many seconds.
 fn moved_back(w: Window, by: i64) -> Window
     requires by { is_near by ≡ true }
     requires low { IsWithin 510000000000 w.low }
@@ -29,7 +30,7 @@ fn moved_back(w: Window, by: i64) -> Window
     w.shift(-by)
 }
 
-// The window of the days.
+// Returns the window of the seconds whose next start of a day is in the window.
 fn window_of_days(w: Window) -> Window
     requires low { IsWithin 500000000000 w.low }
     requires high { IsWithin 500000000000 w.high }
@@ -41,7 +42,7 @@ fn window_of_days(w: Window) -> Window
 }
 
 impl Seek {
-    /// The seek of a mark.
+    /// Returns the seek of a mark.
     pub fn of(at: Term) -> Seek
         ensures { result ≡ seek_of at }
     {
@@ -54,7 +55,7 @@ impl Seek {
         }
     }
 
-    // The window of the stored seconds, by its ends.
+    // Returns the window of the stored seconds, by its ends.
     fn solved(self, w: Window) -> Window
         requires plus { is_near (seek_plus self) ≡ true }
         requires low { IsWithin 500000000000 w.low }
@@ -70,8 +71,8 @@ impl Seek {
         }
     }
 
-    /// The window of the stored seconds whose marks lie in the window: moved back by `plus`, for days the window of the
-    /// days. Of a fixed mark it is the window itself.
+    /// Returns the window of the stored seconds whose marks lie in the window: the window, or for days that of the days,
+    /// moved back by `plus`. Of a fixed mark it is the window itself.
     #[tactic(auto, using(crate::proofs::SeekLaws::seek_found))]
     pub fn window(self, w: Window) -> Window
         requires plus { is_near (seek_plus self) ≡ true }

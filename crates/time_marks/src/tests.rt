@@ -1,3 +1,4 @@
+//! A note that grows old is a mark.
 ghost use Rattle.std.specs.Prelude.{◌≡◌, IfOk, pos};
 ghost use Rattle.tql_tree.specs.declared.table.Table.TheVariants.{Notes};
 ghost use Rattle.tql_core.specs.declared.term.Base.TheVariants.{Arrival};
@@ -9,7 +10,7 @@ use tap_base::{Copied, Memory};
 use tql_core::{Base, Cond, Term, Var};
 use tql_tree::Table;
 
-// The arrival of a variable's row, and so many seconds more.
+// Returns the arrival of a variable's row plus so many seconds.
 fn arrival(var: u8, plus: i64) -> Term
     ensures { result ≡ record { base = Arrival (record { 0 = var }); plus = plus } }
 {
@@ -19,9 +20,10 @@ fn arrival(var: u8, plus: i64) -> Term
     }
 }
 
-// There is no note that arrived less than 5 seconds ago.
+// Returns the condition that no note arrived less than 5 seconds ago.
 fn unnoted(alloc: Global) -> Result<Cond, Memory>
-    ensures { IfOk result (λ cond. condition cond ≡ Not (Exists (record { 0 = 1 }) Notes (NowBefore (record { base = Arrival (record { 0 = 1 }); plus = pos 5 })))) }
+    ensures { IfOk result (λ cond. condition cond ≡
+        Not (Exists (record { 0 = 1 }) Notes (NowBefore (record { base = Arrival (record { 0 = 1 }); plus = pos 5 })))) }
 {
     let young = Box::new(alloc, Cond::NowBefore(arrival(1, 5)))?;
     let noted = Box::new(alloc, Cond::Exists(Var(1), Table::Notes, young))?;

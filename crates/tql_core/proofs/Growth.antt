@@ -1,4 +1,4 @@
--- Conditions in a pool: they stay as it grows, and no two numbers have the same.
+-- Conditions in a pool: they are unchanged as it grows, and no two numbers have equal ones.
 use Rattle.std.proofs.Common.{◌≡◌, ℕ, zero, suc, ◌<◌, Bool, true, List, [], ◌∷◌, ◌++◌, length, Option, Some, None, refl, sym, ap, ◌∙◌, subst, arith, length-append}
 use Rattle.std.specs.Prelude.{◌&&◌, slice_get, nat_lt}
 use Rattle.std.proofs.lemmas.Bool.{and_parts}
@@ -42,7 +42,7 @@ get_front [] more k h = absurd (omega arith)
 get_front (x ∷ old) more zero h = refl
 get_front (x ∷ old) more (suc k) h = get_front old more k (omega arith)
 
--- a node says what its parts say
+-- a node's condition is made of those of its parts
 pub at_node : NodesSayTheirParts
 at_node nodes id node p e = rw e (node_same id node (tree nodes id) (tree_at nodes) (p.behind id node e) (λ k h. deeper nodes p id (suc k) k h (omega arith)))
 
@@ -66,7 +66,7 @@ there (x ∷ nodes) (suc i) h = there nodes i (omega arith)
 id_is : (a b : NodeId) → (a.0 ≡ b.0) → a ≡ b
 id_is a b e = ap (λ k. record { 0 = k }) e
 
--- nodes that say the same of parts that have one number each are the same
+-- nodes with equal conditions are equal, if parts with equal conditions have one number
 same_node : (f : ℕ → Condition) (n m : ℕ) (x y : TNode) → are_below n (kids_of x) ≡ true → are_below m (kids_of y) ≡ true
     → ((k l : ℕ) → k < n → l < m → f k ≡ f l → k ≡ l) → node_tree (Some x) f ≡ node_tree (Some y) f → x ≡ y
 same_node f n m N.True N.True a b h e = refl
@@ -103,11 +103,11 @@ one_number nodes p (suc n) i j a b c e =
     let same = same_node (tree_at nodes) i j x.0 y.0 (p.behind i x.0 x.1) (p.behind j y.0 y.1) (λ k l u v q. one_number nodes p n k l (omega arith) (omega arith) (omega arith) q) (sym (at_node nodes i x.0 p x.1) ∙ e ∙ at_node nodes j y.0 p y.1) in
     p.once i j y.0 (subst (λ node. slice_get nodes i ≡ Some node) same x.1) y.1
 
--- in a pool two numbers are equal just where their conditions are
+-- two numbers of a pool are equal if and only if their conditions are
 pub equal_trees : EqualTreesHaveOneNumber
 equal_trees nodes i j p a b = ((λ e. ap (tree_at nodes) e), one_number nodes p (suc i) i j (omega arith) a b)
 
--- what the numbers of a pool say, they still say when it has grown
+-- the conditions of a pool are unchanged when it has grown
 pub keeps_trees : (old new : List TNode) → IsPool kids_of old → Extends old new → KeepsTrees old new
 keeps_trees old new p x id c t = record {
   within = longer t.within;
@@ -116,7 +116,7 @@ keeps_trees old new p x id c t = record {
   longer : id < length old → id < length new
   longer h = subst (λ ns. id < length ns) (sym x.is) (omega (arith, length-append old x.more))
 
--- a new node says what its parts said
+-- a new node's condition is made of those of its parts
 pub node_added : (old new : List TNode) (id : ℕ) (node : TNode) → IsPool kids_of old → IsPool kids_of new → Extends old new → are_below (length old) (kids_of node) ≡ true → slice_get new id ≡ Some node → IsTreeAt new id (node_tree (Some node) (tree_at old))
 node_added old new id node p q x b e = record {
   within = slice_get_within new id node e;

@@ -29,6 +29,7 @@ is_bounded_base (DateDay v n) plus = is_near n && int_eq plus (pos 0)
 abbrev pub is_bounded : Term → Bool
 is_bounded e = is_near e.plus && is_bounded_base e.base e.plus
 
+-- each time of an atom is one that typing gives
 abbrev pub is_bounded_atom : Atom → Bool
 is_bounded_atom (Numbers x op y) = true
 is_bounded_atom (Texts x op y) = true

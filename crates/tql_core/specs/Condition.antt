@@ -18,7 +18,7 @@ pub data Condition : Type 0 where
   Not : Condition → Condition
   Exists : Var → Table → Condition → Condition
 
--- what the code's condition says
+-- the condition that the code's one represents
 abbrev pub condition : Cond → Condition
 condition C.True = Always
 condition C.False = Never

@@ -1,4 +1,4 @@
--- Nodes that compare as equal are the same.
+-- Nodes that compare as equal are equal.
 use Rattle.std.proofs.Common.{◌≡◌, ◌∙◌, refl, ap, true}
 use Rattle.std.specs.Cmp.Lexicographic.{bytes_decides}
 use Rattle.std.proofs.lemmas.Bool.{and_parts, false≢true, eqb-true}
@@ -107,10 +107,34 @@ text_expr_is (X.Field v f) (X.Field w g) h = let p = and_parts _ _ h in let x = 
 text_expr_is _ _ h = absurd (false≢true h)
 
 pub atom_is : (a b : Atom) → atom.ghosts.eq a b ≡ true → a ≡ b
-atom_is (Numbers x o y) (Numbers x' o' y') h = let p = and_parts _ _ h in let q = and_parts _ _ p.1 in let e = num_expr_is x x' p.0 in let f = op_is o o' q.0 in let g = num_expr_is y y' q.1 in cc
-atom_is (Texts x o y) (Texts x' o' y') h = let p = and_parts _ _ h in let q = and_parts _ _ p.1 in let e = text_expr_is x x' p.0 in let f = op_is o o' q.0 in let g = text_expr_is y y' q.1 in cc
-atom_is (Times x o y) (Times x' o' y') h = let p = and_parts _ _ h in let q = and_parts _ _ p.1 in let e = term_is x x' p.0 in let f = op_is o o' q.0 in let g = term_is y y' q.1 in cc
-atom_is (Has v k y) (Has v' k' y') h = let p = and_parts _ _ h in let q = and_parts _ _ p.1 in let e = var_is v v' p.0 in let f = list_field_is k k' q.0 in let g = text_expr_is y y' q.1 in cc
+atom_is (Numbers x o y) (Numbers x' o' y') h =
+    let p = and_parts _ _ h in
+    let q = and_parts _ _ p.1 in
+    let e = num_expr_is x x' p.0 in
+    let f = op_is o o' q.0 in
+    let g = num_expr_is y y' q.1 in
+    cc
+atom_is (Texts x o y) (Texts x' o' y') h =
+    let p = and_parts _ _ h in
+    let q = and_parts _ _ p.1 in
+    let e = text_expr_is x x' p.0 in
+    let f = op_is o o' q.0 in
+    let g = text_expr_is y y' q.1 in
+    cc
+atom_is (Times x o y) (Times x' o' y') h =
+    let p = and_parts _ _ h in
+    let q = and_parts _ _ p.1 in
+    let e = term_is x x' p.0 in
+    let f = op_is o o' q.0 in
+    let g = term_is y y' q.1 in
+    cc
+atom_is (Has v k y) (Has v' k' y') h =
+    let p = and_parts _ _ h in
+    let q = and_parts _ _ p.1 in
+    let e = var_is v v' p.0 in
+    let f = list_field_is k k' q.0 in
+    let g = text_expr_is y y' q.1 in
+    cc
 atom_is _ _ h = absurd (false≢true h)
 
 id_is : (a b : NodeId) → (a.0 ≡ b.0) → a ≡ b
@@ -120,8 +144,22 @@ pub node_is : (x y : TNode) → node.ghosts.eq x y ≡ true → x ≡ y
 node_is N.True N.True h = refl
 node_is N.False N.False h = refl
 node_is (N.Plain a) (N.Plain b) h = ap N.Plain (atom_is a b h)
-node_is (N.All l r) (N.All l' r') h = let p = and_parts _ _ h in let e = id_is l l' (eqb-true l.0 l'.0 p.0) in let f = id_is r r' (eqb-true r.0 r'.0 p.1) in cc
-node_is (N.Either l r) (N.Either l' r') h = let p = and_parts _ _ h in let e = id_is l l' (eqb-true l.0 l'.0 p.0) in let f = id_is r r' (eqb-true r.0 r'.0 p.1) in cc
+node_is (N.All l r) (N.All l' r') h =
+    let p = and_parts _ _ h in
+    let e = id_is l l' (eqb-true l.0 l'.0 p.0) in
+    let f = id_is r r' (eqb-true r.0 r'.0 p.1) in
+    cc
+node_is (N.Either l r) (N.Either l' r') h =
+    let p = and_parts _ _ h in
+    let e = id_is l l' (eqb-true l.0 l'.0 p.0) in
+    let f = id_is r r' (eqb-true r.0 r'.0 p.1) in
+    cc
 node_is (N.Not x) (N.Not y) h = ap N.Not (id_is x y (eqb-true x.0 y.0 h))
-node_is (N.Exists v t x) (N.Exists w u y) h = let p = and_parts _ _ h in let q = and_parts _ _ p.1 in let e = var_is v w p.0 in let f = table_is t u q.0 in let g = id_is x y (eqb-true x.0 y.0 q.1) in cc
+node_is (N.Exists v t x) (N.Exists w u y) h =
+    let p = and_parts _ _ h in
+    let q = and_parts _ _ p.1 in
+    let e = var_is v w p.0 in
+    let f = table_is t u q.0 in
+    let g = id_is x y (eqb-true x.0 y.0 q.1) in
+    cc
 node_is _ _ h = absurd (false≢true h)

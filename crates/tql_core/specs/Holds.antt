@@ -9,7 +9,7 @@ use Rattle.tql_core.specs.Condition.{Condition, Always, Never, Plain, NowAtLeast
 use Rattle.tql_core.specs.Row.{OfDoc, rows_of}
 use Rattle.tql_core.specs.Values.{Env, bind, value, both, true_atom}
 
--- the truth over these rows, where now is s
+-- the truth over these rows, with now at s
 abbrev pub truth : Tables → ℤ → Condition → Env → Bool
 truth tables s Always env = true
 truth tables s Never env = false

@@ -17,11 +17,12 @@ pub data Row : Type 0 where
 unfoldable pub fields : Doc → Fields
 fields doc = fields_of doc.text
 
+-- the second at which a row arrived
 abbrev pub arrival : Row → ℤ
 arrival (OfDoc doc) = doc.arrival
 arrival (OfNote note) = note.arrival
 
--- the date, where the row has one
+-- the date, if the row has one
 abbrev pub date : Row → Option ℤ
 date (OfDoc doc) = (fields doc).date
 date (OfNote note) = None

@@ -19,6 +19,6 @@ same_condition (Not x) (Not y) = same_condition x y
 same_condition (Exists v t x) (Exists w u y) = var.ghosts.eq v w && (table.ghosts.eq t u && same_condition x y)
 same_condition _ _ = false
 
--- the test is true just of equal conditions
+-- the test is true if and only if the conditions are equal
 abbrev pub SameIsEqual : Type 0
 SameIsEqual = (x y : Condition) → ((same_condition x y ≡ true) ↔ (x ≡ y))

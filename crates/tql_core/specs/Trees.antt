@@ -15,7 +15,7 @@ kids_of (N.Either l r) = l.0 ∷ r.0 ∷ []
 kids_of (N.Not x) = x.0 ∷ []
 kids_of (N.Exists v t x) = x.0 ∷ []
 
--- what a node says, from what its parts say
+-- the condition of a node, from those of its parts
 abbrev pub node_tree : Option TNode → (ℕ → Condition) → Condition
 node_tree None part = Never
 node_tree (Some N.True) part = Always
@@ -26,7 +26,7 @@ node_tree (Some (N.Either l r)) part = Either (part l.0) (part r.0)
 node_tree (Some (N.Not x)) part = Not (part x.0)
 node_tree (Some (N.Exists v t x)) part = Exists v t (part x.0)
 
--- what the node of a number says, read at most so many nodes deep
+-- the condition of the node at a number, read at most so many nodes deep
 abbrev pub tree : List TNode → ℕ → ℕ → Condition
 tree nodes zero id = Never
 tree nodes (suc n) id = node_tree (slice_get nodes id) (tree nodes n)
@@ -35,23 +35,27 @@ tree nodes (suc n) id = node_tree (slice_get nodes id) (tree nodes n)
 abbrev pub tree_at : List TNode → ℕ → Condition
 tree_at nodes id = tree nodes (suc id) id
 
--- a node says what its parts say
+-- a node's condition is made of those of its parts
 abbrev pub NodesSayTheirParts : Type 0
-NodesSayTheirParts = (nodes : List TNode) (id : ℕ) (node : TNode) → IsPool kids_of nodes → slice_get nodes id ≡ Some node → tree_at nodes id ≡ node_tree (Some node) (tree_at nodes)
+NodesSayTheirParts =
+    (nodes : List TNode) (id : ℕ) (node : TNode) → IsPool kids_of nodes → slice_get nodes id ≡ Some node
+    → tree_at nodes id ≡ node_tree (Some node) (tree_at nodes)
 
--- conditions stay as the pool grows
+-- conditions are unchanged as the pool grows
 abbrev pub TreesStay : Type 0
 TreesStay = (old new : List TNode) (id : ℕ) → IsPool kids_of old → Extends old new → id < length old → tree_at new id ≡ tree_at old id
 
--- in a pool two numbers are equal just where their conditions are
+-- two numbers of a pool are equal if and only if their conditions are
 abbrev pub EqualTreesHaveOneNumber : Type 0
-EqualTreesHaveOneNumber = (nodes : List TNode) (i j : ℕ) → IsPool kids_of nodes → i < length nodes → j < length nodes → ((i ≡ j) ↔ (tree_at nodes i ≡ tree_at nodes j))
+EqualTreesHaveOneNumber =
+    (nodes : List TNode) (i j : ℕ) → IsPool kids_of nodes → i < length nodes → j < length nodes
+    → ((i ≡ j) ↔ (tree_at nodes i ≡ tree_at nodes j))
 
--- there is a node of this number, and it says this
+-- there is a node of this number, and this is its condition
 pub record IsTreeAt (nodes : List TNode) (id : ℕ) (x : Condition) : Type 0 where
   pub within : id < length nodes
   pub is : tree_at nodes id ≡ x
 
--- what the numbers of one list say, those of the other say too
+-- each number with a condition in the one list has it in the other
 abbrev pub KeepsTrees : List TNode → List TNode → Type 0
 KeepsTrees old new = (id : ℕ) (x : Condition) → IsTreeAt old id x → IsTreeAt new id x

@@ -1,4 +1,4 @@
--- What terms and atoms stand for, where some variables are bound to rows.
+-- The values of expressions and the truth of atoms, for some variables bound to rows.
 use Rattle.std.specs.Prelude.{ℕ, ℤ, pos, ◌+ℤ◌, neg_ℤ, Option, Some, None, Bool, false, not, List, [], ◌∷◌, int_le, int_lt, nat_eq, if◌then◌else◌}
 use Rattle.std.specs.declared.cmp.Ordering.{Ordering}
 use Rattle.std.specs.List.{list_any}
@@ -38,7 +38,7 @@ Env = List Bound
 abbrev pub bind : Var → Row → Env → Env
 bind v r env = record { var = v.0; row = r } ∷ env
 
--- the row of a variable
+-- the row of a variable, if it is bound
 abbrev pub lookup : ℕ → Env → Option Row
 lookup k [] = None
 lookup k (b ∷ env) = if nat_eq k b.var then Some b.row else lookup k env
@@ -70,11 +70,11 @@ abbrev pub plus_to : Option ℤ → ℤ → Option ℤ
 plus_to None n = None
 plus_to (Some x) n = Some (x +ℤ n)
 
--- a time's second, absent where its base is
+-- a time's second, absent if its base is
 abbrev pub value : Term → Env → Option ℤ
 value e env = plus_to (base_value e.base env) e.plus
 
--- a number of a row, where its table has this field
+-- a number of a row, if its table has this field
 abbrev pub field : NumField → Row → Option ℤ
 field Id (OfDoc doc) = Some (pos doc.num.0)
 field Id (OfNote note) = Some (pos note.num.0)
@@ -85,12 +85,12 @@ field DocOf (OfNote note) = Some (pos note.doc.0)
 field Value (OfDoc doc) = None
 field Value (OfNote note) = Some note.value
 
--- the number that an expression stands for
+-- the number that an expression has
 abbrev pub number : NumExpr → Env → Option ℤ
 number (Literal n) env = Some n
 number (Field v f) env = on_row (lookup v.0 env) (field f)
 
--- a text of a row, where its table has this field and the row has it
+-- a text of a row, if its table has this field and the row has it
 abbrev pub text_field : TextField → Row → Option (List ℕ)
 text_field From (OfDoc doc) = (fields doc).from
 text_field Subject (OfDoc doc) = (fields doc).subject
@@ -101,12 +101,12 @@ text_field NoteKind (OfNote note) = Some note.kind
 text_field NoteText (OfNote note) = Some note.text
 text_field _ _ = None
 
--- the text that an expression stands for
+-- the text that an expression has
 abbrev pub text : TextExpr → Env → Option (List ℕ)
 text (X.Literal t) env = Some t
 text (X.Field v f) env = on_row (lookup v.0 env) (text_field f)
 
--- a list of a row, where its table has this field
+-- a list of a row, if its table has this field
 abbrev pub list_field : ListField → Row → Option (List (List ℕ))
 list_field To (OfDoc doc) = Some (fields doc).to
 list_field Cc (OfDoc doc) = Some (fields doc).cc
@@ -115,7 +115,7 @@ list_field References (OfDoc doc) = Some (fields doc).references
 list_field Words (OfDoc doc) = Some (fields doc).words
 list_field _ (OfNote note) = None
 
--- does an order answer a comparison?
+-- does a comparison hold of two values in this order?
 abbrev pub answers : Op → Ordering → Bool
 answers Eq o = is_eq o
 answers Ne o = not (is_eq o)
@@ -137,19 +137,19 @@ compare Le x y = int_le x y
 compare Gt x y = int_lt y x
 compare Ge x y = int_le y x
 
--- a comparison, false where a side is absent
+-- a comparison of numbers, false if a side is absent
 abbrev pub both : Op → Option ℤ → Option ℤ → Bool
 both op None y = false
 both op (Some x) None = false
 both op (Some x) (Some y) = compare op x y
 
--- a comparison of texts, false where a side is absent
+-- a comparison of texts, false if a side is absent
 abbrev pub both_texts : Op → Option (List ℕ) → Option (List ℕ) → Bool
 both_texts op None y = false
 both_texts op (Some x) None = false
 both_texts op (Some x) (Some y) = answers op (text_cmp x y)
 
--- does the list hold the text? False where a side is absent
+-- does the list have the text? False if a side is absent
 abbrev pub has : Option (List (List ℕ)) → Option (List ℕ) → Bool
 has None y = false
 has (Some xs) None = false

@@ -1,9 +1,10 @@
-ghost use Rattle.std.specs.Prelude.{◌≡◌, IfOk};
+//! Atoms: conditions on rows that don't speak of now.
 
 use crate::{Term, Var};
 use tap_base::{Copied, Memory, Op, Text};
 
-/// A field that is a number: a row's number, a document's size in bytes, the document that a note is on, a note's value.
+/// Names a field that is a number: a row's number, a document's size in bytes, the number of the document that a note is
+/// on, a note's value.
 #[derive(Clone, Copy, Debug, PartialEq, Eq, Hash)]
 pub enum NumField {
     Id,
@@ -12,7 +13,7 @@ pub enum NumField {
     Value,
 }
 
-/// A field that is a text: four of documents, three of notes.
+/// Names a field that is a text: four of documents, three of notes.
 #[derive(Clone, Copy, Debug, PartialEq, Eq, Hash)]
 pub enum TextField {
     From,
@@ -24,7 +25,7 @@ pub enum TextField {
     NoteText,
 }
 
-/// A field of a document that is a list of texts.
+/// Names a field of a document that is a list of texts.
 #[derive(Clone, Copy, Debug, PartialEq, Eq, Hash)]
 pub enum ListField {
     To,
@@ -34,22 +35,22 @@ pub enum ListField {
     Words,
 }
 
-/// A number, or a field of a variable's row.
+/// Holds a number, or names a number field of a variable's row.
 #[derive(Clone, Copy, Debug, PartialEq, Eq, Hash)]
 pub enum NumExpr {
     Literal(i64),
     Field(Var, NumField),
 }
 
-/// A text, or a field of a variable's row.
+/// Holds a text, or names a text field of a variable's row.
 #[derive(PartialEq, Eq, Hash, Drop)]
 pub enum TextExpr {
     Literal(Text),
     Field(Var, TextField),
 }
 
-/// A condition on rows that does not speak of now: a comparison of two numbers, texts or times, or whether a list
-/// holds a text.
+/// Holds a condition on rows that doesn't speak of now: a comparison of two numbers, texts or times, or that a list
+/// has a text.
 #[derive(PartialEq, Eq, Hash, Drop)]
 pub enum Atom {
     Numbers(NumExpr, Op, NumExpr),

@@ -1,9 +1,11 @@
-ghost use Rattle.std.specs.Prelude.{◌≡◌, ℤ, Option, option_copied, List, ℕ};
+//! The values of expressions and the truth of atoms, for some bound rows.
+ghost use Rattle.std.specs.Prelude.{◌≡◌, Option, option_copied};
 ghost use Rattle.std.specs.List.{list_any};
 ghost use Rattle.std.specs.declared.cmp.Ordering.{Ordering};
 ghost use Rattle.std.specs.Ordering.{is_eq};
-ghost use Rattle.tql_core.specs.Values.{lookup, on_row, field, number, text_field, text, list_field, compare, both, answers, text_cmp, both_texts, has, true_atom};
-ghost use Rattle.tql_core.specs.Bindings.{row_of, option_row};
+ghost use Rattle.tql_core.specs.Values.{lookup, on_row, field, number, text_field, text, list_field, compare, both};
+ghost use Rattle.tql_core.specs.Values.{answers, text_cmp, both_texts, has, true_atom};
+ghost use Rattle.tql_core.specs.Bindings.{row_of};
 
 use crate::row_ref::fields;
 use crate::values::value;
@@ -11,8 +13,8 @@ use crate::{Atom, Env, ListField, NumExpr, NumField, RowRef, TextExpr, TextField
 use std::cmp::Ordering;
 use tap_base::{Op, Text, Texts};
 
-// Does the comparison hold?
-fn compares(op: Op, x: i128, y: i128) -> bool
+/// Returns whether the comparison of the two numbers holds.
+pub fn compares(op: Op, x: i128, y: i128) -> bool
     ensures { result ≡ compare op x y }
 {
     match op {
@@ -25,7 +27,7 @@ fn compares(op: Op, x: i128, y: i128) -> bool
     }
 }
 
-// A comparison, false where a side is absent.
+// Returns whether the comparison holds, which it doesn't if a side is absent.
 fn both(op: Op, x: Option<i128>, y: Option<i128>) -> bool
     ensures { result ≡ both op x y }
 {
@@ -35,7 +37,7 @@ fn both(op: Op, x: Option<i128>, y: Option<i128>) -> bool
     }
 }
 
-// A number of a row, where its table has this field.
+// Returns a number of the row, if its table has this field.
 fn field(which: NumField, row: RowRef) -> Option<i128>
     ensures { result ≡ field which (row_of row.entry) }
 {
@@ -49,7 +51,7 @@ fn field(which: NumField, row: RowRef) -> Option<i128>
     }
 }
 
-/// The number that the expression stands for. `None` comes exactly where its variable is unbound or its row has no such
+/// Returns the number that the expression has, or `None` if and only if its variable is unbound or its row has no such
 /// field.
 pub fn number(of: NumExpr, env: &Env) -> Option<i128>
     ensures { result ≡ number of env.now }
@@ -63,7 +65,7 @@ pub fn number(of: NumExpr, env: &Env) -> Option<i128>
     }
 }
 
-// The bytes of a text, where there is one.
+// Returns the bytes of a text, if there is one.
 fn bytes_of(text: &Option<Text>) -> Option<&[u8]>
     ensures { option_copied result ≡ text.now }
 {
@@ -73,7 +75,7 @@ fn bytes_of(text: &Option<Text>) -> Option<&[u8]>
     }
 }
 
-// A text of a row, where its table has this field and the row has it.
+// Returns a text of the row, if its table has this field and the row has it.
 fn text_field(field: TextField, row: RowRef<'_>) -> Option<&[u8]>
     ensures { option_copied result ≡ text_field field (row_of row.entry) }
 {
@@ -94,7 +96,7 @@ fn text_field(field: TextField, row: RowRef<'_>) -> Option<&[u8]>
     }
 }
 
-/// The text that the expression stands for. `None` comes exactly where its variable is unbound or the field is absent.
+/// Returns the text that the expression has, or `None` if and only if its variable is unbound or the field is absent.
 pub fn text<'a>(of: &'a TextExpr, env: &Env<'a>) -> Option<&'a [u8]>
     ensures { option_copied result ≡ text of.now env.now }
 {
@@ -107,7 +109,7 @@ pub fn text<'a>(of: &'a TextExpr, env: &Env<'a>) -> Option<&'a [u8]>
     }
 }
 
-// Does an order answer a comparison?
+// Returns whether the comparison holds of two values in this order.
 fn answers(op: Op, order: Ordering) -> bool
     ensures { result ≡ answers op order }
 {
@@ -121,7 +123,7 @@ fn answers(op: Op, order: Ordering) -> bool
     }
 }
 
-// A comparison of texts by bytes, false where a side is absent.
+// Returns whether the comparison of two texts by bytes holds, which it doesn't if a side is absent.
 fn both_texts(op: Op, x: Option<&[u8]>, y: Option<&[u8]>) -> bool
     ensures { result ≡ both_texts op (option_copied x.entry) (option_copied y.entry) }
 {
@@ -131,7 +133,7 @@ fn both_texts(op: Op, x: Option<&[u8]>, y: Option<&[u8]>) -> bool
     }
 }
 
-// A list of a row, where its table has this field.
+// Returns a list of the row, if its table has this field.
 fn list_field(field: ListField, row: RowRef<'_>) -> Option<&Texts>
     ensures { option_copied result ≡ list_field field (row_of row.entry) }
 {
@@ -147,7 +149,7 @@ fn list_field(field: ListField, row: RowRef<'_>) -> Option<&Texts>
     }
 }
 
-// Is the text one of these?
+// Returns whether the text is one of these.
 fn holds_text(texts: &[Text], text: &[u8]) -> bool
     ensures { result ≡ list_any (λ x. is_eq (text_cmp x text.now)) texts.now }
 {
@@ -159,7 +161,7 @@ fn holds_text(texts: &[Text], text: &[u8]) -> bool
     false
 }
 
-// Does the list hold the text? False where a side is absent.
+// Returns whether the list has the text, which it doesn't if a side is absent.
 fn has(texts: Option<&Texts>, text: Option<&[u8]>) -> bool
     ensures { result ≡ has (option_copied texts.entry) (option_copied text.entry) }
 {
@@ -169,7 +171,7 @@ fn has(texts: Option<&Texts>, text: Option<&[u8]>) -> bool
     }
 }
 
-// A list of a variable's row.
+// Returns a list of the variable's row, if it is bound and has the field.
 fn list_of<'a>(v: Var, f: ListField, env: &Env<'a>) -> Option<&'a Texts>
     ensures { option_copied result ≡ on_row (lookup v.0 env.now) (list_field f) }
 {
@@ -179,7 +181,7 @@ fn list_of<'a>(v: Var, f: ListField, env: &Env<'a>) -> Option<&'a Texts>
     }
 }
 
-/// The truth of an atom, false where a side is absent.
+/// Returns the truth of an atom, which is false if a side is absent.
 pub fn true_atom<'a>(atom: &'a Atom, env: &Env<'a>) -> bool
     ensures { result ≡ true_atom atom.now env.now }
 {

@@ -1,7 +1,9 @@
+//! Conditions.
 use crate::{Atom, Term, Var};
 use tql_tree::Table;
 
-/// A condition, which may speak of now. Now is at a term or later, or before it.
+/// Holds a condition, which may speak of now: now is at a term's second or later (`NowAtLeast`), or before it
+/// (`NowBefore`). `All` and `Either` join two conditions.
 #[derive(Drop)]
 pub enum Cond {
     True,

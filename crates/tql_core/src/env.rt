@@ -1,4 +1,5 @@
-ghost use Rattle.std.specs.Prelude.{◌≡◌, ℕ, ◌<◌, ◌≤◌, List, [], ◌∷◌, length, Option, int_le};
+//! Environments: variables bound to rows.
+ghost use Rattle.std.specs.Prelude.{◌≡◌, ◌<◌, List, [], length, Option, int_le};
 ghost use Rattle.std.specs.List.{list_all};
 ghost use Rattle.tql_core.specs.Row.{arrival};
 ghost use Rattle.tql_core.specs.Values.{Bound, lookup, bind};
@@ -9,7 +10,7 @@ use crate::{RowRef, Var};
 use arrayvec::ArrayVec;
 use std::marker::Model;
 
-// A place for a variable and its row.
+// Holds a variable and its row, or nothing.
 #[derive(Clone, Copy)]
 struct Slot<'a> {
     var: u8,
@@ -22,13 +23,13 @@ impl<'a> Default for Slot<'a> {
     }
 }
 
-/// The bound variables, at most 16, each with its row. It is seen as the list of them, the last one first.
+/// Holds the bound variables, at most 16, each with its row. It is seen as the list of them, the last one first.
 #[derive(Drop)]
 pub struct Env<'a> {
     slots: ArrayVec<Slot<'a>, 16>,
 }
 
-// The same slots once more.
+// Returns equal slots.
 fn copy_slots<'a>(from: &ArrayVec<Slot<'a>, 16>) -> ArrayVec<Slot<'a>, 16>
     ensures { result.items ≡ from.now.items }
 {
@@ -53,7 +54,7 @@ impl<'a> Model for Env<'a> {
 }
 
 impl<'a> Env<'a> {
-    /// No variable.
+    /// Returns an environment without a variable. It takes no memory.
     pub fn new() -> Env<'a>
         ensures { result ≡ [] }
     {
@@ -62,7 +63,7 @@ impl<'a> Env<'a> {
         }
     }
 
-    /// One more variable. It takes no memory.
+    /// Returns the environment with one more variable. It takes no memory.
     pub fn bind(&self, var: Var, row: RowRef<'a>) -> Env<'a>
         requires { length self.now < 16 }
         ensures { result ≡ bind var (row_of row.entry) self.now }
@@ -75,10 +76,11 @@ impl<'a> Env<'a> {
         Env { slots }
     }
 
-    /// The variable's row. `None` comes exactly where it is unbound.
+    /// Returns the variable's row, or `None` if and only if it is unbound.
     pub fn get(&self, var: Var) -> Option<RowRef<'a>>
         ensures { option_row result ≡ lookup var.0 self.now }
     {
+        // From the end, so that the last binding of a variable counts.
         let slots = self.slots.as_slice();
         let mut i = slots.len();
         while 0 < i {
@@ -91,7 +93,7 @@ impl<'a> Env<'a> {
         None
     }
 
-    /// Have all rows arrived by this second?
+    /// Returns whether all bound rows arrived by this second.
     pub fn come_by(&self, second: i64) -> bool
         ensures { result ≡ list_all (λ bound. int_le (arrival bound.row) second) self.now }
     {

@@ -13,7 +13,7 @@ mod tnode_pool;
 mod values;
 
 pub use atom::{Atom, ListField, NumExpr, NumField, TextExpr, TextField};
-pub use atoms::{number, text, true_atom};
+pub use atoms::{compares, number, text, true_atom};
 pub use cond::Cond;
 pub use env::Env;
 pub use row_ref::RowRef;

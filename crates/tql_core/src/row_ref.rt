@@ -1,24 +1,25 @@
+//! Rows of either table.
 ghost use Rattle.std.specs.Prelude.{◌≡◌, int_le};
 ghost use Rattle.tql_core.specs.Row.{arrival, date, fields, OfDoc};
 ghost use Rattle.tql_core.specs.Bindings.{row_of};
 
 use tap_rows::{Fields, KeptDoc, Note};
 
-/// A row of either table.
+/// Borrows a row of either table: a document with its fields, or a note.
 #[derive(Clone, Copy)]
 pub enum RowRef<'a> {
     OfDoc(&'a KeptDoc),
     OfNote(&'a Note),
 }
 
-// The fields of a document.
+// Returns the fields of a document.
 pub(crate) fn fields(doc: &KeptDoc) -> &Fields
     ensures { result.now ≡ fields doc.now }
 {
     doc.fields()
 }
 
-/// The second at which the row arrived.
+/// Returns the second at which the row arrived, since 1970-01-01T00:00:00Z.
 pub fn arrival(row: RowRef<'_>) -> i64
     ensures { result ≡ arrival (row_of row.entry) }
 {
@@ -28,7 +29,7 @@ pub fn arrival(row: RowRef<'_>) -> i64
     }
 }
 
-// The date of the row, where it has one.
+// Returns the second of the row's date, if it has one.
 pub(crate) fn date(row: RowRef<'_>) -> Option<i64>
     ensures { result ≡ date (row_of row.entry) }
 {
@@ -38,7 +39,7 @@ pub(crate) fn date(row: RowRef<'_>) -> Option<i64>
     }
 }
 
-// Has the row arrived by this second?
+// Returns whether the row arrived by this second.
 pub(crate) fn has_come(row: RowRef<'_>, second: i64) -> bool
     ensures { result ≡ int_le (arrival (row_of row.entry)) second }
 {

@@ -1,11 +1,12 @@
-/// A variable. 0 is `m`, the document that is asked about, 1 to 5 are those of EXISTS in the order of the text, and
-/// k + 8 is the copy of k in a path.
+//! Variables and times.
+
+/// Numbers a variable. 0 is `m`, the document that is asked about, 1 to 5 are those of EXISTS in the order of the text,
+/// and k + 8 is the copy of k in a path.
 #[derive(Clone, Copy, Debug, PartialEq, Eq, Hash)]
 pub struct Var(pub u8);
 
-/// What a time is counted from: the arrival or the date of a variable's row, nothing (a fixed moment has its whole
-/// moment in the number that is added), or the start of the UTC day that is not before the arrival or the date plus a
-/// number of seconds.
+/// Says what a time is counted from: the arrival or the date of a variable's row, second 0 for a fixed moment, or a
+/// day. A day is the start of the first UTC day that is not before the arrival or the date plus a number of seconds.
 #[derive(Clone, Copy, Debug, PartialEq, Eq, Hash)]
 pub enum Base {
     Arrival(Var),
@@ -15,7 +16,7 @@ pub enum Base {
     DateDay(Var, i64),
 }
 
-/// A time: a base, and a number of seconds that is added to it.
+/// Holds a time: a base, and a number of seconds that is added to it.
 #[derive(Clone, Copy, Debug, PartialEq, Eq, Hash)]
 pub struct Term {
     pub base: Base,

@@ -1,3 +1,4 @@
+//! Copies of atoms, and nodes of a pool.
 use crate::{Atom, ListField, TNode, TextExpr, Var};
 use node_pool::{Pool, PoolNode};
 use tap_base::{Copied, Memory, Text};

@@ -1,3 +1,4 @@
+//! Nodes in a pool.
 ghost use Rattle.std.specs.Prelude.{◌≡◌, ◌<◌, length, true, Some};
 ghost use Rattle.node_pool.specs.Pools.{are_below};
 ghost use Rattle.tql_core.specs.Trees.{kids_of, node_tree, tree_at};
@@ -22,7 +23,8 @@ impl PoolNode for TNode {
     ghost exact = { node_is };
 }
 
-/// The node of this number: what it says is what the number says, and its parts have lower numbers. It takes no memory.
+/// Returns the node of this number. Its condition is that of the number, and its parts have lower numbers. It takes no
+/// memory.
 pub fn node_at(pool: &Pool<TNode>, id: NodeId) -> &TNode
     requires { id.0 < length pool.now }
     ensures says { tree_at pool.now id.0 ≡ node_tree (Some result.now) (tree_at pool.now) }

@@ -1,23 +1,27 @@
+//! The seconds of times, for some bound rows.
 ghost use Rattle.std.specs.Prelude.{◌≡◌, ◌≤ℤ◌, ◌+ℤ◌, ℤ, pos, negsuc, IfSome, Option, Some, None};
 ghost use Rattle.tql_core.specs.Bounds.{IsWide};
 ghost use Rattle.tql_core.specs.Row.{arrival, date};
-ghost use Rattle.tql_core.specs.Values.{round_up_to_day, lookup, base_value, value, day_of, on_row};
-ghost use Rattle.tql_core.specs.Bindings.{row_of, option_row};
+ghost use Rattle.tql_core.specs.Values.{round_up_to_day, base_value, value, day_of};
+ghost use Rattle.tql_core.specs.Bindings.{row_of};
 
 use crate::row_ref::{arrival, date};
 use crate::{Base, Env, RowRef, Term};
 
-// The start of the day, or of the next one where the day has begun.
+// The seconds of a UTC day.
+const DAY: i128 = 86_400;
+
+// Returns the start of the first UTC day that is not before the second.
 fn round_up_to_day(x: i128) -> i128
     requires low { negsuc 18446744073709551615 ≤ℤ x }
     requires high { x ≤ℤ pos 18446744073709551615 }
     ensures value { result ≡ round_up_to_day x }
     ensures range { IsWide result }
 {
-    x + (-x).rem_euclid(86_400)
+    x + (-x).rem_euclid(DAY)
 }
 
-// The start of the day of a row's arrival and so many seconds more.
+// Returns the start of the first day from a row's arrival plus so many seconds on.
 fn start_of_day(row: RowRef<'_>, plus: i64) -> i128
     ensures range { IsWide result }
     ensures value { result ≡ round_up_to_day (arrival (row_of row.entry) +ℤ plus) }
@@ -25,7 +29,7 @@ fn start_of_day(row: RowRef<'_>, plus: i64) -> i128
     round_up_to_day(i128::from(arrival(row)) + i128::from(plus))
 }
 
-// The start of the day of a date and so many seconds more.
+// Returns the start of the first day from a date plus so many seconds on, if there is a date.
 fn day_of(plus: i64, date: Option<i64>) -> Option<i128>
     ensures range { IfSome result IsWide }
     ensures value { result ≡ day_of plus date }
@@ -36,7 +40,7 @@ fn day_of(plus: i64, date: Option<i64>) -> Option<i128>
     }
 }
 
-// A second that may be absent, as a wide number.
+// Returns a second that may be absent as a number of 128 bits.
 fn wide(x: Option<i64>) -> Option<i128>
     ensures range { IfSome result IsWide }
     ensures value { result ≡ x }
@@ -47,7 +51,7 @@ fn wide(x: Option<i64>) -> Option<i128>
     }
 }
 
-// What a time is counted from.
+// Returns the second that a time is counted from, if its row is bound and has it.
 fn base_value(base: Base, env: &Env) -> Option<i128>
     ensures value { result ≡ base_value base env.now }
     ensures range { IfSome result IsWide }
@@ -73,8 +77,8 @@ fn base_value(base: Base, env: &Env) -> Option<i128>
     }
 }
 
-/// The second of a time, since 1970-01-01T00:00:00Z. `None` comes exactly where its base is absent. A sum of any two
-/// 64-bit numbers fits, so nothing is asked of the row or of the term.
+/// Returns the second of a time, since 1970-01-01T00:00:00Z, or `None` if and only if its base is absent. A sum of any
+/// two numbers of 64 bits fits, so nothing is required of the row or of the term.
 pub fn value(term: Term, env: &Env) -> Option<i128>
     ensures { result ≡ value term env.now }
 {

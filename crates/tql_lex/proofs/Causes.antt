@@ -1,4 +1,4 @@
--- A text has a fault exactly where its cause stands behind whole tokens.
+-- A text has a fault if and only if its cause stands behind whole tokens.
 use Rattle.std.proofs.Common.{◌≡◌, ◌∙◌, sym, ap, refl, subst, arith, ℕ, zero, suc, pos, List, [], ◌∷◌, ◌++◌, ◌+◌, ◌-◌, ◌≤◌, ◌<◌, take, drop, length, get_or, append_assoc, Bool, true, false, if◌then◌else◌, Option, Some, None, Result, Ok, Err}
 use Rattle.std.specs.Prelude.{◌==◌, nat_lt}
 use Rattle.std.specs.List.{list_all}
@@ -221,7 +221,7 @@ reached place text end rest fault (here p t) e = e
 reached place text end rest fault (blank p b t q r c h) e = rw c (reached (p + 1) t q r fault h e)
 reached place text end rest fault (one p s t kind q r h n more) e = spelling_step p s t kind h n ∙ ap (with_front (token kind p (length s) ∷ [])) (reached (p + length s) t q r fault more e)
 
--- where the cause of a fault stands, the text has it
+-- a text with the cause of a fault has the fault
 pub cause_gives_fault : (text : List ℕ) (fault : LexFault) → length text ≤ 4096 → FaultIn 0 text fault → lexed text ≡ Err fault
 cause_gives_fault text fault short f = lexed-short text short ∙ reached 0 text f.at f.rest fault f.reaches (cause_here f.at f.rest fault f.cause)
 

@@ -98,7 +98,7 @@ quoted_over (c ∷ content) rest stops = go (c == 39) refl (quoted_over content 
         let n : 1 + (length (between_quotes content) + 1) ≡ length (c ∷ between_quotes content) + 1 = omega arith in
         quoted_plain c (between_quotes content ++ 39 ∷ rest) e ∙ ap (with_content (c ∷ []) 1) ih ∙ rw n refl
 
--- where a sign of one byte ends, no sign of two begins
+-- no sign of two bytes begins with a sign of one byte that ends there
 pub no_long : (b c : ℕ) (sign : Sign) → short_sign b ≡ Some sign → goes_on (Mark sign) c ≡ false → long_sign b c ≡ None
 no_long b c S.Open e n = grind (arith, nat_tests)
 no_long b c S.Close e n = grind (arith, nat_tests)

@@ -1,4 +1,4 @@
--- Where a text has no tokens.
+-- Why a text has no tokens, and where.
 use Rattle.std.specs.Prelude.{◌≡◌, ◌<◌, ℕ, List, ◌∷◌, ◌++◌, ◌+◌, length, true, false}
 use Rattle.std.specs.List.{list_all}
 use Rattle.std.specs.Str.Parse.{digits_value}
@@ -12,8 +12,11 @@ use Rattle.tql_lex.specs.Spelling.{between_quotes, Spells, ends_before}
 -- Blanks and whole tokens, each as long as it can be, lead from a place and a text to a later place and the text there.
 pub data Reaches : ℕ → List ℕ → ℕ → List ℕ → Type 0 where
   here : (place : ℕ) (text : List ℕ) → Reaches place text place text
-  blank : (place b : ℕ) (text : List ℕ) (end : ℕ) (rest : List ℕ) → is_between_tokens b ≡ true → Reaches (place + 1) text end rest → Reaches place (b ∷ text) end rest
-  one : (place : ℕ) (spelling text : List ℕ) (kind : Kind) (end : ℕ) (rest : List ℕ) → Spells spelling kind → ends_before kind text ≡ true → Reaches (place + length spelling) text end rest → Reaches place (spelling ++ text) end rest
+  blank : (place b : ℕ) (text : List ℕ) (end : ℕ) (rest : List ℕ)
+      → is_between_tokens b ≡ true → Reaches (place + 1) text end rest → Reaches place (b ∷ text) end rest
+  one : (place : ℕ) (spelling text : List ℕ) (kind : Kind) (end : ℕ) (rest : List ℕ)
+      → Spells spelling kind → ends_before kind text ≡ true
+      → Reaches (place + length spelling) text end rest → Reaches place (spelling ++ text) end rest
 
 -- no token begins with the first byte, which is no blank
 pub record IsBadByte (text : List ℕ) : Type 0 where

@@ -22,7 +22,8 @@ between_quotes content = flat_map doubled content
 -- bytes that a token of this kind may be written in
 pub data Spells : List ℕ → Kind → Type 0 where
   word_is : (b : ℕ) (rest : List ℕ) → begins_word b ≡ true → list_all is_of_word rest ≡ true → Spells (b ∷ rest) (Word (str_to_ascii_lowercase (b ∷ rest)))
-  number_is : (b : ℕ) (rest : List ℕ) → is_digit b ≡ true → list_all is_digit rest ≡ true → digits_value 10 (b ∷ rest) ≤ most → Spells (b ∷ rest) (Number (pos (digits_value 10 (b ∷ rest))))
+  number_is : (b : ℕ) (rest : List ℕ)
+      → is_digit b ≡ true → list_all is_digit rest ≡ true → digits_value 10 (b ∷ rest) ≤ most → Spells (b ∷ rest) (Number (pos (digits_value 10 (b ∷ rest))))
   text_is : (content : List ℕ) → Spells (39 ∷ (between_quotes content ++ 39 ∷ [])) (Str content)
   short_is : (b : ℕ) (sign : Sign) → short_sign b ≡ Some sign → Spells (b ∷ []) (Mark sign)
   long_is : (b c : ℕ) (sign : Sign) → long_sign b c ≡ Some sign → Spells (b ∷ c ∷ []) (Mark sign)
@@ -44,8 +45,11 @@ ends_before kind (b ∷ rest) = not (goes_on kind b)
 -- The text from a place on is these tokens: each is as long as it can be, and only blanks and line ends lie between them.
 pub data AreTokens : ℕ → List ℕ → List Token → Type 0 where
   none : (place : ℕ) → AreTokens place [] []
-  blank : (place b : ℕ) (rest : List ℕ) (tokens : List Token) → is_between_tokens b ≡ true → AreTokens (place + 1) rest tokens → AreTokens place (b ∷ rest) tokens
-  one : (place : ℕ) (spelling rest : List ℕ) (kind : Kind) (tokens : List Token) → Spells spelling kind → ends_before kind rest ≡ true → AreTokens (place + length spelling) rest tokens → AreTokens place (spelling ++ rest) (token kind place (length spelling) ∷ tokens)
+  blank : (place b : ℕ) (rest : List ℕ) (tokens : List Token)
+      → is_between_tokens b ≡ true → AreTokens (place + 1) rest tokens → AreTokens place (b ∷ rest) tokens
+  one : (place : ℕ) (spelling rest : List ℕ) (kind : Kind) (tokens : List Token)
+      → Spells spelling kind → ends_before kind rest ≡ true → AreTokens (place + length spelling) rest tokens
+      → AreTokens place (spelling ++ rest) (token kind place (length spelling) ∷ tokens)
 
 -- the tokens stand one behind another, from a place on and up to an end, and none is empty
 abbrev pub in_order : ℕ → List Token → ℕ → Type 0
@@ -57,6 +61,7 @@ abbrev pub IsNotBelow : Kind → Type 0
 IsNotBelow (Number n) = pos 0 ≤ℤ n
 IsNotBelow kind = Unit {0}
 
+-- no token is a number below 0
 abbrev pub no_number_below : List Token → Type 0
 no_number_below [] = Unit {0}
 no_number_below (t ∷ tokens) = IsNotBelow t.kind × no_number_below tokens

@@ -1,9 +1,10 @@
+//! What a token is.
 ghost use Rattle.std.specs.Prelude.{◌≡◌, IfOk};
 
 use crate::Sign;
 use tap_base::{Memory, Text};
 
-/// What a token is. A word is lowered, and in a text a doubled quote is one.
+/// Says what a token is: a word with A to Z lowered, a number, a text with each doubled quote as one, or a sign.
 #[derive(Drop)]
 pub enum Kind {
     Word(Text),
@@ -13,7 +14,7 @@ pub enum Kind {
 }
 
 impl Kind {
-    /// The same kind once more.
+    /// Returns an equal kind. `Memory` if out of memory.
     pub fn copy(&self) -> Result<Kind, Memory>
         ensures { IfOk result (λ kind. kind ≡ self.now) }
     {

@@ -1,6 +1,7 @@
+//! The signs among the tokens.
 use tap_base::Op;
 
-/// A sign.
+/// Names a sign of one or two bytes: `(`, `)`, `.`, `:`, `+`, `-`, or that of a comparison.
 #[derive(Clone, Copy, Debug, PartialEq, Eq)]
 pub enum Sign {
     Open,

@@ -1,9 +1,10 @@
+//! Tokens and their places.
 ghost use Rattle.std.specs.Prelude.{◌≡◌, IfOk};
 
 use crate::Kind;
 use tap_base::Memory;
 
-/// A token, with the place of its first byte and the place after its last one.
+/// Holds a token, the place of its first byte, and the place after its last one. Places count bytes from 0.
 #[derive(Drop)]
 pub struct Token {
     pub kind: Kind,
@@ -12,7 +13,7 @@ pub struct Token {
 }
 
 impl Token {
-    /// The same token once more.
+    /// Returns an equal token. `Memory` if out of memory.
     pub fn copy(&self) -> Result<Token, Memory>
         ensures { IfOk result (λ token. token ≡ self.now) }
     {

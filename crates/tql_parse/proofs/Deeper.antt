@@ -192,6 +192,6 @@ deep_goes_on t p x y z (taken u v w q) e g = spent_goes_on w q
 deep_goes_on t p x y z (before d v w n) e g = absurd (true≢false (sym (not_end_fails d n) ∙ g))
 deep_goes_on t p x y z (refused u w q) e g = absurd (cc)
 
--- where a level is missing at the last token, one level more goes on with it
+-- if a level is missing at the last token, one level more goes on with it
 pub one_level_more : (n : ℕ) (front : List Token) (t : Token) (p : ℕ) → fails_at (query_at n front) ≡ false → query_at n (front ++ t ∷ []) ≡ Err (Deep p) → fails_at (query_at (suc n) (front ++ t ∷ [])) ≡ false
 one_level_more n front t p g e = deep_goes_on t p (cond_at n front) (cond_at n (front ++ t ∷ [])) (cond_at (suc n) (front ++ t ∷ [])) ((dig_cond n (suc n) (dig_unit n)).out t front (front ++ t ∷ []) (last_of t front)) e g

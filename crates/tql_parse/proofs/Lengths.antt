@@ -7,7 +7,7 @@ use Rattle.tql_tree.specs.Syntax.{Syntax}
 use Rattle.tql_parse.specs.Grammar.{IsShift, forward, back, MayShift, none, some, IsExpr, number_is, negative, text_is, now, today, moment, field, IsCompare, compare, has, Part, Cond, Conj, One, Reads, conj_alone, or_conj, unit_alone, and_unit, not_unit, group, true_is, false_is, exists_is, compare_is}
 use Rattle.tql_parse.specs.Reading.{conj_with, unit_at}
 use Rattle.tql_parse.proofs.Steps.{on_ok}
-use Rattle.tql_parse.proofs.Sound.{on_unit_at, on_conj}
+use Rattle.tql_parse.proofs.Soundness.{on_unit_at, on_conj}
 use Rattle.tql_parse.proofs.Chains.{Shrinks}
 
 shift_less : (ts : List Token) (s : Shift) (rest : List Token) → IsShift ts s rest → length rest ≤ length ts

@@ -1,4 +1,4 @@
--- With more levels the same is read, but where a level was missing.
+-- More levels change only what lacked a level.
 use Rattle.std.proofs.Common.{◌≡◌, refl, arith, ℕ, zero, suc, List, [], ◌∷◌, length, Bool, true, false, Ok, Err, ◌≤◌, if◌then◌else◌}
 use Rattle.tql_lex.specs.declared.token.Token.{Token}
 use Rattle.tql_tree.specs.Syntax.{Syntax, Or, And, Not, Exists}
@@ -11,7 +11,7 @@ use Rattle.tql_parse.specs.Keys.{key, bytes, is_and, is_or, is_close, opening}
 use Rattle.tql_parse.specs.Reading.{Read, ◌>>=◌, one, chain, conj_with, cond_with, group_with, head_at, exists_with, not_with, unit_at, cond_at, query_at, end_of}
 use Rattle.tql_parse.proofs.Units.{at_zero, at_suc, unit_end}
 
--- the same, or a level was missing
+-- equal, or a level was missing
 pub data Rise (A : Type 0) : Read A → Read A → Type 0 where
   same : (x : Read A) → Rise A x x
   missing : (p : ℕ) (y : Read A) → Rise A (Err (Deep p)) y

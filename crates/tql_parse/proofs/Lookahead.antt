@@ -23,7 +23,7 @@ use Rattle.tql_parse.proofs.Chains.{Shrinks, same}
 use Rattle.tql_parse.proofs.Lengths.{unit_shrinks, conj_shrinks}
 use Rattle.tql_parse.proofs.Units.{at_zero, at_suc, unit_end}
 
--- the tokens before one, the tokens up to it, and the same with more behind it
+-- the tokens before one, those up to it, and those with more behind it
 pub data Sim : Token → List Token → List Token → List Token → Type 0 where
   here : (t : Token) (m : List Token) → Sim t [] (t ∷ []) (t ∷ m)
   there : (t x : Token) (b r s : List Token) → Sim t b r s → Sim t (x ∷ b) (x ∷ r) (x ∷ s)

@@ -30,7 +30,7 @@ use Rattle.tql_parse.specs.Grammar.{Begins, IsQuery}
 use Rattle.tql_parse.specs.Reading.{query_at, end_of}
 use Rattle.tql_parse.proofs.Chains.{Shrinks, same}
 use Rattle.tql_parse.proofs.Lengths.{unit_shrinks, conj_shrinks}
-use Rattle.tql_parse.proofs.Sound.{on_unit_at, on_cond}
+use Rattle.tql_parse.proofs.Soundness.{on_unit_at, on_cond}
 use Rattle.tql_parse.proofs.Complete.{no_shift}
 use Rattle.tql_parse.proofs.Queries.{query_ok}
 use Rattle.tql_parse.proofs.Units.{at_zero, at_suc, unit_end, unit_true}
@@ -237,7 +237,7 @@ ended_cond (Ok (x, [])) e = absurd (cc)
 ended_cond (Ok (x, t ∷ rest)) e = absurd (cc)
 ended_cond (Err d) e = let q : d ≡ Ended = cc in ap (λ (d : ParseFault). Err d) q
 
--- where more tokens are wanted, the tokens begin a query
+-- if more tokens are needed, the tokens begin a query
 pub ended_begins : (n : ℕ) (ts : List Token) → query_at n ts ≡ Err Ended → Begins n ts
 ended_begins n ts e =
     let f = (whole_cond n (whole_unit_at n)).ends ts (ended_cond (cond_at n ts) e) in
@@ -251,6 +251,6 @@ begins_by n ts (Err (Unexpected p)) e v = absurd (true≢false v)
 begins_by n ts (Err (Deep p)) e v = absurd (true≢false v)
 begins_by n ts (Err Memory) e v = absurd (true≢false v)
 
--- where there is no fault at a token, the tokens begin a query
+-- if there is no fault at a token, the tokens begin a query
 pub begins : (n : ℕ) (ts : List Token) → fails_at (query_at n ts) ≡ false → Begins n ts
 begins n ts v = begins_by n ts (query_at n ts) refl v

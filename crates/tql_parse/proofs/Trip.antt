@@ -37,7 +37,7 @@ rank Cond = 0
 rank Conj = 1
 rank One = 2
 
--- is it in parentheses where this part is wanted?
+-- does it stand in parentheses as this part?
 abbrev weaker : Syntax → ℕ → Bool
 weaker x k = nat_lt (strength x) k
 
@@ -69,7 +69,7 @@ left_fits a b n p = grind (arith, nat_tests)
 right_fits : (a b n : ℕ) → most_of a b ≤ n → b ≤ n
 right_fits a b n p = grind (arith, nat_tests)
 
--- what is in parentheses where less is wanted is so where more is wanted
+-- what stands in parentheses as a weaker part does so as a stronger one
 less_wrapped : (s k m l n : ℕ) → k ≤ m → wrapped (nat_lt s m) l ≤ n → wrapped (nat_lt s k) l ≤ n
 less_wrapped s k m l n le h = go (nat_lt s k) (nat_lt s m) refl refl h
   where
@@ -140,7 +140,7 @@ module _ (n : ℕ) (x : Syntax) (Q : List Token → Type 0) where
   made_group : (ts : List Token) → Next (W.Mark S.Open) (TreeBack Cond n x (Next (W.Mark S.Close) Q)) ts → TreeBack One (suc n) x Q ts
   made_group ts (next t us e b) = grouped t us b.value b.rest e b.reads b.same b.after
 
--- a part serves where a weaker one is wanted
+-- a part is also each weaker one
 lifted : (p q : Part) (n : ℕ) (x : Syntax) (text : List ℕ) → rank q ≤ rank p → Reader p n x text → Reader q n x text
 lifted Cond Cond n x text le h = h
 lifted Cond Conj n x text le h = absurd (omega arith)
@@ -174,7 +174,7 @@ one_most Cond = omega arith
 one_most Conj = omega arith
 one_most One = omega arith
 
--- in parentheses where it must be
+-- in parentheses if it must be
 wrap_reader : (x : Syntax) (p : Part) (n : ℕ) → ((m : ℕ) → levels x ≤ m → Reader (part_of x) m x (canonical x)) → wrapped (weaker x (rank p)) (levels x) ≤ n → Reader p n x (within (weaker x (rank p)) (canonical x))
 wrap_reader x p n h fits = go (weaker x (rank p)) refl n fits
   where

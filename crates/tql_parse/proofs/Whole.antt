@@ -1,4 +1,4 @@
--- Reading can go on: where it wants more tokens, some tokens complete what was begun.
+-- Reading can go on: if it needs more tokens, some tokens complete what was begun.
 use Rattle.std.proofs.Common.{◌≡◌, ◌∙◌, sym, ap, refl, List, [], ◌∷◌, ◌++◌, append_assoc, Bool, true, false, Ok, Err}
 use Rattle.std.specs.Prelude.{◌||◌}
 use Rattle.tql_lex.specs.declared.kind.Kind.{Kind}

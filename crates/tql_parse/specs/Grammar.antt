@@ -15,14 +15,24 @@ use Rattle.tql_parse.specs.declared.key.Key.TheVariants as K
 use Rattle.tql_parse.specs.Keys.{key, number, bytes, is_word, is_number, is_text, is_name, is_and, is_or, is_where, is_open, is_close, is_dot, is_colon}
 use Rattle.tql_tree.specs.Proper.{is_plain}
 
--- what a token is
+-- the token's key passes the test
 abbrev pub is : (Key → Bool) → Token → Type 0
 is test t = test (key t.kind) ≡ true
 
 -- shift = ( "+" | "-" ) number unitword
 pub data IsShift : List Token → Shift → List Token → Type 0 where
-  forward : (sign count unit : Token) (u : TimeUnit) (rest : List Token) → key sign.kind ≡ K.Mark S.Plus → is is_number count → key unit.kind ≡ K.Unit u → IsShift (sign ∷ count ∷ unit ∷ rest) (record { place = sign.place; back = false; count_place = count.place; count = number count.kind; unit = u }) rest
-  back : (sign count unit : Token) (u : TimeUnit) (rest : List Token) → key sign.kind ≡ K.Mark S.Minus → is is_number count → key unit.kind ≡ K.Unit u → IsShift (sign ∷ count ∷ unit ∷ rest) (record { place = sign.place; back = true; count_place = count.place; count = number count.kind; unit = u }) rest
+  forward : (sign count unit : Token) (u : TimeUnit) (rest : List Token)
+      → key sign.kind ≡ K.Mark S.Plus → is is_number count → key unit.kind ≡ K.Unit u
+      → IsShift
+      (sign ∷ count ∷ unit ∷ rest)
+      (record { place = sign.place; back = false; count_place = count.place; count = number count.kind; unit = u })
+      rest
+  back : (sign count unit : Token) (u : TimeUnit) (rest : List Token)
+      → key sign.kind ≡ K.Mark S.Minus → is is_number count → key unit.kind ≡ K.Unit u
+      → IsShift
+      (sign ∷ count ∷ unit ∷ rest)
+      (record { place = sign.place; back = true; count_place = count.place; count = number count.kind; unit = u })
+      rest
 
 -- [ shift ]
 pub data MayShift : List Token → Option Shift → List Token → Type 0 where
@@ -32,12 +42,19 @@ pub data MayShift : List Token → Option Shift → List Token → Type 0 where
 -- expr = number | "-" number | text | NOW [ shift ] | TODAY [ shift ] | TIME text [ shift ] | var "." field [ shift ]
 pub data IsExpr : List Token → Expr → List Token → Type 0 where
   number_is : (t : Token) (rest : List Token) → key t.kind ≡ K.Number → IsExpr (t ∷ rest) (E.Number t.place (number t.kind)) rest
-  negative : (minus t : Token) (rest : List Token) → key minus.kind ≡ K.Mark S.Minus → is is_number t → IsExpr (minus ∷ t ∷ rest) (E.Number minus.place (pos 0 -ℤ number t.kind)) rest
+  negative : (minus t : Token) (rest : List Token)
+      → key minus.kind ≡ K.Mark S.Minus → is is_number t → IsExpr (minus ∷ t ∷ rest) (E.Number minus.place (pos 0 -ℤ number t.kind)) rest
   text_is : (t : Token) (rest : List Token) → key t.kind ≡ K.Str → IsExpr (t ∷ rest) (E.Str t.place (bytes t.kind)) rest
-  now : (t : Token) (ts : List Token) (s : Option Shift) (rest : List Token) → key t.kind ≡ K.Now → MayShift ts s rest → IsExpr (t ∷ ts) (E.Now t.place s) rest
-  today : (t : Token) (ts : List Token) (s : Option Shift) (rest : List Token) → key t.kind ≡ K.Today → MayShift ts s rest → IsExpr (t ∷ ts) (E.Today t.place s) rest
-  moment : (t text : Token) (ts : List Token) (s : Option Shift) (rest : List Token) → key t.kind ≡ K.Time → is is_text text → MayShift ts s rest → IsExpr (t ∷ text ∷ ts) (E.Moment text.place (bytes text.kind) s) rest
-  field : (var dot name : Token) (ts : List Token) (s : Option Shift) (rest : List Token) → key var.kind ≡ K.Name → is is_dot dot → is_word name.kind ≡ true → MayShift ts s rest → IsExpr (var ∷ dot ∷ name ∷ ts) (E.Field (bytes var.kind) var.place (bytes name.kind) name.place s) rest
+  now : (t : Token) (ts : List Token) (s : Option Shift) (rest : List Token)
+      → key t.kind ≡ K.Now → MayShift ts s rest → IsExpr (t ∷ ts) (E.Now t.place s) rest
+  today : (t : Token) (ts : List Token) (s : Option Shift) (rest : List Token)
+      → key t.kind ≡ K.Today → MayShift ts s rest → IsExpr (t ∷ ts) (E.Today t.place s) rest
+  moment : (t text : Token) (ts : List Token) (s : Option Shift) (rest : List Token)
+      → key t.kind ≡ K.Time → is is_text text → MayShift ts s rest
+      → IsExpr (t ∷ text ∷ ts) (E.Moment text.place (bytes text.kind) s) rest
+  field : (var dot name : Token) (ts : List Token) (s : Option Shift) (rest : List Token)
+      → key var.kind ≡ K.Name → is is_dot dot → is_word name.kind ≡ true → MayShift ts s rest
+      → IsExpr (var ∷ dot ∷ name ∷ ts) (E.Field (bytes var.kind) var.place (bytes name.kind) name.place s) rest
 
 -- table = DOC | NOTE
 pub data IsTable : Token → Table → Type 0 where
@@ -46,8 +63,12 @@ pub data IsTable : Token → Table → Type 0 where
 
 -- compare = expr op expr | var "." field HAS expr
 pub data IsCompare : List Token → Syntax → List Token → Type 0 where
-  compare : (ts : List Token) (left : Expr) (o : Token) (op : Op) (mid : List Token) (right : Expr) (rest : List Token) → IsExpr ts left (o ∷ mid) → key o.kind ≡ K.Mark (S.Compare op) → IsExpr mid right rest → IsCompare ts (Compare left op o.place right) rest
-  has : (ts : List Token) (left : Expr) (h : Token) (mid : List Token) (right : Expr) (rest : List Token) → IsExpr ts left (h ∷ mid) → is_plain left ≡ true → key h.kind ≡ K.Has → IsExpr mid right rest → IsCompare ts (Has left h.place right) rest
+  compare : (ts : List Token) (left : Expr) (o : Token) (op : Op) (mid : List Token) (right : Expr) (rest : List Token)
+      → IsExpr ts left (o ∷ mid) → key o.kind ≡ K.Mark (S.Compare op) → IsExpr mid right rest
+      → IsCompare ts (Compare left op o.place right) rest
+  has : (ts : List Token) (left : Expr) (h : Token) (mid : List Token) (right : Expr) (rest : List Token)
+      → IsExpr ts left (h ∷ mid) → is_plain left ≡ true → key h.kind ≡ K.Has → IsExpr mid right rest
+      → IsCompare ts (Has left h.place right) rest
 
 -- the parts that go down levels
 pub data Part : Type 0 where
@@ -55,19 +76,31 @@ pub data Part : Type 0 where
   Conj : Part
   One : Part
 
--- With at most so many levels open at a place, counted from here on, the tokens up to the rest are this part. NOT, the `(` of a group and EXISTS each open one.
+-- The tokens up to the rest are this part, with at most so many levels open at a place, counted from here on.
+-- NOT, the `(` of a group and EXISTS each open a level.
 -- cond = conj { OR conj }, conj = unit { AND unit }, both left-nested
 -- unit = NOT unit | "(" cond ")" | TRUE | FALSE | EXISTS "(" var ":" table WHERE cond ")" | compare
 pub data Reads : Part → ℕ → List Token → Syntax → List Token → Type 0 where
   conj_alone : (n : ℕ) (ts : List Token) (x : Syntax) (rest : List Token) → Reads Conj n ts x rest → Reads Cond n ts x rest
-  or_conj : (n : ℕ) (ts : List Token) (l : Syntax) (o : Token) (mid : List Token) (r : Syntax) (rest : List Token) → Reads Cond n ts l (o ∷ mid) → is is_or o → Reads Conj n mid r rest → Reads Cond n ts (Or l r) rest
+  or_conj : (n : ℕ) (ts : List Token) (l : Syntax) (o : Token) (mid : List Token) (r : Syntax) (rest : List Token)
+      → Reads Cond n ts l (o ∷ mid) → is is_or o → Reads Conj n mid r rest
+      → Reads Cond n ts (Or l r) rest
   unit_alone : (n : ℕ) (ts : List Token) (x : Syntax) (rest : List Token) → Reads One n ts x rest → Reads Conj n ts x rest
-  and_unit : (n : ℕ) (ts : List Token) (l : Syntax) (a : Token) (mid : List Token) (r : Syntax) (rest : List Token) → Reads Conj n ts l (a ∷ mid) → is is_and a → Reads One n mid r rest → Reads Conj n ts (And l r) rest
-  not_unit : (n : ℕ) (t : Token) (ts : List Token) (x : Syntax) (rest : List Token) → key t.kind ≡ K.Not → Reads One n ts x rest → Reads One (suc n) (t ∷ ts) (Not x) rest
-  group : (n : ℕ) (t : Token) (ts : List Token) (x : Syntax) (close : Token) (rest : List Token) → key t.kind ≡ K.Mark S.Open → Reads Cond n ts x (close ∷ rest) → is is_close close → Reads One (suc n) (t ∷ ts) x rest
+  and_unit : (n : ℕ) (ts : List Token) (l : Syntax) (a : Token) (mid : List Token) (r : Syntax) (rest : List Token)
+      → Reads Conj n ts l (a ∷ mid) → is is_and a → Reads One n mid r rest
+      → Reads Conj n ts (And l r) rest
+  not_unit : (n : ℕ) (t : Token) (ts : List Token) (x : Syntax) (rest : List Token)
+      → key t.kind ≡ K.Not → Reads One n ts x rest → Reads One (suc n) (t ∷ ts) (Not x) rest
+  group : (n : ℕ) (t : Token) (ts : List Token) (x : Syntax) (close : Token) (rest : List Token)
+      → key t.kind ≡ K.Mark S.Open → Reads Cond n ts x (close ∷ rest) → is is_close close
+      → Reads One (suc n) (t ∷ ts) x rest
   true_is : (n : ℕ) (t : Token) (rest : List Token) → key t.kind ≡ K.True → Reads One n (t ∷ rest) True rest
   false_is : (n : ℕ) (t : Token) (rest : List Token) → key t.kind ≡ K.False → Reads One n (t ∷ rest) False rest
-  exists_is : (n : ℕ) (t opening var colon table where_is : Token) (which : Table) (ts : List Token) (x : Syntax) (close : Token) (rest : List Token) → key t.kind ≡ K.Exists → is is_open opening → is is_name var → is is_colon colon → IsTable table which → is is_where where_is → Reads Cond n ts x (close ∷ rest) → is is_close close → Reads One (suc n) (t ∷ opening ∷ var ∷ colon ∷ table ∷ where_is ∷ ts) (Exists (bytes var.kind) var.place which x) rest
+  exists_is : (n : ℕ) (t opening var colon table where_is : Token) (which : Table) (ts : List Token) (x : Syntax) (close : Token) (rest : List Token)
+      → key t.kind ≡ K.Exists → is is_open opening → is is_name var → is is_colon colon
+      → IsTable table which → is is_where where_is
+      → Reads Cond n ts x (close ∷ rest) → is is_close close
+      → Reads One (suc n) (t ∷ opening ∷ var ∷ colon ∷ table ∷ where_is ∷ ts) (Exists (bytes var.kind) var.place which x) rest
   compare_is : (n : ℕ) (ts : List Token) (x : Syntax) (rest : List Token) → IsCompare ts x rest → Reads One n ts x rest
 
 -- all tokens are a query of at most so many levels
@@ -80,7 +113,7 @@ pub record Begins (n : ℕ) (ts : List Token) : Type 0 where
   pub tree : Syntax
   pub is_query : IsQuery n (ts ++ more) tree
 
--- The tokens before this one begin a query, and with it they begin one only where more levels are allowed: it is the first such token.
+-- The tokens before this one begin a query, and with it they begin one only if more levels are allowed.
 pub record DeepAt (n : ℕ) (ts : List Token) (place : ℕ) : Type 0 where
   pub before : List Token
   pub at : Token
@@ -101,3 +134,8 @@ pub record UnexpectedAt (n : ℕ) (ts : List Token) (place : ℕ) : Type 0 where
   pub place_is : place ≡ at.place
   pub begins : Begins n before
   pub stops : (m : ℕ) → Begins m (before ++ at ∷ []) → ⊥
+
+-- The tokens begin a query, and are none themselves.
+pub record EndsEarly (n : ℕ) (ts : List Token) : Type 0 where
+  pub begins : Begins n ts
+  pub is_none : (x : Syntax) → IsQuery n ts x → ⊥

@@ -17,4 +17,6 @@ pub record ReadsAs (text : List ℕ) (query : Syntax) : Type 0 where
 
 -- the canonical text of a query that was read from a text, if it isn't too long, is that query again
 abbrev pub ReadsBack : Type 0
-ReadsBack = (text : List ℕ) (tokens : List Token) (query : Syntax) → lexed text ≡ Ok tokens → IsQuery 32 tokens query → length (canonical query) ≤ 4096 → ReadsAs (canonical query) query
+ReadsBack =
+    (text : List ℕ) (tokens : List Token) (query : Syntax) → lexed text ≡ Ok tokens → IsQuery 32 tokens query
+    → length (canonical query) ≤ 4096 → ReadsAs (canonical query) query

@@ -1,7 +1,8 @@
-ghost use Rattle.std.specs.Prelude.{◌≡◌, IfOk, ◌≤ℤ◌, ◌-ℤ◌, pos, length, List};
-ghost use Rattle.tql_parse.specs.Keys.{key, number, bytes, is_word, is_number, is_text, is_name, is_where, is_open, is_close, is_dot, is_colon};
-ghost use Rattle.tql_tree.specs.Proper.{is_plain};
-ghost use Rattle.tql_parse.specs.Reading.{Gives, one, unit_name, table_at, shift_after, shift_at, negative_at, now_at, today_at, moment_at, field_at, expr_at, head_at, right_at, compare_at};
+//! Reads comparisons and what else opens no level.
+ghost use Rattle.std.specs.Prelude.{IfOk, ◌≤ℤ◌, pos};
+ghost use Rattle.tql_parse.specs.Keys.{key, number, bytes, is_word, is_number, is_key};
+ghost use Rattle.tql_parse.specs.Reading.{Gives, one, unit_name, table_at, shift_after, shift_at, negative_at, now_at};
+ghost use Rattle.tql_parse.specs.Reading.{today_at, moment_at, field_at, expr_at, head_at, right_at, compare_at};
 ghost use Rattle.tql_tree.specs.Syntax.{syntax};
 
 use crate::key::{bytes_of, is_any_word, is_plain_field, key_of, number_of};
@@ -10,6 +11,24 @@ use std::alloc::Global;
 use tql_lex::{Sign, Token};
 use tql_tree::{Expr, Shift, Table, Tree, Unit};
 
+/// Returns the next token, if it is this one, and the tokens behind it. `Unexpected` is at another token, and `Ended`
+/// comes if there is none.
+pub fn expect(wanted: Key, tokens: &[Token]) -> Result<(&Token, &[Token]), ParseFault>
+    ensures { Gives (λ x. (x.0.now, x.1.now)) result (one (λ k. is_key wanted (key k)) tokens.now) }
+{
+    match tokens {
+        [] => Err(ParseFault::Ended),
+        [token, rest @ ..] => {
+            if key_of(token) == wanted {
+                Ok((token, rest))
+            } else {
+                Err(ParseFault::Unexpected { place: token.place })
+            }
+        }
+    }
+}
+
+// Returns the number at the front, which is at least 0.
 fn number(tokens: &[Token]) -> Result<(&Token, &[Token]), ParseFault>
     ensures value { Gives (λ x. (x.0.now, x.1.now)) result (one (λ k. is_number (key k)) tokens.now) }
     ensures least { IfOk result (λ x. pos 0 ≤ℤ number x.0.now.kind) }
@@ -26,18 +45,7 @@ fn number(tokens: &[Token]) -> Result<(&Token, &[Token]), ParseFault>
     }
 }
 
-fn dot(tokens: &[Token]) -> Result<(&Token, &[Token]), ParseFault>
-    ensures { Gives (λ x. (x.0.now, x.1.now)) result (one (λ k. is_dot (key k)) tokens.now) }
-{
-    match tokens {
-        [] => Err(ParseFault::Ended),
-        [token, rest @ ..] => match key_of(token) {
-            Key::Mark(Sign::Dot) => Ok((token, rest)),
-            _ => Err(ParseFault::Unexpected { place: token.place }),
-        },
-    }
-}
-
+// Returns the word at the front, reserved or not.
 fn any_word(tokens: &[Token]) -> Result<(&Token, &[Token]), ParseFault>
     ensures { Gives (λ x. (x.0.now, x.1.now)) result (one is_word tokens.now) }
 {
@@ -53,6 +61,7 @@ fn any_word(tokens: &[Token]) -> Result<(&Token, &[Token]), ParseFault>
     }
 }
 
+// Returns the unit of time at the front.
 fn unit_of_time(tokens: &[Token]) -> Result<(Unit, &[Token]), ParseFault>
     ensures { Gives (λ x. (x.0, x.1.now)) result (unit_name tokens.now) }
 {
@@ -65,6 +74,7 @@ fn unit_of_time(tokens: &[Token]) -> Result<(Unit, &[Token]), ParseFault>
     }
 }
 
+// Returns the shift whose sign stands before the tokens.
 fn shift_behind(
     place: u32,
     back: bool,
@@ -84,6 +94,7 @@ fn shift_behind(
     Ok((Some(shift), rest))
 }
 
+// Returns the shift at the front, if there is one.
 fn shift(tokens: &[Token]) -> Result<(Option<Shift>, &[Token]), ParseFault>
     ensures { Gives (λ x. (x.0, x.1.now)) result (shift_at tokens.now) }
 {
@@ -97,6 +108,7 @@ fn shift(tokens: &[Token]) -> Result<(Option<Shift>, &[Token]), ParseFault>
     }
 }
 
+// Returns the field of the variable, from its `.` on.
 fn field<'a>(
     alloc: Global,
     var: &Token,
@@ -104,7 +116,7 @@ fn field<'a>(
 ) -> Result<(Expr, &'a [Token]), ParseFault>
     ensures { Gives (λ x. (x.0, x.1.now)) result (field_at var.now tokens.now) }
 {
-    let (_, rest) = dot(tokens)?;
+    let (_, rest) = expect(Key::Mark(Sign::Dot), tokens)?;
     let (name, rest) = any_word(rest)?;
     let (shift, rest) = shift(rest)?;
     let expr = Expr::Field {
@@ -117,78 +129,7 @@ fn field<'a>(
     Ok((expr, rest))
 }
 
-fn text(tokens: &[Token]) -> Result<(&Token, &[Token]), ParseFault>
-    ensures { Gives (λ x. (x.0.now, x.1.now)) result (one (λ k. is_text (key k)) tokens.now) }
-{
-    match tokens {
-        [] => Err(ParseFault::Ended),
-        [token, rest @ ..] => match key_of(token) {
-            Key::Str => Ok((token, rest)),
-            _ => Err(ParseFault::Unexpected { place: token.place }),
-        },
-    }
-}
-
-fn name(tokens: &[Token]) -> Result<(&Token, &[Token]), ParseFault>
-    ensures { Gives (λ x. (x.0.now, x.1.now)) result (one (λ k. is_name (key k)) tokens.now) }
-{
-    match tokens {
-        [] => Err(ParseFault::Ended),
-        [token, rest @ ..] => match key_of(token) {
-            Key::Name => Ok((token, rest)),
-            _ => Err(ParseFault::Unexpected { place: token.place }),
-        },
-    }
-}
-
-fn where_word(tokens: &[Token]) -> Result<(&Token, &[Token]), ParseFault>
-    ensures { Gives (λ x. (x.0.now, x.1.now)) result (one (λ k. is_where (key k)) tokens.now) }
-{
-    match tokens {
-        [] => Err(ParseFault::Ended),
-        [token, rest @ ..] => match key_of(token) {
-            Key::Where => Ok((token, rest)),
-            _ => Err(ParseFault::Unexpected { place: token.place }),
-        },
-    }
-}
-
-fn open_sign(tokens: &[Token]) -> Result<(&Token, &[Token]), ParseFault>
-    ensures { Gives (λ x. (x.0.now, x.1.now)) result (one (λ k. is_open (key k)) tokens.now) }
-{
-    match tokens {
-        [] => Err(ParseFault::Ended),
-        [token, rest @ ..] => match key_of(token) {
-            Key::Mark(Sign::Open) => Ok((token, rest)),
-            _ => Err(ParseFault::Unexpected { place: token.place }),
-        },
-    }
-}
-
-pub fn close_sign(tokens: &[Token]) -> Result<(&Token, &[Token]), ParseFault>
-    ensures { Gives (λ x. (x.0.now, x.1.now)) result (one (λ k. is_close (key k)) tokens.now) }
-{
-    match tokens {
-        [] => Err(ParseFault::Ended),
-        [token, rest @ ..] => match key_of(token) {
-            Key::Mark(Sign::Close) => Ok((token, rest)),
-            _ => Err(ParseFault::Unexpected { place: token.place }),
-        },
-    }
-}
-
-fn colon(tokens: &[Token]) -> Result<(&Token, &[Token]), ParseFault>
-    ensures { Gives (λ x. (x.0.now, x.1.now)) result (one (λ k. is_colon (key k)) tokens.now) }
-{
-    match tokens {
-        [] => Err(ParseFault::Ended),
-        [token, rest @ ..] => match key_of(token) {
-            Key::Mark(Sign::Colon) => Ok((token, rest)),
-            _ => Err(ParseFault::Unexpected { place: token.place }),
-        },
-    }
-}
-
+// Returns the table at the front.
 fn table(tokens: &[Token]) -> Result<(Table, &[Token]), ParseFault>
     ensures { Gives (λ x. (x.0, x.1.now)) result (table_at tokens.now) }
 {
@@ -202,6 +143,7 @@ fn table(tokens: &[Token]) -> Result<(Table, &[Token]), ParseFault>
     }
 }
 
+// Returns the number below 0 whose `-` stands before the tokens.
 fn negative(place: u32, tokens: &[Token]) -> Result<(Expr, &[Token]), ParseFault>
     ensures { Gives (λ x. (x.0, x.1.now)) result (negative_at place tokens.now) }
 {
@@ -210,6 +152,7 @@ fn negative(place: u32, tokens: &[Token]) -> Result<(Expr, &[Token]), ParseFault
     Ok((Expr::Number { place, value }, rest))
 }
 
+// Returns NOW, from its shift on.
 fn now(place: u32, tokens: &[Token]) -> Result<(Expr, &[Token]), ParseFault>
     ensures { Gives (λ x. (x.0, x.1.now)) result (now_at place tokens.now) }
 {
@@ -217,6 +160,7 @@ fn now(place: u32, tokens: &[Token]) -> Result<(Expr, &[Token]), ParseFault>
     Ok((Expr::Now { place, shift }, rest))
 }
 
+// Returns TODAY, from its shift on.
 fn today(place: u32, tokens: &[Token]) -> Result<(Expr, &[Token]), ParseFault>
     ensures { Gives (λ x. (x.0, x.1.now)) result (today_at place tokens.now) }
 {
@@ -224,10 +168,11 @@ fn today(place: u32, tokens: &[Token]) -> Result<(Expr, &[Token]), ParseFault>
     Ok((Expr::Today { place, shift }, rest))
 }
 
+// Returns the moment, from the text behind TIME on.
 fn moment(alloc: Global, tokens: &[Token]) -> Result<(Expr, &[Token]), ParseFault>
     ensures { Gives (λ x. (x.0, x.1.now)) result (moment_at tokens.now) }
 {
-    let (token, rest) = text(tokens)?;
+    let (token, rest) = expect(Key::Str, tokens)?;
     let (shift, rest) = shift(rest)?;
     let expr = Expr::Moment {
         place: token.place,
@@ -237,7 +182,7 @@ fn moment(alloc: Global, tokens: &[Token]) -> Result<(Expr, &[Token]), ParseFaul
     Ok((expr, rest))
 }
 
-/// The expression at the front.
+/// Returns the expression at the front, and the tokens behind it.
 pub fn expr(alloc: Global, tokens: &[Token]) -> Result<(Expr, &[Token]), ParseFault>
     ensures { Gives (λ x. (x.0, x.1.now)) result (expr_at tokens.now) }
 {
@@ -268,7 +213,7 @@ pub fn expr(alloc: Global, tokens: &[Token]) -> Result<(Expr, &[Token]), ParseFa
     }
 }
 
-/// What follows the left side.
+// Returns the comparison with this left side, whose sign or HAS is at the front.
 fn right(alloc: Global, left: Expr, tokens: &[Token]) -> Result<(Tree, &[Token]), ParseFault>
     ensures { Gives (λ x. (syntax x.0, x.1.now)) result (right_at left tokens.now) }
 {
@@ -300,7 +245,7 @@ fn right(alloc: Global, left: Expr, tokens: &[Token]) -> Result<(Tree, &[Token])
     }
 }
 
-/// The comparison at the front.
+/// Returns the comparison at the front, and the tokens behind it.
 pub fn compare(alloc: Global, tokens: &[Token]) -> Result<(Tree, &[Token]), ParseFault>
     ensures { Gives (λ x. (syntax x.0, x.1.now)) result (compare_at tokens.now) }
 {
@@ -308,14 +253,14 @@ pub fn compare(alloc: Global, tokens: &[Token]) -> Result<(Tree, &[Token]), Pars
     right(alloc, left, rest)
 }
 
-/// The variable and the table of an EXISTS, from its `(` to its WHERE.
+/// Returns the variable and the table of an EXISTS, from its `(` to its WHERE, and the tokens behind that.
 pub fn head(tokens: &[Token]) -> Result<((&Token, Table), &[Token]), ParseFault>
     ensures { Gives (λ x. ((x.0.0.now, x.0.1), x.1.now)) result (head_at tokens.now) }
 {
-    let (_, rest) = open_sign(tokens)?;
-    let (var, rest) = name(rest)?;
-    let (_, rest) = colon(rest)?;
+    let (_, rest) = expect(Key::Mark(Sign::Open), tokens)?;
+    let (var, rest) = expect(Key::Name, rest)?;
+    let (_, rest) = expect(Key::Mark(Sign::Colon), rest)?;
     let (table, rest) = table(rest)?;
-    let (_, rest) = where_word(rest)?;
+    let (_, rest) = expect(Key::Where, rest)?;
     Ok(((var, table), rest))
 }

@@ -1,10 +1,11 @@
+//! Why tokens have no tree.
 ghost use Rattle.std.specs.Prelude.{◌≡◌};
 
 use std::alloc::{AllocError, AllocFailed};
 use tap_base::Memory;
 use thiserror::Error;
 
-/// Why tokens have no tree.
+/// Says why tokens have no tree. A place is that of a token, in bytes of the query's text from 0.
 #[derive(Clone, Copy, Debug, PartialEq, Eq, Error)]
 pub enum ParseFault {
     /// No query goes on with this token.
@@ -16,7 +17,7 @@ pub enum ParseFault {
     /// This token opens a level above the 32nd.
     #[error("the token at {place} opens too many levels")]
     Deep { place: u32 },
-    /// Want of memory.
+    /// Out of memory.
     #[error("no memory")]
     Memory,
 }

@@ -1,3 +1,4 @@
+//! What a token is to the grammar.
 ghost use Rattle.std.specs.Prelude.{◌≡◌, IfOk};
 ghost use Rattle.tql_parse.specs.Keys.{condition_word, value_word, unit_word, word_key, key, number, bytes, is_word, opening_of};
 ghost use Rattle.tql_tree.specs.Proper.{is_plain};
@@ -7,7 +8,7 @@ use tap_base::{Memory, Text};
 use tql_lex::{Kind, Sign, Token};
 use tql_tree::{Expr, Unit};
 
-/// What a token is to the grammar.
+/// Says what a token is to the grammar: a reserved word, a name, a number, a text or a sign.
 #[derive(Clone, Copy, Debug, PartialEq, Eq)]
 pub enum Key {
     And,
@@ -32,7 +33,7 @@ pub enum Key {
     Mark(Sign),
 }
 
-/// What a unit begins with.
+/// Says what a unit begins with.
 #[derive(Clone, Copy, Debug, PartialEq, Eq)]
 pub enum Opening {
     End,
@@ -44,7 +45,7 @@ pub enum Opening {
     Comparison,
 }
 
-/// What the unit at the front begins with.
+/// Returns what the unit at the front begins with.
 pub fn opening_at(tokens: &[Token]) -> Opening
     ensures { result ≡ opening_of tokens.now }
 {
@@ -61,7 +62,7 @@ pub fn opening_at(tokens: &[Token]) -> Opening
     }
 }
 
-/// The words of conditions.
+// Returns the key of a word of conditions.
 fn condition_key(word: &[u8]) -> Option<Key>
     ensures { result ≡ condition_word word.now }
 {
@@ -82,7 +83,7 @@ fn condition_key(word: &[u8]) -> Option<Key>
     }
 }
 
-/// The words of tables, times and truths.
+// Returns the key of a word of tables, times and truths.
 fn value_key(word: &[u8]) -> Option<Key>
     ensures { result ≡ value_word word.now }
 {
@@ -105,7 +106,7 @@ fn value_key(word: &[u8]) -> Option<Key>
     }
 }
 
-/// The words of units.
+// Returns the key of a word of units.
 fn unit_key(word: &[u8]) -> Option<Key>
     ensures { result ≡ unit_word word.now }
 {
@@ -130,7 +131,7 @@ fn unit_key(word: &[u8]) -> Option<Key>
     }
 }
 
-/// A reserved word, or a name.
+// Returns the key of a reserved word, or that of a name.
 fn key_of_word(word: &[u8]) -> Key
     ensures { result ≡ word_key word.now }
 {
@@ -146,7 +147,7 @@ fn key_of_word(word: &[u8]) -> Key
     Key::Name
 }
 
-/// What the token is to the grammar.
+/// Returns what the token is to the grammar.
 pub fn key_of(token: &Token) -> Key
     ensures { result ≡ key token.now.kind }
 {
@@ -158,7 +159,7 @@ pub fn key_of(token: &Token) -> Key
     }
 }
 
-/// The number of a number.
+/// Returns the number of a number, and 0 of another token.
 pub fn number_of(token: &Token) -> i64
     ensures { result ≡ number token.now.kind }
 {
@@ -168,7 +169,7 @@ pub fn number_of(token: &Token) -> i64
     }
 }
 
-/// The bytes of a word or a text.
+/// Returns the bytes of a word or a text, and none of another token. `Memory` if out of memory.
 pub fn bytes_of(alloc: Global, token: &Token) -> Result<Text, Memory>
     ensures { IfOk result (λ text. text ≡ bytes token.now.kind) }
 {
@@ -179,14 +180,14 @@ pub fn bytes_of(alloc: Global, token: &Token) -> Result<Text, Memory>
     }
 }
 
-/// Is the token a word?
+/// Returns whether the token is a word, reserved or not.
 pub fn is_any_word(token: &Token) -> bool
     ensures { result ≡ is_word token.now.kind }
 {
     matches!(&token.kind, Kind::Word(_))
 }
 
-/// Is this a field without a shift?
+/// Returns whether the expression is a field without a shift.
 pub fn is_plain_field(expr: &Expr) -> bool
     ensures { result ≡ is_plain expr.now }
 {

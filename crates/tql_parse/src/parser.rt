@@ -1,4 +1,5 @@
-ghost use Rattle.std.specs.Prelude.{◌≡◌, ◌≤◌, drop, IfOk, Ok, Err, ℕ, List};
+//! Reads the tree of a query's tokens from left to right.
+ghost use Rattle.std.specs.Prelude.{◌≡◌, drop, IfOk, Ok, Err, ℕ};
 ghost use Rattle.tql_tree.specs.Syntax.{Syntax, syntax};
 ghost use Rattle.tql_tree.specs.Proper.{IsProper};
 ghost use Rattle.tql_parse.specs.declared.fault.ParseFault.{ParseFault};
@@ -6,34 +7,37 @@ ghost use Rattle.tql_parse.specs.Grammar.{IsQuery, Begins, DeepAt, UnexpectedAt}
 ghost use Rattle.tql_parse.specs.Reading.{Gives, unit_at, conj_at, cond_at, group_with, exists_with, not_with, query_at, next_is, deep_at};
 ghost use Rattle.tql_parse.specs.Keys.{is_and, is_or};
 
-use crate::comparisons::{close_sign, compare, head};
+use crate::comparisons::{compare, expect, head};
 use crate::key::{Opening, bytes_of, key_of, opening_at};
 use crate::{Key, ParseFault};
 use std::alloc::Global;
-use tql_lex::Token;
+use tql_lex::{Sign, Token};
 use tql_tree::Tree;
 
-/// Is the next token an AND?
+// The most levels that are open at a place. They bound how deep the calls below nest.
+const LEVEL_LIMIT: u32 = 32;
+
+// Returns whether the next token is an AND.
 fn is_and_next(tokens: &[Token]) -> bool
     ensures { result ≡ next_is is_and tokens.now }
 {
     match tokens {
         [] => false,
-        [token, ..] => matches!(key_of(token), Key::And),
+        [token, ..] => key_of(token) == Key::And,
     }
 }
 
-/// Is the next token an OR?
+// Returns whether the next token is an OR.
 fn is_or_next(tokens: &[Token]) -> bool
     ensures { result ≡ next_is is_or tokens.now }
 {
     match tokens {
         [] => false,
-        [token, ..] => matches!(key_of(token), Key::Or),
+        [token, ..] => key_of(token) == Key::Or,
     }
 }
 
-/// What follows the next token.
+// Returns what follows the next token.
 fn behind(tokens: &[Token]) -> &[Token]
     ensures { result.now ≡ drop 1 tokens.now }
 {
@@ -43,7 +47,7 @@ fn behind(tokens: &[Token]) -> &[Token]
     }
 }
 
-/// The next token opens too many levels.
+// Returns the fault that the next token opens too many levels.
 fn deep(tokens: &[Token]) -> ParseFault
     ensures { result ≡ deep_at tokens.now }
 {
@@ -53,7 +57,7 @@ fn deep(tokens: &[Token]) -> ParseFault
     }
 }
 
-/// What follows a NOT.
+// Returns the NOT of the unit at the front, and the tokens behind it.
 #[cycle(parser)]
 fn negated(alloc: Global, levels: u32, tokens: &[Token]) -> Result<(Tree, &[Token]), ParseFault>
     ensures { Gives (λ x. (syntax x.0, x.1.now)) result (not_with (unit_at levels) tokens.now) }
@@ -62,17 +66,17 @@ fn negated(alloc: Global, levels: u32, tokens: &[Token]) -> Result<(Tree, &[Toke
     Ok((Tree::Not(Box::new(alloc, tree)?), rest))
 }
 
-/// What follows the `(` of a group.
+// Returns the condition behind the `(` of a group, and the tokens behind its `)`.
 #[cycle(parser)]
 fn group(alloc: Global, levels: u32, tokens: &[Token]) -> Result<(Tree, &[Token]), ParseFault>
     ensures { Gives (λ x. (syntax x.0, x.1.now)) result (group_with (unit_at levels) tokens.now) }
 {
     let (tree, rest) = cond(alloc, levels, tokens)?;
-    let (_, rest) = close_sign(rest)?;
+    let (_, rest) = expect(Key::Mark(Sign::Close), rest)?;
     Ok((tree, rest))
 }
 
-/// What follows an EXISTS.
+// Returns the EXISTS whose `(` is at the front, and the tokens behind its `)`.
 #[cycle(parser)]
 fn exists(alloc: Global, levels: u32, tokens: &[Token]) -> Result<(Tree, &[Token]), ParseFault>
     ensures { Gives (λ x. (syntax x.0, x.1.now)) result (exists_with (unit_at levels) tokens.now) }
@@ -88,7 +92,7 @@ fn exists(alloc: Global, levels: u32, tokens: &[Token]) -> Result<(Tree, &[Token
     Ok((tree, rest))
 }
 
-/// The unit at the front, with so many levels left.
+// Returns the unit at the front, with so many levels left, and the tokens behind it.
 #[cycle(parser)]
 fn unit(alloc: Global, levels: u32, tokens: &[Token]) -> Result<(Tree, &[Token]), ParseFault>
     ensures { Gives (λ x. (syntax x.0, x.1.now)) result (unit_at levels tokens.now) }
@@ -119,7 +123,7 @@ fn unit(alloc: Global, levels: u32, tokens: &[Token]) -> Result<(Tree, &[Token])
     }
 }
 
-/// The units at the front that AND joins.
+// Returns the units at the front that AND joins, and the tokens behind them.
 #[cycle(parser)]
 fn conj(alloc: Global, levels: u32, tokens: &[Token]) -> Result<(Tree, &[Token]), ParseFault>
     ensures { Gives (λ x. (syntax x.0, x.1.now)) result (conj_at levels tokens.now) }
@@ -133,7 +137,7 @@ fn conj(alloc: Global, levels: u32, tokens: &[Token]) -> Result<(Tree, &[Token])
     Ok((left, rest))
 }
 
-/// The conjunctions at the front that OR joins.
+// Returns the conjunctions at the front that OR joins, and the tokens behind them.
 #[cycle(parser)]
 fn cond(alloc: Global, levels: u32, tokens: &[Token]) -> Result<(Tree, &[Token]), ParseFault>
     ensures { Gives (λ x. (syntax x.0, x.1.now)) result (cond_at levels tokens.now) }
@@ -147,24 +151,24 @@ fn cond(alloc: Global, levels: u32, tokens: &[Token]) -> Result<(Tree, &[Token])
     Ok((left, rest))
 }
 
-/// The query that all tokens are, by reading from left to right.
+// Returns the query that all tokens are.
 fn query(alloc: Global, tokens: &[Token]) -> Result<Tree, ParseFault>
     ensures { Gives syntax result (query_at 32 tokens.now) }
 {
-    let (tree, rest) = cond(alloc, 32, tokens)?;
+    let (tree, rest) = cond(alloc, LEVEL_LIMIT, tokens)?;
     match rest {
         [] => Ok(tree),
         [token, ..] => Err(ParseFault::Unexpected { place: token.place }),
     }
 }
 
-/// The tree of the query that all tokens are. NOT, the `(` of a group and EXISTS each open a level, and at most 32
-/// are open at a place. Chains of AND and OR are nested on the left and open none: they are read by loops, so that
+/// Returns the tree of the query that all tokens are. NOT, the `(` of a group and EXISTS each open a level, and at most
+/// 32 are open at a place. Chains of AND and OR are nested on the left and open none: they are read by loops, so that
 /// only the levels make calls deeper. Tokens with a number below 0, which `tql_lex::lex` never gives, are no query.
 ///
-/// Faults: take the first token with which the tokens so far begin no query of at most 32 levels. It is `Deep` where
-/// they begin one of more levels, and `Unexpected` where they begin none. Where there is no such token, and the
-/// tokens are no query, they have `Ended` too early.
+/// Faults: take the first token with which the tokens so far begin no query of at most 32 levels. It is `Deep` if they
+/// begin one of more levels, and `Unexpected` if they begin none. If there is no such token and the tokens are no
+/// query, they have `Ended` too early. `Memory` comes if out of memory.
 pub fn parse(alloc: Global, tokens: &[Token]) -> Result<Tree, ParseFault>
     // What is given is in the grammar.
     ensures found { IfOk result (λ tree. IsQuery 32 tokens.now (syntax tree)) }
@@ -176,7 +180,7 @@ pub fn parse(alloc: Global, tokens: &[Token]) -> Result<Tree, ParseFault>
     // At an unexpected one they begin none of more levels either, and at one that is too deep they do.
     ensures unexpected { (p : ℕ) → result ≡ Err (ParseFault.Unexpected p) → UnexpectedAt 32 tokens.now p }
     ensures deep { (p : ℕ) → result ≡ Err (ParseFault.Deep p) → DeepAt 32 tokens.now p }
-    // The tokens end where all of them begin a query, and are none.
+    // The tokens have ended too early if all of them begin a query and are none.
     ensures ended { result ≡ Err ParseFault.Ended → Begins 32 tokens.now × ((x : Syntax) → IsQuery 32 tokens.now x → ⊥) }
     // Which fault it is.
     ensures exact { Gives syntax result (query_at 32 tokens.now) }

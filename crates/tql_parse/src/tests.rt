@@ -1,3 +1,4 @@
+//! Worked texts: their faults, their canonical texts, their limits and their copies.
 use crate::key::key_of;
 use crate::{ParseFault, parse};
 use std::alloc::Global;
@@ -5,7 +6,7 @@ use std::test::*;
 use tql_lex::{LexFault, Token, lex};
 use tql_tree::{Tree, print};
 
-/// What reading a text comes to.
+// Says what reading a text comes to.
 #[derive(Debug, PartialEq, Eq, Clone, Copy)]
 enum Outcome {
     Fine,
@@ -19,6 +20,7 @@ enum Outcome {
     Memory,
 }
 
+// Returns what parsing the tokens comes to.
 fn parsed(alloc: Global, tokens: &[Token]) -> Outcome {
     match parse(alloc, tokens) {
         Ok(_) => Outcome::Fine,
@@ -29,6 +31,7 @@ fn parsed(alloc: Global, tokens: &[Token]) -> Outcome {
     }
 }
 
+// Returns what reading the text comes to.
 fn read(alloc: Global, text: &[u8]) -> Outcome {
     match lex(alloc, text) {
         Ok(tokens) => parsed(alloc, &tokens),
@@ -40,11 +43,13 @@ fn read(alloc: Global, text: &[u8]) -> Outcome {
     }
 }
 
+// Returns the tree of the text, if it has one.
 fn tree_of(alloc: Global, text: &[u8]) -> Option<Tree> {
     let tokens = lex(alloc, text).ok()?;
     parse(alloc, &tokens).ok()
 }
 
+// Returns whether the canonical text of this one is the wanted one.
 fn canonical(alloc: Global, text: &[u8], wanted: &[u8]) -> bool {
     match tree_of(alloc, text) {
         Some(tree) => match print(alloc, &tree) {
@@ -55,7 +60,7 @@ fn canonical(alloc: Global, text: &[u8], wanted: &[u8]) -> bool {
     }
 }
 
-/// Is a copy of the tree printed so?
+// Returns whether a copy of the tree is printed so.
 fn canonical_copy(alloc: Global, text: &[u8], wanted: &[u8]) -> bool {
     match tree_of(alloc, text) {
         Some(tree) => match tree.copy(alloc) {
@@ -69,7 +74,7 @@ fn canonical_copy(alloc: Global, text: &[u8], wanted: &[u8]) -> bool {
     }
 }
 
-/// Has the copy of a token the same kind as this text's first token?
+// Returns whether a copy of the text's first token equals it.
 fn copied_token(alloc: Global, text: &[u8]) -> bool {
     match lex(alloc, text) {
         Ok(tokens) => match tokens.first() {

@@ -13,17 +13,17 @@ use Rattle.tql_types.specs.Core.{typed}
 use Rattle.tql_text.specs.declared.fault.TextFault.{TextFault}
 use Rattle.tql_text.specs.declared.fault.TextFault.TheVariants.{Lex, Parse, Types, Memory}
 
--- the condition of a typing
+-- the condition of a typing, or its fault
 abbrev pub of_typing : Result Condition TypeFault → Result Condition TextFault
 of_typing (Err fault) = Err (Types fault)
 of_typing (Ok condition) = Ok condition
 
--- the condition of a tree
+-- the condition of a tree, or the first fault
 abbrev pub of_tree : Result Syntax ParseFault → Result Condition TextFault
 of_tree (Err fault) = Err (Parse fault)
 of_tree (Ok tree) = of_typing (typed tree)
 
--- the condition of a text's tokens
+-- the condition of a text's tokens, or the first fault
 abbrev pub of_tokens : Result (List Token) LexFault → Result Condition TextFault
 of_tokens (Err fault) = Err (Lex fault)
 of_tokens (Ok tokens) = of_tree (query_at 32 tokens)
@@ -32,7 +32,7 @@ of_tokens (Ok tokens) = of_tree (query_at 32 tokens)
 abbrev pub condition_of : List ℕ → Result Condition TextFault
 condition_of text = of_tokens (lexed text)
 
--- the answer is what the definition gives, or want of memory
+-- the result is what the definition gives, or out of memory
 abbrev pub Reads : Result Condition TextFault → Result Cond TextFault → Type 0
 Reads expected (Ok cond) = expected ≡ Ok (condition cond)
 Reads expected (Err fault) = (expected ≡ Err fault) ⊎ (fault ≡ Memory)

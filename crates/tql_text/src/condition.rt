@@ -1,9 +1,9 @@
-ghost use Rattle.std.specs.Prelude.{◌≡◌, Result};
+//! Reads the condition of a query's text.
+ghost use Rattle.std.specs.Prelude.{Result};
 ghost use Rattle.tql_tree.specs.Syntax.{syntax};
-ghost use Rattle.tql_lex.specs.Tokens.{lexed};
 ghost use Rattle.tql_parse.specs.Reading.{query_at};
 ghost use Rattle.tql_types.specs.Core.{typed};
-ghost use Rattle.tql_text.specs.Texts.{of_typing, of_tree, of_tokens, condition_of, Reads};
+ghost use Rattle.tql_text.specs.Texts.{of_typing, of_tree, condition_of, Reads};
 
 use crate::TextFault;
 use std::alloc::Global;
@@ -13,7 +13,7 @@ use tql_parse::{ParseFault, parse};
 use tql_tree::Tree;
 use tql_types::{TypeFault, check};
 
-// The condition of a tree.
+// Returns the condition of a tree, or the first fault of its types.
 fn check_tree(alloc: Global, tree: &Tree) -> Result<Cond, TextFault>
     ensures { Reads (of_typing (typed (syntax tree.now))) result }
 {
@@ -24,7 +24,8 @@ fn check_tree(alloc: Global, tree: &Tree) -> Result<Cond, TextFault>
     }
 }
 
-/// The condition of some tokens, or the first fault of their syntax, else of their types.
+/// Returns the condition of some tokens, or the first fault of their syntax, else of their types. `Memory` if out of
+/// memory.
 pub fn read_tokens(alloc: Global, tokens: &[Token]) -> Result<Cond, TextFault>
     ensures { Reads (of_tree (query_at 32 tokens.now)) result }
 {
@@ -35,8 +36,8 @@ pub fn read_tokens(alloc: Global, tokens: &[Token]) -> Result<Cond, TextFault>
     }
 }
 
-/// The condition of a query's text, or its first fault: that of its tokens before that of its syntax, and that before
-/// that of its types. Places count the bytes of the text from 0.
+/// Returns the condition of a query's text, or its first fault: that of its tokens before that of its syntax, and that
+/// before that of its types. Places count the bytes of the text from 0. `Memory` if out of memory.
 pub fn read_condition(alloc: Global, text: &[u8]) -> Result<Cond, TextFault>
     ensures { Reads (condition_of text.now) result }
 {

@@ -1,3 +1,4 @@
+//! Worked texts: their faults and their limits.
 use crate::{TextFault, read_condition};
 use std::alloc::Global;
 use std::test::Fail;
@@ -5,7 +6,7 @@ use tql_lex::LexFault;
 use tql_parse::ParseFault;
 use tql_types::TypeFault;
 
-// Does the text have this fault?
+// Returns whether the text has this fault.
 fn has_fault(alloc: Global, text: &[u8], fault: TextFault) -> bool {
     match read_condition(alloc, text) {
         Ok(_) => false,
@@ -13,7 +14,7 @@ fn has_fault(alloc: Global, text: &[u8], fault: TextFault) -> bool {
     }
 }
 
-// Is the text a condition?
+// Returns whether the text is a condition.
 fn is_condition(alloc: Global, text: &[u8]) -> bool {
     read_condition(alloc, text).is_ok()
 }
@@ -139,21 +140,29 @@ fn limits_are_exact(rt: HostRuntime) -> Result<(), Fail> {
             TextFault::Types(TypeFault::ManyVars { place: 113 }),
         )
     );
-    // 127 nodes, and 129
-    assert!(rt;
-        is_condition(
-            alloc,
-            b"TRUE OR TRUE OR TRUE OR TRUE OR TRUE OR TRUE OR TRUE OR TRUE OR TRUE OR TRUE OR TRUE OR TRUE OR TRUE OR TRUE OR TRUE OR TRUE OR TRUE OR TRUE OR TRUE OR TRUE OR TRUE OR TRUE OR TRUE OR TRUE OR TRUE OR TRUE OR TRUE OR TRUE OR TRUE OR TRUE OR TRUE OR TRUE OR TRUE OR TRUE OR TRUE OR TRUE OR TRUE OR TRUE OR TRUE OR TRUE OR TRUE OR TRUE OR TRUE OR TRUE OR TRUE OR TRUE OR TRUE OR TRUE OR TRUE OR TRUE OR TRUE OR TRUE OR TRUE OR TRUE OR TRUE OR TRUE OR TRUE OR TRUE OR TRUE OR TRUE OR TRUE OR TRUE OR TRUE OR TRUE"
-        )
-    );
-    assert!(rt;
-        has_fault(
-            alloc,
-            b"TRUE OR TRUE OR TRUE OR TRUE OR TRUE OR TRUE OR TRUE OR TRUE OR TRUE OR TRUE OR TRUE OR TRUE OR TRUE OR TRUE OR TRUE OR TRUE OR TRUE OR TRUE OR TRUE OR TRUE OR TRUE OR TRUE OR TRUE OR TRUE OR TRUE OR TRUE OR TRUE OR TRUE OR TRUE OR TRUE OR TRUE OR TRUE OR TRUE OR TRUE OR TRUE OR TRUE OR TRUE OR TRUE OR TRUE OR TRUE OR TRUE OR TRUE OR TRUE OR TRUE OR TRUE OR TRUE OR TRUE OR TRUE OR TRUE OR TRUE OR TRUE OR TRUE OR TRUE OR TRUE OR TRUE OR TRUE OR TRUE OR TRUE OR TRUE OR TRUE OR TRUE OR TRUE OR TRUE OR TRUE OR TRUE",
-            TextFault::Types(TypeFault::ManyNodes),
-        )
-    );
     assert!(rt; is_condition(alloc, b"now < m.ts + 100000000000 SECONDS"));
     assert!(rt; is_condition(alloc, b"now < m.ts + 1157407 DAYS"));
+    Ok(())
+}
+
+// Returns a chain of 64 TRUEs behind this front: 127 nodes, and those of the front.
+fn many_nodes(alloc: Global, front: &[u8]) -> Result<Vec<u8>, Fail> {
+    let mut text = Vec::new(alloc);
+    text.extend_from_slice(front)?;
+    for _ in 0..63 {
+        text.extend_from_slice(b"TRUE OR ")?;
+    }
+    text.extend_from_slice(b"TRUE")?;
+    Ok(text)
+}
+
+#[test]
+fn a_condition_has_at_most_128_nodes(rt: HostRuntime) -> Result<(), Fail> {
+    let alloc = rt.alloc();
+    let too_many = TextFault::Types(TypeFault::ManyNodes);
+    assert!(rt; is_condition(alloc, &many_nodes(alloc, b"")?));
+    assert!(rt; is_condition(alloc, &many_nodes(alloc, b"NOT ")?));
+    assert!(rt; has_fault(alloc, &many_nodes(alloc, b"NOT NOT ")?, too_many));
+    assert!(rt; has_fault(alloc, &many_nodes(alloc, b"TRUE OR ")?, too_many));
     Ok(())
 }

@@ -13,23 +13,27 @@ use Rattle.tql_tree.specs.declared.expr.Expr.{Expr}
 use Rattle.tql_tree.specs.declared.expr.Expr.TheVariants as E
 use Rattle.tql_tree.specs.Syntax.{Syntax, True, False, Or, And, Not, Exists, Compare, Has}
 
--- a quote is written twice
+-- a byte of a text, a quote written twice
 abbrev pub doubled : ℕ → List ℕ
 doubled b = if b == 39 then 39 ∷ 39 ∷ [] else b ∷ []
 
+-- a text in quotes
 abbrev pub text_of_bytes : List ℕ → List ℕ
 text_of_bytes bytes = codes "'" ++ flat_map doubled bytes ++ codes "'"
 
+-- a unit in the plural
 abbrev pub text_of_unit : TimeUnit → List ℕ
 text_of_unit Seconds = codes "SECONDS"
 text_of_unit Minutes = codes "MINUTES"
 text_of_unit Hours = codes "HOURS"
 text_of_unit Days = codes "DAYS"
 
+-- the name of a table
 abbrev pub text_of_table : Table → List ℕ
 text_of_table Docs = codes "DOC"
 text_of_table Notes = codes "NOTE"
 
+-- the sign of a comparison
 abbrev pub text_of_op : Op → List ℕ
 text_of_op Eq = codes "="
 text_of_op Ne = codes "<>"
@@ -38,14 +42,17 @@ text_of_op Le = codes "<="
 text_of_op Gt = codes ">"
 text_of_op Ge = codes ">="
 
+-- the sign of a shift; true is backwards
 abbrev pub text_of_direction : Bool → List ℕ
 text_of_direction true = codes " - "
 text_of_direction false = codes " + "
 
+-- a shift, or nothing
 abbrev pub text_of_shift : Option Shift → List ℕ
 text_of_shift None = []
 text_of_shift (Some s) = text_of_direction s.back ++ signed_decimal s.count ++ codes " " ++ text_of_unit s.unit
 
+-- a side of a comparison
 abbrev pub text_of_expr : Expr → List ℕ
 text_of_expr (E.Number place value) = signed_decimal value
 text_of_expr (E.Str place bytes) = text_of_bytes bytes
@@ -60,11 +67,12 @@ strength (Or l r) = 0
 strength (And l r) = 1
 strength _ = 2
 
--- in parentheses, where asked for
+-- a text, in parentheses if asked
 abbrev pub within : Bool → List ℕ → List ℕ
 within true text = codes "(" ++ text ++ codes ")"
 within false text = text
 
+-- the canonical text of a query
 abbrev pub canonical : Syntax → List ℕ
 canonical True = codes "TRUE"
 canonical False = codes "FALSE"

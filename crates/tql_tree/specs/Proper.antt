@@ -1,4 +1,4 @@
--- What each call that takes a tree needs of it.
+-- Trees whose shifts count from 0 and whose HAS have a plain field on the left.
 use Rattle.std.specs.Prelude.{◌≡◌, ◌≤ℤ◌, pos, Bool, true, false, Option, Some, None}
 use Rattle.tql_tree.specs.declared.shift.Shift.{Shift}
 use Rattle.tql_tree.specs.declared.expr.Expr.{Expr}
@@ -15,6 +15,7 @@ abbrev pub IsCounted : Option Shift → Type 0
 IsCounted None = Unit {0}
 IsCounted (Some s) = pos 0 ≤ℤ s.count
 
+-- the shift of an expression counts at least 0 units
 abbrev pub IsProperExpr : Expr → Type 0
 IsProperExpr (E.Number place value) = Unit {0}
 IsProperExpr (E.Str place bytes) = Unit {0}

@@ -17,7 +17,7 @@ pub data Syntax : Type 0 where
   Compare : Expr → Op → ℕ → Expr → Syntax
   Has : Expr → ℕ → Expr → Syntax
 
--- what the code's tree says
+-- the query that the code's tree represents
 abbrev pub syntax : Tree → Syntax
 syntax T.True = True
 syntax T.False = False

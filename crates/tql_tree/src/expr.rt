@@ -1,10 +1,11 @@
+//! The sides of comparisons.
 ghost use Rattle.std.specs.Prelude.{◌≡◌, IfOk};
 
 use crate::Shift;
 use tap_base::{Memory, Text};
 
-/// A side of a comparison. The place of a moment is that of its text, and that of a number below 0 is that of
-/// its `-`.
+/// Holds a side of a comparison. The place of a moment is that of its text, and the place of a number below 0 is that
+/// of its `-`. Places count the bytes of the query's text from 0.
 #[derive(Drop)]
 pub enum Expr {
     Number {
@@ -38,7 +39,7 @@ pub enum Expr {
 }
 
 impl Expr {
-    /// The same expression once more.
+    /// Returns an equal expression. `Memory` if out of memory.
     pub fn copy(&self) -> Result<Expr, Memory>
         ensures { IfOk result (λ expr. expr ≡ self.now) }
     {

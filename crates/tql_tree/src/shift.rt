@@ -1,4 +1,6 @@
-/// A unit of time.
+//! Durations by which a time is moved.
+
+/// Names a unit of time.
 #[derive(Clone, Copy, Debug, PartialEq, Eq)]
 pub enum Unit {
     Seconds,
@@ -7,8 +9,8 @@ pub enum Unit {
     Days,
 }
 
-/// How far a time is moved: `count` units, which is at least 0, and backwards where `back`. The place is that of
-/// the sign.
+/// Says how far a time is moved: `count` units, which is at least 0, and backwards if `back`. `place` is that of the
+/// sign, and `count_place` that of the count.
 #[derive(Clone, Copy, Debug, PartialEq, Eq)]
 pub struct Shift {
     pub place: u32,

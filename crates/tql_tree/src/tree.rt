@@ -1,3 +1,4 @@
+//! Query trees.
 ghost use Rattle.std.specs.Prelude.{◌≡◌, IfOk};
 ghost use Rattle.tql_tree.specs.Syntax.{syntax};
 
@@ -5,10 +6,10 @@ use crate::{Expr, Table};
 use std::alloc::Global;
 use tap_base::{Memory, Op, Text};
 
-/// A query. The left side of a `Has` is a field without a shift.
+/// Holds a query. The left side of a `Has` is a field without a shift.
 ///
-/// A chain of ORs or ANDs is nested on the left. `print`, `copy` and letting a tree go recurse once for each part of
-/// a chain: a query's text of 4,096 bytes has fewer than 700 of them.
+/// A chain of ORs or ANDs is nested on the left. `print`, `copy` and dropping a tree recurse once for each part of a
+/// chain: a query's text of 4,096 bytes has fewer than 700 of them.
 #[derive(Drop)]
 pub enum Tree {
     True,
@@ -36,7 +37,7 @@ pub enum Tree {
 }
 
 impl Tree {
-    /// The same query once more.
+    /// Returns an equal query. `Memory` if out of memory.
     pub fn copy(&self, alloc: Global) -> Result<Tree, Memory>
         ensures { IfOk result (λ tree. syntax tree ≡ syntax self.now) }
     {

@@ -25,7 +25,6 @@ use Rattle.tql_types.specs.declared.sort.Sort.{Sort}
 use Rattle.tql_types.specs.declared.sort.Sort.TheVariants.{Number, Text}
 use Rattle.tql_types.specs.declared.clock.Clock.{Clock}
 use Rattle.tql_types.specs.declared.clock.Clock.TheVariants.{At, Now, Today}
-use Rattle.tql_types.specs.declared.spans.TheConstants.{SPAN_LIMIT}
 use Rattle.tql_types.specs.Scopes.{variable_named, first_scope, next_variable, variables_after}
 use Rattle.tql_types.specs.Sorts.{field_in, sort_of}
 use Rattle.tql_types.specs.Spans.{span_of, kept_span, amount_of}
@@ -61,12 +60,12 @@ IsSpan n = (negsuc 99999999999 ≤ℤ n) × (n ≤ℤ pos 100000000000)
 
 kept : (n : ℤ) → (pos 0 ≤ℤ kept_span n) × (kept_span n ≤ℤ pos 100000000000)
 kept n =
-    elim (cases_Bool (int_le (pos 0) n && int_le n SPAN_LIMIT)) [
-      | inl y ↦ rw y (within n (and_parts (int_le (pos 0) n) (int_le n SPAN_LIMIT) y).0 (and_parts (int_le (pos 0) n) (int_le n SPAN_LIMIT) y).1)
+    elim (cases_Bool (int_le (pos 0) n && int_le n (pos 100000000000))) [
+      | inl y ↦ rw y (within n (and_parts (int_le (pos 0) n) (int_le n (pos 100000000000)) y).0 (and_parts (int_le (pos 0) n) (int_le n (pos 100000000000)) y).1)
       | inr f ↦ rw f (omega (arith, ints), omega (arith, ints))
     ]
   where
-    within : (n : ℤ) → int_le (pos 0) n ≡ true → int_le n SPAN_LIMIT ≡ true → (pos 0 ≤ℤ n) × (n ≤ℤ pos 100000000000)
+    within : (n : ℤ) → int_le (pos 0) n ≡ true → int_le n (pos 100000000000) ≡ true → (pos 0 ≤ℤ n) × (n ≤ℤ pos 100000000000)
     within n l h = (grind (arith, ints), grind (arith, ints))
 
 amount : (shift : Option Shift) → IsSpan (amount_of shift)

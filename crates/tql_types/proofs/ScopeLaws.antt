@@ -30,7 +30,6 @@ use Rattle.tql_types.specs.Faults.{sooner, place_of}
 use Rattle.tql_types.specs.Sorts.{field_in, sort_of}
 use Rattle.tql_types.specs.Clocks.{base_of, base_in, clock_of, later, day, day_of_term, turned, half_line, times_core}
 use Rattle.tql_types.specs.Core.{binder_fault, inner_scope, first_fault, num_field, num_of, text_field, text_of, lowered, has_field, has_core, compare_core, core, nodes, unless_fault, typed}
-use Rattle.tql_types.specs.declared.checker.TheConstants.{NODE_LIMIT}
 
 -- the numbers of a scope's variables are among these
 abbrev Knows : List Variable → List ℕ → Type 0
@@ -57,7 +56,7 @@ in-last x y [] (inr i) = absurd i
 in-last x y (z ∷ xs) (inl e) = inl (inl e)
 in-last x y (z ∷ xs) (inr i) = elim (in-last x y xs i) [ inl j ↦ inl (inr j) | inr e ↦ inr e ]
 
-none-parts : (f g : Option TypeFault) → sooner f g ≡ None → (f ≡ None) × (g ≡ None)
+pub none-parts : (f g : Option TypeFault) → sooner f g ≡ None → (f ≡ None) × (g ≡ None)
 none-parts None None e = (refl, refl)
 none-parts None (Some g) e = absurd cc
 none-parts (Some f) None e = absurd cc
@@ -195,7 +194,7 @@ compare-in (Some Now) scope names left op right knows = times-in names op (clock
 compare-in (Some Today) scope names left op right knows = times-in names op (clock_of scope left) (clock_of scope right) (clock-in scope names left knows) (clock-in scope names right knows)
 compare-in None scope names left op right knows = times-in names op (clock_of scope left) (clock_of scope right) (clock-in scope names left knows) (clock-in scope names right knows)
 
-next-grows : (count : ℕ) → count ≤ 6 → (count ≤ next_variable count) × (next_variable count ≤ 6)
+pub next-grows : (count : ℕ) → count ≤ 6 → (count ≤ next_variable count) × (next_variable count ≤ 6)
 next-grows count le = elim (cases_Bool (nat_lt count 6)) [
   | inl y ↦ rw y (omega arith, below count y)
   | inr n ↦ rw n (le, omega arith)
@@ -203,7 +202,7 @@ next-grows count le = elim (cases_Bool (nat_lt count 6)) [
   below : (n : ℕ) → nat_lt n 6 ≡ true → n + 1 ≤ 6
   below n h = grind arith
 
-after-grows : (count : ℕ) (s : Syntax) → count ≤ 6 → (count ≤ variables_after count s) × (variables_after count s ≤ 6)
+pub after-grows : (count : ℕ) (s : Syntax) → count ≤ 6 → (count ≤ variables_after count s) × (variables_after count s ≤ 6)
 after-grows count True le = (omega arith, le)
 after-grows count False le = (omega arith, le)
 after-grows count (Or l r) le = let a = after-grows count l le in let b = after-grows (variables_after count l) r a.1 in (omega (arith, a.0, b.0), b.1)
@@ -213,7 +212,7 @@ after-grows count (Exists name place table body) le = let a = next-grows count l
 after-grows count (Compare left op place right) le = (omega arith, le)
 after-grows count (Has left place right) le = (omega arith, le)
 
-binder-fine : (scope : List Variable) (count : ℕ) (name : List ℕ) (place : ℕ) → binder_fault scope count name place ≡ None → nat_lt count 6 ≡ true
+pub binder-fine : (scope : List Variable) (count : ℕ) (name : List ℕ) (place : ℕ) → binder_fault scope count name place ≡ None → nat_lt count 6 ≡ true
 binder-fine scope count name place e =
     elim (cases_Bool (is_some (variable_named name scope))) [
       | inl y ↦ absurd (some-none (rw y at e))
@@ -284,7 +283,7 @@ ok c = Ok c
 pub typed-parts : (fault : Option TypeFault) (c x : Condition) → unless_fault fault c ≡ Ok x → (fault ≡ None) × (c ≡ x)
 typed-parts (Some f) c x e = absurd cc
 typed-parts None c x e =
-    elim (cases_Bool (nat_le (nodes c) NODE_LIMIT)) [
+    elim (cases_Bool (nat_le (nodes c) 128)) [
       | inl y ↦ (refl, ok-same (rw y at e))
       | inr n ↦ absurd (err-ok (rw n at e))
     ]

@@ -3,7 +3,7 @@ use Rattle.std.specs.Prelude.{pos, negsuc, ◌≤ℤ◌}
 use Rattle.tql_types.specs.declared.clock.Clock.{Clock}
 use Rattle.tql_types.specs.declared.clock.Clock.TheVariants.{At, Now, Today}
 
--- a time or a shift as an expression can have it
+-- a time or a shift that an expression can have
 abbrev pub IsNearClock : Clock → Type 0
 IsNearClock (At term) = (negsuc 99999999999 ≤ℤ term.plus) × (term.plus ≤ℤ pos 350000000000)
 IsNearClock (Now a) = (negsuc 99999999999 ≤ℤ a) × (a ≤ℤ pos 100000000000)

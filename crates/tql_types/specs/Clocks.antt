@@ -27,11 +27,12 @@ base_of var (Some F.Arrival) = Arrival var
 base_of var (Some F.Date) = Date var
 base_of var field = Fixed
 
+-- the base of a field of a variable that may be out of scope
 abbrev pub base_in : Option Variable → List ℕ → Base
 base_in None name = Fixed
 base_in (Some variable) name = base_of variable.var (field_in (Some variable) name)
 
--- the time that an expression stands for, or now or today and how far they are shifted
+-- the time of an expression, or now or today and how far it is shifted
 abbrev pub clock_of : List Variable → Expr → Clock
 clock_of scope (E.Now place shift) = Now (amount_of shift)
 clock_of scope (E.Today place shift) = Today (amount_of shift)
@@ -44,7 +45,7 @@ clock_of scope (E.Str place bytes) = At (record { base = Fixed; plus = pos 0 })
 abbrev pub later : Term → ℤ → Term
 later term n = record { base = term.base; plus = term.plus +ℤ n }
 
--- the start of the first UTC day that is not before a time
+-- the start of the first UTC day that is not before a time of this base
 abbrev pub day_of_term : Term → Base → Term
 day_of_term term (Arrival var) = record { base = ArrivalDay var term.plus; plus = pos 0 }
 day_of_term term (Date var) = record { base = DateDay var term.plus; plus = pos 0 }
@@ -52,6 +53,7 @@ day_of_term term Fixed = record { base = Fixed; plus = round_up_to_day term.plus
 day_of_term term (ArrivalDay var n) = term
 day_of_term term (DateDay var n) = term
 
+-- the start of the first UTC day that is not before a time
 abbrev pub day : Term → Term
 day term = day_of_term term term.base
 
@@ -64,7 +66,7 @@ turned Le = Ge
 turned Gt = Lt
 turned Ge = Le
 
--- now compared with a time, where `next` is a second later
+-- now compared with a time; `next` is a second later
 abbrev pub half_line : Op → Term → Term → Condition
 half_line Ge at next = NowAtLeast at
 half_line Gt at next = NowAtLeast next

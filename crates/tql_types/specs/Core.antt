@@ -1,4 +1,4 @@
--- The first fault of a query, and the condition that it is where it has none.
+-- The first fault of a query, and the condition of a query without one.
 use Rattle.std.specs.Prelude.{ℕ, ◌+◌, pos, List, [], nat_le, nat_lt, Option, Some, None, Result, Ok, Err, is_some, if◌then◌else◌}
 use Rattle.std.specs.Str.{str_to_ascii_lowercase}
 use Rattle.tap_base.specs.declared.numbers.Op.{Op}
@@ -20,13 +20,12 @@ use Rattle.tql_types.specs.declared.sort.Sort.{Sort}
 use Rattle.tql_types.specs.declared.sort.Sort.TheVariants.{Number, Text}
 use Rattle.tql_types.specs.declared.fault.TypeFault.{TypeFault}
 use Rattle.tql_types.specs.declared.fault.TypeFault.TheVariants.{Shadow, ManyVars, ManyNodes}
-use Rattle.tql_types.specs.declared.checker.TheConstants.{NODE_LIMIT}
 use Rattle.tql_types.specs.Scopes.{variable_named, first_scope, entered, next_variable, variables_after}
 use Rattle.tql_types.specs.Faults.{sooner}
 use Rattle.tql_types.specs.Sorts.{field_in, expr_fault, sort_of, comparable, holdable, clash}
 use Rattle.tql_types.specs.Clocks.{clock_of, times_core}
 
--- the fault of the variable of an EXISTS, where there are so many variables
+-- the fault of the variable of an EXISTS, behind so many variables
 abbrev pub binder_fault : List Variable → ℕ → List ℕ → ℕ → Option TypeFault
 binder_fault scope count name place =
     if is_some (variable_named name scope) then Some (Shadow place) else (if nat_lt count 6 then None else Some (ManyVars place))
@@ -49,36 +48,39 @@ first_fault scope count (Compare left op place right) =
 first_fault scope count (Has left place right) =
     clash (expr_fault scope left) (expr_fault scope right) (holdable (sort_of scope left) (sort_of scope right)) place
 
--- a side that is a number
+-- a number field of a variable, or 0
 abbrev pub num_field : Option Variable → Option Field → NumExpr
 num_field (Some variable) (Some (F.Number field)) = N.Field variable.var field
 num_field variable field = N.Literal (pos 0)
 
+-- a side that is a number, or 0
 abbrev pub num_of : List Variable → Expr → NumExpr
 num_of scope (E.Number place value) = N.Literal value
 num_of scope (E.Field var var_place field field_place shift) = num_field (variable_named var scope) (field_in (variable_named var scope) field)
 num_of scope expr = N.Literal (pos 0)
 
--- a side that is a text
+-- a text field of a variable, or an empty text
 abbrev pub text_field : Option Variable → Option Field → TextExpr
 text_field (Some variable) (Some (F.Text field)) = X.Field variable.var field
 text_field variable field = X.Literal []
 
+-- a side that is a text, or an empty text
 abbrev pub text_of : List Variable → Expr → TextExpr
 text_of scope (E.Str place bytes) = X.Literal bytes
 text_of scope (E.Field var var_place field field_place shift) = text_field (variable_named var scope) (field_in (variable_named var scope) field)
 text_of scope expr = X.Literal []
 
--- a text that a list may hold: A to Z of a literal are lowered
+-- a text that a list may have: A to Z of a literal are lowered
 abbrev pub lowered : TextExpr → TextExpr
 lowered (X.Literal bytes) = X.Literal (str_to_ascii_lowercase bytes)
 lowered (X.Field var field) = X.Field var field
 
--- does a list hold a text?
+-- does a list of a variable have a text?
 abbrev pub has_field : Option Variable → Option Field → TextExpr → Condition
 has_field (Some variable) (Some (F.List field)) text = Plain (A.Has variable.var field text)
 has_field variable field text = Never
 
+-- does a list have a text?
 abbrev pub has_core : List Variable → Expr → TextExpr → Condition
 has_core scope (E.Field var var_place field field_place shift) text = has_field (variable_named var scope) (field_in (variable_named var scope) field) text
 has_core scope expr text = Never
@@ -103,21 +105,21 @@ core scope count (Has left place right) = has_core scope left (lowered (text_of 
 
 -- how many nodes a condition has
 abbrev pub nodes : Condition → ℕ
-nodes (All l r) = 1 + nodes l + nodes r
-nodes (Either l r) = 1 + nodes l + nodes r
-nodes (C.Not x) = 1 + nodes x
-nodes (C.Exists v t x) = 1 + nodes x
 nodes Always = 1
 nodes Never = 1
 nodes (Plain a) = 1
 nodes (NowAtLeast e) = 1
 nodes (NowBefore e) = 1
+nodes (All l r) = 1 + nodes l + nodes r
+nodes (Either l r) = 1 + nodes l + nodes r
+nodes (C.Not x) = 1 + nodes x
+nodes (C.Exists v t x) = 1 + nodes x
 
--- the condition, if it is not too large
+-- the condition, if it has at most 128 nodes
 abbrev pub sized : Condition → Result Condition TypeFault
-sized condition = if nat_le (nodes condition) NODE_LIMIT then Ok condition else Err ManyNodes
+sized condition = if nat_le (nodes condition) 128 then Ok condition else Err ManyNodes
 
--- the condition, or the fault where there is one
+-- the fault if there is one, and else the condition
 abbrev pub unless_fault : Option TypeFault → Condition → Result Condition TypeFault
 unless_fault None condition = sized condition
 unless_fault (Some fault) condition = Err fault

@@ -3,7 +3,7 @@ use Rattle.std.specs.Prelude.{ℕ, Option, Some, None, nat_le, if◌then◌else�
 use Rattle.tql_types.specs.declared.fault.TypeFault.{TypeFault}
 use Rattle.tql_types.specs.declared.fault.TypeFault.TheVariants.{NoVar, NoField, Clash, Shadow, BadTime, BigSpan, ManyVars, ManyNodes, Memory}
 
--- the place of a fault; 0 where it has none
+-- the place of a fault, or 0 if it has none
 abbrev pub place_of : TypeFault → ℕ
 place_of (NoVar place) = place
 place_of (NoField place) = place

@@ -21,16 +21,17 @@ abbrev pub field_in : Option Variable → List ℕ → Option Field
 field_in None name = None
 field_in (Some variable) name = field_named variable.table name
 
--- a field's fault: its variable, its name, or a shift where it is no time
+-- the fault of a field that may be missing: its name, or a shift if it is no time
 abbrev pub named_fault : Option Field → ℕ → Option Shift → Option TypeFault
 named_fault None place shift = Some (NoField place)
 named_fault (Some field) place shift = if is_time field then None else shift_fault shift
 
+-- the fault of a field of a variable that may be out of scope
 abbrev pub field_fault : Option Variable → ℕ → List ℕ → ℕ → Option Shift → Option TypeFault
 field_fault None var_place name place shift = Some (NoVar var_place)
 field_fault (Some variable) var_place name place shift = named_fault (field_named variable.table name) place shift
 
--- a text that is no moment
+-- the fault of a text that is no moment
 abbrev pub moment_fault : List ℕ → ℕ → Option TypeFault
 moment_fault text place = if is_some (moment_of text) then None else Some (BadTime place)
 
@@ -41,7 +42,8 @@ expr_fault scope (E.Str place bytes) = None
 expr_fault scope (E.Now place shift) = span_fault shift
 expr_fault scope (E.Today place shift) = span_fault shift
 expr_fault scope (E.Moment place text shift) = sooner (moment_fault text place) (span_fault shift)
-expr_fault scope (E.Field var var_place field field_place shift) = sooner (field_fault (variable_named var scope) var_place field field_place shift) (span_fault shift)
+expr_fault scope (E.Field var var_place field field_place shift) =
+    sooner (field_fault (variable_named var scope) var_place field field_place shift) (span_fault shift)
 
 -- what a field is
 abbrev pub sort_of_field : Field → Sort
@@ -51,6 +53,7 @@ sort_of_field (F.List field) = Texts
 sort_of_field F.Arrival = Time
 sort_of_field F.Date = Time
 
+-- what a field is, if it is there
 abbrev pub sort_in : Option Field → Option Sort
 sort_in None = None
 sort_in (Some field) = Some (sort_of_field field)
@@ -77,6 +80,7 @@ go_together Today Time = true
 go_together Today Today = true
 go_together x y = false
 
+-- are both there, and can they be compared?
 abbrev pub comparable : Option Sort → Option Sort → Bool
 comparable None y = false
 comparable (Some x) None = false
@@ -87,6 +91,6 @@ abbrev pub holdable : Option Sort → Option Sort → Bool
 holdable (Some Texts) (Some Text) = true
 holdable x y = false
 
--- the fault of two sides that don't go together, where neither has one of its own
+-- the fault of two sides: one of their own, or that they don't go together
 abbrev pub clash : Option TypeFault → Option TypeFault → Bool → ℕ → Option TypeFault
 clash left right fits place = if is_some left || is_some right then sooner left right else (if fits then None else Some (Clash place))

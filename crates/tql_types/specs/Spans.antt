@@ -5,7 +5,6 @@ use Rattle.tql_tree.specs.declared.shift.Unit.TheVariants.{Seconds, Minutes, Hou
 use Rattle.tql_tree.specs.declared.shift.Shift.{Shift}
 use Rattle.tql_types.specs.declared.fault.TypeFault.{TypeFault}
 use Rattle.tql_types.specs.declared.fault.TypeFault.TheVariants.{BigSpan, Clash}
-use Rattle.tql_types.specs.declared.spans.TheConstants.{SPAN_LIMIT}
 
 -- how many seconds a unit has
 abbrev pub seconds_of : Unit → ℕ
@@ -18,19 +17,19 @@ seconds_of Days = 86400
 abbrev pub span_of : Shift → ℤ
 span_of shift = shift.count *ℤ pos (seconds_of shift.unit)
 
--- a duration that is too long
+-- the fault of a duration of more than 100,000,000,000 seconds
 abbrev pub span_fault : Option Shift → Option TypeFault
 span_fault None = None
-span_fault (Some shift) = if int_lt SPAN_LIMIT (span_of shift) then Some (BigSpan shift.count_place) else None
+span_fault (Some shift) = if int_lt (pos 100000000000) (span_of shift) then Some (BigSpan shift.count_place) else None
 
--- a shift where none may stand
+-- the fault of a shift that may not stand here
 abbrev pub shift_fault : Option Shift → Option TypeFault
 shift_fault None = None
 shift_fault (Some shift) = Some (Clash shift.place)
 
--- so many seconds, if a duration may have them, and else none
+-- so many seconds if a duration may have them, and else 0
 abbrev pub kept_span : ℤ → ℤ
-kept_span n = if int_le (pos 0) n && int_le n SPAN_LIMIT then n else pos 0
+kept_span n = if int_le (pos 0) n && int_le n (pos 100000000000) then n else pos 0
 
 -- how far a shift moves a time: backwards below 0
 abbrev pub amount_of : Option Shift → ℤ

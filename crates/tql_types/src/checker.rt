@@ -1,5 +1,5 @@
-ghost use Rattle.std.specs.Prelude.{◌≡◌, ◌^◌, ◌-◌, ◌+◌, IfOk, min, not, nat_le};
-ghost use Rattle.tql_types.specs.declared.checker.TheConstants.{NODE_LIMIT};
+//! Checks the types of a query's tree.
+ghost use Rattle.std.specs.Prelude.{◌≡◌, ◌^◌, ◌-◌, IfOk, min, not, nat_le};
 ghost use Rattle.tql_tree.specs.Syntax.{syntax};
 ghost use Rattle.tql_core.specs.Condition.{condition};
 ghost use Rattle.tql_types.specs.Core.{first_fault, nodes, typed};
@@ -15,10 +15,10 @@ use tap_base::{Memory, Rows};
 use tql_core::Cond;
 use tql_tree::Tree;
 
-/// The most nodes of a condition.
+/// Limits the nodes of a condition.
 pub const NODE_LIMIT: u64 = 128;
 
-// The fault at the least place, and how many variables there are after the tree.
+// Returns the fault at the least place, and how many variables there are after the tree.
 fn find_fault(
     scope: &Rows<Variable>,
     count: u8,
@@ -76,7 +76,7 @@ fn find_fault(
     }
 }
 
-// How many nodes a condition has, as far as a number can tell.
+// Returns how many nodes a condition has, or the greatest number of 64 bits if there are more.
 fn count_nodes(cond: &Cond) -> u64
     ensures { result ≡ min (nodes (condition cond.now)) (2 ^ 64 - 1) }
 {
@@ -89,16 +89,16 @@ fn count_nodes(cond: &Cond) -> u64
     }
 }
 
-// Has the condition more nodes than it may?
+// Returns whether the condition has more nodes than it may.
 fn is_too_large(cond: &Cond) -> bool
-    ensures { result ≡ not (nat_le (nodes (condition cond.now)) NODE_LIMIT) }
+    ensures { result ≡ not (nat_le (nodes (condition cond.now)) 128) }
 {
     count_nodes(cond) > NODE_LIMIT
 }
 
-/// The condition that a query's tree is, or the first fault of its types: the one at the least place, a shadowed variable
-/// before a seventh at one place. `ManyNodes` comes where there is no other fault and the condition has more than 128
-/// nodes; `Memory` may come at any tree.
+/// Returns the condition that a query's tree is, or the first fault of its types: the one at the least place, and at one
+/// place a shadowed variable before a seventh. `ManyNodes` comes if there is no other fault and the condition has more
+/// than 128 nodes. `Memory` may come at any tree, if out of memory.
 pub fn check(alloc: Global, tree: &Tree) -> Result<Cond, TypeFault>
     ensures { Answers (typed (syntax tree.now)) result }
 {

@@ -1,10 +1,11 @@
-ghost use Rattle.std.specs.Prelude.{◌≡◌, ◌≤ℤ◌, ℤ, pos, negsuc, neg_ℤ, ◌+ℤ◌, ◌-ℤ◌, IfOk, unwrap_or};
+//! Reads times, and compares them with each other, with now and with today.
+ghost use Rattle.std.specs.Prelude.{◌≡◌, ◌≤ℤ◌, ℤ, pos, negsuc, neg_ℤ, ◌+ℤ◌, IfOk, unwrap_or};
 ghost use Rattle.std.specs.Option.{option_copied};
 ghost use Rattle.tap_base.specs.Numbers.{moment_of};
 ghost use Rattle.tql_core.specs.Condition.{condition};
-ghost use Rattle.tql_core.specs.Values.{round_up_to_day, compare};
-ghost use Rattle.tql_types.specs.Spans.{amount_of};
-ghost use Rattle.tql_types.specs.Clocks.{base_of, base_in, clock_of, later, day, day_of_term, turned, half_line, now_core, today_core, constant, times_core};
+ghost use Rattle.tql_core.specs.Values.{round_up_to_day};
+ghost use Rattle.tql_types.specs.Clocks.{base_of, base_in, clock_of, later, day, turned, half_line};
+ghost use Rattle.tql_types.specs.Clocks.{now_core, today_core, constant, times_core};
 ghost use Rattle.tql_types.specs.Bounds.{IsNearClock};
 ghost use Rattle.tql_types.specs.declared.clock.Clock.{Clock};
 
@@ -14,10 +15,13 @@ use crate::sort::variable_field;
 use crate::spans::shift_amount;
 use std::alloc::Global;
 use tap_base::{Memory, Op, read_moment};
-use tql_core::{Atom, Base, Cond, Term, Var};
+use tql_core::{Atom, Base, Cond, Term, Var, compares};
 use tql_tree::{Expr, Shift};
 
-/// A time, or now or today and how many seconds they are shifted.
+// The seconds of a UTC day.
+const DAY: i64 = 86_400;
+
+/// Holds a time, or now or today with the seconds by which it is shifted.
 #[derive(Clone, Copy, Debug, PartialEq, Eq)]
 pub enum Clock {
     At(Term),
@@ -25,7 +29,7 @@ pub enum Clock {
     Today(i64),
 }
 
-// The base of a field of this variable.
+// Returns the base of a field of this variable; of a field that is no time it is fixed.
 fn base_of_field(var: Var, field: Option<Field>) -> Base
     ensures { result ≡ base_of var field }
 {
@@ -36,7 +40,7 @@ fn base_of_field(var: Var, field: Option<Field>) -> Base
     }
 }
 
-// The base of a field of a variable that may be out of scope.
+// Returns the base of a field of a variable that may be out of scope.
 fn base_of_variable(variable: Option<&Variable>, name: &[u8]) -> Base
     ensures { result ≡ base_in (option_copied variable.entry) name.now }
 {
@@ -46,7 +50,7 @@ fn base_of_variable(variable: Option<&Variable>, name: &[u8]) -> Base
     }
 }
 
-// The second of a moment text, or 0 where it is none.
+// Returns the second of a moment text, or 0 if it is none.
 fn second_of(text: &[u8]) -> i64
     ensures value { result ≡ unwrap_or (moment_of text.now) (pos 0) }
     ensures low { pos 0 ≤ℤ result }
@@ -55,7 +59,7 @@ fn second_of(text: &[u8]) -> i64
     read_moment(text).ok().unwrap_or(0)
 }
 
-// The sum of a second and a shift.
+// Returns the sum of a second and a shift.
 fn shifted(second: i64, amount: i64) -> i64
     requires low { pos 0 ≤ℤ second }
     requires high { second ≤ℤ pos 250000000000 }
@@ -68,7 +72,7 @@ fn shifted(second: i64, amount: i64) -> i64
     second + amount
 }
 
-// The time that an expression stands for, or now or today and how far they are shifted.
+/// Returns the time of an expression, or now or today with the seconds by which it is shifted.
 pub fn read_clock(scope: &[Variable], expr: &Expr) -> Clock
     ensures value { result ≡ clock_of scope.now expr.now }
     ensures near { IsNearClock result }
@@ -96,7 +100,7 @@ pub fn read_clock(scope: &[Variable], expr: &Expr) -> Clock
     }
 }
 
-// A time so many seconds earlier.
+// Returns a time so many seconds earlier.
 fn earlier_by(term: Term, n: i64) -> Term
     requires low { negsuc 99999999999 ≤ℤ term.plus }
     requires high { term.plus ≤ℤ pos 350000000000 }
@@ -112,7 +116,7 @@ fn earlier_by(term: Term, n: i64) -> Term
     }
 }
 
-// A time one second later.
+// Returns a time one second later.
 fn next_second(term: Term) -> Term
     requires low { negsuc 299999999999 ≤ℤ term.plus }
     requires high { term.plus ≤ℤ pos 450000000000 }
@@ -126,16 +130,16 @@ fn next_second(term: Term) -> Term
     }
 }
 
-// The least multiple of a day's seconds that is not below x.
+// Returns the start of the first UTC day that is not before the second.
 fn up_to_day(x: i64) -> i64
     requires low { negsuc 599999999999 ≤ℤ x }
     requires high { x ≤ℤ pos 600000000000 }
     ensures { result ≡ round_up_to_day x }
 {
-    x + (-x).rem_euclid(86400)
+    x + (-x).rem_euclid(DAY)
 }
 
-// The start of the first UTC day that is not before a time.
+// Returns the start of the first UTC day that is not before a time.
 fn first_day(term: Term) -> Term
     requires low { negsuc 599999999999 ≤ℤ term.plus }
     requires high { term.plus ≤ℤ pos 600000000000 }
@@ -158,7 +162,7 @@ fn first_day(term: Term) -> Term
     }
 }
 
-// The comparison with its sides exchanged.
+// Returns the comparison with its sides exchanged.
 fn turn(op: Op) -> Op
     ensures { result ≡ turned op }
 {
@@ -172,7 +176,7 @@ fn turn(op: Op) -> Op
     }
 }
 
-// Now compared with a time, where `next` is a second later.
+// Returns the condition that compares now with a time; `next` is a second later.
 fn compare_now(alloc: Global, op: Op, at: Term, next: Term) -> Result<Cond, Memory>
     ensures { IfOk result (λ cond. condition cond ≡ half_line op at next) }
 {
@@ -192,7 +196,7 @@ fn compare_now(alloc: Global, op: Op, at: Term, next: Term) -> Result<Cond, Memo
     }
 }
 
-// Now, shifted by `a`, compared with a time.
+// Returns the condition that compares now, shifted by `a` seconds, with a time.
 fn now_condition(alloc: Global, op: Op, a: i64, term: Term) -> Result<Cond, Memory>
     requires shift { IsNearClock (Clock.Now a) }
     requires term { IsNearClock (Clock.At term) }
@@ -202,7 +206,7 @@ fn now_condition(alloc: Global, op: Op, a: i64, term: Term) -> Result<Cond, Memo
     compare_now(alloc, op, at, next_second(at))
 }
 
-// Today, shifted by `a`, compared with a time.
+// Returns the condition that compares today, shifted by `a` seconds, with a time.
 fn today_condition(alloc: Global, op: Op, a: i64, term: Term) -> Result<Cond, Memory>
     requires shift { IsNearClock (Clock.Today a) }
     requires term { IsNearClock (Clock.At term) }
@@ -212,32 +216,18 @@ fn today_condition(alloc: Global, op: Op, a: i64, term: Term) -> Result<Cond, Me
     compare_now(alloc, op, first_day(at), first_day(next_second(at)))
 }
 
-// Does the comparison of two numbers hold?
-fn holds(op: Op, a: i64, b: i64) -> bool
-    ensures { result ≡ compare op a b }
-{
-    match op {
-        Op::Eq => a == b,
-        Op::Ne => a != b,
-        Op::Lt => a < b,
-        Op::Le => a <= b,
-        Op::Gt => a > b,
-        Op::Ge => a >= b,
-    }
-}
-
-// The truth of two numbers compared.
+// Returns the condition that compares two numbers, which is true or false.
 fn constant_condition(op: Op, a: i64, b: i64) -> Cond
     ensures { condition result ≡ constant op a b }
 {
-    if holds(op, a, b) {
+    if compares(op, i128::from(a), i128::from(b)) {
         Cond::True
     } else {
         Cond::False
     }
 }
 
-/// The condition that compares two times.
+/// Returns the condition that compares two times. Now with today is false. `Memory` if out of memory.
 pub fn compare_times(alloc: Global, op: Op, left: Clock, right: Clock) -> Result<Cond, Memory>
     requires left { IsNearClock left }
     requires right { IsNearClock right }

@@ -1,35 +1,35 @@
+//! Builds the condition of a tree without a fault.
 ghost use Rattle.std.specs.Prelude.{◌≡◌, IfOk};
 ghost use Rattle.std.specs.Option.{option_copied};
 ghost use Rattle.tql_tree.specs.Syntax.{syntax};
 ghost use Rattle.tql_core.specs.Condition.{condition};
-ghost use Rattle.tql_types.specs.Scopes.{variables_after, next_variable, variable_named};
+ghost use Rattle.tql_types.specs.Scopes.{variables_after};
 ghost use Rattle.tql_types.specs.Core.{binder_fault, inner_scope, num_field, num_of, text_field, text_of, lowered, has_field, has_core, compare_core, core};
-ghost use Rattle.tql_types.specs.Sorts.{sort_of};
 
 use crate::TypeFault;
 use crate::clock::{compare_times, read_clock};
 use crate::field::Field;
-use crate::scope::{Variable, enter, find_variable, one_more};
+use crate::scope::{VARIABLE_LIMIT, Variable, enter, find_variable, one_more};
 use crate::sort::{Sort, expr_sort, variable_field};
 use std::alloc::Global;
 use tap_base::{Memory, Op, Rows, Text, lower};
 use tql_core::{Atom, Cond, NumExpr, TextExpr, Var};
 use tql_tree::{Expr, Table, Tree};
 
-/// The fault of the variable of an EXISTS, where there are so many variables.
+/// Returns the fault of the variable of an EXISTS, behind `count` variables.
 pub fn fault_of_binder(scope: &[Variable], count: u8, name: &[u8], place: u32) -> Option<TypeFault>
     ensures { result ≡ binder_fault scope.now count name.now place }
 {
     if find_variable(name, scope).is_some() {
         Some(TypeFault::Shadow { place })
-    } else if count < 6 {
+    } else if count < VARIABLE_LIMIT {
         None
     } else {
         Some(TypeFault::ManyVars { place })
     }
 }
 
-/// The scope of the condition of an EXISTS.
+/// Returns the scope of the condition of an EXISTS; a variable at fault isn't in it. `Memory` if out of memory.
 pub fn scope_within(
     scope: &Rows<Variable>,
     count: u8,
@@ -46,7 +46,7 @@ pub fn scope_within(
     }
 }
 
-// A number field of a variable, if it is one.
+// Returns a number field of a variable, or 0 if it is none.
 fn number_field(variable: Option<&Variable>, field: Option<Field>) -> NumExpr
     ensures { result ≡ num_field (option_copied variable.entry) field }
 {
@@ -56,7 +56,7 @@ fn number_field(variable: Option<&Variable>, field: Option<Field>) -> NumExpr
     }
 }
 
-// A side that is a number.
+// Returns a side that is a number, or 0 if it is none.
 fn number_side(scope: &[Variable], expr: &Expr) -> NumExpr
     ensures { result ≡ num_of scope.now expr.now }
 {
@@ -72,7 +72,7 @@ fn number_side(scope: &[Variable], expr: &Expr) -> NumExpr
     }
 }
 
-// A text field of a variable, if it is one.
+// Returns a text field of a variable, or an empty text if it is none.
 fn variable_text(alloc: Global, variable: Option<&Variable>, field: Option<Field>) -> TextExpr
     ensures { result ≡ text_field (option_copied variable.entry) field }
 {
@@ -82,7 +82,7 @@ fn variable_text(alloc: Global, variable: Option<&Variable>, field: Option<Field
     }
 }
 
-// A side that is a text.
+// Returns a side that is a text, or an empty text if it is none.
 fn text_side(alloc: Global, scope: &[Variable], expr: &Expr) -> Result<TextExpr, Memory>
     ensures { IfOk result (λ side. side ≡ text_of scope.now expr.now) }
 {
@@ -98,7 +98,7 @@ fn text_side(alloc: Global, scope: &[Variable], expr: &Expr) -> Result<TextExpr,
     }
 }
 
-// A text that a list may hold.
+// Returns a text that a list may have: A to Z of a literal are lowered.
 fn lowered_side(alloc: Global, side: TextExpr) -> Result<TextExpr, Memory>
     ensures { IfOk result (λ made. made ≡ lowered side) }
 {
@@ -108,7 +108,7 @@ fn lowered_side(alloc: Global, side: TextExpr) -> Result<TextExpr, Memory>
     }
 }
 
-// Does a list of a variable hold a text?
+// Returns the condition that a list of a variable has a text.
 fn variable_has(variable: Option<&Variable>, field: Option<Field>, text: TextExpr) -> Cond
     ensures { condition result ≡ has_field (option_copied variable.entry) field text }
 {
@@ -120,7 +120,7 @@ fn variable_has(variable: Option<&Variable>, field: Option<Field>, text: TextExp
     }
 }
 
-// Does a list hold a text?
+// Returns the condition that a list has a text.
 fn has_condition(scope: &[Variable], left: &Expr, text: TextExpr) -> Cond
     ensures { condition result ≡ has_core scope.now left.now text }
 {
@@ -133,7 +133,7 @@ fn has_condition(scope: &[Variable], left: &Expr, text: TextExpr) -> Cond
     }
 }
 
-// A comparison, by what its left side is.
+// Returns the condition of a comparison, by what its left side is.
 fn comparison(
     alloc: Global,
     sort: Option<Sort>,
@@ -159,7 +159,8 @@ fn comparison(
     }
 }
 
-/// The condition of a query without a fault, and how many variables there are after it.
+/// Returns the condition of a query without a fault, and how many variables there are after it. `Memory` if out of
+/// memory.
 pub fn build(
     alloc: Global,
     scope: &Rows<Variable>,

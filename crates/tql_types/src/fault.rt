@@ -1,11 +1,12 @@
-ghost use Rattle.std.specs.Prelude.{◌≡◌, ℕ};
+//! Why a tree is no condition.
+ghost use Rattle.std.specs.Prelude.{◌≡◌};
 ghost use Rattle.tql_types.specs.Faults.{place_of};
 
 use std::alloc::{AllocError, AllocFailed};
 use tap_base::Memory;
 use thiserror::Error;
 
-/// Why a tree is no condition. The place is a byte of the query's text, from 0.
+/// Says why a tree is no condition. A place counts the bytes of the query's text from 0.
 #[derive(Clone, Copy, Debug, PartialEq, Eq, Error)]
 pub enum TypeFault {
     /// The variable isn't in scope.
@@ -32,13 +33,13 @@ pub enum TypeFault {
     /// The condition has more than 128 nodes.
     #[error("there are too many nodes")]
     ManyNodes,
-    /// Want of memory.
+    /// Out of memory.
     #[error("no memory")]
     Memory,
 }
 
 impl TypeFault {
-    // The place; 0 where the fault has none.
+    // Returns the place of the fault, or 0 if it has none.
     pub(crate) fn place(self) -> u32
         ensures { result ≡ place_of self }
     {

@@ -1,11 +1,11 @@
-ghost use Rattle.std.specs.Prelude.{◌≡◌, codes};
-ghost use Rattle.std.specs.Str.{bytes_eq};
+//! The fields of documents and notes, by name.
+ghost use Rattle.std.specs.Prelude.{◌≡◌};
 ghost use Rattle.tql_types.specs.Fields.{doc_field, note_field, field_named, is_time};
 
 use tql_core::{ListField, NumField, TextField};
 use tql_tree::Table;
 
-/// A field of a row, by what it is.
+/// Names a field of a row, by what it is.
 #[derive(Clone, Copy, Debug, PartialEq, Eq)]
 pub enum Field {
     Number(NumField),
@@ -15,7 +15,7 @@ pub enum Field {
     Date,
 }
 
-// A document's field of this name.
+// Returns a document's field of this name.
 fn find_doc_field(name: &[u8]) -> Option<Field>
     ensures { result ≡ doc_field name.now }
 {
@@ -50,7 +50,7 @@ fn find_doc_field(name: &[u8]) -> Option<Field>
     }
 }
 
-// A note's field of this name.
+// Returns a note's field of this name.
 fn find_note_field(name: &[u8]) -> Option<Field>
     ensures { result ≡ note_field name.now }
 {
@@ -73,7 +73,7 @@ fn find_note_field(name: &[u8]) -> Option<Field>
     }
 }
 
-/// The table's field of this name.
+/// Returns the table's field of this name, if it has one.
 pub fn find_field(table: Table, name: &[u8]) -> Option<Field>
     ensures { result ≡ field_named table name.now }
 {
@@ -83,7 +83,7 @@ pub fn find_field(table: Table, name: &[u8]) -> Option<Field>
     }
 }
 
-/// Is the field a time?
+/// Returns whether the field is a time.
 pub fn is_time_field(field: Field) -> bool
     ensures { result ≡ is_time field }
 {

@@ -1,6 +1,6 @@
-ghost use Rattle.std.specs.Prelude.{◌≡◌, ◌++◌, ◌∷◌, ◌==◌, ◌≤◌, ◌<◌, [], List, ℕ, IfOk, find, length, codes};
+//! The variables in scope.
+ghost use Rattle.std.specs.Prelude.{◌≡◌, ◌==◌, ◌<◌, IfOk};
 ghost use Rattle.std.specs.Option.{option_copied};
-ghost use Rattle.std.specs.Str.{bytes_eq};
 ghost use Rattle.tql_types.specs.Scopes.{is_variable_named, variable_named, entered, first_scope, next_variable};
 
 use std::alloc::Global;
@@ -8,7 +8,10 @@ use tap_base::{Copied, Memory, Rows, Text};
 use tql_core::Var;
 use tql_tree::Table;
 
-/// A variable in scope.
+/// Limits the variables of a query: `m` and five of EXISTS.
+pub const VARIABLE_LIMIT: u8 = 6;
+
+/// Holds a variable in scope: its name in the text, its number and its table.
 #[derive(Drop)]
 pub struct Variable {
     pub name: Text,
@@ -26,14 +29,14 @@ impl Copied for Variable {
     }
 }
 
-// Is this the variable's name?
+// Returns whether this is the variable's name.
 fn has_name(name: &[u8], variable: &Variable) -> bool
     ensures { result ≡ is_variable_named name.now variable.now }
 {
     variable.name.as_slice() == name
 }
 
-/// The variable of this name, if it is in scope.
+/// Returns the variable of this name, if it is in scope.
 pub fn find_variable<'a>(name: &[u8], scope: &'a [Variable]) -> Option<&'a Variable>
     ensures { option_copied result ≡ variable_named name.now scope.now }
 {
@@ -45,7 +48,7 @@ pub fn find_variable<'a>(name: &[u8], scope: &'a [Variable]) -> Option<&'a Varia
     None
 }
 
-/// The scope of a query: `m`, a document.
+/// Returns the scope of a query: `m`, a document. `Memory` if out of memory.
 pub fn query_scope(alloc: Global) -> Result<Rows<Variable>, Memory>
     ensures { IfOk result (λ scope. scope ≡ first_scope) }
 {
@@ -58,7 +61,7 @@ pub fn query_scope(alloc: Global) -> Result<Rows<Variable>, Memory>
     Ok(scope)
 }
 
-/// The scope with one more variable.
+/// Returns the scope with one more variable. `Memory` if out of memory.
 pub fn enter(
     scope: &Rows<Variable>,
     count: u8,
@@ -76,9 +79,13 @@ pub fn enter(
     Ok(inner)
 }
 
-/// How many variables there are with one more; a seventh is not counted.
+/// Returns how many variables there are with one more. A seventh isn't counted.
 pub fn one_more(count: u8) -> u8
     ensures { result ≡ next_variable count }
 {
-    if count < 6 { count + 1 } else { 6 }
+    if count < VARIABLE_LIMIT {
+        count + 1
+    } else {
+        VARIABLE_LIMIT
+    }
 }

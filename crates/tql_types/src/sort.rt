@@ -1,9 +1,9 @@
+//! What expressions are, and their faults.
 ghost use Rattle.std.specs.Prelude.{◌≡◌, is_some};
 ghost use Rattle.std.specs.Option.{option_copied};
-ghost use Rattle.tap_base.specs.Numbers.{moment_of};
 ghost use Rattle.tql_types.specs.Faults.{sooner};
-ghost use Rattle.tql_types.specs.Scopes.{variable_named};
-ghost use Rattle.tql_types.specs.Sorts.{field_in, named_fault, field_fault, moment_fault, expr_fault, sort_of_field, sort_in, sort_of, go_together, comparable, holdable, clash};
+ghost use Rattle.tql_types.specs.Sorts.{field_in, named_fault, field_fault, moment_fault, expr_fault};
+ghost use Rattle.tql_types.specs.Sorts.{sort_of_field, sort_in, sort_of, go_together, comparable, holdable, clash};
 
 use crate::TypeFault;
 use crate::field::{Field, find_field, is_time_field};
@@ -12,7 +12,7 @@ use crate::spans::{long_span, needless_shift};
 use tap_base::read_moment;
 use tql_tree::{Expr, Shift};
 
-/// What an expression is.
+/// Says what an expression is.
 #[derive(Clone, Copy, Debug, PartialEq, Eq)]
 pub enum Sort {
     Number,
@@ -23,7 +23,7 @@ pub enum Sort {
     Today,
 }
 
-/// The fault at the lesser place; at one place the first of the two.
+/// Returns the fault at the lesser place, and at one place the first of the two.
 pub fn sooner_of(fault: Option<TypeFault>, other: Option<TypeFault>) -> Option<TypeFault>
     ensures { result ≡ sooner fault other }
 {
@@ -40,7 +40,7 @@ pub fn sooner_of(fault: Option<TypeFault>, other: Option<TypeFault>) -> Option<T
     }
 }
 
-/// The field of a variable that may be out of scope.
+/// Returns the field of a variable that may be out of scope.
 pub fn variable_field(variable: Option<&Variable>, name: &[u8]) -> Option<Field>
     ensures { result ≡ field_in (option_copied variable.entry) name.now }
 {
@@ -50,7 +50,7 @@ pub fn variable_field(variable: Option<&Variable>, name: &[u8]) -> Option<Field>
     }
 }
 
-// The fault of a field that is named, if it is one.
+// Returns the fault of a field that may be missing: its name, or a shift if it is no time.
 fn fault_of_named(field: Option<Field>, place: u32, shift: Option<Shift>) -> Option<TypeFault>
     ensures { result ≡ named_fault field place shift }
 {
@@ -66,7 +66,7 @@ fn fault_of_named(field: Option<Field>, place: u32, shift: Option<Shift>) -> Opt
     }
 }
 
-// The fault of a variable's field.
+// Returns the fault of a field of a variable that may be out of scope.
 fn fault_of_field(
     variable: Option<&Variable>,
     var_place: u32,
@@ -82,7 +82,7 @@ fn fault_of_field(
     }
 }
 
-// The fault of a text that is no moment.
+// Returns the fault of a text that is no moment.
 fn fault_of_moment(text: &[u8], place: u32) -> Option<TypeFault>
     ensures { result ≡ moment_fault text.now place }
 {
@@ -92,7 +92,7 @@ fn fault_of_moment(text: &[u8], place: u32) -> Option<TypeFault>
     }
 }
 
-/// The first fault of an expression.
+/// Returns the first fault of an expression.
 pub fn fault_of_expr(scope: &[Variable], expr: &Expr) -> Option<TypeFault>
     ensures { result ≡ expr_fault scope.now expr.now }
 {
@@ -122,7 +122,7 @@ pub fn fault_of_expr(scope: &[Variable], expr: &Expr) -> Option<TypeFault>
     }
 }
 
-// What a field is.
+// Returns what a field is.
 fn field_sort(field: Field) -> Sort
     ensures { result ≡ sort_of_field field }
 {
@@ -134,7 +134,7 @@ fn field_sort(field: Field) -> Sort
     }
 }
 
-// What a field is, if it is there.
+// Returns what a field is, if it is there.
 fn maybe_sort(field: Option<Field>) -> Option<Sort>
     ensures { result ≡ sort_in field }
 {
@@ -144,7 +144,7 @@ fn maybe_sort(field: Option<Field>) -> Option<Sort>
     }
 }
 
-/// What an expression is, if its field is there.
+/// Returns what an expression is, if its field is there.
 pub fn expr_sort(scope: &[Variable], expr: &Expr) -> Option<Sort>
     ensures { result ≡ sort_of scope.now expr.now }
 {
@@ -161,7 +161,7 @@ pub fn expr_sort(scope: &[Variable], expr: &Expr) -> Option<Sort>
     }
 }
 
-// Can the two be compared?
+// Returns whether the two can be compared.
 fn sorts_fit(x: Sort, y: Sort) -> bool
     ensures { result ≡ go_together x y }
 {
@@ -174,7 +174,7 @@ fn sorts_fit(x: Sort, y: Sort) -> bool
     }
 }
 
-/// Can the two be compared, if both are there?
+/// Returns whether both are there and can be compared.
 pub fn can_compare(x: Option<Sort>, y: Option<Sort>) -> bool
     ensures { result ≡ comparable x y }
 {
@@ -184,14 +184,14 @@ pub fn can_compare(x: Option<Sort>, y: Option<Sort>) -> bool
     }
 }
 
-/// Is the left one a list and the right one a text?
+/// Returns whether the left one is a list and the right one a text.
 pub fn can_hold(x: Option<Sort>, y: Option<Sort>) -> bool
     ensures { result ≡ holdable x y }
 {
     matches!((x, y), (Some(Sort::List), Some(Sort::Text)))
 }
 
-/// The fault of two sides: their own, or that they don't go together.
+/// Returns the fault of two sides: one of their own, or that they don't go together.
 pub fn fault_of_sides(
     left: Option<TypeFault>,
     right: Option<TypeFault>,

@@ -1,13 +1,14 @@
-ghost use Rattle.std.specs.Prelude.{◌≡◌, ◌≤ℤ◌, ℤ, pos, negsuc, neg_ℤ, ◌*ℤ◌, if◌then◌else◌};
+//! Durations.
+ghost use Rattle.std.specs.Prelude.{◌≡◌, ◌≤ℤ◌, ℤ, pos, negsuc};
 ghost use Rattle.tql_types.specs.Spans.{seconds_of, span_of, span_fault, shift_fault, kept_span, amount_of};
 
 use crate::TypeFault;
 use tql_tree::{Shift, Unit};
 
-/// The most seconds of a duration.
-pub const SPAN_LIMIT: i64 = 100000000000;
+/// Limits the seconds of a duration.
+pub const SPAN_LIMIT: i64 = 100_000_000_000;
 
-// How many seconds a unit has.
+// Returns how many seconds a unit has.
 fn unit_seconds(unit: Unit) -> i128
     ensures { result ≡ pos (seconds_of unit) }
 {
@@ -19,14 +20,14 @@ fn unit_seconds(unit: Unit) -> i128
     }
 }
 
-// How many seconds a shift counts.
+// Returns how many seconds a shift counts.
 fn seconds(shift: Shift) -> i128
     ensures { result ≡ span_of shift }
 {
     shift.count as i128 * unit_seconds(shift.unit)
 }
 
-/// The fault of a duration that is too long.
+/// Returns the fault of a duration that is too long.
 pub fn long_span(shift: Option<Shift>) -> Option<TypeFault>
     ensures { result ≡ span_fault shift }
 {
@@ -38,7 +39,7 @@ pub fn long_span(shift: Option<Shift>) -> Option<TypeFault>
     }
 }
 
-/// The fault of a shift where none may stand.
+/// Returns the fault of a shift that may not stand here.
 pub fn needless_shift(shift: Option<Shift>) -> Option<TypeFault>
     ensures { result ≡ shift_fault shift }
 {
@@ -48,7 +49,7 @@ pub fn needless_shift(shift: Option<Shift>) -> Option<TypeFault>
     }
 }
 
-// So many seconds, if a duration may have them, and else none.
+// Returns so many seconds if a duration may have them, and else 0.
 fn keep_span(n: i128) -> i64
     ensures value { result ≡ kept_span n }
     ensures low { pos 0 ≤ℤ result }
@@ -61,7 +62,7 @@ fn keep_span(n: i128) -> i64
     }
 }
 
-/// How far a shift moves a time, in seconds: backwards below 0. A duration that is too long moves nothing.
+/// Returns how far a shift moves a time, in seconds: backwards below 0. A duration that is too long moves nothing.
 pub fn shift_amount(shift: Option<Shift>) -> i64
     ensures value { result ≡ amount_of shift }
     ensures low { negsuc 99999999999 ≤ℤ result }
