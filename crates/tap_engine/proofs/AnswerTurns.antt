@@ -18,7 +18,7 @@ use Rattle.script_lang.specs.declared.refusal.Refusal.{Refusal}
 use Rattle.script_lang.specs.declared.refusal.Refusal.TheVariants.{Memory}
 use Rattle.tap_model.specs.Verdicts.{verdict, is_early}
 use Rattle.tap_model.specs.Replies.{answer_of, answer_by, accepted}
-use Rattle.tap_kept.specs.declared.kept_query.KeptQuery.{KeptQuery}
+use Rattle.tap_kept.specs.declared.cached_query.CachedQuery.{CachedQuery}
 use Rattle.tap_engine.specs.declared.engine.Engine.{Engine}
 use Rattle.tap_engine.specs.declared.undo.Undo.TheVariants.{Docs, Note as OneNote, Query, Filter}
 use Rattle.tap_kept.specs.Keeping.{with_owner}
@@ -70,7 +70,7 @@ owner-back owners owner = elim (holds owners owner) as (λ b. take (length owner
 ]
 
 -- a query is taken back
-pub undo-query : (e : Engine) (queries : List KeptQuery) (owner : List ℕ) (bytes n m : ℕ) → n ≡ length e.queries → m ≡ length e.owners → UndoRestores (Query n m e.bytes) (record e { queries = e.queries ++ queries; owners = with_owner e.owners owner; bytes = bytes }) e
+pub undo-query : (e : Engine) (queries : List CachedQuery) (owner : List ℕ) (bytes n m : ℕ) → n ≡ length e.queries → m ≡ length e.owners → UndoRestores (Query n m e.bytes) (record e { queries = e.queries ++ queries; owners = with_owner e.owners owner; bytes = bytes }) e
 undo-query e queries owner bytes n m is-n is-m = record {
   there = tt;
   before_is = record {

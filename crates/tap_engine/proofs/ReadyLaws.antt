@@ -23,30 +23,30 @@ use Rattle.tap_model.specs.Sessions.{or_zero, moment_or_zero}
 use Rattle.tap_model.specs.Sound.{IsMoment}
 use Rattle.tap_model.specs.Verdicts.{is_back, refuse_unless}
 use Rattle.tap_model.proofs.AnswerLaws.{some-none}
-use Rattle.tap_kept.specs.declared.kept_query.KeptQuery.{KeptQuery}
+use Rattle.tap_kept.specs.declared.cached_query.CachedQuery.{CachedQuery}
 use Rattle.tap_engine.specs.declared.engine.Engine.{Engine}
 use Rattle.tap_engine.specs.declared.run.Due.{Due}
-use Rattle.tap_kept.specs.Keeping.{named_in, new_kept, after_run, before_run, without_run}
-use Rattle.tap_engine.specs.Ready.{KeptFrom, RowsBy, IsTime, IsReady}
-use Rattle.tap_engine.specs.Standing.{kept_named, hits_kept, due_of}
+use Rattle.tap_kept.specs.Keeping.{named_in, never_run, after_run, before_run, without_run}
+use Rattle.tap_engine.specs.Ready.{CachedFrom, RowsBy, IsTime, IsReady}
+use Rattle.tap_engine.specs.Standing.{cached_named, cached_hits, due_of}
 use Rattle.tap_engine.specs.Answering.{IsUnchangedButHits, UndoRestores, undo_run}
 
 -- what is kept of a query that stands at the place of its number
-pub record KeptAt (num runs : ℕ) (queries : List KeptQuery) (kept : KeptQuery) : Type 0 where
+pub record KeptAt (num runs : ℕ) (queries : List CachedQuery) (kept : CachedQuery) : Type 0 where
   pub low : num ≤ kept.row.num.0
   pub high : kept.row.num.0 < num + length queries
   pub few : kept.runs ≤ runs
   pub covered : IsMoment kept.covered
-  pub at : (i : ℕ) (d : KeptQuery) → kept.row.num.0 ≡ num + i → slice_index_or queries i d ≡ kept
+  pub at : (i : ℕ) (d : CachedQuery) → kept.row.num.0 ≡ num + i → slice_index_or queries i d ≡ kept
 
-some-kept : (x y : KeptQuery) → Some x ≡ Some y → x ≡ y
+some-kept : (x y : CachedQuery) → Some x ≡ Some y → x ≡ y
 some-kept x y e = cc
 
-no-kept : (x : KeptQuery) → None ≡ Some x → ⊥
+no-kept : (x : CachedQuery) → None ≡ Some x → ⊥
 no-kept x e = cc
 
 -- what is found stands at the place of its number
-found-at : (p : KeptQuery → Bool) (num runs : ℕ) (queries : List KeptQuery) (kept : KeptQuery) → KeptFrom num runs queries → find p queries ≡ Some kept → KeptAt num runs queries kept
+found-at : (p : CachedQuery → Bool) (num runs : ℕ) (queries : List CachedQuery) (kept : CachedQuery) → CachedFrom num runs queries → find p queries ≡ Some kept → KeptAt num runs queries kept
 found-at p num runs [] kept from e = absurd (no-kept kept e)
 found-at p num runs (x ∷ queries) kept from e = go (p x) refl (found-at p (suc num) runs queries kept from.3) where
   here : x ≡ kept → KeptAt num runs (x ∷ queries) kept
@@ -73,16 +73,16 @@ found-at p num runs (x ∷ queries) kept from e = go (p x) refl (found-at p (suc
   go true y rest = here (some-kept x kept (sym (ap (λ b. if b then Some x else find p queries) y) ∙ e))
   go false n rest = later (rest (sym (ap (λ b. if b then Some x else find p queries) n) ∙ e))
 
-pub named-at : (owner name : List ℕ) (num runs : ℕ) (queries : List KeptQuery) (kept : KeptQuery) → KeptFrom num runs queries → named_in owner name queries ≡ Some kept → KeptAt num runs queries kept
+pub named-at : (owner name : List ℕ) (num runs : ℕ) (queries : List CachedQuery) (kept : CachedQuery) → CachedFrom num runs queries → named_in owner name queries ≡ Some kept → KeptAt num runs queries kept
 unfolding named_in
 named-at owner name num runs queries kept from e = found-at (λ kept. is_query_of owner name kept.row) num runs queries kept from e
 
 -- what is due is due to a query that is kept at the place of its number
 pub record DueAt (e : Engine) (name : List ℕ) (due : Due) : Type 0 where
-  pub kept : KeptQuery
-  pub named : kept_named e name ≡ Some kept
+  pub kept : CachedQuery
+  pub named : cached_named e name ≡ Some kept
   pub at : KeptAt 1 e.run_count e.queries kept
-  pub is : due ≡ record { query = kept.row.num; moment = moment_or_zero e.session; runs = kept.runs; hits = hits_kept e (Some kept) }
+  pub is : due ≡ record { query = kept.row.num; moment = moment_or_zero e.session; runs = kept.runs; hits = cached_hits e (Some kept) }
 
 no-due : (due : Due) → Some due ≡ None → ⊥
 no-due due e = cc
@@ -90,50 +90,50 @@ no-due due e = cc
 same-due : (x y : Due) → Some x ≡ Some y → x ≡ y
 same-due x y e = cc
 
-pub due-at : (e : Engine) (name : List ℕ) (due : Due) → IsReady e → Some due ≡ due_of e (kept_named e name) → DueAt e name due
-due-at e name due ready is = go (kept_named e name) refl where
-  go : (o : Option KeptQuery) → kept_named e name ≡ o → DueAt e name due
+pub due-at : (e : Engine) (name : List ℕ) (due : Due) → IsReady e → Some due ≡ due_of e (cached_named e name) → DueAt e name due
+due-at e name due ready is = go (cached_named e name) refl where
+  go : (o : Option CachedQuery) → cached_named e name ≡ o → DueAt e name due
   go None none = absurd (no-due due (is ∙ ap (due_of e) none))
   go (Some kept) some = record {
     kept = kept;
     named = some;
     at = named-at _ name 1 e.run_count e.queries kept ready.queries some;
-    is = same-due due (record { query = kept.row.num; moment = moment_or_zero e.session; runs = kept.runs; hits = hits_kept e (Some kept) }) (is ∙ ap (due_of e) some);
+    is = same-due due (record { query = kept.row.num; moment = moment_or_zero e.session; runs = kept.runs; hits = cached_hits e (Some kept) }) (is ∙ ap (due_of e) some);
   }
 
 -- more runs of all
-more-runs : (num runs runs' : ℕ) (queries : List KeptQuery) → runs ≤ runs' → KeptFrom num runs queries → KeptFrom num runs' queries
+more-runs : (num runs runs' : ℕ) (queries : List CachedQuery) → runs ≤ runs' → CachedFrom num runs queries → CachedFrom num runs' queries
 more-runs num runs runs' [] le from = tt
 more-runs num runs runs' (kept ∷ queries) le from = (from.0, omega (arith, from.1, le), from.2, more-runs (suc num) runs runs' queries le from.3)
 
 -- one more query
-pub kept-more : (num runs : ℕ) (queries : List KeptQuery) (row : QueryRow) → KeptFrom num runs queries → row.num.0 ≡ num + length queries → IsMoment (start_of row) → KeptFrom num runs (queries ++ new_kept row ∷ [])
+pub kept-more : (num runs : ℕ) (queries : List CachedQuery) (row : QueryRow) → CachedFrom num runs queries → row.num.0 ≡ num + length queries → IsMoment (start_of row) → CachedFrom num runs (queries ++ never_run row ∷ [])
 kept-more num runs [] row from is start = (omega (arith, is), omega arith, start, tt)
 kept-more num runs (kept ∷ queries) row from is start = (from.0, from.1, from.2, kept-more (suc num) runs queries row from.3 (omega (arith, is)) start)
 
 -- one more run of the query at a place
-pub kept-run : (num runs i : ℕ) (queries : List KeptQuery) (m : ℤ) (entries : List Entry) (d : KeptQuery) → KeptFrom num runs queries → IsMoment m → KeptFrom num (runs + 1) (slice_set queries i (after_run m entries (slice_index_or queries i d)))
+pub kept-run : (num runs i : ℕ) (queries : List CachedQuery) (m : ℤ) (entries : List Entry) (d : CachedQuery) → CachedFrom num runs queries → IsMoment m → CachedFrom num (runs + 1) (slice_set queries i (after_run m entries (slice_index_or queries i d)))
 kept-run num runs i [] m entries d from moment = tt
 kept-run num runs zero (kept ∷ queries) m entries d from moment = (from.0, omega (arith, from.1), moment, more-runs (suc num) runs (runs + 1) queries (omega arith) from.3)
 kept-run num runs (suc i) (kept ∷ queries) m entries d from moment = (from.0, omega (arith, from.1), from.2, kept-run (suc num) runs i queries m entries d from.3 moment)
 
 -- a run that is taken back
-same-query : (kept : KeptQuery) (m : ℤ) (entries : List Entry) → before_run kept.covered kept.runs (length kept.entries) (after_run m entries kept) ≡ kept
+same-query : (kept : CachedQuery) (m : ℤ) (entries : List Entry) → before_run kept.covered kept.runs (length kept.entries) (after_run m entries kept) ≡ kept
 same-query kept m entries = ap (λ l. record { row = kept.row; covered = kept.covered; runs = kept.runs; entries = l }) (take-append_seam kept.entries entries)
 
-pub run-back : (i : ℕ) (queries : List KeptQuery) (m : ℤ) (entries : List Entry) (d : KeptQuery)
+pub run-back : (i : ℕ) (queries : List CachedQuery) (m : ℤ) (entries : List Entry) (d : CachedQuery)
     → without_run i (slice_index_or queries i d).covered (slice_index_or queries i d).runs (length (slice_index_or queries i d).entries) (slice_set queries i (after_run m entries (slice_index_or queries i d))) ≡ queries
 run-back i [] m entries d = refl
 run-back zero (kept ∷ queries) m entries d = ap (λ k. k ∷ queries) (same-query kept m entries)
 run-back (suc i) (kept ∷ queries) m entries d = ap (λ l. kept ∷ l) (run-back i queries m entries d)
 
-pub length-set : (i : ℕ) (queries : List KeptQuery) (x : KeptQuery) → length (slice_set queries i x) ≡ length queries
+pub length-set : (i : ℕ) (queries : List CachedQuery) (x : CachedQuery) → length (slice_set queries i x) ≡ length queries
 length-set i [] x = refl
 length-set zero (kept ∷ queries) x = refl
 length-set (suc i) (kept ∷ queries) x = ap suc (length-set i queries x)
 
 -- the engine before a run
-pub undo-run : (e e' : Engine) (h : HitsWithRoom) (i : ℕ) (m : ℤ) (entries : List Entry) (runs picks : ℕ) (d : KeptQuery) → i < length e.queries → e.hits.room ≤ h.room
+pub undo-run : (e e' : Engine) (h : HitsWithRoom) (i : ℕ) (m : ℤ) (entries : List Entry) (runs picks : ℕ) (d : CachedQuery) → i < length e.queries → e.hits.room ≤ h.room
     → e' ≡ record e { hits = h; queries = slice_set e.queries i (after_run m entries (slice_index_or e.queries i d)); run_count = runs; pick_count = picks } → UndoRestores (undo_run e i (slice_index_or e.queries i d)) e' e
 undo-run e e' h i m entries runs picks d lt room is = subst (λ e'. UndoRestores (undo_run e i (slice_index_or e.queries i d)) e' e) (sym is) (record {
   there = subst (λ n. i < n) (sym (length-set i e.queries (after_run m entries (slice_index_or e.queries i d)))) lt;

@@ -12,7 +12,7 @@ use Rattle.script_lang.specs.declared.refusal.Refusal.TheVariants.{Memory}
 use Rattle.tap_model.specs.declared.session.Session.{Session}
 use Rattle.tap_model.specs.Verdicts.{verdict}
 use Rattle.tap_model.specs.Replies.{answer_of}
-use Rattle.tap_kept.specs.declared.kept_query.KeptQuery.{KeptQuery}
+use Rattle.tap_kept.specs.declared.cached_query.CachedQuery.{CachedQuery}
 use Rattle.tap_kept.specs.Keeping.{without_run}
 use Rattle.tap_engine.specs.declared.engine.Engine.{Engine}
 use Rattle.tap_engine.specs.declared.fault.EngineFault.{EngineFault}
@@ -38,7 +38,7 @@ undone (Run place covered runs entries run_count pick_count) engine =
     record engine { queries = without_run place covered runs entries engine.queries; run_count = run_count; pick_count = pick_count }
 
 -- what takes the next run of the query at a place back, by what is kept of it
-abbrev pub undo_run : Engine → ℕ → KeptQuery → Undo
+abbrev pub undo_run : Engine → ℕ → CachedQuery → Undo
 undo_run engine place kept = Run place kept.covered kept.runs (length kept.entries) engine.run_count engine.pick_count
 
 -- the note, or the query whose run, is taken back is there

@@ -11,7 +11,7 @@ use Rattle.script_lang.specs.declared.refusal.Refusal.{Refusal}
 use Rattle.script_lang.specs.declared.refusal.Refusal.TheVariants.{Taken, NoQuery, Memory}
 use Rattle.script_lang.specs.declared.refusal.LimitName.TheVariants.{Documents, Notes, Queries, AllQueries, Users, Runs, Picks, Store}
 use Rattle.tap_model.specs.declared.limits.TheConstants.{DOCUMENT_LIMIT, NOTE_LIMIT, USER_QUERY_LIMIT, QUERY_LIMIT, USER_LIMIT, RUN_LIMIT, PICK_LIMIT, STORE_LIMIT}
-use Rattle.tap_kept.specs.declared.kept_query.KeptQuery.{KeptQuery}
+use Rattle.tap_kept.specs.declared.cached_query.CachedQuery.{CachedQuery}
 use Rattle.tap_engine.specs.declared.engine.Engine.{Engine}
 use Rattle.tap_engine.specs.declared.run.Due.{Due}
 use Rattle.tap_model.specs.declared.session.Session.{Session}
@@ -19,14 +19,14 @@ use Rattle.tap_model.specs.Sessions.{moment_or_zero, user_of, greatest_moment}
 use Rattle.tap_model.specs.Limits.{stored_bytes, owners_in, different, limit_refusal}
 use Rattle.tap_model.specs.Verdicts.{missing, refuse_unless, first_refusal, no_moment, no_user, bad_name, text_fault, messages_of, long_message, long_block, bytes_of, no_doc, long_note, is_early}
 use Rattle.restart_core.specs.Starts.{condition_text, stored_source}
-use Rattle.tap_kept.specs.Keeping.{kept_query, named_in, owned_in, hits_since}
+use Rattle.tap_kept.specs.Keeping.{cached_query, named_in, owned_in, hits_since}
 
 -- the engine stands for the tables: its index owns their documents and notes, and it keeps their queries and filters, how
 -- many runs and picks there are, how many bytes they store, and who owns a query or a filter; before the session has a moment
 -- it also keeps the greatest moment of the tables
 pub record Represents (engine : Engine) (tables : Tables) : Type 0 where
   pub rows : engine.index ≡ rows_alone tables.docs tables.notes
-  pub queries : engine.queries ≡ map (kept_query tables) tables.queries
+  pub queries : engine.queries ≡ map (cached_query tables) tables.queries
   pub filters : engine.filters ≡ tables.filters
   pub run_count : engine.run_count ≡ length tables.runs
   pub pick_count : engine.pick_count ≡ length tables.picks
@@ -36,8 +36,8 @@ pub record Represents (engine : Engine) (tables : Tables) : Type 0 where
   pub greatest : engine.session.moment ≡ None → engine.greatest ≡ greatest_moment tables
 
 -- what is kept of the user's query of this name
-abbrev pub kept_named : Engine → List ℕ → Option KeptQuery
-kept_named engine name = named_in (user_of engine.session) name engine.queries
+abbrev pub cached_named : Engine → List ℕ → Option CachedQuery
+cached_named engine name = named_in (user_of engine.session) name engine.queries
 
 -- why a query of this user and name is refused for its name, by what is kept
 unfoldable pub name_refusal : Engine → List ℕ → List ℕ → Option Refusal
@@ -81,7 +81,7 @@ note_refusal engine doc kind text =
     option_or (no_moment engine.session) (option_or (no_user engine.session) (option_or (bad_name kind) (note_bounds engine doc (length text))))
 
 -- why a look for the user's query of this name among these is refused
-abbrev pub query_refusal : Session → List KeptQuery → List ℕ → Option Refusal
+abbrev pub query_refusal : Session → List CachedQuery → List ℕ → Option Refusal
 query_refusal session queries name = option_or (no_user session) (option_or (bad_name name) (missing NoQuery (named_in (user_of session) name queries)))
 
 -- why a look for the user's query of this name is refused, by what is kept
@@ -89,19 +89,19 @@ unfoldable pub look_refusal : Engine → List ℕ → Option Refusal
 look_refusal engine name = query_refusal engine.session engine.queries name
 
 -- what a run of this query delivers, by what is kept
-abbrev pub hits_kept : Engine → Option KeptQuery → List Hit
-hits_kept engine None = []
-hits_kept engine (Some kept) = hits_since kept engine.index (moment_or_zero engine.session)
+abbrev pub cached_hits : Engine → Option CachedQuery → List Hit
+cached_hits engine None = []
+cached_hits engine (Some kept) = hits_since kept engine.index (moment_or_zero engine.session)
 
 -- what a query has delivered, by what is kept of it
-abbrev pub entries_kept : Option KeptQuery → Option (List Entry)
-entries_kept None = None
-entries_kept (Some kept) = Some kept.entries
+abbrev pub cached_entries : Option CachedQuery → Option (List Entry)
+cached_entries None = None
+cached_entries (Some kept) = Some kept.entries
 
 -- what a run of this query is about to deliver
-abbrev pub due_of : Engine → Option KeptQuery → Option Due
+abbrev pub due_of : Engine → Option CachedQuery → Option Due
 due_of engine None = None
-due_of engine (Some kept) = Some (record { query = kept.row.num; moment = moment_or_zero engine.session; runs = kept.runs; hits = hits_kept engine (Some kept) })
+due_of engine (Some kept) = Some (record { query = kept.row.num; moment = moment_or_zero engine.session; runs = kept.runs; hits = cached_hits engine (Some kept) })
 
 -- why a run is refused, by what is kept
 abbrev pub run_refusal : Engine → List ℕ → Option Refusal
@@ -109,7 +109,7 @@ run_refusal engine name =
     option_or (no_moment engine.session)
     (option_or (look_refusal engine name)
     (option_or (limit_refusal Runs RUN_LIMIT engine.run_count 1)
-    (limit_refusal Picks PICK_LIMIT engine.pick_count (length (hits_kept engine (kept_named engine name))))))
+    (limit_refusal Picks PICK_LIMIT engine.pick_count (length (cached_hits engine (cached_named engine name))))))
 
 -- refused so, or for want of memory where it isn't refused for want of a moment, of a user or of a name
 abbrev pub RefusedBy : Option Refusal → Refusal → Type 0

@@ -14,13 +14,13 @@ use tap_kept::copy_entries;
 use tap_rows::Entry;
 
 impl Engine {
-    ghost use Rattle.tap_engine.specs.Standing.{Represents, look_refusal, kept_named, entries_kept, RefusedBy};
+    ghost use Rattle.tap_engine.specs.Standing.{Represents, look_refusal, cached_named, cached_entries, RefusedBy};
     ghost use Rattle.tap_engine.specs.Answering.{Answers};
 
     // The deliveries of the user's query of this name.
     fn entries_named(&self, alloc: Global, name: &[u8]) -> Result<Rows<Entry>, Refusal>
         ensures look { OnOk result (look_refusal self.now name.now ≡ None) }
-        ensures entries { IfOk result (λ entries. Some entries ≡ entries_kept (kept_named self.now name.now)) }
+        ensures entries { IfOk result (λ entries. Some entries ≡ cached_entries (cached_named self.now name.now)) }
         ensures refusal { IfErr result (λ refusal. RefusedBy (look_refusal self.now name.now) refusal) }
         ensures name { OnOk result (is_name name.now ≡ true) }
     {

@@ -12,7 +12,7 @@ ghost use Rattle.tql_core.specs.Condition.{condition};
 ghost use Rattle.tql_core.specs.Scope.{IsQuery};
 ghost use Rattle.tap_model.specs.Queries.{condition_by};
 ghost use Rattle.restart_core.specs.Starts.{stored_source};
-ghost use Rattle.tap_kept.specs.Keeping.{new_kept, with_owner, named_in};
+ghost use Rattle.tap_kept.specs.Keeping.{never_run, with_owner, named_in};
 ghost use Rattle.tap_model.specs.Sessions.{moment_or_zero, user_of};
 ghost use Rattle.tap_model.specs.Sound.{IsSound, IsMoment};
 ghost use Rattle.tap_base.specs.Names.{is_name};
@@ -27,7 +27,7 @@ use crate::undo::Undo;
 use script_lang::{LimitName, Refusal, Reply};
 use std::alloc::Global;
 use tap_base::{Copied, Memory, QueryNum, Rows, Text, Texts};
-use tap_kept::{KeptQueries, KeptQuery, KeptRow, keep_source};
+use tap_kept::{CachedQueries, CachedQuery, PlannedQuery, read_source};
 use tap_model::{QUERY_LIMIT, STORE_LIMIT, USER_LIMIT, USER_QUERY_LIMIT};
 use tap_rows::{Change, QueryRow};
 use tql_core::Cond;
@@ -46,9 +46,9 @@ pub(crate) fn push_owner(owners: &mut Texts, owner: Text) -> Result<(), Memory>
 
 // Adds a query and its owner to those that are kept.
 fn push_query(
-    queries: &mut KeptQueries,
+    queries: &mut CachedQueries,
     owners: &mut Texts,
-    kept: KeptQuery,
+    kept: CachedQuery,
     owner: Text,
 ) -> Result<(), Memory>
     ensures queries { OnOk result (queries.new ≡ queries.old ++ kept ∷ []) }
@@ -77,13 +77,13 @@ impl Engine {
         requires arrival { IsMoment row.arrival }
         requires bytes { self.old.bytes + length row.source < 2 ^ 64 }
         ensures change { IfOk result (λ change. change ≡ RowChange.OneQuery row) }
-        ensures engine { OnOk result (self.new ≡ record self.old { queries = self.old.queries ++ new_kept row ∷ []; owners = with_owner self.old.owners row.owner; bytes = self.old.bytes + length row.source }) }
+        ensures engine { OnOk result (self.new ≡ record self.old { queries = self.old.queries ++ never_run row ∷ []; owners = with_owner self.old.owners row.owner; bytes = self.old.bytes + length row.source }) }
         ensures err { OnErr result (self.new ≡ self.old) }
     {
         let len = row.source.len();
         let owner = row.owner.copy()?;
-        let kept_row = KeptRow::new(alloc, row.copied()?, &cond)?;
-        let kept = KeptQuery::new(alloc, kept_row);
+        let planned_query = PlannedQuery::new(alloc, row.copied()?, &cond)?;
+        let kept = CachedQuery::new(alloc, planned_query);
         push_query(&mut self.queries, &mut self.owners, kept, owner)?;
         self.bytes += len;
         Ok(Change::OneQuery(row))
@@ -163,7 +163,7 @@ impl Engine {
             return Err(Refusal::NoUser);
         };
         self.refuse_query_name(user.as_slice(), name.as_slice())?;
-        let (source, cond) = keep_source(alloc, source)?;
+        let (source, cond) = read_source(alloc, source)?;
         self.refuse_query(user.as_slice(), source.len())?;
         let row = QueryRow {
             num: QueryNum(self.queries.len() as u32 + 1),

@@ -5,7 +5,7 @@ use query_eval::Hits;
 use row_index::RowIndex;
 use std::alloc::Global;
 use tap_base::{Rows, Texts};
-use tap_kept::{KeptFilter, KeptQueries};
+use tap_kept::{CachedFilter, CachedQueries};
 use tap_model::Session;
 
 /// What is kept of the tables, so that a command is answered at the cost of what it looks at: the documents and notes with
@@ -16,8 +16,8 @@ pub struct Engine {
     pub session: Session,
     pub(crate) index: RowIndex,
     pub(crate) hits: Hits,
-    pub(crate) queries: KeptQueries,
-    pub(crate) filters: Rows<KeptFilter>,
+    pub(crate) queries: CachedQueries,
+    pub(crate) filters: Rows<CachedFilter>,
     pub(crate) run_count: usize,
     pub(crate) pick_count: usize,
     pub(crate) bytes: usize,
@@ -42,7 +42,7 @@ impl Engine {
             session: Session::new(),
             index: RowIndex::new(alloc),
             hits: Hits::new(alloc),
-            queries: KeptQueries::new(alloc),
+            queries: CachedQueries::new(alloc),
             filters: Rows::new(alloc),
             run_count: 0,
             pick_count: 0,

@@ -13,14 +13,14 @@ use std::alloc::Global;
 use tap_base::{Text, Texts};
 
 impl Engine {
-    ghost use Rattle.tap_engine.specs.Standing.{Represents, look_refusal, kept_named, RefusedBy};
-    ghost use Rattle.tap_engine.specs.Lists.{lines_kept};
+    ghost use Rattle.tap_engine.specs.Standing.{Represents, look_refusal, cached_named, RefusedBy};
+    ghost use Rattle.tap_engine.specs.Lists.{cached_lines};
     ghost use Rattle.tap_engine.specs.Answering.{Answers};
 
     // The lines of the user's query of this name.
     fn lines_named(&self, alloc: Global, name: &[u8]) -> Result<Texts, Refusal>
         ensures look { OnOk result (look_refusal self.now name.now ≡ None) }
-        ensures lines { IfOk result (λ lines. Some lines ≡ lines_kept (kept_named self.now name.now)) }
+        ensures lines { IfOk result (λ lines. Some lines ≡ cached_lines (cached_named self.now name.now)) }
         ensures refusal { IfErr result (λ refusal. RefusedBy (look_refusal self.now name.now) refusal) }
         ensures name { OnOk result (is_name name.now ≡ true) }
     {

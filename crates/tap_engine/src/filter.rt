@@ -25,7 +25,7 @@ use mail_lines::Block;
 use script_lang::{FILTER_LIMIT, LimitName, Refusal, Reply};
 use std::alloc::Global;
 use tap_base::{Copied, Memory, Rows, Text, Texts};
-use tap_kept::KeptFilter;
+use tap_kept::CachedFilter;
 use tap_model::{FILTER_ROW_LIMIT, STORE_LIMIT, USER_LIMIT};
 use tap_rows::{Change, FilterRow};
 
@@ -58,7 +58,7 @@ fn refusal_of(fault: RuleFault) -> Refusal
 
 // The rules of a filter's text, which has no fault.
 #[tactic(auto, unfolding(tap_model::specs::Verdicts::filter_fault, tap_model::specs::Filters::rules_in_text))]
-fn keep_rules(alloc: Global, source: &[u8]) -> Result<Rules, Refusal>
+fn read_fine_rules(alloc: Global, source: &[u8]) -> Result<Rules, Refusal>
     requires { length source.now ≤ FILTER_LIMIT }
     ensures fine { OnOk result (filter_fault source.now ≡ None) }
     ensures rules { IfOk result (λ rules. rules_in rules ≡ rules_in_text source.now) }
@@ -73,9 +73,9 @@ fn keep_rules(alloc: Global, source: &[u8]) -> Result<Rules, Refusal>
 
 // Adds a filter and its owner to those that are kept.
 fn push_filter(
-    filters: &mut Rows<KeptFilter>,
+    filters: &mut Rows<CachedFilter>,
     owners: &mut Texts,
-    kept: KeptFilter,
+    kept: CachedFilter,
     owner: Text,
 ) -> Result<(), Memory>
     ensures filters { OnOk result (filters.new ≡ filters.old ++ kept ∷ []) }
@@ -131,7 +131,7 @@ impl Engine {
         };
         let source = text_in(block)?;
         self.refuse_filter(user.as_slice(), source.len())?;
-        let rules = keep_rules(alloc, source.as_slice())?;
+        let rules = read_fine_rules(alloc, source.as_slice())?;
         let row = FilterRow {
             num: self.filters.len() as u32 + 1,
             owner: user.copy()?,
@@ -151,7 +151,7 @@ impl Engine {
     {
         let len = row.source.len();
         let owner = row.owner.copy()?;
-        let kept = KeptFilter::new(row.copied()?, rules);
+        let kept = CachedFilter::new(row.copied()?, rules);
         push_filter(&mut self.filters, &mut self.owners, kept, owner)?;
         self.bytes += len;
         Ok(Change::OneFilter(row))

@@ -19,11 +19,11 @@ use script_lang::{Refusal, Reply};
 use std::alloc::Global;
 use std::sync::ledger::Ledger;
 use tap_base::{Memory, Rows, Steps, Text};
-use tap_kept::{KeptFilter, copy_entries};
+use tap_kept::{CachedFilter, copy_entries};
 use tap_rows::{Entry, Listed};
 
 // The last of the user's filters.
-fn last_filter<'a>(filters: &'a [KeptFilter], user: &[u8]) -> Option<&'a KeptFilter>
+fn last_filter<'a>(filters: &'a [CachedFilter], user: &[u8]) -> Option<&'a CachedFilter>
     ensures { option_copied result ≡ last_filter user.now filters.now }
 {
     let mut end = filters.len();
@@ -39,7 +39,7 @@ fn last_filter<'a>(filters: &'a [KeptFilter], user: &[u8]) -> Option<&'a KeptFil
 // The entries of a box, rated by a filter, or by no rules where there is none.
 fn rate<'a, L: Ledger>(
     alloc: Global,
-    filter: Option<&'a KeptFilter>,
+    filter: Option<&'a CachedFilter>,
     entries: &'a [Entry],
     index: &'a RowIndex,
     steps: &mut Steps<L>,
@@ -53,8 +53,8 @@ fn rate<'a, L: Ledger>(
 }
 
 impl Engine {
-    ghost use Rattle.tap_engine.specs.Standing.{Represents, look_refusal, kept_named, RefusedBy};
-    ghost use Rattle.tap_engine.specs.Lists.{rows_kept};
+    ghost use Rattle.tap_engine.specs.Standing.{Represents, look_refusal, cached_named, RefusedBy};
+    ghost use Rattle.tap_engine.specs.Lists.{cached_rows};
     ghost use Rattle.tap_engine.specs.Answering.{Answers};
 
     // The session's user; empty where it has none.
@@ -75,7 +75,7 @@ impl Engine {
         steps: &mut Steps<L>,
     ) -> Result<Rows<Listed>, Refusal>
         ensures look { OnOk result (look_refusal self.now name.now ≡ None) }
-        ensures rows { IfOk result (λ rows. Some rows ≡ rows_kept self.now (kept_named self.now name.now)) }
+        ensures rows { IfOk result (λ rows. Some rows ≡ cached_rows self.now (cached_named self.now name.now)) }
         ensures short { IfOk result (λ rows. All (λ row. length row.class ≤ 32) rows) }
         ensures refusal { IfErr result (λ refusal. RefusedBy (look_refusal self.now name.now) refusal) }
         ensures name { OnOk result (is_name name.now ≡ true) }

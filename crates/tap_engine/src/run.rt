@@ -6,7 +6,7 @@ ghost use Rattle.tap_rows.specs.Deliveries.{pick_rows};
 ghost use Rattle.tap_rows.specs.Results.{entry_at};
 ghost use Rattle.script_lang.specs.declared.command.Command.{Command};
 ghost use Rattle.script_lang.specs.Replies.{HasShortNames, is_accepted};
-ghost use Rattle.tap_kept.specs.declared.kept_query.KeptQuery.{KeptQuery};
+ghost use Rattle.tap_kept.specs.declared.cached_query.CachedQuery.{CachedQuery};
 ghost use Rattle.tap_kept.specs.Keeping.{after_run, AreNew};
 ghost use Rattle.tap_model.specs.Sessions.{moment_or_zero};
 ghost use Rattle.tap_model.specs.Sound.{IsSound};
@@ -68,7 +68,7 @@ fn copy_hits(alloc: Global, hits: &[Hit]) -> Result<Rows<Hit>, Memory>
 }
 
 impl Engine {
-    ghost use Rattle.tap_engine.specs.Standing.{Represents, run_refusal, kept_named, due_of, RefusedBy};
+    ghost use Rattle.tap_engine.specs.Standing.{Represents, run_refusal, cached_named, due_of, RefusedBy};
     ghost use Rattle.tap_engine.specs.Ready.{IsReady};
     ghost use Rattle.tap_engine.specs.Answering.{Answers, IsUnchangedButHits, UndoRestores, undo_run};
     ghost use Rattle.tap_engine.specs.Costs.{IsQuietRun, IsShortRun, run_due};
@@ -83,9 +83,9 @@ impl Engine {
     ) -> Result<Due, Refusal>
         requires ready { IsReady self.old }
         ensures verdict { OnOk result (run_refusal self.old name.now ≡ None) }
-        ensures due { IfOk result (λ due. Some due ≡ due_of self.old (kept_named self.old name.now)) }
+        ensures due { IfOk result (λ due. Some due ≡ due_of self.old (cached_named self.old name.now)) }
         ensures refusal { IfErr result (λ refusal. RefusedBy (run_refusal self.old name.now) refusal) }
-        ensures new { IfOk result (λ due. IfSome (kept_named self.old name.now) (λ kept. AreNew kept.entries due.hits)) }
+        ensures new { IfOk result (λ due. IfSome (cached_named self.old name.now) (λ kept. AreNew kept.entries due.hits)) }
         ensures few { OnOk result (self.old.run_count < RUN_LIMIT) }
         ensures room { IfOk result (λ due. self.old.pick_count + length due.hits ≤ max self.old.pick_count PICK_LIMIT) }
         ensures still { IsUnchangedButHits self.new self.old }
@@ -111,7 +111,7 @@ impl Engine {
     // What takes the next run of the query at this place back.
     fn undo_run(&self, place: usize) -> Undo
         requires { place < length self.now.queries }
-        ensures { (d : KeptQuery) → result ≡ undo_run self.now place (slice_index_or self.now.queries place d) }
+        ensures { (d : CachedQuery) → result ≡ undo_run self.now place (slice_index_or self.now.queries place d) }
     {
         let kept = self.queries.at(place);
         Undo::Run {
@@ -135,12 +135,12 @@ impl Engine {
     ) -> Result<Change, Memory>
         requires first { 0 < query.0 }
         requires place { query.0 ≤ length self.old.queries }
-        requires runs { (d : KeptQuery) → (slice_index_or self.old.queries (query.0 - 1) d).runs + 1 < 2 ^ 64 }
-        requires new { (d : KeptQuery) → AreNew (slice_index_or self.old.queries (query.0 - 1) d).entries hits.now }
+        requires runs { (d : CachedQuery) → (slice_index_or self.old.queries (query.0 - 1) d).runs + 1 < 2 ^ 64 }
+        requires new { (d : CachedQuery) → AreNew (slice_index_or self.old.queries (query.0 - 1) d).entries hits.now }
         requires few { self.old.run_count < RUN_LIMIT }
         requires room { self.old.pick_count + length hits.now ≤ max self.old.pick_count PICK_LIMIT }
         ensures change { IfOk result (λ change. change ≡ RowChange.RunDone (record { num = self.old.run_count + 1; query = query; moment = moment }) (pick_rows (self.old.pick_count + 1) query (self.old.run_count + 1) hits.now)) }
-        ensures engine { OnOk result ((d : KeptQuery) → self.new ≡ record self.old { queries = slice_set self.old.queries (query.0 - 1) (after_run moment (map (entry_at ordinal) hits.now) (slice_index_or self.old.queries (query.0 - 1) d)); run_count = self.old.run_count + 1; pick_count = self.old.pick_count + length hits.now }) }
+        ensures engine { OnOk result ((d : CachedQuery) → self.new ≡ record self.old { queries = slice_set self.old.queries (query.0 - 1) (after_run moment (map (entry_at ordinal) hits.now) (slice_index_or self.old.queries (query.0 - 1) d)); run_count = self.old.run_count + 1; pick_count = self.old.pick_count + length hits.now }) }
         ensures err { OnErr result (self.new ≡ self.old) }
     {
         let run = RunRow {

@@ -5,7 +5,7 @@ ghost use Rattle.tap_kept.specs.Starting.{first_unread};
 use crate::engine::Engine;
 use restart_core::Sound;
 use std::alloc::Global;
-use tap_kept::{StartFault, Sums, index_rows, keep_delivered, keep_filters, owners_of};
+use tap_kept::{StartFault, Sums, cache_delivered, cache_filters, index_rows, owners_of};
 use tap_model::Session;
 use tap_rows::Tables;
 
@@ -36,8 +36,8 @@ impl Engine {
             picks,
             filters,
         } = tables;
-        let filters = keep_filters(alloc, filters)?;
-        let queries = keep_delivered(alloc, queries, conds, runs.as_slice(), picks.as_slice())?;
+        let filters = cache_filters(alloc, filters)?;
+        let queries = cache_delivered(alloc, queries, conds, runs.as_slice(), picks.as_slice())?;
         let (index, hits) = index_rows(alloc, docs, notes)?;
         Ok(Engine {
             session: Session::new(),

@@ -8,7 +8,7 @@ use Rattle.time_marks.specs.Probes.{Probe}
 use Rattle.query_eval.specs.Runs as runs
 use Rattle.query_eval.specs.Work.{total}
 use Rattle.tap_model.specs.Queries.{probes_in}
-use Rattle.tap_kept.specs.declared.kept_query.KeptQuery.{KeptQuery}
+use Rattle.tap_kept.specs.declared.cached_query.CachedQuery.{CachedQuery}
 
 -- no probe of the query has a mark in the window
 abbrev pub HasNoMark : Tables → Window → QueryRow → Type 0
@@ -23,5 +23,5 @@ abbrev pub rows_due : Tables → Window → QueryRow → ℕ
 rows_due rows w query = total (runs.rows_due rows w) (probes_in query)
 
 -- the window of a query's next run: from the second that it has covered up to a moment
-abbrev pub window_since : KeptQuery → ℤ → Window
+abbrev pub window_since : CachedQuery → ℤ → Window
 window_since kept moment = record { low = kept.covered; high = moment }

@@ -14,7 +14,7 @@ use Rattle.tap_rows.specs.Kept.{Each}
 use Rattle.row_index.specs.Orders.{IsMoment}
 use Rattle.tap_model.specs.Sessions.{later_of}
 use Rattle.tap_model.specs.Verdicts.{filter_fault}
-use Rattle.tap_kept.specs.declared.kept_query.KeptQuery.{KeptQuery}
+use Rattle.tap_kept.specs.declared.cached_query.CachedQuery.{CachedQuery}
 use Rattle.tap_kept.specs.declared.sums.Sums.{Sums}
 
 -- has the filter's text a fault?
@@ -27,7 +27,7 @@ first_unread [] = None
 first_unread (filter ∷ filters) = if is_unread filter then Some filter.num else first_unread filters
 
 -- the rows of queries that are kept
-abbrev pub rows_in : List KeptQuery → List QueryRow
+abbrev pub rows_in : List CachedQuery → List QueryRow
 rows_in queries = map (λ kept. kept.row) queries
 
 -- tables of these runs and picks alone
@@ -39,7 +39,7 @@ abbrev pub ordinal_in : List RunRow → RunRow → ℕ
 ordinal_in runs run = run_ordinal run.num run.query.0 runs
 
 -- a query that has delivered one document more
-abbrev pub with_entry : Entry → KeptQuery → KeptQuery
+abbrev pub with_entry : Entry → CachedQuery → CachedQuery
 with_entry entry kept = record { row = kept.row; covered = kept.covered; runs = kept.runs; entries = kept.entries ++ entry ∷ [] }
 
 -- is the one pick of the query and the document of the other?

@@ -43,7 +43,7 @@ pub fn read_text(alloc: Global, source: &[u8]) -> Result<Cond, Refusal>
 }
 
 // The condition of a query's text, which has no fault.
-fn keep_text(alloc: Global, source: &[u8]) -> Result<Cond, Refusal>
+fn read_fine_text(alloc: Global, source: &[u8]) -> Result<Cond, Refusal>
     ensures fine { OnOk result (text_fault source.now ≡ None) }
     ensures cond { IfOk result (λ cond. condition cond ≡ condition_in source.now) }
     ensures scoped { IfOk result (λ cond. IsQuery (condition cond)) }
@@ -91,7 +91,7 @@ fn to_store(alloc: Global, source: Text) -> Result<Text, Memory>
 }
 
 /// The source that is stored, and the condition that it says, where its text has no fault.
-pub fn keep_source(alloc: Global, source: Text) -> Result<(Text, Cond), Refusal>
+pub fn read_source(alloc: Global, source: Text) -> Result<(Text, Cond), Refusal>
     ensures fine { OnOk result (text_fault (condition_text source) ≡ None) }
     ensures stored { IfOk result (λ made. made.0 ≡ stored_source source) }
     ensures cond { IfOk result (λ made. condition made.1 ≡ condition_in (condition_text source)) }
@@ -99,7 +99,7 @@ pub fn keep_source(alloc: Global, source: Text) -> Result<(Text, Cond), Refusal>
     ensures bounded { IfOk result (λ made. are_bounded (condition made.1) ≡ true) }
     ensures refusal { IfErr result (λ refusal. (text_fault (condition_text source) ≡ Some refusal) ⊎ (refusal ≡ Refusal.Memory)) }
 {
-    let cond = keep_text(alloc, text_of(source.as_slice()))?;
+    let cond = read_fine_text(alloc, text_of(source.as_slice()))?;
     let stored = to_store(alloc, source)?;
     Ok((stored, cond))
 }
