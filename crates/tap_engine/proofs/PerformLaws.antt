@@ -98,8 +98,8 @@ represents-hits : (e : Engine) (t : Tables) (h : HitsWithRoom) → Represents e 
 represents-hits e t h represents = record { rows = represents.rows; queries = represents.queries; filters = represents.filters; run_count = represents.run_count; pick_count = represents.pick_count; bytes = represents.bytes; users = represents.users; owners = represents.owners; greatest = represents.greatest }
 
 -- what the engine stands for where the keeper didn't commit
-pub fault-stands : (fault : CommitFault) (t : Tables) (e back e' : Engine) (c : Command) (result : Result Reply EngineFault) → result ≡ fault_answer fault → e' ≡ fault_engine fault back → IsUnchangedButHits back e → Represents e t
+pub fault-represents : (fault : CommitFault) (t : Tables) (e back e' : Engine) (c : Command) (result : Result Reply EngineFault) → result ≡ fault_answer fault → e' ≡ fault_engine fault back → IsUnchangedButHits back e → Represents e t
     → IfOk result (λ reply. Represents e' (next_tables c reply e.session t))
-fault-stands C.Memory t e back e' c result is to still represents =
+fault-represents C.Memory t e back e' c result is to still represents =
     subst (λ r. IfOk r (λ reply. Represents e' (next_tables c reply e.session t))) (sym is) (subst (λ k. Represents k t) (sym (to ∙ still.same)) (represents-hits e t back.hits represents))
-fault-stands C.Failed t e back e' c result is to still represents = subst (λ r. IfOk r (λ reply. Represents e' (next_tables c reply e.session t))) (sym is) tt
+fault-represents C.Failed t e back e' c result is to still represents = subst (λ r. IfOk r (λ reply. Represents e' (next_tables c reply e.session t))) (sym is) tt

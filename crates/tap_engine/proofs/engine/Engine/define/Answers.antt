@@ -26,8 +26,8 @@ returns-clause-ok c = λ t represents sound.
     (ap length represents.queries ∙ length-map t.queries (cached_query t))
     c.in_ok-row.ensures.row c.in_ok-shown.ensures c.in_ok-change.ensures.change (ap (λ e. e.session) c.in_ok-change.ensures.engine)
 
-pub returns-clause-stands : goal.returns-clause-stands
-returns-clause-stands c = λ t represents sound.
+pub returns-clause-represents : goal.returns-clause-represents
+returns-clause-represents c = λ t represents sound.
     let count = ap length represents.queries ∙ length-map t.queries (cached_query t) in
     rw (c.in_ok-change.ensures.engine, c.in_ok-change.ensures.change)
     (represents-query c.args.self.now t c.in_ok-row.row represents sound.kept (ap (λ r. r.num.0) c.in_ok-row.ensures.row ∙ ap (λ n. n + 1) count) (define-moment c.args.self.now c.args.name c.args.source c.in_ok-row.ensures.checks))

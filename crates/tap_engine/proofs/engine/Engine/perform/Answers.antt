@@ -1,7 +1,7 @@
 use Rattle.std.proofs.Common.{◌∙◌, sym, ap, subst, Some}
 use Rattle.keeper_core.specs.Keeping.{IsDurable}
 use Rattle.tap_engine.specs.Answering.{Answers, IsUnchangedButHits}
-use Rattle.tap_engine.proofs.PerformLaws.{memory-step, rows-fit, rows-next, fault-step, fault-stands, fault-kept, on-err, one-of, taken-there}
+use Rattle.tap_engine.proofs.PerformLaws.{memory-step, rows-fit, rows-next, fault-step, fault-represents, fault-kept, on-err, one-of, taken-there}
 use Rattle.tap_engine.proofs.engine.Engine.perform.Goals as goal
 
 pub returns-in_default-clause-halted : goal.returns-in_default-clause-halted
@@ -31,8 +31,8 @@ returns-in-Err-commit-clause-kept g c = λ t represents sound honest holds.
     fault-kept c.in-Err-commit.fault (IsDurable (g.P.Keeper.tells c.commit.new.self) (g.P.Keeper.may_leave c.commit.new.self)) t c.args.self.now.session c.args.command c.not_committed.result c.not_committed.ensures.0
     (c.in-Err-commit.ensures.memory honest t holds.told)
 
-pub returns-in-Err-commit-clause-stands : goal.returns-in-Err-commit-clause-stands
-returns-in-Err-commit-clause-stands g c = λ t represents sound.
+pub returns-in-Err-commit-clause-represents : goal.returns-in-Err-commit-clause-represents
+returns-in-Err-commit-clause-represents g c = λ t represents sound.
     let takes = taken-there c.in-Ok.prepared.undo c.prepare.new.self c.args.self.now c.in-Ok.prepared.change c.in-Some.change c.in-Some.is c.in-Ok.ensures.undo in
-    fault-stands c.in-Err-commit.fault t c.args.self.now c.take_back.new.self c.not_committed.new.self c.args.command c.not_committed.result c.not_committed.ensures.0 c.not_committed.ensures.1
+    fault-represents c.in-Err-commit.fault t c.args.self.now c.take_back.new.self c.not_committed.new.self c.args.command c.not_committed.result c.not_committed.ensures.0 c.not_committed.ensures.1
     (subst (λ k. IsUnchangedButHits k c.args.self.now) (sym c.take_back.ensures) takes.before_is) represents

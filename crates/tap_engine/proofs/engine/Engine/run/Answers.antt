@@ -77,8 +77,8 @@ returns-clause-ok g c = λ t represents sound.
     let change : c.in_ok-change.change ≡ run_rows e.run_count e.pick_count due = raw ∙ ap (λ k. run_rows k.run_count k.pick_count due) same in
     let answers = answers-run e t c.args.name.now due c.in_ok-change.change c.deliver.new.self.session represents none d change (ap (λ k. k.session) (c.in_ok-change.ensures.engine (never_run d.q)) ∙ ap (λ k. k.session) same) in search (rules, answers)
 
-pub returns-clause-stands : goal.returns-clause-stands
-returns-clause-stands g c = λ t represents sound.
+pub returns-clause-represents : goal.returns-clause-represents
+returns-clause-represents g c = λ t represents sound.
     let e = c.args.self.now in
     let due = c.in_ok-due.due in
     let next : Engine → CachedQuery → Engine = λ k x. record k { queries = slice_set k.queries (due.query.0 - 1) (after_run due.moment (map (entry_at (due.runs + 1)) due.hits) (slice_index_or k.queries (due.query.0 - 1) x)); run_count = k.run_count + 1; pick_count = k.pick_count + length due.hits } in
