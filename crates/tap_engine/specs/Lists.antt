@@ -1,4 +1,4 @@
--- A list of a box and the lines of a query, by what is kept.
+-- A rated box and the lines that explain a query, by what the engine has in memory.
 use Rattle.std.specs.Prelude.{ℕ, List, Option, Some, None}
 use Rattle.tap_rows.specs.declared.results.Listed.{Listed}
 use Rattle.appraiser.specs.Listings.{listing_of}

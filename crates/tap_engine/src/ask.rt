@@ -1,3 +1,5 @@
+//! The documents that a condition gives at a second that is over.
+
 ghost use Rattle.std.specs.Prelude.{◌≡◌, None, true, int_lt, IfOk, IfErr};
 ghost use Rattle.std.specs.Result.{result_err};
 ghost use Rattle.tap_rows.specs.declared.tables.Tables.{Tables};
@@ -17,7 +19,7 @@ use std::sync::ledger::Ledger;
 use tap_base::Steps;
 use tap_kept::read_text;
 
-// Refuses a second that isn't over.
+// Refuses a second that isn't over: one at or after the session's moment.
 fn refuse_open(second: i64, now: i64) -> Result<(), Refusal>
     ensures { result_err result ≡ refuse_unless (int_lt second now) (Refusal.NotOver now) }
 {
@@ -40,8 +42,8 @@ impl Engine {
         source: &[u8],
         steps: &mut Steps<L>,
     ) -> Result<Reply, Refusal>
-        ensures ok { IfOk result (λ reply. (t : Tables) → Represents self.now t → IsSound t self.now.session → Answers t self.now.session (Command.Ask moment.now source.now) reply None self.now.session) }
-        ensures refusal { IfErr result (λ refusal. (t : Tables) → Represents self.now t → Refuses refusal (Command.Ask moment.now source.now) self.now.session t) }
+        ensures ok { IfOk result (ReadsAsModel self.now (Command.Ask moment.now source.now)) }
+        ensures refusal { IfErr result (RefusesAsModel self.now (Command.Ask moment.now source.now)) }
         ensures short { IfOk result (λ reply. HasShortNames reply) }
         ensures accepted { IfOk result (λ reply. is_accepted reply ≡ true) }
     {

@@ -1,3 +1,5 @@
+//! What a query has delivered.
+
 ghost use Rattle.std.specs.Prelude.{◌≡◌, None, Some, true, OnOk, IfOk, IfErr};
 ghost use Rattle.script_lang.specs.declared.command.Command.{Command};
 ghost use Rattle.script_lang.specs.Replies.{HasShortNames, is_accepted};
@@ -17,7 +19,7 @@ impl Engine {
     ghost use Rattle.tap_engine.specs.Standing.{Represents, look_refusal, cached_named, cached_entries, RefusedBy};
     ghost use Rattle.tap_engine.specs.Answering.{Answers};
 
-    // The deliveries of the user's query of this name.
+    // Copies what the user's query of this name has delivered.
     fn entries_named(&self, alloc: Global, name: &[u8]) -> Result<Rows<Entry>, Refusal>
         ensures look { OnOk result (look_refusal self.now name.now ≡ None) }
         ensures entries { IfOk result (λ entries. Some entries ≡ cached_entries (cached_named self.now name.now)) }
@@ -28,10 +30,10 @@ impl Engine {
         Ok(copy_entries(alloc, &kept.entries)?)
     }
 
-    // Lists the deliveries of the user's query of this name.
+    // Lists what the user's query of this name has delivered.
     pub(crate) fn show_box(&self, alloc: Global, name: Text) -> Result<Reply, Refusal>
-        ensures ok { IfOk result (λ reply. (t : Tables) → Represents self.now t → IsSound t self.now.session → Answers t self.now.session (Command.BoxOf name) reply None self.now.session) }
-        ensures refusal { IfErr result (λ refusal. (t : Tables) → Represents self.now t → Refuses refusal (Command.BoxOf name) self.now.session t) }
+        ensures ok { IfOk result (ReadsAsModel self.now (Command.BoxOf name)) }
+        ensures refusal { IfErr result (RefusesAsModel self.now (Command.BoxOf name)) }
         ensures short { IfOk result (λ reply. HasShortNames reply) }
         ensures accepted { IfOk result (λ reply. is_accepted reply ≡ true) }
     {

@@ -1,3 +1,5 @@
+//! The command that sets a user's filter.
+
 ghost use Rattle.std.specs.Prelude.{◌≡◌, ◌⊎◌, ◌≤◌, ◌<◌, ◌+◌, ◌^◌, ◌++◌, [], ◌∷◌, length, Some, None, true, OnOk, OnErr, IfOk, IfErr, OnSome};
 ghost use Rattle.std.specs.Result.{result_err};
 ghost use Rattle.tap_rows.specs.declared.change.Change.{Change as RowChange};
@@ -29,7 +31,7 @@ use tap_kept::CachedFilter;
 use tap_model::{FILTER_ROW_LIMIT, STORE_LIMIT, USER_LIMIT};
 use tap_rows::{Change, FilterRow};
 
-// The text of a block that isn't too long.
+// Gives the text of a block, or refuses one that is too long.
 fn text_in(block: Block) -> Result<Text, Refusal>
     ensures err { result_err result ≡ long_filter block }
     ensures ok { IfOk result (λ text. text ≡ text_of block) }
@@ -41,7 +43,7 @@ fn text_in(block: Block) -> Result<Text, Refusal>
     }
 }
 
-// The refusal of a fault of a filter's text.
+// Gives the refusal for a fault of a filter's text.
 fn refusal_of(fault: RuleFault) -> Refusal
     requires { IsWithin FILTER_LIMIT fault }
     ensures { (rule_refusal fault ≡ Some result) ⊎ (result ≡ Refusal.Memory) }
@@ -56,7 +58,7 @@ fn refusal_of(fault: RuleFault) -> Refusal
     }
 }
 
-// The rules of a filter's text, which has no fault.
+// Reads the rules of a filter's text, or refuses its first fault.
 #[tactic(auto, unfolding(tap_model::specs::Verdicts::filter_fault, tap_model::specs::Filters::rules_in_text))]
 fn read_fine_rules(alloc: Global, source: &[u8]) -> Result<Rules, Refusal>
     requires { length source.now ≤ FILTER_LIMIT }
@@ -71,7 +73,7 @@ fn read_fine_rules(alloc: Global, source: &[u8]) -> Result<Rules, Refusal>
     }
 }
 
-// Adds a filter and its owner to those that are kept.
+// Adds a filter and its owner. At Err nothing has changed.
 fn push_filter(
     filters: &mut Rows<CachedFilter>,
     owners: &mut Texts,
@@ -114,10 +116,15 @@ impl Engine {
         refuse_more(LimitName::Store, STORE_LIMIT, self.bytes, len)
     }
 
-    // The row of a filter that isn't refused, and its rules.
+    // Makes the row of a new filter and its rules, or gives the first refusal.
     fn new_filter(&self, alloc: Global, block: Block) -> Result<(FilterRow, Rules), Refusal>
         ensures checks { OnOk result (filter_refusal self.now block ≡ None) }
-        ensures row { IfOk result (λ made. made.0 ≡ record { num = length self.now.filters + 1; owner = user_of self.now.session; source = text_of block; arrival = moment_or_zero self.now.session }) }
+        ensures row { IfOk result (λ made. made.0 ≡ record {
+          num = length self.now.filters + 1;
+          owner = user_of self.now.session;
+          source = text_of block;
+          arrival = moment_or_zero self.now.session;
+        }) }
         ensures rules { IfOk result (λ made. rules_in made.1 ≡ rules_in_text (text_of block)) }
         ensures few { IfOk result (λ made. length (rules_in made.1) ≤ RULE_LIMIT) }
         ensures refusal { IfErr result (λ refusal. RefusedBy (filter_refusal self.now block) refusal) }
@@ -141,12 +148,16 @@ impl Engine {
         Ok((row, rules))
     }
 
-    // Adds a filter, and gives it as a change.
+    // Adds a filter, and gives its row as a change. At Err nothing has changed.
     fn add_filter(&mut self, row: FilterRow, rules: Rules) -> Result<Change, Memory>
         requires rules { rules_in rules ≡ rules_in_text row.source }
         requires bytes { self.old.bytes + length row.source < 2 ^ 64 }
         ensures change { IfOk result (λ change. change ≡ RowChange.OneFilter row) }
-        ensures engine { OnOk result (self.new ≡ record self.old { filters = self.old.filters ++ row ∷ []; owners = with_owner self.old.owners row.owner; bytes = self.old.bytes + length row.source }) }
+        ensures engine { OnOk result (self.new ≡ record self.old {
+          filters = self.old.filters ++ row ∷ [];
+          owners = with_owner self.old.owners row.owner;
+          bytes = self.old.bytes + length row.source;
+        }) }
         ensures err { OnErr result (self.new ≡ self.old) }
     {
         let len = row.source.len();
@@ -157,14 +168,14 @@ impl Engine {
         Ok(Change::OneFilter(row))
     }
 
-    // Sets the user's filter.
+    // Sets the user's filter: the user's last filter rates the boxes.
     pub(crate) fn filter(&mut self, alloc: Global, block: Block) -> Result<Prepared, Refusal>
         requires ready { IsReady self.old }
-        ensures ok { IfOk result (λ made. (t : Tables) → Represents self.old t → IsSound t self.old.session → Answers t self.old.session (Command.Filter block) made.reply made.change self.new.session) }
-        ensures represents { IfOk result (λ made. (t : Tables) → Represents self.old t → IsSound t self.old.session → Represents self.new (tables_after made.change t)) }
-        ensures refusal { IfErr result (λ refusal. (t : Tables) → Represents self.old t → Refuses refusal (Command.Filter block) self.old.session t) }
+        ensures ok { IfOk result (AnswersAsModel self.old (Command.Filter block) self.new) }
+        ensures represents { IfOk result (RepresentsNext self.old self.new) }
+        ensures refusal { IfErr result (RefusesAsModel self.old (Command.Filter block)) }
         ensures err { OnErr result (self.new ≡ self.old) }
-        ensures undo { IfOk result (λ made. OnSome made.change (UndoRestores made.undo self.new self.old)) }
+        ensures undo { IfOk result (IsUndoable self.old self.new) }
         ensures ready { OnOk result (IsReady self.new) }
         ensures running { OnOk result (self.new.stopped ≡ self.old.stopped) }
         ensures short { IfOk result (λ made. HasShortNames made.reply) }

@@ -1,4 +1,4 @@
-//! One command, one step: the reply to it, and what it changes.
+//! The engine: one command, one step, one commit.
 #![tactic(auto)]
 
 mod ask;

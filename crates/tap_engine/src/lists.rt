@@ -1,3 +1,5 @@
+//! What a query has delivered, rated by the user's last filter.
+
 ghost use Rattle.std.specs.Prelude.{◌≡◌, ◌≤◌, Some, None, true, length, IfOk, IfErr, OnOk};
 ghost use Rattle.std.specs.List.{All};
 ghost use Rattle.std.specs.Option.{option_copied};
@@ -22,7 +24,7 @@ use tap_base::{Memory, Rows, Steps, Text};
 use tap_kept::{CachedFilter, copy_entries};
 use tap_rows::{Entry, Listed};
 
-// The last of the user's filters.
+// Finds the last of the user's filters.
 fn last_filter<'a>(filters: &'a [CachedFilter], user: &[u8]) -> Option<&'a CachedFilter>
     ensures { option_copied result ≡ last_filter user.now filters.now }
 {
@@ -36,7 +38,7 @@ fn last_filter<'a>(filters: &'a [CachedFilter], user: &[u8]) -> Option<&'a Cache
     None
 }
 
-// The entries of a box, rated by a filter, or by no rules where there is none.
+// Rates the entries of a box by a filter, or by no rules if there is no filter.
 fn rate<'a, L: Ledger>(
     alloc: Global,
     filter: Option<&'a CachedFilter>,
@@ -57,7 +59,7 @@ impl Engine {
     ghost use Rattle.tap_engine.specs.Lists.{cached_rows};
     ghost use Rattle.tap_engine.specs.Answering.{Answers};
 
-    // The session's user; empty where it has none.
+    // Gives the session's user, or an empty text if it has none.
     fn user_name(&self) -> &[u8]
         ensures { result.now ≡ user_of self.now.session }
     {
@@ -67,7 +69,7 @@ impl Engine {
         }
     }
 
-    // The deliveries of the user's query of this name, rated by the user's last filter.
+    // Rates what the user's query of this name has delivered by the user's last filter.
     fn rows_named<L: Ledger>(
         &self,
         alloc: Global,
@@ -87,15 +89,15 @@ impl Engine {
         Ok(rows)
     }
 
-    // Lists the deliveries of the user's query of this name in the order of their ratings.
+    // Lists what the user's query of this name has delivered in the order of the ratings.
     pub(crate) fn show_list<L: Ledger>(
         &self,
         alloc: Global,
         name: Text,
         steps: &mut Steps<L>,
     ) -> Result<Reply, Refusal>
-        ensures ok { IfOk result (λ reply. (t : Tables) → Represents self.now t → IsSound t self.now.session → Answers t self.now.session (Command.ListOf name) reply None self.now.session) }
-        ensures refusal { IfErr result (λ refusal. (t : Tables) → Represents self.now t → Refuses refusal (Command.ListOf name) self.now.session t) }
+        ensures ok { IfOk result (ReadsAsModel self.now (Command.ListOf name)) }
+        ensures refusal { IfErr result (RefusesAsModel self.now (Command.ListOf name)) }
         ensures short { IfOk result (λ reply. HasShortNames reply) }
         ensures accepted { IfOk result (λ reply. is_accepted reply ≡ true) }
     {

@@ -1,3 +1,5 @@
+//! The search for a user's query by its name.
+
 ghost use Rattle.std.specs.Prelude.{◌≡◌, Some, true, IfOk, OnOk};
 ghost use Rattle.std.specs.Result.{result_err};
 ghost use Rattle.tap_base.specs.Names.{is_name};
@@ -11,7 +13,7 @@ use script_lang::Refusal;
 use tap_kept::{CachedQueries, CachedQuery};
 use tap_model::Session;
 
-// The user's query of this name.
+// Finds the user's query of this name.
 pub(crate) fn query_of<'a>(
     session: &Session,
     queries: &'a CachedQueries,
@@ -34,7 +36,7 @@ pub(crate) fn query_of<'a>(
 impl Engine {
     ghost use Rattle.tap_engine.specs.Standing.{look_refusal, cached_named};
 
-    // The user's query of this name.
+    // Finds the query of this name of the session's user.
     #[tactic(auto, unfolding(crate::specs::Standing::look_refusal))]
     pub(crate) fn look(&self, name: &[u8]) -> Result<&CachedQuery, Refusal>
         ensures err { result_err result ≡ look_refusal self.now name.now }

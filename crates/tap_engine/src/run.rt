@@ -1,3 +1,5 @@
+//! The command that runs a query.
+
 ghost use Rattle.std.specs.Prelude.{◌≡◌, ℤ, pos, ◌<ℤ◌, drop, Bool, true, ◌≤◌, ◌<◌, ◌+◌, ◌-◌, ◌^◌, ◌++◌, [], ◌∷◌, length, map, max, Some, None, ◌&&◌, int_le, int_lt, slice_index_or, slice_set, OnOk, OnErr, IfOk, IfErr, OnSome, IfSome};
 ghost use Rattle.std.specs.Result.{result_err};
 ghost use Rattle.tap_rows.specs.declared.tables.Tables.{Tables};
@@ -25,7 +27,7 @@ use tap_base::{Memory, QueryNum, Rows, Steps};
 use tap_model::{PICK_LIMIT, RUN_LIMIT};
 use tap_rows::{Change, Hit, Pick, RunRow};
 
-/// What a run is about to deliver.
+/// What a run is about to deliver: its query, its moment, how many runs the query had, and the hits.
 #[derive(Drop)]
 pub struct Due {
     pub query: QueryNum,
@@ -34,7 +36,7 @@ pub struct Due {
     pub hits: Rows<Hit>,
 }
 
-// One pick for each hit, where there were so many before.
+// Makes one pick for each hit, numbered after the `before` picks that there are.
 fn picks_after(
     alloc: Global,
     before: usize,
@@ -60,7 +62,7 @@ fn picks_after(
     Ok(picks)
 }
 
-// These hits as a list of their own.
+// Copies hits into a list of their own.
 fn copy_hits(alloc: Global, hits: &[Hit]) -> Result<Rows<Hit>, Memory>
     ensures { IfOk result (λ copy. copy ≡ hits.now) }
 {
@@ -73,7 +75,8 @@ impl Engine {
     ghost use Rattle.tap_engine.specs.Answering.{Answers, IsUnchangedButHits, UndoRestores, undo_run};
     ghost use Rattle.tap_engine.specs.Costs.{IsQuietRun, IsShortRun, run_due};
 
-    // What a run of the user's query of this name delivers.
+    // Finds what a run of the user's query of this name delivers, or gives the first refusal. The limit of runs is checked
+    // before the search and the limit of picks after it, which is the order of the refusals.
     #[tactic(auto, unfolding(crate::specs::Standing::look_refusal))]
     fn due_run<L: Ledger>(
         &mut self,
@@ -89,8 +92,8 @@ impl Engine {
         ensures few { OnOk result (self.old.run_count < RUN_LIMIT) }
         ensures room { IfOk result (λ due. self.old.pick_count + length due.hits ≤ max self.old.pick_count PICK_LIMIT) }
         ensures still { IsUnchangedButHits self.new self.old }
-        ensures quiet { (t : Tables) → Represents self.old t → IsQuietRun (Command.Run name.now) self.old.session t → steps.new ≡ steps.old }
-        ensures rows { (t : Tables) → Represents self.old t → IsShortRun (Command.Run name.now) self.old.session t → steps.new ≤ steps.old + run_due (Command.Run name.now) self.old.session t }
+        ensures quiet { TakesNoStep self.old (Command.Run name.now) steps.old steps.new }
+        ensures rows { TakesRowsDue self.old (Command.Run name.now) steps.old steps.new }
     {
         let Some(moment) = self.session.moment else {
             return Err(Refusal::NoMoment);
@@ -108,7 +111,7 @@ impl Engine {
         })
     }
 
-    // What takes the next run of the query at this place back.
+    // Makes what undoes the next run of the query at this place.
     fn undo_run(&self, place: usize) -> Undo
         requires { place < length self.now.queries }
         ensures { (d : CachedQuery) → result ≡ undo_run self.now place (slice_index_or self.now.queries place d) }
@@ -124,7 +127,7 @@ impl Engine {
         }
     }
 
-    // Adds a run of the query at this place, which delivers these, and gives it as a change.
+    // Adds a run that delivers these hits, and gives its rows as a change. At Err nothing has changed.
     fn deliver(
         &mut self,
         alloc: Global,
@@ -139,8 +142,15 @@ impl Engine {
         requires new { (d : CachedQuery) → AreNew (slice_index_or self.old.queries (query.0 - 1) d).entries hits.now }
         requires few { self.old.run_count < RUN_LIMIT }
         requires room { self.old.pick_count + length hits.now ≤ max self.old.pick_count PICK_LIMIT }
-        ensures change { IfOk result (λ change. change ≡ RowChange.RunDone (record { num = self.old.run_count + 1; query = query; moment = moment }) (pick_rows (self.old.pick_count + 1) query (self.old.run_count + 1) hits.now)) }
-        ensures engine { OnOk result ((d : CachedQuery) → self.new ≡ record self.old { queries = slice_set self.old.queries (query.0 - 1) (after_run moment (map (entry_at ordinal) hits.now) (slice_index_or self.old.queries (query.0 - 1) d)); run_count = self.old.run_count + 1; pick_count = self.old.pick_count + length hits.now }) }
+        ensures change { IfOk result (λ change. change ≡ RowChange.RunDone
+            (record { num = self.old.run_count + 1; query = query; moment = moment })
+            (pick_rows (self.old.pick_count + 1) query (self.old.run_count + 1) hits.now)) }
+        ensures engine { OnOk result ((d : CachedQuery) → self.new ≡ record self.old {
+          queries = slice_set self.old.queries (query.0 - 1)
+              (after_run moment (map (entry_at ordinal) hits.now) (slice_index_or self.old.queries (query.0 - 1) d));
+          run_count = self.old.run_count + 1;
+          pick_count = self.old.pick_count + length hits.now;
+        }) }
         ensures err { OnErr result (self.new ≡ self.old) }
     {
         let run = RunRow {
@@ -164,17 +174,17 @@ impl Engine {
         steps: &mut Steps<L>,
     ) -> Result<Prepared, Refusal>
         requires ready { IsReady self.old }
-        ensures ok { IfOk result (λ made. (t : Tables) → Represents self.old t → IsSound t self.old.session → Answers t self.old.session (Command.Run name.now) made.reply made.change self.new.session) }
-        ensures represents { IfOk result (λ made. (t : Tables) → Represents self.old t → IsSound t self.old.session → Represents self.new (tables_after made.change t)) }
-        ensures refusal { IfErr result (λ refusal. (t : Tables) → Represents self.old t → IsSound t self.old.session → Refuses refusal (Command.Run name.now) self.old.session t) }
+        ensures ok { IfOk result (AnswersAsModel self.old (Command.Run name.now) self.new) }
+        ensures represents { IfOk result (RepresentsNext self.old self.new) }
+        ensures refusal { IfErr result (RefusesSoundly self.old (Command.Run name.now)) }
         ensures err { OnErr result (IsUnchangedButHits self.new self.old) }
-        ensures undo { IfOk result (λ made. OnSome made.change (UndoRestores made.undo self.new self.old)) }
+        ensures undo { IfOk result (IsUndoable self.old self.new) }
         ensures ready { OnOk result (IsReady self.new) }
         ensures running { OnOk result (self.new.stopped ≡ self.old.stopped) }
         ensures short { IfOk result (λ made. HasShortNames made.reply) }
         ensures accepted { IfOk result (λ made. is_accepted made.reply ≡ true) }
-        ensures quiet { (t : Tables) → Represents self.old t → IsQuietRun (Command.Run name.now) self.old.session t → steps.new ≡ steps.old }
-        ensures due { (t : Tables) → Represents self.old t → IsShortRun (Command.Run name.now) self.old.session t → steps.new ≤ steps.old + run_due (Command.Run name.now) self.old.session t }
+        ensures quiet { TakesNoStep self.old (Command.Run name.now) steps.old steps.new }
+        ensures due { TakesRowsDue self.old (Command.Run name.now) steps.old steps.new }
     {
         let due = self.due_run(alloc, name, steps)?;
         let ordinal = due.runs as u32 + 1;

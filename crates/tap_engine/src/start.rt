@@ -1,3 +1,5 @@
+//! The start of an engine over stored tables.
+
 ghost use Rattle.std.specs.Prelude.{◌≡◌, ◌⊎◌, None, Some, false, length, OnOk, IfOk, IfErr};
 ghost use Rattle.std.specs.Option.{option_map};
 ghost use Rattle.tap_kept.specs.Starting.{first_unread};
@@ -16,7 +18,7 @@ impl Engine {
     ghost use Rattle.tap_engine.specs.Standing.{Represents};
     ghost use Rattle.tap_engine.specs.Ready.{IsReady};
 
-    // The engine, from the parts of the tables: each row is looked at a fixed number of times.
+    // Builds the engine from the parts of the tables. It looks at each row a fixed number of times.
     fn build(alloc: Global, sound: Sound) -> Result<Engine, StartFault>
         ensures represents { IfOk result (λ engine. Represents engine sound) }
         ensures session { IfOk result (λ engine. engine.session ≡ no_session) }
@@ -54,8 +56,9 @@ impl Engine {
         })
     }
 
-    /// An engine with a new session that stands for sound tables. It looks at each row a fixed number of times. `Rules` comes
-    /// exactly where a filter's text has a fault, with the first such filter, and never over tables that a session left.
+    /// Makes an engine with a new session that represents sound tables. It looks at each row a fixed number of times. It
+    /// reports `Rules` with the first filter whose text has a fault if there is one, which is never over tables that a session
+    /// left; otherwise it fails only if it is out of memory.
     pub fn start(alloc: Global, sound: Sound) -> Result<Engine, StartFault>
         ensures represents { IfOk result (λ engine. Represents engine sound) }
         ensures session { IfOk result (λ engine. engine.session ≡ no_session) }

@@ -1,10 +1,12 @@
+//! The undoing of a command whose rows were not committed.
+
 ghost use Rattle.std.specs.Prelude.{◌≡◌, take};
 
 use crate::engine::Engine;
 use crate::undo::Undo;
 use row_index::RowIndex;
 
-// Forgets the documents after the first `len`.
+// Removes the documents after the first `len`.
 pub(crate) fn forget_docs(index: &mut RowIndex, len: usize)
     ensures { index.new ≡ record index.old { docs = take len index.old.docs } }
 {
@@ -16,7 +18,7 @@ pub(crate) fn forget_docs(index: &mut RowIndex, len: usize)
 impl Engine {
     ghost use Rattle.tap_engine.specs.Answering.{undone, CanUndo};
 
-    // Takes the rows of a command back.
+    // Removes the rows of a command that wasn't committed. It takes no memory.
     pub(crate) fn take_back(&mut self, undo: Undo)
         requires { CanUndo undo self.old }
         ensures { self.new ≡ undone undo self.old }

@@ -1,6 +1,6 @@
 use Rattle.std.proofs.Common.{◌∙◌, sym, ap, subst, Some}
 use Rattle.keeper_core.specs.Keeping.{IsDurable}
-use Rattle.tap_engine.specs.Answering.{Answers, IsUnchangedButHits}
+use Rattle.tap_engine.specs.Answering.{Answers, AddsRows, IsUnchangedButHits}
 use Rattle.tap_engine.proofs.PerformLaws.{memory-step, rows-fit, rows-next, fault-step, fault-represents, fault-kept, on-err, one-of, taken-there}
 use Rattle.tap_engine.proofs.engine.Engine.perform.Goals as goal
 
@@ -25,6 +25,12 @@ returns-in-Err-commit-clause-crash g c = λ t represents sound honest holds.
     let answers : Answers t c.args.self.now.session c.args.command c.in-Ok.prepared.reply (Some c.in-Some.change) c.prepare.new.self.session = subst (λ change. Answers t c.args.self.now.session c.args.command c.in-Ok.prepared.reply change c.prepare.new.self.session) c.in-Some.is (c.in-Ok.ensures.ok t represents sound) in
     let fit = rows-fit t c.args.self.now.session c.args.command c.in-Ok.prepared.reply c.in-Some.change c.prepare.new.self.session sound answers in
     on-err c.not_committed.result (answers.fine, λ x leaves. one-of t x c.args.self.now.session c.args.command c.in-Ok.prepared.reply c.in-Some.change c.prepare.new.self.session answers (c.in-Err-commit.ensures.crash honest t holds.told sound.formed fit x leaves))
+
+pub returns-in-Err-commit-clause-adds : goal.returns-in-Err-commit-clause-adds
+returns-in-Err-commit-clause-adds g c = λ t represents sound.
+    let answers : Answers t c.args.self.now.session c.args.command c.in-Ok.prepared.reply (Some c.in-Some.change) c.prepare.new.self.session = subst (λ change. Answers t c.args.self.now.session c.args.command c.in-Ok.prepared.reply change c.prepare.new.self.session) c.in-Some.is (c.in-Ok.ensures.ok t represents sound) in
+    let adds : AddsRows c.args.command c.args.self.now.session t = record { change = c.in-Some.change; change_is = sym answers.change_is } in
+    on-err c.not_committed.result adds
 
 pub returns-in-Err-commit-clause-kept : goal.returns-in-Err-commit-clause-kept
 returns-in-Err-commit-clause-kept g c = λ t represents sound honest holds.
