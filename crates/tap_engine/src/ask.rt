@@ -1,13 +1,10 @@
 //! The documents that a condition gives at a second that is over.
 
-ghost use Rattle.std.specs.Prelude.{◌≡◌, None, true, int_lt, IfOk, IfErr};
+ghost use Rattle.std.specs.Prelude.{◌≡◌, true, int_lt, IfOk, IfErr};
 ghost use Rattle.std.specs.Result.{result_err};
-ghost use Rattle.tap_rows.specs.declared.tables.Tables.{Tables};
 ghost use Rattle.script_lang.specs.declared.command.Command.{Command};
 ghost use Rattle.script_lang.specs.declared.refusal.Refusal.{Refusal};
 ghost use Rattle.script_lang.specs.Replies.{HasShortNames, is_accepted};
-ghost use Rattle.tap_model.specs.Sound.{IsSound};
-ghost use Rattle.tap_model.specs.Stories.{Refuses};
 ghost use Rattle.tap_model.specs.Verdicts.{refuse_unless};
 
 use crate::engine::Engine;
@@ -31,8 +28,7 @@ fn refuse_open(second: i64, now: i64) -> Result<(), Refusal>
 }
 
 impl Engine {
-    ghost use Rattle.tap_engine.specs.Standing.{Represents};
-    ghost use Rattle.tap_engine.specs.Answering.{Answers};
+    ghost use Rattle.tap_engine.specs.Answering.{ReadsAsModel, RefusesAsModel};
 
     // Lists the documents that a condition gives at a second that is over.
     pub(crate) fn ask<L: Ledger>(

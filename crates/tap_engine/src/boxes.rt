@@ -4,9 +4,6 @@ ghost use Rattle.std.specs.Prelude.{◌≡◌, None, Some, true, OnOk, IfOk, IfE
 ghost use Rattle.script_lang.specs.declared.command.Command.{Command};
 ghost use Rattle.script_lang.specs.Replies.{HasShortNames, is_accepted};
 ghost use Rattle.tap_base.specs.Names.{is_name};
-ghost use Rattle.tap_rows.specs.declared.tables.Tables.{Tables};
-ghost use Rattle.tap_model.specs.Sound.{IsSound};
-ghost use Rattle.tap_model.specs.Stories.{Refuses};
 
 use crate::engine::Engine;
 use script_lang::{Refusal, Reply};
@@ -16,8 +13,8 @@ use tap_kept::copy_entries;
 use tap_rows::Entry;
 
 impl Engine {
-    ghost use Rattle.tap_engine.specs.Standing.{Represents, look_refusal, cached_named, cached_entries, RefusedBy};
-    ghost use Rattle.tap_engine.specs.Answering.{Answers};
+    ghost use Rattle.tap_engine.specs.Answering.{ReadsAsModel, RefusesAsModel};
+    ghost use Rattle.tap_engine.specs.Standing.{look_refusal, cached_named, cached_entries, RefusedBy};
 
     // Copies what the user's query of this name has delivered.
     fn entries_named(&self, alloc: Global, name: &[u8]) -> Result<Rows<Entry>, Refusal>

@@ -1,10 +1,9 @@
 //! The command that defines a query.
 
-ghost use Rattle.std.specs.Prelude.{◌≡◌, ◌<◌, ◌+◌, ◌^◌, ◌++◌, [], ◌∷◌, length, Some, None, true, is_none, if◌then◌else◌, OnOk, OnErr, IfOk, IfErr, OnSome};
+ghost use Rattle.std.specs.Prelude.{◌≡◌, ◌<◌, ◌+◌, ◌^◌, ◌++◌, [], ◌∷◌, length, Some, None, true, is_none, if◌then◌else◌, OnOk, OnErr, IfOk, IfErr};
 ghost use Rattle.std.specs.Result.{result_err};
 ghost use Rattle.tap_base.specs.Words.{holds};
 ghost use Rattle.tap_rows.specs.declared.change.Change.{Change as RowChange};
-ghost use Rattle.tap_rows.specs.declared.tables.Tables.{Tables};
 ghost use Rattle.script_lang.specs.declared.command.Command.{Command};
 ghost use Rattle.script_lang.specs.Replies.{HasShortNames, is_accepted};
 ghost use Rattle.tap_model.specs.Verdicts.{refuse_unless, first_refusal};
@@ -16,10 +15,8 @@ ghost use Rattle.tap_model.specs.Queries.{condition_by};
 ghost use Rattle.restart_core.specs.Starts.{stored_source};
 ghost use Rattle.tap_kept.specs.Keeping.{never_run, with_owner, named_in};
 ghost use Rattle.tap_model.specs.Sessions.{moment_or_zero, user_of};
-ghost use Rattle.tap_model.specs.Sound.{IsSound, IsMoment};
+ghost use Rattle.tap_model.specs.Sound.{IsMoment};
 ghost use Rattle.tap_base.specs.Names.{is_name};
-ghost use Rattle.tap_model.specs.Replies.{tables_after};
-ghost use Rattle.tap_model.specs.Stories.{Refuses};
 
 use crate::engine::Engine;
 use crate::limits::refuse_more;
@@ -67,9 +64,9 @@ fn push_query(
 }
 
 impl Engine {
-    ghost use Rattle.tap_engine.specs.Standing.{Represents, name_refusal, query_limits, define_refusal, RefusedBy};
+    ghost use Rattle.tap_engine.specs.Answering.{AnswersAsModel, RepresentsNext, RefusesAsModel, IsUndoable};
+    ghost use Rattle.tap_engine.specs.Standing.{name_refusal, query_limits, define_refusal, RefusedBy};
     ghost use Rattle.tap_engine.specs.Ready.{IsReady};
-    ghost use Rattle.tap_engine.specs.Answering.{Answers, UndoRestores};
 
     // Adds a query that was never run, and gives its row as a change. At Err nothing has changed.
     fn add_query(&mut self, alloc: Global, row: QueryRow, cond: Cond) -> Result<Change, Memory>

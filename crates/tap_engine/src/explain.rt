@@ -4,9 +4,6 @@ ghost use Rattle.std.specs.Prelude.{◌≡◌, None, Some, true, OnOk, IfOk, IfE
 ghost use Rattle.script_lang.specs.declared.command.Command.{Command};
 ghost use Rattle.script_lang.specs.Replies.{HasShortNames, is_accepted};
 ghost use Rattle.tap_base.specs.Names.{is_name};
-ghost use Rattle.tap_rows.specs.declared.tables.Tables.{Tables};
-ghost use Rattle.tap_model.specs.Sound.{IsSound};
-ghost use Rattle.tap_model.specs.Stories.{Refuses};
 
 use crate::engine::Engine;
 use incremental_rewrite::render;
@@ -15,9 +12,9 @@ use std::alloc::Global;
 use tap_base::{Text, Texts};
 
 impl Engine {
-    ghost use Rattle.tap_engine.specs.Standing.{Represents, look_refusal, cached_named, RefusedBy};
+    ghost use Rattle.tap_engine.specs.Answering.{ReadsAsModel, RefusesAsModel};
+    ghost use Rattle.tap_engine.specs.Standing.{look_refusal, cached_named, RefusedBy};
     ghost use Rattle.tap_engine.specs.Lists.{cached_lines};
-    ghost use Rattle.tap_engine.specs.Answering.{Answers};
 
     // Makes the lines that explain the user's query of this name.
     fn lines_named(&self, alloc: Global, name: &[u8]) -> Result<Texts, Refusal>

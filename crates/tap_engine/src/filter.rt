@@ -1,9 +1,8 @@
 //! The command that sets a user's filter.
 
-ghost use Rattle.std.specs.Prelude.{◌≡◌, ◌⊎◌, ◌≤◌, ◌<◌, ◌+◌, ◌^◌, ◌++◌, [], ◌∷◌, length, Some, None, true, OnOk, OnErr, IfOk, IfErr, OnSome};
+ghost use Rattle.std.specs.Prelude.{◌≡◌, ◌⊎◌, ◌≤◌, ◌<◌, ◌+◌, ◌^◌, ◌++◌, [], ◌∷◌, length, Some, None, true, OnOk, OnErr, IfOk, IfErr};
 ghost use Rattle.std.specs.Result.{result_err};
 ghost use Rattle.tap_rows.specs.declared.change.Change.{Change as RowChange};
-ghost use Rattle.tap_rows.specs.declared.tables.Tables.{Tables};
 ghost use Rattle.script_lang.specs.declared.command.Command.{Command};
 ghost use Rattle.script_lang.specs.declared.refusal.Refusal.{Refusal};
 ghost use Rattle.script_lang.specs.Replies.{HasShortNames, is_accepted};
@@ -11,9 +10,6 @@ ghost use Rattle.appraiser.specs.Rules.{rules_in};
 ghost use Rattle.appraiser.specs.RuleTexts.{IsWithin};
 ghost use Rattle.tap_model.specs.Filters.{rules_in_text};
 ghost use Rattle.tap_model.specs.Sessions.{moment_or_zero, user_of};
-ghost use Rattle.tap_model.specs.Sound.{IsSound};
-ghost use Rattle.tap_model.specs.Replies.{tables_after};
-ghost use Rattle.tap_model.specs.Stories.{Refuses};
 ghost use Rattle.tap_model.specs.Verdicts.{first_refusal, rule_refusal, filter_fault, long_filter, text_of};
 ghost use Rattle.tap_kept.specs.Keeping.{with_owner};
 
@@ -94,9 +90,9 @@ fn push_filter(
 }
 
 impl Engine {
-    ghost use Rattle.tap_engine.specs.Standing.{Represents, RefusedBy};
+    ghost use Rattle.tap_engine.specs.Answering.{AnswersAsModel, RepresentsNext, RefusesAsModel, IsUndoable};
+    ghost use Rattle.tap_engine.specs.Standing.{RefusedBy};
     ghost use Rattle.tap_engine.specs.Ready.{IsReady};
-    ghost use Rattle.tap_engine.specs.Answering.{Answers, UndoRestores};
     ghost use Rattle.tap_engine.specs.FilterChecks.{filter_limits, filter_refusal};
 
     // Refuses a filter of this user and length that would pass a limit.

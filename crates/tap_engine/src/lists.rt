@@ -4,15 +4,11 @@ ghost use Rattle.std.specs.Prelude.{◌≡◌, ◌≤◌, Some, None, true, leng
 ghost use Rattle.std.specs.List.{All};
 ghost use Rattle.std.specs.Option.{option_copied};
 ghost use Rattle.tap_base.specs.Names.{is_name};
-ghost use Rattle.tap_rows.specs.declared.tables.Tables.{Tables};
 ghost use Rattle.script_lang.specs.declared.command.Command.{Command};
 ghost use Rattle.script_lang.specs.Replies.{HasShortNames, is_accepted};
-ghost use Rattle.appraiser.specs.Rules.{rules_in};
 ghost use Rattle.appraiser.specs.Listings.{listing_of};
 ghost use Rattle.tap_model.specs.Filters.{last_filter, filter_rules};
 ghost use Rattle.tap_model.specs.Sessions.{user_of};
-ghost use Rattle.tap_model.specs.Sound.{IsSound};
-ghost use Rattle.tap_model.specs.Stories.{Refuses};
 
 use crate::engine::Engine;
 use appraiser::{Rules, listing};
@@ -55,9 +51,9 @@ fn rate<'a, L: Ledger>(
 }
 
 impl Engine {
-    ghost use Rattle.tap_engine.specs.Standing.{Represents, look_refusal, cached_named, RefusedBy};
+    ghost use Rattle.tap_engine.specs.Answering.{ReadsAsModel, RefusesAsModel};
+    ghost use Rattle.tap_engine.specs.Standing.{look_refusal, cached_named, RefusedBy};
     ghost use Rattle.tap_engine.specs.Lists.{cached_rows};
-    ghost use Rattle.tap_engine.specs.Answering.{Answers};
 
     // Gives the session's user, or an empty text if it has none.
     fn user_name(&self) -> &[u8]

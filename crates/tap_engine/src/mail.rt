@@ -1,18 +1,15 @@
 //! The command that adds a message.
 
-ghost use Rattle.std.specs.Prelude.{◌≡◌, true, ◌≤◌, ◌<◌, ◌+◌, ◌^◌, ◌≤ℤ◌, [], ◌∷◌, length, Some, OnOk, OnErr, IfOk, IfErr, OnSome};
-ghost use Rattle.std.specs.Result.{result_err, result_ok};
+ghost use Rattle.std.specs.Prelude.{◌≡◌, true, ◌≤◌, ◌<◌, ◌+◌, ◌^◌, ◌≤ℤ◌, [], ◌∷◌, length, Some, OnOk, OnErr, IfOk, IfErr};
+ghost use Rattle.std.specs.Result.{result_err};
 ghost use Rattle.tap_rows.specs.declared.change.Change.{Change as RowChange};
-ghost use Rattle.tap_rows.specs.declared.tables.Tables.{Tables};
 ghost use Rattle.tap_rows.specs.Kept.{Each};
 ghost use Rattle.tap_rows.specs.Tables.{after};
 ghost use Rattle.row_index.specs.Orders.{IsMoment};
 ghost use Rattle.script_lang.specs.declared.command.Command.{Command};
 ghost use Rattle.script_lang.specs.Replies.{HasShortNames, is_accepted};
 ghost use Rattle.tap_model.specs.Verdicts.{too_long, text_of};
-ghost use Rattle.tap_model.specs.Replies.{docs_from, tables_after};
-ghost use Rattle.tap_model.specs.Sound.{IsSound};
-ghost use Rattle.tap_model.specs.Stories.{Refuses};
+ghost use Rattle.tap_model.specs.Replies.{docs_from};
 
 use crate::engine::Engine;
 use crate::limits::refuse_more;
@@ -52,9 +49,8 @@ fn make_row(alloc: Global, num: DocNum, moment: i64, text: Text) -> Result<Rows<
 }
 
 impl Engine {
-    ghost use Rattle.tap_engine.specs.Standing.{Represents};
     ghost use Rattle.tap_engine.specs.Ready.{IsReady};
-    ghost use Rattle.tap_engine.specs.Answering.{Answers, IsUnchangedButHits, UndoRestores};
+    ghost use Rattle.tap_engine.specs.Answering.{IsUnchangedButHits, AnswersAsModel, RepresentsNext, RefusesAsModel, IsUndoable};
 
     // Adds a document that arrives at this moment, and gives its number and its row as a change. All memory is taken before
     // the index grows, so that at Err nothing has changed but the room for hits.

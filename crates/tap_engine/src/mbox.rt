@@ -1,8 +1,7 @@
 //! The command that adds the messages of a mailbox file.
 
-ghost use Rattle.std.specs.Prelude.{◌≡◌, ◌≤◌, ◌<◌, ◌+◌, ◌^◌, ◌≤ℤ◌, [], ◌∷◌, length, take, max, None, true, OnOk, OnErr, IfOk, IfErr, OnSome};
+ghost use Rattle.std.specs.Prelude.{◌≡◌, ◌≤◌, ◌<◌, ◌+◌, ◌^◌, ◌≤ℤ◌, [], ◌∷◌, length, take, max, None, true, OnOk, OnErr, IfOk, IfErr};
 ghost use Rattle.std.specs.Result.{result_err};
-ghost use Rattle.tap_rows.specs.declared.tables.Tables.{Tables};
 ghost use Rattle.tap_rows.specs.declared.change.Change.{Change as RowChange};
 ghost use Rattle.tap_rows.specs.Kept.{Each};
 ghost use Rattle.tap_rows.specs.Tables.{after};
@@ -11,9 +10,7 @@ ghost use Rattle.script_lang.specs.declared.command.Command.{Command};
 ghost use Rattle.script_lang.specs.Replies.{HasShortNames, is_accepted};
 ghost use Rattle.tap_model.specs.Sessions.{moment_or_zero};
 ghost use Rattle.tap_model.specs.Verdicts.{messages_of, are_short, long_message, long_block, bytes_of};
-ghost use Rattle.tap_model.specs.Replies.{docs_from, some_docs, tables_after};
-ghost use Rattle.tap_model.specs.Sound.{IsSound};
-ghost use Rattle.tap_model.specs.Stories.{Refuses};
+ghost use Rattle.tap_model.specs.Replies.{docs_from, some_docs};
 
 use crate::engine::Engine;
 use crate::limits::refuse_more;
@@ -155,9 +152,9 @@ fn add_all(alloc: Global, index: &mut RowIndex, moment: i64, texts: &[Text]) -> 
 }
 
 impl Engine {
-    ghost use Rattle.tap_engine.specs.Standing.{Represents, mbox_bounds, mbox_refusal, RefusedBy};
+    ghost use Rattle.tap_engine.specs.Standing.{mbox_bounds, mbox_refusal, RefusedBy};
     ghost use Rattle.tap_engine.specs.Ready.{IsReady};
-    ghost use Rattle.tap_engine.specs.Answering.{Answers, IsUnchangedButHits, UndoRestores};
+    ghost use Rattle.tap_engine.specs.Answering.{IsUnchangedButHits, AnswersAsModel, RepresentsNext, RefusesAsModel, IsUndoable};
 
     // Refuses messages of a mailbox file that pass a limit.
     #[tactic(auto, unfolding(crate::specs::Standing::mbox_bounds))]

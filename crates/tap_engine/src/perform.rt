@@ -1,13 +1,12 @@
 //! One command, one step, one commit: what a command is answered, and what it changes.
 
-ghost use Rattle.std.specs.Prelude.{◌≡◌, ◌⊎◌, ◌↔◌, ◌≤◌, ◌+◌, None, true, false, OnOk, OnErr, IsErr, IfOk, IfErr, OnSome};
+ghost use Rattle.std.specs.Prelude.{◌≡◌, ◌⊎◌, ◌↔◌, ◌≤◌, None, true, false, OnOk, OnErr, IsErr, IfOk, IfErr};
 ghost use Rattle.tap_rows.specs.declared.tables.Tables.{Tables};
 ghost use Rattle.keeper_core.specs.Keeping.{IsDurable};
 ghost use Rattle.tap_base.specs.Counts.{Rose};
 ghost use Rattle.script_lang.specs.Replies.{HasShortNames, is_accepted};
 ghost use Rattle.tap_model.specs.Replies.{answer_of, tables_after};
-ghost use Rattle.tap_model.specs.Sound.{IsSound};
-ghost use Rattle.tap_model.specs.Stories.{Refuses, Step, next_tables};
+ghost use Rattle.tap_model.specs.Stories.{Step, next_tables};
 ghost use Rattle.tap_model.specs.Verdicts.{verdict};
 
 use crate::engine::Engine;

@@ -1,8 +1,6 @@
 //! The command that runs a query.
 
-ghost use Rattle.std.specs.Prelude.{◌≡◌, ℤ, pos, ◌<ℤ◌, drop, Bool, true, ◌≤◌, ◌<◌, ◌+◌, ◌-◌, ◌^◌, ◌++◌, [], ◌∷◌, length, map, max, Some, None, ◌&&◌, int_le, int_lt, slice_index_or, slice_set, OnOk, OnErr, IfOk, IfErr, OnSome, IfSome};
-ghost use Rattle.std.specs.Result.{result_err};
-ghost use Rattle.tap_rows.specs.declared.tables.Tables.{Tables};
+ghost use Rattle.std.specs.Prelude.{◌≡◌, true, ◌≤◌, ◌<◌, ◌+◌, ◌-◌, ◌^◌, length, map, max, Some, None, slice_index_or, slice_set, OnOk, OnErr, IfOk, IfErr, IfSome};
 ghost use Rattle.tap_rows.specs.declared.change.Change.{Change as RowChange};
 ghost use Rattle.tap_rows.specs.Deliveries.{pick_rows};
 ghost use Rattle.tap_rows.specs.Results.{entry_at};
@@ -10,10 +8,6 @@ ghost use Rattle.script_lang.specs.declared.command.Command.{Command};
 ghost use Rattle.script_lang.specs.Replies.{HasShortNames, is_accepted};
 ghost use Rattle.tap_kept.specs.declared.cached_query.CachedQuery.{CachedQuery};
 ghost use Rattle.tap_kept.specs.Keeping.{after_run, AreNew};
-ghost use Rattle.tap_model.specs.Sessions.{moment_or_zero};
-ghost use Rattle.tap_model.specs.Sound.{IsSound};
-ghost use Rattle.tap_model.specs.Replies.{tables_after};
-ghost use Rattle.tap_model.specs.Stories.{Refuses};
 
 use crate::engine::Engine;
 use crate::limits::refuse_more;
@@ -70,10 +64,10 @@ fn copy_hits(alloc: Global, hits: &[Hit]) -> Result<Rows<Hit>, Memory>
 }
 
 impl Engine {
-    ghost use Rattle.tap_engine.specs.Standing.{Represents, run_refusal, cached_named, due_of, RefusedBy};
+    ghost use Rattle.tap_engine.specs.Costs.{TakesNoStep, TakesRowsDue};
+    ghost use Rattle.tap_engine.specs.Standing.{run_refusal, cached_named, due_of, RefusedBy};
     ghost use Rattle.tap_engine.specs.Ready.{IsReady};
-    ghost use Rattle.tap_engine.specs.Answering.{Answers, IsUnchangedButHits, UndoRestores, undo_run};
-    ghost use Rattle.tap_engine.specs.Costs.{IsQuietRun, IsShortRun, run_due};
+    ghost use Rattle.tap_engine.specs.Answering.{IsUnchangedButHits, undo_run, AnswersAsModel, RepresentsNext, RefusesSoundly, IsUndoable};
 
     // Finds what a run of the user's query of this name delivers, or gives the first refusal. The limit of runs is checked
     // before the search and the limit of picks after it, which is the order of the refusals.

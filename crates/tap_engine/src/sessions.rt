@@ -1,17 +1,12 @@
 //! The commands that set the session's moment and its user.
 
-ghost use Rattle.std.specs.Prelude.{◌≡◌, ℤ, Option, None, Some, true, OnOk, OnErr, IfOk, IfErr, OnSome};
-ghost use Rattle.std.specs.Option.{option_or};
+ghost use Rattle.std.specs.Prelude.{◌≡◌, Option, Some, true, OnOk, OnErr, IfOk, IfErr};
 ghost use Rattle.std.specs.Result.{result_err};
 ghost use Rattle.tap_base.specs.Numbers.{moment_of};
 ghost use Rattle.tap_base.specs.Names.{is_name};
-ghost use Rattle.tap_rows.specs.declared.tables.Tables.{Tables};
 ghost use Rattle.script_lang.specs.declared.command.Command.{Command};
 ghost use Rattle.script_lang.specs.Replies.{HasShortNames, is_accepted};
 ghost use Rattle.tap_model.specs.Verdicts.{is_back, bad_name};
-ghost use Rattle.tap_model.specs.Replies.{tables_after};
-ghost use Rattle.tap_model.specs.Sound.{IsSound};
-ghost use Rattle.tap_model.specs.Stories.{Refuses};
 
 use crate::engine::Engine;
 use crate::prepared::Prepared;
@@ -49,9 +44,8 @@ pub(crate) fn refuse_name(name: &[u8]) -> Result<(), Refusal>
 }
 
 impl Engine {
-    ghost use Rattle.tap_engine.specs.Standing.{Represents};
+    ghost use Rattle.tap_engine.specs.Answering.{AnswersAsModel, RepresentsNext, RefusesAsModel, IsUndoable};
     ghost use Rattle.tap_engine.specs.Ready.{IsReady};
-    ghost use Rattle.tap_engine.specs.Answering.{Answers, UndoRestores};
 
     // Sets the session's moment, which is never before the last one or, without one, before the greatest stored moment.
     pub(crate) fn at(&mut self, text: &[u8]) -> Result<Prepared, Refusal>
