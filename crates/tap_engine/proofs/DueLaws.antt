@@ -1,21 +1,20 @@
 -- What a run delivers, and what the engine keeps after it.
-use Rattle.std.proofs.Common.{◌≡◌, ◌∙◌, sym, refl, ap, subst, arith, ℕ, zero, suc, ◌+◌, ◌-◌, ◌≤◌, ◌<◌, ℤ, List, [], ◌∷◌, ◌++◌, length, map, Option, Some, None, true, false, inl, inr, if◌then◌else◌}
+use Rattle.std.proofs.Common.{◌≡◌, ◌∙◌, sym, refl, ap, subst, arith, ℕ, suc, ◌+◌, ◌-◌, ℤ, List, [], ◌∷◌, ◌++◌, length, map, Option, Some, None}
 use Rattle.std.specs.Prelude.{◌==◌, slice_index_or, slice_set}
 use Rattle.std.specs.Option.{option_map}
 use Rattle.std.proofs.lemmas.List.{length-append, map-append}
 use Rattle.std.proofs.lemmas.List.Elements.{filter-append}
 use Rattle.tap_rows.specs.declared.tables.Tables.{Tables}
 use Rattle.tap_rows.specs.declared.rows.QueryRow.{QueryRow}
-use Rattle.tap_rows.specs.declared.rows.RunRow.{RunRow}
 use Rattle.tap_base.specs.declared.numbers.QueryNum.{QueryNum}
 use Rattle.tap_rows.specs.declared.results.Hit.{Hit}
 use Rattle.tap_rows.specs.declared.change.Change.{Change}
 use Rattle.tap_rows.specs.declared.results.Entry.{Entry}
 use Rattle.tap_rows.specs.declared.change.Change.TheVariants.{RunDone}
 use Rattle.tap_rows.specs.Tables.{after}
-use Rattle.tap_rows.specs.Results.{runs_of, run_moments, covered, last_or, entry_at}
+use Rattle.tap_rows.specs.Results.{run_moments, covered, last_or, entry_at}
 use Rattle.tap_rows.specs.Deliveries.{delivered, picked, picks_of, pick_rows, next_run, run_change}
-use Rattle.tap_rows.specs.Kept.{In, IsKept, QueriesFrom}
+use Rattle.tap_rows.specs.Kept.{In, IsKept}
 use Rattle.tap_rows.proofs.LaterLaws.{filter-none}
 use Rattle.tap_rows.proofs.PlaceLaws.{ordinal-new, moments-new, moments-other, old-picks, picks-all, picks-none, new-picks, query-bounds}
 use Rattle.tap_rows.proofs.RunLaws.{last-more}
@@ -37,7 +36,7 @@ use Rattle.tap_model.specs.Replies.{run_query}
 use Rattle.tap_model.proofs.AnswerLaws.{find-in}
 use Rattle.tap_engine.specs.Answering.{Answers}
 use Rattle.tap_engine.proofs.AnswerTurns.{answers-accepted}
-use Rattle.tap_kept.proofs.PlaceLaws.{placed, placed-set}
+use Rattle.tap_kept.proofs.PlaceLaws.{placed, placed-set, same-cached}
 use Rattle.tap_engine.proofs.CheckLaws.{named-is, hits-of-query}
 
 -- what is due is due to a query that there is
@@ -68,12 +67,6 @@ due-is e t name due represents sound there is = go (query_named (user_of e.sessi
         ∙ ap (λ hits. record { query = q.num; moment = moment_or_zero e.session; runs = length (run_moments q.num.0 t.runs); hits = hits }) (hits-of-query e t q represents sound (find-in (is_query_of (user_of e.session) name) t.queries q some) there);
   }
 
-abbrev kept_as : QueryRow → ℤ → ℕ → List Entry → CachedQuery
-kept_as row covered runs entries = record { row = row; covered = covered; runs = runs; entries = entries }
-
-same-kept : (row : QueryRow) (a a' : ℤ) (b b' : ℕ) (c c' : List Entry) → a ≡ a' → b ≡ b' → c ≡ c' → kept_as row a b c ≡ kept_as row a' b' c'
-same-kept row a a' b b' c c' e f g = rw (e, f, g) refl
-
 both-parts : (a a' b b' : List Entry) → a ≡ a' → b ≡ b' → a ++ b ≡ a' ++ b'
 both-parts a a' b b' e f = rw (e, f) refl
 
@@ -86,7 +79,7 @@ own-after t q m kept =
     let moments : run_moments q.num.0 (t.runs ++ run ∷ []) ≡ run_moments q.num.0 t.runs ++ m ∷ [] = moments-new q.num.0 t.runs run refl in
     let both : picks_of q.num.0 (t.picks ++ picks) ≡ picks_of q.num.0 t.picks ++ picks = filter-append (λ pick. pick.query.0 == q.num.0) t.picks picks ∙ ap (λ more. picks_of q.num.0 t.picks ++ more) (picks-all (length t.picks + 1) q.num (length t.runs + 1) hits) in
     let place = ordinal-new q.num.0 t.runs run kept.runs refl refl in
-    same-kept q (covered (start_of q) q.num.0 (t.runs ++ run ∷ [])) m (length (run_moments q.num.0 (t.runs ++ run ∷ []))) (length (run_moments q.num.0 t.runs) + 1)
+    same-cached q (covered (start_of q) q.num.0 (t.runs ++ run ∷ [])) m (length (run_moments q.num.0 (t.runs ++ run ∷ []))) (length (run_moments q.num.0 t.runs) + 1)
     (map (picked (t.runs ++ run ∷ [])) (picks_of q.num.0 (t.picks ++ picks))) (delivered q.num.0 t ++ map (entry_at (length (run_moments q.num.0 t.runs) + 1)) hits)
     (ap (last_or (start_of q)) moments ∙ last-more (start_of q) m (run_moments q.num.0 t.runs))
     (ap length moments ∙ length-append (run_moments q.num.0 t.runs) (m ∷ []))
@@ -101,7 +94,7 @@ other-after t q other m kept differs =
     let picks = pick_rows (length t.picks + 1) q.num (length t.runs + 1) hits in
     let moments : run_moments other.num.0 (t.runs ++ run ∷ []) ≡ run_moments other.num.0 t.runs = moments-other other.num.0 t.runs run differs in
     let own : picks_of other.num.0 (t.picks ++ picks) ≡ picks_of other.num.0 t.picks = filter-none (λ pick. pick.query.0 == other.num.0) t.picks picks (picks-none other.num.0 (length t.picks + 1) q.num (length t.runs + 1) hits differs) in
-    same-kept other (covered (start_of other) other.num.0 (t.runs ++ run ∷ [])) (covered (start_of other) other.num.0 t.runs) (length (run_moments other.num.0 (t.runs ++ run ∷ []))) (length (run_moments other.num.0 t.runs))
+    same-cached other (covered (start_of other) other.num.0 (t.runs ++ run ∷ [])) (covered (start_of other) other.num.0 t.runs) (length (run_moments other.num.0 (t.runs ++ run ∷ []))) (length (run_moments other.num.0 t.runs))
     (map (picked (t.runs ++ run ∷ [])) (picks_of other.num.0 (t.picks ++ picks))) (delivered other.num.0 t)
     (ap (last_or (start_of other)) moments) (ap length moments) (ap (map (picked (t.runs ++ run ∷ []))) own ∙ old-picks other.num.0 t.runs run t.picks kept.picks)
 

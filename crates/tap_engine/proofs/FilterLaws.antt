@@ -1,12 +1,10 @@
 -- Filters, lists and explanations: why one is refused, and what the engine keeps after one.
-use Rattle.std.proofs.Common.{◌≡◌, ◌∙◌, sym, refl, ap, subst, arith, ℕ, suc, List, [], ◌∷◌, ◌++◌, ◌+◌, length, map, take, get_or, ◌<◌, ◌≤◌, Bool, Option, Some, None, true, false, inl, inr, if◌then◌else◌}
-use Rattle.std.specs.Prelude.{◌⊎◌, sum_by, find, reverse, Result, Ok, Err}
+use Rattle.std.proofs.Common.{◌≡◌, ◌∙◌, sym, refl, ap, subst, arith, ℕ, List, [], ◌∷◌, ◌++◌, ◌+◌, length, map, ◌≤◌, Option, Some, None, true, false, inl, inr, if◌then◌else◌}
+use Rattle.std.specs.Prelude.{◌⊎◌, sum_by, Result, Ok, Err}
 use Rattle.std.specs.Option.{option_or, option_map}
 use Rattle.std.proofs.lemmas.List.{map-append, append_assoc, append-nil}
 use Rattle.std.specs.List.{All}
 use Rattle.std.proofs.lemmas.List.Elements.{All-weaker}
-use Rattle.std.proofs.Math.Seq.{take-suc}
-use Rattle.std.proofs.lemmas.List.{reverse-append}
 use Rattle.std.proofs.lemmas.List.Sums.{sum_by-append}
 use Rattle.tap_base.specs.Words.{holds}
 use Rattle.tap_rows.specs.declared.tables.Tables.{Tables}
@@ -145,13 +143,6 @@ represents-filter e t row represents there = record {
 
   more : (a b c d d' n k : ℕ) → n ≡ a + b + c + d → d' ≡ d + (0 + k) → n + k ≡ a + b + c + d'
   more a b c d d' n k is e = omega (arith, is, e)
-
--- the last of some filters
-pub find_last : (p : FilterRow → Bool) (k : ℕ) (filters : List FilterRow) (d : FilterRow) → k < length filters → find p (reverse (take (k + 1) filters)) ≡ (if p (get_or filters k d) then Some (get_or filters k d) else find p (reverse (take k filters)))
-find_last p k filters d lt =
-    let one : k + 1 ≡ suc k = omega arith in
-    let next : take (k + 1) filters ≡ take k filters ++ get_or filters k d ∷ [] = ap (λ n. take n filters) one ∙ take-suc filters k d lt in
-    ap (λ l. find p (reverse l)) next ∙ ap (find p) (reverse-append (take k filters) (get_or filters k d ∷ []))
 
 text-rules : (source : List ℕ) → Each Named (rules_in_text source)
 unfolding rules_in_text

@@ -12,9 +12,6 @@ use Rattle.tap_kept.specs.Keeping.{with_owner}
 same-text : (x y : List ℕ) → bytes_eq x y ≡ true → x ≡ y
 same-text x y e = search (rules, bytes_eq-Decides)
 
-self-text : (x : List ℕ) → bytes_eq x x ≡ true
-self-text x = search (rules, bytes_eq-Decides)
-
 or-middle : (a b c : Bool) → (a || (b || c)) ≡ (b || (a || c))
 or-middle true true c = refl
 or-middle true false c = refl

@@ -230,7 +230,3 @@ pub some-moment : (moment : Option ℤ) (m : ℤ) → moment ≡ Some m → mome
 some-moment moment m is none = no-moment m (sym is ∙ none) where
   no-moment : (m : ℤ) → Some m ≡ None → ⊥
   no-moment m e = cc
-
--- the engine with other hits stays ready
-pub ready-hits : (e e' : Engine) (h : HitsWithRoom) → e' ≡ record e { hits = h } → e.hits.room ≤ h.room → IsUnchangedButHits e' e
-ready-hits e e' h is room = record { same = is ∙ ap (λ h. record e { hits = h }) (sym (ap (λ k. k.hits) is)); room = subst (λ k. e.hits.room ≤ k.hits.room) (sym is) room }

@@ -13,7 +13,6 @@ use Rattle.script_lang.specs.declared.refusal.Refusal.TheVariants.{Memory}
 use Rattle.tap_model.specs.declared.session.Session.{Session}
 use Rattle.tap_model.specs.Verdicts.{verdict}
 use Rattle.tap_model.specs.Replies.{answer_of, tables_after}
-use Rattle.tap_model.specs.Sound.{IsSound}
 use Rattle.tap_model.specs.Stories.{Refuses}
 use Rattle.tap_kept.specs.declared.cached_query.CachedQuery.{CachedQuery}
 use Rattle.tap_kept.specs.Keeping.{without_run}

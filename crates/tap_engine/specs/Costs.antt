@@ -1,5 +1,5 @@
 -- What a run of a query costs. A step is a row that the index hands out.
-use Rattle.std.specs.Prelude.{⊤, ℕ, ℤ, ◌≡◌, ◌≤◌, ◌+◌, List, Option, Some, None}
+use Rattle.std.specs.Prelude.{⊤, ℕ, ℤ, ◌≡◌, ◌≤◌, ◌+◌, Option, Some, None}
 use Rattle.tap_rows.specs.declared.tables.Tables.{Tables}
 use Rattle.tap_rows.specs.declared.rows.QueryRow.{QueryRow}
 use Rattle.tap_rows.specs.Results.{covered}

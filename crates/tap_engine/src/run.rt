@@ -1,13 +1,14 @@
 //! The command that runs a query.
 
-ghost use Rattle.std.specs.Prelude.{◌≡◌, true, ◌≤◌, ◌<◌, ◌+◌, ◌-◌, ◌^◌, length, map, max, Some, None, slice_index_or, slice_set, OnOk, OnErr, IfOk, IfErr, IfSome};
+ghost use Rattle.std.specs.Prelude.{◌≡◌, ◌≤◌, ◌<◌, ◌+◌, ◌-◌, ◌^◌};
+ghost use Rattle.std.specs.Prelude.{true, length, map, max, Some, None, slice_index_or, slice_set, OnOk, OnErr, IfOk, IfErr, IfSome};
 ghost use Rattle.tap_rows.specs.declared.change.Change.{Change as RowChange};
 ghost use Rattle.tap_rows.specs.Deliveries.{pick_rows};
 ghost use Rattle.tap_rows.specs.Results.{entry_at};
 ghost use Rattle.script_lang.specs.declared.command.Command.{Command};
 ghost use Rattle.script_lang.specs.Replies.{HasShortNames, is_accepted};
 ghost use Rattle.tap_kept.specs.declared.cached_query.CachedQuery.{CachedQuery};
-ghost use Rattle.tap_kept.specs.Keeping.{after_run, AreNew};
+ghost use Rattle.tap_kept.specs.Keeping.{after_run, AreNew, HoldsAt};
 
 use crate::engine::Engine;
 use crate::limits::refuse_more;
@@ -132,8 +133,8 @@ impl Engine {
     ) -> Result<Change, Memory>
         requires first { 0 < query.0 }
         requires place { query.0 ≤ length self.old.queries }
-        requires runs { (d : CachedQuery) → (slice_index_or self.old.queries (query.0 - 1) d).runs + 1 < 2 ^ 64 }
-        requires new { (d : CachedQuery) → AreNew (slice_index_or self.old.queries (query.0 - 1) d).entries hits.now }
+        requires runs { HoldsAt (query.0 - 1) (λ query. query.runs + 1 < 2 ^ 64) self.old.queries }
+        requires new { HoldsAt (query.0 - 1) (λ query. AreNew query.entries hits.now) self.old.queries }
         requires few { self.old.run_count < RUN_LIMIT }
         requires room { self.old.pick_count + length hits.now ≤ max self.old.pick_count PICK_LIMIT }
         ensures change { IfOk result (λ change. change ≡ RowChange.RunDone

@@ -1,5 +1,5 @@
 -- Runs and picks that join their queries one after another.
-use Rattle.std.proofs.Common.{◌≡◌, ◌∙◌, sym, ap, subst, refl, arith, ℕ, zero, suc, ◌+◌, ◌-◌, ◌≤◌, ◌<◌, ℤ, Bool, true, false, List, [], ◌∷◌, ◌++◌, length, map, take, append_assoc, inl, inr}
+use Rattle.std.proofs.Common.{◌≡◌, ◌∙◌, sym, ap, subst, refl, arith, ℕ, zero, suc, ◌+◌, ◌-◌, ◌≤◌, ◌<◌, Bool, true, false, List, [], ◌∷◌, ◌++◌, length, map, take, append_assoc, inl, inr}
 use Rattle.std.specs.Prelude.{◌==◌, slice_index_or, slice_set}
 use Rattle.std.specs.List.{list_any}
 use Rattle.std.proofs.Math.Seq.{take-suc}
@@ -20,7 +20,7 @@ use Rattle.tap_model.specs.Queries.{start_of}
 use Rattle.tap_kept.specs.declared.cached_query.CachedQuery.{CachedQuery}
 use Rattle.tap_kept.specs.Keeping.{cached_query, never_run, after_run}
 use Rattle.tap_kept.specs.Starting.{rows_in, runs_alone, ordinal_in, with_entry, IsOneOf, picks_same}
-use Rattle.tap_kept.proofs.PlaceLaws.{placed, placed-set, runs-few}
+use Rattle.tap_kept.proofs.PlaceLaws.{placed, placed-set, runs-few, same-cached}
 use Rattle.tap_kept.proofs.NewLaws.{picked-in}
 
 same-yes : (a b : ℕ) → a ≡ b → (a == b) ≡ true
@@ -80,19 +80,13 @@ few-before rows before num i queries d from one is len =
     let same = runs-before rows before num queries d from one is in
     omega (arith, few, same, len)
 
-abbrev kept-of : QueryRow → ℤ → ℕ → List Entry → CachedQuery
-kept-of row covered runs entries = record { row = row; covered = covered; runs = runs; entries = entries }
-
-kept-as : (row : QueryRow) (a a' : ℤ) (b b' : ℕ) (c c' : List Entry) → a ≡ a' → b ≡ b' → c ≡ c' → kept-of row a b c ≡ kept-of row a' b' c'
-kept-as row a a' b b' c c' e f g = ap (λ x. kept-of row x b c) e ∙ ap (λ x. kept-of row a' x c) f ∙ ap (λ x. kept-of row a' b' x) g
-
 abbrev entry-of : Pick → ℕ → Entry
 entry-of pick run = record { doc = pick.doc; first = pick.first; run = run }
 
 own-run : (before : List RunRow) (run : RunRow) (q : QueryRow) → run.query.0 ≡ q.num.0 → cached_query (runs_alone (before ++ run ∷ []) []) q ≡ after_run run.moment [] (cached_query (runs_alone before []) q)
 own-run before run q of =
     let moments = moments-new q.num.0 before run of in
-    kept-as q (last_or (start_of q) (run_moments q.num.0 (before ++ run ∷ []))) run.moment (length (run_moments q.num.0 (before ++ run ∷ []))) (length (run_moments q.num.0 before) + 1) [] []
+    same-cached q (last_or (start_of q) (run_moments q.num.0 (before ++ run ∷ []))) run.moment (length (run_moments q.num.0 (before ++ run ∷ []))) (length (run_moments q.num.0 before) + 1) [] []
     (ap (last_or (start_of q)) moments ∙ last-more (start_of q) run.moment (run_moments q.num.0 before))
     (ap length moments ∙ length-append (run_moments q.num.0 before) (run.moment ∷ []))
     refl
@@ -100,7 +94,7 @@ own-run before run q of =
 other-run : (before : List RunRow) (run : RunRow) (other : QueryRow) → (run.query.0 ≡ other.num.0 → ⊥) → cached_query (runs_alone (before ++ run ∷ []) []) other ≡ cached_query (runs_alone before []) other
 other-run before run other differs =
     let moments = moments-other other.num.0 before run differs in
-    kept-as other (last_or (start_of other) (run_moments other.num.0 (before ++ run ∷ []))) (last_or (start_of other) (run_moments other.num.0 before)) (length (run_moments other.num.0 (before ++ run ∷ []))) (length (run_moments other.num.0 before)) [] [] (ap (last_or (start_of other)) moments) (ap length moments) refl
+    same-cached other (last_or (start_of other) (run_moments other.num.0 (before ++ run ∷ []))) (last_or (start_of other) (run_moments other.num.0 before)) (length (run_moments other.num.0 (before ++ run ∷ []))) (length (run_moments other.num.0 before)) [] [] (ap (last_or (start_of other)) moments) (ap length moments) refl
 
 -- a run joins its query
 pub run-joins : (rows : List QueryRow) (before : List RunRow) (run : RunRow) (queries new : List CachedQuery) → QueriesFrom 1 rows → IsOneOf run.query.0 (length rows) → queries ≡ map (cached_query (runs_alone before [])) rows
@@ -124,14 +118,14 @@ own-pick : (runs : List RunRow) (before : List Pick) (pick : Pick) (q : QueryRow
 own-pick runs before pick q run of is =
     let yes' = same-yes pick.query.0 q.num.0 of in
     let one : picks_of q.num.0 (pick ∷ []) ≡ pick ∷ [] = rw yes' refl in
-    kept-as q (last_or (start_of q) (run_moments q.num.0 runs)) (last_or (start_of q) (run_moments q.num.0 runs)) (length (run_moments q.num.0 runs)) (length (run_moments q.num.0 runs)) (map (picked runs) (picks_of q.num.0 (before ++ pick ∷ []))) (map (picked runs) (picks_of q.num.0 before) ++ entry-of pick run ∷ []) refl refl
+    same-cached q (last_or (start_of q) (run_moments q.num.0 runs)) (last_or (start_of q) (run_moments q.num.0 runs)) (length (run_moments q.num.0 runs)) (length (run_moments q.num.0 runs)) (map (picked runs) (picks_of q.num.0 (before ++ pick ∷ []))) (map (picked runs) (picks_of q.num.0 before) ++ entry-of pick run ∷ []) refl refl
     (ap (map (picked runs)) (filter-append (λ pick. pick.query.0 == q.num.0) before (pick ∷ []) ∙ ap (λ more. picks_of q.num.0 before ++ more) one)
     ∙ map-append (picked runs) (picks_of q.num.0 before) (pick ∷ [])
     ∙ ap (λ n. map (picked runs) (picks_of q.num.0 before) ++ entry-of pick n ∷ []) (sym is))
 
 other-pick : (runs : List RunRow) (before : List Pick) (pick : Pick) (other : QueryRow) → (pick.query.0 ≡ other.num.0 → ⊥) → cached_query (runs_alone runs (before ++ pick ∷ [])) other ≡ cached_query (runs_alone runs before) other
 other-pick runs before pick other differs =
-    kept-as other (last_or (start_of other) (run_moments other.num.0 runs)) (last_or (start_of other) (run_moments other.num.0 runs)) (length (run_moments other.num.0 runs)) (length (run_moments other.num.0 runs)) (map (picked runs) (picks_of other.num.0 (before ++ pick ∷ []))) (map (picked runs) (picks_of other.num.0 before)) refl refl (ap (map (picked runs)) (filter-none (λ pick. pick.query.0 == other.num.0) before (pick ∷ []) (same-not pick.query.0 other.num.0 differs, tt)))
+    same-cached other (last_or (start_of other) (run_moments other.num.0 runs)) (last_or (start_of other) (run_moments other.num.0 runs)) (length (run_moments other.num.0 runs)) (length (run_moments other.num.0 runs)) (map (picked runs) (picks_of other.num.0 (before ++ pick ∷ []))) (map (picked runs) (picks_of other.num.0 before)) refl refl (ap (map (picked runs)) (filter-none (λ pick. pick.query.0 == other.num.0) before (pick ∷ []) (same-not pick.query.0 other.num.0 differs, tt)))
 
 -- the ordinal that was noted for a run
 has-bounds : (k num query : ℕ) (runs : List RunRow) → RunsFrom k runs → HasRun num query runs → (k ≤ num) × (num < k + length runs)

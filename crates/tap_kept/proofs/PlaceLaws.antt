@@ -3,6 +3,7 @@ use Rattle.std.proofs.Common.{◌≡◌, ◌∙◌, sym, refl, ap, arith, ℕ, z
 use Rattle.std.specs.Prelude.{◌==◌, slice_index_or, slice_set}
 use Rattle.tap_rows.specs.declared.rows.QueryRow.{QueryRow}
 use Rattle.tap_rows.specs.declared.rows.RunRow.{RunRow}
+use Rattle.tap_rows.specs.declared.results.Entry.{Entry}
 use Rattle.tap_rows.specs.Results.{runs_of, run_moments}
 use Rattle.tap_rows.specs.Kept.{In, QueriesFrom}
 use Rattle.tap_rows.proofs.PlaceLaws.{query-bounds}
@@ -42,3 +43,12 @@ pub without-set : (i runs entries : ℕ) (covered : ℤ) (queries : List CachedQ
 without-set i runs entries covered [] d lt = absurd (omega (arith, lt))
 without-set zero runs entries covered (kept ∷ queries) d lt = refl
 without-set (suc i) runs entries covered (kept ∷ queries) d lt = ap (λ l. kept ∷ l) (without-set i runs entries covered queries d (omega (arith, lt)))
+
+-- a query in memory, of its parts
+abbrev pub cached : QueryRow → ℤ → ℕ → List Entry → CachedQuery
+cached row covered runs entries = record { row = row; covered = covered; runs = runs; entries = entries }
+
+-- two queries in memory are the same if their parts are
+pub same-cached : (row : QueryRow) (a a' : ℤ) (b b' : ℕ) (c c' : List Entry) → a ≡ a' → b ≡ b' → c ≡ c'
+    → cached row a b c ≡ cached row a' b' c'
+same-cached row a a' b b' c c' e f g = ap (λ x. cached row x b c) e ∙ ap (λ x. cached row a' x c) f ∙ ap (λ x. cached row a' b' x) g

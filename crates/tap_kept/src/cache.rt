@@ -1,4 +1,6 @@
-ghost use Rattle.std.specs.Prelude.{◌≡◌, ◌⊎◌, ◌++◌, ◌≤◌, [], map, length, false, true, None, Some, Ok, OnOk, IfOk, IfErr};
+//! What an engine has in memory of stored queries, filters and their owners.
+
+ghost use Rattle.std.specs.Prelude.{◌≡◌, ◌⊎◌, ◌++◌, [], map, length, false, true, None, Some, Ok, OnOk, IfOk, IfErr};
 ghost use Rattle.std.specs.Option.{option_map};
 ghost use Rattle.tap_base.specs.Words.{with_new};
 ghost use Rattle.tap_rows.specs.Kept.{Each, HasRun, RunsFrom, QueriesFrom};
@@ -21,7 +23,7 @@ use tap_base::{Memory, Rows, Texts, WordSet};
 use tap_rows::{FilterRow, Pick, QueryRow, RunRow};
 use tql_core::Cond;
 
-// A query that was never run, with the condition that its text says.
+// Caches a query that was never run: makes the plan of its condition.
 fn cache_query(alloc: Global, row: QueryRow, cond: Cond) -> Result<CachedQuery, Memory>
     requires cond { reading_of row ≡ Ok (condition cond) }
     requires arrival { IsMoment row.arrival }
@@ -31,7 +33,7 @@ fn cache_query(alloc: Global, row: QueryRow, cond: Cond) -> Result<CachedQuery, 
     Ok(CachedQuery::new(alloc, row))
 }
 
-// The queries, which were never run, with these conditions.
+// Caches queries that were never run, each with its condition.
 fn cache_queries(
     alloc: Global,
     rows: Rows<QueryRow>,
@@ -48,7 +50,7 @@ fn cache_queries(
     Ok(queries)
 }
 
-/// The queries with these conditions, and with what these runs and picks say of each.
+/// Caches queries with their conditions, their runs and what they have delivered.
 pub fn cache_delivered(
     alloc: Global,
     rows: Rows<QueryRow>,
@@ -70,7 +72,7 @@ pub fn cache_delivered(
     Ok(queries)
 }
 
-// The filter with the rules of its text.
+// Caches a filter with the rules of its text, or reports its number if the text has a fault.
 #[tactic(auto, unfolding(tap_model::specs::Verdicts::filter_fault, tap_model::specs::Filters::rules_in_text))]
 fn cache_filter(alloc: Global, row: FilterRow) -> Result<CachedFilter, StartFault>
     ensures read { OnOk result (is_unread row ≡ false) }
@@ -84,7 +86,7 @@ fn cache_filter(alloc: Global, row: FilterRow) -> Result<CachedFilter, StartFaul
     }
 }
 
-/// The filters with the rules of their texts.
+/// Caches filters with the rules of their texts, or reports the number of the first whose text has a fault.
 pub fn cache_filters(
     alloc: Global,
     filters: Rows<FilterRow>,
@@ -120,7 +122,7 @@ fn push_filter_owners(owners: &mut Texts, filters: &[FilterRow]) -> Result<(), M
     Ok(())
 }
 
-/// The different owners of these queries and filters.
+/// Lists the different owners of queries and filters, each once.
 pub fn owners_of(
     alloc: Global,
     queries: &[QueryRow],

@@ -1,3 +1,5 @@
+//! A filter in memory.
+
 ghost use Rattle.std.specs.Prelude.{◌≡◌};
 ghost use Rattle.tap_rows.specs.declared.rows.FilterRow.{FilterRow};
 ghost use Rattle.appraiser.specs.Rules.{rules_in};
@@ -7,7 +9,7 @@ use appraiser::Rules;
 use std::marker::Model;
 use tap_rows::FilterRow;
 
-/// The row of a filter with the rules of its text. It is seen as the row.
+/// A filter in memory: its row, and the rules that its text says. Contracts see it as its row.
 #[derive(Drop)]
 pub struct CachedFilter {
     row: FilterRow,
@@ -31,14 +33,14 @@ impl CachedFilter {
         CachedFilter { row, rules }
     }
 
-    /// The row.
+    /// Gives the row.
     pub fn row(&self) -> &FilterRow
         ensures { result.now ≡ self.now }
     {
         &self.row
     }
 
-    /// The rules.
+    /// Gives the rules.
     pub fn rules(&self) -> &Rules
         ensures { rules_in result.now ≡ rules_in_text self.now.source }
     {

@@ -1,3 +1,5 @@
+//! A standing query in memory.
+
 ghost use Rattle.std.specs.Prelude.{◌≡◌, ◌<◌, ◌≤◌, ◌+◌, ◌^◌, false, length, map, OnOk, OnErr};
 ghost use Rattle.little_box.specs.Boxes.{is_in};
 ghost use Rattle.tap_rows.specs.Results.{entry_at};
@@ -14,8 +16,8 @@ use tap_base::{Memory, Steps};
 use tap_rows::{Entry, Hit};
 use time_marks::Window;
 
-/// What is kept of a query: its row, the second that it has covered up to, how many runs it had, and what it has
-/// delivered.
+/// A standing query in memory: its row with its plan, the second that its runs have covered up to, how many runs it had, and
+/// what they delivered.
 #[derive(Drop)]
 pub struct CachedQuery {
     pub row: PlannedQuery,
@@ -25,12 +27,11 @@ pub struct CachedQuery {
 }
 
 impl CachedQuery {
-    ghost use Rattle.tap_model.specs.Queries.{start_of};
     ghost use Rattle.tap_kept.specs.Keeping.{never_run, after_run, before_run, hits_since, AreNew};
     ghost use Rattle.tap_kept.specs.Starting.{with_entry};
     ghost use Rattle.tap_kept.specs.Costs.{HasNoMark, AreAlone, rows_due, window_since};
 
-    /// A query that was never run.
+    /// Makes a query that was never run: it has covered the seconds up to its start.
     pub fn new(alloc: Global, row: PlannedQuery) -> CachedQuery
         ensures { result ≡ never_run row }
     {
@@ -44,7 +45,7 @@ impl CachedQuery {
     }
 
     /// Puts what a run at this moment delivers into `hits`: what the window query finds since the last run, without what was
-    /// delivered. A step is a row that it looks at.
+    /// delivered. A step is a row that it looks at. It takes no memory.
     pub fn find<L: Ledger>(
         &self,
         index: &RowIndex,
@@ -61,6 +62,7 @@ impl CachedQuery {
         ensures quiet { HasNoMark index.now (window_since self.now moment) self.now.row → steps.new ≡ steps.old }
         ensures due { AreAlone self.now.row → steps.new ≤ steps.old + rows_due index.now (window_since self.now moment) self.now.row }
     {
+        // This call only brings the order of the documents into scope, for the clause `new`.
         let _docs = index.docs();
         let window = Window {
             low: self.covered,
@@ -82,7 +84,7 @@ impl CachedQuery {
         Ok(())
     }
 
-    // Takes the last run back. It takes no memory.
+    // Undoes the last run. It takes no memory.
     pub(crate) fn take_back(&mut self, covered: i64, runs: usize, entries: u32)
         ensures { self.new ≡ before_run covered runs entries self.old }
     {
@@ -93,7 +95,7 @@ impl CachedQuery {
         }
     }
 
-    // Adds an entry, of a document that it hasn't delivered, to what it has delivered.
+    // Adds an entry, of a document that isn't in the box, to the box.
     pub(crate) fn add_entry(&mut self, entry: Entry) -> Result<(), Memory>
         requires { is_in entry.doc.0 self.old.entries ≡ false }
         ensures kept { OnOk result (self.new ≡ with_entry entry self.old) }

@@ -1,3 +1,5 @@
+//! The row of a query with the plan of its window query.
+
 ghost use Rattle.std.specs.Prelude.{◌≡◌, true, IfOk};
 ghost use Rattle.tql_core.specs.Bounds.{are_bounded};
 ghost use Rattle.tql_core.specs.Condition.{condition};
@@ -20,7 +22,7 @@ use tap_base::Memory;
 use tap_rows::QueryRow;
 use tql_core::Cond;
 
-/// The row of a query with its start and the plan of its window query. It is seen as the row.
+/// The row of a query, with its start and the plan of its window query. Contracts see it as its row.
 #[derive(Drop)]
 pub struct PlannedQuery {
     row: QueryRow,
@@ -33,10 +35,11 @@ impl Model for PlannedQuery {
 
     ghost view = { λ kept. kept.row };
 
-    ghost invariant = { λ kept. (kept.start ≡ start_of kept.row) × ((ranged_probes kept.plan.query ≡ probes_in kept.row) × HasValidProbes kept.plan.query) };
+    ghost invariant = { λ kept. (kept.start ≡ start_of kept.row)
+        × ((ranged_probes kept.plan.query ≡ probes_in kept.row) × HasValidProbes kept.plan.query) };
 }
 
-// The first second that a query covers.
+// Gives the first second that a query covers: its arrival if its text is `FROM NOW`, otherwise 0.
 #[tactic(auto, unfolding(tap_model::specs::Queries::start_of))]
 fn start_of(row: &QueryRow) -> i64
     ensures { result ≡ start_of row.now }
@@ -48,7 +51,7 @@ fn start_of(row: &QueryRow) -> i64
     }
 }
 
-// The plan of the window query of a condition from a start on, without repeats, its marks solved.
+// Plans the window query of a condition from a start on. The window query has no probe twice, and its marks are solved.
 fn make_plan(alloc: Global, cond: &Cond, start: i64) -> Result<Plan, Memory>
     requires scoped { IsQuery (condition cond.now) }
     requires bounded { are_bounded (condition cond.now) ≡ true }
@@ -63,7 +66,7 @@ fn make_plan(alloc: Global, cond: &Cond, start: i64) -> Result<Plan, Memory>
 }
 
 impl PlannedQuery {
-    /// Joins a row and the plan of its condition's window query from its start on.
+    /// Joins a row and the plan of its window query, which is made here once for all runs of the query.
     pub fn new(alloc: Global, row: QueryRow, cond: &Cond) -> Result<PlannedQuery, Memory>
         requires cond { condition cond.now ≡ condition_by row }
         requires scoped { IsQuery (condition cond.now) }
@@ -76,14 +79,14 @@ impl PlannedQuery {
         Ok(PlannedQuery { row, start, plan })
     }
 
-    /// The row.
+    /// Gives the row.
     pub fn row(&self) -> &QueryRow
         ensures { result.now ≡ self.now }
     {
         &self.row
     }
 
-    /// The plan of its window query.
+    /// Gives the plan of its window query.
     pub fn plan(&self) -> &Plan
         ensures query { ranged_probes result.now.query ≡ probes_in self.now }
         ensures probes { HasValidProbes result.now.query }
@@ -91,7 +94,7 @@ impl PlannedQuery {
         &self.plan
     }
 
-    // The first second that the query covers.
+    // Gives the first second that the query covers.
     pub(crate) fn start(&self) -> i64
         ensures { result ≡ start_of self.now }
     {

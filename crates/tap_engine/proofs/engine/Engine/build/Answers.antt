@@ -8,7 +8,6 @@ use Rattle.tap_kept.specs.Keeping.{cached_query}
 use Rattle.tap_engine.specs.Standing.{Represents}
 use Rattle.tap_kept.specs.Starting.{runs_alone, IsOneOf, PicksAreDistinct}
 use Rattle.tap_engine.proofs.FormedLaws.{Formed, formed}
-use Rattle.tap_engine.proofs.SumLaws.{bytes-of, greatest-in}
 use Rattle.tap_engine.proofs.StartedLaws.{IsStarted, represents-start, ready-start}
 use Rattle.tap_engine.proofs.engine.Engine.build.Goals as goal
 
@@ -77,9 +76,9 @@ returns c =
       filters = search rules;
       run_count = search rules;
       pick_count = search rules;
-      bytes = ap (λ sums. sums.bytes) c.in_ok-sums.ensures ∙ bytes-of t;
+      bytes = c.in_ok-sums.ensures.bytes;
       owners = c.in_ok-owners.ensures ∙ ap (λ queries. with_new [] (map (λ query. query.owner) queries ++ map (λ filter. filter.owner) c.as_slice-2.result.now)) c.as_slice.ensures ∙ ap (λ filters. with_new [] (map (λ query. query.owner) t.queries ++ map (λ filter. filter.owner) filters)) c.as_slice-2.ensures;
-      greatest = ap (λ sums. sums.greatest) c.in_ok-sums.ensures ∙ greatest-in t;
+      greatest = c.in_ok-sums.ensures.greatest;
     } in
     record {
       represents = subst (λ tables. Represents e tables) c.into_parts-tables.ensures.tables (represents-start e t is);
