@@ -52,7 +52,7 @@ named-find : (t : Tables) (owner name : List ℕ) (qs : List QueryRow) → find 
 named-find t owner name [] = refl
 named-find t owner name (q ∷ qs) = elim (cases_Bool (is_query_of owner name q)) [ inl y ↦ rw y refl | inr n ↦ rw n (named-find t owner name qs) ]
 
--- what is kept of a user's query of a name is of the row of that name
+-- a user's query of a name in memory has the row of that name
 pub named-kept : (t : Tables) (owner name : List ℕ) (qs : List QueryRow) → named_in owner name (map (cached_query t) qs) ≡ option_map (cached_query t) (find (is_query_of owner name) qs)
 unfolding named_in
 named-kept t owner name qs = named-find t owner name qs
@@ -84,11 +84,11 @@ define-verdict e t name source represents =
     limits-last (no_moment e.session) (no_user e.session) (bad_name name) (refuse_unless (is_none (named_in (user_of e.session) name e.queries)) Taken) (text_fault (condition_text source)) (query_limits e (user_of e.session) (length (stored_source source)))
     ∙ rw (represents.queries, named-kept t (user_of e.session) name t.queries, none-map t (find (is_query_of (user_of e.session) name) t.queries), owned-kept t (user_of e.session) t.queries, length-map t.queries (cached_query t), represents.users, represents.owners (user_of e.session), represents.bytes) refl
 
--- a command that is refused by its verdict, or for want of memory
+-- a command that is refused by its verdict, or is out of memory
 pub define-refuses : (e : Engine) (name source : List ℕ) (refusal : Refusal) → RefusedBy (define_refusal e name source) refusal → (t : Tables) → Represents e t → Refuses refusal (Define name source) e.session t
 define-refuses e name source refusal by t represents = subst (λ v. RefusedBy v refusal) (define-verdict e t name source represents) by
 
--- what is kept of the user's query of this name
+-- the user's query of this name in memory
 pub named-is : (e : Engine) (t : Tables) (name : List ℕ) → Represents e t → cached_named e name ≡ option_map (cached_query t) (query_named (user_of e.session) name t)
 named-is e t name represents = rw represents.queries (named-kept t (user_of e.session) name t.queries)
 
@@ -133,7 +133,7 @@ each-in P [] x each has = absurd has
 each-in P (y ∷ ys) x each (inl e) = subst P (sym e) each.0
 each-in P (y ∷ ys) x each (inr has) = each-in P ys x each.1 has
 
--- what a run of a query delivers, by what is kept
+-- what a run of a query delivers, by what is in memory
 pub hits-of-query : (e : Engine) (t : Tables) (q : QueryRow) → Represents e t → IsSound t e.session → In q t.queries → (e.session.moment ≡ None → ⊥) → cached_hits e (Some (cached_query t q)) ≡ hits_of q t (moment_or_zero e.session)
 hits-of-query e t q represents sound has there =
     ap (λ rows. hits_since (cached_query t q) rows (moment_or_zero e.session)) represents.rows ∙ run-of-sound t e.session q (moment_or_zero e.session) sound has (go e.session.moment refl sound.now) where
@@ -236,7 +236,7 @@ limits-late engine user len =
     (late-first _ _ (limit_refusal-late Users USER_LIMIT (length engine.owners) (if holds engine.owners user then 0 else 1))
     (late-first _ [] (limit_refusal-late Store STORE_LIMIT engine.bytes len) refl)))
 
--- a query is refused for its text, or for want of memory to read it, once it isn't for want of a moment, of a user or of a name
+-- a query is refused for its text, or is out of memory, once it isn't refused for its moment, its user or its name
 pub text-refused : (e : Engine) (name source : List ℕ) (refusal : Refusal) → no_moment e.session ≡ None → no_user e.session ≡ None → None ≡ name_refusal e (user_of e.session) name
     → (text_fault (condition_text source) ≡ Some refusal) ⊎ (refusal ≡ Memory) → RefusedBy (define_refusal e name source) refusal
 text-refused e name source refusal moment user named by =

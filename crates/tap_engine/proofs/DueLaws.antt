@@ -1,4 +1,4 @@
--- What a run delivers, and what the engine keeps after it.
+-- What a run delivers, and what the engine represents after it.
 use Rattle.std.proofs.Common.{◌≡◌, ◌∙◌, sym, refl, ap, subst, arith, ℕ, suc, ◌+◌, ◌-◌, ℤ, List, [], ◌∷◌, ◌++◌, length, map, Option, Some, None}
 use Rattle.std.specs.Prelude.{◌==◌, slice_index_or, slice_set}
 use Rattle.std.specs.Option.{option_map}
@@ -98,7 +98,7 @@ other-after t q other m kept differs =
     (map (picked (t.runs ++ run ∷ [])) (picks_of other.num.0 (t.picks ++ picks))) (delivered other.num.0 t)
     (ap (last_or (start_of other)) moments) (ap length moments) (ap (map (picked (t.runs ++ run ∷ []))) own ∙ old-picks other.num.0 t.runs run t.picks kept.picks)
 
--- what is kept there
+-- the query in memory there
 pub due-kept : (e : Engine) (t : Tables) (due : Due) (q : QueryRow) (x : CachedQuery) → Represents e t → IsKept truth_of start_of t → In q t.queries → due.query.0 ≡ q.num.0 → slice_index_or e.queries (due.query.0 - 1) x ≡ cached_query t q
 due-kept e t due q x represents kept has is =
     let bounds = query-bounds 1 t.queries q kept.queries has in
@@ -109,7 +109,7 @@ rows-many : (num : ℕ) (query : QueryNum) (run : ℕ) (hits : List Hit) → len
 rows-many num query run [] = refl
 rows-many num query run (hit ∷ hits) = ap suc (rows-many (num + 1) query run hits)
 
--- a run more
+-- the engine with one more run
 represents-placed : (e : Engine) (t : Tables) (h : HitsWithRoom) (q : QueryRow) (i : ℕ) (m : ℤ) (kept : CachedQuery) → Represents e t → IsKept truth_of start_of t → In q t.queries → q.num.0 ≡ 1 + i → (e.session.moment ≡ None → ⊥) → kept ≡ cached_query t q
     → Represents (record e { hits = h; queries = slice_set e.queries i (after_run m (map (entry_at (length (run_moments q.num.0 t.runs) + 1)) (hits_of q t m)) kept); run_count = e.run_count + 1; pick_count = e.pick_count + length (hits_of q t m) }) (after t (run_change (truth_of q) (start_of q) t q.num m))
 represents-placed e t h q i m kept represents is-kept has at there is = record {
@@ -125,7 +125,7 @@ represents-placed e t h q i m kept represents is-kept has at there is = record {
   greatest = λ none. absurd (there none);
 }
 
--- the rows of a run, where so many runs and picks were made before
+-- the rows of a run after so many runs and picks
 abbrev pub run_rows : ℕ → ℕ → Due → Change
 run_rows runs picks due = RunDone (record { num = runs + 1; query = due.query; moment = due.moment }) (pick_rows (picks + 1) due.query (runs + 1) due.hits)
 

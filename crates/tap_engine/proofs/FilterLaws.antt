@@ -1,4 +1,4 @@
--- Filters, lists and explanations: why one is refused, and what the engine keeps after one.
+-- Filters, lists and explanations: why one is refused, and what the engine represents after one.
 use Rattle.std.proofs.Common.{◌≡◌, ◌∙◌, sym, refl, ap, subst, arith, ℕ, List, [], ◌∷◌, ◌++◌, ◌+◌, length, map, ◌≤◌, Option, Some, None, true, false, inl, inr, if◌then◌else◌}
 use Rattle.std.specs.Prelude.{◌⊎◌, sum_by, Result, Ok, Err}
 use Rattle.std.specs.Option.{option_or, option_map}
@@ -88,7 +88,7 @@ fault-late source = go (rules_of source) where
   go (Err R.ManyRules) = refl
   go (Err R.Memory) = refl
 
--- a filter is refused for its text, or for want of memory to read it, once it isn't refused before
+-- a filter is refused for its text, or is out of memory, once it isn't refused before
 pub text-refused : (e : Engine) (block : Block) (refusal : Refusal) → no_moment e.session ≡ None → no_user e.session ≡ None → long_filter block ≡ None → first_refusal (filter_limits e (user_of e.session) (length (text_of block))) ≡ None
     → (filter_fault (text_of block) ≡ Some refusal) ⊎ (refusal ≡ Memory) → RefusedBy (filter_refusal e block) refusal
 text-refused e block refusal moment user long limits by =
@@ -118,7 +118,7 @@ answers-filter t s block n count row change s' none at is-row is-count is-change
       session_is = is-s ∙ accepted.session_is;
     }
 
--- a filter more
+-- the engine with one more filter
 pub represents-filter : (e : Engine) (t : Tables) (row : FilterRow) → Represents e t → (e.session.moment ≡ None → ⊥)
     → Represents (record e { filters = e.filters ++ row ∷ []; owners = with_owner e.owners row.owner; bytes = e.bytes + length row.source }) (after t (OneFilter row))
 represents-filter e t row represents there = record {

@@ -1,4 +1,4 @@
--- Mailbox files: why one is refused, and what the engine keeps after one.
+-- Mailbox files: why one is refused, and what the engine represents after one.
 use Rattle.std.proofs.Common.{◌≡◌, ◌∙◌, sym, refl, ap, subst, arith, ℕ, ℤ, List, [], ◌∷◌, ◌+◌, ◌*◌, ◌≤◌, suc, length, Bool, true, false, Option, Some, None, inr}
 use Rattle.std.specs.Prelude.{◌&&◌, ◌==◌, nat_le, sum_by}
 use Rattle.std.specs.Option.{option_or}
@@ -58,7 +58,7 @@ block-late : (block : Block) → is_early (long_block block) ≡ false
 block-late Long = refl
 block-late (Whole text) = refl
 
--- once there is a moment, there may be no memory for it
+-- once there is a moment, it may be out of memory
 pub mbox-memory : (e : Engine) (block : Block) → no_moment e.session ≡ None → RefusedBy (mbox_refusal e block) Memory
 unfolding mbox_bounds
 mbox-memory e block moment = inr (refl, ap (λ x. is_early (option_or x (mbox_bounds e block (messages_of block)))) moment ∙ late) where
@@ -111,7 +111,7 @@ answers-mbox t s block texts count first n moment change s' none is at is-count 
       session_is = is-s ∙ accepted.session_is;
     }
 
--- documents more
+-- the engine with more documents
 pub represents-docs : (e : Engine) (t : Tables) (h : HitsWithRoom) (moment : ℤ) (texts : List (List ℕ)) → Represents e t → (e.session.moment ≡ None → ⊥)
     → Represents (record e { index = after e.index (Docs (next_docs t moment texts)); hits = h; bytes = e.bytes + bytes_of texts }) (tables_after (some_docs (next_docs t moment texts)) t)
 represents-docs e t h moment texts represents there = rw (docs-change t (next_docs t moment texts)) (record {
@@ -129,7 +129,7 @@ represents-docs e t h moment texts represents there = rw (docs-change t (next_do
   more : (a b c d a' n k : ℕ) → n ≡ a + b + c + d → a' ≡ a + k → n + k ≡ a' + b + c + d
   more a b c d a' n k is e = omega (arith, is, e)
 
--- the same, by how many documents are kept
+-- the engine with more documents, by how many there are
 pub represents-more : (e : Engine) (t : Tables) (h : HitsWithRoom) (moment : ℤ) (texts : List (List ℕ)) → Represents e t → (e.session.moment ≡ None → ⊥)
     → Represents (record e { index = after e.index (Docs (docs_from (length e.index.docs + 1) moment texts)); hits = h; bytes = e.bytes + bytes_of texts }) (tables_after (some_docs (docs_from (length e.index.docs + 1) moment texts)) t)
 represents-more e t h moment texts represents there =

@@ -31,7 +31,7 @@ use Rattle.tap_engine.specs.Ready.{CachedFrom, RowsBy, IsTime, IsReady}
 use Rattle.tap_engine.specs.Standing.{cached_named, cached_hits, due_of}
 use Rattle.tap_engine.specs.Answering.{IsUnchangedButHits, UndoRestores, undo_run}
 
--- what is kept of a query that stands at the place of its number
+-- a query in memory at the place of its number
 pub record KeptAt (num runs : ℕ) (queries : List CachedQuery) (kept : CachedQuery) : Type 0 where
   pub low : num ≤ kept.row.num.0
   pub high : kept.row.num.0 < num + length queries
@@ -45,7 +45,7 @@ some-kept x y e = cc
 no-kept : (x : CachedQuery) → None ≡ Some x → ⊥
 no-kept x e = cc
 
--- what is found stands at the place of its number
+-- what is found is at the place of its number
 found-at : (p : CachedQuery → Bool) (num runs : ℕ) (queries : List CachedQuery) (kept : CachedQuery) → CachedFrom num runs queries → find p queries ≡ Some kept → KeptAt num runs queries kept
 found-at p num runs [] kept from e = absurd (no-kept kept e)
 found-at p num runs (x ∷ queries) kept from e = go (p x) refl (found-at p (suc num) runs queries kept from.3) where
@@ -77,7 +77,7 @@ pub named-at : (owner name : List ℕ) (num runs : ℕ) (queries : List CachedQu
 unfolding named_in
 named-at owner name num runs queries kept from e = found-at (λ kept. is_query_of owner name kept.row) num runs queries kept from e
 
--- what is due is due to a query that is kept at the place of its number
+-- what is due is due to a query at the place of its number
 pub record DueAt (e : Engine) (name : List ℕ) (due : Due) : Type 0 where
   pub kept : CachedQuery
   pub named : cached_named e name ≡ Some kept
@@ -117,7 +117,7 @@ kept-run num runs i [] m entries d from moment = tt
 kept-run num runs zero (kept ∷ queries) m entries d from moment = (from.0, omega (arith, from.1), moment, more-runs (suc num) runs (runs + 1) queries (omega arith) from.3)
 kept-run num runs (suc i) (kept ∷ queries) m entries d from moment = (from.0, omega (arith, from.1), from.2, kept-run (suc num) runs i queries m entries d from.3 moment)
 
--- a run that is taken back
+-- a run that is undone
 same-query : (kept : CachedQuery) (m : ℤ) (entries : List Entry) → before_run kept.covered kept.runs (length kept.entries) (after_run m entries kept) ≡ kept
 same-query kept m entries = ap (λ l. record { row = kept.row; covered = kept.covered; runs = kept.runs; entries = l }) (take-append_seam kept.entries entries)
 
@@ -140,7 +140,7 @@ undo-run e e' h i m entries runs picks d lt room is = subst (λ e'. UndoRestores
   before_is = record { same = ap (λ l. record e { hits = h; queries = l }) (run-back i e.queries m entries d); room = room };
 })
 
--- documents more, that arrive at the session's moment
+-- the engine with more documents, which arrive at the session's moment
 each-from : (num : ℕ) (moment : ℤ) (texts : List (List ℕ)) → Each (λ doc. doc.arrival ≤ℤ moment) (docs_from num moment texts)
 each-from num moment [] = tt
 each-from num moment (text ∷ texts) = (omega (arith, ints), each-from (num + 1) moment texts)
@@ -173,7 +173,7 @@ ready-docs e h texts bytes ready there room = record {
   room = room;
 }
 
--- a note more, that arrives then
+-- the engine with one more note, which arrives then
 pub ready-note : (e : Engine) (note : Note) (bytes : ℕ) → IsReady e → note.arrival ≡ moment_or_zero e.session → (e.session.moment ≡ None → ⊥) → IsReady (record e { index = after e.index (OneNote note); bytes = bytes })
 ready-note e note bytes ready at there = record {
   docs = ready.docs;
@@ -218,11 +218,11 @@ moment_or_zero-moment e ready there = go e.session.moment refl where
   go None none = absurd (there none)
   go (Some m) is = subst IsMoment (sym (ap or_zero is)) (subst IsTime is ready.moment)
 
--- the same, as the index takes it
+-- the present moment, as the index takes it
 pub index-moment : (e : Engine) → IsReady e → (e.session.moment ≡ None → ⊥) → Index.IsMoment (moment_or_zero e.session)
 index-moment e ready there = let moment = moment_or_zero-moment e ready there in record { early = moment.0; late = moment.1 }
 
--- what is left of the engine where nothing moved stays ready
+-- an engine that is unchanged but for its hits stays ready
 pub ready-still : (e e' : Engine) → IsReady e → IsUnchangedButHits e' e → IsReady e'
 ready-still e e' ready still = subst IsReady (sym still.same) (record { docs = ready.docs; notes = ready.notes; queries = ready.queries; moment = ready.moment; room = omega (arith, ready.room, still.room) })
 

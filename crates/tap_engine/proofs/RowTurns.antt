@@ -42,7 +42,7 @@ take-more zero xs ys le = refl
 take-more (suc n) [] ys le = absurd (omega (arith, le))
 take-more (suc n) (x ∷ xs) ys le = ap (λ l. x ∷ l) (take-more n xs ys (omega (arith, le)))
 
--- those that were there before are as they were
+-- those that were there before are unchanged
 pub push-back : (old now new : Tables) (docs : List Doc) (n : ℕ) → n ≤ length now.docs → new ≡ after now (Docs docs) → record now { docs = take n now.docs } ≡ old → record new { docs = take n new.docs } ≡ old
 push-back old now new docs n le is-new back = ap (λ (t : Tables). record t { docs = take n t.docs }) is-new ∙ ap (λ l. record now { docs = l }) (take-more n now.docs docs le) ∙ back
 

@@ -1,4 +1,4 @@
--- The engine stands for the tables after a change.
+-- The engine represents the tables after a change.
 use Rattle.std.proofs.Common.{◌≡◌, ◌∙◌, sym, refl, ap, arith, ℕ, ◌+◌, ◌≤◌, ◌<◌, List, [], ◌∷◌, ◌++◌, length, map, None}
 use Rattle.std.specs.Prelude.{sum_by}
 use Rattle.std.proofs.lemmas.List.{append_assoc, map-append}
@@ -23,7 +23,7 @@ new-is : (t : Tables) (row : QueryRow) → IsKept truth_of start_of t → row.nu
 new-is t row kept num =
     rw (runs-none row.num.0 t.runs (each-map (λ run. run.query.0 ≤ length t.queries) (λ run. run.query.0 < row.num.0) t.runs (λ run le. omega (arith, le, num)) kept.owned), no-picks row.num.0 (length t.queries) t.runs t.picks (omega (arith, num)) kept.owned kept.picks) refl
 
--- a query more
+-- the engine with one more query
 pub represents-query : (e : Engine) (t : Tables) (row : QueryRow) → Represents e t → IsKept truth_of start_of t → row.num.0 ≡ length t.queries + 1 → (e.session.moment ≡ None → ⊥)
     → Represents (record e { queries = e.queries ++ never_run row ∷ []; owners = with_owner e.owners row.owner; bytes = e.bytes + length row.source }) (after t (OneQuery row))
 represents-query e t row represents kept num there = record {

@@ -1,4 +1,4 @@
--- An engine that has started stands for its tables, and is ready.
+-- An engine that has started represents its tables, and is ready.
 use Rattle.std.proofs.Common.{◌≡◌, ◌∙◌, sym, ap, subst, refl, arith, ℕ, suc, ◌≤◌, ℤ, Bool, true, false, Option, Some, None, List, [], ◌∷◌, ◌++◌, length, map, append_assoc, if◌then◌else◌, inl, inr}
 use Rattle.std.specs.Prelude.{◌⊎◌, ◌≤ℤ◌, int_le, is_some}
 use Rattle.std.proofs.lemmas.Int.{ints}
@@ -31,7 +31,7 @@ use Rattle.tap_kept.proofs.PlaceLaws.{runs-few}
 use Rattle.tap_engine.proofs.OwnerLaws.{users-more, owners-more}
 use Rattle.tap_engine.proofs.FormedLaws.{Formed}
 
--- the different ones of some texts, behind those that are held
+-- the different ones of some texts, after those that are there
 record HasAllOwners (held all : List (List ℕ)) : Type 0 where
   pub count : length held ≡ different all
   pub same : (text : List ℕ) → holds held text ≡ holds all text

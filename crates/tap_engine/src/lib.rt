@@ -19,8 +19,8 @@ mod prepared;
 mod run;
 mod sessions;
 mod start;
-mod take_back;
 mod undo;
+mod undoing;
 
 pub use engine::Engine;
 pub use fault::EngineFault;

@@ -16,7 +16,7 @@ ghost use Rattle.tap_model.specs.Replies.{docs_from, some_docs};
 use crate::engine::Engine;
 use crate::limits::refuse_more;
 use crate::prepared::Prepared;
-use crate::take_back::forget_docs;
+use crate::undoing::remove_docs;
 use crate::undo::Undo;
 use mail_fields::keep;
 use mail_lines::{Block, cut_mbox};
@@ -147,7 +147,7 @@ fn add_all(alloc: Global, index: &mut RowIndex, moment: i64, texts: &[Text]) -> 
     let len = index.docs() as usize;
     let done = push_docs(alloc, index, moment, texts);
     if done.is_err() {
-        forget_docs(index, len);
+        remove_docs(index, len);
     }
     done
 }

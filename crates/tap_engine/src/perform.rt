@@ -149,7 +149,7 @@ impl Engine {
         match keeper.commit(&change) {
             Ok(()) => Ok(reply),
             Err(fault) => {
-                self.take_back(undo);
+                self.undo_rows(undo);
                 self.not_committed(fault)
             }
         }

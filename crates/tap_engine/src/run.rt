@@ -133,8 +133,8 @@ impl Engine {
     ) -> Result<Change, Memory>
         requires first { 0 < query.0 }
         requires place { query.0 ≤ length self.old.queries }
-        requires runs { HoldsAt (query.0 - 1) (λ query. query.runs + 1 < 2 ^ 64) self.old.queries }
-        requires new { HoldsAt (query.0 - 1) (λ query. AreNew query.entries hits.now) self.old.queries }
+        requires runs { HoldsAt (query.0 - 1) (λ kept. kept.runs + 1 < 2 ^ 64) self.old.queries }
+        requires new { HoldsAt (query.0 - 1) (λ kept. AreNew kept.entries hits.now) self.old.queries }
         requires few { self.old.run_count < RUN_LIMIT }
         requires room { self.old.pick_count + length hits.now ≤ max self.old.pick_count PICK_LIMIT }
         ensures change { IfOk result (λ change. change ≡ RowChange.RunDone

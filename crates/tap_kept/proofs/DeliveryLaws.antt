@@ -1,4 +1,4 @@
--- Runs and picks that join their queries one after another.
+-- Runs and picks are added to their queries one after another.
 use Rattle.std.proofs.Common.{◌≡◌, ◌∙◌, sym, ap, subst, refl, arith, ℕ, zero, suc, ◌+◌, ◌-◌, ◌≤◌, ◌<◌, Bool, true, false, List, [], ◌∷◌, ◌++◌, length, map, take, append_assoc, inl, inr}
 use Rattle.std.specs.Prelude.{◌==◌, slice_index_or, slice_set}
 use Rattle.std.specs.List.{list_any}
@@ -60,7 +60,7 @@ there k num (row ∷ rows) from low high = go (k == num) refl (λ above. there (
 one-there : (num : ℕ) (rows : List QueryRow) → QueriesFrom 1 rows → IsOneOf num (length rows) → There rows num
 one-there num rows from one = there 1 num rows from one.low (omega (arith, one.high))
 
--- what is kept of the query of a number
+-- the query of a number in memory
 pub kept-there : (f : QueryRow → CachedQuery) (num : ℕ) (rows : List QueryRow) (q : QueryRow) (d : CachedQuery) → QueriesFrom 1 rows → In q rows → q.num.0 ≡ num → 1 ≤ num → slice_index_or (map f rows) (num - 1) d ≡ f q
 kept-there f num rows q d from has at low = placed f 1 (num - 1) rows q d from has (omega (arith, at, low))
 
@@ -96,7 +96,7 @@ other-run before run other differs =
     let moments = moments-other other.num.0 before run differs in
     same-cached other (last_or (start_of other) (run_moments other.num.0 (before ++ run ∷ []))) (last_or (start_of other) (run_moments other.num.0 before)) (length (run_moments other.num.0 (before ++ run ∷ []))) (length (run_moments other.num.0 before)) [] [] (ap (last_or (start_of other)) moments) (ap length moments) refl
 
--- a run joins its query
+-- a run is added to its query
 pub run-joins : (rows : List QueryRow) (before : List RunRow) (run : RunRow) (queries new : List CachedQuery) → QueriesFrom 1 rows → IsOneOf run.query.0 (length rows) → queries ≡ map (cached_query (runs_alone before [])) rows
     → ((d : CachedQuery) → new ≡ slice_set queries (run.query.0 - 1) (after_run run.moment [] (slice_index_or queries (run.query.0 - 1) d)))
     → new ≡ map (cached_query (runs_alone (before ++ run ∷ []) [])) rows
@@ -148,7 +148,7 @@ has-owned num query n (run ∷ runs) each (inr h) = has-owned num query n runs e
 pub run-within : (num query : ℕ) (runs : List RunRow) → RunsFrom 1 runs → HasRun num query runs → IsOneOf num (length runs)
 run-within num query runs from has = let bounds = has-bounds 1 num query runs from has in record { low = bounds.0; high = omega (arith, bounds.1) }
 
--- a pick joins its query
+-- a pick is added to its query
 pub pick-joins : (rows : List QueryRow) (runs : List RunRow) (before : List Pick) (pick : Pick) (queries new : List CachedQuery) (ordinals : List ℕ) → QueriesFrom 1 rows → RunsFrom 1 runs → IsOneOf pick.query.0 (length rows) → HasRun pick.run pick.query.0 runs
     → queries ≡ map (cached_query (runs_alone runs before)) rows → ordinals ≡ map (ordinal_in runs) runs
     → ((d : CachedQuery) → new ≡ slice_set queries (pick.query.0 - 1) (with_entry (record { doc = pick.doc; first = pick.first; run = slice_index_or ordinals (pick.run - 1) 0 }) (slice_index_or queries (pick.query.0 - 1) d)))
@@ -227,7 +227,7 @@ pub never-run : (rows : List QueryRow) → rows_in (map never_run rows) ≡ rows
 never-run [] = refl
 never-run (row ∷ rows) = ap (λ l. row ∷ l) (never-run rows)
 
--- the run at a place of some runs of these queries joins its query
+-- the run at a place of some runs of these queries is added to its query
 pub record RunAt (rows : List QueryRow) (runs : List RunRow) (i : ℕ) (d : RunRow) : Type 0 where
   pub from : RunsFrom 1 (take i runs)
   pub num : (slice_index_or runs i d).num ≡ i + 1

@@ -1,4 +1,4 @@
--- What a run of a plan costs is what a run of its query does.
+-- What a run of a plan costs is what a run of its query costs.
 use Rattle.std.proofs.Common.{◌≡◌, sym, subst, ℕ, ◌+◌, ◌≤◌, ℤ, List}
 use Rattle.tap_rows.specs.declared.tables.Tables.{Tables}
 use Rattle.tap_rows.specs.Kept.{In}
@@ -14,7 +14,7 @@ use Rattle.tap_kept.specs.Costs.{HasNoMark, AreAlone, rows_due, window_since}
 abbrev within : ℤ → ℤ → Window
 within low high = record { low = low; high = high }
 
--- what a run of a plan tells is told of the query's probes
+-- what holds of a run of a plan holds of the query's probes
 pub quiet-since : {A : Type 0} (X : List Probe) (T : Tables) (kept : CachedQuery) (low high moment : ℤ) → X ≡ probes_in kept.row → low ≡ kept.covered → high ≡ moment
     → (((p : Probe) → In p X → runs.HasNoMark T (within low high) p) → A) → HasNoMark T (window_since kept moment) kept.row → A
 quiet-since X T kept low high moment is from to tells quiet =

@@ -1,4 +1,4 @@
--- What is delivered is of documents that weren't.
+-- A run delivers documents that weren't delivered before.
 use Rattle.std.proofs.Common.{◌≡◌, ◌∙◌, sym, refl, ap, subst, arith, ℕ, zero, suc, ◌+◌, ◌≤◌, ◌<◌, ℤ, pos, Bool, true, false, not, List, [], ◌∷◌, ◌++◌, map, take, length, Option, Some, None, inl, inr, nat_eq, append_assoc, if◌then◌else◌}
 use Rattle.std.specs.Prelude.{drop, ◌⊎◌, ◌==◌, ◌||◌, slice_index_or, filter}
 use Rattle.std.specs.List.{list_any, filter_map}

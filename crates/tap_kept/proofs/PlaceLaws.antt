@@ -1,4 +1,4 @@
--- Queries stand at the places of their numbers.
+-- Queries are at the places of their numbers.
 use Rattle.std.proofs.Common.{◌≡◌, ◌∙◌, sym, refl, ap, arith, ℕ, zero, suc, ◌+◌, ◌<◌, ◌≤◌, ℤ, List, [], ◌∷◌, length, map, true, false, inl, inr, if◌then◌else◌}
 use Rattle.std.specs.Prelude.{◌==◌, slice_index_or, slice_set}
 use Rattle.tap_rows.specs.declared.rows.QueryRow.{QueryRow}
@@ -17,7 +17,7 @@ runs-few query (run ∷ runs) =
     let rest = runs-few query runs in
     elim (run.query.0 == query) as (λ b. length (map (λ run. run.moment) (if b then run ∷ runs_of query runs else runs_of query runs)) ≤ suc (length runs)) [ true ↦ omega (arith, rest) | false ↦ omega (arith, rest) ]
 
--- what is kept of a query stands at the place of its number
+-- a query in memory is at the place of its number
 pub placed : (f : QueryRow → CachedQuery) (k i : ℕ) (qs : List QueryRow) (q : QueryRow) (d : CachedQuery) → QueriesFrom k qs → In q qs → q.num.0 ≡ k + i → slice_index_or (map f qs) i d ≡ f q
 placed f k i [] q d from has at = absurd has
 placed f k zero (x ∷ qs) q d from (inl e) at = ap f (sym e)
@@ -29,7 +29,7 @@ others-same : (f g : QueryRow → CachedQuery) (k : ℕ) (qs : List QueryRow) (q
 others-same f g k [] q from lt same = refl
 others-same f g k (x ∷ qs) q from lt same = rw (same x (λ e. absurd (omega (arith, e, from.0, lt))), others-same f g (suc k) qs q from.1 (omega (arith, lt)) same) refl
 
--- where one query changes, it alone is written
+-- if one query changes, it alone is written
 pub placed-set : (f g : QueryRow → CachedQuery) (k i : ℕ) (qs : List QueryRow) (q : QueryRow) → QueriesFrom k qs → In q qs → q.num.0 ≡ k + i → ((other : QueryRow) → (q.num.0 ≡ other.num.0 → ⊥) → g other ≡ f other) → slice_set (map f qs) i (g q) ≡ map g qs
 placed-set f g k i [] q from has at same = absurd has
 placed-set f g k zero (x ∷ qs) q from (inl e) at same = rw (ap g e, others-same f g (suc k) qs q from.1 (omega (arith, at)) same) refl
@@ -38,7 +38,7 @@ placed-set f g k zero (x ∷ qs) q from (inr h) at same = absurd (let bounds = q
 placed-set f g k (suc i) (x ∷ qs) q from (inr h) at same =
     rw (same x (λ e. absurd (omega (arith, e, from.0, at)))) (ap (λ rest. f x ∷ rest) (placed-set f g (suc k) i qs q from.1 h (omega (arith, at)) same))
 
--- the run at a place is taken back by writing what is kept there
+-- the run at a place is undone by writing the query there
 pub without-set : (i runs entries : ℕ) (covered : ℤ) (queries : List CachedQuery) (d : CachedQuery) → i < length queries → slice_set queries i (before_run covered runs entries (slice_index_or queries i d)) ≡ without_run i covered runs entries queries
 without-set i runs entries covered [] d lt = absurd (omega (arith, lt))
 without-set zero runs entries covered (kept ∷ queries) d lt = refl

@@ -117,11 +117,11 @@ impl CachedQueries {
     }
 
     /// Undoes the last run of the query at this place. It takes no memory.
-    pub fn take_back(&mut self, place: usize, covered: i64, runs: usize, entries: u32)
+    pub fn undo_run(&mut self, place: usize, covered: i64, runs: usize, entries: u32)
         requires { place < length self.old }
         ensures { self.new ≡ without_run place covered runs entries self.old }
     {
-        self.items[place].take_back(covered, runs, entries);
+        self.items[place].undo_run(covered, runs, entries);
     }
 
     // Adds an entry, of a document that isn't in its box, to the box of the query at this place.

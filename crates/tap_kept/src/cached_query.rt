@@ -85,7 +85,7 @@ impl CachedQuery {
     }
 
     // Undoes the last run. It takes no memory.
-    pub(crate) fn take_back(&mut self, covered: i64, runs: usize, entries: u32)
+    pub(crate) fn undo_run(&mut self, covered: i64, runs: usize, entries: u32)
         ensures { self.new ≡ before_run covered runs entries self.old }
     {
         self.covered = covered;

@@ -7,7 +7,7 @@ use Rattle.tap_model.specs.Sound.{IsMoment}
 use Rattle.tap_kept.specs.Keeping.{never_run}
 use Rattle.tap_kept.proofs.cache.cache_queries.Given as goal
 
--- the queries are those that are kept and those that are left, whose conditions are left too
+-- the queries are those in memory and those that are left, whose conditions are left too
 abbrev pub invariant-loop-row : goal.invariant-loop-row
 invariant-loop-row l = record {
   next : (goal.iterator-loop-row).can_next l.row-iterator;

@@ -7,7 +7,7 @@ use Rattle.row_index.specs.Orders.{doc_number, doc_arrival}
 use Rattle.tap_kept.specs.Starting.{FollowInOrder}
 use Rattle.tap_kept.proofs.indexing.add_docs.Given as goal
 
--- the docs that were added, and those that are left, which stand in order behind them
+-- the documents that were added, and those that are left, which follow them in order
 abbrev pub invariant-loop-doc : goal.invariant-loop-doc
 invariant-loop-doc l = record {
   len : into_iter_len l.doc-iterator ≡ length (into_iter_items l.doc-iterator);

@@ -4,7 +4,7 @@ use Rattle.row_index.specs.Orders.{note_number, note_arrival}
 use Rattle.tap_kept.specs.Starting.{FollowInOrder, with_notes}
 use Rattle.tap_kept.proofs.indexing.add_notes.Given as goal
 
--- the notes that were added, and those that are left, which stand in order behind them
+-- the notes that were added, and those that are left, which follow them in order
 abbrev pub invariant-loop-note : goal.invariant-loop-note
 invariant-loop-note l = record {
   len : into_iter_len l.note-iterator ≡ length (into_iter_items l.note-iterator);

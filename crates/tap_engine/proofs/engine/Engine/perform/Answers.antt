@@ -17,7 +17,7 @@ pub returns-in-Err-commit-clause-step : goal.returns-in-Err-commit-clause-step
 returns-in-Err-commit-clause-step g c = λ t represents sound.
     let answers : Answers t c.args.self.now.session c.args.command c.in-Ok.prepared.reply (Some c.in-Some.change) c.prepare.new.self.session = subst (λ change. Answers t c.args.self.now.session c.args.command c.in-Ok.prepared.reply change c.prepare.new.self.session) c.in-Some.is (c.in-Ok.ensures.ok t represents sound) in
     let takes = taken-there c.in-Ok.prepared.undo c.prepare.new.self c.args.self.now c.in-Ok.prepared.change c.in-Some.change c.in-Some.is c.in-Ok.ensures.undo in
-    fault-step c.in-Err-commit.fault t c.args.self.now c.take_back.new.self c.not_committed.new.self c.args.command c.not_committed.result c.not_committed.ensures.0 c.not_committed.ensures.1 (ap (λ e. e.session) (c.take_back.ensures ∙ takes.before_is.same))
+    fault-step c.in-Err-commit.fault t c.args.self.now c.undo_rows.new.self c.not_committed.new.self c.args.command c.not_committed.result c.not_committed.ensures.0 c.not_committed.ensures.1 (ap (λ e. e.session) (c.undo_rows.ensures ∙ takes.before_is.same))
     (memory-step t c.args.self.now.session c.args.command c.in-Ok.prepared.reply c.in-Some.change c.prepare.new.self.session answers)
 
 pub returns-in-Err-commit-clause-crash : goal.returns-in-Err-commit-clause-crash
@@ -40,5 +40,5 @@ returns-in-Err-commit-clause-kept g c = λ t represents sound honest holds.
 pub returns-in-Err-commit-clause-represents : goal.returns-in-Err-commit-clause-represents
 returns-in-Err-commit-clause-represents g c = λ t represents sound.
     let takes = taken-there c.in-Ok.prepared.undo c.prepare.new.self c.args.self.now c.in-Ok.prepared.change c.in-Some.change c.in-Some.is c.in-Ok.ensures.undo in
-    fault-represents c.in-Err-commit.fault t c.args.self.now c.take_back.new.self c.not_committed.new.self c.args.command c.not_committed.result c.not_committed.ensures.0 c.not_committed.ensures.1
-    (subst (λ k. IsUnchangedButHits k c.args.self.now) (sym c.take_back.ensures) takes.before_is) represents
+    fault-represents c.in-Err-commit.fault t c.args.self.now c.undo_rows.new.self c.not_committed.new.self c.args.command c.not_committed.result c.not_committed.ensures.0 c.not_committed.ensures.1
+    (subst (λ k. IsUnchangedButHits k c.args.self.now) (sym c.undo_rows.ensures) takes.before_is) represents

@@ -1,5 +1,5 @@
 use Rattle.std.proofs.Common.{◌≡◌, take, length}
-use Rattle.tap_engine.proofs.take_back.forget_docs.Given as goal
+use Rattle.tap_engine.proofs.undoing.remove_docs.Given as goal
 
 -- the documents that are to stay are there
 abbrev pub invariant-loop-index : goal.invariant-loop-index

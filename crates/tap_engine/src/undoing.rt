@@ -7,7 +7,7 @@ use crate::undo::Undo;
 use row_index::RowIndex;
 
 // Removes the documents after the first `len`.
-pub(crate) fn forget_docs(index: &mut RowIndex, len: usize)
+pub(crate) fn remove_docs(index: &mut RowIndex, len: usize)
     ensures { index.new ≡ record index.old { docs = take len index.old.docs } }
 {
     while index.docs() as usize > len {
@@ -19,14 +19,14 @@ impl Engine {
     ghost use Rattle.tap_engine.specs.Answering.{undone, CanUndo};
 
     // Removes the rows of a command that wasn't committed. It takes no memory.
-    pub(crate) fn take_back(&mut self, undo: Undo)
+    pub(crate) fn undo_rows(&mut self, undo: Undo)
         requires { CanUndo undo self.old }
         ensures { self.new ≡ undone undo self.old }
     {
         match undo {
             Undo::Nothing => {}
             Undo::Docs { len, bytes } => {
-                forget_docs(&mut self.index, len);
+                remove_docs(&mut self.index, len);
                 self.bytes = bytes;
             }
             Undo::Note { bytes } => {
@@ -51,7 +51,7 @@ impl Engine {
                 run_count,
                 pick_count,
             } => {
-                self.queries.take_back(place, covered, runs, entries);
+                self.queries.undo_run(place, covered, runs, entries);
                 self.run_count = run_count;
                 self.pick_count = pick_count;
             }
