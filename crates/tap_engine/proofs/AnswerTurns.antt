@@ -1,4 +1,4 @@
--- What isn't refused is answered, and its rows are taken back.
+-- What isn't refused is answered, and its rows can be undone.
 use Rattle.std.proofs.Common.{◌≡◌, ◌∙◌, sym, refl, ap, inr, arith, ℕ, ◌+◌, ◌-◌, ◌<◌, ◌≤◌, List, [], ◌∷◌, ◌++◌, length, take, true, false, Option, Some, None, if◌then◌else◌}
 use Rattle.std.proofs.Math.Seq.{take-append_seam}
 use Rattle.std.proofs.lemmas.List.{append-nil, length-append}
@@ -18,7 +18,7 @@ use Rattle.script_lang.specs.declared.refusal.Refusal.{Refusal}
 use Rattle.script_lang.specs.declared.refusal.Refusal.TheVariants.{Memory}
 use Rattle.tap_model.specs.Verdicts.{verdict, is_early}
 use Rattle.tap_model.specs.Replies.{answer_of, answer_by, accepted}
-use Rattle.tap_kept.specs.declared.kept_query.KeptQuery.{KeptQuery}
+use Rattle.tap_kept.specs.declared.cached_query.CachedQuery.{CachedQuery}
 use Rattle.tap_engine.specs.declared.engine.Engine.{Engine}
 use Rattle.tap_engine.specs.declared.undo.Undo.TheVariants.{Docs, Note as OneNote, Query, Filter}
 use Rattle.tap_kept.specs.Keeping.{with_owner}
@@ -41,15 +41,15 @@ pub some-undo : {P : Type 0} (change : Option Change) → P → OnSome change P
 some-undo None p = tt
 some-undo (Some change) p = p
 
--- for want of memory, where it isn't refused
+-- out of memory, if the command isn't refused
 pub for-memory : (v : Option Refusal) → v ≡ None → RefusedBy v Memory
 for-memory v none = inr (refl, ap is_early none)
 
--- documents are taken back
+-- documents are undone
 pub undo-docs : (e : Engine) (docs : List Doc) (h : HitsWithRoom) (bytes n : ℕ) → n ≡ length e.index.docs → e.hits.room ≤ h.room → UndoRestores (Docs n e.bytes) (record e { index = after e.index (RowDocs docs); hits = h; bytes = bytes }) e
 undo-docs e docs h bytes n is room = record { there = tt; before_is = record { same = ap (λ n. record e { index = record e.index { docs = take n (e.index.docs ++ docs) }; hits = h }) is ∙ ap (λ l. record e { index = record e.index { docs = l }; hits = h }) (take-append_seam e.index.docs docs); room = room } }
 
--- a note is taken back
+-- a note is undone
 one-back : (notes : List Note) (note : Note) → take (length (notes ++ note ∷ []) - 1) (notes ++ note ∷ []) ≡ notes
 one-back notes note = ap (λ n. take (n - 1) (notes ++ note ∷ [])) (length-append notes (note ∷ [])) ∙ ap (λ n. take n (notes ++ note ∷ [])) (less (length notes)) ∙ take-append_seam notes (note ∷ []) where
   less : (n : ℕ) → n + 1 - 1 ≡ n
@@ -62,15 +62,15 @@ some-note (x ∷ notes) note = omega arith
 pub undo-note : (e : Engine) (note : Note) (bytes : ℕ) → UndoRestores (OneNote e.bytes) (record e { index = after e.index (RowNote note); bytes = bytes }) e
 undo-note e note bytes = record { there = some-note e.index.notes note; before_is = record { same = ap (λ l. record e { index = record e.index { notes = l } }) (one-back e.index.notes note); room = omega arith } }
 
--- an owner is taken back
+-- an owner is removed again
 owner-back : (owners : List (List ℕ)) (owner : List ℕ) → take (length owners) (with_owner owners owner) ≡ owners
 owner-back owners owner = elim (holds owners owner) as (λ b. take (length owners) (if b then owners else owners ++ owner ∷ []) ≡ owners) [
   | true ↦ ap (take (length owners)) (sym (append-nil owners)) ∙ take-append_seam owners []
   | false ↦ take-append_seam owners (owner ∷ [])
 ]
 
--- a query is taken back
-pub undo-query : (e : Engine) (queries : List KeptQuery) (owner : List ℕ) (bytes n m : ℕ) → n ≡ length e.queries → m ≡ length e.owners → UndoRestores (Query n m e.bytes) (record e { queries = e.queries ++ queries; owners = with_owner e.owners owner; bytes = bytes }) e
+-- a query is undone
+pub undo-query : (e : Engine) (queries : List CachedQuery) (owner : List ℕ) (bytes n m : ℕ) → n ≡ length e.queries → m ≡ length e.owners → UndoRestores (Query n m e.bytes) (record e { queries = e.queries ++ queries; owners = with_owner e.owners owner; bytes = bytes }) e
 undo-query e queries owner bytes n m is-n is-m = record {
   there = tt;
   before_is = record {
@@ -81,7 +81,7 @@ undo-query e queries owner bytes n m is-n is-m = record {
   };
 }
 
--- a filter is taken back
+-- a filter is undone
 pub undo-filter : (e : Engine) (filters : List FilterRow) (owner : List ℕ) (bytes n m : ℕ) → n ≡ length e.filters → m ≡ length e.owners → UndoRestores (Filter n m e.bytes) (record e { filters = e.filters ++ filters; owners = with_owner e.owners owner; bytes = bytes }) e
 undo-filter e filters owner bytes n m is-n is-m = record {
   there = tt;

@@ -36,7 +36,7 @@ module _ (s : Session) (moment source : List ℕ) (m now : ℤ) (is-m : moment_o
       ap (λ o. first_refusal (missing BadMoment o ∷ no_moment s ∷ text_fault source ∷ not_over o s.moment ∷ [])) is-m
       ∙ ap (λ o. first_refusal (None ∷ missing NoMoment o ∷ text_fault source ∷ not_over (Some m) o ∷ [])) is-now
 
-  -- the text is at fault, or there is no memory to read it
+  -- the text has a fault, or reading it is out of memory
   pub ask-text : (refusal : Refusal) → (text_fault source ≡ Some refusal) ⊎ (refusal ≡ Memory) → Refuses refusal (Ask moment source) s t
   ask-text refusal (inl e) = inl (left ∙ ap (λ o. first_refusal (o ∷ refuse_unless (int_lt m now) (NotOver now) ∷ [])) e)
   ask-text refusal (inr e) = inr (e, refl)

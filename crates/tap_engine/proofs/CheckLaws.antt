@@ -27,15 +27,15 @@ use Rattle.tap_model.specs.declared.limits.TheConstants.{USER_QUERY_LIMIT, QUERY
 use Rattle.tap_model.specs.declared.session.Session.{Session}
 use Rattle.tap_engine.specs.declared.engine.Engine.{Engine}
 use Rattle.tap_model.specs.Sessions.{or_zero, user_of, moment_or_zero}
-use Rattle.tap_kept.specs.declared.kept_query.KeptQuery.{KeptQuery}
+use Rattle.tap_kept.specs.declared.cached_query.CachedQuery.{CachedQuery}
 use Rattle.tap_model.specs.Queries.{query_named, truth_of, start_of, hits_of}
 use Rattle.tap_rows.specs.WellFormed.{is_query_of}
 use Rattle.tap_rows.specs.Results.{covered}
 use Rattle.restart_core.specs.Starts.{condition_text, stored_source}
 use Rattle.tap_model.specs.Limits.{limit_refusal}
 use Rattle.tap_model.specs.Verdicts.{first_refusal, verdict, missing, refuse_unless, no_moment, no_user, bad_name, reading_refusal, text_fault, is_early, hits_found}
-use Rattle.tap_kept.specs.Keeping.{kept_query, named_in, owned_in, hits_since}
-use Rattle.tap_engine.specs.Standing.{Represents, name_refusal, query_limits, define_refusal, query_refusal, look_refusal, run_refusal, kept_named, hits_kept, entries_kept, RefusedBy}
+use Rattle.tap_kept.specs.Keeping.{cached_query, named_in, owned_in, hits_since}
+use Rattle.tap_engine.specs.Standing.{Represents, name_refusal, query_limits, define_refusal, query_refusal, look_refusal, run_refusal, cached_named, cached_hits, cached_entries, RefusedBy}
 use Rattle.tap_model.specs.Sound.{IsSound, IsNow}
 use Rattle.tap_model.specs.Stories.{Refuses}
 use Rattle.tap_engine.specs.Answering.{Answers}
@@ -48,24 +48,24 @@ use Rattle.script_lang.specs.declared.reply.Reply.TheVariants.{Defined, BoxOf as
 use Rattle.tap_rows.specs.declared.change.Change.{Change}
 use Rattle.tap_rows.specs.declared.change.Change.TheVariants.{OneQuery}
 
-named-find : (t : Tables) (owner name : List ℕ) (qs : List QueryRow) → find (λ kept. is_query_of owner name kept.row) (map (kept_query t) qs) ≡ option_map (kept_query t) (find (is_query_of owner name) qs)
+named-find : (t : Tables) (owner name : List ℕ) (qs : List QueryRow) → find (λ kept. is_query_of owner name kept.row) (map (cached_query t) qs) ≡ option_map (cached_query t) (find (is_query_of owner name) qs)
 named-find t owner name [] = refl
 named-find t owner name (q ∷ qs) = elim (cases_Bool (is_query_of owner name q)) [ inl y ↦ rw y refl | inr n ↦ rw n (named-find t owner name qs) ]
 
--- what is kept of a user's query of a name is of the row of that name
-pub named-kept : (t : Tables) (owner name : List ℕ) (qs : List QueryRow) → named_in owner name (map (kept_query t) qs) ≡ option_map (kept_query t) (find (is_query_of owner name) qs)
+-- a user's query of a name in memory has the row of that name
+pub named-kept : (t : Tables) (owner name : List ℕ) (qs : List QueryRow) → named_in owner name (map (cached_query t) qs) ≡ option_map (cached_query t) (find (is_query_of owner name) qs)
 unfolding named_in
 named-kept t owner name qs = named-find t owner name qs
 
-owned-count : (t : Tables) (owner : List ℕ) (qs : List QueryRow) → length (filter (λ kept. bytes_eq kept.row.owner owner) (map (kept_query t) qs)) ≡ length (filter (λ q. bytes_eq q.owner owner) qs)
+owned-count : (t : Tables) (owner : List ℕ) (qs : List QueryRow) → length (filter (λ kept. bytes_eq kept.row.owner owner) (map (cached_query t) qs)) ≡ length (filter (λ q. bytes_eq q.owner owner) qs)
 owned-count t owner [] = refl
 owned-count t owner (q ∷ qs) = elim (cases_Bool (bytes_eq q.owner owner)) [ inl y ↦ rw y (ap suc (owned-count t owner qs)) | inr n ↦ rw n (owned-count t owner qs) ]
 
-pub owned-kept : (t : Tables) (owner : List ℕ) (qs : List QueryRow) → owned_in owner (map (kept_query t) qs) ≡ length (filter (λ q. bytes_eq q.owner owner) qs)
+pub owned-kept : (t : Tables) (owner : List ℕ) (qs : List QueryRow) → owned_in owner (map (cached_query t) qs) ≡ length (filter (λ q. bytes_eq q.owner owner) qs)
 unfolding owned_in
 owned-kept t owner qs = owned-count t owner qs
 
-none-map : (t : Tables) (o : Option QueryRow) → is_none (option_map (kept_query t) o) ≡ is_none o
+none-map : (t : Tables) (o : Option QueryRow) → is_none (option_map (cached_query t) o) ≡ is_none o
 none-map t None = refl
 none-map t (Some q) = refl
 
@@ -82,17 +82,17 @@ pub define-verdict : (e : Engine) (t : Tables) (name source : List ℕ) → Repr
 unfolding name_refusal query_limits
 define-verdict e t name source represents =
     limits-last (no_moment e.session) (no_user e.session) (bad_name name) (refuse_unless (is_none (named_in (user_of e.session) name e.queries)) Taken) (text_fault (condition_text source)) (query_limits e (user_of e.session) (length (stored_source source)))
-    ∙ rw (represents.queries, named-kept t (user_of e.session) name t.queries, none-map t (find (is_query_of (user_of e.session) name) t.queries), owned-kept t (user_of e.session) t.queries, length-map t.queries (kept_query t), represents.users, represents.owners (user_of e.session), represents.bytes) refl
+    ∙ rw (represents.queries, named-kept t (user_of e.session) name t.queries, none-map t (find (is_query_of (user_of e.session) name) t.queries), owned-kept t (user_of e.session) t.queries, length-map t.queries (cached_query t), represents.users, represents.owners (user_of e.session), represents.bytes) refl
 
--- a command that is refused by its verdict, or for want of memory
+-- a command that is refused by its verdict, or is out of memory
 pub define-refuses : (e : Engine) (name source : List ℕ) (refusal : Refusal) → RefusedBy (define_refusal e name source) refusal → (t : Tables) → Represents e t → Refuses refusal (Define name source) e.session t
 define-refuses e name source refusal by t represents = subst (λ v. RefusedBy v refusal) (define-verdict e t name source represents) by
 
--- what is kept of the user's query of this name
-pub named-is : (e : Engine) (t : Tables) (name : List ℕ) → Represents e t → kept_named e name ≡ option_map (kept_query t) (query_named (user_of e.session) name t)
+-- the user's query of this name in memory
+pub named-is : (e : Engine) (t : Tables) (name : List ℕ) → Represents e t → cached_named e name ≡ option_map (cached_query t) (query_named (user_of e.session) name t)
 named-is e t name represents = rw represents.queries (named-kept t (user_of e.session) name t.queries)
 
-missing-map : (t : Tables) (o : Option QueryRow) → missing NoQuery (option_map (kept_query t) o) ≡ missing NoQuery o
+missing-map : (t : Tables) (o : Option QueryRow) → missing NoQuery (option_map (cached_query t) o) ≡ missing NoQuery o
 missing-map t None = refl
 missing-map t (Some q) = refl
 
@@ -133,10 +133,10 @@ each-in P [] x each has = absurd has
 each-in P (y ∷ ys) x each (inl e) = subst P (sym e) each.0
 each-in P (y ∷ ys) x each (inr has) = each-in P ys x each.1 has
 
--- what a run of a query delivers, by what is kept
-pub hits-of-query : (e : Engine) (t : Tables) (q : QueryRow) → Represents e t → IsSound t e.session → In q t.queries → (e.session.moment ≡ None → ⊥) → hits_kept e (Some (kept_query t q)) ≡ hits_of q t (moment_or_zero e.session)
+-- what a run of a query delivers, by what is in memory
+pub hits-of-query : (e : Engine) (t : Tables) (q : QueryRow) → Represents e t → IsSound t e.session → In q t.queries → (e.session.moment ≡ None → ⊥) → cached_hits e (Some (cached_query t q)) ≡ hits_of q t (moment_or_zero e.session)
 hits-of-query e t q represents sound has there =
-    ap (λ rows. hits_since (kept_query t q) rows (moment_or_zero e.session)) represents.rows ∙ run-of-sound t e.session q (moment_or_zero e.session) sound has (go e.session.moment refl sound.now) where
+    ap (λ rows. hits_since (cached_query t q) rows (moment_or_zero e.session)) represents.rows ∙ run-of-sound t e.session q (moment_or_zero e.session) sound has (go e.session.moment refl sound.now) where
       go : (o : Option ℤ) → e.session.moment ≡ o → IsNow o t → covered (start_of q) q.num.0 t.runs ≤ℤ moment_or_zero e.session
       go None none now = absurd (there none)
       go (Some m) is now =
@@ -144,9 +144,9 @@ hits-of-query e t q represents sound has there =
           (covered-each (λ z. z ≤ℤ m) (start_of q) q.num.0 t.runs (each-in (λ query. (query.arrival ≤ℤ m) × (start_of query ≤ℤ m)) t.queries q now.1.queries has).1 now.1.runs)
 
 hits-are : (e : Engine) (t : Tables) (name : List ℕ) → Represents e t → IsSound t e.session → (e.session.moment ≡ None → ⊥)
-    → hits_kept e (option_map (kept_query t) (query_named (user_of e.session) name t)) ≡ hits_found (query_named (user_of e.session) name t) t (moment_or_zero e.session)
+    → cached_hits e (option_map (cached_query t) (query_named (user_of e.session) name t)) ≡ hits_found (query_named (user_of e.session) name t) t (moment_or_zero e.session)
 hits-are e t name represents sound there = go (query_named (user_of e.session) name t) refl where
-  go : (o : Option QueryRow) → query_named (user_of e.session) name t ≡ o → hits_kept e (option_map (kept_query t) o) ≡ hits_found o t (moment_or_zero e.session)
+  go : (o : Option QueryRow) → query_named (user_of e.session) name t ≡ o → cached_hits e (option_map (cached_query t) o) ≡ hits_found o t (moment_or_zero e.session)
   go None is = refl
   go (Some q) is = hits-of-query e t q represents sound (find-in (is_query_of (user_of e.session) name) t.queries q is) there
 
@@ -158,9 +158,9 @@ run-there : (e : Engine) (t : Tables) (name : List ℕ) → Represents e t → I
 unfolding look_refusal
 run-there e t name represents sound there =
     let o = query_named (user_of e.session) name t in
-    let look : Option KeptQuery → Option Refusal = λ k. option_or (no_user e.session) (option_or (bad_name name) (missing NoQuery k)) in
-    ap (λ k. run_checks e e.run_count e.pick_count (look k) (hits_kept e k)) (named-is e t name represents)
-    ∙ ap (λ m. run_checks e e.run_count e.pick_count (option_or (no_user e.session) (option_or (bad_name name) m)) (hits_kept e (option_map (kept_query t) o))) (missing-map t o)
+    let look : Option CachedQuery → Option Refusal = λ k. option_or (no_user e.session) (option_or (bad_name name) (missing NoQuery k)) in
+    ap (λ k. run_checks e e.run_count e.pick_count (look k) (cached_hits e k)) (named-is e t name represents)
+    ∙ ap (λ m. run_checks e e.run_count e.pick_count (option_or (no_user e.session) (option_or (bad_name name) m)) (cached_hits e (option_map (cached_query t) o))) (missing-map t o)
     ∙ ap (run_checks e e.run_count e.pick_count (option_or (no_user e.session) (option_or (bad_name name) (missing NoQuery o)))) (hits-are e t name represents sound there)
     ∙ ap (λ n. run_checks e n e.pick_count (option_or (no_user e.session) (option_or (bad_name name) (missing NoQuery o))) (hits_found o t (moment_or_zero e.session))) represents.run_count
     ∙ ap (λ n. run_checks e (length t.runs) n (option_or (no_user e.session) (option_or (bad_name name) (missing NoQuery o))) (hits_found o t (moment_or_zero e.session))) represents.pick_count
@@ -172,21 +172,21 @@ run-verdict e t name represents sound = go e.session.moment refl where
   go : (m : Option ℤ) → e.session.moment ≡ m → run_refusal e name ≡ verdict (Run name) e.session t
   go None none =
       let o = query_named (user_of e.session) name t in
-      ap (λ m. option_or (missing NoMoment m) (option_or (look_refusal e name) (option_or (limit_refusal Runs RUN_LIMIT e.run_count 1) (limit_refusal Picks PICK_LIMIT e.pick_count (length (hits_kept e (kept_named e name))))))) none
+      ap (λ m. option_or (missing NoMoment m) (option_or (look_refusal e name) (option_or (limit_refusal Runs RUN_LIMIT e.run_count 1) (limit_refusal Picks PICK_LIMIT e.pick_count (length (cached_hits e (cached_named e name))))))) none
       ∙ sym (ap (λ m. first_refusal (missing NoMoment m ∷ no_user e.session ∷ bad_name name ∷ missing NoQuery o ∷ limit_refusal Runs RUN_LIMIT (length t.runs) 1 ∷ limit_refusal Picks PICK_LIMIT (length t.picks) (length (hits_found o t (moment_or_zero e.session))) ∷ [])) none)
   go (Some m) is = run-there e t name represents sound (some-moment e.session.moment m is)
 
 -- a run that isn't refused before its hits are counted
-pub run-left : (e : Engine) (name : List ℕ) (kept : KeptQuery) (m : ℤ) (hits : List Hit) → e.session.moment ≡ Some m → query_refusal e.session e.queries name ≡ None → limit_refusal Runs RUN_LIMIT e.run_count 1 ≡ None → kept_named e name ≡ Some kept
+pub run-left : (e : Engine) (name : List ℕ) (kept : CachedQuery) (m : ℤ) (hits : List Hit) → e.session.moment ≡ Some m → query_refusal e.session e.queries name ≡ None → limit_refusal Runs RUN_LIMIT e.run_count 1 ≡ None → cached_named e name ≡ Some kept
     → hits ≡ hits_since kept e.index m → run_refusal e name ≡ limit_refusal Picks PICK_LIMIT e.pick_count (length hits)
 unfolding look_refusal
 run-left e name kept m hits is-m look runs named is-hits =
     let picks : List Hit → Option Refusal = λ hits. limit_refusal Picks PICK_LIMIT e.pick_count (length hits) in
-    let last = picks (hits_kept e (kept_named e name)) in
+    let last = picks (cached_hits e (cached_named e name)) in
     ap (λ o. option_or (missing NoMoment o) (option_or (query_refusal e.session e.queries name) (option_or (limit_refusal Runs RUN_LIMIT e.run_count 1) last))) is-m
     ∙ ap (λ x. option_or x (option_or (limit_refusal Runs RUN_LIMIT e.run_count 1) last)) look
     ∙ ap (λ x. option_or x last) runs
-    ∙ ap (λ k. picks (hits_kept e k)) named
+    ∙ ap (λ k. picks (cached_hits e k)) named
     ∙ ap (λ z. picks (hits_since kept e.index z)) (ap or_zero is-m)
     ∙ sym (ap picks is-hits)
 
@@ -236,7 +236,7 @@ limits-late engine user len =
     (late-first _ _ (limit_refusal-late Users USER_LIMIT (length engine.owners) (if holds engine.owners user then 0 else 1))
     (late-first _ [] (limit_refusal-late Store STORE_LIMIT engine.bytes len) refl)))
 
--- a query is refused for its text, or for want of memory to read it, once it isn't for want of a moment, of a user or of a name
+-- a query is refused for its text, or is out of memory, once it isn't refused for its moment, its user or its name
 pub text-refused : (e : Engine) (name source : List ℕ) (refusal : Refusal) → no_moment e.session ≡ None → no_user e.session ≡ None → None ≡ name_refusal e (user_of e.session) name
     → (text_fault (condition_text source) ≡ Some refusal) ⊎ (refusal ≡ Memory) → RefusedBy (define_refusal e name source) refusal
 text-refused e name source refusal moment user named by =
@@ -252,18 +252,18 @@ text-refused e name source refusal moment user named by =
     ]
 
 -- a box that isn't refused is of a query that there is
-pub answers-box : (e : Engine) (t : Tables) (name : List ℕ) (entries : List Entry) → Represents e t → IsSound t e.session → look_refusal e name ≡ None → Some entries ≡ entries_kept (kept_named e name) → Answers t e.session (BoxOf name) (Boxed name entries) None e.session
+pub answers-box : (e : Engine) (t : Tables) (name : List ℕ) (entries : List Entry) → Represents e t → IsSound t e.session → look_refusal e name ≡ None → Some entries ≡ cached_entries (cached_named e name) → Answers t e.session (BoxOf name) (Boxed name entries) None e.session
 answers-box e t name entries represents sound none is = go (query_named (user_of e.session) name t) refl where
   accepted : Answers t e.session (BoxOf name) (show_box (query_named (user_of e.session) name t) name e.session t).reply (show_box (query_named (user_of e.session) name t) name e.session t).change (show_box (query_named (user_of e.session) name t) name e.session t).session
   accepted = answers-accepted t e.session (BoxOf name) (sym (box-verdict e t name represents) ∙ none)
 
-  kept : Some entries ≡ entries_kept (option_map (kept_query t) (query_named (user_of e.session) name t))
-  kept = is ∙ ap entries_kept (named-is e t name represents)
+  kept : Some entries ≡ cached_entries (option_map (cached_query t) (query_named (user_of e.session) name t))
+  kept = is ∙ ap cached_entries (named-is e t name represents)
 
   go : (o : Option QueryRow) → query_named (user_of e.session) name t ≡ o → Answers t e.session (BoxOf name) (Boxed name entries) None e.session
-  go None none' = absurd (some-entries entries (kept ∙ ap (λ o. entries_kept (option_map (kept_query t) o)) none'))
+  go None none' = absurd (some-entries entries (kept ∙ ap (λ o. cached_entries (option_map (cached_query t) o)) none'))
   go (Some q) some =
-      let same : entries ≡ delivered q.num.0 t = some-same entries (delivered q.num.0 t) (kept ∙ ap (λ o. entries_kept (option_map (kept_query t) o)) some) in
+      let same : entries ≡ delivered q.num.0 t = some-same entries (delivered q.num.0 t) (kept ∙ ap (λ o. cached_entries (option_map (cached_query t) o)) some) in
       let box = box-is truth_of start_of truth-of-second t q t.queries (find-in (is_query_of (user_of e.session) name) t.queries q some) sound.kept.each in
       record {
         fine = accepted.fine;
@@ -274,4 +274,4 @@ answers-box e t name entries represents sound none is = go (query_named (user_of
 
 -- a query isn't run without a moment
 pub run-moment : (e : Engine) (name : List ℕ) → run_refusal e name ≡ None → e.session.moment ≡ None → ⊥
-run-moment e name none no_m = some-none NoMoment (sym (ap (λ m. option_or (missing NoMoment m) (option_or (look_refusal e name) (option_or (limit_refusal Runs RUN_LIMIT e.run_count 1) (limit_refusal Picks PICK_LIMIT e.pick_count (length (hits_kept e (kept_named e name))))))) no_m) ∙ none)
+run-moment e name none no_m = some-none NoMoment (sym (ap (λ m. option_or (missing NoMoment m) (option_or (look_refusal e name) (option_or (limit_refusal Runs RUN_LIMIT e.run_count 1) (limit_refusal Picks PICK_LIMIT e.pick_count (length (cached_hits e (cached_named e name))))))) no_m) ∙ none)

@@ -1,28 +1,27 @@
--- What a run delivers, and what the engine keeps after it.
-use Rattle.std.proofs.Common.{◌≡◌, ◌∙◌, sym, refl, ap, subst, arith, ℕ, zero, suc, ◌+◌, ◌-◌, ◌≤◌, ◌<◌, ℤ, List, [], ◌∷◌, ◌++◌, length, map, Option, Some, None, true, false, inl, inr, if◌then◌else◌}
+-- What a run delivers, and what the engine represents after it.
+use Rattle.std.proofs.Common.{◌≡◌, ◌∙◌, sym, refl, ap, subst, arith, ℕ, suc, ◌+◌, ◌-◌, ℤ, List, [], ◌∷◌, ◌++◌, length, map, Option, Some, None}
 use Rattle.std.specs.Prelude.{◌==◌, slice_index_or, slice_set}
 use Rattle.std.specs.Option.{option_map}
 use Rattle.std.proofs.lemmas.List.{length-append, map-append}
 use Rattle.std.proofs.lemmas.List.Elements.{filter-append}
 use Rattle.tap_rows.specs.declared.tables.Tables.{Tables}
 use Rattle.tap_rows.specs.declared.rows.QueryRow.{QueryRow}
-use Rattle.tap_rows.specs.declared.rows.RunRow.{RunRow}
 use Rattle.tap_base.specs.declared.numbers.QueryNum.{QueryNum}
 use Rattle.tap_rows.specs.declared.results.Hit.{Hit}
 use Rattle.tap_rows.specs.declared.change.Change.{Change}
 use Rattle.tap_rows.specs.declared.results.Entry.{Entry}
 use Rattle.tap_rows.specs.declared.change.Change.TheVariants.{RunDone}
 use Rattle.tap_rows.specs.Tables.{after}
-use Rattle.tap_rows.specs.Results.{runs_of, run_moments, covered, last_or, entry_at}
+use Rattle.tap_rows.specs.Results.{run_moments, covered, last_or, entry_at}
 use Rattle.tap_rows.specs.Deliveries.{delivered, picked, picks_of, pick_rows, next_run, run_change}
-use Rattle.tap_rows.specs.Kept.{In, IsKept, QueriesFrom}
+use Rattle.tap_rows.specs.Kept.{In, IsKept}
 use Rattle.tap_rows.proofs.LaterLaws.{filter-none}
 use Rattle.tap_rows.proofs.PlaceLaws.{ordinal-new, moments-new, moments-other, old-picks, picks-all, picks-none, new-picks, query-bounds}
 use Rattle.tap_rows.proofs.RunLaws.{last-more}
 use Rattle.script_lang.specs.declared.command.Command.TheVariants.{Run}
 use Rattle.script_lang.specs.declared.reply.Reply.TheVariants.{Ran}
 use Rattle.tap_model.specs.declared.session.Session.{Session}
-use Rattle.tap_kept.specs.declared.kept_query.KeptQuery.{KeptQuery}
+use Rattle.tap_kept.specs.declared.cached_query.CachedQuery.{CachedQuery}
 use Rattle.query_eval.specs.Hits.{HitsWithRoom}
 use Rattle.tap_model.specs.Sound.{IsSound}
 use Rattle.tap_engine.specs.declared.engine.Engine.{Engine}
@@ -31,13 +30,13 @@ use Rattle.tap_model.specs.Sessions.{user_of, moment_or_zero}
 use Rattle.tap_model.specs.Queries.{query_named, hits_of, truth_of, start_of}
 use Rattle.tap_rows.specs.WellFormed.{is_query_of}
 use Rattle.tap_model.specs.Verdicts.{verdict}
-use Rattle.tap_kept.specs.Keeping.{kept_query, after_run}
-use Rattle.tap_engine.specs.Standing.{Represents, kept_named, hits_kept, due_of}
+use Rattle.tap_kept.specs.Keeping.{cached_query, after_run}
+use Rattle.tap_engine.specs.Standing.{Represents, cached_named, cached_hits, due_of}
 use Rattle.tap_model.specs.Replies.{run_query}
 use Rattle.tap_model.proofs.AnswerLaws.{find-in}
 use Rattle.tap_engine.specs.Answering.{Answers}
 use Rattle.tap_engine.proofs.AnswerTurns.{answers-accepted}
-use Rattle.tap_kept.proofs.PlaceLaws.{placed, placed-set}
+use Rattle.tap_kept.proofs.PlaceLaws.{placed, placed-set, same-cached}
 use Rattle.tap_engine.proofs.CheckLaws.{named-is, hits-of-query}
 
 -- what is due is due to a query that there is
@@ -53,32 +52,26 @@ no-due due e = cc
 same-due : (x y : Due) → Some x ≡ Some y → x ≡ y
 same-due x y e = cc
 
-pub due-is : (e : Engine) (t : Tables) (name : List ℕ) (due : Due) → Represents e t → IsSound t e.session → (e.session.moment ≡ None → ⊥) → Some due ≡ due_of e (kept_named e name) → IsDue e t name due
+pub due-is : (e : Engine) (t : Tables) (name : List ℕ) (due : Due) → Represents e t → IsSound t e.session → (e.session.moment ≡ None → ⊥) → Some due ≡ due_of e (cached_named e name) → IsDue e t name due
 due-is e t name due represents sound there is = go (query_named (user_of e.session) name t) refl where
-  kept : Some due ≡ due_of e (option_map (kept_query t) (query_named (user_of e.session) name t))
+  kept : Some due ≡ due_of e (option_map (cached_query t) (query_named (user_of e.session) name t))
   kept = is ∙ ap (due_of e) (named-is e t name represents)
 
   go : (o : Option QueryRow) → query_named (user_of e.session) name t ≡ o → IsDue e t name due
-  go None none = absurd (no-due due (kept ∙ ap (λ o. due_of e (option_map (kept_query t) o)) none))
+  go None none = absurd (no-due due (kept ∙ ap (λ o. due_of e (option_map (cached_query t) o)) none))
   go (Some q) some = record {
     q = q;
     some = some;
     has = find-in (is_query_of (user_of e.session) name) t.queries q some;
-    is = same-due due (record { query = q.num; moment = moment_or_zero e.session; runs = length (run_moments q.num.0 t.runs); hits = hits_kept e (Some (kept_query t q)) }) (kept ∙ ap (λ o. due_of e (option_map (kept_query t) o)) some)
+    is = same-due due (record { query = q.num; moment = moment_or_zero e.session; runs = length (run_moments q.num.0 t.runs); hits = cached_hits e (Some (cached_query t q)) }) (kept ∙ ap (λ o. due_of e (option_map (cached_query t) o)) some)
         ∙ ap (λ hits. record { query = q.num; moment = moment_or_zero e.session; runs = length (run_moments q.num.0 t.runs); hits = hits }) (hits-of-query e t q represents sound (find-in (is_query_of (user_of e.session) name) t.queries q some) there);
   }
-
-abbrev kept_as : QueryRow → ℤ → ℕ → List Entry → KeptQuery
-kept_as row covered runs entries = record { row = row; covered = covered; runs = runs; entries = entries }
-
-same-kept : (row : QueryRow) (a a' : ℤ) (b b' : ℕ) (c c' : List Entry) → a ≡ a' → b ≡ b' → c ≡ c' → kept_as row a b c ≡ kept_as row a' b' c'
-same-kept row a a' b b' c c' e f g = rw (e, f, g) refl
 
 both-parts : (a a' b b' : List Entry) → a ≡ a' → b ≡ b' → a ++ b ≡ a' ++ b'
 both-parts a a' b b' e f = rw (e, f) refl
 
 -- a query after its run
-own-after : (t : Tables) (q : QueryRow) (m : ℤ) → IsKept truth_of start_of t → kept_query (after t (run_change (truth_of q) (start_of q) t q.num m)) q ≡ after_run m (map (entry_at (length (run_moments q.num.0 t.runs) + 1)) (hits_of q t m)) (kept_query t q)
+own-after : (t : Tables) (q : QueryRow) (m : ℤ) → IsKept truth_of start_of t → cached_query (after t (run_change (truth_of q) (start_of q) t q.num m)) q ≡ after_run m (map (entry_at (length (run_moments q.num.0 t.runs) + 1)) (hits_of q t m)) (cached_query t q)
 own-after t q m kept =
     let run = next_run t q.num m in
     let hits = hits_of q t m in
@@ -86,7 +79,7 @@ own-after t q m kept =
     let moments : run_moments q.num.0 (t.runs ++ run ∷ []) ≡ run_moments q.num.0 t.runs ++ m ∷ [] = moments-new q.num.0 t.runs run refl in
     let both : picks_of q.num.0 (t.picks ++ picks) ≡ picks_of q.num.0 t.picks ++ picks = filter-append (λ pick. pick.query.0 == q.num.0) t.picks picks ∙ ap (λ more. picks_of q.num.0 t.picks ++ more) (picks-all (length t.picks + 1) q.num (length t.runs + 1) hits) in
     let place = ordinal-new q.num.0 t.runs run kept.runs refl refl in
-    same-kept q (covered (start_of q) q.num.0 (t.runs ++ run ∷ [])) m (length (run_moments q.num.0 (t.runs ++ run ∷ []))) (length (run_moments q.num.0 t.runs) + 1)
+    same-cached q (covered (start_of q) q.num.0 (t.runs ++ run ∷ [])) m (length (run_moments q.num.0 (t.runs ++ run ∷ []))) (length (run_moments q.num.0 t.runs) + 1)
     (map (picked (t.runs ++ run ∷ [])) (picks_of q.num.0 (t.picks ++ picks))) (delivered q.num.0 t ++ map (entry_at (length (run_moments q.num.0 t.runs) + 1)) hits)
     (ap (last_or (start_of q)) moments ∙ last-more (start_of q) m (run_moments q.num.0 t.runs))
     (ap length moments ∙ length-append (run_moments q.num.0 t.runs) (m ∷ []))
@@ -94,34 +87,34 @@ own-after t q m kept =
     ∙ both-parts _ _ _ _ (old-picks q.num.0 t.runs run t.picks kept.picks) (new-picks (t.runs ++ run ∷ []) (length t.picks + 1) q.num (length t.runs + 1) (length (run_moments q.num.0 t.runs) + 1) hits place))
 
 -- another query after that run
-other-after : (t : Tables) (q other : QueryRow) (m : ℤ) → IsKept truth_of start_of t → (q.num.0 ≡ other.num.0 → ⊥) → kept_query (after t (run_change (truth_of q) (start_of q) t q.num m)) other ≡ kept_query t other
+other-after : (t : Tables) (q other : QueryRow) (m : ℤ) → IsKept truth_of start_of t → (q.num.0 ≡ other.num.0 → ⊥) → cached_query (after t (run_change (truth_of q) (start_of q) t q.num m)) other ≡ cached_query t other
 other-after t q other m kept differs =
     let run = next_run t q.num m in
     let hits = hits_of q t m in
     let picks = pick_rows (length t.picks + 1) q.num (length t.runs + 1) hits in
     let moments : run_moments other.num.0 (t.runs ++ run ∷ []) ≡ run_moments other.num.0 t.runs = moments-other other.num.0 t.runs run differs in
     let own : picks_of other.num.0 (t.picks ++ picks) ≡ picks_of other.num.0 t.picks = filter-none (λ pick. pick.query.0 == other.num.0) t.picks picks (picks-none other.num.0 (length t.picks + 1) q.num (length t.runs + 1) hits differs) in
-    same-kept other (covered (start_of other) other.num.0 (t.runs ++ run ∷ [])) (covered (start_of other) other.num.0 t.runs) (length (run_moments other.num.0 (t.runs ++ run ∷ []))) (length (run_moments other.num.0 t.runs))
+    same-cached other (covered (start_of other) other.num.0 (t.runs ++ run ∷ [])) (covered (start_of other) other.num.0 t.runs) (length (run_moments other.num.0 (t.runs ++ run ∷ []))) (length (run_moments other.num.0 t.runs))
     (map (picked (t.runs ++ run ∷ [])) (picks_of other.num.0 (t.picks ++ picks))) (delivered other.num.0 t)
     (ap (last_or (start_of other)) moments) (ap length moments) (ap (map (picked (t.runs ++ run ∷ []))) own ∙ old-picks other.num.0 t.runs run t.picks kept.picks)
 
--- what is kept there
-pub due-kept : (e : Engine) (t : Tables) (due : Due) (q : QueryRow) (x : KeptQuery) → Represents e t → IsKept truth_of start_of t → In q t.queries → due.query.0 ≡ q.num.0 → slice_index_or e.queries (due.query.0 - 1) x ≡ kept_query t q
+-- the query in memory there
+pub due-kept : (e : Engine) (t : Tables) (due : Due) (q : QueryRow) (x : CachedQuery) → Represents e t → IsKept truth_of start_of t → In q t.queries → due.query.0 ≡ q.num.0 → slice_index_or e.queries (due.query.0 - 1) x ≡ cached_query t q
 due-kept e t due q x represents kept has is =
     let bounds = query-bounds 1 t.queries q kept.queries has in
-    rw represents.queries (placed (kept_query t) 1 (due.query.0 - 1) t.queries q x kept.queries has (omega (arith, is, bounds.0)))
+    rw represents.queries (placed (cached_query t) 1 (due.query.0 - 1) t.queries q x kept.queries has (omega (arith, is, bounds.0)))
 
 -- as many picks as hits
 rows-many : (num : ℕ) (query : QueryNum) (run : ℕ) (hits : List Hit) → length (pick_rows num query run hits) ≡ length hits
 rows-many num query run [] = refl
 rows-many num query run (hit ∷ hits) = ap suc (rows-many (num + 1) query run hits)
 
--- a run more
-represents-placed : (e : Engine) (t : Tables) (h : HitsWithRoom) (q : QueryRow) (i : ℕ) (m : ℤ) (kept : KeptQuery) → Represents e t → IsKept truth_of start_of t → In q t.queries → q.num.0 ≡ 1 + i → (e.session.moment ≡ None → ⊥) → kept ≡ kept_query t q
+-- the engine with one more run
+represents-placed : (e : Engine) (t : Tables) (h : HitsWithRoom) (q : QueryRow) (i : ℕ) (m : ℤ) (kept : CachedQuery) → Represents e t → IsKept truth_of start_of t → In q t.queries → q.num.0 ≡ 1 + i → (e.session.moment ≡ None → ⊥) → kept ≡ cached_query t q
     → Represents (record e { hits = h; queries = slice_set e.queries i (after_run m (map (entry_at (length (run_moments q.num.0 t.runs) + 1)) (hits_of q t m)) kept); run_count = e.run_count + 1; pick_count = e.pick_count + length (hits_of q t m) }) (after t (run_change (truth_of q) (start_of q) t q.num m))
 represents-placed e t h q i m kept represents is-kept has at there is = record {
   rows = represents.rows;
-  queries = rw (represents.queries, is, sym (own-after t q m is-kept)) (placed-set (kept_query t) (kept_query (after t (run_change (truth_of q) (start_of q) t q.num m))) 1 i t.queries q is-kept.queries has at (λ other differs. other-after t q other m is-kept differs));
+  queries = rw (represents.queries, is, sym (own-after t q m is-kept)) (placed-set (cached_query t) (cached_query (after t (run_change (truth_of q) (start_of q) t q.num m))) 1 i t.queries q is-kept.queries has at (λ other differs. other-after t q other m is-kept differs));
   run_count = ap (λ n. n + 1) represents.run_count ∙ sym (length-append t.runs (next_run t q.num m ∷ []));
   pick_count = ap (λ n. n + length (hits_of q t m)) represents.pick_count ∙ ap (λ n. length t.picks + n) (sym (rows-many (length t.picks + 1) q.num (length t.runs + 1) (hits_of q t m)))
       ∙ sym (length-append t.picks (pick_rows (length t.picks + 1) q.num (length t.runs + 1) (hits_of q t m)));
@@ -132,7 +125,7 @@ represents-placed e t h q i m kept represents is-kept has at there is = record {
   greatest = λ none. absurd (there none);
 }
 
--- the rows of a run, where so many runs and picks were made before
+-- the rows of a run after so many runs and picks
 abbrev pub run_rows : ℕ → ℕ → Due → Change
 run_rows runs picks due = RunDone (record { num = runs + 1; query = due.query; moment = due.moment }) (pick_rows (picks + 1) due.query (runs + 1) due.hits)
 
@@ -140,12 +133,12 @@ rows-are : (e : Engine) (t : Tables) (name : List ℕ) (due : Due) → Represent
 rows-are e t name due represents d = ap (λ n. run_rows n e.pick_count due) represents.run_count ∙ ap (λ n. run_rows (length t.runs) n due) represents.pick_count ∙ ap (run_rows (length t.runs) (length t.picks)) d.is
 
 pub represents-run : (e : Engine) (t : Tables) (name : List ℕ) (due : Due) (h : HitsWithRoom) (e' : Engine) → Represents e t → IsKept truth_of start_of t → (d : IsDue e t name due) → (e.session.moment ≡ None → ⊥)
-    → ((x : KeptQuery) → e' ≡ record e { hits = h; queries = slice_set e.queries (due.query.0 - 1) (after_run due.moment (map (entry_at (due.runs + 1)) due.hits) (slice_index_or e.queries (due.query.0 - 1) x)); run_count = e.run_count + 1; pick_count = e.pick_count + length due.hits })
+    → ((x : CachedQuery) → e' ≡ record e { hits = h; queries = slice_set e.queries (due.query.0 - 1) (after_run due.moment (map (entry_at (due.runs + 1)) due.hits) (slice_index_or e.queries (due.query.0 - 1) x)); run_count = e.run_count + 1; pick_count = e.pick_count + length due.hits })
     → Represents e' (after t (run_rows e.run_count e.pick_count due))
 represents-run e t name due h e' represents kept d there is-e =
     let q = d.q in
     let num : due.query.0 ≡ q.num.0 = ap (λ x. x.query.0) d.is in
-    let x : KeptQuery = kept_query t q in
+    let x : CachedQuery = cached_query t q in
     let i : ℕ = due.query.0 - 1 in
     let bounds = query-bounds 1 t.queries q kept.queries d.has in
     let engine : e' ≡ record e { hits = h; queries = slice_set e.queries i (after_run (moment_or_zero e.session) (map (entry_at (length (run_moments q.num.0 t.runs) + 1)) (hits_of q t (moment_or_zero e.session))) (slice_index_or e.queries i x)); run_count = e.run_count + 1; pick_count = e.pick_count + length (hits_of q t (moment_or_zero e.session)) } =

@@ -1,12 +1,10 @@
--- Filters, lists and explanations: why one is refused, and what the engine keeps after one.
-use Rattle.std.proofs.Common.{◌≡◌, ◌∙◌, sym, refl, ap, subst, arith, ℕ, suc, List, [], ◌∷◌, ◌++◌, ◌+◌, length, map, take, get_or, ◌<◌, ◌≤◌, Bool, Option, Some, None, true, false, inl, inr, if◌then◌else◌}
-use Rattle.std.specs.Prelude.{◌⊎◌, sum_by, find, reverse, Result, Ok, Err}
+-- Filters, lists and explanations: why one is refused, and what the engine represents after one.
+use Rattle.std.proofs.Common.{◌≡◌, ◌∙◌, sym, refl, ap, subst, arith, ℕ, List, [], ◌∷◌, ◌++◌, ◌+◌, length, map, ◌≤◌, Option, Some, None, true, false, inl, inr, if◌then◌else◌}
+use Rattle.std.specs.Prelude.{◌⊎◌, sum_by, Result, Ok, Err}
 use Rattle.std.specs.Option.{option_or, option_map}
 use Rattle.std.proofs.lemmas.List.{map-append, append_assoc, append-nil}
 use Rattle.std.specs.List.{All}
 use Rattle.std.proofs.lemmas.List.Elements.{All-weaker}
-use Rattle.std.proofs.Math.Seq.{take-suc}
-use Rattle.std.proofs.lemmas.List.{reverse-append}
 use Rattle.std.proofs.lemmas.List.Sums.{sum_by-append}
 use Rattle.tap_base.specs.Words.{holds}
 use Rattle.tap_rows.specs.declared.tables.Tables.{Tables}
@@ -47,10 +45,10 @@ use Rattle.tap_model.specs.Sound.{IsSound}
 use Rattle.tap_model.specs.Stories.{Refuses}
 use Rattle.tap_model.proofs.AnswerLaws.{some-none, find-in, truth-of-second}
 use Rattle.tap_engine.specs.declared.engine.Engine.{Engine}
-use Rattle.tap_kept.specs.Keeping.{kept_query, with_owner}
-use Rattle.tap_engine.specs.Standing.{Represents, RefusedBy, look_refusal, kept_named}
+use Rattle.tap_kept.specs.Keeping.{cached_query, with_owner}
+use Rattle.tap_engine.specs.Standing.{Represents, RefusedBy, look_refusal, cached_named}
 use Rattle.tap_engine.specs.FilterChecks.{filter_limits, filter_refusal}
-use Rattle.tap_engine.specs.Lists.{rows_kept, lines_kept}
+use Rattle.tap_engine.specs.Lists.{cached_rows, cached_lines}
 use Rattle.tap_engine.specs.Answering.{Answers}
 use Rattle.tap_engine.proofs.RowTurns.{docs-are}
 use Rattle.tap_engine.proofs.AnswerTurns.{answers-accepted}
@@ -90,7 +88,7 @@ fault-late source = go (rules_of source) where
   go (Err R.ManyRules) = refl
   go (Err R.Memory) = refl
 
--- a filter is refused for its text, or for want of memory to read it, once it isn't refused before
+-- a filter is refused for its text, or is out of memory, once it isn't refused before
 pub text-refused : (e : Engine) (block : Block) (refusal : Refusal) → no_moment e.session ≡ None → no_user e.session ≡ None → long_filter block ≡ None → first_refusal (filter_limits e (user_of e.session) (length (text_of block))) ≡ None
     → (filter_fault (text_of block) ≡ Some refusal) ⊎ (refusal ≡ Memory) → RefusedBy (filter_refusal e block) refusal
 text-refused e block refusal moment user long limits by =
@@ -120,7 +118,7 @@ answers-filter t s block n count row change s' none at is-row is-count is-change
       session_is = is-s ∙ accepted.session_is;
     }
 
--- a filter more
+-- the engine with one more filter
 pub represents-filter : (e : Engine) (t : Tables) (row : FilterRow) → Represents e t → (e.session.moment ≡ None → ⊥)
     → Represents (record e { filters = e.filters ++ row ∷ []; owners = with_owner e.owners row.owner; bytes = e.bytes + length row.source }) (after t (OneFilter row))
 represents-filter e t row represents there = record {
@@ -145,13 +143,6 @@ represents-filter e t row represents there = record {
 
   more : (a b c d d' n k : ℕ) → n ≡ a + b + c + d → d' ≡ d + (0 + k) → n + k ≡ a + b + c + d'
   more a b c d d' n k is e = omega (arith, is, e)
-
--- the last of some filters
-pub find_last : (p : FilterRow → Bool) (k : ℕ) (filters : List FilterRow) (d : FilterRow) → k < length filters → find p (reverse (take (k + 1) filters)) ≡ (if p (get_or filters k d) then Some (get_or filters k d) else find p (reverse (take k filters)))
-find_last p k filters d lt =
-    let one : k + 1 ≡ suc k = omega arith in
-    let next : take (k + 1) filters ≡ take k filters ++ get_or filters k d ∷ [] = ap (λ n. take n filters) one ∙ take-suc filters k d lt in
-    ap (λ l. find p (reverse l)) next ∙ ap (find p) (reverse-append (take k filters) (get_or filters k d ∷ []))
 
 text-rules : (source : List ℕ) → Each Named (rules_in_text source)
 unfolding rules_in_text
@@ -183,7 +174,7 @@ some-same : (xs ys : List Listed) → Some xs ≡ Some ys → xs ≡ ys
 some-same xs ys e = cc
 
 -- a list that isn't refused is of a query that there is
-pub answers-list : (e : Engine) (t : Tables) (name : List ℕ) (rows : List Listed) → Represents e t → IsSound t e.session → look_refusal e name ≡ None → Some rows ≡ rows_kept e (kept_named e name) → Answers t e.session (ListOf name) (Listing name rows) None e.session
+pub answers-list : (e : Engine) (t : Tables) (name : List ℕ) (rows : List Listed) → Represents e t → IsSound t e.session → look_refusal e name ≡ None → Some rows ≡ cached_rows e (cached_named e name) → Answers t e.session (ListOf name) (Listing name rows) None e.session
 answers-list e t name rows represents sound none is = go (query_named (user_of e.session) name t) refl where
   accepted : Answers t e.session (ListOf name) (show_list (query_named (user_of e.session) name t) name e.session t).reply (show_list (query_named (user_of e.session) name t) name e.session t).change (show_list (query_named (user_of e.session) name t) name e.session t).session
   accepted = answers-accepted t e.session (ListOf name) (sym (box-verdict e t name represents) ∙ none)
@@ -191,13 +182,13 @@ answers-list e t name rows represents sound none is = go (query_named (user_of e
   rules : List Rule
   rules = rules_of_user (user_of e.session) t
 
-  kept : Some rows ≡ rows_kept e (option_map (kept_query t) (query_named (user_of e.session) name t))
-  kept = is ∙ ap (rows_kept e) (named-is e t name represents)
+  kept : Some rows ≡ cached_rows e (option_map (cached_query t) (query_named (user_of e.session) name t))
+  kept = is ∙ ap (cached_rows e) (named-is e t name represents)
 
   go : (o : Option QueryRow) → query_named (user_of e.session) name t ≡ o → Answers t e.session (ListOf name) (Listing name rows) None e.session
-  go None none' = absurd (some-rows rows (kept ∙ ap (λ o. rows_kept e (option_map (kept_query t) o)) none'))
+  go None none' = absurd (some-rows rows (kept ∙ ap (λ o. cached_rows e (option_map (cached_query t) o)) none'))
   go (Some q) some =
-      let by-kept : Some rows ≡ Some (listing_of (filter_rules (last_filter (user_of e.session) e.filters)) e.index.docs (delivered q.num.0 t)) = kept ∙ ap (λ o. rows_kept e (option_map (kept_query t) o)) some in
+      let by-kept : Some rows ≡ Some (listing_of (filter_rules (last_filter (user_of e.session) e.filters)) e.index.docs (delivered q.num.0 t)) = kept ∙ ap (λ o. cached_rows e (option_map (cached_query t) o)) some in
       let same : rows ≡ listing_of (filter_rules (last_filter (user_of e.session) e.filters)) e.index.docs (delivered q.num.0 t) = some-same rows _ by-kept in
       let box = box-is truth_of start_of truth-of-second t q t.queries (find-in (is_query_of (user_of e.session) name) t.queries q some) sound.kept.each in
       let whole : rows ≡ listing_of rules t.docs (box_in q t) =
@@ -221,18 +212,18 @@ lines-same : (xs ys : List (List ℕ)) → Some xs ≡ Some ys → xs ≡ ys
 lines-same xs ys e = cc
 
 -- an explanation that isn't refused is of a query that there is
-pub answers-lines : (e : Engine) (t : Tables) (name : List ℕ) (lines : List (List ℕ)) → Represents e t → look_refusal e name ≡ None → Some lines ≡ lines_kept (kept_named e name) → Answers t e.session (Explain name) (Explained name lines) None e.session
+pub answers-lines : (e : Engine) (t : Tables) (name : List ℕ) (lines : List (List ℕ)) → Represents e t → look_refusal e name ≡ None → Some lines ≡ cached_lines (cached_named e name) → Answers t e.session (Explain name) (Explained name lines) None e.session
 answers-lines e t name lines represents none is = go (query_named (user_of e.session) name t) refl where
   accepted : Answers t e.session (Explain name) (show_lines (query_named (user_of e.session) name t) name e.session t).reply (show_lines (query_named (user_of e.session) name t) name e.session t).change (show_lines (query_named (user_of e.session) name t) name e.session t).session
   accepted = answers-accepted t e.session (Explain name) (sym (box-verdict e t name represents) ∙ none)
 
-  kept : Some lines ≡ lines_kept (option_map (kept_query t) (query_named (user_of e.session) name t))
-  kept = is ∙ ap lines_kept (named-is e t name represents)
+  kept : Some lines ≡ cached_lines (option_map (cached_query t) (query_named (user_of e.session) name t))
+  kept = is ∙ ap cached_lines (named-is e t name represents)
 
   go : (o : Option QueryRow) → query_named (user_of e.session) name t ≡ o → Answers t e.session (Explain name) (Explained name lines) None e.session
-  go None none' = absurd (some-lines lines (kept ∙ ap (λ o. lines_kept (option_map (kept_query t) o)) none'))
+  go None none' = absurd (some-lines lines (kept ∙ ap (λ o. cached_lines (option_map (cached_query t) o)) none'))
   go (Some q) some =
-      let same : lines ≡ lines_of q = lines-same lines (lines_of q) (kept ∙ ap (λ o. lines_kept (option_map (kept_query t) o)) some) in
+      let same : lines ≡ lines_of q = lines-same lines (lines_of q) (kept ∙ ap (λ o. cached_lines (option_map (cached_query t) o)) some) in
       record {
         fine = accepted.fine;
         reply_is = ap (Explained name) same ∙ sym (ap (λ o. (show_lines o name e.session t).reply) some) ∙ accepted.reply_is;

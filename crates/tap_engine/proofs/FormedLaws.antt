@@ -15,7 +15,7 @@ use Rattle.row_index.specs.Orders.{doc_number, doc_arrival, note_number, note_ar
 use Rattle.tap_rows.specs.Kept.{Each, HasRun, RunsFrom, QueriesFrom}
 use Rattle.tap_rows.specs.WellFormed.{may_follow, row_at, is_row, docs_stand, doc_stands, note_stands, notes_stand, query_stands, queries_stand, run_stands, runs_stand, is_picked, pick_stands, picks_stand, is_well_formed}
 use Rattle.tap_model.specs.Sound.{IsMoment}
-use Rattle.tap_kept.specs.Starting.{IsOneOf, AreStanding, AreLeft, PicksAreDistinct}
+use Rattle.tap_kept.specs.Starting.{IsOneOf, AreInOrder, FollowInOrder, PicksAreDistinct}
 
 equal : (a b : ℕ) → (a == b) ≡ true → a ≡ b
 equal a b e = grind arith
@@ -30,7 +30,7 @@ follows low m e = let parts = and_parts (int_le low m) (int_le m (pos LAST_MOMEN
 next : (n : ℕ) → n + 1 ≡ suc n
 next n = omega arith
 
-docs-standing : (place : ℕ) (low : ℤ) (docs : List Doc) → pos 0 ≤ℤ low → docs_stand place low docs ≡ true → AreStanding doc_number doc_arrival place low docs × Each (λ doc. length doc.text ≤ 1048576) docs
+docs-standing : (place : ℕ) (low : ℤ) (docs : List Doc) → pos 0 ≤ℤ low → docs_stand place low docs ≡ true → AreInOrder doc_number doc_arrival place low docs × Each (λ doc. length doc.text ≤ 1048576) docs
 docs-standing place low [] from e = (tt, tt)
 docs-standing place low (doc ∷ docs) from e =
     let both = and_parts (doc_stands place low doc) (docs_stand (place + 1) doc.arrival docs) e in
@@ -41,7 +41,7 @@ docs-standing place low (doc ∷ docs) from e =
     let rest = docs-standing (place + 1) doc.arrival docs above both.1 in
     ((equal doc.num.0 place here.0, moment.0, record { early = above; late = moment.1 }, rest.0), (at-most (length doc.text) 1048576 this.1, rest.1))
 
-notes-standing : (docs : List Doc) (place : ℕ) (low : ℤ) (notes : List Note) → pos 0 ≤ℤ low → notes_stand docs place low notes ≡ true → AreStanding note_number note_arrival place low notes
+notes-standing : (docs : List Doc) (place : ℕ) (low : ℤ) (notes : List Note) → pos 0 ≤ℤ low → notes_stand docs place low notes ≡ true → AreInOrder note_number note_arrival place low notes
 notes-standing docs place low [] from e = tt
 notes-standing docs place low (note ∷ notes) from e =
     let both = and_parts (note_stands docs place low note) (notes_stand docs (place + 1) note.arrival notes) e in
@@ -142,8 +142,8 @@ picks-once runs docs earlier place before (pick ∷ picks) e =
 
 -- what an engine needs of well formed tables
 pub record Formed (tables : Tables) : Type 0 where
-  pub docs : AreLeft doc_number doc_arrival [] tables.docs
-  pub notes : AreLeft note_number note_arrival [] tables.notes
+  pub docs : FollowInOrder doc_number doc_arrival [] tables.docs
+  pub notes : FollowInOrder note_number note_arrival [] tables.notes
   pub short : Each (λ doc. length doc.text ≤ 1048576) tables.docs
   pub queries : QueriesFrom 1 tables.queries
   pub moments : Each (λ query. IsMoment query.arrival) tables.queries

@@ -13,5 +13,4 @@ mod NoteLaws
 mod MboxLaws
 mod FilterLaws
 pub mod FormedLaws
-pub mod SumLaws
 pub mod StartedLaws

@@ -1,4 +1,4 @@
--- Mailbox files: why one is refused, and what the engine keeps after one.
+-- Mailbox files: why one is refused, and what the engine represents after one.
 use Rattle.std.proofs.Common.{◌≡◌, ◌∙◌, sym, refl, ap, subst, arith, ℕ, ℤ, List, [], ◌∷◌, ◌+◌, ◌*◌, ◌≤◌, suc, length, Bool, true, false, Option, Some, None, inr}
 use Rattle.std.specs.Prelude.{◌&&◌, ◌==◌, nat_le, sum_by}
 use Rattle.std.specs.Option.{option_or}
@@ -6,7 +6,6 @@ use Rattle.std.proofs.lemmas.List.{append-nil}
 use Rattle.std.proofs.lemmas.List.Sums.{sum_by-append, sum_by-cons}
 use Rattle.tap_rows.specs.declared.tables.Tables.{Tables}
 use Rattle.tap_rows.specs.declared.rows.Doc.{Doc}
-use Rattle.tap_base.specs.declared.numbers.DocNum.{DocNum}
 use Rattle.tap_rows.specs.declared.change.Change.{Change}
 use Rattle.tap_rows.specs.declared.change.Change.TheVariants.{Docs}
 use Rattle.tap_rows.specs.Tables.{after}
@@ -15,13 +14,13 @@ use Rattle.mail_lines.specs.declared.block.Block.TheVariants.{Whole, Long}
 use Rattle.script_lang.specs.declared.refusal.Refusal.{Refusal}
 use Rattle.script_lang.specs.declared.refusal.Refusal.TheVariants.{NoMoment, Memory, Limit}
 use Rattle.script_lang.specs.declared.refusal.LimitName.TheVariants.{Message, Documents, Store}
-use Rattle.script_lang.specs.declared.command.Command.TheVariants.{Mail, Mbox}
-use Rattle.script_lang.specs.declared.reply.Reply.TheVariants.{OneDoc, Docs as DocsAdded}
+use Rattle.script_lang.specs.declared.command.Command.TheVariants.{Mbox}
+use Rattle.script_lang.specs.declared.reply.Reply.TheVariants.{Docs as DocsAdded}
 use Rattle.tap_model.specs.declared.limits.TheConstants.{DOCUMENT_LIMIT, STORE_LIMIT}
 use Rattle.tap_model.specs.declared.session.Session.{Session}
 use Rattle.tap_model.specs.Sessions.{moment_or_zero}
 use Rattle.tap_model.specs.Limits.{limit_refusal}
-use Rattle.tap_model.specs.Verdicts.{first_refusal, verdict, missing, refuse_unless, no_moment, messages_of, are_short, long_message, long_block, bytes_of, text_of, is_early}
+use Rattle.tap_model.specs.Verdicts.{first_refusal, verdict, missing, refuse_unless, no_moment, messages_of, are_short, long_message, long_block, bytes_of, is_early}
 use Rattle.tap_model.specs.Replies.{docs_from, next_docs, some_docs, tables_after}
 use Rattle.tap_model.specs.Stories.{Refuses}
 use Rattle.tap_model.proofs.AnswerLaws.{some-none}
@@ -59,7 +58,7 @@ block-late : (block : Block) → is_early (long_block block) ≡ false
 block-late Long = refl
 block-late (Whole text) = refl
 
--- once there is a moment, there may be no memory for it
+-- once there is a moment, it may be out of memory
 pub mbox-memory : (e : Engine) (block : Block) → no_moment e.session ≡ None → RefusedBy (mbox_refusal e block) Memory
 unfolding mbox_bounds
 mbox-memory e block moment = inr (refl, ap (λ x. is_early (option_or x (mbox_bounds e block (messages_of block)))) moment ∙ late) where
@@ -112,7 +111,7 @@ answers-mbox t s block texts count first n moment change s' none is at is-count 
       session_is = is-s ∙ accepted.session_is;
     }
 
--- documents more
+-- the engine with more documents
 pub represents-docs : (e : Engine) (t : Tables) (h : HitsWithRoom) (moment : ℤ) (texts : List (List ℕ)) → Represents e t → (e.session.moment ≡ None → ⊥)
     → Represents (record e { index = after e.index (Docs (next_docs t moment texts)); hits = h; bytes = e.bytes + bytes_of texts }) (tables_after (some_docs (next_docs t moment texts)) t)
 represents-docs e t h moment texts represents there = rw (docs-change t (next_docs t moment texts)) (record {
@@ -130,26 +129,11 @@ represents-docs e t h moment texts represents there = rw (docs-change t (next_do
   more : (a b c d a' n k : ℕ) → n ≡ a + b + c + d → a' ≡ a + k → n + k ≡ a' + b + c + d
   more a b c d a' n k is e = omega (arith, is, e)
 
--- the same, by how many documents are kept
+-- the engine with more documents, by how many there are
 pub represents-more : (e : Engine) (t : Tables) (h : HitsWithRoom) (moment : ℤ) (texts : List (List ℕ)) → Represents e t → (e.session.moment ≡ None → ⊥)
     → Represents (record e { index = after e.index (Docs (docs_from (length e.index.docs + 1) moment texts)); hits = h; bytes = e.bytes + bytes_of texts }) (tables_after (some_docs (docs_from (length e.index.docs + 1) moment texts)) t)
 represents-more e t h moment texts represents there =
     subst (λ n. Represents (record e { index = after e.index (Docs (docs_from (n + 1) moment texts)); hits = h; bytes = e.bytes + bytes_of texts }) (tables_after (some_docs (docs_from (n + 1) moment texts)) t)) (sym (ap length (docs-are represents))) (represents-docs e t h moment texts represents there)
-
--- a message is refused or added
-pub answers-mail : (t : Tables) (s : Session) (block : Block) (text : List ℕ) (n : ℕ) (num : DocNum) (moment : ℤ) (change : Change) (s' : Session) → verdict (Mail block) s t ≡ None → text ≡ text_of block → moment ≡ moment_or_zero s
-    → n ≡ length t.docs → num.0 ≡ n + 1 → change ≡ Docs (docs_from (n + 1) moment (text ∷ [])) → s' ≡ s → Answers t s (Mail block) (OneDoc num) (Some change) s'
-answers-mail t s block text n num moment change s' none is at is-n is-num is-change is-s =
-    let accepted = answers-accepted t s (Mail block) none in
-    record {
-      fine = none;
-      reply_is = ap OneDoc (doc-num num (length t.docs + 1) (is-num ∙ ap (λ n. n + 1) is-n)) ∙ accepted.reply_is;
-      change_is = ap Some is-change ∙ ap (λ m. Some (Docs (docs_from (n + 1) m (text ∷ [])))) at ∙ ap (λ text. Some (Docs (docs_from (n + 1) (moment_or_zero s) (text ∷ [])))) is ∙ ap (λ n. Some (Docs (docs_from (n + 1) (moment_or_zero s) (text_of block ∷ [])))) is-n ∙ accepted.change_is;
-      session_is = is-s ∙ accepted.session_is;
-    }
-  where
-    doc-num : (num : DocNum) (n : ℕ) → num.0 ≡ n → num ≡ record { 0 = n }
-    doc-num num n e = ap (λ n. record { 0 = n }) e
 
 -- documents that there are
 pub docs-there : (num : ℕ) (moment : ℤ) (texts : List (List ℕ)) → (length texts == 0) ≡ false → Some (Docs (docs_from num moment texts)) ≡ some_docs (docs_from num moment texts)

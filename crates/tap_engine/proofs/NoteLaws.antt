@@ -1,4 +1,4 @@
--- Notes: why one is refused, and what the engine keeps after one.
+-- Notes: why one is refused, and what the engine represents after one.
 use Rattle.std.proofs.Common.{◌≡◌, ◌∙◌, sym, refl, ap, subst, arith, ℕ, ℤ, List, [], ◌∷◌, ◌+◌, length, Option, Some, None}
 use Rattle.std.specs.Prelude.{sum_by}
 use Rattle.std.specs.Option.{option_or}
@@ -61,7 +61,7 @@ answers-note t s doc kind value text n note change s' none count is-note is-chan
       session_is = is-s ∙ accepted.session_is;
     }
 
--- a note more
+-- the engine with one more note
 pub represents-note : (e : Engine) (t : Tables) (note : Note) → Represents e t → (e.session.moment ≡ None → ⊥) → Represents (record e { index = after e.index (OneNote note); bytes = e.bytes + length note.text }) (after t (OneNote note))
 represents-note e t note represents there = record {
   rows = ap (λ rows. after rows (OneNote note)) represents.rows;

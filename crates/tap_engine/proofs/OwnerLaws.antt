@@ -12,9 +12,6 @@ use Rattle.tap_kept.specs.Keeping.{with_owner}
 same-text : (x y : List ℕ) → bytes_eq x y ≡ true → x ≡ y
 same-text x y e = search (rules, bytes_eq-Decides)
 
-self-text : (x : List ℕ) → bytes_eq x x ≡ true
-self-text x = search (rules, bytes_eq-Decides)
-
 or-middle : (a b c : Bool) → (a || (b || c)) ≡ (b || (a || c))
 or-middle true true c = refl
 or-middle true false c = refl
@@ -56,7 +53,7 @@ length-with : (h : Bool) (owners : List (List ℕ)) (u : List ℕ) → length (i
 length-with true owners u = refl
 length-with false owners u = length-append owners (u ∷ [])
 
--- the owners that are kept count as the different ones of the rows
+-- the owners in memory are as many as the different ones of the rows
 pub users-more : (owners : List (List ℕ)) (a b : List (List ℕ)) (u : List ℕ) → length owners ≡ different (a ++ b) → holds owners u ≡ holds (a ++ b) u → length (with_owner owners u) ≡ different (a ++ u ∷ b)
 users-more owners a b u count has = length-with (holds owners u) owners u ∙ rw (has, count) (sym (different-in a b u))
 
@@ -72,6 +69,6 @@ holds-with owners u v true e = go (bytes_eq v u) refl where
   go true f = rw f (subst (λ z. holds owners z ≡ true) (sym (same-text v u f)) e)
   go false f = rw f refl
 
--- and they are the same
+-- a user owns a query or a filter by the owners in memory if and only if by the rows
 pub owners-more : (owners : List (List ℕ)) (a b : List (List ℕ)) (u v : List ℕ) → ((w : List ℕ) → holds owners w ≡ holds (a ++ b) w) → holds (with_owner owners u) v ≡ holds (a ++ u ∷ b) v
 owners-more owners a b u v same = holds-with owners u v (holds owners u) refl ∙ ap (λ x. bytes_eq v u || x) (same v) ∙ sym (holds-in a b u v)

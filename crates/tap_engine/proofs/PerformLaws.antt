@@ -54,11 +54,11 @@ unspared (Wake name) s t change none is = ap is_early none
 unspared (ScoresOf kind) s t change none is = ap is_early none
 unspared (DigestOf name ordinal) s t change none is = ap is_early none
 
--- a command for whose rows the keeper has no memory
+-- a command at whose rows the keeper is out of memory
 pub memory-step : (t : Tables) (s : Session) (c : Command) (reply : Reply) (change : Change) (s' : Session) → Answers t s c reply (Some change) s' → Step t s c (No Memory) t s
 memory-step t s c reply change s' answers = inr (record { reply_is = refl; tables_are = refl; session_is = refl; not_spared = unspared c s t change answers.fine (sym answers.change_is) })
 
--- the rows of a command stand in order behind those of the tables
+-- the rows of a command follow those of the tables in order
 pub rows-fit : (t : Tables) (s : Session) (c : Command) (reply : Reply) (change : Change) (s' : Session) → IsSound t s → Answers t s c reply (Some change) s' → fits t change ≡ true
 rows-fit t s c reply change s' sound answers = accepted_fits t s c change sound (sym answers.change_is)
 
@@ -66,7 +66,7 @@ rows-fit t s c reply change s' sound answers = accepted_fits t s c change sound 
 pub rows-next : (t : Tables) (s : Session) (c : Command) (reply : Reply) (change : Change) (s' : Session) → Answers t s c reply (Some change) s' → after t change ≡ next_tables c reply s t
 rows-next t s c reply change s' answers = ap (λ change. tables_after change t) answers.change_is ∙ sym (next-is c reply s t answers.reply_is)
 
--- the step where the keeper didn't commit
+-- the step if the keeper didn't commit
 pub fault-step : (fault : CommitFault) (t : Tables) (e back e' : Engine) (c : Command) (result : Result Reply EngineFault) → result ≡ fault_answer fault → e' ≡ fault_engine fault back → back.session ≡ e.session → Step t e.session c (No Memory) t e.session
     → IfOk result (λ reply. Step t e.session c reply (next_tables c reply e.session t) e'.session)
 fault-step C.Memory t e back e' c result is to same step = subst (λ r. IfOk r (λ reply. Step t e.session c reply (next_tables c reply e.session t) e'.session)) (sym is) (subst (λ s. Step t e.session c (No Memory) t s) (sym (ap (λ k. k.session) to ∙ same)) step)
@@ -75,7 +75,7 @@ fault-step C.Failed t e back e' c result is to same step = subst (λ r. IfOk r (
 abbrev not_done : CommitFault → Result (Unit {0}) CommitFault
 not_done fault = Err fault
 
--- what the keeper tells where it had no memory
+-- what the keeper tells if it was out of memory
 pub fault-kept : (fault : CommitFault) (P : Tables → Type 0) (t : Tables) (s : Session) (c : Command) (result : Result Reply EngineFault) → result ≡ fault_answer fault → (not_done fault ≡ not_done C.Memory → P t) → IfOk result (λ reply. P (next_tables c reply s t))
 fault-kept C.Memory P t s c result is kept = subst (λ r. IfOk r (λ reply. P (next_tables c reply s t))) (sym is) (kept refl)
 fault-kept C.Failed P t s c result is kept = subst (λ r. IfOk r (λ reply. P (next_tables c reply s t))) (sym is) tt
@@ -93,13 +93,13 @@ one-of t x s c reply change s' answers (inr e) = inr (e ∙ ap (λ change. table
 pub taken-there : (undo : Undo) (new old : Engine) (change : Option Change) (rows : Change) → change ≡ Some rows → OnSome change (UndoRestores undo new old) → UndoRestores undo new old
 taken-there undo new old change rows is takes = subst (λ change. OnSome change (UndoRestores undo new old)) is takes
 
--- the hits have no part in what an engine stands for
+-- the hits have no part in what an engine represents
 represents-hits : (e : Engine) (t : Tables) (h : HitsWithRoom) → Represents e t → Represents (record e { hits = h }) t
 represents-hits e t h represents = record { rows = represents.rows; queries = represents.queries; filters = represents.filters; run_count = represents.run_count; pick_count = represents.pick_count; bytes = represents.bytes; users = represents.users; owners = represents.owners; greatest = represents.greatest }
 
--- what the engine stands for where the keeper didn't commit
-pub fault-stands : (fault : CommitFault) (t : Tables) (e back e' : Engine) (c : Command) (result : Result Reply EngineFault) → result ≡ fault_answer fault → e' ≡ fault_engine fault back → IsUnchangedButHits back e → Represents e t
+-- what the engine represents if the keeper didn't commit
+pub fault-represents : (fault : CommitFault) (t : Tables) (e back e' : Engine) (c : Command) (result : Result Reply EngineFault) → result ≡ fault_answer fault → e' ≡ fault_engine fault back → IsUnchangedButHits back e → Represents e t
     → IfOk result (λ reply. Represents e' (next_tables c reply e.session t))
-fault-stands C.Memory t e back e' c result is to still represents =
+fault-represents C.Memory t e back e' c result is to still represents =
     subst (λ r. IfOk r (λ reply. Represents e' (next_tables c reply e.session t))) (sym is) (subst (λ k. Represents k t) (sym (to ∙ still.same)) (represents-hits e t back.hits represents))
-fault-stands C.Failed t e back e' c result is to still represents = subst (λ r. IfOk r (λ reply. Represents e' (next_tables c reply e.session t))) (sym is) tt
+fault-represents C.Failed t e back e' c result is to still represents = subst (λ r. IfOk r (λ reply. Represents e' (next_tables c reply e.session t))) (sym is) tt

@@ -23,30 +23,30 @@ use Rattle.tap_model.specs.Sessions.{or_zero, moment_or_zero}
 use Rattle.tap_model.specs.Sound.{IsMoment}
 use Rattle.tap_model.specs.Verdicts.{is_back, refuse_unless}
 use Rattle.tap_model.proofs.AnswerLaws.{some-none}
-use Rattle.tap_kept.specs.declared.kept_query.KeptQuery.{KeptQuery}
+use Rattle.tap_kept.specs.declared.cached_query.CachedQuery.{CachedQuery}
 use Rattle.tap_engine.specs.declared.engine.Engine.{Engine}
 use Rattle.tap_engine.specs.declared.run.Due.{Due}
-use Rattle.tap_kept.specs.Keeping.{named_in, new_kept, after_run, before_run, without_run}
-use Rattle.tap_engine.specs.Ready.{KeptFrom, RowsBy, IsTime, IsReady}
-use Rattle.tap_engine.specs.Standing.{kept_named, hits_kept, due_of}
+use Rattle.tap_kept.specs.Keeping.{named_in, never_run, after_run, before_run, without_run}
+use Rattle.tap_engine.specs.Ready.{CachedFrom, RowsBy, IsTime, IsReady}
+use Rattle.tap_engine.specs.Standing.{cached_named, cached_hits, due_of}
 use Rattle.tap_engine.specs.Answering.{IsUnchangedButHits, UndoRestores, undo_run}
 
--- what is kept of a query that stands at the place of its number
-pub record KeptAt (num runs : ℕ) (queries : List KeptQuery) (kept : KeptQuery) : Type 0 where
+-- a query in memory at the place of its number
+pub record KeptAt (num runs : ℕ) (queries : List CachedQuery) (kept : CachedQuery) : Type 0 where
   pub low : num ≤ kept.row.num.0
   pub high : kept.row.num.0 < num + length queries
   pub few : kept.runs ≤ runs
   pub covered : IsMoment kept.covered
-  pub at : (i : ℕ) (d : KeptQuery) → kept.row.num.0 ≡ num + i → slice_index_or queries i d ≡ kept
+  pub at : (i : ℕ) (d : CachedQuery) → kept.row.num.0 ≡ num + i → slice_index_or queries i d ≡ kept
 
-some-kept : (x y : KeptQuery) → Some x ≡ Some y → x ≡ y
+some-kept : (x y : CachedQuery) → Some x ≡ Some y → x ≡ y
 some-kept x y e = cc
 
-no-kept : (x : KeptQuery) → None ≡ Some x → ⊥
+no-kept : (x : CachedQuery) → None ≡ Some x → ⊥
 no-kept x e = cc
 
--- what is found stands at the place of its number
-found-at : (p : KeptQuery → Bool) (num runs : ℕ) (queries : List KeptQuery) (kept : KeptQuery) → KeptFrom num runs queries → find p queries ≡ Some kept → KeptAt num runs queries kept
+-- what is found is at the place of its number
+found-at : (p : CachedQuery → Bool) (num runs : ℕ) (queries : List CachedQuery) (kept : CachedQuery) → CachedFrom num runs queries → find p queries ≡ Some kept → KeptAt num runs queries kept
 found-at p num runs [] kept from e = absurd (no-kept kept e)
 found-at p num runs (x ∷ queries) kept from e = go (p x) refl (found-at p (suc num) runs queries kept from.3) where
   here : x ≡ kept → KeptAt num runs (x ∷ queries) kept
@@ -73,16 +73,16 @@ found-at p num runs (x ∷ queries) kept from e = go (p x) refl (found-at p (suc
   go true y rest = here (some-kept x kept (sym (ap (λ b. if b then Some x else find p queries) y) ∙ e))
   go false n rest = later (rest (sym (ap (λ b. if b then Some x else find p queries) n) ∙ e))
 
-pub named-at : (owner name : List ℕ) (num runs : ℕ) (queries : List KeptQuery) (kept : KeptQuery) → KeptFrom num runs queries → named_in owner name queries ≡ Some kept → KeptAt num runs queries kept
+pub named-at : (owner name : List ℕ) (num runs : ℕ) (queries : List CachedQuery) (kept : CachedQuery) → CachedFrom num runs queries → named_in owner name queries ≡ Some kept → KeptAt num runs queries kept
 unfolding named_in
 named-at owner name num runs queries kept from e = found-at (λ kept. is_query_of owner name kept.row) num runs queries kept from e
 
--- what is due is due to a query that is kept at the place of its number
+-- what is due is due to a query at the place of its number
 pub record DueAt (e : Engine) (name : List ℕ) (due : Due) : Type 0 where
-  pub kept : KeptQuery
-  pub named : kept_named e name ≡ Some kept
+  pub kept : CachedQuery
+  pub named : cached_named e name ≡ Some kept
   pub at : KeptAt 1 e.run_count e.queries kept
-  pub is : due ≡ record { query = kept.row.num; moment = moment_or_zero e.session; runs = kept.runs; hits = hits_kept e (Some kept) }
+  pub is : due ≡ record { query = kept.row.num; moment = moment_or_zero e.session; runs = kept.runs; hits = cached_hits e (Some kept) }
 
 no-due : (due : Due) → Some due ≡ None → ⊥
 no-due due e = cc
@@ -90,57 +90,57 @@ no-due due e = cc
 same-due : (x y : Due) → Some x ≡ Some y → x ≡ y
 same-due x y e = cc
 
-pub due-at : (e : Engine) (name : List ℕ) (due : Due) → IsReady e → Some due ≡ due_of e (kept_named e name) → DueAt e name due
-due-at e name due ready is = go (kept_named e name) refl where
-  go : (o : Option KeptQuery) → kept_named e name ≡ o → DueAt e name due
+pub due-at : (e : Engine) (name : List ℕ) (due : Due) → IsReady e → Some due ≡ due_of e (cached_named e name) → DueAt e name due
+due-at e name due ready is = go (cached_named e name) refl where
+  go : (o : Option CachedQuery) → cached_named e name ≡ o → DueAt e name due
   go None none = absurd (no-due due (is ∙ ap (due_of e) none))
   go (Some kept) some = record {
     kept = kept;
     named = some;
     at = named-at _ name 1 e.run_count e.queries kept ready.queries some;
-    is = same-due due (record { query = kept.row.num; moment = moment_or_zero e.session; runs = kept.runs; hits = hits_kept e (Some kept) }) (is ∙ ap (due_of e) some);
+    is = same-due due (record { query = kept.row.num; moment = moment_or_zero e.session; runs = kept.runs; hits = cached_hits e (Some kept) }) (is ∙ ap (due_of e) some);
   }
 
 -- more runs of all
-more-runs : (num runs runs' : ℕ) (queries : List KeptQuery) → runs ≤ runs' → KeptFrom num runs queries → KeptFrom num runs' queries
+more-runs : (num runs runs' : ℕ) (queries : List CachedQuery) → runs ≤ runs' → CachedFrom num runs queries → CachedFrom num runs' queries
 more-runs num runs runs' [] le from = tt
 more-runs num runs runs' (kept ∷ queries) le from = (from.0, omega (arith, from.1, le), from.2, more-runs (suc num) runs runs' queries le from.3)
 
 -- one more query
-pub kept-more : (num runs : ℕ) (queries : List KeptQuery) (row : QueryRow) → KeptFrom num runs queries → row.num.0 ≡ num + length queries → IsMoment (start_of row) → KeptFrom num runs (queries ++ new_kept row ∷ [])
+pub kept-more : (num runs : ℕ) (queries : List CachedQuery) (row : QueryRow) → CachedFrom num runs queries → row.num.0 ≡ num + length queries → IsMoment (start_of row) → CachedFrom num runs (queries ++ never_run row ∷ [])
 kept-more num runs [] row from is start = (omega (arith, is), omega arith, start, tt)
 kept-more num runs (kept ∷ queries) row from is start = (from.0, from.1, from.2, kept-more (suc num) runs queries row from.3 (omega (arith, is)) start)
 
 -- one more run of the query at a place
-pub kept-run : (num runs i : ℕ) (queries : List KeptQuery) (m : ℤ) (entries : List Entry) (d : KeptQuery) → KeptFrom num runs queries → IsMoment m → KeptFrom num (runs + 1) (slice_set queries i (after_run m entries (slice_index_or queries i d)))
+pub kept-run : (num runs i : ℕ) (queries : List CachedQuery) (m : ℤ) (entries : List Entry) (d : CachedQuery) → CachedFrom num runs queries → IsMoment m → CachedFrom num (runs + 1) (slice_set queries i (after_run m entries (slice_index_or queries i d)))
 kept-run num runs i [] m entries d from moment = tt
 kept-run num runs zero (kept ∷ queries) m entries d from moment = (from.0, omega (arith, from.1), moment, more-runs (suc num) runs (runs + 1) queries (omega arith) from.3)
 kept-run num runs (suc i) (kept ∷ queries) m entries d from moment = (from.0, omega (arith, from.1), from.2, kept-run (suc num) runs i queries m entries d from.3 moment)
 
--- a run that is taken back
-same-query : (kept : KeptQuery) (m : ℤ) (entries : List Entry) → before_run kept.covered kept.runs (length kept.entries) (after_run m entries kept) ≡ kept
+-- a run that is undone
+same-query : (kept : CachedQuery) (m : ℤ) (entries : List Entry) → before_run kept.covered kept.runs (length kept.entries) (after_run m entries kept) ≡ kept
 same-query kept m entries = ap (λ l. record { row = kept.row; covered = kept.covered; runs = kept.runs; entries = l }) (take-append_seam kept.entries entries)
 
-pub run-back : (i : ℕ) (queries : List KeptQuery) (m : ℤ) (entries : List Entry) (d : KeptQuery)
+pub run-back : (i : ℕ) (queries : List CachedQuery) (m : ℤ) (entries : List Entry) (d : CachedQuery)
     → without_run i (slice_index_or queries i d).covered (slice_index_or queries i d).runs (length (slice_index_or queries i d).entries) (slice_set queries i (after_run m entries (slice_index_or queries i d))) ≡ queries
 run-back i [] m entries d = refl
 run-back zero (kept ∷ queries) m entries d = ap (λ k. k ∷ queries) (same-query kept m entries)
 run-back (suc i) (kept ∷ queries) m entries d = ap (λ l. kept ∷ l) (run-back i queries m entries d)
 
-pub length-set : (i : ℕ) (queries : List KeptQuery) (x : KeptQuery) → length (slice_set queries i x) ≡ length queries
+pub length-set : (i : ℕ) (queries : List CachedQuery) (x : CachedQuery) → length (slice_set queries i x) ≡ length queries
 length-set i [] x = refl
 length-set zero (kept ∷ queries) x = refl
 length-set (suc i) (kept ∷ queries) x = ap suc (length-set i queries x)
 
 -- the engine before a run
-pub undo-run : (e e' : Engine) (h : HitsWithRoom) (i : ℕ) (m : ℤ) (entries : List Entry) (runs picks : ℕ) (d : KeptQuery) → i < length e.queries → e.hits.room ≤ h.room
+pub undo-run : (e e' : Engine) (h : HitsWithRoom) (i : ℕ) (m : ℤ) (entries : List Entry) (runs picks : ℕ) (d : CachedQuery) → i < length e.queries → e.hits.room ≤ h.room
     → e' ≡ record e { hits = h; queries = slice_set e.queries i (after_run m entries (slice_index_or e.queries i d)); run_count = runs; pick_count = picks } → UndoRestores (undo_run e i (slice_index_or e.queries i d)) e' e
 undo-run e e' h i m entries runs picks d lt room is = subst (λ e'. UndoRestores (undo_run e i (slice_index_or e.queries i d)) e' e) (sym is) (record {
   there = subst (λ n. i < n) (sym (length-set i e.queries (after_run m entries (slice_index_or e.queries i d)))) lt;
   before_is = record { same = ap (λ l. record e { hits = h; queries = l }) (run-back i e.queries m entries d); room = room };
 })
 
--- documents more, that arrive at the session's moment
+-- the engine with more documents, which arrive at the session's moment
 each-from : (num : ℕ) (moment : ℤ) (texts : List (List ℕ)) → Each (λ doc. doc.arrival ≤ℤ moment) (docs_from num moment texts)
 each-from num moment [] = tt
 each-from num moment (text ∷ texts) = (omega (arith, ints), each-from (num + 1) moment texts)
@@ -173,7 +173,7 @@ ready-docs e h texts bytes ready there room = record {
   room = room;
 }
 
--- a note more, that arrives then
+-- the engine with one more note, which arrives then
 pub ready-note : (e : Engine) (note : Note) (bytes : ℕ) → IsReady e → note.arrival ≡ moment_or_zero e.session → (e.session.moment ≡ None → ⊥) → IsReady (record e { index = after e.index (OneNote note); bytes = bytes })
 ready-note e note bytes ready at there = record {
   docs = ready.docs;
@@ -218,11 +218,11 @@ moment_or_zero-moment e ready there = go e.session.moment refl where
   go None none = absurd (there none)
   go (Some m) is = subst IsMoment (sym (ap or_zero is)) (subst IsTime is ready.moment)
 
--- the same, as the index takes it
+-- the present moment, as the index takes it
 pub index-moment : (e : Engine) → IsReady e → (e.session.moment ≡ None → ⊥) → Index.IsMoment (moment_or_zero e.session)
 index-moment e ready there = let moment = moment_or_zero-moment e ready there in record { early = moment.0; late = moment.1 }
 
--- what is left of the engine where nothing moved stays ready
+-- an engine that is unchanged but for its hits stays ready
 pub ready-still : (e e' : Engine) → IsReady e → IsUnchangedButHits e' e → IsReady e'
 ready-still e e' ready still = subst IsReady (sym still.same) (record { docs = ready.docs; notes = ready.notes; queries = ready.queries; moment = ready.moment; room = omega (arith, ready.room, still.room) })
 
@@ -230,7 +230,3 @@ pub some-moment : (moment : Option ℤ) (m : ℤ) → moment ≡ Some m → mome
 some-moment moment m is none = no-moment m (sym is ∙ none) where
   no-moment : (m : ℤ) → Some m ≡ None → ⊥
   no-moment m e = cc
-
--- the engine with other hits stays ready
-pub ready-hits : (e e' : Engine) (h : HitsWithRoom) → e' ≡ record e { hits = h } → e.hits.room ≤ h.room → IsUnchangedButHits e' e
-ready-hits e e' h is room = record { same = is ∙ ap (λ h. record e { hits = h }) (sym (ap (λ k. k.hits) is)); room = subst (λ k. e.hits.room ≤ k.hits.room) (sym is) room }

@@ -1,14 +1,13 @@
 -- What an index owns of the tables, and what is left of it.
 use Rattle.std.proofs.Common.{◌≡◌, ◌∙◌, sym, refl, ap, subst, arith, ℕ, zero, suc, ◌+◌, ◌-◌, ◌<◌, ◌≤◌, List, [], ◌∷◌, ◌++◌, length, take}
 use Rattle.std.specs.Prelude.{◌≤ℤ◌, ◌&&◌, true, false, Bool, ℤ, drop, nat_le, slice_index_or}
-use Rattle.std.proofs.lemmas.List.{take_all, append_assoc, length-append}
+use Rattle.std.proofs.lemmas.List.{append_assoc, length-append}
 use Rattle.tap_rows.specs.declared.rows.Doc.{Doc}
 use Rattle.tap_rows.specs.declared.change.Change.TheVariants.{Docs}
 use Rattle.tap_rows.specs.Kept.{Each}
 use Rattle.tap_rows.specs.Tables.{after}
 use Rattle.tap_model.specs.Replies.{docs_from}
 use Rattle.tap_model.specs.Verdicts.{are_short}
-use Rattle.row_index.specs.Rows.{without_last_doc}
 use Rattle.tap_rows.specs.declared.tables.Tables.{Tables}
 use Rattle.tap_engine.specs.declared.engine.Engine.{Engine}
 use Rattle.tap_engine.specs.Standing.{Represents}
@@ -18,19 +17,6 @@ docs-are represents = ap (λ (rows : Tables). rows.docs) represents.rows
 
 pub notes-are : {e : Engine} {t : Tables} → Represents e t → e.index.notes ≡ t.notes
 notes-are represents = ap (λ (rows : Tables). rows.notes) represents.rows
-
-take-take : {A : Type 0} (n m : ℕ) (xs : List A) → n ≤ m → take n (take m xs) ≡ take n xs
-take-take zero m xs le = refl
-take-take (suc n) zero xs le = absurd (omega (arith, le))
-take-take (suc n) (suc m) [] le = refl
-take-take (suc n) (suc m) (x ∷ xs) le = ap (λ l. x ∷ l) (take-take n m xs (omega (arith, le)))
-
--- the last document isn't one that is to stay
-pub stays-less : (n : ℕ) (rows : Tables) → n < length rows.docs → record (without_last_doc rows) { docs = take n (without_last_doc rows).docs } ≡ record rows { docs = take n rows.docs }
-stays-less n rows lt = ap (λ l. record rows { docs = l }) (take-take n (length rows.docs - 1) rows.docs (omega (arith, lt)))
-
-pub stays-all : (n : ℕ) (rows : Tables) → length rows.docs ≤ n → record rows { docs = take n rows.docs } ≡ rows
-stays-all n rows le = ap (λ l. record rows { docs = l }) (take_all n rows.docs le)
 
 item-at : {A : Type 0} (i : ℕ) (xs : List A) (x : A) → i < length xs → x ≡ slice_index_or xs i x → drop i xs ≡ x ∷ drop (i + 1) xs
 item-at i [] x lt is = absurd (omega (arith, lt))
@@ -56,7 +42,7 @@ take-more zero xs ys le = refl
 take-more (suc n) [] ys le = absurd (omega (arith, le))
 take-more (suc n) (x ∷ xs) ys le = ap (λ l. x ∷ l) (take-more n xs ys (omega (arith, le)))
 
--- those that were there before are as they were
+-- those that were there before are unchanged
 pub push-back : (old now new : Tables) (docs : List Doc) (n : ℕ) → n ≤ length now.docs → new ≡ after now (Docs docs) → record now { docs = take n now.docs } ≡ old → record new { docs = take n new.docs } ≡ old
 push-back old now new docs n le is-new back = ap (λ (t : Tables). record t { docs = take n t.docs }) is-new ∙ ap (λ l. record now { docs = l }) (take-more n now.docs docs le) ∙ back
 

@@ -1,4 +1,4 @@
--- The engine stands for the tables after a change.
+-- The engine represents the tables after a change.
 use Rattle.std.proofs.Common.{◌≡◌, ◌∙◌, sym, refl, ap, arith, ℕ, ◌+◌, ◌≤◌, ◌<◌, List, [], ◌∷◌, ◌++◌, length, map, None}
 use Rattle.std.specs.Prelude.{sum_by}
 use Rattle.std.proofs.lemmas.List.{append_assoc, map-append}
@@ -14,21 +14,21 @@ use Rattle.tap_engine.specs.declared.engine.Engine.{Engine}
 use Rattle.tap_base.specs.Words.{holds}
 use Rattle.tap_model.specs.Limits.{different}
 use Rattle.tap_model.specs.Queries.{truth_of, start_of}
-use Rattle.tap_kept.specs.Keeping.{kept_query, new_kept, with_owner}
+use Rattle.tap_kept.specs.Keeping.{cached_query, never_run, with_owner}
 use Rattle.tap_engine.specs.Standing.{Represents}
 use Rattle.tap_engine.proofs.OwnerLaws.{users-more, owners-more}
 
 -- a query that is new was never run
-new-is : (t : Tables) (row : QueryRow) → IsKept truth_of start_of t → row.num.0 ≡ length t.queries + 1 → kept_query t row ≡ new_kept row
+new-is : (t : Tables) (row : QueryRow) → IsKept truth_of start_of t → row.num.0 ≡ length t.queries + 1 → cached_query t row ≡ never_run row
 new-is t row kept num =
     rw (runs-none row.num.0 t.runs (each-map (λ run. run.query.0 ≤ length t.queries) (λ run. run.query.0 < row.num.0) t.runs (λ run le. omega (arith, le, num)) kept.owned), no-picks row.num.0 (length t.queries) t.runs t.picks (omega (arith, num)) kept.owned kept.picks) refl
 
--- a query more
+-- the engine with one more query
 pub represents-query : (e : Engine) (t : Tables) (row : QueryRow) → Represents e t → IsKept truth_of start_of t → row.num.0 ≡ length t.queries + 1 → (e.session.moment ≡ None → ⊥)
-    → Represents (record e { queries = e.queries ++ new_kept row ∷ []; owners = with_owner e.owners row.owner; bytes = e.bytes + length row.source }) (after t (OneQuery row))
+    → Represents (record e { queries = e.queries ++ never_run row ∷ []; owners = with_owner e.owners row.owner; bytes = e.bytes + length row.source }) (after t (OneQuery row))
 represents-query e t row represents kept num there = record {
   rows = represents.rows;
-  queries = rw represents.queries (ap (λ k. map (kept_query t) t.queries ++ k ∷ []) (sym (new-is t row kept num)) ∙ sym (map-append (kept_query t) t.queries (row ∷ [])));
+  queries = rw represents.queries (ap (λ k. map (cached_query t) t.queries ++ k ∷ []) (sym (new-is t row kept num)) ∙ sym (map-append (cached_query t) t.queries (row ∷ [])));
   run_count = represents.run_count;
   pick_count = represents.pick_count;
   bytes = more (sum_by (λ doc. length doc.text) t.docs) (sum_by (λ note. length note.text) t.notes) (sum_by (λ query. length query.source) t.queries) (sum_by (λ filter. length filter.source) t.filters) _ _ (length row.source) represents.bytes (sum_by-append (λ query. length query.source) t.queries (row ∷ []));

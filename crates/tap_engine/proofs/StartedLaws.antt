@@ -1,4 +1,4 @@
--- An engine that has started stands for its tables, and is ready.
+-- An engine that has started represents its tables, and is ready.
 use Rattle.std.proofs.Common.{◌≡◌, ◌∙◌, sym, ap, subst, refl, arith, ℕ, suc, ◌≤◌, ℤ, Bool, true, false, Option, Some, None, List, [], ◌∷◌, ◌++◌, length, map, append_assoc, if◌then◌else◌, inl, inr}
 use Rattle.std.specs.Prelude.{◌⊎◌, ◌≤ℤ◌, int_le, is_some}
 use Rattle.std.proofs.lemmas.Int.{ints}
@@ -19,19 +19,19 @@ use Rattle.tap_rows.proofs.LaterLaws.{each-map}
 use Rattle.tap_model.specs.Limits.{stored_bytes, owners_in, different}
 use Rattle.tap_model.specs.Sessions.{no_session, later_of, greatest_of, greatest_moment}
 use Rattle.tap_engine.specs.declared.engine.Engine.{Engine}
-use Rattle.tap_kept.specs.Keeping.{kept_query, with_owner}
+use Rattle.tap_kept.specs.Keeping.{cached_query, with_owner}
 use Rattle.tap_engine.specs.Standing.{Represents}
 use Rattle.tap_rows.specs.declared.rows.FilterRow.{FilterRow}
 use Rattle.tap_model.specs.Verdicts.{filter_fault}
 use Rattle.tap_kept.specs.declared.start_fault.StartFault.{StartFault}
 use Rattle.tap_kept.specs.declared.start_fault.StartFault.TheVariants.{Rules, Memory}
-use Rattle.tap_engine.specs.Ready.{KeptFrom, RowsBy, IsTime, IsReady}
+use Rattle.tap_engine.specs.Ready.{CachedFrom, RowsBy, IsTime, IsReady}
 use Rattle.tap_kept.specs.Starting.{runs_alone, first_unread}
 use Rattle.tap_kept.proofs.PlaceLaws.{runs-few}
 use Rattle.tap_engine.proofs.OwnerLaws.{users-more, owners-more}
 use Rattle.tap_engine.proofs.FormedLaws.{Formed}
 
--- the different ones of some texts, behind those that are held
+-- the different ones of some texts, after those that are there
 record HasAllOwners (held all : List (List ℕ)) : Type 0 where
   pub count : length held ≡ different all
   pub same : (text : List ℕ) → holds held text ≡ holds all text
@@ -60,7 +60,7 @@ pub record IsStarted (e : Engine) (t : Tables) : Type 0 where
   pub session : e.session ≡ no_session
   pub rows : e.index ≡ rows_alone t.docs t.notes
   pub room : length e.index.docs ≤ e.hits.room
-  pub queries : e.queries ≡ map (kept_query (runs_alone t.runs t.picks)) t.queries
+  pub queries : e.queries ≡ map (cached_query (runs_alone t.runs t.picks)) t.queries
   pub filters : e.filters ≡ t.filters
   pub run_count : e.run_count ≡ length t.runs
   pub pick_count : e.pick_count ≡ length t.picks
@@ -81,7 +81,7 @@ represents-start e t is = record {
   greatest = λ none. is.greatest;
 }
 
-kept-from : (t : Tables) (k : ℕ) (queries : List QueryRow) → QueriesFrom k queries → Each (λ query. IsMoment query.arrival) queries → Each (λ run. IsMoment run.moment) t.runs → KeptFrom k (length t.runs) (map (kept_query t) queries)
+kept-from : (t : Tables) (k : ℕ) (queries : List QueryRow) → QueriesFrom k queries → Each (λ query. IsMoment query.arrival) queries → Each (λ run. IsMoment run.moment) t.runs → CachedFrom k (length t.runs) (map (cached_query t) queries)
 kept-from t k [] from moments times = tt
 kept-from t k (query ∷ queries) from moments times = (from.0, runs-few query.num.0 t.runs, covered-each IsMoment (start_of query) query.num.0 t.runs (start-moment query moments.0) times, kept-from t (suc k) queries from.1 moments.1 times)
 
@@ -131,7 +131,7 @@ pub ready-start : (e : Engine) (t : Tables) → IsStarted e t → Formed t → I
 ready-start e t is formed = record {
   docs = by-started doc_arrival e t e.index.docs is.session is.greatest (subst (λ rows. RowsBy doc_arrival (greatest_moment t) rows.docs) (sym is.rows) (docs-by t));
   notes = by-started note_arrival e t e.index.notes is.session is.greatest (subst (λ rows. RowsBy note_arrival (greatest_moment t) rows.notes) (sym is.rows) (notes-by t));
-  queries = subst (λ n. KeptFrom 1 n e.queries) (sym is.run_count) (subst (λ queries. KeptFrom 1 (length t.runs) queries) (sym is.queries) (kept-from t 1 t.queries formed.queries formed.moments formed.times));
+  queries = subst (λ n. CachedFrom 1 n e.queries) (sym is.run_count) (subst (λ queries. CachedFrom 1 (length t.runs) queries) (sym is.queries) (kept-from t 1 t.queries formed.queries formed.moments formed.times));
   moment = subst (λ session. IsTime session.moment) (sym is.session) tt;
   room = is.room;
 }

@@ -1,5 +1,5 @@
--- How a command is answered before its rows are committed, and how its rows are taken back.
-use Rattle.std.specs.Prelude.{ℕ, ⊤, ◌≡◌, ◌<◌, ◌≤◌, length, take, true, Option, None, Result, Ok, Err}
+-- How a command is answered before its rows are committed, and how its rows are undone.
+use Rattle.std.specs.Prelude.{ℕ, ⊤, ◌≡◌, ◌<◌, ◌≤◌, length, take, true, Option, Some, None, Result, Ok, Err, OnSome}
 use Rattle.tap_rows.specs.declared.tables.Tables.{Tables}
 use Rattle.tap_rows.specs.declared.change.Change.{Change}
 use Rattle.keeper_core.specs.declared.fault.CommitFault.{CommitFault}
@@ -8,24 +8,54 @@ use Rattle.row_index.specs.Rows.{without_last_note}
 use Rattle.script_lang.specs.declared.command.Command.{Command}
 use Rattle.script_lang.specs.declared.reply.Reply.{Reply}
 use Rattle.script_lang.specs.declared.reply.Reply.TheVariants.{No}
+use Rattle.script_lang.specs.declared.refusal.Refusal.{Refusal}
 use Rattle.script_lang.specs.declared.refusal.Refusal.TheVariants.{Memory}
 use Rattle.tap_model.specs.declared.session.Session.{Session}
 use Rattle.tap_model.specs.Verdicts.{verdict}
-use Rattle.tap_model.specs.Replies.{answer_of}
-use Rattle.tap_kept.specs.declared.kept_query.KeptQuery.{KeptQuery}
+use Rattle.tap_model.specs.Replies.{answer_of, tables_after}
+use Rattle.tap_model.specs.Stories.{Refuses}
+use Rattle.tap_kept.specs.declared.cached_query.CachedQuery.{CachedQuery}
 use Rattle.tap_kept.specs.Keeping.{without_run}
 use Rattle.tap_engine.specs.declared.engine.Engine.{Engine}
 use Rattle.tap_engine.specs.declared.fault.EngineFault.{EngineFault}
 use Rattle.tap_engine.specs.declared.fault.EngineFault.TheVariants.{KeeperFailed}
+use Rattle.tap_engine.specs.declared.prepared.Prepared.{Prepared}
+use Rattle.tap_engine.specs.Standing.{Represents, OverTables, OverSound}
 use Rattle.tap_engine.specs.declared.undo.Undo.{Undo}
 use Rattle.tap_engine.specs.declared.undo.Undo.TheVariants.{Nothing, Docs, Note, Query, Filter, Run}
 
--- the command isn't refused; its reply, the rows that it adds and the session after it are as its answer says
+-- the command isn't refused; its reply, the rows that it adds and the session after it are those of the model's answer
 pub record Answers (tables : Tables) (session : Session) (command : Command) (reply : Reply) (change : Option Change) (session' : Session) : Type 0 where
   pub fine : verdict command session tables ≡ None
   pub reply_is : reply ≡ (answer_of command session tables).reply
   pub change_is : change ≡ (answer_of command session tables).change
   pub session_is : session' ≡ (answer_of command session tables).session
+
+-- over sound tables, what was prepared and the session after it are the model's answer to the command
+abbrev pub AnswersAsModel : Engine → Command → Engine → Prepared → Type 0
+AnswersAsModel before command engine made =
+    OverSound before (λ t. Answers t before.session command made.reply made.change engine.session)
+
+-- over sound tables, the reply to a command that only reads is the model's
+abbrev pub ReadsAsModel : Engine → Command → Reply → Type 0
+ReadsAsModel engine command reply = OverSound engine (λ t. Answers t engine.session command reply None engine.session)
+
+-- the engine represents the sound tables of before with the rows that were prepared
+abbrev pub RepresentsNext : Engine → Engine → Prepared → Type 0
+RepresentsNext before engine made = OverSound before (λ t. Represents engine (tables_after made.change t))
+
+-- over represented tables, the model refuses the command so
+abbrev pub RefusesAsModel : Engine → Command → Refusal → Type 0
+RefusesAsModel engine command refusal = OverTables engine (λ t. Refuses refusal command engine.session t)
+
+-- over sound tables, the model refuses the command so
+abbrev pub RefusesSoundly : Engine → Command → Refusal → Type 0
+RefusesSoundly engine command refusal = OverSound engine (λ t. Refuses refusal command engine.session t)
+
+-- the model's answer to the command adds rows
+pub record AddsRows (command : Command) (session : Session) (tables : Tables) : Type 0 where
+  pub change : Change
+  pub change_is : (answer_of command session tables).change ≡ Some change
 
 -- the engine without the rows of a command
 abbrev pub undone : Undo → Engine → Engine
@@ -37,32 +67,36 @@ undone (Filter len owners bytes) engine = record engine { filters = take len eng
 undone (Run place covered runs entries run_count pick_count) engine =
     record engine { queries = without_run place covered runs entries engine.queries; run_count = run_count; pick_count = pick_count }
 
--- what takes the next run of the query at a place back, by what is kept of it
-abbrev pub undo_run : Engine → ℕ → KeptQuery → Undo
+-- what undoes the next run of the query at a place, by what is cached of it
+abbrev pub undo_run : Engine → ℕ → CachedQuery → Undo
 undo_run engine place kept = Run place kept.covered kept.runs (length kept.entries) engine.run_count engine.pick_count
 
--- the note, or the query whose run, is taken back is there
+-- the note that is undone, or the query whose run is undone, is there
 abbrev pub CanUndo : Undo → Engine → Type 0
 CanUndo (Note bytes) engine = 0 < length engine.index.notes
 CanUndo (Run place covered runs entries run_count pick_count) engine = place < length engine.queries
 CanUndo undo engine = ⊤
 
--- the engine is as before, but for what it keeps between commands without meaning: the hits, with room for no fewer
+-- the engine is unchanged but for its buffer of hits, which means nothing between commands and has room for no fewer
 pub record IsUnchangedButHits (engine before : Engine) : Type 0 where
   pub same : engine ≡ record before { hits = engine.hits }
   pub room : before.hits.room ≤ engine.hits.room
 
--- the engine is as before when the rows of a command are taken back
+-- the undo can be done, and gives the engine as it was before
 pub record UndoRestores (undo : Undo) (engine before : Engine) : Type 0 where
   pub there : CanUndo undo engine
   pub before_is : IsUnchangedButHits (undone undo engine) before
 
--- what is answered where the keeper didn't commit
+-- if rows were prepared, their undo gives the engine as it was before
+abbrev pub IsUndoable : Engine → Engine → Prepared → Type 0
+IsUndoable before engine made = OnSome made.change (UndoRestores made.undo engine before)
+
+-- what is returned if the keeper didn't commit
 abbrev pub fault_answer : CommitFault → Result Reply EngineFault
 fault_answer C.Memory = Ok (No Memory)
 fault_answer C.Failed = Err KeeperFailed
 
--- the engine is stopped where the keeper failed
+-- the engine after a commit that failed: stopped if the keeper failed
 abbrev pub fault_engine : CommitFault → Engine → Engine
 fault_engine C.Memory engine = engine
 fault_engine C.Failed engine = record engine { stopped = true }

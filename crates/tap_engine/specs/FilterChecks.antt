@@ -1,4 +1,4 @@
--- Why a filter is refused, by what is kept.
+-- Why a filter is refused, by what the engine has in memory.
 use Rattle.std.specs.Prelude.{ℕ, List, [], ◌∷◌, length, Option, if◌then◌else◌}
 use Rattle.std.specs.Option.{option_or}
 use Rattle.tap_base.specs.Words.{holds}
@@ -11,7 +11,7 @@ use Rattle.tap_model.specs.Sessions.{user_of}
 use Rattle.tap_model.specs.Verdicts.{first_refusal, no_moment, no_user, long_filter, filter_fault, text_of}
 use Rattle.tap_engine.specs.declared.engine.Engine.{Engine}
 
--- the limits of a filter of this user and length
+-- the limits that a filter of this user and length may pass, in order
 unfoldable pub filter_limits : Engine → List ℕ → ℕ → List (Option Refusal)
 filter_limits engine user len =
     limit_refusal Users USER_LIMIT (length engine.owners) (if holds engine.owners user then 0 else 1)

@@ -1,4 +1,4 @@
--- A list of a box and the lines of a query, by what is kept.
+-- A rated box and the lines that explain a query, by what the engine has in memory.
 use Rattle.std.specs.Prelude.{ℕ, List, Option, Some, None}
 use Rattle.tap_rows.specs.declared.results.Listed.{Listed}
 use Rattle.appraiser.specs.Listings.{listing_of}
@@ -6,14 +6,14 @@ use Rattle.tap_model.specs.Sessions.{user_of}
 use Rattle.tap_model.specs.Queries.{lines_of}
 use Rattle.tap_model.specs.Filters.{last_filter, filter_rules}
 use Rattle.tap_engine.specs.declared.engine.Engine.{Engine}
-use Rattle.tap_kept.specs.declared.kept_query.KeptQuery.{KeptQuery}
+use Rattle.tap_kept.specs.declared.cached_query.CachedQuery.{CachedQuery}
 
 -- what a query has delivered, rated by the user's last filter
-abbrev pub rows_kept : Engine → Option KeptQuery → Option (List Listed)
-rows_kept engine None = None
-rows_kept engine (Some kept) = Some (listing_of (filter_rules (last_filter (user_of engine.session) engine.filters)) engine.index.docs kept.entries)
+abbrev pub cached_rows : Engine → Option CachedQuery → Option (List Listed)
+cached_rows engine None = None
+cached_rows engine (Some kept) = Some (listing_of (filter_rules (last_filter (user_of engine.session) engine.filters)) engine.index.docs kept.entries)
 
 -- the lines that explain a query
-abbrev pub lines_kept : Option KeptQuery → Option (List (List ℕ))
-lines_kept None = None
-lines_kept (Some kept) = Some (lines_of kept.row)
+abbrev pub cached_lines : Option CachedQuery → Option (List (List ℕ))
+cached_lines None = None
+cached_lines (Some kept) = Some (lines_of kept.row)

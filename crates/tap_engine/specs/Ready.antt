@@ -1,19 +1,19 @@
--- What the engine needs of what it keeps, so that each of its steps is in range.
+-- What must hold of an engine so that no step of a command overflows, whatever tables it represents.
 use Rattle.std.specs.Prelude.{ℕ, ℤ, suc, ◌≡◌, ◌≤◌, ◌≤ℤ◌, List, [], ◌∷◌, length, Option, Some, None}
 use Rattle.std.specs.Option.{option_or}
 use Rattle.tap_rows.specs.Kept.{Each}
 use Rattle.row_index.specs.Orders.{doc_arrival, note_arrival}
 use Rattle.tap_model.specs.Sound.{IsMoment}
-use Rattle.tap_kept.specs.declared.kept_query.KeptQuery.{KeptQuery}
+use Rattle.tap_kept.specs.declared.cached_query.CachedQuery.{CachedQuery}
 use Rattle.tap_engine.specs.declared.engine.Engine.{Engine}
 
--- the queries have their places as numbers, from this one on, none had more runs than there were of all, and what each has
--- covered ends at a moment
-abbrev pub KeptFrom : ℕ → ℕ → List KeptQuery → Type 0
-KeptFrom num runs [] = Unit {0}
-KeptFrom num runs (kept ∷ queries) = (kept.row.num.0 ≡ num) × (kept.runs ≤ runs) × IsMoment kept.covered × KeptFrom (suc num) runs queries
+-- the queries are numbered by their places from this one on; none had more runs than there were in all, and each has covered
+-- the seconds up to a moment
+abbrev pub CachedFrom : ℕ → ℕ → List CachedQuery → Type 0
+CachedFrom num runs [] = Unit {0}
+CachedFrom num runs (kept ∷ queries) = (kept.row.num.0 ≡ num) × (kept.runs ≤ runs) × IsMoment kept.covered × CachedFrom (suc num) runs queries
 
--- no row arrived after this moment; without one there is no row
+-- no row arrived after this moment; without a moment there is no row
 abbrev pub RowsBy : {A : Type 0} → (A → ℤ) → Option ℤ → List A → Type 0
 RowsBy arrival None rows = rows ≡ []
 RowsBy arrival (Some moment) rows = Each (λ row. arrival row ≤ℤ moment) rows
@@ -23,11 +23,11 @@ abbrev pub IsTime : Option ℤ → Type 0
 IsTime None = Unit {0}
 IsTime (Some moment) = IsMoment moment
 
--- no document and no note arrived after the last moment, the queries stand at the places of their numbers, the session's
--- moment is one, and there is room for a hit of each document
+-- no document and no note arrived after the last moment, the queries are numbered by their places, the session's moment is in
+-- range, and there is room for a hit of each document
 pub record IsReady (engine : Engine) : Type 0 where
   pub docs : RowsBy doc_arrival (option_or engine.session.moment engine.greatest) engine.index.docs
   pub notes : RowsBy note_arrival (option_or engine.session.moment engine.greatest) engine.index.notes
-  pub queries : KeptFrom 1 engine.run_count engine.queries
+  pub queries : CachedFrom 1 engine.run_count engine.queries
   pub moment : IsTime engine.session.moment
   pub room : length engine.index.docs ≤ engine.hits.room

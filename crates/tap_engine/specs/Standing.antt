@@ -1,4 +1,4 @@
--- What the engine keeps of the tables.
+-- The tables that an engine represents, and why a command is refused, by what the engine has in memory.
 use Rattle.std.specs.Prelude.{ℕ, ◌≡◌, ◌⊎◌, List, [], ◌∷◌, length, map, Option, Some, None, is_none, false, if◌then◌else◌}
 use Rattle.std.specs.Option.{option_or}
 use Rattle.tap_base.specs.Words.{holds}
@@ -10,23 +10,26 @@ use Rattle.row_index.specs.Rows.{rows_alone}
 use Rattle.script_lang.specs.declared.refusal.Refusal.{Refusal}
 use Rattle.script_lang.specs.declared.refusal.Refusal.TheVariants.{Taken, NoQuery, Memory}
 use Rattle.script_lang.specs.declared.refusal.LimitName.TheVariants.{Documents, Notes, Queries, AllQueries, Users, Runs, Picks, Store}
-use Rattle.tap_model.specs.declared.limits.TheConstants.{DOCUMENT_LIMIT, NOTE_LIMIT, USER_QUERY_LIMIT, QUERY_LIMIT, USER_LIMIT, RUN_LIMIT, PICK_LIMIT, STORE_LIMIT}
-use Rattle.tap_kept.specs.declared.kept_query.KeptQuery.{KeptQuery}
+use Rattle.tap_model.specs.declared.limits.TheConstants.{DOCUMENT_LIMIT, NOTE_LIMIT, USER_QUERY_LIMIT, QUERY_LIMIT}
+use Rattle.tap_model.specs.declared.limits.TheConstants.{USER_LIMIT, RUN_LIMIT, PICK_LIMIT, STORE_LIMIT}
+use Rattle.tap_kept.specs.declared.cached_query.CachedQuery.{CachedQuery}
 use Rattle.tap_engine.specs.declared.engine.Engine.{Engine}
 use Rattle.tap_engine.specs.declared.run.Due.{Due}
 use Rattle.tap_model.specs.declared.session.Session.{Session}
 use Rattle.tap_model.specs.Sessions.{moment_or_zero, user_of, greatest_moment}
 use Rattle.tap_model.specs.Limits.{stored_bytes, owners_in, different, limit_refusal}
-use Rattle.tap_model.specs.Verdicts.{missing, refuse_unless, first_refusal, no_moment, no_user, bad_name, text_fault, messages_of, long_message, long_block, bytes_of, no_doc, long_note, is_early}
+use Rattle.tap_model.specs.Sound.{IsSound}
+use Rattle.tap_model.specs.Verdicts.{missing, refuse_unless, first_refusal, no_moment, no_user, bad_name, text_fault, is_early}
+use Rattle.tap_model.specs.Verdicts.{messages_of, long_message, long_block, bytes_of, no_doc, long_note}
 use Rattle.restart_core.specs.Starts.{condition_text, stored_source}
-use Rattle.tap_kept.specs.Keeping.{kept_query, named_in, owned_in, hits_since}
+use Rattle.tap_kept.specs.Keeping.{cached_query, named_in, owned_in, hits_since}
 
--- the engine stands for the tables: its index owns their documents and notes, and it keeps their queries and filters, how
--- many runs and picks there are, how many bytes they store, and who owns a query or a filter; before the session has a moment
--- it also keeps the greatest moment of the tables
+-- the engine represents the tables: its index owns their documents and notes; it has their queries and filters, how many
+-- runs and picks there are, how many bytes they store, and who owns a query or a filter; before the session has a moment it
+-- also has the greatest moment of the tables
 pub record Represents (engine : Engine) (tables : Tables) : Type 0 where
   pub rows : engine.index ≡ rows_alone tables.docs tables.notes
-  pub queries : engine.queries ≡ map (kept_query tables) tables.queries
+  pub queries : engine.queries ≡ map (cached_query tables) tables.queries
   pub filters : engine.filters ≡ tables.filters
   pub run_count : engine.run_count ≡ length tables.runs
   pub pick_count : engine.pick_count ≡ length tables.picks
@@ -35,15 +38,23 @@ pub record Represents (engine : Engine) (tables : Tables) : Type 0 where
   pub owners : (user : List ℕ) → holds engine.owners user ≡ holds (owners_in tables) user
   pub greatest : engine.session.moment ≡ None → engine.greatest ≡ greatest_moment tables
 
--- what is kept of the user's query of this name
-abbrev pub kept_named : Engine → List ℕ → Option KeptQuery
-kept_named engine name = named_in (user_of engine.session) name engine.queries
+-- for each tables that the engine represents
+abbrev pub OverTables : Engine → (Tables → Type 0) → Type 0
+OverTables engine P = (t : Tables) → Represents engine t → P t
 
--- why a query of this user and name is refused for its name, by what is kept
+-- for each tables that the engine represents and that are sound with its session
+abbrev pub OverSound : Engine → (Tables → Type 0) → Type 0
+OverSound engine P = (t : Tables) → Represents engine t → IsSound t engine.session → P t
+
+-- the user's query of this name
+abbrev pub cached_named : Engine → List ℕ → Option CachedQuery
+cached_named engine name = named_in (user_of engine.session) name engine.queries
+
+-- why a query of this user and name is refused for its name
 unfoldable pub name_refusal : Engine → List ℕ → List ℕ → Option Refusal
 name_refusal engine user name = option_or (bad_name name) (refuse_unless (is_none (named_in user name engine.queries)) Taken)
 
--- the limits of a query of this user and length, by what is kept
+-- the limits that a query of this user and length may pass, in order
 unfoldable pub query_limits : Engine → List ℕ → ℕ → List (Option Refusal)
 query_limits engine user len =
     limit_refusal Queries USER_QUERY_LIMIT (owned_in user engine.queries) 1
@@ -52,7 +63,7 @@ query_limits engine user len =
     ∷ limit_refusal Store STORE_LIMIT engine.bytes len
     ∷ []
 
--- why a new query is refused, by what is kept
+-- why a new query is refused
 abbrev pub define_refusal : Engine → List ℕ → List ℕ → Option Refusal
 define_refusal engine name source =
     option_or (no_moment engine.session)
@@ -61,56 +72,77 @@ define_refusal engine name source =
     (option_or (text_fault (condition_text source))
     (first_refusal (query_limits engine (user_of engine.session) (length (stored_source source)))))))
 
--- the bounds of these messages of a mailbox file, by what is kept
+-- which limit these messages of a mailbox file pass first
 unfoldable pub mbox_bounds : Engine → Block → List (List ℕ) → Option Refusal
 mbox_bounds engine block messages =
-    first_refusal (long_message messages ∷ long_block block ∷ limit_refusal Documents DOCUMENT_LIMIT (length engine.index.docs) (length messages) ∷ limit_refusal Store STORE_LIMIT engine.bytes (bytes_of messages) ∷ [])
+    first_refusal
+    (long_message messages
+    ∷ long_block block
+    ∷ limit_refusal Documents DOCUMENT_LIMIT (length engine.index.docs) (length messages)
+    ∷ limit_refusal Store STORE_LIMIT engine.bytes (bytes_of messages)
+    ∷ [])
 
--- why a mailbox file is refused, by what is kept
+-- why a mailbox file is refused
 abbrev pub mbox_refusal : Engine → Block → Option Refusal
 mbox_refusal engine block = option_or (no_moment engine.session) (mbox_bounds engine block (messages_of block))
 
--- the bounds of a note on this document and of so many bytes, by what is kept
+-- why a note of so many bytes on this document is refused, once its words are fine
 unfoldable pub note_bounds : Engine → ℕ → ℕ → Option Refusal
 note_bounds engine doc len =
-    first_refusal (no_doc doc (length engine.index.docs) ∷ long_note len ∷ limit_refusal Notes NOTE_LIMIT (length engine.index.notes) 1 ∷ limit_refusal Store STORE_LIMIT engine.bytes len ∷ [])
+    first_refusal
+    (no_doc doc (length engine.index.docs)
+    ∷ long_note len
+    ∷ limit_refusal Notes NOTE_LIMIT (length engine.index.notes) 1
+    ∷ limit_refusal Store STORE_LIMIT engine.bytes len
+    ∷ [])
 
--- why a note is refused, by what is kept
+-- why a note is refused
 abbrev pub note_refusal : Engine → ℕ → List ℕ → List ℕ → Option Refusal
 note_refusal engine doc kind text =
-    option_or (no_moment engine.session) (option_or (no_user engine.session) (option_or (bad_name kind) (note_bounds engine doc (length text))))
+    option_or (no_moment engine.session)
+    (option_or (no_user engine.session)
+    (option_or (bad_name kind)
+    (note_bounds engine doc (length text))))
 
--- why a look for the user's query of this name among these is refused
-abbrev pub query_refusal : Session → List KeptQuery → List ℕ → Option Refusal
-query_refusal session queries name = option_or (no_user session) (option_or (bad_name name) (missing NoQuery (named_in (user_of session) name queries)))
+-- why a search for the user's query of this name among these is refused
+abbrev pub query_refusal : Session → List CachedQuery → List ℕ → Option Refusal
+query_refusal session queries name =
+    option_or (no_user session)
+    (option_or (bad_name name)
+    (missing NoQuery (named_in (user_of session) name queries)))
 
--- why a look for the user's query of this name is refused, by what is kept
+-- why a search for the user's query of this name is refused
 unfoldable pub look_refusal : Engine → List ℕ → Option Refusal
 look_refusal engine name = query_refusal engine.session engine.queries name
 
--- what a run of this query delivers, by what is kept
-abbrev pub hits_kept : Engine → Option KeptQuery → List Hit
-hits_kept engine None = []
-hits_kept engine (Some kept) = hits_since kept engine.index (moment_or_zero engine.session)
+-- what a run of this query delivers
+abbrev pub cached_hits : Engine → Option CachedQuery → List Hit
+cached_hits engine None = []
+cached_hits engine (Some kept) = hits_since kept engine.index (moment_or_zero engine.session)
 
--- what a query has delivered, by what is kept of it
-abbrev pub entries_kept : Option KeptQuery → Option (List Entry)
-entries_kept None = None
-entries_kept (Some kept) = Some kept.entries
+-- what a query has delivered
+abbrev pub cached_entries : Option CachedQuery → Option (List Entry)
+cached_entries None = None
+cached_entries (Some kept) = Some kept.entries
 
 -- what a run of this query is about to deliver
-abbrev pub due_of : Engine → Option KeptQuery → Option Due
+abbrev pub due_of : Engine → Option CachedQuery → Option Due
 due_of engine None = None
-due_of engine (Some kept) = Some (record { query = kept.row.num; moment = moment_or_zero engine.session; runs = kept.runs; hits = hits_kept engine (Some kept) })
+due_of engine (Some kept) = Some (record {
+  query = kept.row.num;
+  moment = moment_or_zero engine.session;
+  runs = kept.runs;
+  hits = cached_hits engine (Some kept);
+})
 
--- why a run is refused, by what is kept
+-- why a run is refused
 abbrev pub run_refusal : Engine → List ℕ → Option Refusal
 run_refusal engine name =
     option_or (no_moment engine.session)
     (option_or (look_refusal engine name)
     (option_or (limit_refusal Runs RUN_LIMIT engine.run_count 1)
-    (limit_refusal Picks PICK_LIMIT engine.pick_count (length (hits_kept engine (kept_named engine name))))))
+    (limit_refusal Picks PICK_LIMIT engine.pick_count (length (cached_hits engine (cached_named engine name))))))
 
--- refused so, or for want of memory where it isn't refused for want of a moment, of a user or of a name
+-- the refusal is this one; or it is out of memory, and the command isn't refused early for its moment, its user or its name
 abbrev pub RefusedBy : Option Refusal → Refusal → Type 0
 RefusedBy verdict refusal = (verdict ≡ Some refusal) ⊎ ((refusal ≡ Memory) × (is_early verdict ≡ false))

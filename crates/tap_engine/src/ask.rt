@@ -1,11 +1,10 @@
-ghost use Rattle.std.specs.Prelude.{◌≡◌, None, true, int_lt, IfOk, IfErr};
+//! The documents that a condition gives at a second that is over.
+
+ghost use Rattle.std.specs.Prelude.{◌≡◌, true, int_lt, IfOk, IfErr};
 ghost use Rattle.std.specs.Result.{result_err};
-ghost use Rattle.tap_rows.specs.declared.tables.Tables.{Tables};
 ghost use Rattle.script_lang.specs.declared.command.Command.{Command};
 ghost use Rattle.script_lang.specs.declared.refusal.Refusal.{Refusal};
 ghost use Rattle.script_lang.specs.Replies.{HasShortNames, is_accepted};
-ghost use Rattle.tap_model.specs.Sound.{IsSound};
-ghost use Rattle.tap_model.specs.Stories.{Refuses};
 ghost use Rattle.tap_model.specs.Verdicts.{refuse_unless};
 
 use crate::engine::Engine;
@@ -17,7 +16,7 @@ use std::sync::ledger::Ledger;
 use tap_base::Steps;
 use tap_kept::read_text;
 
-// Refuses a second that isn't over.
+// Refuses a second that isn't over: one at or after the session's moment.
 fn refuse_open(second: i64, now: i64) -> Result<(), Refusal>
     ensures { result_err result ≡ refuse_unless (int_lt second now) (Refusal.NotOver now) }
 {
@@ -29,8 +28,7 @@ fn refuse_open(second: i64, now: i64) -> Result<(), Refusal>
 }
 
 impl Engine {
-    ghost use Rattle.tap_engine.specs.Standing.{Represents};
-    ghost use Rattle.tap_engine.specs.Answering.{Answers};
+    ghost use Rattle.tap_engine.specs.Answering.{ReadsAsModel, RefusesAsModel};
 
     // Lists the documents that a condition gives at a second that is over.
     pub(crate) fn ask<L: Ledger>(
@@ -40,8 +38,8 @@ impl Engine {
         source: &[u8],
         steps: &mut Steps<L>,
     ) -> Result<Reply, Refusal>
-        ensures ok { IfOk result (λ reply. (t : Tables) → Represents self.now t → IsSound t self.now.session → Answers t self.now.session (Command.Ask moment.now source.now) reply None self.now.session) }
-        ensures refusal { IfErr result (λ refusal. (t : Tables) → Represents self.now t → Refuses refusal (Command.Ask moment.now source.now) self.now.session t) }
+        ensures ok { IfOk result (ReadsAsModel self.now (Command.Ask moment.now source.now)) }
+        ensures refusal { IfErr result (RefusesAsModel self.now (Command.Ask moment.now source.now)) }
         ensures short { IfOk result (λ reply. HasShortNames reply) }
         ensures accepted { IfOk result (λ reply. is_accepted reply ≡ true) }
     {

@@ -1,10 +1,9 @@
+//! What a query has delivered.
+
 ghost use Rattle.std.specs.Prelude.{◌≡◌, None, Some, true, OnOk, IfOk, IfErr};
 ghost use Rattle.script_lang.specs.declared.command.Command.{Command};
 ghost use Rattle.script_lang.specs.Replies.{HasShortNames, is_accepted};
 ghost use Rattle.tap_base.specs.Names.{is_name};
-ghost use Rattle.tap_rows.specs.declared.tables.Tables.{Tables};
-ghost use Rattle.tap_model.specs.Sound.{IsSound};
-ghost use Rattle.tap_model.specs.Stories.{Refuses};
 
 use crate::engine::Engine;
 use script_lang::{Refusal, Reply};
@@ -14,13 +13,13 @@ use tap_kept::copy_entries;
 use tap_rows::Entry;
 
 impl Engine {
-    ghost use Rattle.tap_engine.specs.Standing.{Represents, look_refusal, kept_named, entries_kept, RefusedBy};
-    ghost use Rattle.tap_engine.specs.Answering.{Answers};
+    ghost use Rattle.tap_engine.specs.Answering.{ReadsAsModel, RefusesAsModel};
+    ghost use Rattle.tap_engine.specs.Standing.{look_refusal, cached_named, cached_entries, RefusedBy};
 
-    // The deliveries of the user's query of this name.
+    // Copies what the user's query of this name has delivered.
     fn entries_named(&self, alloc: Global, name: &[u8]) -> Result<Rows<Entry>, Refusal>
         ensures look { OnOk result (look_refusal self.now name.now ≡ None) }
-        ensures entries { IfOk result (λ entries. Some entries ≡ entries_kept (kept_named self.now name.now)) }
+        ensures entries { IfOk result (λ entries. Some entries ≡ cached_entries (cached_named self.now name.now)) }
         ensures refusal { IfErr result (λ refusal. RefusedBy (look_refusal self.now name.now) refusal) }
         ensures name { OnOk result (is_name name.now ≡ true) }
     {
@@ -28,10 +27,10 @@ impl Engine {
         Ok(copy_entries(alloc, &kept.entries)?)
     }
 
-    // Lists the deliveries of the user's query of this name.
+    // Lists what the user's query of this name has delivered.
     pub(crate) fn show_box(&self, alloc: Global, name: Text) -> Result<Reply, Refusal>
-        ensures ok { IfOk result (λ reply. (t : Tables) → Represents self.now t → IsSound t self.now.session → Answers t self.now.session (Command.BoxOf name) reply None self.now.session) }
-        ensures refusal { IfErr result (λ refusal. (t : Tables) → Represents self.now t → Refuses refusal (Command.BoxOf name) self.now.session t) }
+        ensures ok { IfOk result (ReadsAsModel self.now (Command.BoxOf name)) }
+        ensures refusal { IfErr result (RefusesAsModel self.now (Command.BoxOf name)) }
         ensures short { IfOk result (λ reply. HasShortNames reply) }
         ensures accepted { IfOk result (λ reply. is_accepted reply ≡ true) }
     {

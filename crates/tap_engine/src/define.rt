@@ -1,8 +1,10 @@
-ghost use Rattle.std.specs.Prelude.{◌≡◌, ◌<◌, ◌+◌, ◌^◌, ◌++◌, [], ◌∷◌, length, Some, None, true, is_none, if◌then◌else◌, OnOk, OnErr, IfOk, IfErr, OnSome};
+//! The command that defines a query.
+
+ghost use Rattle.std.specs.Prelude.{◌≡◌, ◌<◌, ◌+◌, ◌^◌, ◌++◌, [], ◌∷◌, if◌then◌else◌};
+ghost use Rattle.std.specs.Prelude.{length, Some, None, true, is_none, OnOk, OnErr, IfOk, IfErr};
 ghost use Rattle.std.specs.Result.{result_err};
 ghost use Rattle.tap_base.specs.Words.{holds};
 ghost use Rattle.tap_rows.specs.declared.change.Change.{Change as RowChange};
-ghost use Rattle.tap_rows.specs.declared.tables.Tables.{Tables};
 ghost use Rattle.script_lang.specs.declared.command.Command.{Command};
 ghost use Rattle.script_lang.specs.Replies.{HasShortNames, is_accepted};
 ghost use Rattle.tap_model.specs.Verdicts.{refuse_unless, first_refusal};
@@ -12,12 +14,10 @@ ghost use Rattle.tql_core.specs.Condition.{condition};
 ghost use Rattle.tql_core.specs.Scope.{IsQuery};
 ghost use Rattle.tap_model.specs.Queries.{condition_by};
 ghost use Rattle.restart_core.specs.Starts.{stored_source};
-ghost use Rattle.tap_kept.specs.Keeping.{new_kept, with_owner, named_in};
+ghost use Rattle.tap_kept.specs.Keeping.{never_run, with_owner, named_in};
 ghost use Rattle.tap_model.specs.Sessions.{moment_or_zero, user_of};
-ghost use Rattle.tap_model.specs.Sound.{IsSound, IsMoment};
+ghost use Rattle.tap_model.specs.Sound.{IsMoment};
 ghost use Rattle.tap_base.specs.Names.{is_name};
-ghost use Rattle.tap_model.specs.Replies.{tables_after};
-ghost use Rattle.tap_model.specs.Stories.{Refuses};
 
 use crate::engine::Engine;
 use crate::limits::refuse_more;
@@ -27,12 +27,12 @@ use crate::undo::Undo;
 use script_lang::{LimitName, Refusal, Reply};
 use std::alloc::Global;
 use tap_base::{Copied, Memory, QueryNum, Rows, Text, Texts};
-use tap_kept::{KeptQueries, KeptQuery, KeptRow, keep_source};
+use tap_kept::{CachedQueries, CachedQuery, PlannedQuery, read_source};
 use tap_model::{QUERY_LIMIT, STORE_LIMIT, USER_LIMIT, USER_QUERY_LIMIT};
 use tap_rows::{Change, QueryRow};
 use tql_core::Cond;
 
-// Adds an owner that may be there.
+// Adds an owner, unless it is there already. At Err nothing has changed.
 pub(crate) fn push_owner(owners: &mut Texts, owner: Text) -> Result<(), Memory>
     ensures ok { OnOk result (owners.new ≡ with_owner owners.old owner) }
     ensures err { OnErr result (owners.new ≡ owners.old) }
@@ -44,11 +44,11 @@ pub(crate) fn push_owner(owners: &mut Texts, owner: Text) -> Result<(), Memory>
     }
 }
 
-// Adds a query and its owner to those that are kept.
+// Adds a query and its owner. At Err nothing has changed.
 fn push_query(
-    queries: &mut KeptQueries,
+    queries: &mut CachedQueries,
     owners: &mut Texts,
-    kept: KeptQuery,
+    kept: CachedQuery,
     owner: Text,
 ) -> Result<(), Memory>
     ensures queries { OnOk result (queries.new ≡ queries.old ++ kept ∷ []) }
@@ -65,11 +65,11 @@ fn push_query(
 }
 
 impl Engine {
-    ghost use Rattle.tap_engine.specs.Standing.{Represents, name_refusal, query_limits, define_refusal, RefusedBy};
+    ghost use Rattle.tap_engine.specs.Answering.{AnswersAsModel, RepresentsNext, RefusesAsModel, IsUndoable};
+    ghost use Rattle.tap_engine.specs.Standing.{name_refusal, query_limits, define_refusal, RefusedBy};
     ghost use Rattle.tap_engine.specs.Ready.{IsReady};
-    ghost use Rattle.tap_engine.specs.Answering.{Answers, UndoRestores};
 
-    // Adds a query, and gives it as a change.
+    // Adds a query that was never run, and gives its row as a change. At Err nothing has changed.
     fn add_query(&mut self, alloc: Global, row: QueryRow, cond: Cond) -> Result<Change, Memory>
         requires cond { condition cond ≡ condition_by row }
         requires scoped { IsQuery (condition cond) }
@@ -77,19 +77,23 @@ impl Engine {
         requires arrival { IsMoment row.arrival }
         requires bytes { self.old.bytes + length row.source < 2 ^ 64 }
         ensures change { IfOk result (λ change. change ≡ RowChange.OneQuery row) }
-        ensures engine { OnOk result (self.new ≡ record self.old { queries = self.old.queries ++ new_kept row ∷ []; owners = with_owner self.old.owners row.owner; bytes = self.old.bytes + length row.source }) }
+        ensures engine { OnOk result (self.new ≡ record self.old {
+          queries = self.old.queries ++ never_run row ∷ [];
+          owners = with_owner self.old.owners row.owner;
+          bytes = self.old.bytes + length row.source;
+        }) }
         ensures err { OnErr result (self.new ≡ self.old) }
     {
         let len = row.source.len();
         let owner = row.owner.copy()?;
-        let kept_row = KeptRow::new(alloc, row.copied()?, &cond)?;
-        let kept = KeptQuery::new(alloc, kept_row);
+        let planned_query = PlannedQuery::new(alloc, row.copied()?, &cond)?;
+        let kept = CachedQuery::new(alloc, planned_query);
         push_query(&mut self.queries, &mut self.owners, kept, owner)?;
         self.bytes += len;
         Ok(Change::OneQuery(row))
     }
 
-    // Refuses a name that the user has used.
+    // Refuses a name that one of the user's queries has.
     fn refuse_taken(&self, user: &[u8], name: &[u8]) -> Result<(), Refusal>
         ensures { result_err result ≡ refuse_unless (is_none (named_in user.now name.now self.now.queries)) Refusal.Taken }
     {
@@ -100,14 +104,14 @@ impl Engine {
         }
     }
 
-    // How many users more own a query or a filter when this one does.
+    // Counts how many owners more there are once this user owns a query or a filter: 0 or 1.
     pub(crate) fn new_users(&self, user: &[u8]) -> usize
         ensures { result ≡ if holds self.now.owners user.now then 0 else 1 }
     {
         if self.owners.holds(user) { 0 } else { 1 }
     }
 
-    // Refuses a name that isn't one, or that the user has used.
+    // Refuses a text that is no name, then a name that one of the user's queries has.
     #[tactic(auto, unfolding(crate::specs::Standing::name_refusal))]
     fn refuse_query_name(&self, user: &[u8], name: &[u8]) -> Result<(), Refusal>
         ensures value { result_err result ≡ name_refusal self.now user.now name.now }
@@ -140,7 +144,7 @@ impl Engine {
         refuse_more(LimitName::Store, STORE_LIMIT, self.bytes, len)
     }
 
-    // The row of a query that isn't refused, and its condition.
+    // Makes the row of a new query and its condition, or gives the first refusal.
     fn new_query(
         &self,
         alloc: Global,
@@ -148,7 +152,13 @@ impl Engine {
         source: Text,
     ) -> Result<(QueryRow, Cond), Refusal>
         ensures checks { OnOk result (define_refusal self.now name source ≡ None) }
-        ensures row { IfOk result (λ made. made.0 ≡ record { num = record { 0 = length self.now.queries + 1 }; owner = user_of self.now.session; name = name; source = stored_source source; arrival = moment_or_zero self.now.session }) }
+        ensures row { IfOk result (λ made. made.0 ≡ record {
+          num = record { 0 = length self.now.queries + 1 };
+          owner = user_of self.now.session;
+          name = name;
+          source = stored_source source;
+          arrival = moment_or_zero self.now.session;
+        }) }
         ensures cond { IfOk result (λ made. condition made.1 ≡ condition_by made.0) }
         ensures scoped { IfOk result (λ made. IsQuery (condition made.1)) }
         ensures bounded { IfOk result (λ made. are_bounded (condition made.1) ≡ true) }
@@ -163,7 +173,7 @@ impl Engine {
             return Err(Refusal::NoUser);
         };
         self.refuse_query_name(user.as_slice(), name.as_slice())?;
-        let (source, cond) = keep_source(alloc, source)?;
+        let (source, cond) = read_source(alloc, source)?;
         self.refuse_query(user.as_slice(), source.len())?;
         let row = QueryRow {
             num: QueryNum(self.queries.len() as u32 + 1),
@@ -175,7 +185,7 @@ impl Engine {
         Ok((row, cond))
     }
 
-    // Defines a query.
+    // Defines a query, which covers the seconds from 0 on, or from the session's moment on if its text is `FROM NOW`.
     pub(crate) fn define(
         &mut self,
         alloc: Global,
@@ -183,11 +193,11 @@ impl Engine {
         source: Text,
     ) -> Result<Prepared, Refusal>
         requires ready { IsReady self.old }
-        ensures ok { IfOk result (λ made. (t : Tables) → Represents self.old t → IsSound t self.old.session → Answers t self.old.session (Command.Define name source) made.reply made.change self.new.session) }
-        ensures represents { IfOk result (λ made. (t : Tables) → Represents self.old t → IsSound t self.old.session → Represents self.new (tables_after made.change t)) }
-        ensures refusal { IfErr result (λ refusal. (t : Tables) → Represents self.old t → Refuses refusal (Command.Define name source) self.old.session t) }
+        ensures ok { IfOk result (AnswersAsModel self.old (Command.Define name source) self.new) }
+        ensures represents { IfOk result (RepresentsNext self.old self.new) }
+        ensures refusal { IfErr result (RefusesAsModel self.old (Command.Define name source)) }
         ensures err { OnErr result (self.new ≡ self.old) }
-        ensures undo { IfOk result (λ made. OnSome made.change (UndoRestores made.undo self.new self.old)) }
+        ensures undo { IfOk result (IsUndoable self.old self.new) }
         ensures ready { OnOk result (IsReady self.new) }
         ensures running { OnOk result (self.new.stopped ≡ self.old.stopped) }
         ensures short { IfOk result (λ made. HasShortNames made.reply) }

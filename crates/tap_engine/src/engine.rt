@@ -1,3 +1,5 @@
+//! The engine: what is in memory of the tables, and the session.
+
 ghost use Rattle.std.specs.Prelude.{◌≡◌, false, length};
 ghost use Rattle.tap_rows.specs.Tables.{no_rows};
 
@@ -5,19 +7,20 @@ use query_eval::Hits;
 use row_index::RowIndex;
 use std::alloc::Global;
 use tap_base::{Rows, Texts};
-use tap_kept::{KeptFilter, KeptQueries};
+use tap_kept::{CachedFilter, CachedQueries};
 use tap_model::Session;
 
-/// What is kept of the tables, so that a command is answered at the cost of what it looks at: the documents and notes with
-/// their index, and the other rows in so far as they are asked for. There is room for a run's hits, which are of no meaning
-/// between commands. It is stopped once its keeper has failed.
+/// An engine: the session, and what is in memory of the tables, so that a command costs what it looks at. The index owns the
+/// documents and the notes; the other rows are in memory so far as commands ask for them. `hits` has room for a run's hits
+/// and means nothing between commands. `greatest` is the greatest moment of the stored rows, which bounds the session's first
+/// moment. The engine is stopped once its keeper has failed.
 #[derive(Drop)]
 pub struct Engine {
     pub session: Session,
     pub(crate) index: RowIndex,
     pub(crate) hits: Hits,
-    pub(crate) queries: KeptQueries,
-    pub(crate) filters: Rows<KeptFilter>,
+    pub(crate) queries: CachedQueries,
+    pub(crate) filters: Rows<CachedFilter>,
     pub(crate) run_count: usize,
     pub(crate) pick_count: usize,
     pub(crate) bytes: usize,
@@ -31,7 +34,7 @@ impl Engine {
     ghost use Rattle.tap_engine.specs.Standing.{Represents};
     ghost use Rattle.tap_engine.specs.Ready.{IsReady};
 
-    /// An engine with a new session that stands for the empty tables.
+    /// Makes an engine with a new session that represents the empty tables.
     pub fn new(alloc: Global) -> Engine
         ensures represents { Represents result no_rows }
         ensures session { result.session ≡ no_session }
@@ -42,7 +45,7 @@ impl Engine {
             session: Session::new(),
             index: RowIndex::new(alloc),
             hits: Hits::new(alloc),
-            queries: KeptQueries::new(alloc),
+            queries: CachedQueries::new(alloc),
             filters: Rows::new(alloc),
             run_count: 0,
             pick_count: 0,
@@ -53,21 +56,21 @@ impl Engine {
         }
     }
 
-    /// How many documents there are.
+    /// Counts the documents.
     pub fn docs(&self) -> u32
         ensures { result ≡ length self.now.index.docs }
     {
         self.index.docs()
     }
 
-    /// How many notes there are.
+    /// Counts the notes.
     pub fn notes(&self) -> u32
         ensures { result ≡ length self.now.index.notes }
     {
         self.index.notes()
     }
 
-    /// Has the keeper failed?
+    /// Checks whether the keeper has failed, which stops the engine.
     pub fn stopped(&self) -> bool
         ensures { result ≡ self.now.stopped }
     {

@@ -1,10 +1,9 @@
+//! The lines that explain a query.
+
 ghost use Rattle.std.specs.Prelude.{◌≡◌, None, Some, true, OnOk, IfOk, IfErr};
 ghost use Rattle.script_lang.specs.declared.command.Command.{Command};
 ghost use Rattle.script_lang.specs.Replies.{HasShortNames, is_accepted};
 ghost use Rattle.tap_base.specs.Names.{is_name};
-ghost use Rattle.tap_rows.specs.declared.tables.Tables.{Tables};
-ghost use Rattle.tap_model.specs.Sound.{IsSound};
-ghost use Rattle.tap_model.specs.Stories.{Refuses};
 
 use crate::engine::Engine;
 use incremental_rewrite::render;
@@ -13,14 +12,14 @@ use std::alloc::Global;
 use tap_base::{Text, Texts};
 
 impl Engine {
-    ghost use Rattle.tap_engine.specs.Standing.{Represents, look_refusal, kept_named, RefusedBy};
-    ghost use Rattle.tap_engine.specs.Lists.{lines_kept};
-    ghost use Rattle.tap_engine.specs.Answering.{Answers};
+    ghost use Rattle.tap_engine.specs.Answering.{ReadsAsModel, RefusesAsModel};
+    ghost use Rattle.tap_engine.specs.Standing.{look_refusal, cached_named, RefusedBy};
+    ghost use Rattle.tap_engine.specs.Lists.{cached_lines};
 
-    // The lines of the user's query of this name.
+    // Makes the lines that explain the user's query of this name.
     fn lines_named(&self, alloc: Global, name: &[u8]) -> Result<Texts, Refusal>
         ensures look { OnOk result (look_refusal self.now name.now ≡ None) }
-        ensures lines { IfOk result (λ lines. Some lines ≡ lines_kept (kept_named self.now name.now)) }
+        ensures lines { IfOk result (λ lines. Some lines ≡ cached_lines (cached_named self.now name.now)) }
         ensures refusal { IfErr result (λ refusal. RefusedBy (look_refusal self.now name.now) refusal) }
         ensures name { OnOk result (is_name name.now ≡ true) }
     {
@@ -31,8 +30,8 @@ impl Engine {
 
     // Explains the user's query of this name.
     pub(crate) fn explain(&self, alloc: Global, name: Text) -> Result<Reply, Refusal>
-        ensures ok { IfOk result (λ reply. (t : Tables) → Represents self.now t → IsSound t self.now.session → Answers t self.now.session (Command.Explain name) reply None self.now.session) }
-        ensures refusal { IfErr result (λ refusal. (t : Tables) → Represents self.now t → Refuses refusal (Command.Explain name) self.now.session t) }
+        ensures ok { IfOk result (ReadsAsModel self.now (Command.Explain name)) }
+        ensures refusal { IfErr result (RefusesAsModel self.now (Command.Explain name)) }
         ensures short { IfOk result (λ reply. HasShortNames reply) }
         ensures accepted { IfOk result (λ reply. is_accepted reply ≡ true) }
     {

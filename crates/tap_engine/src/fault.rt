@@ -1,6 +1,8 @@
+//! Why a command was not answered.
+
 use thiserror::Error;
 
-/// Why a command was not answered.
+/// Why a command has no reply.
 #[derive(Debug, Drop, Error)]
 pub enum EngineFault {
     /// The keeper failed, and the engine is stopped.

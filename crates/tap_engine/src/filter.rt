@@ -1,7 +1,9 @@
-ghost use Rattle.std.specs.Prelude.{◌≡◌, ◌⊎◌, ◌≤◌, ◌<◌, ◌+◌, ◌^◌, ◌++◌, [], ◌∷◌, length, Some, None, true, OnOk, OnErr, IfOk, IfErr, OnSome};
+//! The command that sets a user's filter.
+
+ghost use Rattle.std.specs.Prelude.{◌≡◌, ◌⊎◌, ◌≤◌, ◌<◌, ◌+◌, ◌^◌, ◌++◌, [], ◌∷◌};
+ghost use Rattle.std.specs.Prelude.{length, Some, None, true, OnOk, OnErr, IfOk, IfErr};
 ghost use Rattle.std.specs.Result.{result_err};
 ghost use Rattle.tap_rows.specs.declared.change.Change.{Change as RowChange};
-ghost use Rattle.tap_rows.specs.declared.tables.Tables.{Tables};
 ghost use Rattle.script_lang.specs.declared.command.Command.{Command};
 ghost use Rattle.script_lang.specs.declared.refusal.Refusal.{Refusal};
 ghost use Rattle.script_lang.specs.Replies.{HasShortNames, is_accepted};
@@ -9,9 +11,6 @@ ghost use Rattle.appraiser.specs.Rules.{rules_in};
 ghost use Rattle.appraiser.specs.RuleTexts.{IsWithin};
 ghost use Rattle.tap_model.specs.Filters.{rules_in_text};
 ghost use Rattle.tap_model.specs.Sessions.{moment_or_zero, user_of};
-ghost use Rattle.tap_model.specs.Sound.{IsSound};
-ghost use Rattle.tap_model.specs.Replies.{tables_after};
-ghost use Rattle.tap_model.specs.Stories.{Refuses};
 ghost use Rattle.tap_model.specs.Verdicts.{first_refusal, rule_refusal, filter_fault, long_filter, text_of};
 ghost use Rattle.tap_kept.specs.Keeping.{with_owner};
 
@@ -25,11 +24,11 @@ use mail_lines::Block;
 use script_lang::{FILTER_LIMIT, LimitName, Refusal, Reply};
 use std::alloc::Global;
 use tap_base::{Copied, Memory, Rows, Text, Texts};
-use tap_kept::KeptFilter;
+use tap_kept::CachedFilter;
 use tap_model::{FILTER_ROW_LIMIT, STORE_LIMIT, USER_LIMIT};
 use tap_rows::{Change, FilterRow};
 
-// The text of a block that isn't too long.
+// Gives the text of a block, or refuses one that is too long.
 fn text_in(block: Block) -> Result<Text, Refusal>
     ensures err { result_err result ≡ long_filter block }
     ensures ok { IfOk result (λ text. text ≡ text_of block) }
@@ -41,7 +40,7 @@ fn text_in(block: Block) -> Result<Text, Refusal>
     }
 }
 
-// The refusal of a fault of a filter's text.
+// Gives the refusal for a fault of a filter's text.
 fn refusal_of(fault: RuleFault) -> Refusal
     requires { IsWithin FILTER_LIMIT fault }
     ensures { (rule_refusal fault ≡ Some result) ⊎ (result ≡ Refusal.Memory) }
@@ -56,9 +55,9 @@ fn refusal_of(fault: RuleFault) -> Refusal
     }
 }
 
-// The rules of a filter's text, which has no fault.
+// Reads the rules of a filter's text, or refuses its first fault.
 #[tactic(auto, unfolding(tap_model::specs::Verdicts::filter_fault, tap_model::specs::Filters::rules_in_text))]
-fn keep_rules(alloc: Global, source: &[u8]) -> Result<Rules, Refusal>
+fn read_fine_rules(alloc: Global, source: &[u8]) -> Result<Rules, Refusal>
     requires { length source.now ≤ FILTER_LIMIT }
     ensures fine { OnOk result (filter_fault source.now ≡ None) }
     ensures rules { IfOk result (λ rules. rules_in rules ≡ rules_in_text source.now) }
@@ -71,11 +70,11 @@ fn keep_rules(alloc: Global, source: &[u8]) -> Result<Rules, Refusal>
     }
 }
 
-// Adds a filter and its owner to those that are kept.
+// Adds a filter and its owner. At Err nothing has changed.
 fn push_filter(
-    filters: &mut Rows<KeptFilter>,
+    filters: &mut Rows<CachedFilter>,
     owners: &mut Texts,
-    kept: KeptFilter,
+    kept: CachedFilter,
     owner: Text,
 ) -> Result<(), Memory>
     ensures filters { OnOk result (filters.new ≡ filters.old ++ kept ∷ []) }
@@ -92,9 +91,9 @@ fn push_filter(
 }
 
 impl Engine {
-    ghost use Rattle.tap_engine.specs.Standing.{Represents, RefusedBy};
+    ghost use Rattle.tap_engine.specs.Answering.{AnswersAsModel, RepresentsNext, RefusesAsModel, IsUndoable};
+    ghost use Rattle.tap_engine.specs.Standing.{RefusedBy};
     ghost use Rattle.tap_engine.specs.Ready.{IsReady};
-    ghost use Rattle.tap_engine.specs.Answering.{Answers, UndoRestores};
     ghost use Rattle.tap_engine.specs.FilterChecks.{filter_limits, filter_refusal};
 
     // Refuses a filter of this user and length that would pass a limit.
@@ -114,10 +113,15 @@ impl Engine {
         refuse_more(LimitName::Store, STORE_LIMIT, self.bytes, len)
     }
 
-    // The row of a filter that isn't refused, and its rules.
+    // Makes the row of a new filter and its rules, or gives the first refusal.
     fn new_filter(&self, alloc: Global, block: Block) -> Result<(FilterRow, Rules), Refusal>
         ensures checks { OnOk result (filter_refusal self.now block ≡ None) }
-        ensures row { IfOk result (λ made. made.0 ≡ record { num = length self.now.filters + 1; owner = user_of self.now.session; source = text_of block; arrival = moment_or_zero self.now.session }) }
+        ensures row { IfOk result (λ made. made.0 ≡ record {
+          num = length self.now.filters + 1;
+          owner = user_of self.now.session;
+          source = text_of block;
+          arrival = moment_or_zero self.now.session;
+        }) }
         ensures rules { IfOk result (λ made. rules_in made.1 ≡ rules_in_text (text_of block)) }
         ensures few { IfOk result (λ made. length (rules_in made.1) ≤ RULE_LIMIT) }
         ensures refusal { IfErr result (λ refusal. RefusedBy (filter_refusal self.now block) refusal) }
@@ -131,7 +135,7 @@ impl Engine {
         };
         let source = text_in(block)?;
         self.refuse_filter(user.as_slice(), source.len())?;
-        let rules = keep_rules(alloc, source.as_slice())?;
+        let rules = read_fine_rules(alloc, source.as_slice())?;
         let row = FilterRow {
             num: self.filters.len() as u32 + 1,
             owner: user.copy()?,
@@ -141,30 +145,34 @@ impl Engine {
         Ok((row, rules))
     }
 
-    // Adds a filter, and gives it as a change.
+    // Adds a filter, and gives its row as a change. At Err nothing has changed.
     fn add_filter(&mut self, row: FilterRow, rules: Rules) -> Result<Change, Memory>
         requires rules { rules_in rules ≡ rules_in_text row.source }
         requires bytes { self.old.bytes + length row.source < 2 ^ 64 }
         ensures change { IfOk result (λ change. change ≡ RowChange.OneFilter row) }
-        ensures engine { OnOk result (self.new ≡ record self.old { filters = self.old.filters ++ row ∷ []; owners = with_owner self.old.owners row.owner; bytes = self.old.bytes + length row.source }) }
+        ensures engine { OnOk result (self.new ≡ record self.old {
+          filters = self.old.filters ++ row ∷ [];
+          owners = with_owner self.old.owners row.owner;
+          bytes = self.old.bytes + length row.source;
+        }) }
         ensures err { OnErr result (self.new ≡ self.old) }
     {
         let len = row.source.len();
         let owner = row.owner.copy()?;
-        let kept = KeptFilter::new(row.copied()?, rules);
+        let kept = CachedFilter::new(row.copied()?, rules);
         push_filter(&mut self.filters, &mut self.owners, kept, owner)?;
         self.bytes += len;
         Ok(Change::OneFilter(row))
     }
 
-    // Sets the user's filter.
+    // Sets the user's filter: the user's last filter rates the boxes.
     pub(crate) fn filter(&mut self, alloc: Global, block: Block) -> Result<Prepared, Refusal>
         requires ready { IsReady self.old }
-        ensures ok { IfOk result (λ made. (t : Tables) → Represents self.old t → IsSound t self.old.session → Answers t self.old.session (Command.Filter block) made.reply made.change self.new.session) }
-        ensures represents { IfOk result (λ made. (t : Tables) → Represents self.old t → IsSound t self.old.session → Represents self.new (tables_after made.change t)) }
-        ensures refusal { IfErr result (λ refusal. (t : Tables) → Represents self.old t → Refuses refusal (Command.Filter block) self.old.session t) }
+        ensures ok { IfOk result (AnswersAsModel self.old (Command.Filter block) self.new) }
+        ensures represents { IfOk result (RepresentsNext self.old self.new) }
+        ensures refusal { IfErr result (RefusesAsModel self.old (Command.Filter block)) }
         ensures err { OnErr result (self.new ≡ self.old) }
-        ensures undo { IfOk result (λ made. OnSome made.change (UndoRestores made.undo self.new self.old)) }
+        ensures undo { IfOk result (IsUndoable self.old self.new) }
         ensures ready { OnOk result (IsReady self.new) }
         ensures running { OnOk result (self.new.stopped ≡ self.old.stopped) }
         ensures short { IfOk result (λ made. HasShortNames made.reply) }

@@ -1,4 +1,4 @@
-//! One command, one step: the reply to it, and what it changes.
+//! The engine: one command, one step, one commit.
 #![tactic(auto)]
 
 mod ask;
@@ -19,8 +19,8 @@ mod prepared;
 mod run;
 mod sessions;
 mod start;
-mod take_back;
 mod undo;
+mod undoing;
 
 pub use engine::Engine;
 pub use fault::EngineFault;

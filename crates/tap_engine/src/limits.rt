@@ -1,10 +1,12 @@
+//! The check of a limit.
+
 ghost use Rattle.std.specs.Prelude.{◌≡◌, ◌≤◌, ◌+◌, max, OnOk};
 ghost use Rattle.std.specs.Result.{result_err};
 ghost use Rattle.tap_model.specs.Limits.{limit_refusal};
 
 use script_lang::{LimitName, Refusal};
 
-// Refuses so many more where they would pass the limit; a count that stays passes none.
+// Refuses so many more if there would be more than the limit. Adding none is never refused.
 pub(crate) fn refuse_more(
     name: LimitName,
     limit: usize,

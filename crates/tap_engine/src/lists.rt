@@ -1,16 +1,14 @@
+//! What a query has delivered, rated by the user's last filter.
+
 ghost use Rattle.std.specs.Prelude.{◌≡◌, ◌≤◌, Some, None, true, length, IfOk, IfErr, OnOk};
 ghost use Rattle.std.specs.List.{All};
 ghost use Rattle.std.specs.Option.{option_copied};
 ghost use Rattle.tap_base.specs.Names.{is_name};
-ghost use Rattle.tap_rows.specs.declared.tables.Tables.{Tables};
 ghost use Rattle.script_lang.specs.declared.command.Command.{Command};
 ghost use Rattle.script_lang.specs.Replies.{HasShortNames, is_accepted};
-ghost use Rattle.appraiser.specs.Rules.{rules_in};
 ghost use Rattle.appraiser.specs.Listings.{listing_of};
 ghost use Rattle.tap_model.specs.Filters.{last_filter, filter_rules};
 ghost use Rattle.tap_model.specs.Sessions.{user_of};
-ghost use Rattle.tap_model.specs.Sound.{IsSound};
-ghost use Rattle.tap_model.specs.Stories.{Refuses};
 
 use crate::engine::Engine;
 use appraiser::{Rules, listing};
@@ -19,11 +17,11 @@ use script_lang::{Refusal, Reply};
 use std::alloc::Global;
 use std::sync::ledger::Ledger;
 use tap_base::{Memory, Rows, Steps, Text};
-use tap_kept::{KeptFilter, copy_entries};
+use tap_kept::{CachedFilter, copy_entries};
 use tap_rows::{Entry, Listed};
 
-// The last of the user's filters.
-fn last_filter<'a>(filters: &'a [KeptFilter], user: &[u8]) -> Option<&'a KeptFilter>
+// Finds the last of the user's filters.
+fn last_filter<'a>(filters: &'a [CachedFilter], user: &[u8]) -> Option<&'a CachedFilter>
     ensures { option_copied result ≡ last_filter user.now filters.now }
 {
     let mut end = filters.len();
@@ -36,10 +34,10 @@ fn last_filter<'a>(filters: &'a [KeptFilter], user: &[u8]) -> Option<&'a KeptFil
     None
 }
 
-// The entries of a box, rated by a filter, or by no rules where there is none.
+// Rates the entries of a box by a filter, or by no rules if there is no filter.
 fn rate<'a, L: Ledger>(
     alloc: Global,
-    filter: Option<&'a KeptFilter>,
+    filter: Option<&'a CachedFilter>,
     entries: &'a [Entry],
     index: &'a RowIndex,
     steps: &mut Steps<L>,
@@ -53,11 +51,11 @@ fn rate<'a, L: Ledger>(
 }
 
 impl Engine {
-    ghost use Rattle.tap_engine.specs.Standing.{Represents, look_refusal, kept_named, RefusedBy};
-    ghost use Rattle.tap_engine.specs.Lists.{rows_kept};
-    ghost use Rattle.tap_engine.specs.Answering.{Answers};
+    ghost use Rattle.tap_engine.specs.Answering.{ReadsAsModel, RefusesAsModel};
+    ghost use Rattle.tap_engine.specs.Standing.{look_refusal, cached_named, RefusedBy};
+    ghost use Rattle.tap_engine.specs.Lists.{cached_rows};
 
-    // The session's user; empty where it has none.
+    // Gives the session's user, or an empty text if it has none.
     fn user_name(&self) -> &[u8]
         ensures { result.now ≡ user_of self.now.session }
     {
@@ -67,7 +65,7 @@ impl Engine {
         }
     }
 
-    // The deliveries of the user's query of this name, rated by the user's last filter.
+    // Rates what the user's query of this name has delivered by the user's last filter.
     fn rows_named<L: Ledger>(
         &self,
         alloc: Global,
@@ -75,7 +73,7 @@ impl Engine {
         steps: &mut Steps<L>,
     ) -> Result<Rows<Listed>, Refusal>
         ensures look { OnOk result (look_refusal self.now name.now ≡ None) }
-        ensures rows { IfOk result (λ rows. Some rows ≡ rows_kept self.now (kept_named self.now name.now)) }
+        ensures rows { IfOk result (λ rows. Some rows ≡ cached_rows self.now (cached_named self.now name.now)) }
         ensures short { IfOk result (λ rows. All (λ row. length row.class ≤ 32) rows) }
         ensures refusal { IfErr result (λ refusal. RefusedBy (look_refusal self.now name.now) refusal) }
         ensures name { OnOk result (is_name name.now ≡ true) }
@@ -87,15 +85,15 @@ impl Engine {
         Ok(rows)
     }
 
-    // Lists the deliveries of the user's query of this name in the order of their ratings.
+    // Lists what the user's query of this name has delivered in the order of the ratings.
     pub(crate) fn show_list<L: Ledger>(
         &self,
         alloc: Global,
         name: Text,
         steps: &mut Steps<L>,
     ) -> Result<Reply, Refusal>
-        ensures ok { IfOk result (λ reply. (t : Tables) → Represents self.now t → IsSound t self.now.session → Answers t self.now.session (Command.ListOf name) reply None self.now.session) }
-        ensures refusal { IfErr result (λ refusal. (t : Tables) → Represents self.now t → Refuses refusal (Command.ListOf name) self.now.session t) }
+        ensures ok { IfOk result (ReadsAsModel self.now (Command.ListOf name)) }
+        ensures refusal { IfErr result (RefusesAsModel self.now (Command.ListOf name)) }
         ensures short { IfOk result (λ reply. HasShortNames reply) }
         ensures accepted { IfOk result (λ reply. is_accepted reply ≡ true) }
     {

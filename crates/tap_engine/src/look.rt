@@ -1,3 +1,5 @@
+//! The search for a user's query by its name.
+
 ghost use Rattle.std.specs.Prelude.{◌≡◌, Some, true, IfOk, OnOk};
 ghost use Rattle.std.specs.Result.{result_err};
 ghost use Rattle.tap_base.specs.Names.{is_name};
@@ -8,15 +10,15 @@ ghost use Rattle.tap_engine.specs.Standing.{query_refusal};
 use crate::engine::Engine;
 use crate::sessions::refuse_name;
 use script_lang::Refusal;
-use tap_kept::{KeptQueries, KeptQuery};
+use tap_kept::{CachedQueries, CachedQuery};
 use tap_model::Session;
 
-// The user's query of this name.
+// Finds the user's query of this name.
 pub(crate) fn query_of<'a>(
     session: &Session,
-    queries: &'a KeptQueries,
+    queries: &'a CachedQueries,
     name: &[u8],
-) -> Result<&'a KeptQuery, Refusal>
+) -> Result<&'a CachedQuery, Refusal>
     ensures err { result_err result ≡ query_refusal session.now queries.now name.now }
     ensures ok { IfOk result (λ kept. named_in (user_of session.now) name.now queries.now ≡ Some kept.now) }
     ensures name { OnOk result (is_name name.now ≡ true) }
@@ -32,13 +34,13 @@ pub(crate) fn query_of<'a>(
 }
 
 impl Engine {
-    ghost use Rattle.tap_engine.specs.Standing.{look_refusal, kept_named};
+    ghost use Rattle.tap_engine.specs.Standing.{look_refusal, cached_named};
 
-    // The user's query of this name.
+    // Finds the query of this name of the session's user.
     #[tactic(auto, unfolding(crate::specs::Standing::look_refusal))]
-    pub(crate) fn look(&self, name: &[u8]) -> Result<&KeptQuery, Refusal>
+    pub(crate) fn look(&self, name: &[u8]) -> Result<&CachedQuery, Refusal>
         ensures err { result_err result ≡ look_refusal self.now name.now }
-        ensures ok { IfOk result (λ kept. kept_named self.now name.now ≡ Some kept.now) }
+        ensures ok { IfOk result (λ kept. cached_named self.now name.now ≡ Some kept.now) }
         ensures name { OnOk result (is_name name.now ≡ true) }
     {
         query_of(&self.session, &self.queries, name)

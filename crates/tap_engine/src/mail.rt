@@ -1,16 +1,15 @@
-ghost use Rattle.std.specs.Prelude.{◌≡◌, true, ◌≤◌, ◌<◌, ◌+◌, ◌^◌, ◌≤ℤ◌, [], ◌∷◌, length, Some, OnOk, OnErr, IfOk, IfErr, OnSome};
-ghost use Rattle.std.specs.Result.{result_err, result_ok};
+//! The command that adds a message.
+
+ghost use Rattle.std.specs.Prelude.{◌≡◌, true, ◌≤◌, ◌<◌, ◌+◌, ◌^◌, ◌≤ℤ◌, [], ◌∷◌, length, Some, OnOk, OnErr, IfOk, IfErr};
+ghost use Rattle.std.specs.Result.{result_err};
 ghost use Rattle.tap_rows.specs.declared.change.Change.{Change as RowChange};
-ghost use Rattle.tap_rows.specs.declared.tables.Tables.{Tables};
 ghost use Rattle.tap_rows.specs.Kept.{Each};
 ghost use Rattle.tap_rows.specs.Tables.{after};
 ghost use Rattle.row_index.specs.Orders.{IsMoment};
 ghost use Rattle.script_lang.specs.declared.command.Command.{Command};
 ghost use Rattle.script_lang.specs.Replies.{HasShortNames, is_accepted};
 ghost use Rattle.tap_model.specs.Verdicts.{too_long, text_of};
-ghost use Rattle.tap_model.specs.Replies.{docs_from, tables_after};
-ghost use Rattle.tap_model.specs.Sound.{IsSound};
-ghost use Rattle.tap_model.specs.Stories.{Refuses};
+ghost use Rattle.tap_model.specs.Replies.{docs_from};
 
 use crate::engine::Engine;
 use crate::limits::refuse_more;
@@ -24,7 +23,7 @@ use tap_base::{DocNum, Memory, Rows, Text};
 use tap_model::{DOCUMENT_LIMIT, STORE_LIMIT};
 use tap_rows::{Change, Doc};
 
-// The text of a message that isn't too long.
+// Gives the text of a message, or refuses one that is too long.
 fn message_of(block: Block) -> Result<Text, Refusal>
     ensures err { result_err result ≡ too_long block }
     ensures ok { IfOk result (λ text. text ≡ text_of block) }
@@ -36,7 +35,7 @@ fn message_of(block: Block) -> Result<Text, Refusal>
     }
 }
 
-// A document as a row.
+// Makes a list of one document.
 fn make_row(alloc: Global, num: DocNum, moment: i64, text: Text) -> Result<Rows<Doc>, Memory>
     ensures { IfOk result (λ rows. rows ≡ record { num = num; arrival = moment; text = text } ∷ []) }
 {
@@ -50,11 +49,11 @@ fn make_row(alloc: Global, num: DocNum, moment: i64, text: Text) -> Result<Rows<
 }
 
 impl Engine {
-    ghost use Rattle.tap_engine.specs.Standing.{Represents};
     ghost use Rattle.tap_engine.specs.Ready.{IsReady};
-    ghost use Rattle.tap_engine.specs.Answering.{Answers, IsUnchangedButHits, UndoRestores};
+    ghost use Rattle.tap_engine.specs.Answering.{IsUnchangedButHits, AnswersAsModel, RepresentsNext, RefusesAsModel, IsUndoable};
 
-    // Adds a document that arrives at this moment, and gives its number, and it as a change.
+    // Adds a document that arrives at this moment, and gives its number and its row as a change. All memory is taken before
+    // the index grows, so that at Err nothing has changed but the room for hits.
     fn add_doc(
         &mut self,
         alloc: Global,
@@ -68,7 +67,11 @@ impl Engine {
         requires bytes { self.old.bytes + length text < 2 ^ 64 }
         ensures num { IfOk result (λ made. made.0.0 ≡ length self.old.index.docs + 1) }
         ensures change { IfOk result (λ made. made.1 ≡ RowChange.Docs (docs_from (length self.old.index.docs + 1) moment (text ∷ []))) }
-        ensures engine { OnOk result (self.new ≡ record self.old { index = after self.old.index (RowChange.Docs (docs_from (length self.old.index.docs + 1) moment (text ∷ []))); hits = self.new.hits; bytes = self.old.bytes + length text }) }
+        ensures engine { OnOk result (self.new ≡ record self.old {
+          index = after self.old.index (RowChange.Docs (docs_from (length self.old.index.docs + 1) moment (text ∷ [])));
+          hits = self.new.hits;
+          bytes = self.old.bytes + length text;
+        }) }
         ensures room { OnOk result (length self.new.index.docs ≤ self.new.hits.room) }
         ensures more { self.old.hits.room ≤ self.new.hits.room }
         ensures err { OnErr result (IsUnchangedButHits self.new self.old) }
@@ -86,11 +89,11 @@ impl Engine {
     // Adds a message.
     pub(crate) fn mail(&mut self, alloc: Global, block: Block) -> Result<Prepared, Refusal>
         requires ready { IsReady self.old }
-        ensures ok { IfOk result (λ made. (t : Tables) → Represents self.old t → IsSound t self.old.session → Answers t self.old.session (Command.Mail block) made.reply made.change self.new.session) }
-        ensures represents { IfOk result (λ made. (t : Tables) → Represents self.old t → IsSound t self.old.session → Represents self.new (tables_after made.change t)) }
-        ensures refusal { IfErr result (λ refusal. (t : Tables) → Represents self.old t → Refuses refusal (Command.Mail block) self.old.session t) }
+        ensures ok { IfOk result (AnswersAsModel self.old (Command.Mail block) self.new) }
+        ensures represents { IfOk result (RepresentsNext self.old self.new) }
+        ensures refusal { IfErr result (RefusesAsModel self.old (Command.Mail block)) }
         ensures err { OnErr result (IsUnchangedButHits self.new self.old) }
-        ensures undo { IfOk result (λ made. OnSome made.change (UndoRestores made.undo self.new self.old)) }
+        ensures undo { IfOk result (IsUndoable self.old self.new) }
         ensures ready { OnOk result (IsReady self.new) }
         ensures running { OnOk result (self.new.stopped ≡ self.old.stopped) }
         ensures short { IfOk result (λ made. HasShortNames made.reply) }

@@ -1,6 +1,8 @@
-ghost use Rattle.std.specs.Prelude.{◌≡◌, ◌≤◌, ◌<◌, ◌+◌, ◌^◌, ◌≤ℤ◌, [], ◌∷◌, length, take, max, None, true, OnOk, OnErr, IfOk, IfErr, OnSome};
+//! The command that adds the messages of a mailbox file.
+
+ghost use Rattle.std.specs.Prelude.{◌≡◌, ◌≤◌, ◌<◌, ◌+◌, ◌^◌, ◌≤ℤ◌, [], ◌∷◌};
+ghost use Rattle.std.specs.Prelude.{length, take, max, None, true, OnOk, OnErr, IfOk, IfErr};
 ghost use Rattle.std.specs.Result.{result_err};
-ghost use Rattle.tap_rows.specs.declared.tables.Tables.{Tables};
 ghost use Rattle.tap_rows.specs.declared.change.Change.{Change as RowChange};
 ghost use Rattle.tap_rows.specs.Kept.{Each};
 ghost use Rattle.tap_rows.specs.Tables.{after};
@@ -9,14 +11,12 @@ ghost use Rattle.script_lang.specs.declared.command.Command.{Command};
 ghost use Rattle.script_lang.specs.Replies.{HasShortNames, is_accepted};
 ghost use Rattle.tap_model.specs.Sessions.{moment_or_zero};
 ghost use Rattle.tap_model.specs.Verdicts.{messages_of, are_short, long_message, long_block, bytes_of};
-ghost use Rattle.tap_model.specs.Replies.{docs_from, some_docs, tables_after};
-ghost use Rattle.tap_model.specs.Sound.{IsSound};
-ghost use Rattle.tap_model.specs.Stories.{Refuses};
+ghost use Rattle.tap_model.specs.Replies.{docs_from, some_docs};
 
 use crate::engine::Engine;
 use crate::limits::refuse_more;
 use crate::prepared::Prepared;
-use crate::take_back::forget_docs;
+use crate::undoing::remove_docs;
 use crate::undo::Undo;
 use mail_fields::keep;
 use mail_lines::{Block, cut_mbox};
@@ -27,7 +27,7 @@ use tap_base::{DocNum, Memory, Rows, Text, Texts};
 use tap_model::{DOCUMENT_LIMIT, STORE_LIMIT};
 use tap_rows::{Change, Doc};
 
-// The messages of a mailbox file; one that is too long has none.
+// Cuts a mailbox file into its messages. A file that is too long gives none: it is refused later, in the order of limits.
 fn cut_block(alloc: Global, block: &Block) -> Result<Texts, Memory>
     ensures { IfOk result (λ texts. texts ≡ messages_of block.now) }
 {
@@ -37,7 +37,7 @@ fn cut_block(alloc: Global, block: &Block) -> Result<Texts, Memory>
     }
 }
 
-// Are all messages short enough?
+// Checks that no message is longer than MESSAGE_LIMIT bytes.
 fn are_short(texts: &[Text]) -> bool
     ensures { result ≡ are_short texts.now }
 {
@@ -46,7 +46,7 @@ fn are_short(texts: &[Text]) -> bool
         .all(|text| text.len() <= MESSAGE_LIMIT as usize)
 }
 
-// Refuses messages of which one is too long.
+// Refuses messages if one of them is too long.
 fn refuse_long_message(texts: &[Text]) -> Result<(), Refusal>
     ensures value { result_err result ≡ long_message texts.now }
     ensures short { OnOk result (are_short texts.now ≡ true) }
@@ -68,7 +68,7 @@ fn refuse_long_block(block: &Block) -> Result<(), Refusal>
     }
 }
 
-// How many bytes the messages have.
+// Sums the lengths of the messages, in bytes.
 fn total(texts: &[Text]) -> usize
     requires { bytes_of texts.now < 2 ^ 64 }
     ensures { result ≡ bytes_of texts.now }
@@ -80,7 +80,7 @@ fn total(texts: &[Text]) -> usize
     bytes
 }
 
-// Documents with these texts, numbered from this one on.
+// Makes documents with these texts that arrive at this moment, numbered from `first` on.
 fn make_rows(alloc: Global, first: usize, moment: i64, texts: &[Text]) -> Result<Rows<Doc>, Memory>
     requires { first + length texts.now < 2 ^ 32 }
     ensures { IfOk result (λ rows. rows ≡ docs_from first moment texts.now) }
@@ -98,7 +98,7 @@ fn make_rows(alloc: Global, first: usize, moment: i64, texts: &[Text]) -> Result
     Ok(rows)
 }
 
-// Adds a document with this text behind the others. At Err nothing has changed.
+// Adds a document with this text after the others. At Err nothing has changed.
 pub(crate) fn push_doc(
     alloc: Global,
     index: &mut RowIndex,
@@ -120,7 +120,7 @@ pub(crate) fn push_doc(
     index.add_doc(keep(alloc, doc)?)
 }
 
-// Adds documents with these texts behind the others. At Err the first of them may have been added.
+// Adds documents with these texts after the others. At Err the first of them may have been added.
 fn push_docs(alloc: Global, index: &mut RowIndex, moment: i64, texts: &[Text]) -> Result<(), Memory>
     requires few { length index.old.docs + length texts.now < 2 ^ 32 }
     requires moment { IsMoment moment }
@@ -135,7 +135,7 @@ fn push_docs(alloc: Global, index: &mut RowIndex, moment: i64, texts: &[Text]) -
     Ok(())
 }
 
-// The same. At Err nothing has changed.
+// Adds documents with these texts after the others, all or none: at Err those that were added are removed again.
 fn add_all(alloc: Global, index: &mut RowIndex, moment: i64, texts: &[Text]) -> Result<(), Memory>
     requires few { length index.old.docs + length texts.now < 2 ^ 32 }
     requires moment { IsMoment moment }
@@ -147,17 +147,17 @@ fn add_all(alloc: Global, index: &mut RowIndex, moment: i64, texts: &[Text]) -> 
     let len = index.docs() as usize;
     let done = push_docs(alloc, index, moment, texts);
     if done.is_err() {
-        forget_docs(index, len);
+        remove_docs(index, len);
     }
     done
 }
 
 impl Engine {
-    ghost use Rattle.tap_engine.specs.Standing.{Represents, mbox_bounds, mbox_refusal, RefusedBy};
+    ghost use Rattle.tap_engine.specs.Standing.{mbox_bounds, mbox_refusal, RefusedBy};
     ghost use Rattle.tap_engine.specs.Ready.{IsReady};
-    ghost use Rattle.tap_engine.specs.Answering.{Answers, IsUnchangedButHits, UndoRestores};
+    ghost use Rattle.tap_engine.specs.Answering.{IsUnchangedButHits, AnswersAsModel, RepresentsNext, RefusesAsModel, IsUndoable};
 
-    // Refuses these messages of a mailbox file.
+    // Refuses messages of a mailbox file that pass a limit.
     #[tactic(auto, unfolding(crate::specs::Standing::mbox_bounds))]
     fn refuse_messages(&self, block: &Block, texts: &[Text]) -> Result<(), Refusal>
         ensures value { result_err result ≡ mbox_bounds self.now block.now texts.now }
@@ -176,7 +176,7 @@ impl Engine {
         refuse_more(LimitName::Store, STORE_LIMIT, self.bytes, total(texts))
     }
 
-    // The messages of a mailbox file that isn't refused, and the moment at which they arrive.
+    // Gives the messages of a mailbox file and the moment at which they arrive, or the first refusal.
     fn new_messages(&self, alloc: Global, block: &Block) -> Result<(i64, Texts), Refusal>
         ensures checks { OnOk result (mbox_refusal self.now block.now ≡ None) }
         ensures moment { IfOk result (λ made. made.0 ≡ moment_or_zero self.now.session) }
@@ -194,7 +194,8 @@ impl Engine {
         Ok((moment, texts))
     }
 
-    // Adds documents that arrive at this moment, and gives them as one change; none change nothing.
+    // Adds documents that arrive at this moment, and gives their rows as one change, or None for no documents. All memory is
+    // taken before the index grows, so that at Err nothing has changed but the room for hits.
     fn add_docs(
         &mut self,
         alloc: Global,
@@ -208,7 +209,11 @@ impl Engine {
         requires after { Each (λ other. other.arrival ≤ℤ moment) self.old.index.docs }
         requires room { length self.old.index.docs ≤ self.old.hits.room }
         ensures change { IfOk result (λ change. change ≡ some_docs (docs_from (length self.old.index.docs + 1) moment texts.now)) }
-        ensures engine { OnOk result (self.new ≡ record self.old { index = after self.old.index (RowChange.Docs (docs_from (length self.old.index.docs + 1) moment texts.now)); hits = self.new.hits; bytes = self.old.bytes + bytes_of texts.now }) }
+        ensures engine { OnOk result (self.new ≡ record self.old {
+          index = after self.old.index (RowChange.Docs (docs_from (length self.old.index.docs + 1) moment texts.now));
+          hits = self.new.hits;
+          bytes = self.old.bytes + bytes_of texts.now;
+        }) }
         ensures room { OnOk result (length self.new.index.docs ≤ self.new.hits.room) }
         ensures more { self.old.hits.room ≤ self.new.hits.room }
         ensures err { OnErr result (IsUnchangedButHits self.new self.old) }
@@ -224,14 +229,14 @@ impl Engine {
         Ok(Some(Change::Docs(rows)))
     }
 
-    // Adds the messages of a mailbox file.
+    // Adds the messages of a mailbox file, all in one change.
     pub(crate) fn mbox(&mut self, alloc: Global, block: Block) -> Result<Prepared, Refusal>
         requires ready { IsReady self.old }
-        ensures ok { IfOk result (λ made. (t : Tables) → Represents self.old t → IsSound t self.old.session → Answers t self.old.session (Command.Mbox block) made.reply made.change self.new.session) }
-        ensures represents { IfOk result (λ made. (t : Tables) → Represents self.old t → IsSound t self.old.session → Represents self.new (tables_after made.change t)) }
-        ensures refusal { IfErr result (λ refusal. (t : Tables) → Represents self.old t → Refuses refusal (Command.Mbox block) self.old.session t) }
+        ensures ok { IfOk result (AnswersAsModel self.old (Command.Mbox block) self.new) }
+        ensures represents { IfOk result (RepresentsNext self.old self.new) }
+        ensures refusal { IfErr result (RefusesAsModel self.old (Command.Mbox block)) }
         ensures err { OnErr result (IsUnchangedButHits self.new self.old) }
-        ensures undo { IfOk result (λ made. OnSome made.change (UndoRestores made.undo self.new self.old)) }
+        ensures undo { IfOk result (IsUndoable self.old self.new) }
         ensures ready { OnOk result (IsReady self.new) }
         ensures running { OnOk result (self.new.stopped ≡ self.old.stopped) }
         ensures short { IfOk result (λ made. HasShortNames made.reply) }

@@ -1,16 +1,14 @@
-ghost use Rattle.std.specs.Prelude.{◌≡◌, ◌<◌, ◌+◌, ◌^◌, ◌≤ℤ◌, length, None, true, OnOk, OnErr, IfOk, IfErr, OnSome};
+//! The command that adds a note on a document.
+
+ghost use Rattle.std.specs.Prelude.{◌≡◌, ◌<◌, ◌+◌, ◌^◌, ◌≤ℤ◌, length, None, true, OnOk, OnErr, IfOk, IfErr};
 ghost use Rattle.std.specs.Result.{result_err};
 ghost use Rattle.tap_rows.specs.declared.change.Change.{Change as RowChange};
-ghost use Rattle.tap_rows.specs.declared.tables.Tables.{Tables};
 ghost use Rattle.tap_rows.specs.Kept.{Each};
 ghost use Rattle.tap_rows.specs.Tables.{after};
 ghost use Rattle.row_index.specs.Orders.{IsMoment};
 ghost use Rattle.script_lang.specs.declared.command.Command.{Command};
 ghost use Rattle.script_lang.specs.Replies.{HasShortNames, is_accepted};
 ghost use Rattle.tap_model.specs.Sessions.{moment_or_zero, user_of};
-ghost use Rattle.tap_model.specs.Sound.{IsSound};
-ghost use Rattle.tap_model.specs.Replies.{tables_after};
-ghost use Rattle.tap_model.specs.Stories.{Refuses};
 ghost use Rattle.tap_model.specs.Verdicts.{no_doc, long_note};
 
 use crate::engine::Engine;
@@ -23,7 +21,7 @@ use tap_base::{Copied, DocNum, Memory, NoteNum, Text};
 use tap_model::{NOTE_LIMIT, NOTE_TEXT_LIMIT, STORE_LIMIT};
 use tap_rows::{Change, Note};
 
-// Refuses a number that is no document's, where there are so many.
+// Refuses a number that is not that of one of `count` documents.
 #[tactic(auto, unfolding(tap_model::specs::Verdicts::no_doc))]
 fn refuse_doc(doc: u32, count: usize) -> Result<(), Refusal>
     ensures { result_err result ≡ no_doc doc count }
@@ -35,7 +33,7 @@ fn refuse_doc(doc: u32, count: usize) -> Result<(), Refusal>
     }
 }
 
-// Refuses a note of so many bytes that is too long.
+// Refuses a note of more than NOTE_TEXT_LIMIT bytes.
 #[tactic(auto, unfolding(tap_model::specs::Verdicts::long_note))]
 fn refuse_long(len: usize) -> Result<(), Refusal>
     ensures { result_err result ≡ long_note len }
@@ -48,11 +46,11 @@ fn refuse_long(len: usize) -> Result<(), Refusal>
 }
 
 impl Engine {
-    ghost use Rattle.tap_engine.specs.Standing.{Represents, note_bounds, note_refusal, RefusedBy};
+    ghost use Rattle.tap_engine.specs.Answering.{AnswersAsModel, RepresentsNext, RefusesAsModel, IsUndoable};
+    ghost use Rattle.tap_engine.specs.Standing.{note_bounds, note_refusal, RefusedBy};
     ghost use Rattle.tap_engine.specs.Ready.{IsReady};
-    ghost use Rattle.tap_engine.specs.Answering.{Answers, UndoRestores};
 
-    // Refuses a note on this document, of so many bytes.
+    // Refuses a note of so many bytes if there is no such document or if it passes a limit.
     #[tactic(auto, unfolding(crate::specs::Standing::note_bounds))]
     fn refuse_bounds(&self, doc: u32, len: usize) -> Result<(), Refusal>
         ensures value { result_err result ≡ note_bounds self.now doc len }
@@ -65,10 +63,18 @@ impl Engine {
         refuse_more(LimitName::Store, STORE_LIMIT, self.bytes, len)
     }
 
-    // The row of a note that isn't refused.
+    // Makes the row of a new note, or gives the first refusal.
     fn new_note(&self, doc: u32, kind: Text, value: i64, text: Text) -> Result<Note, Refusal>
         ensures checks { OnOk result (note_refusal self.now doc kind text ≡ None) }
-        ensures row { IfOk result (λ note. note ≡ record { num = record { 0 = length self.now.index.notes + 1 }; doc = record { 0 = doc }; author = user_of self.now.session; kind = kind; value = value; arrival = moment_or_zero self.now.session; text = text }) }
+        ensures row { IfOk result (λ note. note ≡ record {
+          num = record { 0 = length self.now.index.notes + 1 };
+          doc = record { 0 = doc };
+          author = user_of self.now.session;
+          kind = kind;
+          value = value;
+          arrival = moment_or_zero self.now.session;
+          text = text;
+        }) }
         ensures refusal { IfErr result (λ refusal. RefusedBy (note_refusal self.now doc kind text) refusal) }
         ensures few { OnOk result (length self.now.index.notes < NOTE_LIMIT) }
         ensures bytes { OnOk result (self.now.bytes + length text < 2 ^ 64) }
@@ -92,14 +98,17 @@ impl Engine {
         })
     }
 
-    // Adds a note, and gives it as a change.
+    // Adds a note, and gives its row as a change. At Err nothing has changed.
     fn add_note(&mut self, note: Note) -> Result<Change, Memory>
         requires number { note.num.0 ≡ length self.old.index.notes + 1 }
         requires moment { IsMoment note.arrival }
         requires after { Each (λ other. other.arrival ≤ℤ note.arrival) self.old.index.notes }
         requires bytes { self.old.bytes + length note.text < 2 ^ 64 }
         ensures change { IfOk result (λ change. change ≡ RowChange.OneNote note) }
-        ensures engine { OnOk result (self.new ≡ record self.old { index = after self.old.index (RowChange.OneNote note); bytes = self.old.bytes + length note.text }) }
+        ensures engine { OnOk result (self.new ≡ record self.old {
+          index = after self.old.index (RowChange.OneNote note);
+          bytes = self.old.bytes + length note.text;
+        }) }
         ensures err { OnErr result (self.new ≡ self.old) }
     {
         let len = note.text.len();
@@ -118,11 +127,11 @@ impl Engine {
         text: Text,
     ) -> Result<Prepared, Refusal>
         requires ready { IsReady self.old }
-        ensures ok { IfOk result (λ made. (t : Tables) → Represents self.old t → IsSound t self.old.session → Answers t self.old.session (Command.AddNote doc kind value text) made.reply made.change self.new.session) }
-        ensures represents { IfOk result (λ made. (t : Tables) → Represents self.old t → IsSound t self.old.session → Represents self.new (tables_after made.change t)) }
-        ensures refusal { IfErr result (λ refusal. (t : Tables) → Represents self.old t → Refuses refusal (Command.AddNote doc kind value text) self.old.session t) }
+        ensures ok { IfOk result (AnswersAsModel self.old (Command.AddNote doc kind value text) self.new) }
+        ensures represents { IfOk result (RepresentsNext self.old self.new) }
+        ensures refusal { IfErr result (RefusesAsModel self.old (Command.AddNote doc kind value text)) }
         ensures err { OnErr result (self.new ≡ self.old) }
-        ensures undo { IfOk result (λ made. OnSome made.change (UndoRestores made.undo self.new self.old)) }
+        ensures undo { IfOk result (IsUndoable self.old self.new) }
         ensures ready { OnOk result (IsReady self.new) }
         ensures running { OnOk result (self.new.stopped ≡ self.old.stopped) }
         ensures short { IfOk result (λ made. HasShortNames made.reply) }

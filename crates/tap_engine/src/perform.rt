@@ -1,11 +1,12 @@
-ghost use Rattle.std.specs.Prelude.{◌≡◌, ◌⊎◌, ◌↔◌, ◌≤◌, ◌+◌, None, true, false, OnOk, OnErr, IsErr, IfOk, IfErr, OnSome};
+//! One command, one step, one commit: what a command is answered, and what it changes.
+
+ghost use Rattle.std.specs.Prelude.{◌≡◌, ◌⊎◌, ◌↔◌, ◌≤◌, None, true, false, OnOk, OnErr, IsErr, IfOk, IfErr};
 ghost use Rattle.tap_rows.specs.declared.tables.Tables.{Tables};
 ghost use Rattle.keeper_core.specs.Keeping.{IsDurable};
 ghost use Rattle.tap_base.specs.Counts.{Rose};
 ghost use Rattle.script_lang.specs.Replies.{HasShortNames, is_accepted};
 ghost use Rattle.tap_model.specs.Replies.{answer_of, tables_after};
-ghost use Rattle.tap_model.specs.Sound.{IsSound};
-ghost use Rattle.tap_model.specs.Stories.{Refuses, Step, next_tables};
+ghost use Rattle.tap_model.specs.Stories.{Step, next_tables};
 ghost use Rattle.tap_model.specs.Verdicts.{verdict};
 
 use crate::engine::Engine;
@@ -18,12 +19,13 @@ use std::sync::ledger::Ledger;
 use tap_base::Steps;
 
 impl Engine {
-    ghost use Rattle.tap_engine.specs.Standing.{Represents};
+    ghost use Rattle.tap_engine.specs.Standing.{Represents, OverSound};
     ghost use Rattle.tap_engine.specs.Ready.{IsReady};
-    ghost use Rattle.tap_engine.specs.Answering.{Answers, IsUnchangedButHits, UndoRestores, fault_answer, fault_engine};
-    ghost use Rattle.tap_engine.specs.Costs.{IsQuietRun, IsShortRun, run_due};
+    ghost use Rattle.tap_engine.specs.Answering.{AnswersAsModel, RepresentsNext, RefusesSoundly, IsUndoable, AddsRows};
+    ghost use Rattle.tap_engine.specs.Answering.{IsUnchangedButHits, fault_answer, fault_engine};
+    ghost use Rattle.tap_engine.specs.Costs.{TakesNoStep, TakesRowsDue};
 
-    // Takes the memory for a command that isn't refused, and adds its rows here.
+    // Takes all memory that a command needs, and adds its rows to the engine, unless the command is refused.
     fn prepare<L: Ledger>(
         &mut self,
         alloc: Global,
@@ -31,17 +33,17 @@ impl Engine {
         steps: &mut Steps<L>,
     ) -> Result<Prepared, Refusal>
         requires ready { IsReady self.old }
-        ensures ok { IfOk result (λ made. (t : Tables) → Represents self.old t → IsSound t self.old.session → Answers t self.old.session command made.reply made.change self.new.session) }
-        ensures represents { IfOk result (λ made. (t : Tables) → Represents self.old t → IsSound t self.old.session → Represents self.new (tables_after made.change t)) }
-        ensures refusal { IfErr result (λ refusal. (t : Tables) → Represents self.old t → IsSound t self.old.session → Refuses refusal command self.old.session t) }
+        ensures ok { IfOk result (AnswersAsModel self.old command self.new) }
+        ensures represents { IfOk result (RepresentsNext self.old self.new) }
+        ensures refusal { IfErr result (RefusesSoundly self.old command) }
         ensures err { OnErr result (IsUnchangedButHits self.new self.old) }
-        ensures undo { IfOk result (λ made. OnSome made.change (UndoRestores made.undo self.new self.old)) }
+        ensures undo { IfOk result (IsUndoable self.old self.new) }
         ensures ready { OnOk result (IsReady self.new) }
         ensures running { OnOk result (self.new.stopped ≡ self.old.stopped) }
         ensures short { IfOk result (λ made. HasShortNames made.reply) }
         ensures accepted { IfOk result (λ made. is_accepted made.reply ≡ true) }
-        ensures quiet { (t : Tables) → Represents self.old t → IsQuietRun command self.old.session t → steps.new ≡ steps.old }
-        ensures due { (t : Tables) → Represents self.old t → IsShortRun command self.old.session t → steps.new ≤ steps.old + run_due command self.old.session t }
+        ensures quiet { TakesNoStep self.old command steps.old steps.new }
+        ensures due { TakesRowsDue self.old command steps.old steps.new }
     {
         match command {
             Command::At(text) => self.at(text.as_slice()),
@@ -67,11 +69,13 @@ impl Engine {
                 steps,
             )?)),
             Command::Bad(refusal) => Err(refusal),
-            _ => Err(Refusal::NotBuilt),
+            Command::Wake(_) | Command::ScoresOf(_) | Command::DigestOf { .. } => {
+                Err(Refusal::NotBuilt)
+            }
         }
     }
 
-    // What is answered where the keeper didn't commit.
+    // Gives what is returned if the keeper didn't commit, and stops the engine if the keeper failed.
     fn not_committed(&mut self, fault: CommitFault) -> Result<Reply, EngineFault>
         ensures { (result ≡ fault_answer fault) × (self.new ≡ fault_engine fault self.old) }
     {
@@ -84,11 +88,11 @@ impl Engine {
         }
     }
 
-    /// Performs a command: answers it, and moves the session and the tables as its answer says. It takes its memory first,
-    /// then commits once where it adds rows, and completes without memory. Where it is refused, or where there is no memory
-    /// for it, nothing moves. It takes no memory for a command that is refused for its form, or for want of a moment, of a
-    /// user or of a name, nor for `at` with digits alone. It fails only where the keeper does; the engine is stopped then. A
-    /// step is a row that the index hands out.
+    /// Performs a command and returns the reply to it. It takes all memory first, then commits once if the command adds
+    /// rows, and takes no memory after that. If the command is refused or out of memory, the engine and the keeper's tables
+    /// are unchanged. It is never out of memory for a command that is refused for its form, its moment, its user or its
+    /// name, nor for `at` with digits alone. It fails only if the keeper fails, and the engine is stopped then. A step is a
+    /// row that the index hands out.
     pub fn perform<P: Keeper, L: Ledger>(
         &mut self,
         alloc: Global,
@@ -101,22 +105,29 @@ impl Engine {
         requires attached { P.attached keeper.old ≡ true }
         requires keeping { P.stopped keeper.old ≡ false }
 
-        // The answer, over each tables that the engine stands for.
-        ensures step { (t : Tables) → Represents self.old t → IsSound t self.old.session → IfOk result (λ reply. Step t self.old.session command reply (next_tables command reply self.old.session t) self.new.session) }
-        ensures represents { (t : Tables) → Represents self.old t → IsSound t self.old.session → IfOk result (λ reply. Represents self.new (next_tables command reply self.old.session t)) }
+        // The reply and the step, over the tables that the engine represents.
+        ensures step { OverSound self.old (λ t. IfOk result (λ reply.
+            Step t self.old.session command reply (next_tables command reply self.old.session t) self.new.session)) }
+        ensures represents { OverSound self.old (λ t. IfOk result (λ reply. Represents self.new (next_tables command reply self.old.session t))) }
         ensures refused { IfOk result (λ reply. is_accepted reply ≡ false → IsUnchangedButHits self.new self.old) }
         ensures short { IfOk result (λ reply. HasShortNames reply) }
         ensures ready { OnOk result (IsReady self.new) }
 
         // The rows that a run takes from the index, whatever the answer is.
-        ensures quiet { (t : Tables) → Represents self.old t → IsQuietRun command self.old.session t → steps.new ≡ steps.old }
-        ensures due { (t : Tables) → Represents self.old t → IsShortRun command self.old.session t → steps.new ≤ steps.old + run_due command self.old.session t }
+        ensures quiet { TakesNoStep self.old command steps.old steps.new }
+        ensures due { TakesRowsDue self.old command steps.old steps.new }
 
-        // What the keeper keeps, and what a crash leaves.
-        ensures kept { (t : Tables) → Represents self.old t → IsSound t self.old.session → P.honest keeper.new → IsDurable (P.tells keeper.old) (P.may_leave keeper.old) t → IfOk result (λ reply. IsDurable (P.tells keeper.new) (P.may_leave keeper.new) (next_tables command reply self.old.session t)) }
-        ensures crash { (t : Tables) → Represents self.old t → IsSound t self.old.session → P.honest keeper.new → IsDurable (P.tells keeper.old) (P.may_leave keeper.old) t → OnErr result ((verdict command self.old.session t ≡ None) × ((x : Tables) → P.may_leave keeper.new x → (x ≡ t) ⊎ (x ≡ tables_after (answer_of command self.old.session t).change t))) }
+        // What the keeper's store has, and what a crash leaves, if the keeper is honest.
+        ensures kept { OverSound self.old (λ t. P.honest keeper.new → IsDurable (P.tells keeper.old) (P.may_leave keeper.old) t →
+            IfOk result (λ reply.
+            IsDurable (P.tells keeper.new) (P.may_leave keeper.new) (next_tables command reply self.old.session t))) }
+        ensures crash { OverSound self.old (λ t. P.honest keeper.new → IsDurable (P.tells keeper.old) (P.may_leave keeper.old) t →
+            OnErr result ((verdict command self.old.session t ≡ None)
+            × ((x : Tables) → P.may_leave keeper.new x →
+            (x ≡ t) ⊎ (x ≡ tables_after (answer_of command self.old.session t).change t)))) }
 
-        // A failure comes from the keeper alone.
+        // It fails only if the keeper fails, and only for a command that adds rows.
+        ensures adds { OverSound self.old (λ t. OnErr result (AddsRows command self.old.session t)) }
         ensures cause { OnErr result (Rose (P.faults keeper.old) (P.faults keeper.new)) }
         ensures stopped { (P.stopped keeper.new ≡ true) ↔ IsErr result }
         ensures halted { self.new.stopped ≡ P.stopped keeper.new }
@@ -138,7 +149,7 @@ impl Engine {
         match keeper.commit(&change) {
             Ok(()) => Ok(reply),
             Err(fault) => {
-                self.take_back(undo);
+                self.undo_rows(undo);
                 self.not_committed(fault)
             }
         }

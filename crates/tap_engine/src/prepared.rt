@@ -1,3 +1,5 @@
+//! A command whose memory is taken and whose rows are to be committed.
+
 ghost use Rattle.std.specs.Prelude.{◌≡◌, None};
 ghost use Rattle.tap_engine.specs.declared.undo.Undo.{Undo as UndoRows};
 
@@ -5,7 +7,7 @@ use crate::undo::Undo;
 use script_lang::Reply;
 use tap_rows::Change;
 
-/// A command for which all memory is taken: its reply, the rows that are to be committed, and what takes them back.
+/// A command whose memory is taken: its reply, the rows that are to be committed, and what undoes them if they aren't.
 #[derive(Drop)]
 pub struct Prepared {
     pub reply: Reply,
@@ -14,7 +16,7 @@ pub struct Prepared {
 }
 
 impl Prepared {
-    // A command that adds no rows.
+    // Makes a command that adds no rows.
     pub(crate) fn plain(reply: Reply) -> Prepared
         ensures { result ≡ record { reply = reply; change = None; undo = UndoRows.Nothing } }
     {

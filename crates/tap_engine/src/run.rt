@@ -1,17 +1,14 @@
-ghost use Rattle.std.specs.Prelude.{◌≡◌, ℤ, pos, ◌<ℤ◌, drop, Bool, true, ◌≤◌, ◌<◌, ◌+◌, ◌-◌, ◌^◌, ◌++◌, [], ◌∷◌, length, map, max, Some, None, ◌&&◌, int_le, int_lt, slice_index_or, slice_set, OnOk, OnErr, IfOk, IfErr, OnSome, IfSome};
-ghost use Rattle.std.specs.Result.{result_err};
-ghost use Rattle.tap_rows.specs.declared.tables.Tables.{Tables};
+//! The command that runs a query.
+
+ghost use Rattle.std.specs.Prelude.{◌≡◌, ◌≤◌, ◌<◌, ◌+◌, ◌-◌, ◌^◌};
+ghost use Rattle.std.specs.Prelude.{true, length, map, max, Some, None, slice_index_or, slice_set, OnOk, OnErr, IfOk, IfErr, IfSome};
 ghost use Rattle.tap_rows.specs.declared.change.Change.{Change as RowChange};
 ghost use Rattle.tap_rows.specs.Deliveries.{pick_rows};
 ghost use Rattle.tap_rows.specs.Results.{entry_at};
 ghost use Rattle.script_lang.specs.declared.command.Command.{Command};
 ghost use Rattle.script_lang.specs.Replies.{HasShortNames, is_accepted};
-ghost use Rattle.tap_kept.specs.declared.kept_query.KeptQuery.{KeptQuery};
-ghost use Rattle.tap_kept.specs.Keeping.{after_run, AreNew};
-ghost use Rattle.tap_model.specs.Sessions.{moment_or_zero};
-ghost use Rattle.tap_model.specs.Sound.{IsSound};
-ghost use Rattle.tap_model.specs.Replies.{tables_after};
-ghost use Rattle.tap_model.specs.Stories.{Refuses};
+ghost use Rattle.tap_kept.specs.declared.cached_query.CachedQuery.{CachedQuery};
+ghost use Rattle.tap_kept.specs.Keeping.{after_run, AreNew, HoldsAt};
 
 use crate::engine::Engine;
 use crate::limits::refuse_more;
@@ -25,7 +22,7 @@ use tap_base::{Memory, QueryNum, Rows, Steps};
 use tap_model::{PICK_LIMIT, RUN_LIMIT};
 use tap_rows::{Change, Hit, Pick, RunRow};
 
-/// What a run is about to deliver.
+/// What a run is about to deliver: its query, its moment, how many runs the query had, and the hits.
 #[derive(Drop)]
 pub struct Due {
     pub query: QueryNum,
@@ -34,7 +31,7 @@ pub struct Due {
     pub hits: Rows<Hit>,
 }
 
-// One pick for each hit, where there were so many before.
+// Makes one pick for each hit, numbered after the `before` picks that there are.
 fn picks_after(
     alloc: Global,
     before: usize,
@@ -60,7 +57,7 @@ fn picks_after(
     Ok(picks)
 }
 
-// These hits as a list of their own.
+// Copies hits into a list of their own.
 fn copy_hits(alloc: Global, hits: &[Hit]) -> Result<Rows<Hit>, Memory>
     ensures { IfOk result (λ copy. copy ≡ hits.now) }
 {
@@ -68,12 +65,13 @@ fn copy_hits(alloc: Global, hits: &[Hit]) -> Result<Rows<Hit>, Memory>
 }
 
 impl Engine {
-    ghost use Rattle.tap_engine.specs.Standing.{Represents, run_refusal, kept_named, due_of, RefusedBy};
+    ghost use Rattle.tap_engine.specs.Costs.{TakesNoStep, TakesRowsDue};
+    ghost use Rattle.tap_engine.specs.Standing.{run_refusal, cached_named, due_of, RefusedBy};
     ghost use Rattle.tap_engine.specs.Ready.{IsReady};
-    ghost use Rattle.tap_engine.specs.Answering.{Answers, IsUnchangedButHits, UndoRestores, undo_run};
-    ghost use Rattle.tap_engine.specs.Costs.{IsQuietRun, IsShortRun, run_due};
+    ghost use Rattle.tap_engine.specs.Answering.{IsUnchangedButHits, undo_run, AnswersAsModel, RepresentsNext, RefusesSoundly, IsUndoable};
 
-    // What a run of the user's query of this name delivers.
+    // Finds what a run of the user's query of this name delivers, or gives the first refusal. The limit of runs is checked
+    // before the search and the limit of picks after it, which is the order of the refusals.
     #[tactic(auto, unfolding(crate::specs::Standing::look_refusal))]
     fn due_run<L: Ledger>(
         &mut self,
@@ -83,14 +81,14 @@ impl Engine {
     ) -> Result<Due, Refusal>
         requires ready { IsReady self.old }
         ensures verdict { OnOk result (run_refusal self.old name.now ≡ None) }
-        ensures due { IfOk result (λ due. Some due ≡ due_of self.old (kept_named self.old name.now)) }
+        ensures due { IfOk result (λ due. Some due ≡ due_of self.old (cached_named self.old name.now)) }
         ensures refusal { IfErr result (λ refusal. RefusedBy (run_refusal self.old name.now) refusal) }
-        ensures new { IfOk result (λ due. IfSome (kept_named self.old name.now) (λ kept. AreNew kept.entries due.hits)) }
+        ensures new { IfOk result (λ due. IfSome (cached_named self.old name.now) (λ kept. AreNew kept.entries due.hits)) }
         ensures few { OnOk result (self.old.run_count < RUN_LIMIT) }
         ensures room { IfOk result (λ due. self.old.pick_count + length due.hits ≤ max self.old.pick_count PICK_LIMIT) }
         ensures still { IsUnchangedButHits self.new self.old }
-        ensures quiet { (t : Tables) → Represents self.old t → IsQuietRun (Command.Run name.now) self.old.session t → steps.new ≡ steps.old }
-        ensures rows { (t : Tables) → Represents self.old t → IsShortRun (Command.Run name.now) self.old.session t → steps.new ≤ steps.old + run_due (Command.Run name.now) self.old.session t }
+        ensures quiet { TakesNoStep self.old (Command.Run name.now) steps.old steps.new }
+        ensures rows { TakesRowsDue self.old (Command.Run name.now) steps.old steps.new }
     {
         let Some(moment) = self.session.moment else {
             return Err(Refusal::NoMoment);
@@ -108,10 +106,10 @@ impl Engine {
         })
     }
 
-    // What takes the next run of the query at this place back.
+    // Makes what undoes the next run of the query at this place.
     fn undo_run(&self, place: usize) -> Undo
         requires { place < length self.now.queries }
-        ensures { (d : KeptQuery) → result ≡ undo_run self.now place (slice_index_or self.now.queries place d) }
+        ensures { (d : CachedQuery) → result ≡ undo_run self.now place (slice_index_or self.now.queries place d) }
     {
         let kept = self.queries.at(place);
         Undo::Run {
@@ -124,7 +122,7 @@ impl Engine {
         }
     }
 
-    // Adds a run of the query at this place, which delivers these, and gives it as a change.
+    // Adds a run that delivers these hits, and gives its rows as a change. At Err nothing has changed.
     fn deliver(
         &mut self,
         alloc: Global,
@@ -135,12 +133,19 @@ impl Engine {
     ) -> Result<Change, Memory>
         requires first { 0 < query.0 }
         requires place { query.0 ≤ length self.old.queries }
-        requires runs { (d : KeptQuery) → (slice_index_or self.old.queries (query.0 - 1) d).runs + 1 < 2 ^ 64 }
-        requires new { (d : KeptQuery) → AreNew (slice_index_or self.old.queries (query.0 - 1) d).entries hits.now }
+        requires runs { HoldsAt (query.0 - 1) (λ kept. kept.runs + 1 < 2 ^ 64) self.old.queries }
+        requires new { HoldsAt (query.0 - 1) (λ kept. AreNew kept.entries hits.now) self.old.queries }
         requires few { self.old.run_count < RUN_LIMIT }
         requires room { self.old.pick_count + length hits.now ≤ max self.old.pick_count PICK_LIMIT }
-        ensures change { IfOk result (λ change. change ≡ RowChange.RunDone (record { num = self.old.run_count + 1; query = query; moment = moment }) (pick_rows (self.old.pick_count + 1) query (self.old.run_count + 1) hits.now)) }
-        ensures engine { OnOk result ((d : KeptQuery) → self.new ≡ record self.old { queries = slice_set self.old.queries (query.0 - 1) (after_run moment (map (entry_at ordinal) hits.now) (slice_index_or self.old.queries (query.0 - 1) d)); run_count = self.old.run_count + 1; pick_count = self.old.pick_count + length hits.now }) }
+        ensures change { IfOk result (λ change. change ≡ RowChange.RunDone
+            (record { num = self.old.run_count + 1; query = query; moment = moment })
+            (pick_rows (self.old.pick_count + 1) query (self.old.run_count + 1) hits.now)) }
+        ensures engine { OnOk result ((d : CachedQuery) → self.new ≡ record self.old {
+          queries = slice_set self.old.queries (query.0 - 1)
+              (after_run moment (map (entry_at ordinal) hits.now) (slice_index_or self.old.queries (query.0 - 1) d));
+          run_count = self.old.run_count + 1;
+          pick_count = self.old.pick_count + length hits.now;
+        }) }
         ensures err { OnErr result (self.new ≡ self.old) }
     {
         let run = RunRow {
@@ -164,17 +169,17 @@ impl Engine {
         steps: &mut Steps<L>,
     ) -> Result<Prepared, Refusal>
         requires ready { IsReady self.old }
-        ensures ok { IfOk result (λ made. (t : Tables) → Represents self.old t → IsSound t self.old.session → Answers t self.old.session (Command.Run name.now) made.reply made.change self.new.session) }
-        ensures represents { IfOk result (λ made. (t : Tables) → Represents self.old t → IsSound t self.old.session → Represents self.new (tables_after made.change t)) }
-        ensures refusal { IfErr result (λ refusal. (t : Tables) → Represents self.old t → IsSound t self.old.session → Refuses refusal (Command.Run name.now) self.old.session t) }
+        ensures ok { IfOk result (AnswersAsModel self.old (Command.Run name.now) self.new) }
+        ensures represents { IfOk result (RepresentsNext self.old self.new) }
+        ensures refusal { IfErr result (RefusesSoundly self.old (Command.Run name.now)) }
         ensures err { OnErr result (IsUnchangedButHits self.new self.old) }
-        ensures undo { IfOk result (λ made. OnSome made.change (UndoRestores made.undo self.new self.old)) }
+        ensures undo { IfOk result (IsUndoable self.old self.new) }
         ensures ready { OnOk result (IsReady self.new) }
         ensures running { OnOk result (self.new.stopped ≡ self.old.stopped) }
         ensures short { IfOk result (λ made. HasShortNames made.reply) }
         ensures accepted { IfOk result (λ made. is_accepted made.reply ≡ true) }
-        ensures quiet { (t : Tables) → Represents self.old t → IsQuietRun (Command.Run name.now) self.old.session t → steps.new ≡ steps.old }
-        ensures due { (t : Tables) → Represents self.old t → IsShortRun (Command.Run name.now) self.old.session t → steps.new ≤ steps.old + run_due (Command.Run name.now) self.old.session t }
+        ensures quiet { TakesNoStep self.old (Command.Run name.now) steps.old steps.new }
+        ensures due { TakesRowsDue self.old (Command.Run name.now) steps.old steps.new }
     {
         let due = self.due_run(alloc, name, steps)?;
         let ordinal = due.runs as u32 + 1;

@@ -1,29 +1,26 @@
-ghost use Rattle.std.specs.Prelude.{◌≡◌, ℤ, Option, None, Some, true, OnOk, OnErr, IfOk, IfErr, OnSome};
-ghost use Rattle.std.specs.Option.{option_or};
+//! The commands that set the session's moment and its user.
+
+ghost use Rattle.std.specs.Prelude.{◌≡◌, Option, Some, true, OnOk, OnErr, IfOk, IfErr};
 ghost use Rattle.std.specs.Result.{result_err};
 ghost use Rattle.tap_base.specs.Numbers.{moment_of};
 ghost use Rattle.tap_base.specs.Names.{is_name};
-ghost use Rattle.tap_rows.specs.declared.tables.Tables.{Tables};
 ghost use Rattle.script_lang.specs.declared.command.Command.{Command};
 ghost use Rattle.script_lang.specs.Replies.{HasShortNames, is_accepted};
 ghost use Rattle.tap_model.specs.Verdicts.{is_back, bad_name};
-ghost use Rattle.tap_model.specs.Replies.{tables_after};
-ghost use Rattle.tap_model.specs.Sound.{IsSound};
-ghost use Rattle.tap_model.specs.Stories.{Refuses};
 
 use crate::engine::Engine;
 use crate::prepared::Prepared;
 use script_lang::{Refusal, Reply};
 use tap_base::{Text, is_name, read_moment};
 
-// The second of a moment's text, if it is one.
+// Reads a moment, in seconds since 1970-01-01T00:00:00Z.
 pub(crate) fn second_of(text: &[u8]) -> Option<i64>
     ensures { result ≡ moment_of text.now }
 {
     read_moment(text).ok()
 }
 
-// Refuses a second below the last one.
+// Refuses a second before the last one.
 fn refuse_back(last: Option<i64>, second: i64) -> Result<(), Refusal>
     ensures { result_err result ≡ is_back last (Some second) }
 {
@@ -47,18 +44,17 @@ pub(crate) fn refuse_name(name: &[u8]) -> Result<(), Refusal>
 }
 
 impl Engine {
-    ghost use Rattle.tap_engine.specs.Standing.{Represents};
+    ghost use Rattle.tap_engine.specs.Answering.{AnswersAsModel, RepresentsNext, RefusesAsModel, IsUndoable};
     ghost use Rattle.tap_engine.specs.Ready.{IsReady};
-    ghost use Rattle.tap_engine.specs.Answering.{Answers, UndoRestores};
 
-    // Sets the session's moment.
+    // Sets the session's moment, which is never before the last one or, without one, before the greatest stored moment.
     pub(crate) fn at(&mut self, text: &[u8]) -> Result<Prepared, Refusal>
         requires ready { IsReady self.old }
-        ensures ok { IfOk result (λ made. (t : Tables) → Represents self.old t → IsSound t self.old.session → Answers t self.old.session (Command.At text.now) made.reply made.change self.new.session) }
-        ensures represents { IfOk result (λ made. (t : Tables) → Represents self.old t → IsSound t self.old.session → Represents self.new (tables_after made.change t)) }
-        ensures refusal { IfErr result (λ refusal. (t : Tables) → Represents self.old t → Refuses refusal (Command.At text.now) self.old.session t) }
+        ensures ok { IfOk result (AnswersAsModel self.old (Command.At text.now) self.new) }
+        ensures represents { IfOk result (RepresentsNext self.old self.new) }
+        ensures refusal { IfErr result (RefusesAsModel self.old (Command.At text.now)) }
         ensures err { OnErr result (self.new ≡ self.old) }
-        ensures undo { IfOk result (λ made. OnSome made.change (UndoRestores made.undo self.new self.old)) }
+        ensures undo { IfOk result (IsUndoable self.old self.new) }
         ensures ready { OnOk result (IsReady self.new) }
         ensures running { OnOk result (self.new.stopped ≡ self.old.stopped) }
         ensures short { IfOk result (λ made. HasShortNames made.reply) }
@@ -75,11 +71,11 @@ impl Engine {
     // Sets the session's user.
     pub(crate) fn as_user(&mut self, name: Text) -> Result<Prepared, Refusal>
         requires ready { IsReady self.old }
-        ensures ok { IfOk result (λ made. (t : Tables) → Represents self.old t → IsSound t self.old.session → Answers t self.old.session (Command.AsUser name) made.reply made.change self.new.session) }
-        ensures represents { IfOk result (λ made. (t : Tables) → Represents self.old t → IsSound t self.old.session → Represents self.new (tables_after made.change t)) }
-        ensures refusal { IfErr result (λ refusal. (t : Tables) → Represents self.old t → Refuses refusal (Command.AsUser name) self.old.session t) }
+        ensures ok { IfOk result (AnswersAsModel self.old (Command.AsUser name) self.new) }
+        ensures represents { IfOk result (RepresentsNext self.old self.new) }
+        ensures refusal { IfErr result (RefusesAsModel self.old (Command.AsUser name)) }
         ensures err { OnErr result (self.new ≡ self.old) }
-        ensures undo { IfOk result (λ made. OnSome made.change (UndoRestores made.undo self.new self.old)) }
+        ensures undo { IfOk result (IsUndoable self.old self.new) }
         ensures ready { OnOk result (IsReady self.new) }
         ensures running { OnOk result (self.new.stopped ≡ self.old.stopped) }
         ensures short { IfOk result (λ made. HasShortNames made.reply) }

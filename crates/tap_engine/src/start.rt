@@ -1,11 +1,13 @@
-ghost use Rattle.std.specs.Prelude.{◌≡◌, ◌⊎◌, None, Some, false, length, OnOk, IfOk, IfErr};
+//! The start of an engine over stored tables.
+
+ghost use Rattle.std.specs.Prelude.{◌≡◌, ◌⊎◌, None, Some, false, OnOk, IfOk, IfErr};
 ghost use Rattle.std.specs.Option.{option_map};
 ghost use Rattle.tap_kept.specs.Starting.{first_unread};
 
 use crate::engine::Engine;
 use restart_core::Sound;
 use std::alloc::Global;
-use tap_kept::{StartFault, Sums, index_rows, keep_delivered, keep_filters, owners_of};
+use tap_kept::{StartFault, Sums, cache_delivered, cache_filters, index_rows, owners_of};
 use tap_model::Session;
 use tap_rows::Tables;
 
@@ -16,7 +18,7 @@ impl Engine {
     ghost use Rattle.tap_engine.specs.Standing.{Represents};
     ghost use Rattle.tap_engine.specs.Ready.{IsReady};
 
-    // The engine, from the parts of the tables: each row is looked at a fixed number of times.
+    // Builds the engine from the parts of the tables. It looks at each row a fixed number of times.
     fn build(alloc: Global, sound: Sound) -> Result<Engine, StartFault>
         ensures represents { IfOk result (λ engine. Represents engine sound) }
         ensures session { IfOk result (λ engine. engine.session ≡ no_session) }
@@ -36,8 +38,8 @@ impl Engine {
             picks,
             filters,
         } = tables;
-        let filters = keep_filters(alloc, filters)?;
-        let queries = keep_delivered(alloc, queries, conds, runs.as_slice(), picks.as_slice())?;
+        let filters = cache_filters(alloc, filters)?;
+        let queries = cache_delivered(alloc, queries, conds, runs.as_slice(), picks.as_slice())?;
         let (index, hits) = index_rows(alloc, docs, notes)?;
         Ok(Engine {
             session: Session::new(),
@@ -54,8 +56,9 @@ impl Engine {
         })
     }
 
-    /// An engine with a new session that stands for sound tables. It looks at each row a fixed number of times. `Rules` comes
-    /// exactly where a filter's text has a fault, with the first such filter, and never over tables that a session left.
+    /// Makes an engine with a new session that represents sound tables. It looks at each row a fixed number of times. It
+    /// reports `Rules` with the first filter whose text has a fault if there is one, which is never over tables that a session
+    /// left; otherwise it fails only if it is out of memory.
     pub fn start(alloc: Global, sound: Sound) -> Result<Engine, StartFault>
         ensures represents { IfOk result (λ engine. Represents engine sound) }
         ensures session { IfOk result (λ engine. engine.session ≡ no_session) }

@@ -1,3 +1,5 @@
+//! Starts over stored rows.
+
 use crate::Engine;
 use restart_core::check_tables;
 use std::alloc::Global;

@@ -1,3 +1,5 @@
+//! Sessions over a keeper whose commits succeed or fail.
+
 ghost use Rattle.std.specs.Prelude.{◌≡◌, ◌<◌, true, false, OnOk, IfSome};
 ghost use Rattle.tap_engine.specs.Ready.{IsReady};
 

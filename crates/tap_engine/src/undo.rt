@@ -1,25 +1,32 @@
-/// What takes the rows of a command back that isn't committed: how many rows there were before, and how many bytes.
+//! What undoes the rows of a command.
+
+/// What undoes the rows of a command that isn't committed: how many rows there were before it, and how many bytes.
 #[derive(Drop)]
 pub enum Undo {
+    /// There are no rows to undo.
     Nothing,
+    /// Documents: how many there were.
     Docs {
         len: usize,
         bytes: usize,
     },
+    /// One note.
     Note {
         bytes: usize,
     },
+    /// One query: how many queries and how many owners there were.
     Query {
         len: usize,
         owners: usize,
         bytes: usize,
     },
+    /// One filter: how many filters and how many owners there were.
     Filter {
         len: usize,
         owners: usize,
         bytes: usize,
     },
-    /// The run of the query at a place, which had covered the seconds up to `covered` and had so many runs and entries.
+    /// One run of the query at a place, which had covered the seconds up to `covered` and had so many runs and entries.
     Run {
         place: usize,
         covered: i64,

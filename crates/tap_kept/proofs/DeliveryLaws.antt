@@ -1,5 +1,5 @@
--- Runs and picks that join their queries one after another.
-use Rattle.std.proofs.Common.{◌≡◌, ◌∙◌, sym, ap, subst, refl, arith, ℕ, zero, suc, ◌+◌, ◌-◌, ◌≤◌, ◌<◌, ℤ, Bool, true, false, List, [], ◌∷◌, ◌++◌, length, map, take, append_assoc, inl, inr}
+-- Runs and picks are added to their queries one after another.
+use Rattle.std.proofs.Common.{◌≡◌, ◌∙◌, sym, ap, subst, refl, arith, ℕ, zero, suc, ◌+◌, ◌-◌, ◌≤◌, ◌<◌, Bool, true, false, List, [], ◌∷◌, ◌++◌, length, map, take, append_assoc, inl, inr}
 use Rattle.std.specs.Prelude.{◌==◌, slice_index_or, slice_set}
 use Rattle.std.specs.List.{list_any}
 use Rattle.std.proofs.Math.Seq.{take-suc}
@@ -17,10 +17,10 @@ use Rattle.tap_rows.proofs.LaterLaws.{filter-none}
 use Rattle.tap_rows.proofs.PlaceLaws.{ordinal-new, ordinal-stays, moments-new, moments-other}
 use Rattle.tap_rows.proofs.RunLaws.{last-more}
 use Rattle.tap_model.specs.Queries.{start_of}
-use Rattle.tap_kept.specs.declared.kept_query.KeptQuery.{KeptQuery}
-use Rattle.tap_kept.specs.Keeping.{kept_query, new_kept, after_run}
+use Rattle.tap_kept.specs.declared.cached_query.CachedQuery.{CachedQuery}
+use Rattle.tap_kept.specs.Keeping.{cached_query, never_run, after_run}
 use Rattle.tap_kept.specs.Starting.{rows_in, runs_alone, ordinal_in, with_entry, IsOneOf, picks_same}
-use Rattle.tap_kept.proofs.PlaceLaws.{placed, placed-set, runs-few}
+use Rattle.tap_kept.proofs.PlaceLaws.{placed, placed-set, runs-few, same-cached}
 use Rattle.tap_kept.proofs.NewLaws.{picked-in}
 
 same-yes : (a b : ℕ) → a ≡ b → (a == b) ≡ true
@@ -60,57 +60,51 @@ there k num (row ∷ rows) from low high = go (k == num) refl (λ above. there (
 one-there : (num : ℕ) (rows : List QueryRow) → QueriesFrom 1 rows → IsOneOf num (length rows) → There rows num
 one-there num rows from one = there 1 num rows from one.low (omega (arith, one.high))
 
--- what is kept of the query of a number
-pub kept-there : (f : QueryRow → KeptQuery) (num : ℕ) (rows : List QueryRow) (q : QueryRow) (d : KeptQuery) → QueriesFrom 1 rows → In q rows → q.num.0 ≡ num → 1 ≤ num → slice_index_or (map f rows) (num - 1) d ≡ f q
+-- the query of a number in memory
+pub kept-there : (f : QueryRow → CachedQuery) (num : ℕ) (rows : List QueryRow) (q : QueryRow) (d : CachedQuery) → QueriesFrom 1 rows → In q rows → q.num.0 ≡ num → 1 ≤ num → slice_index_or (map f rows) (num - 1) d ≡ f q
 kept-there f num rows q d from has at low = placed f 1 (num - 1) rows q d from has (omega (arith, at, low))
 
 -- so many runs as there were before
-pub runs-before : (rows : List QueryRow) (before : List RunRow) (num : ℕ) (queries : List KeptQuery) (d : KeptQuery) → QueriesFrom 1 rows → IsOneOf num (length rows) → queries ≡ map (kept_query (runs_alone before [])) rows
+pub runs-before : (rows : List QueryRow) (before : List RunRow) (num : ℕ) (queries : List CachedQuery) (d : CachedQuery) → QueriesFrom 1 rows → IsOneOf num (length rows) → queries ≡ map (cached_query (runs_alone before [])) rows
     → (slice_index_or queries (num - 1) d).runs ≡ length (run_moments num before)
 runs-before rows before num queries d from one is =
     let t = one-there num rows from one in
     ap (λ qs. (slice_index_or qs (num - 1) d).runs) is
-    ∙ ap (λ kept. kept.runs) (kept-there (kept_query (runs_alone before [])) num rows t.q d from t.has t.at one.low)
+    ∙ ap (λ kept. kept.runs) (kept-there (cached_query (runs_alone before [])) num rows t.q d from t.has t.at one.low)
     ∙ ap (λ n. length (run_moments n before)) t.at
 
-pub few-before : (rows : List QueryRow) (before : List RunRow) (num i : ℕ) (queries : List KeptQuery) (d : KeptQuery) → QueriesFrom 1 rows → IsOneOf num (length rows) → queries ≡ map (kept_query (runs_alone before [])) rows → length before ≡ i
+pub few-before : (rows : List QueryRow) (before : List RunRow) (num i : ℕ) (queries : List CachedQuery) (d : CachedQuery) → QueriesFrom 1 rows → IsOneOf num (length rows) → queries ≡ map (cached_query (runs_alone before [])) rows → length before ≡ i
     → (slice_index_or queries (num - 1) d).runs ≤ i
 few-before rows before num i queries d from one is len =
     let few = runs-few num before in
     let same = runs-before rows before num queries d from one is in
     omega (arith, few, same, len)
 
-abbrev kept-of : QueryRow → ℤ → ℕ → List Entry → KeptQuery
-kept-of row covered runs entries = record { row = row; covered = covered; runs = runs; entries = entries }
-
-kept-as : (row : QueryRow) (a a' : ℤ) (b b' : ℕ) (c c' : List Entry) → a ≡ a' → b ≡ b' → c ≡ c' → kept-of row a b c ≡ kept-of row a' b' c'
-kept-as row a a' b b' c c' e f g = ap (λ x. kept-of row x b c) e ∙ ap (λ x. kept-of row a' x c) f ∙ ap (λ x. kept-of row a' b' x) g
-
 abbrev entry-of : Pick → ℕ → Entry
 entry-of pick run = record { doc = pick.doc; first = pick.first; run = run }
 
-own-run : (before : List RunRow) (run : RunRow) (q : QueryRow) → run.query.0 ≡ q.num.0 → kept_query (runs_alone (before ++ run ∷ []) []) q ≡ after_run run.moment [] (kept_query (runs_alone before []) q)
+own-run : (before : List RunRow) (run : RunRow) (q : QueryRow) → run.query.0 ≡ q.num.0 → cached_query (runs_alone (before ++ run ∷ []) []) q ≡ after_run run.moment [] (cached_query (runs_alone before []) q)
 own-run before run q of =
     let moments = moments-new q.num.0 before run of in
-    kept-as q (last_or (start_of q) (run_moments q.num.0 (before ++ run ∷ []))) run.moment (length (run_moments q.num.0 (before ++ run ∷ []))) (length (run_moments q.num.0 before) + 1) [] []
+    same-cached q (last_or (start_of q) (run_moments q.num.0 (before ++ run ∷ []))) run.moment (length (run_moments q.num.0 (before ++ run ∷ []))) (length (run_moments q.num.0 before) + 1) [] []
     (ap (last_or (start_of q)) moments ∙ last-more (start_of q) run.moment (run_moments q.num.0 before))
     (ap length moments ∙ length-append (run_moments q.num.0 before) (run.moment ∷ []))
     refl
 
-other-run : (before : List RunRow) (run : RunRow) (other : QueryRow) → (run.query.0 ≡ other.num.0 → ⊥) → kept_query (runs_alone (before ++ run ∷ []) []) other ≡ kept_query (runs_alone before []) other
+other-run : (before : List RunRow) (run : RunRow) (other : QueryRow) → (run.query.0 ≡ other.num.0 → ⊥) → cached_query (runs_alone (before ++ run ∷ []) []) other ≡ cached_query (runs_alone before []) other
 other-run before run other differs =
     let moments = moments-other other.num.0 before run differs in
-    kept-as other (last_or (start_of other) (run_moments other.num.0 (before ++ run ∷ []))) (last_or (start_of other) (run_moments other.num.0 before)) (length (run_moments other.num.0 (before ++ run ∷ []))) (length (run_moments other.num.0 before)) [] [] (ap (last_or (start_of other)) moments) (ap length moments) refl
+    same-cached other (last_or (start_of other) (run_moments other.num.0 (before ++ run ∷ []))) (last_or (start_of other) (run_moments other.num.0 before)) (length (run_moments other.num.0 (before ++ run ∷ []))) (length (run_moments other.num.0 before)) [] [] (ap (last_or (start_of other)) moments) (ap length moments) refl
 
--- a run joins its query
-pub run-joins : (rows : List QueryRow) (before : List RunRow) (run : RunRow) (queries new : List KeptQuery) → QueriesFrom 1 rows → IsOneOf run.query.0 (length rows) → queries ≡ map (kept_query (runs_alone before [])) rows
-    → ((d : KeptQuery) → new ≡ slice_set queries (run.query.0 - 1) (after_run run.moment [] (slice_index_or queries (run.query.0 - 1) d)))
-    → new ≡ map (kept_query (runs_alone (before ++ run ∷ []) [])) rows
+-- a run is added to its query
+pub run-joins : (rows : List QueryRow) (before : List RunRow) (run : RunRow) (queries new : List CachedQuery) → QueriesFrom 1 rows → IsOneOf run.query.0 (length rows) → queries ≡ map (cached_query (runs_alone before [])) rows
+    → ((d : CachedQuery) → new ≡ slice_set queries (run.query.0 - 1) (after_run run.moment [] (slice_index_or queries (run.query.0 - 1) d)))
+    → new ≡ map (cached_query (runs_alone (before ++ run ∷ []) [])) rows
 run-joins rows before run queries new from one is set =
     let t = one-there run.query.0 rows from one in
-    let f : QueryRow → KeptQuery = kept_query (runs_alone before []) in
-    let g : QueryRow → KeptQuery = kept_query (runs_alone (before ++ run ∷ []) []) in
-    let d : KeptQuery = f t.q in
+    let f : QueryRow → CachedQuery = cached_query (runs_alone before []) in
+    let g : QueryRow → CachedQuery = cached_query (runs_alone (before ++ run ∷ []) []) in
+    let d : CachedQuery = f t.q in
     let kept : slice_index_or (map f rows) (run.query.0 - 1) d ≡ f t.q = kept-there f run.query.0 rows t.q d from t.has t.at one.low in
     let at : t.q.num.0 ≡ 1 + (run.query.0 - 1) = omega (arith, t.at, one.low) in
     set d
@@ -120,18 +114,18 @@ run-joins rows before run queries new from one is set =
     ∙ placed-set f g 1 (run.query.0 - 1) rows t.q from t.has at (λ other differs. other-run before run other (λ e. differs (t.at ∙ e)))
 
 own-pick : (runs : List RunRow) (before : List Pick) (pick : Pick) (q : QueryRow) (run : ℕ) → pick.query.0 ≡ q.num.0 → run ≡ run_ordinal pick.run pick.query.0 runs
-    → kept_query (runs_alone runs (before ++ pick ∷ [])) q ≡ with_entry (entry-of pick run) (kept_query (runs_alone runs before) q)
+    → cached_query (runs_alone runs (before ++ pick ∷ [])) q ≡ with_entry (entry-of pick run) (cached_query (runs_alone runs before) q)
 own-pick runs before pick q run of is =
     let yes' = same-yes pick.query.0 q.num.0 of in
     let one : picks_of q.num.0 (pick ∷ []) ≡ pick ∷ [] = rw yes' refl in
-    kept-as q (last_or (start_of q) (run_moments q.num.0 runs)) (last_or (start_of q) (run_moments q.num.0 runs)) (length (run_moments q.num.0 runs)) (length (run_moments q.num.0 runs)) (map (picked runs) (picks_of q.num.0 (before ++ pick ∷ []))) (map (picked runs) (picks_of q.num.0 before) ++ entry-of pick run ∷ []) refl refl
+    same-cached q (last_or (start_of q) (run_moments q.num.0 runs)) (last_or (start_of q) (run_moments q.num.0 runs)) (length (run_moments q.num.0 runs)) (length (run_moments q.num.0 runs)) (map (picked runs) (picks_of q.num.0 (before ++ pick ∷ []))) (map (picked runs) (picks_of q.num.0 before) ++ entry-of pick run ∷ []) refl refl
     (ap (map (picked runs)) (filter-append (λ pick. pick.query.0 == q.num.0) before (pick ∷ []) ∙ ap (λ more. picks_of q.num.0 before ++ more) one)
     ∙ map-append (picked runs) (picks_of q.num.0 before) (pick ∷ [])
     ∙ ap (λ n. map (picked runs) (picks_of q.num.0 before) ++ entry-of pick n ∷ []) (sym is))
 
-other-pick : (runs : List RunRow) (before : List Pick) (pick : Pick) (other : QueryRow) → (pick.query.0 ≡ other.num.0 → ⊥) → kept_query (runs_alone runs (before ++ pick ∷ [])) other ≡ kept_query (runs_alone runs before) other
+other-pick : (runs : List RunRow) (before : List Pick) (pick : Pick) (other : QueryRow) → (pick.query.0 ≡ other.num.0 → ⊥) → cached_query (runs_alone runs (before ++ pick ∷ [])) other ≡ cached_query (runs_alone runs before) other
 other-pick runs before pick other differs =
-    kept-as other (last_or (start_of other) (run_moments other.num.0 runs)) (last_or (start_of other) (run_moments other.num.0 runs)) (length (run_moments other.num.0 runs)) (length (run_moments other.num.0 runs)) (map (picked runs) (picks_of other.num.0 (before ++ pick ∷ []))) (map (picked runs) (picks_of other.num.0 before)) refl refl (ap (map (picked runs)) (filter-none (λ pick. pick.query.0 == other.num.0) before (pick ∷ []) (same-not pick.query.0 other.num.0 differs, tt)))
+    same-cached other (last_or (start_of other) (run_moments other.num.0 runs)) (last_or (start_of other) (run_moments other.num.0 runs)) (length (run_moments other.num.0 runs)) (length (run_moments other.num.0 runs)) (map (picked runs) (picks_of other.num.0 (before ++ pick ∷ []))) (map (picked runs) (picks_of other.num.0 before)) refl refl (ap (map (picked runs)) (filter-none (λ pick. pick.query.0 == other.num.0) before (pick ∷ []) (same-not pick.query.0 other.num.0 differs, tt)))
 
 -- the ordinal that was noted for a run
 has-bounds : (k num query : ℕ) (runs : List RunRow) → RunsFrom k runs → HasRun num query runs → (k ≤ num) × (num < k + length runs)
@@ -154,16 +148,16 @@ has-owned num query n (run ∷ runs) each (inr h) = has-owned num query n runs e
 pub run-within : (num query : ℕ) (runs : List RunRow) → RunsFrom 1 runs → HasRun num query runs → IsOneOf num (length runs)
 run-within num query runs from has = let bounds = has-bounds 1 num query runs from has in record { low = bounds.0; high = omega (arith, bounds.1) }
 
--- a pick joins its query
-pub pick-joins : (rows : List QueryRow) (runs : List RunRow) (before : List Pick) (pick : Pick) (queries new : List KeptQuery) (ordinals : List ℕ) → QueriesFrom 1 rows → RunsFrom 1 runs → IsOneOf pick.query.0 (length rows) → HasRun pick.run pick.query.0 runs
-    → queries ≡ map (kept_query (runs_alone runs before)) rows → ordinals ≡ map (ordinal_in runs) runs
-    → ((d : KeptQuery) → new ≡ slice_set queries (pick.query.0 - 1) (with_entry (record { doc = pick.doc; first = pick.first; run = slice_index_or ordinals (pick.run - 1) 0 }) (slice_index_or queries (pick.query.0 - 1) d)))
-    → new ≡ map (kept_query (runs_alone runs (before ++ pick ∷ []))) rows
+-- a pick is added to its query
+pub pick-joins : (rows : List QueryRow) (runs : List RunRow) (before : List Pick) (pick : Pick) (queries new : List CachedQuery) (ordinals : List ℕ) → QueriesFrom 1 rows → RunsFrom 1 runs → IsOneOf pick.query.0 (length rows) → HasRun pick.run pick.query.0 runs
+    → queries ≡ map (cached_query (runs_alone runs before)) rows → ordinals ≡ map (ordinal_in runs) runs
+    → ((d : CachedQuery) → new ≡ slice_set queries (pick.query.0 - 1) (with_entry (record { doc = pick.doc; first = pick.first; run = slice_index_or ordinals (pick.run - 1) 0 }) (slice_index_or queries (pick.query.0 - 1) d)))
+    → new ≡ map (cached_query (runs_alone runs (before ++ pick ∷ []))) rows
 pick-joins rows runs before pick queries new ordinals from numbered one has is noted set =
     let t = one-there pick.query.0 rows from one in
-    let f : QueryRow → KeptQuery = kept_query (runs_alone runs before) in
-    let g : QueryRow → KeptQuery = kept_query (runs_alone runs (before ++ pick ∷ [])) in
-    let d : KeptQuery = f t.q in
+    let f : QueryRow → CachedQuery = cached_query (runs_alone runs before) in
+    let g : QueryRow → CachedQuery = cached_query (runs_alone runs (before ++ pick ∷ [])) in
+    let d : CachedQuery = f t.q in
     let entry = entry-of pick (slice_index_or ordinals (pick.run - 1) 0) in
     let low = has-bounds 1 pick.run pick.query.0 runs numbered has in
     let place : pick.run ≡ 1 + (pick.run - 1) = omega (arith, low.0) in
@@ -178,13 +172,13 @@ pick-joins rows runs before pick queries new ordinals from numbered one has is n
     ∙ placed-set f g 1 (pick.query.0 - 1) rows t.q from t.has at (λ other differs. other-pick runs before pick other (λ e. differs (t.at ∙ e)))
 
 -- its document isn't among what its query has delivered
-pub pick-unseen : (rows : List QueryRow) (runs : List RunRow) (before : List Pick) (pick : Pick) (queries : List KeptQuery) (d : KeptQuery) → QueriesFrom 1 rows → IsOneOf pick.query.0 (length rows) → queries ≡ map (kept_query (runs_alone runs before)) rows
+pub pick-unseen : (rows : List QueryRow) (runs : List RunRow) (before : List Pick) (pick : Pick) (queries : List CachedQuery) (d : CachedQuery) → QueriesFrom 1 rows → IsOneOf pick.query.0 (length rows) → queries ≡ map (cached_query (runs_alone runs before)) rows
     → list_any (picks_same pick) before ≡ false → is_in pick.doc.0 (slice_index_or queries (pick.query.0 - 1) d).entries ≡ false
 pick-unseen rows runs before pick queries d from one is once =
     let t = one-there pick.query.0 rows from one in
-    let kept : slice_index_or queries (pick.query.0 - 1) d ≡ kept_query (runs_alone runs before) t.q =
-    ap (λ l. slice_index_or l (pick.query.0 - 1) d) is ∙ kept-there (kept_query (runs_alone runs before)) pick.query.0 rows t.q d from t.has t.at one.low in
-    ap (λ (k : KeptQuery). is_in pick.doc.0 k.entries) kept ∙ ap (λ n. is_in pick.doc.0 (map (picked runs) (picks_of n before))) t.at ∙ picked-in runs pick before ∙ once
+    let kept : slice_index_or queries (pick.query.0 - 1) d ≡ cached_query (runs_alone runs before) t.q =
+    ap (λ l. slice_index_or l (pick.query.0 - 1) d) is ∙ kept-there (cached_query (runs_alone runs before)) pick.query.0 rows t.q d from t.has t.at one.low in
+    ap (λ (k : CachedQuery). is_in pick.doc.0 k.entries) kept ∙ ap (λ n. is_in pick.doc.0 (map (picked runs) (picks_of n before))) t.at ∙ picked-in runs pick before ∙ once
 
 -- runs that are there have their ordinals, whatever follows
 run-in : (pre rest : List RunRow) (run : RunRow) → HasRun run.num run.query.0 (pre ++ run ∷ rest)
@@ -229,11 +223,11 @@ before-on i xs d lt = ap (λ n. take n xs) (one-more i) ∙ take-suc xs i d lt w
   one-more n = omega arith
 
 -- queries that were never run
-pub never-run : (rows : List QueryRow) → rows_in (map new_kept rows) ≡ rows
+pub never-run : (rows : List QueryRow) → rows_in (map never_run rows) ≡ rows
 never-run [] = refl
 never-run (row ∷ rows) = ap (λ l. row ∷ l) (never-run rows)
 
--- the run at a place of some runs of these queries joins its query
+-- the run at a place of some runs of these queries is added to its query
 pub record RunAt (rows : List QueryRow) (runs : List RunRow) (i : ℕ) (d : RunRow) : Type 0 where
   pub from : RunsFrom 1 (take i runs)
   pub num : (slice_index_or runs i d).num ≡ i + 1

@@ -6,3 +6,4 @@ mod DeliveryLaws
 mod VariableLaws
 pub mod TextLaws
 mod FindLaws
+mod SumLaws

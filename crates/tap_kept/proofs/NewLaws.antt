@@ -1,6 +1,6 @@
--- What is delivered is of documents that weren't.
+-- A run delivers documents that weren't delivered before.
 use Rattle.std.proofs.Common.{◌≡◌, ◌∙◌, sym, refl, ap, subst, arith, ℕ, zero, suc, ◌+◌, ◌≤◌, ◌<◌, ℤ, pos, Bool, true, false, not, List, [], ◌∷◌, ◌++◌, map, take, length, Option, Some, None, inl, inr, nat_eq, append_assoc, if◌then◌else◌}
-use Rattle.std.specs.Prelude.{drop, ◌⊎◌, ◌==◌, ◌&&◌, ◌||◌, slice_index_or, filter}
+use Rattle.std.specs.Prelude.{drop, ◌⊎◌, ◌==◌, ◌||◌, slice_index_or, filter}
 use Rattle.std.specs.List.{list_any, filter_map}
 use Rattle.std.proofs.lemmas.Bool.{false≢true}
 use Rattle.std.proofs.lemmas.List.{append-nil, length-append}
@@ -122,9 +122,6 @@ left-at : (i : ℕ) (hits : List Hit) (d : Hit) → i < length hits → drop i h
 left-at i [] d lt = absurd (omega (arith, lt))
 left-at zero (hit ∷ hits) d lt = refl
 left-at (suc i) (hit ∷ hits) d lt = let up : suc i + 1 ≡ suc (i + 1) = omega arith in rw up (left-at i hits d (omega (arith, lt)))
-
-no-hit : Hit
-no-hit = record { doc = record { 0 = 0 }; first = pos 0 }
 
 -- one of the hits that are left is added
 pub record IsAdded (before after : List Entry) (run : ℕ) (hits left : List Hit) : Type 0 where

@@ -1,5 +1,5 @@
--- What a run of a kept query costs. A step is a row that the index hands out.
-use Rattle.std.specs.Prelude.{ℕ, ℤ, List}
+-- What a run of a query costs. A step is a row that the index hands out.
+use Rattle.std.specs.Prelude.{ℕ, ℤ}
 use Rattle.tap_rows.specs.declared.tables.Tables.{Tables}
 use Rattle.tap_rows.specs.declared.rows.QueryRow.{QueryRow}
 use Rattle.tap_rows.specs.Kept.{In}
@@ -8,7 +8,7 @@ use Rattle.time_marks.specs.Probes.{Probe}
 use Rattle.query_eval.specs.Runs as runs
 use Rattle.query_eval.specs.Work.{total}
 use Rattle.tap_model.specs.Queries.{probes_in}
-use Rattle.tap_kept.specs.declared.kept_query.KeptQuery.{KeptQuery}
+use Rattle.tap_kept.specs.declared.cached_query.CachedQuery.{CachedQuery}
 
 -- no probe of the query has a mark in the window
 abbrev pub HasNoMark : Tables → Window → QueryRow → Type 0
@@ -22,6 +22,6 @@ AreAlone query = (p : Probe) → In p (probes_in query) → runs.PathIsDocument 
 abbrev pub rows_due : Tables → Window → QueryRow → ℕ
 rows_due rows w query = total (runs.rows_due rows w) (probes_in query)
 
--- the window of a query's next run: from the second that it has covered up to a moment
-abbrev pub window_since : KeptQuery → ℤ → Window
+-- the window of a query's next run, by what is in memory: from the second that it has covered up to a moment
+abbrev pub window_since : CachedQuery → ℤ → Window
 window_since kept moment = record { low = kept.covered; high = moment }

@@ -1,5 +1,6 @@
 -- What an engine makes of stored tables when it starts.
-use Rattle.std.specs.Prelude.{ℕ, ℤ, ◌≡◌, ◌+◌, ◌≤◌, ◌≤ℤ◌, List, [], ◌∷◌, ◌++◌, length, map, Bool, false, ◌==◌, ◌&&◌, Option, Some, None, is_some, if◌then◌else◌}
+use Rattle.std.specs.Prelude.{ℕ, ℤ, ◌≡◌, ◌+◌, ◌≤◌, ◌≤ℤ◌, List, [], ◌∷◌, ◌++◌, length, map}
+use Rattle.std.specs.Prelude.{Bool, false, ◌==◌, ◌&&◌, Option, Some, None, is_some, if◌then◌else◌}
 use Rattle.std.specs.List.{list_any}
 use Rattle.tap_rows.specs.declared.tables.Tables.{Tables}
 use Rattle.tap_rows.specs.declared.rows.Note.{Note}
@@ -14,10 +15,10 @@ use Rattle.tap_rows.specs.Kept.{Each}
 use Rattle.row_index.specs.Orders.{IsMoment}
 use Rattle.tap_model.specs.Sessions.{later_of}
 use Rattle.tap_model.specs.Verdicts.{filter_fault}
-use Rattle.tap_kept.specs.declared.kept_query.KeptQuery.{KeptQuery}
+use Rattle.tap_kept.specs.declared.cached_query.CachedQuery.{CachedQuery}
 use Rattle.tap_kept.specs.declared.sums.Sums.{Sums}
 
--- has the filter's text a fault?
+-- whether the filter's text has a fault
 abbrev pub is_unread : FilterRow → Bool
 is_unread filter = is_some (filter_fault filter.source)
 
@@ -26,8 +27,8 @@ abbrev pub first_unread : List FilterRow → Option ℕ
 first_unread [] = None
 first_unread (filter ∷ filters) = if is_unread filter then Some filter.num else first_unread filters
 
--- the rows of queries that are kept
-abbrev pub rows_in : List KeptQuery → List QueryRow
+-- the rows of queries in memory
+abbrev pub rows_in : List CachedQuery → List QueryRow
 rows_in queries = map (λ kept. kept.row) queries
 
 -- tables of these runs and picks alone
@@ -39,10 +40,10 @@ abbrev pub ordinal_in : List RunRow → RunRow → ℕ
 ordinal_in runs run = run_ordinal run.num run.query.0 runs
 
 -- a query that has delivered one document more
-abbrev pub with_entry : Entry → KeptQuery → KeptQuery
+abbrev pub with_entry : Entry → CachedQuery → CachedQuery
 with_entry entry kept = record { row = kept.row; covered = kept.covered; runs = kept.runs; entries = kept.entries ++ entry ∷ [] }
 
--- is the one pick of the query and the document of the other?
+-- whether one pick is of the query and the document of the other
 abbrev pub picks_same : Pick → Pick → Bool
 picks_same pick other = (other.query.0 == pick.query.0) && (other.doc.0 == pick.doc.0)
 
@@ -56,11 +57,11 @@ pub record IsOneOf (num count : ℕ) : Type 0 where
   pub low : 1 ≤ num
   pub high : num ≤ count
 
--- with one row more, of this moment and so many bytes
+-- the sums with one row more, of this moment and so many bytes
 abbrev pub added : ℤ → ℕ → Sums → Sums
 added moment bytes sums = record { bytes = sums.bytes + bytes; greatest = Some (later_of moment sums.greatest) }
 
--- with some rows more
+-- the sums with some rows more
 abbrev pub summed : {A : Type 0} → (A → ℤ) → (A → ℕ) → Sums → List A → Sums
 summed moment bytes sums [] = sums
 summed moment bytes sums (row ∷ rows) = summed moment bytes (added (moment row) (bytes row) sums) rows
@@ -72,20 +73,22 @@ sums_of tables =
     (summed (λ run. run.moment) (λ run. 0)
     (summed (λ query. query.arrival) (λ query. length query.source)
     (summed (λ note. note.arrival) (λ note. length note.text)
-    (summed (λ doc. doc.arrival) (λ doc. length doc.text) (record { bytes = 0; greatest = None }) tables.docs) tables.notes) tables.queries) tables.runs) tables.filters
+    (summed (λ doc. doc.arrival) (λ doc. length doc.text)
+    (record { bytes = 0; greatest = None })
+    tables.docs) tables.notes) tables.queries) tables.runs) tables.filters
 
--- rows that stand in order: their numbers are their places, from this one on, and their arrivals are moments that never fall,
--- from this one on
-abbrev pub AreStanding : {A : Type 0} → (A → ℕ) → (A → ℤ) → ℕ → ℤ → List A → Type 0
-AreStanding number arrival n low [] = Unit {0}
-AreStanding number arrival n low (x ∷ xs) = (number x ≡ n) × (low ≤ℤ arrival x) × IsMoment (arrival x) × AreStanding number arrival (n + 1) (arrival x) xs
+-- rows in order: they are numbered by their places from n on, and their arrivals are moments that never fall from low on
+abbrev pub AreInOrder : {A : Type 0} → (A → ℕ) → (A → ℤ) → ℕ → ℤ → List A → Type 0
+AreInOrder number arrival n low [] = Unit {0}
+AreInOrder number arrival n low (x ∷ xs) =
+    (number x ≡ n) × (low ≤ℤ arrival x) × IsMoment (arrival x) × AreInOrder number arrival (n + 1) (arrival x) xs
 
--- rows that stand in order behind others
-pub record AreLeft {A : Type 0} (number : A → ℕ) (arrival : A → ℤ) (others rows : List A) : Type 0 where
+-- rows in order after others
+pub record FollowInOrder {A : Type 0} (number : A → ℕ) (arrival : A → ℤ) (others rows : List A) : Type 0 where
   pub low : ℤ
   pub before : Each (λ other. arrival other ≤ℤ low) others
-  pub stand : AreStanding number arrival (length others + 1) low rows
+  pub stand : AreInOrder number arrival (length others + 1) low rows
 
--- with these notes behind the others
+-- the rows with these notes after the others
 abbrev pub with_notes : Tables → List Note → Tables
 with_notes rows notes = record rows { notes = rows.notes ++ notes }

@@ -1,16 +1,17 @@
-ghost use Rattle.std.specs.Prelude.{◌≡◌, ◌+◌, ◌-◌, ◌^◌, ◌<◌, ◌≤◌, [], false, map, length, slice_index_or, slice_set, OnOk, IfOk};
+//! What stored runs and picks make of queries that were never run.
+
+ghost use Rattle.std.specs.Prelude.{◌≡◌, ◌+◌, ◌-◌, ◌^◌, ◌<◌, ◌≤◌, [], false, map, length, slice_index_or, OnOk, IfOk};
 ghost use Rattle.little_box.specs.Boxes.{is_in};
 ghost use Rattle.tap_rows.specs.Kept.{Each, HasRun, RunsFrom, QueriesFrom};
-ghost use Rattle.tap_kept.specs.declared.kept_query.KeptQuery.{KeptQuery};
-ghost use Rattle.tap_kept.specs.Keeping.{kept_query, new_kept, after_run};
+ghost use Rattle.tap_kept.specs.Keeping.{cached_query, never_run, after_run, HoldsAt, ChangesAt};
 ghost use Rattle.tap_kept.specs.Starting.{rows_in, runs_alone, ordinal_in, with_entry, IsOneOf, PicksAreDistinct};
 
-use crate::kept_queries::KeptQueries;
+use crate::cached_queries::CachedQueries;
 use std::alloc::Global;
 use tap_base::{Memory, Rows};
 use tap_rows::{Entry, Pick, RunRow};
 
-// The ordinal of the next run of a query that had so many, where that is no greater than the run's number.
+// Gives the ordinal of a query's next run after so many runs. It fits, since it is no greater than the run's number.
 fn ordinal_after(runs: usize, num: u32) -> u32
     requires { runs + 1 ≤ num }
     ensures value { result ≡ runs + 1 }
@@ -19,12 +20,12 @@ fn ordinal_after(runs: usize, num: u32) -> u32
     runs as u32 + 1
 }
 
-// Adds a run to its query, and gives its ordinal among that query's.
-fn add_run(alloc: Global, queries: &mut KeptQueries, run: &RunRow) -> Result<u32, Memory>
+// Adds a run to its query, and gives its ordinal among that query's runs.
+fn add_run(queries: &mut CachedQueries, run: &RunRow) -> Result<u32, Memory>
     requires query { IsOneOf run.now.query.0 (length queries.old) }
-    requires few { (d : KeptQuery) → (slice_index_or queries.old (run.now.query.0 - 1) d).runs + 1 ≤ run.now.num }
-    ensures ordinal { IfOk result (λ ordinal. (d : KeptQuery) → ordinal ≡ (slice_index_or queries.old (run.now.query.0 - 1) d).runs + 1) }
-    ensures queries { OnOk result ((d : KeptQuery) → queries.new ≡ slice_set queries.old (run.now.query.0 - 1) (after_run run.now.moment [] (slice_index_or queries.old (run.now.query.0 - 1) d))) }
+    requires few { HoldsAt (run.now.query.0 - 1) (λ query. query.runs + 1 ≤ run.now.num) queries.old }
+    ensures ordinal { IfOk result (λ ordinal. HoldsAt (run.now.query.0 - 1) (λ query. ordinal ≡ query.runs + 1) queries.old) }
+    ensures queries { OnOk result (ChangesAt (run.now.query.0 - 1) (after_run run.now.moment []) queries.old queries.new) }
 {
     let place = run.query.0 as usize - 1;
     let ordinal = ordinal_after(queries.at(place).runs, run.num);
@@ -32,28 +33,34 @@ fn add_run(alloc: Global, queries: &mut KeptQueries, run: &RunRow) -> Result<u32
     Ok(ordinal)
 }
 
-// Adds runs to queries that were never run, and gives the ordinal of each among its query's.
-fn add_runs(alloc: Global, queries: &mut KeptQueries, runs: &[RunRow]) -> Result<Vec<u32>, Memory>
+// Adds runs to queries that were never run, and gives the ordinal of each among its query's runs.
+fn add_runs(alloc: Global, queries: &mut CachedQueries, runs: &[RunRow]) -> Result<Vec<u32>, Memory>
     requires numbered { QueriesFrom 1 (rows_in queries.old) }
-    requires fresh { queries.old ≡ map new_kept (rows_in queries.old) }
+    requires fresh { queries.old ≡ map never_run (rows_in queries.old) }
     requires runs { RunsFrom 1 runs.now }
     requires owned { Each (λ run. IsOneOf run.query.0 (length queries.old)) runs.now }
-    ensures queries { OnOk result (queries.new ≡ map (kept_query (runs_alone runs.now [])) (rows_in queries.old)) }
+    ensures queries { OnOk result (queries.new ≡ map (cached_query (runs_alone runs.now [])) (rows_in queries.old)) }
     ensures ordinals { IfOk result (λ ordinals. ordinals.items ≡ map (ordinal_in runs.now) runs.now) }
 {
     let mut ordinals = Vec::new(alloc);
     for run in runs {
-        ordinals.push(add_run(alloc, queries, run)?)?;
+        ordinals.push(add_run(queries, run)?)?;
     }
     Ok(ordinals)
 }
 
-// Adds the entry that a pick is to its query, by the ordinals of all runs.
-fn add_pick(queries: &mut KeptQueries, ordinals: &[u32], pick: &Pick) -> Result<(), Memory>
+// Adds a pick as an entry to its query. The entry has the ordinal of the pick's run, which `ordinals` has at that run's place.
+fn add_pick(queries: &mut CachedQueries, ordinals: &[u32], pick: &Pick) -> Result<(), Memory>
     requires query { IsOneOf pick.now.query.0 (length queries.old) }
     requires run { IsOneOf pick.now.run (length ordinals.now) }
-    requires unseen { (d : KeptQuery) → is_in pick.now.doc.0 (slice_index_or queries.old (pick.now.query.0 - 1) d).entries ≡ false }
-    ensures { OnOk result ((d : KeptQuery) → queries.new ≡ slice_set queries.old (pick.now.query.0 - 1) (with_entry (record { doc = pick.now.doc; first = pick.now.first; run = slice_index_or ordinals.now (pick.now.run - 1) 0 }) (slice_index_or queries.old (pick.now.query.0 - 1) d))) }
+    requires unseen { HoldsAt (pick.now.query.0 - 1) (λ query. is_in pick.now.doc.0 query.entries ≡ false) queries.old }
+    ensures { OnOk result (ChangesAt (pick.now.query.0 - 1)
+        (with_entry (record {
+          doc = pick.now.doc;
+          first = pick.now.first;
+          run = slice_index_or ordinals.now (pick.now.run - 1) 0;
+        }))
+        queries.old queries.new) }
 {
     queries.add_entry(
         pick.query.0 as usize - 1,
@@ -68,17 +75,17 @@ fn add_pick(queries: &mut KeptQueries, ordinals: &[u32], pick: &Pick) -> Result<
 // Adds the runs and the picks of queries that were never run, each to its query.
 pub(crate) fn deliver(
     alloc: Global,
-    queries: &mut KeptQueries,
+    queries: &mut CachedQueries,
     runs: &[RunRow],
     picks: &[Pick],
 ) -> Result<(), Memory>
     requires numbered { QueriesFrom 1 (rows_in queries.old) }
-    requires fresh { queries.old ≡ map new_kept (rows_in queries.old) }
+    requires fresh { queries.old ≡ map never_run (rows_in queries.old) }
     requires runs { RunsFrom 1 runs.now }
     requires owned { Each (λ run. IsOneOf run.query.0 (length queries.old)) runs.now }
     requires picked { Each (λ pick. HasRun pick.run pick.query.0 runs.now) picks.now }
     requires once { PicksAreDistinct [] picks.now }
-    ensures { OnOk result (queries.new ≡ map (kept_query (runs_alone runs.now picks.now)) (rows_in queries.old)) }
+    ensures { OnOk result (queries.new ≡ map (cached_query (runs_alone runs.now picks.now)) (rows_in queries.old)) }
 {
     let ordinals = add_runs(alloc, queries, runs)?;
     for pick in picks {

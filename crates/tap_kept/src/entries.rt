@@ -1,4 +1,4 @@
-// The entries of a query's box.
+//! The entries of a query's box.
 
 ghost use Rattle.std.specs.Prelude.{◌≡◌, ◌≤◌, ◌++◌, ◌∷◌, [], false, length, take, map, option_to_list, slice_get, OnOk, OnErr, IfOk};
 ghost use Rattle.little_box.specs.Boxes.{is_in};
@@ -20,7 +20,7 @@ fn push_at(copy: &mut Rows<Entry>, entries: &LittleBox, place: u32) -> Result<()
     }
 }
 
-/// These entries as a list.
+/// Copies the entries of a box into a list, in order.
 pub fn copy_entries(alloc: Global, entries: &LittleBox) -> Result<Rows<Entry>, Memory>
     ensures { IfOk result (λ copy. copy ≡ entries.now) }
 {
@@ -31,7 +31,8 @@ pub fn copy_entries(alloc: Global, entries: &LittleBox) -> Result<Rows<Entry>, M
     Ok(copy)
 }
 
-// Adds an entry whose document isn't in the box. There is no room beyond 4,294,967,295 entries. At Err nothing has changed.
+// Adds an entry whose document isn't in the box. A box has at most 4,294,967,295 entries, since its places are `u32`. At Err
+// nothing has changed.
 pub(crate) fn add_entry(entries: &mut LittleBox, entry: Entry) -> Result<(), Memory>
     requires { is_in entry.doc.0 entries.old ≡ false }
     ensures ok { OnOk result (entries.new ≡ entries.old ++ entry ∷ []) }

@@ -1,12 +1,12 @@
-// The index of stored rows.
+//! The index of stored documents and notes.
 
-ghost use Rattle.std.specs.Prelude.{◌≡◌, ◌≤◌, [], ◌∷◌, length, OnOk, IfOk};
+ghost use Rattle.std.specs.Prelude.{◌≡◌, ◌≤◌, [], length, OnOk, IfOk};
 ghost use Rattle.tap_rows.specs.declared.change.Change.{Change};
 ghost use Rattle.tap_rows.specs.Kept.{Each};
 ghost use Rattle.tap_rows.specs.Tables.{after};
 ghost use Rattle.row_index.specs.Orders.{doc_number, doc_arrival, note_number, note_arrival};
 ghost use Rattle.row_index.specs.Rows.{rows_alone};
-ghost use Rattle.tap_kept.specs.Starting.{AreLeft, with_notes};
+ghost use Rattle.tap_kept.specs.Starting.{FollowInOrder, with_notes};
 
 use mail_fields::keep;
 use query_eval::Hits;
@@ -15,9 +15,9 @@ use std::alloc::Global;
 use tap_base::{Memory, Rows};
 use tap_rows::{Doc, Note};
 
-// Adds documents behind the others.
+// Adds documents after the others, with the values of their fields.
 fn add_docs(alloc: Global, index: &mut RowIndex, docs: Rows<Doc>) -> Result<(), Memory>
-    requires left { AreLeft doc_number doc_arrival index.old.docs docs }
+    requires left { FollowInOrder doc_number doc_arrival index.old.docs docs }
     requires short { Each (λ doc. length doc.text ≤ 1048576) docs }
     ensures { OnOk result (index.new ≡ after index.old (Change.Docs docs)) }
 {
@@ -27,9 +27,9 @@ fn add_docs(alloc: Global, index: &mut RowIndex, docs: Rows<Doc>) -> Result<(), 
     Ok(())
 }
 
-// Adds notes behind the others.
+// Adds notes after the others.
 fn add_notes(index: &mut RowIndex, notes: Rows<Note>) -> Result<(), Memory>
-    requires { AreLeft note_number note_arrival index.old.notes notes }
+    requires { FollowInOrder note_number note_arrival index.old.notes notes }
     ensures { OnOk result (index.new ≡ with_notes index.old notes) }
 {
     for note in notes.into_vec() {
@@ -38,15 +38,16 @@ fn add_notes(index: &mut RowIndex, notes: Rows<Note>) -> Result<(), Memory>
     Ok(())
 }
 
-/// An index that owns these documents and notes, and room for a hit of each document.
+/// Builds an index that owns these documents and notes, and room for a hit of each document, so that no run asks for memory
+/// to search.
 pub fn index_rows(
     alloc: Global,
     docs: Rows<Doc>,
     notes: Rows<Note>,
 ) -> Result<(RowIndex, Hits), Memory>
-    requires docs { AreLeft doc_number doc_arrival [] docs }
+    requires docs { FollowInOrder doc_number doc_arrival [] docs }
     requires short { Each (λ doc. length doc.text ≤ 1048576) docs }
-    requires notes { AreLeft note_number note_arrival [] notes }
+    requires notes { FollowInOrder note_number note_arrival [] notes }
     ensures index { IfOk result (λ made. made.0 ≡ rows_alone docs notes) }
     ensures room { IfOk result (λ made. length made.0.docs ≤ made.1.room) }
 {

@@ -1,14 +1,17 @@
+//! Why no engine starts.
+
 ghost use Rattle.std.specs.Prelude.{◌≡◌};
 
 use tap_base::Memory;
 use thiserror::Error;
 
-/// Why no engine starts over sound tables: the text of the filter of this number has a fault, and it is the first such
-/// filter; or there is no memory.
+/// Why no engine starts over sound tables.
 #[derive(Debug, Drop, Error)]
 pub enum StartFault {
+    /// The text of the filter of this number has a fault, and it is the first such filter.
     #[error("unreadable rules of filter {num}")]
     Rules { num: u32 },
+    /// Out of memory.
     #[error("no memory")]
     Memory,
 }

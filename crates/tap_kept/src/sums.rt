@@ -1,18 +1,21 @@
+//! The bytes that rows store, and the greatest of their moments.
+
 ghost use Rattle.std.specs.Prelude.{◌≡◌, length, None, IfOk};
-ghost use Rattle.tap_model.specs.Sessions.{later_of};
+ghost use Rattle.tap_model.specs.Limits.{stored_bytes};
+ghost use Rattle.tap_model.specs.Sessions.{later_of, greatest_moment};
 ghost use Rattle.tap_kept.specs.Starting.{added, summed, sums_of};
 
 use tap_base::Memory;
 use tap_rows::{Doc, FilterRow, Note, QueryRow, RunRow, Tables};
 
-/// How many bytes some rows store, and the greatest of their moments.
+/// How many bytes some rows store, and the greatest of their moments, in seconds since 1970-01-01T00:00:00Z.
 #[derive(Clone, Copy, Debug)]
 pub struct Sums {
     pub bytes: usize,
     pub greatest: Option<i64>,
 }
 
-// The later of a moment and one that may be absent.
+// Gives the later of a moment and one that may be absent.
 fn later_of(moment: i64, known: Option<i64>) -> i64
     ensures { result ≡ later_of moment known }
 {
@@ -23,7 +26,7 @@ fn later_of(moment: i64, known: Option<i64>) -> i64
 }
 
 impl Sums {
-    // No rows.
+    // Makes the sums of no rows.
     pub(crate) fn none() -> Sums
         ensures { result ≡ record { bytes = 0; greatest = None } }
     {
@@ -33,7 +36,7 @@ impl Sums {
         }
     }
 
-    // Adds a row of this moment and so many bytes, unless no memory can hold so many.
+    // Adds a row of this moment and so many bytes. More bytes than a `usize` counts fit no memory, so that is out of memory.
     fn add(self, moment: i64, bytes: usize) -> Result<Sums, Memory>
         ensures { IfOk result (λ sums. sums ≡ added moment bytes self) }
     {
@@ -101,8 +104,8 @@ impl Sums {
         Ok(sums)
     }
 
-    /// The sums of all rows.
-    pub fn of(tables: &Tables) -> Result<Sums, Memory>
+    // Adds the rows of each table in turn.
+    fn total(tables: &Tables) -> Result<Sums, Memory>
         ensures { IfOk result (λ sums. sums ≡ sums_of tables.now) }
     {
         Sums::none()
@@ -111,5 +114,14 @@ impl Sums {
             .add_queries(tables.queries.as_slice())?
             .add_runs(tables.runs.as_slice())?
             .add_filters(tables.filters.as_slice())
+    }
+
+    /// Sums all rows.
+    pub fn of(tables: &Tables) -> Result<Sums, Memory>
+        ensures bytes { IfOk result (λ sums. sums.bytes ≡ stored_bytes tables.now) }
+        ensures greatest { IfOk result (λ sums. sums.greatest ≡ greatest_moment tables.now) }
+    {
+        let sums = Sums::total(tables)?;
+        Ok(sums)
     }
 }

@@ -1,3 +1,5 @@
+//! The texts of queries: their conditions, and the form in which they are stored.
+
 ghost use Rattle.std.specs.Prelude.{◌≡◌, ◌≤◌, ◌⊎◌, ◌++◌, drop, length, codes, None, Some, Ok, true, OnOk, IfOk, IfErr};
 ghost use Rattle.script_lang.specs.declared.refusal.Refusal.{Refusal};
 ghost use Rattle.restart_core.specs.Starts.{condition_text, stored_source};
@@ -16,7 +18,7 @@ use tap_base::{Memory, Text};
 use tql_core::Cond;
 use tql_text::{TextFault, read_condition};
 
-// The refusal of a text's fault.
+// Gives the refusal for a text's fault.
 fn refusal_of(fault: TextFault) -> Refusal
     ensures { (fault_refusal fault ≡ Some result) ⊎ (result ≡ Refusal.Memory) }
 {
@@ -28,7 +30,7 @@ fn refusal_of(fault: TextFault) -> Refusal
     }
 }
 
-/// The condition of a query's text.
+/// Reads the condition of a query's text, or refuses its first fault.
 pub fn read_text(alloc: Global, source: &[u8]) -> Result<Cond, Refusal>
     ensures cond { IfOk result (λ cond. condition_of source.now ≡ Ok (condition cond)) }
     ensures vars { IfOk result (λ cond. exists_in (condition cond) ≤ 15) }
@@ -42,8 +44,8 @@ pub fn read_text(alloc: Global, source: &[u8]) -> Result<Cond, Refusal>
     }
 }
 
-// The condition of a query's text, which has no fault.
-fn keep_text(alloc: Global, source: &[u8]) -> Result<Cond, Refusal>
+// Reads the condition of a query's text, with the clauses that a text without a fault has.
+fn read_fine_text(alloc: Global, source: &[u8]) -> Result<Cond, Refusal>
     ensures fine { OnOk result (text_fault source.now ≡ None) }
     ensures cond { IfOk result (λ cond. condition cond ≡ condition_in source.now) }
     ensures scoped { IfOk result (λ cond. IsQuery (condition cond)) }
@@ -54,7 +56,7 @@ fn keep_text(alloc: Global, source: &[u8]) -> Result<Cond, Refusal>
     Ok(cond)
 }
 
-// The bytes from this place on.
+// Gives the bytes from this place on.
 fn bytes_from(bytes: &[u8], at: usize) -> &[u8]
     requires { at ≤ length bytes.now }
     ensures { result.now ≡ drop at bytes.now }
@@ -62,14 +64,14 @@ fn bytes_from(bytes: &[u8], at: usize) -> &[u8]
     &bytes[at..]
 }
 
-// The text of a source's condition.
+// Gives the text of a source's condition: what follows `FROM NOW`, or all of it.
 fn text_of(source: &[u8]) -> &[u8]
     ensures { result.now ≡ condition_text source.now }
 {
     bytes_from(source, cut_start(source).at)
 }
 
-// The source of a query from now, by the text of its condition.
+// Makes the source of a query from now: `FROM NOW `, then the text of its condition.
 fn from_now(alloc: Global, text: &[u8]) -> Result<Text, Memory>
     ensures { IfOk result (λ source. source ≡ codes "FROM NOW " ++ text.now) }
 {
@@ -78,7 +80,7 @@ fn from_now(alloc: Global, text: &[u8]) -> Result<Text, Memory>
     Ok(source)
 }
 
-// The source that is stored.
+// Gives the form in which a source is stored: `FROM NOW` with one blank after it, and otherwise as it is.
 #[tactic(auto, unfolding(restart_core::specs::Starts::stored_source))]
 fn to_store(alloc: Global, source: Text) -> Result<Text, Memory>
     ensures { IfOk result (λ stored. stored ≡ stored_source source) }
@@ -90,8 +92,8 @@ fn to_store(alloc: Global, source: Text) -> Result<Text, Memory>
     }
 }
 
-/// The source that is stored, and the condition that it says, where its text has no fault.
-pub fn keep_source(alloc: Global, source: Text) -> Result<(Text, Cond), Refusal>
+/// Gives the form in which a source is stored and the condition of its text, or refuses the text's first fault.
+pub fn read_source(alloc: Global, source: Text) -> Result<(Text, Cond), Refusal>
     ensures fine { OnOk result (text_fault (condition_text source) ≡ None) }
     ensures stored { IfOk result (λ made. made.0 ≡ stored_source source) }
     ensures cond { IfOk result (λ made. condition made.1 ≡ condition_in (condition_text source)) }
@@ -99,7 +101,7 @@ pub fn keep_source(alloc: Global, source: Text) -> Result<(Text, Cond), Refusal>
     ensures bounded { IfOk result (λ made. are_bounded (condition made.1) ≡ true) }
     ensures refusal { IfErr result (λ refusal. (text_fault (condition_text source) ≡ Some refusal) ⊎ (refusal ≡ Refusal.Memory)) }
 {
-    let cond = keep_text(alloc, text_of(source.as_slice()))?;
+    let cond = read_fine_text(alloc, text_of(source.as_slice()))?;
     let stored = to_store(alloc, source)?;
     Ok((stored, cond))
 }

@@ -3,7 +3,7 @@ use Rattle.std.specs.Prelude.{slice_index_or}
 use Rattle.std.proofs.lemmas.List.{length-map}
 use Rattle.tap_rows.specs.declared.rows.Pick.{Pick}
 use Rattle.tap_rows.specs.Kept.{HasRun}
-use Rattle.tap_kept.specs.Keeping.{kept_query}
+use Rattle.tap_kept.specs.Keeping.{cached_query}
 use Rattle.tap_kept.specs.Starting.{rows_in, runs_alone, ordinal_in, IsOneOf}
 use Rattle.tap_kept.proofs.DeliveryLaws.{each-at, has-owned, run-within, pick-joins, pick-unseen, before-on}
 use Rattle.tap_kept.proofs.NewLaws.{once-at}
@@ -18,7 +18,7 @@ add_pick-requires-clause-query c =
     let pick = slice_index_or c.args.picks.now c.loop-pick.pick-index no-pick in
     let has = each-at (λ pick. HasRun pick.run pick.query.0 c.args.runs.now) c.loop-pick.pick-index c.args.picks.now no-pick c.requires.picked c.loop-pick-test.true in
     let rows = rows_in c.args.queries.now in
-    let f = kept_query (runs_alone c.args.runs.now (take c.loop-pick.pick-index c.args.picks.now)) in
+    let f = cached_query (runs_alone c.args.runs.now (take c.loop-pick.pick-index c.args.picks.now)) in
     let len = ap length c.loop-pick.invariant ∙ length-map rows f ∙ length-map c.args.queries.now (λ kept. kept.row) in
     subst (λ n. IsOneOf pick.query.0 n) (sym len) (has-owned pick.run pick.query.0 (length c.args.queries.now) c.args.runs.now c.requires.owned has)
 
@@ -54,4 +54,4 @@ loop-pick-preserved c =
     let one = has-owned pick.run pick.query.0 (length c.args.queries.now) runs c.requires.owned has in
     let of-rows = subst (λ n. IsOneOf pick.query.0 n) (sym (length-map c.args.queries.now (λ kept. kept.row))) one in
     pick-joins rows runs before pick c.loop-pick.queries c.add_pick.new.queries c.deref.result.now c.requires.numbered c.requires.runs of-rows has c.loop-pick.invariant (c.deref.ensures.value ∙ c.in_ok-ordinals.ensures.ordinals) c.in_ok-add_pick.ensures
-    ∙ ap (λ some. map (kept_query (runs_alone runs some)) rows) (sym (before-on i c.args.picks.now no-pick c.loop-pick-test.true))
+    ∙ ap (λ some. map (cached_query (runs_alone runs some)) rows) (sym (before-on i c.args.picks.now no-pick c.loop-pick-test.true))

@@ -4,43 +4,42 @@ use Rattle.tap_rows.specs.declared.tables.Tables.{Tables}
 use Rattle.tap_rows.specs.Kept.{Each, HasRun, RunsFrom}
 use Rattle.tap_rows.specs.WellFormed.{is_well_formed}
 use Rattle.tap_engine.specs.declared.engine.Engine.{Engine}
-use Rattle.tap_kept.specs.Keeping.{kept_query}
+use Rattle.tap_kept.specs.Keeping.{cached_query}
 use Rattle.tap_engine.specs.Standing.{Represents}
 use Rattle.tap_kept.specs.Starting.{runs_alone, IsOneOf, PicksAreDistinct}
 use Rattle.tap_engine.proofs.FormedLaws.{Formed, formed}
-use Rattle.tap_engine.proofs.SumLaws.{bytes-of, greatest-in}
 use Rattle.tap_engine.proofs.StartedLaws.{IsStarted, represents-start, ready-start}
 use Rattle.tap_engine.proofs.engine.Engine.build.Goals as goal
 
 from-sound : (tables sound : Tables) → tables ≡ sound → is_well_formed sound ≡ true → Formed tables
 from-sound tables sound same e = formed tables (subst (λ t. is_well_formed t ≡ true) (sym same) e)
 
-pub keep_delivered-requires-clause-arrivals : goal.keep_delivered-requires-clause-arrivals
-keep_delivered-requires-clause-arrivals c = (from-sound c.into_parts-tables.result.0 c.args.sound c.into_parts-tables.ensures.tables c.into_parts-tables.ensures.formed).moments
+pub cache_delivered-requires-clause-arrivals : goal.cache_delivered-requires-clause-arrivals
+cache_delivered-requires-clause-arrivals c = (from-sound c.into_parts-tables.result.0 c.args.sound c.into_parts-tables.ensures.tables c.into_parts-tables.ensures.formed).moments
 
-pub keep_delivered-requires-clause-numbered : goal.keep_delivered-requires-clause-numbered
-keep_delivered-requires-clause-numbered c = (from-sound c.into_parts-tables.result.0 c.args.sound c.into_parts-tables.ensures.tables c.into_parts-tables.ensures.formed).queries
+pub cache_delivered-requires-clause-numbered : goal.cache_delivered-requires-clause-numbered
+cache_delivered-requires-clause-numbered c = (from-sound c.into_parts-tables.result.0 c.args.sound c.into_parts-tables.ensures.tables c.into_parts-tables.ensures.formed).queries
 
-pub keep_delivered-requires-clause-runs : goal.keep_delivered-requires-clause-runs
-keep_delivered-requires-clause-runs c =
+pub cache_delivered-requires-clause-runs : goal.cache_delivered-requires-clause-runs
+cache_delivered-requires-clause-runs c =
     let f = from-sound c.into_parts-tables.result.0 c.args.sound c.into_parts-tables.ensures.tables c.into_parts-tables.ensures.formed in
     subst (λ runs. RunsFrom 1 runs) (sym c.as_slice-3.ensures) f.runs
 
-pub keep_delivered-requires-clause-owned : goal.keep_delivered-requires-clause-owned
-keep_delivered-requires-clause-owned c =
+pub cache_delivered-requires-clause-owned : goal.cache_delivered-requires-clause-owned
+cache_delivered-requires-clause-owned c =
     let t = c.into_parts-tables.result.0 in
     let f = from-sound t c.args.sound c.into_parts-tables.ensures.tables c.into_parts-tables.ensures.formed in
     subst (λ runs. Each (λ run. IsOneOf run.query.0 (length t.queries)) runs) (sym c.as_slice-3.ensures) f.owned
 
-pub keep_delivered-requires-clause-picked : goal.keep_delivered-requires-clause-picked
-keep_delivered-requires-clause-picked c =
+pub cache_delivered-requires-clause-picked : goal.cache_delivered-requires-clause-picked
+cache_delivered-requires-clause-picked c =
     let t = c.into_parts-tables.result.0 in
     let f = from-sound t c.args.sound c.into_parts-tables.ensures.tables c.into_parts-tables.ensures.formed in
     subst (λ picks. Each (λ pick. HasRun pick.run pick.query.0 c.as_slice-3.result.now) picks) (sym c.as_slice-4.ensures)
     (subst (λ runs. Each (λ pick. HasRun pick.run pick.query.0 runs) t.picks) (sym c.as_slice-3.ensures) f.picked)
 
-pub keep_delivered-requires-clause-once : goal.keep_delivered-requires-clause-once
-keep_delivered-requires-clause-once c =
+pub cache_delivered-requires-clause-once : goal.cache_delivered-requires-clause-once
+cache_delivered-requires-clause-once c =
     let f = from-sound c.into_parts-tables.result.0 c.args.sound c.into_parts-tables.ensures.tables c.into_parts-tables.ensures.formed in
     subst (PicksAreDistinct []) (sym c.as_slice-4.ensures) f.once
 
@@ -73,13 +72,13 @@ returns c =
       session = search rules;
       rows = c.in_ok-index.ensures.index;
       room = c.in_ok-index.ensures.room;
-      queries = c.in_ok-queries.ensures ∙ ap (λ runs. map (kept_query (runs_alone runs c.as_slice-4.result.now)) t.queries) c.as_slice-3.ensures ∙ ap (λ picks. map (kept_query (runs_alone t.runs picks)) t.queries) c.as_slice-4.ensures;
+      queries = c.in_ok-queries.ensures ∙ ap (λ runs. map (cached_query (runs_alone runs c.as_slice-4.result.now)) t.queries) c.as_slice-3.ensures ∙ ap (λ picks. map (cached_query (runs_alone t.runs picks)) t.queries) c.as_slice-4.ensures;
       filters = search rules;
       run_count = search rules;
       pick_count = search rules;
-      bytes = ap (λ sums. sums.bytes) c.in_ok-sums.ensures ∙ bytes-of t;
+      bytes = c.in_ok-sums.ensures.bytes;
       owners = c.in_ok-owners.ensures ∙ ap (λ queries. with_new [] (map (λ query. query.owner) queries ++ map (λ filter. filter.owner) c.as_slice-2.result.now)) c.as_slice.ensures ∙ ap (λ filters. with_new [] (map (λ query. query.owner) t.queries ++ map (λ filter. filter.owner) filters)) c.as_slice-2.ensures;
-      greatest = ap (λ sums. sums.greatest) c.in_ok-sums.ensures ∙ greatest-in t;
+      greatest = c.in_ok-sums.ensures.greatest;
     } in
     record {
       represents = subst (λ tables. Represents e tables) c.into_parts-tables.ensures.tables (represents-start e t is);

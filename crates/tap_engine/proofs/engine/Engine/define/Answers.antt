@@ -1,6 +1,6 @@
 use Rattle.std.proofs.Common.{rules, arith, ◌≡◌, ◌∙◌, sym, ap, subst, length, ◌+◌, ◌∷◌, []}
 use Rattle.std.proofs.lemmas.List.{length-map}
-use Rattle.tap_kept.specs.Keeping.{kept_query, new_kept}
+use Rattle.tap_kept.specs.Keeping.{cached_query, never_run}
 use Rattle.script_lang.specs.declared.refusal.Refusal.TheVariants.{Memory}
 use Rattle.tap_engine.proofs.AnswerTurns.{for-memory, undo-query}
 use Rattle.tap_model.specs.Sound.{IsMoment}
@@ -23,17 +23,17 @@ pub returns-clause-ok : goal.returns-clause-ok
 returns-clause-ok c = λ t represents sound.
     let none = sym (define-verdict c.args.self.now t c.args.name c.args.source represents) ∙ c.in_ok-row.ensures.checks in
     answers-define t c.args.self.now.session c.args.name c.args.source c.in_ok-shown.shown (length c.args.self.now.queries) c.in_ok-row.row c.in_ok-change.change c.add_query.new.self.session none
-    (ap length represents.queries ∙ length-map t.queries (kept_query t))
+    (ap length represents.queries ∙ length-map t.queries (cached_query t))
     c.in_ok-row.ensures.row c.in_ok-shown.ensures c.in_ok-change.ensures.change (ap (λ e. e.session) c.in_ok-change.ensures.engine)
 
-pub returns-clause-stands : goal.returns-clause-stands
-returns-clause-stands c = λ t represents sound.
-    let count = ap length represents.queries ∙ length-map t.queries (kept_query t) in
+pub returns-clause-represents : goal.returns-clause-represents
+returns-clause-represents c = λ t represents sound.
+    let count = ap length represents.queries ∙ length-map t.queries (cached_query t) in
     rw (c.in_ok-change.ensures.engine, c.in_ok-change.ensures.change)
     (represents-query c.args.self.now t c.in_ok-row.row represents sound.kept (ap (λ r. r.num.0) c.in_ok-row.ensures.row ∙ ap (λ n. n + 1) count) (define-moment c.args.self.now c.args.name c.args.source c.in_ok-row.ensures.checks))
 
 pub returns-clause-undo : goal.returns-clause-undo
-returns-clause-undo c = rw c.in_ok-change.ensures.engine (undo-query c.args.self.now (new_kept c.in_ok-row.row ∷ []) c.in_ok-row.row.owner _ c.len.result c.len-2.result c.len.ensures c.len-2.ensures)
+returns-clause-undo c = rw c.in_ok-change.ensures.engine (undo-query c.args.self.now (never_run c.in_ok-row.row ∷ []) c.in_ok-row.row.owner _ c.len.result c.len-2.result c.len.ensures c.len-2.ensures)
 
 pub returns-clause-ready : goal.returns-clause-ready
 returns-clause-ready c =

@@ -1,6 +1,6 @@
 use Rattle.std.proofs.Common.{rules, ◌∙◌, sym, ap, subst}
-use Rattle.tap_engine.specs.Standing.{look_refusal, kept_named, RefusedBy}
-use Rattle.tap_engine.specs.Lists.{lines_kept}
+use Rattle.tap_engine.specs.Standing.{look_refusal, cached_named, RefusedBy}
+use Rattle.tap_engine.specs.Lists.{cached_lines}
 use Rattle.tap_engine.proofs.FilterLaws.{lines-refuses, answers-lines}
 use Rattle.tap_engine.proofs.engine.Engine.explain.Goals as goal
 
@@ -11,4 +11,4 @@ returns-in_err-lines-clause-refusal c =
 pub returns-clause-ok : goal.returns-clause-ok
 returns-clause-ok c = λ t represents sound. answers-lines c.args.self.now t c.args.name c.in_ok-lines.lines represents
     (sym (ap (look_refusal c.args.self.now) c.as_slice.ensures) ∙ c.in_ok-lines.ensures.look)
-    (c.in_ok-lines.ensures.lines ∙ ap (λ n. lines_kept (kept_named c.args.self.now n)) c.as_slice.ensures)
+    (c.in_ok-lines.ensures.lines ∙ ap (λ n. cached_lines (cached_named c.args.self.now n)) c.as_slice.ensures)

@@ -16,8 +16,8 @@ returns-clause-ok c = λ t represents sound.
     answers-filter t c.args.self.now.session c.args.block (length c.args.self.now.filters) c.len-count.result c.in_ok-row.row c.in_ok-change.change c.add_filter.new.self.session none
     (ap length represents.filters) c.in_ok-row.ensures.row (c.len-count.ensures ∙ ap length c.in_ok-row.ensures.rules) c.in_ok-change.ensures.change (ap (λ e. e.session) c.in_ok-change.ensures.engine)
 
-pub returns-clause-stands : goal.returns-clause-stands
-returns-clause-stands c = λ t represents sound.
+pub returns-clause-represents : goal.returns-clause-represents
+returns-clause-represents c = λ t represents sound.
     rw (c.in_ok-change.ensures.engine, c.in_ok-change.ensures.change)
     (represents-filter c.args.self.now t c.in_ok-row.row represents (filter-moment c.args.self.now c.args.block c.in_ok-row.ensures.checks))
 

@@ -31,8 +31,8 @@ returns-clause-ok c = λ t represents sound.
     answers-mbox t c.args.self.now.session c.args.block c.in_ok-moment.texts c.len.result (c.from-first.result + 1) (length c.args.self.now.index.docs) c.in_ok-moment.moment c.in_ok-change.change c.add_docs.new.self.session
     none c.in_ok-moment.ensures.texts c.in_ok-moment.ensures.moment c.len.ensures (ap length (docs-are represents)) first change (ap (λ e. e.session) c.in_ok-change.ensures.engine)
 
-pub returns-clause-stands : goal.returns-clause-stands
-returns-clause-stands c = λ t represents sound.
+pub returns-clause-represents : goal.returns-clause-represents
+returns-clause-represents c = λ t represents sound.
     let change : c.in_ok-change.change ≡ some_docs (docs_from (length c.args.self.now.index.docs + 1) c.in_ok-moment.moment c.in_ok-moment.texts) = search rules in
     let engine : c.add_docs.new.self ≡ record c.args.self.now { index = after c.args.self.now.index (Docs (docs_from (length c.args.self.now.index.docs + 1) c.in_ok-moment.moment c.in_ok-moment.texts)); hits = c.add_docs.new.self.hits; bytes = c.args.self.now.bytes + bytes_of c.in_ok-moment.texts } = search rules in
     rw change (subst (λ e. Represents e (tables_after (some_docs (docs_from (length c.args.self.now.index.docs + 1) c.in_ok-moment.moment c.in_ok-moment.texts)) t)) (sym engine) (represents-more c.args.self.now t c.add_docs.new.self.hits c.in_ok-moment.moment c.in_ok-moment.texts represents (mbox-moment c.args.self.now c.args.block c.in_ok-moment.ensures.checks)))

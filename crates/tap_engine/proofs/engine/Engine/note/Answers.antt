@@ -24,8 +24,8 @@ returns-clause-ok c = λ t represents sound.
     (c.in_ok-note.ensures.row ∙ ap (λ v. record { num = record { 0 = length c.args.self.now.index.notes + 1 }; doc = record { 0 = c.args.doc }; author = user_of c.args.self.now.session; kind = c.args.kind; value = v; arrival = moment_or_zero c.args.self.now.session; text = c.args.text }) (to_z-of_z w64 c.args.value c.ranges.value))
     c.in_ok-change.ensures.change (ap (λ e. e.session) c.in_ok-change.ensures.engine) in search (rules, answers)
 
-pub returns-clause-stands : goal.returns-clause-stands
-returns-clause-stands c = λ t represents sound.
+pub returns-clause-represents : goal.returns-clause-represents
+returns-clause-represents c = λ t represents sound.
     rw (c.in_ok-change.ensures.engine, c.in_ok-change.ensures.change)
     (represents-note c.args.self.now t c.in_ok-note.note represents (note-moment c.args.self.now c.args.doc c.args.kind c.args.text c.in_ok-note.ensures.checks))
 

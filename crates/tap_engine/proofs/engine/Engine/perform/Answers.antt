@@ -1,7 +1,7 @@
 use Rattle.std.proofs.Common.{◌∙◌, sym, ap, subst, Some}
 use Rattle.keeper_core.specs.Keeping.{IsDurable}
-use Rattle.tap_engine.specs.Answering.{Answers, IsUnchangedButHits}
-use Rattle.tap_engine.proofs.PerformLaws.{memory-step, rows-fit, rows-next, fault-step, fault-stands, fault-kept, on-err, one-of, taken-there}
+use Rattle.tap_engine.specs.Answering.{Answers, AddsRows, IsUnchangedButHits}
+use Rattle.tap_engine.proofs.PerformLaws.{memory-step, rows-fit, rows-next, fault-step, fault-represents, fault-kept, on-err, one-of, taken-there}
 use Rattle.tap_engine.proofs.engine.Engine.perform.Goals as goal
 
 pub returns-in_default-clause-halted : goal.returns-in_default-clause-halted
@@ -17,7 +17,7 @@ pub returns-in-Err-commit-clause-step : goal.returns-in-Err-commit-clause-step
 returns-in-Err-commit-clause-step g c = λ t represents sound.
     let answers : Answers t c.args.self.now.session c.args.command c.in-Ok.prepared.reply (Some c.in-Some.change) c.prepare.new.self.session = subst (λ change. Answers t c.args.self.now.session c.args.command c.in-Ok.prepared.reply change c.prepare.new.self.session) c.in-Some.is (c.in-Ok.ensures.ok t represents sound) in
     let takes = taken-there c.in-Ok.prepared.undo c.prepare.new.self c.args.self.now c.in-Ok.prepared.change c.in-Some.change c.in-Some.is c.in-Ok.ensures.undo in
-    fault-step c.in-Err-commit.fault t c.args.self.now c.take_back.new.self c.not_committed.new.self c.args.command c.not_committed.result c.not_committed.ensures.0 c.not_committed.ensures.1 (ap (λ e. e.session) (c.take_back.ensures ∙ takes.before_is.same))
+    fault-step c.in-Err-commit.fault t c.args.self.now c.undo_rows.new.self c.not_committed.new.self c.args.command c.not_committed.result c.not_committed.ensures.0 c.not_committed.ensures.1 (ap (λ e. e.session) (c.undo_rows.ensures ∙ takes.before_is.same))
     (memory-step t c.args.self.now.session c.args.command c.in-Ok.prepared.reply c.in-Some.change c.prepare.new.self.session answers)
 
 pub returns-in-Err-commit-clause-crash : goal.returns-in-Err-commit-clause-crash
@@ -26,13 +26,19 @@ returns-in-Err-commit-clause-crash g c = λ t represents sound honest holds.
     let fit = rows-fit t c.args.self.now.session c.args.command c.in-Ok.prepared.reply c.in-Some.change c.prepare.new.self.session sound answers in
     on-err c.not_committed.result (answers.fine, λ x leaves. one-of t x c.args.self.now.session c.args.command c.in-Ok.prepared.reply c.in-Some.change c.prepare.new.self.session answers (c.in-Err-commit.ensures.crash honest t holds.told sound.formed fit x leaves))
 
+pub returns-in-Err-commit-clause-adds : goal.returns-in-Err-commit-clause-adds
+returns-in-Err-commit-clause-adds g c = λ t represents sound.
+    let answers : Answers t c.args.self.now.session c.args.command c.in-Ok.prepared.reply (Some c.in-Some.change) c.prepare.new.self.session = subst (λ change. Answers t c.args.self.now.session c.args.command c.in-Ok.prepared.reply change c.prepare.new.self.session) c.in-Some.is (c.in-Ok.ensures.ok t represents sound) in
+    let adds : AddsRows c.args.command c.args.self.now.session t = record { change = c.in-Some.change; change_is = sym answers.change_is } in
+    on-err c.not_committed.result adds
+
 pub returns-in-Err-commit-clause-kept : goal.returns-in-Err-commit-clause-kept
 returns-in-Err-commit-clause-kept g c = λ t represents sound honest holds.
     fault-kept c.in-Err-commit.fault (IsDurable (g.P.Keeper.tells c.commit.new.self) (g.P.Keeper.may_leave c.commit.new.self)) t c.args.self.now.session c.args.command c.not_committed.result c.not_committed.ensures.0
     (c.in-Err-commit.ensures.memory honest t holds.told)
 
-pub returns-in-Err-commit-clause-stands : goal.returns-in-Err-commit-clause-stands
-returns-in-Err-commit-clause-stands g c = λ t represents sound.
+pub returns-in-Err-commit-clause-represents : goal.returns-in-Err-commit-clause-represents
+returns-in-Err-commit-clause-represents g c = λ t represents sound.
     let takes = taken-there c.in-Ok.prepared.undo c.prepare.new.self c.args.self.now c.in-Ok.prepared.change c.in-Some.change c.in-Some.is c.in-Ok.ensures.undo in
-    fault-stands c.in-Err-commit.fault t c.args.self.now c.take_back.new.self c.not_committed.new.self c.args.command c.not_committed.result c.not_committed.ensures.0 c.not_committed.ensures.1
-    (subst (λ k. IsUnchangedButHits k c.args.self.now) (sym c.take_back.ensures) takes.before_is) represents
+    fault-represents c.in-Err-commit.fault t c.args.self.now c.undo_rows.new.self c.not_committed.new.self c.args.command c.not_committed.result c.not_committed.ensures.0 c.not_committed.ensures.1
+    (subst (λ k. IsUnchangedButHits k c.args.self.now) (sym c.undo_rows.ensures) takes.before_is) represents

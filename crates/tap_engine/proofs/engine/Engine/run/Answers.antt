@@ -1,14 +1,14 @@
 use Rattle.std.proofs.Common.{rules, arith, ◌≡◌, ◌∙◌, sym, ap, subst, ◌-◌, ◌<◌, length, map, ◌+◌}
 use Rattle.std.specs.Prelude.{slice_set, slice_index_or, IfSome}
 use Rattle.script_lang.specs.declared.refusal.Refusal.TheVariants.{Memory}
-use Rattle.tap_kept.specs.Keeping.{new_kept, after_run, AreNew}
+use Rattle.tap_kept.specs.Keeping.{never_run, after_run, AreNew}
 use Rattle.tap_rows.specs.Results.{entry_at}
 use Rattle.tap_rows.specs.Tables.{after}
 use Rattle.tap_engine.specs.Standing.{Represents}
 use Rattle.tap_engine.specs.Ready.{IsReady}
 use Rattle.tap_model.specs.Sound.{IsMoment}
 use Rattle.tap_engine.specs.declared.engine.Engine.{Engine}
-use Rattle.tap_kept.specs.declared.kept_query.KeptQuery.{KeptQuery}
+use Rattle.tap_kept.specs.declared.cached_query.CachedQuery.{CachedQuery}
 use Rattle.tap_engine.specs.Answering.{IsUnchangedButHits, UndoRestores, undo_run}
 use Rattle.tap_engine.proofs.AnswerTurns.{for-memory}
 use Rattle.tap_engine.proofs.CheckLaws.{run-verdict, run-refuses, run-moment}
@@ -55,7 +55,7 @@ deliver-requires-clause-new g c = λ x.
     let at : slice_index_or e.queries (due.query.0 - 1) x ≡ d.kept = d.at.at (due.query.0 - 1) x (omega (arith, ap (λ x. x.query.0) d.is, d.at.low)) in
     let new : AreNew d.kept.entries due.hits = subst (λ o. IfSome o (λ kept. AreNew kept.entries due.hits)) d.named c.in_ok-due.ensures.new in
     let same : c.as_slice.result.now ≡ due.hits = search rules in
-    subst (λ (k : KeptQuery). AreNew k.entries c.as_slice.result.now) (sym (ap (λ k. slice_index_or k.queries (due.query.0 - 1) x) c.due_run.ensures.still.same ∙ at)) (subst (AreNew d.kept.entries) (sym same) new)
+    subst (λ (k : CachedQuery). AreNew k.entries c.as_slice.result.now) (sym (ap (λ k. slice_index_or k.queries (due.query.0 - 1) x) c.due_run.ensures.still.same ∙ at)) (subst (AreNew d.kept.entries) (sym same) new)
 
 pub deliver-requires-clause-few : goal.deliver-requires-clause-few
 deliver-requires-clause-few g c = omega (arith, ap (λ k. k.run_count) c.due_run.ensures.still.same, c.in_ok-due.ensures.few)
@@ -75,19 +75,19 @@ returns-clause-ok g c = λ t represents sound.
     let d = due-is e t c.args.name.now due represents sound (run-moment e c.args.name.now c.in_ok-due.ensures.verdict) c.in_ok-due.ensures.due in
     let raw : c.in_ok-change.change ≡ run_rows c.due_run.new.self.run_count c.due_run.new.self.pick_count due = search rules in
     let change : c.in_ok-change.change ≡ run_rows e.run_count e.pick_count due = raw ∙ ap (λ k. run_rows k.run_count k.pick_count due) same in
-    let answers = answers-run e t c.args.name.now due c.in_ok-change.change c.deliver.new.self.session represents none d change (ap (λ k. k.session) (c.in_ok-change.ensures.engine (new_kept d.q)) ∙ ap (λ k. k.session) same) in search (rules, answers)
+    let answers = answers-run e t c.args.name.now due c.in_ok-change.change c.deliver.new.self.session represents none d change (ap (λ k. k.session) (c.in_ok-change.ensures.engine (never_run d.q)) ∙ ap (λ k. k.session) same) in search (rules, answers)
 
-pub returns-clause-stands : goal.returns-clause-stands
-returns-clause-stands g c = λ t represents sound.
+pub returns-clause-represents : goal.returns-clause-represents
+returns-clause-represents g c = λ t represents sound.
     let e = c.args.self.now in
     let due = c.in_ok-due.due in
-    let next : Engine → KeptQuery → Engine = λ k x. record k { queries = slice_set k.queries (due.query.0 - 1) (after_run due.moment (map (entry_at (due.runs + 1)) due.hits) (slice_index_or k.queries (due.query.0 - 1) x)); run_count = k.run_count + 1; pick_count = k.pick_count + length due.hits } in
+    let next : Engine → CachedQuery → Engine = λ k x. record k { queries = slice_set k.queries (due.query.0 - 1) (after_run due.moment (map (entry_at (due.runs + 1)) due.hits) (slice_index_or k.queries (due.query.0 - 1) x)); run_count = k.run_count + 1; pick_count = k.pick_count + length due.hits } in
     let same = c.due_run.ensures.still.same in
     let there = run-moment e c.args.name.now c.in_ok-due.ensures.verdict in
     let d = due-is e t c.args.name.now due represents sound there c.in_ok-due.ensures.due in
     let raw-change : c.in_ok-change.change ≡ run_rows c.due_run.new.self.run_count c.due_run.new.self.pick_count due = search rules in
     let change : c.in_ok-change.change ≡ run_rows e.run_count e.pick_count due = raw-change ∙ ap (λ k. run_rows k.run_count k.pick_count due) same in
-    let raw : (x : KeptQuery) → c.deliver.new.self ≡ next c.due_run.new.self x = search rules in
+    let raw : (x : CachedQuery) → c.deliver.new.self ≡ next c.due_run.new.self x = search rules in
     subst (λ change. Represents c.deliver.new.self (after t change)) (sym change)
     (represents-run e t c.args.name.now due c.due_run.new.self.hits c.deliver.new.self represents sound.kept d there (λ x. raw x ∙ ap (λ k. next k x) same))
 
@@ -95,8 +95,8 @@ pub returns-clause-undo : goal.returns-clause-undo
 returns-clause-undo g c =
     let e = c.args.self.now in
     let due = c.in_ok-due.due in
-    let next : Engine → KeptQuery → Engine = λ k x. record k { queries = slice_set k.queries (due.query.0 - 1) (after_run due.moment (map (entry_at (due.runs + 1)) due.hits) (slice_index_or k.queries (due.query.0 - 1) x)); run_count = k.run_count + 1; pick_count = k.pick_count + length due.hits } in
-    let raw : (x : KeptQuery) → c.deliver.new.self ≡ next c.due_run.new.self x = search rules in
+    let next : Engine → CachedQuery → Engine = λ k x. record k { queries = slice_set k.queries (due.query.0 - 1) (after_run due.moment (map (entry_at (due.runs + 1)) due.hits) (slice_index_or k.queries (due.query.0 - 1) x)); run_count = k.run_count + 1; pick_count = k.pick_count + length due.hits } in
+    let raw : (x : CachedQuery) → c.deliver.new.self ≡ next c.due_run.new.self x = search rules in
     let same = c.due_run.ensures.still.same in
     let d = due-at e c.args.name.now due c.requires.ready c.in_ok-due.ensures.due in
     let place : due.query.0 - 1 < length e.queries = omega (arith, ap (λ x. x.query.0) d.is, d.at.low, d.at.high) in

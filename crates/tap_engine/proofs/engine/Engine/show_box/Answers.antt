@@ -1,5 +1,5 @@
 use Rattle.std.proofs.Common.{rules, ◌∙◌, sym, ap, subst}
-use Rattle.tap_engine.specs.Standing.{look_refusal, kept_named, entries_kept, RefusedBy}
+use Rattle.tap_engine.specs.Standing.{look_refusal, cached_named, cached_entries, RefusedBy}
 use Rattle.tap_engine.proofs.CheckLaws.{box-refuses, answers-box}
 use Rattle.tap_engine.proofs.engine.Engine.show_box.Goals as goal
 
@@ -10,4 +10,4 @@ returns-in_err-entries-clause-refusal c =
 pub returns-clause-ok : goal.returns-clause-ok
 returns-clause-ok c = λ t represents sound. answers-box c.args.self.now t c.args.name c.in_ok-entries.entries represents sound
     (sym (ap (look_refusal c.args.self.now) c.as_slice.ensures) ∙ c.in_ok-entries.ensures.look)
-    (c.in_ok-entries.ensures.entries ∙ ap (λ n. entries_kept (kept_named c.args.self.now n)) c.as_slice.ensures)
+    (c.in_ok-entries.ensures.entries ∙ ap (λ n. cached_entries (cached_named c.args.self.now n)) c.as_slice.ensures)

@@ -1,6 +1,6 @@
 use Rattle.std.proofs.Common.{rules, ◌∙◌, sym, ap, subst}
-use Rattle.tap_engine.specs.Standing.{look_refusal, kept_named, RefusedBy}
-use Rattle.tap_engine.specs.Lists.{rows_kept}
+use Rattle.tap_engine.specs.Standing.{look_refusal, cached_named, RefusedBy}
+use Rattle.tap_engine.specs.Lists.{cached_rows}
 use Rattle.tap_engine.proofs.FilterLaws.{list-refuses, answers-list}
 use Rattle.tap_engine.proofs.engine.Engine.show_list.Goals as goal
 
@@ -11,4 +11,4 @@ returns-in_err-rows-clause-refusal g c =
 pub returns-clause-ok : goal.returns-clause-ok
 returns-clause-ok g c = λ t represents sound. answers-list c.args.self.now t c.args.name c.in_ok-rows.rows represents sound
     (sym (ap (look_refusal c.args.self.now) c.as_slice.ensures) ∙ c.in_ok-rows.ensures.look)
-    (c.in_ok-rows.ensures.rows ∙ ap (λ n. rows_kept c.args.self.now (kept_named c.args.self.now n)) c.as_slice.ensures)
+    (c.in_ok-rows.ensures.rows ∙ ap (λ n. cached_rows c.args.self.now (cached_named c.args.self.now n)) c.as_slice.ensures)

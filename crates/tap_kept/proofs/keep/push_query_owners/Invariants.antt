@@ -1,6 +1,0 @@
-use Rattle.std.proofs.Common.{◌≡◌, ◌++◌, map, drop}
-use Rattle.tap_kept.proofs.keep.push_query_owners.Given as goal
-
--- the owners that are left go behind those that are there
-abbrev pub invariant-loop-query : goal.invariant-loop-query
-invariant-loop-query l = l.fn.owners ++ map (λ query. query.owner) l.queries ≡ l.owners ++ map (λ query. query.owner) (drop l.query-index l.queries)

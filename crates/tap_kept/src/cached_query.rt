@@ -1,0 +1,106 @@
+//! A standing query in memory.
+
+ghost use Rattle.std.specs.Prelude.{◌≡◌, ◌<◌, ◌≤◌, ◌+◌, ◌^◌, false, length, map, OnOk, OnErr};
+ghost use Rattle.little_box.specs.Boxes.{is_in};
+ghost use Rattle.tap_rows.specs.Results.{entry_at};
+ghost use Rattle.tap_model.specs.Sound.{IsMoment};
+
+use crate::entries::{add_entry, add_hits};
+use crate::planned_query::PlannedQuery;
+use little_box::LittleBox;
+use query_eval::{Hits, run_into};
+use row_index::RowIndex;
+use std::alloc::Global;
+use std::sync::ledger::Ledger;
+use tap_base::{Memory, Steps};
+use tap_rows::{Entry, Hit};
+use time_marks::Window;
+
+/// A standing query in memory: its row with its plan, the second that its runs have covered up to, how many runs it had, and
+/// what they delivered.
+#[derive(Drop)]
+pub struct CachedQuery {
+    pub row: PlannedQuery,
+    pub covered: i64,
+    pub runs: usize,
+    pub entries: LittleBox,
+}
+
+impl CachedQuery {
+    ghost use Rattle.tap_kept.specs.Keeping.{never_run, after_run, before_run, hits_since, AreNew};
+    ghost use Rattle.tap_kept.specs.Starting.{with_entry};
+    ghost use Rattle.tap_kept.specs.Costs.{HasNoMark, AreAlone, rows_due, window_since};
+
+    /// Makes a query that was never run: it has covered the seconds up to its start.
+    pub fn new(alloc: Global, row: PlannedQuery) -> CachedQuery
+        ensures { result ≡ never_run row }
+    {
+        let covered = row.start();
+        CachedQuery {
+            row,
+            covered,
+            runs: 0,
+            entries: LittleBox::new(alloc),
+        }
+    }
+
+    /// Puts what a run at this moment delivers into `hits`: what the window query finds since the last run, without what was
+    /// delivered. A step is a row that it looks at. It takes no memory.
+    pub fn find<L: Ledger>(
+        &self,
+        index: &RowIndex,
+        moment: i64,
+        hits: &mut Hits,
+        steps: &mut Steps<L>,
+    )
+        requires covered { IsMoment self.now.covered }
+        requires moment { IsMoment moment }
+        requires room { length index.now.docs ≤ hits.old.room }
+        ensures hits { hits.new.hits ≡ hits_since self.now index.now moment }
+        ensures new { AreNew self.now.entries hits.new.hits }
+        ensures room { hits.new.room ≡ hits.old.room }
+        ensures quiet { HasNoMark index.now (window_since self.now moment) self.now.row → steps.new ≡ steps.old }
+        ensures due { AreAlone self.now.row → steps.new ≤ steps.old + rows_due index.now (window_since self.now moment) self.now.row }
+    {
+        // This call only brings the order of the documents into scope, for the clause `new`.
+        let _docs = index.docs();
+        let window = Window {
+            low: self.covered,
+            high: moment,
+        };
+        run_into(self.row.plan(), index, &self.entries, window, hits, steps);
+    }
+
+    // Adds a run at this moment, of this ordinal, which delivered these. At Err nothing has changed.
+    pub(crate) fn add_run(&mut self, moment: i64, ordinal: u32, hits: &[Hit]) -> Result<(), Memory>
+        requires runs { self.old.runs + 1 < 2 ^ 64 }
+        requires new { AreNew self.old.entries hits.now }
+        ensures kept { OnOk result (self.new ≡ after_run moment (map (entry_at ordinal) hits.now) self.old) }
+        ensures err { OnErr result (self.new ≡ self.old) }
+    {
+        add_hits(&mut self.entries, ordinal, hits)?;
+        self.covered = moment;
+        self.runs += 1;
+        Ok(())
+    }
+
+    // Undoes the last run. It takes no memory.
+    pub(crate) fn undo_run(&mut self, covered: i64, runs: usize, entries: u32)
+        ensures { self.new ≡ before_run covered runs entries self.old }
+    {
+        self.covered = covered;
+        self.runs = runs;
+        if entries <= self.entries.len() {
+            self.entries.cut(entries);
+        }
+    }
+
+    // Adds an entry, of a document that isn't in the box, to the box.
+    pub(crate) fn add_entry(&mut self, entry: Entry) -> Result<(), Memory>
+        requires { is_in entry.doc.0 self.old.entries ≡ false }
+        ensures kept { OnOk result (self.new ≡ with_entry entry self.old) }
+        ensures err { OnErr result (self.new ≡ self.old) }
+    {
+        add_entry(&mut self.entries, entry)
+    }
+}

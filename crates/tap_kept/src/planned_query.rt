@@ -1,0 +1,103 @@
+//! The row of a query with the plan of its window query.
+
+ghost use Rattle.std.specs.Prelude.{◌≡◌, true, IfOk};
+ghost use Rattle.tql_core.specs.Bounds.{are_bounded};
+ghost use Rattle.tql_core.specs.Condition.{condition};
+ghost use Rattle.tql_core.specs.Scope.{IsQuery};
+ghost use Rattle.time_marks.specs.Distinct.{distinct_probes};
+ghost use Rattle.time_marks.specs.Views.{ranged_probes};
+ghost use Rattle.monotone_rewrite.specs.Query.{window};
+ghost use Rattle.query_eval.specs.Runs.{HasValidProbes};
+ghost use Rattle.tap_rows.specs.declared.rows.QueryRow.{QueryRow};
+ghost use Rattle.tap_model.specs.Queries.{condition_by, start_of, probes_in};
+ghost use Rattle.tap_model.specs.Sound.{IsMoment};
+
+use access_plan::{Plan, plan};
+use incremental_rewrite::incremental;
+use monotone_rewrite::monotone_from;
+use restart_core::cut_start;
+use std::alloc::Global;
+use std::marker::Model;
+use tap_base::Memory;
+use tap_rows::QueryRow;
+use tql_core::Cond;
+
+/// The row of a query, with its start and the plan of its window query. Contracts see it as its row.
+#[derive(Drop)]
+pub struct PlannedQuery {
+    row: QueryRow,
+    start: i64,
+    plan: Plan,
+}
+
+impl Model for PlannedQuery {
+    ghost Value = { QueryRow };
+
+    ghost view = { λ kept. kept.row };
+
+    ghost invariant = { λ kept. (kept.start ≡ start_of kept.row)
+        × ((ranged_probes kept.plan.query ≡ probes_in kept.row) × HasValidProbes kept.plan.query) };
+}
+
+// Gives the first second that a query covers: its arrival if its text is `FROM NOW`, otherwise 0.
+#[tactic(auto, unfolding(tap_model::specs::Queries::start_of))]
+fn start_of(row: &QueryRow) -> i64
+    ensures { result ≡ start_of row.now }
+{
+    if cut_start(row.source.as_slice()).from_now {
+        row.arrival
+    } else {
+        0
+    }
+}
+
+// Plans the window query of a condition from a start on. The window query has no probe twice, and its marks are solved.
+fn make_plan(alloc: Global, cond: &Cond, start: i64) -> Result<Plan, Memory>
+    requires scoped { IsQuery (condition cond.now) }
+    requires bounded { are_bounded (condition cond.now) ≡ true }
+    requires start { IsMoment start }
+    ensures probes { IfOk result (λ made. ranged_probes made.query ≡ distinct_probes (window (condition cond.now) start)) }
+    ensures scopes { IfOk result (λ made. HasValidProbes made.query) }
+{
+    let query = monotone_from(alloc, cond, start)?;
+    let ranged = incremental(alloc, query)?;
+    let made = plan(alloc, ranged)?;
+    Ok(made)
+}
+
+impl PlannedQuery {
+    /// Joins a row and the plan of its window query, which is made here once for all runs of the query.
+    pub fn new(alloc: Global, row: QueryRow, cond: &Cond) -> Result<PlannedQuery, Memory>
+        requires cond { condition cond.now ≡ condition_by row }
+        requires scoped { IsQuery (condition cond.now) }
+        requires bounded { are_bounded (condition cond.now) ≡ true }
+        requires arrival { IsMoment row.arrival }
+        ensures { IfOk result (λ kept. kept ≡ row) }
+    {
+        let start = start_of(&row);
+        let plan = make_plan(alloc, cond, start)?;
+        Ok(PlannedQuery { row, start, plan })
+    }
+
+    /// Gives the row.
+    pub fn row(&self) -> &QueryRow
+        ensures { result.now ≡ self.now }
+    {
+        &self.row
+    }
+
+    /// Gives the plan of its window query.
+    pub fn plan(&self) -> &Plan
+        ensures query { ranged_probes result.now.query ≡ probes_in self.now }
+        ensures probes { HasValidProbes result.now.query }
+    {
+        &self.plan
+    }
+
+    // Gives the first second that the query covers.
+    pub(crate) fn start(&self) -> i64
+        ensures { result ≡ start_of self.now }
+    {
+        self.start
+    }
+}
