@@ -4,9 +4,13 @@
   tools/prove.py [--jobs N] [--program NAME | NAME..]
 
 With no NAME it proves all crates of crates.txt. With --program NAME it proves all below NAME, and then proves, builds and
-runs that program on empty input. Each crate is one `rt check` in its folder; what is unchanged since it was proved here is
-passed over. --jobs N says how many crates are proved at once; if it is left out, as many as there are processors and
-memory for. Progress goes to standard error. The status is 0 if all is proved, else 1.
+runs that program on empty input. What is unchanged since it was proved here is passed over. --jobs N says how many crates
+are proved at once; if it is left out, as many as there are processors and memory for. Progress goes to standard error. The
+status is 0 if all is proved, else 1.
+
+Two `rt` in one checkout wait for each other, since each holds the crates below its own. So each crate is proved in one of N
+copies of the repository, by `rt lib`, and `rt lib` here then takes over what was proved of the same text. The copies stand
+in TMPDIR, else in /tmp, and are removed at the end.
 """
 
 import functools
@@ -16,6 +20,7 @@ import signal
 import subprocess
 import sys
 import tempfile
+import threading
 import time
 
 TOP = os.path.dirname(os.path.dirname(os.path.abspath(__file__)))
@@ -73,8 +78,13 @@ class Prover:
         self.jobs = jobs
         kit = subprocess.run(["rt", "version"], stdout=subprocess.PIPE, check=False).stdout.decode()
         self.kit = kit.strip()
-        self.logs = tempfile.mkdtemp(prefix="prove-")
+        self.room = tempfile.mkdtemp(prefix="prove-")
+        os.mkdir(f"{self.room}/logs")
+        # The copies that no check works in.
+        self.free = []
         self.running = {}
+        self.children = set()
+        self.here = threading.Lock()
         self.begun = 0
         self.done = set()
 
@@ -83,6 +93,9 @@ class Prover:
             self.needed.add(name)
             for it in self.below[name]:
                 self.need(it)
+
+    def is_library(self, name):
+        return not os.path.exists(f"{TOP}/crates/{name}/src/main.rt")
 
     @functools.lru_cache(None)
     def chain(self, name):
@@ -99,54 +112,89 @@ class Prover:
     def is_fresh(self, name):
         """It was proved here, and nothing of it or below it has changed since."""
         try:
-            time_then = os.path.getmtime(self.stamp(name))
+            if self.is_library(name) and not os.path.exists(f"{TOP}/crates/{name}/out/rlib/stamp"):
+                return False
+            then = os.path.getmtime(self.stamp(name))
             with open(self.stamp(name), encoding="utf-8") as stamp:
                 if stamp.read() != self.mark(name):
                     return False
             below = [os.path.getmtime(self.stamp(it)) for it in self.below[name]]
-            return all(it <= time_then for it in [*map(os.path.getmtime, files_of(name)), *below])
+            return all(it <= then for it in [*map(os.path.getmtime, files_of(name)), *below])
         except OSError:
             return False
 
-    def start(self, name, at_once):
-        self.begun += 1
-        say(f"{name}, crate {self.begun} of {len(self.needed)}")
-        is_program = name == self.program
-        command = ["rt", "run" if is_program else "check"]
-        # A crate that is proved alone gets all processors from rt itself.
-        if self.jobs > 1 and at_once > 1:
-            command += ["--jobs", str(max(1, self.jobs // at_once))]
-        with open(f"{self.logs}/{name}", "wb") as log:
+    def copy(self):
+        """A copy of the repository that no check works in."""
+        if self.free:
+            return self.free.pop()
+        at = tempfile.mkdtemp(prefix="copy-", dir=self.room)
+        for name in self.lists:
+            leave = shutil.ignore_patterns("out", "must-fail")
+            shutil.copytree(f"{TOP}/crates/{name}", f"{at}/crates/{name}", ignore=leave, symlinks=True)
+        for file in ("crates.txt", "HANDLES"):
+            if os.path.exists(f"{TOP}/{file}"):
+                shutil.copy(f"{TOP}/{file}", at)
+        return at
+
+    def call(self, name, top, words):
+        """The status of rt with these words, in a crate's folder below a copy or here."""
+        with open(f"{self.room}/logs/{name}", "ab") as log:
             child = subprocess.Popen(
-                command,
-                cwd=f"{TOP}/crates/{name}",
+                ["rt", *words],
+                cwd=f"{top}/crates/{name}",
                 stdin=subprocess.DEVNULL,
                 stdout=log,
                 stderr=subprocess.STDOUT,
                 start_new_session=True,
             )
-        self.running[name] = (child, time.time())
+        self.children.add(child)
+        status = child.wait()
+        self.children.discard(child)
+        return status
 
-    def stop(self):
-        for child, _ in self.running.values():
-            if child.poll() is None:
-                os.killpg(child.pid, signal.SIGTERM)
+    def prove_one(self, name, at, share, result):
+        """Proves a crate in a copy, if there is one, and then takes it over here."""
+        began = time.time()
+        words = ["lib"] if self.is_library(name) else ["run" if name == self.program else "check"]
+        status = self.call(name, at, [*words, *share]) if at else 0
+        if not status:
+            # Here one rt works at a time.
+            with self.here:
+                status = self.call(name, TOP, words)
+        if not status:
+            os.makedirs(os.path.dirname(self.stamp(name)), exist_ok=True)
+            with open(self.stamp(name), "w", encoding="utf-8") as stamp:
+                stamp.write(self.mark(name))
+            # An edit that was made since the beginning counts as later.
+            os.utime(self.stamp(name), (began, began))
+        result.append((status, time.time() - began))
 
-    def end(self, name, status, began):
-        del self.running[name]
+    def start(self, name, at_once):
+        self.begun += 1
+        say(f"{name}, crate {self.begun} of {len(self.needed)}")
+        # A program, and all if one is proved at a time, is proved here.
+        at = self.copy() if self.jobs > 1 and self.is_library(name) else None
+        # A crate that is proved alone gets all processors from rt itself.
+        share = ["--jobs", str(max(1, self.jobs // at_once))] if at_once > 1 else []
+        result = []
+        worker = threading.Thread(target=self.prove_one, args=(name, at, share, result), daemon=True)
+        worker.start()
+        self.running[name] = (worker, at, result)
+
+    def end(self, name):
+        worker, at, result = self.running.pop(name)
+        worker.join()
+        if at:
+            self.free.append(at)
+        status, seconds = result[0] if result else (2, 0)
         if status:
-            with open(f"{self.logs}/{name}", encoding="utf-8", errors="replace") as log:
-                sys.stderr.write("".join(log.readlines()[-SHOWN:]))
-            say(f"{name} isn't proved; all that rt says of it is in {self.logs}/{name}")
+            with open(f"{self.room}/logs/{name}", encoding="utf-8", errors="replace") as log:
+                said = log.readlines()
+            sys.stderr.write("".join(said[-SHOWN:]))
+            say(f"{name} isn't proved; `rt check` in crates/{name} says more")
             return False
-        stamp = self.stamp(name)
-        os.makedirs(os.path.dirname(stamp), exist_ok=True)
-        with open(stamp, "w", encoding="utf-8") as it:
-            it.write(self.mark(name))
-        # An edit that was made during the check counts as later.
-        os.utime(stamp, (began, began))
         self.done.add(name)
-        say(f"{name} is proved, in {time.time() - began:.0f} s; {len(self.done)} of {len(self.needed)} are done")
+        say(f"{name} is proved, in {seconds:.0f} s; {len(self.done)} of {len(self.needed)} are done")
         return True
 
     def ready(self):
@@ -167,22 +215,25 @@ class Prover:
             self.begun += len(fresh)
 
     def prove(self):
-        self.pass_over()
         try:
+            self.pass_over()
             while len(self.done) < len(self.needed):
                 next_ones = self.ready()[: self.jobs - len(self.running)]
                 at_once = len(self.running) + len(next_ones)
                 for name in next_ones:
                     self.start(name, at_once)
                 time.sleep(0.2)
-                for name, (child, began) in list(self.running.items()):
-                    status = child.poll()
-                    if status is not None and not self.end(name, status, began):
-                        return False
+                ended = [it for it, (worker, _, _) in self.running.items() if not worker.is_alive()]
+                if not all([self.end(it) for it in ended]):
+                    return False
+            return True
         finally:
-            self.stop()
-        shutil.rmtree(self.logs)
-        return True
+            for child in list(self.children):
+                if child.poll() is None:
+                    os.killpg(child.pid, signal.SIGTERM)
+            for worker, _, _ in self.running.values():
+                worker.join(10)
+            shutil.rmtree(self.room, ignore_errors=True)
 
 
 def main(words):
