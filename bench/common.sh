@@ -1,12 +1,13 @@
-# What the measurements share: the program, and a clock. `name` is the program, tapestry_mem where it isn't set; PROGRAM is
-# the path of another build of it.
+# shellcheck shell=bash
+# What the measurements share: the program, and a clock. `name` is the program, tapestry_mem if it isn't set. It is proved and
+# built first; PROGRAM is the path of another build, which is taken as it is.
 set -eu
 top="$(cd "$(dirname "$0")/.." && pwd)"
 name="${name:-tapestry_mem}"
 program="${PROGRAM:-$top/crates/$name/out/$name}"
 scratch="$(mktemp -d)"
 trap 'rm -rf "$scratch"' EXIT
-[ -x "$program" ] || (cd "$top/crates/$name" && rt run </dev/null >/dev/null)
+[ -n "${PROGRAM:-}" ] || "$top/tools/prove.py" --program "$name" </dev/null
 
 # Runs the program, with the words that follow, on a script and prints a line with its name, size, seconds and memory.
 measure() {

@@ -1,6 +1,6 @@
 #!/usr/bin/env bash
-# A store on disk: rows that are committed one by one and the syncs of each, how long a large store takes to be attached,
-# and whether another SQLite and this one read each other's stores.
+# A store on disk: rows that are committed one by one and the syncs of each; how long a large store takes to be attached;
+# whether another SQLite and this one read each other's stores.
 name=tapestry
 . "$(dirname "$0")/common.sh"
 store="$scratch/mail.db"
@@ -77,7 +77,7 @@ measure 'a row in each table' "$scratch/script" --store "$store"
 look "$store"
 echo "  its document: $(sqlite3 "$store" 'SELECT num, arrival, hex(body) FROM docs'); its pick: $(sqlite3 "$store" 'SELECT num, query, run, doc, second FROM picks')"
 
-# A store that sqlite3 makes by the statements of the program's source, read and gone on with by the program.
+# A store that sqlite3 makes by the statements of the program's source. The program reads it and adds to it.
 other="$scratch/other.db"
 grep -oh 'CREATE TABLE IF NOT EXISTS.*STRICT' "$top/crates/keeper_sql/src/create.rt" | sed 's/$/;/' >"$scratch/other.sql"
 cat >>"$scratch/other.sql" <<'SQL'
