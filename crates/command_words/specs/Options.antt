@@ -1,10 +1,10 @@
--- The command of the command line, as `clap` is told it.
+-- The command line's options, as `clap` has them.
 use Rattle.std.specs.Prelude.{ℕ, pos, List, [], ◌∷◌, codes, Some, true}
 use Rattle.clap.specs.Words.{App, Rule, new_app, new_rule, with_rule}
 use Rattle.clap.specs.declared.builder.ArgAction.TheVariants.{Set}
 use Rattle.clap.specs.declared.builder.value_parser.ValueParser.TheVariants as parser
 
--- the place of a store that no word names
+-- the path of a store that no word names
 abbrev pub default_place : List ℕ
 default_place = codes ":memory:"
 
@@ -20,5 +20,6 @@ sample_rule = record (new_rule (codes "sample")) { long = Some (codes "sample");
 abbrev pub bare_app : App
 bare_app = let a = new_app (codes "tapestry") in record a { top = record a.top { no_binary_name = true } }
 
+-- the command with both options
 abbrev pub app : App
 app = with_rule (with_rule bare_app store_rule) sample_rule

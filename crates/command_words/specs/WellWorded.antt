@@ -8,6 +8,7 @@ abbrev pub is_path : List ℕ → Bool
 is_path [] = false
 is_path (b ∷ path) = not (b == 45)
 
+-- no path, or a path that may be named
 abbrev pub IsPathOrNone : Option (List ℕ) → Type 0
 IsPathOrNone None = Unit {0}
 IsPathOrNone (Some path) = is_path path ≡ true
@@ -17,6 +18,7 @@ abbrev pub IsNumberOrNone : Option ℕ → Type 0
 IsNumberOrNone None = Unit {0}
 IsNumberOrNone (Some n) = (1 ≤ n) × (n ≤ 100000)
 
+-- the words that name a path
 abbrev pub store_words : Option (List ℕ) → List (List ℕ)
 store_words None = []
 store_words (Some path) = codes "--store" ∷ path ∷ []
@@ -32,6 +34,6 @@ pub record IsWellWorded (words : List (List ℕ)) (path : Option (List ℕ)) (nu
   pub named_number : IsNumberOrNone number
   pub order : (words ≡ store_words path ++ sample_words number) ⊎ (words ≡ sample_words number ++ store_words path)
 
--- the place of the store
+-- the path of the store: the named one, or `:memory:`
 abbrev pub place_of : Option (List ℕ) → List ℕ
 place_of path = unwrap_or path default_place

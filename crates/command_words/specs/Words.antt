@@ -14,10 +14,10 @@ texts_of words = map (λ s. s.now) words
 unfoldable pub number_in : List ℕ → Option ℕ
 number_in text = if is_unsigned_in 1 100000 text then Some (digits_value 10 (without_leading_plus text)) else None
 
--- the place of the store that the words name
+-- the path of the store that the words name, `:memory:` if they name none
 abbrev pub place_in : List (List ℕ) → List ℕ
 place_in words = unwrap_or (first_of (codes "store") (matches_of app words)) default_place
 
--- the messages of the sample that the words ask for, if they do
+-- the number of messages of a sample, if the words ask for one
 abbrev pub sample_in : List (List ℕ) → Option ℕ
 sample_in words = option_and_then number_in (first_of (codes "sample") (matches_of app words))

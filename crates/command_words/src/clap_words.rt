@@ -1,22 +1,23 @@
-ghost use Rattle.std.specs.Prelude.{◌≡◌, [], true, codes, IfOk, OnOk, IfErr, option_copied};
+//! The two options, as `clap` reads them.
+ghost use Rattle.std.specs.Prelude.{◌≡◌, ◌≢◌, [], true, codes, IfOk, OnOk, IfErr, option_copied};
 ghost use Rattle.clap.specs.Words.{takes, fault_of, first_of, app_of};
 ghost use Rattle.clap.specs.Simple.{matches_of};
 ghost use Rattle.command_words.specs.Options.{app};
 ghost use Rattle.command_words.specs.Words.{texts_of};
 
-use crate::fault::WordFault;
+use crate::option_fault::OptionFault;
 use clap::error::ErrorKind;
 use clap::{Arg, ArgAction, Command};
 use std::alloc::{AllocError, Global};
 
-/// The values of the options, as the words have them.
+/// The values of the two options: the word that follows each, if the words have it.
 #[derive(Drop)]
 pub struct Values<'a> {
     pub store: Option<&'a str>,
     pub sample: Option<&'a str>,
 }
 
-// The command with its two options.
+// Makes the command with its two options.
 fn options<'a>(alloc: Global) -> Result<Command<'a>, AllocError>
     ensures { IfOk result (λ c. app_of c ≡ app) }
 {
@@ -34,15 +35,17 @@ fn options<'a>(alloc: Global) -> Result<Command<'a>, AllocError>
         .arg(sample)
 }
 
-/// Reads the words after the program's name.
-pub fn parse_options<'a>(alloc: Global, words: &'a [&'a str]) -> Result<Values<'a>, WordFault>
+/// Returns the values that the words after the program's name give to the two options. `Refused` comes if and only if
+/// `clap` refuses the words and memory suffices.
+pub fn parse_options<'a>(alloc: Global, words: &'a [&'a str]) -> Result<Values<'a>, OptionFault>
     ensures store { IfOk result (λ values. option_copied values.store ≡ first_of (codes "store") (matches_of app (texts_of words.now))) }
     ensures sample { IfOk result (λ values. option_copied values.sample ≡ first_of (codes "sample") (matches_of app (texts_of words.now))) }
     ensures accepted { OnOk result (fault_of app (texts_of words.now) ≡ []) }
-    ensures taken { takes app (texts_of words.now) ≡ true → IfErr result (λ fault. fault ≡ WordFault.Memory) }
+    ensures taken { takes app (texts_of words.now) ≡ true → IfErr result (λ fault. fault ≡ OptionFault.Memory) }
+    ensures refused { IfErr result (λ fault. fault ≡ OptionFault.Refused → fault_of app (texts_of words.now) ≢ []) }
 {
     let Ok(command) = options(alloc) else {
-        return Err(WordFault::Memory);
+        return Err(OptionFault::Memory);
     };
     match command.try_get_matches_from(words) {
         Ok(matches) => Ok(Values {
@@ -51,9 +54,9 @@ pub fn parse_options<'a>(alloc: Global, words: &'a [&'a str]) -> Result<Values<'
         }),
         Err(error) => {
             if error.kind() == ErrorKind::OutOfMemory {
-                return Err(WordFault::Memory);
+                return Err(OptionFault::Memory);
             }
-            Err(WordFault::Refused)
+            Err(OptionFault::Refused)
         }
     }
 }

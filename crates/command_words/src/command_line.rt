@@ -1,3 +1,4 @@
+//! The words that the system hands over.
 ghost use Rattle.std.specs.Prelude.{◌≡◌, IfOk, OnOk};
 ghost use Rattle.std.specs.List.{All};
 ghost use Rattle.std.specs.Str.{IsUtf8};
@@ -8,7 +9,7 @@ use std::rt::Env;
 use std::{env, io};
 use tap_base::{Memory, Text, Texts};
 
-// Appends a word.
+// Appends a word, which is UTF-8.
 fn push_word(alloc: Global, words: &mut Texts, word: &str) -> Result<(), Memory>
     requires { All IsUtf8 words.old }
     ensures { OnOk result (All IsUtf8 words.new) }
@@ -17,8 +18,8 @@ fn push_word(alloc: Global, words: &mut Texts, word: &str) -> Result<(), Memory>
     Ok(())
 }
 
-/// The words after the program's name, in order. Each is UTF-8; which they are is told by no clause, since none can name
-/// what the system hands over.
+/// Returns the words after the program's name, in order. Each is UTF-8. No clause says which words these are, since none can
+/// name what the system hands over. `NotText` comes if one of them isn't UTF-8.
 pub fn words_of_line<R: Env + Alloc<A = Global>>(rt: &R, alloc: Global) -> Result<Texts, WordsFault>
     ensures { IfOk result (λ words. All IsUtf8 words) }
 {

@@ -1,4 +1,5 @@
-ghost use Rattle.std.specs.Prelude.{◌≡◌, ◌≤◌, ℕ, List, [], true, Option, IfOk, IfErr, IfSome, OnOk, option_copied, option_and_then, unwrap_or};
+//! What the words of the command line ask for.
+ghost use Rattle.std.specs.Prelude.{◌≡◌, ◌≢◌, ◌≤◌, ℕ, List, [], true, Option, IfOk, IfErr, IfSome, OnOk, option_copied, option_and_then, unwrap_or};
 ghost use Rattle.std.specs.List.{All};
 ghost use Rattle.std.specs.Str.{IsUtf8};
 ghost use Rattle.clap.specs.Words.{fault_of, takes};
@@ -7,21 +8,22 @@ ghost use Rattle.command_words.specs.Words.{number_in, place_in, sample_in};
 ghost use Rattle.command_words.specs.WellWorded.{IsWellWorded, place_of};
 
 use crate::clap_words::parse_options;
-use crate::fault::WordFault;
 use crate::number::read_count;
+use crate::option_fault::OptionFault;
 use crate::strs::as_strs;
 use std::alloc::Global;
 use tap_base::{Memory, Text, Texts};
 
-/// What the words of the command line ask for: the place of the store, which is `:memory:` where they name none, and the
-/// number of messages of a sample, from 1 to 100,000.
+/// What the words of the command line ask for.
 #[derive(Drop)]
 pub struct CommandWords {
+    /// The path of the store, `:memory:` if the words name none.
     pub place: Text,
+    /// The number of messages of a sample, from 1 to 100,000, if the words ask for one.
     pub sample: Option<u32>,
 }
 
-// The text of a place, or that of a store in memory.
+// Returns the text of a place, `:memory:` if there is none.
 fn place_text(alloc: Global, place: Option<&str>) -> Result<Text, Memory>
     ensures value { IfOk result (λ text. text ≡ unwrap_or (option_copied place.entry) default_place) }
     ensures text { IfOk result (λ text. IsUtf8 text) }
@@ -30,7 +32,7 @@ fn place_text(alloc: Global, place: Option<&str>) -> Result<Text, Memory>
     Text::from_slice(alloc, place.as_bytes())
 }
 
-// The number of a text, if there is one.
+// Returns the number of a text, if there is one.
 fn sample_number(text: Option<&str>) -> Option<u32>
     ensures value { result ≡ option_and_then number_in (option_copied text.entry) }
     ensures within { IfSome result (λ n. (1 ≤ n) × (n ≤ 100000)) }
@@ -41,18 +43,22 @@ fn sample_number(text: Option<&str>) -> Option<u32>
     }
 }
 
-/// Reads the words after the program's name, by the rules of `clap`. `Refused` comes only where `clap` refuses them for
-/// another cause than want of memory, and never where they are well worded; words of which `clap` has a fault are not read.
-pub fn read_words(alloc: Global, words: &Texts) -> Result<CommandWords, WordFault>
+/// Reads the words after the program's name, by the rules of `clap`. Words in which `clap` finds a fault give `Refused`, or
+/// `Memory` if the program runs out of memory first. Words without one, and so all that are well worded, never give
+/// `Refused`.
+pub fn read_words(alloc: Global, words: &Texts) -> Result<CommandWords, OptionFault>
     requires { All IsUtf8 words.now }
     ensures place { IfOk result (λ asked. asked.place ≡ place_in words.now) }
     ensures text { IfOk result (λ asked. IsUtf8 asked.place) }
     ensures sample { IfOk result (λ asked. asked.sample ≡ sample_in words.now) }
     ensures within { IfOk result (λ asked. IfSome asked.sample (λ n. (1 ≤ n) × (n ≤ 100000))) }
     ensures accepted { OnOk result (fault_of app words.now ≡ []) }
-    ensures taken { takes app words.now ≡ true → IfErr result (λ fault. fault ≡ WordFault.Memory) }
-    ensures fine { (path : Option (List ℕ)) (number : Option ℕ) → IsWellWorded words.now path number → IfErr result (λ fault. fault ≡ WordFault.Memory) }
-    ensures named { (path : Option (List ℕ)) (number : Option ℕ) → IsWellWorded words.now path number → IfOk result (λ asked. (asked.place ≡ place_of path) × (asked.sample ≡ number)) }
+    ensures taken { takes app words.now ≡ true → IfErr result (λ fault. fault ≡ OptionFault.Memory) }
+    ensures refused { IfErr result (λ fault. fault ≡ OptionFault.Refused → fault_of app words.now ≢ []) }
+    ensures fine { (path : Option (List ℕ)) (number : Option ℕ) → IsWellWorded words.now path number
+        → IfErr result (λ fault. fault ≡ OptionFault.Memory) }
+    ensures named { (path : Option (List ℕ)) (number : Option ℕ) → IsWellWorded words.now path number
+        → IfOk result (λ asked. (asked.place ≡ place_of path) × (asked.sample ≡ number)) }
 {
     let words = as_strs(alloc, words)?;
     let values = parse_options(alloc, &words)?;

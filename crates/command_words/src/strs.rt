@@ -1,3 +1,4 @@
+//! Texts as `str`s.
 ghost use Rattle.std.specs.Prelude.{◌≡◌, IfOk};
 ghost use Rattle.std.specs.List.{All};
 ghost use Rattle.std.specs.Str.{IsUtf8};
@@ -6,7 +7,7 @@ ghost use Rattle.command_words.specs.Words.{texts_of};
 use std::alloc::Global;
 use tap_base::{Memory, Text, Texts};
 
-// A text that is UTF-8.
+// Returns a text that is UTF-8 as a `str`.
 fn as_str(text: &Text) -> &str
     requires { IsUtf8 text.now }
     ensures { result.now ≡ text.now }
@@ -14,7 +15,7 @@ fn as_str(text: &Text) -> &str
     std::str::from_utf8(text.as_slice()).unwrap_or("")
 }
 
-/// The texts, which are UTF-8.
+/// Returns the texts, which are UTF-8, as `str`s in their order. `Memory` means out of memory.
 pub fn as_strs<'a>(alloc: Global, texts: &'a Texts) -> Result<Vec<&'a str>, Memory>
     requires { All IsUtf8 texts.now }
     ensures { IfOk result (λ strs. texts_of strs.items ≡ texts.now) }

@@ -2,7 +2,7 @@ ghost use Rattle.std.specs.Prelude.{IfOk};
 ghost use Rattle.std.specs.List.{All};
 ghost use Rattle.std.specs.Str.{IsUtf8};
 
-use crate::{WordFault, read_words};
+use crate::{OptionFault, read_words};
 use std::alloc::Global;
 use std::test::Fail;
 use tap_base::{Memory, Text, Texts, put_decimal};
@@ -31,8 +31,8 @@ fn shown(alloc: Global, words: &Texts) -> Result<Text, Memory>
             }
             Ok(text)
         }
-        Err(WordFault::Refused) => Text::from_slice(alloc, b"refused"),
-        Err(WordFault::Memory) => Err(Memory),
+        Err(OptionFault::Refused) => Text::from_slice(alloc, b"refused"),
+        Err(OptionFault::Memory) => Err(Memory),
     }
 }
 

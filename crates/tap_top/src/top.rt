@@ -25,7 +25,7 @@ use crate::feed::{Stop, feed, finish};
 use crate::opening::{OpenFault, open_store};
 use crate::refusing::refuse;
 use crate::sampled::sample_store;
-use command_words::{WordFault, read_words};
+use command_words::{OptionFault, read_words};
 use keeper_core::Keeper;
 use script_lang::ScriptReader;
 use std::alloc::Global;
@@ -292,8 +292,8 @@ pub fn tapestry<S: Source, K: Sink, P: Keeper, L: Ledger>(
 {
     let asked = match read_words(alloc, words) {
         Ok(asked) => asked,
-        Err(WordFault::Refused) => return 2,
-        Err(WordFault::Memory) => return 7,
+        Err(OptionFault::Refused) => return 2,
+        Err(OptionFault::Memory) => return 7,
     };
     let place = as_str(&asked.place);
     match asked.sample {

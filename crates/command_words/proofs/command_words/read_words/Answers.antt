@@ -1,6 +1,6 @@
 use Rattle.std.proofs.Common.{rules, ◌≡◌, ◌∙◌, true, IfErr}
 use Rattle.clap.specs.Words.{takes}
-use Rattle.command_words.specs.declared.fault.WordFault.TheVariants as fault
+use Rattle.command_words.specs.declared.option_fault.OptionFault.TheVariants as fault
 use Rattle.command_words.specs.Options.{app}
 use Rattle.command_words.specs.Words.{place_in, sample_in}
 use Rattle.command_words.proofs.Worded.{worded}

@@ -1,6 +1,6 @@
 use Rattle.std.proofs.Common.{◌≡◌, ◌∙◌, refl, sym, ap, subst, inl, inr, ℕ, Option, Some, None}
-use Rattle.command_words.specs.declared.fault.WordFault.{WordFault}
-use Rattle.command_words.specs.declared.fault.WordFault.TheVariants.{Refused as RefusedWords, Memory}
+use Rattle.command_words.specs.declared.option_fault.OptionFault.{OptionFault}
+use Rattle.command_words.specs.declared.option_fault.OptionFault.TheVariants.{Refused as RefusedWords, Memory}
 use Rattle.command_words.specs.Words.{sample_in}
 use Rattle.command_words.proofs.Worded.{worded}
 use Rattle.keeper_core.specs.Keeping.{IsDurable}
@@ -13,7 +13,7 @@ use Rattle.tap_top.proofs.Samples.{FirstPerformed-none}
 use Rattle.tap_top.proofs.SampleCrashes.{alone-leaves, first-stores}
 use Rattle.tap_top.proofs.top.tapestry.Goals as goal
 
-not-both : (x : WordFault) → x ≡ RefusedWords → x ≡ Memory → ⊥
+not-both : (x : OptionFault) → x ≡ RefusedWords → x ≡ Memory → ⊥
 not-both x one two = cc
 
 some-is : (found : Option ℕ) (n : ℕ) → found ≡ Some n → found ≡ None → ⊥
