@@ -120,8 +120,8 @@ long-leaves : (t : Tables) (left left' out out' : Option (List ℕ)) (versions :
 long-leaves t left left' out out' versions tells leaves run =
     answered-leaves t left left' out out' versions tells leaves run.long.bytes (complete (take SCRIPT_LIMIT run.long.bytes)) run.session run.all_ok run.long.taken (inl (all-of (complete (take SCRIPT_LIMIT run.long.bytes)))) run.answered
 
-starved-leaves : (t : Tables) (left left' out out' : Option (List ℕ)) (versions : ℤ → Type 0) (tells leaves : Tables → Type 0) → OutOfMemory t left left' out out' (IsDurable tells leaves) → LeavesPrefix t left left' out out' versions leaves
-starved-leaves t left left' out out' versions tells leaves run = answered-leaves t left left' out out' versions tells leaves run.bytes run.commands run.session run.all_ok run.taken run.first run.answered
+memory-leaves : (t : Tables) (left left' out out' : Option (List ℕ)) (versions : ℤ → Type 0) (tells leaves : Tables → Type 0) → OutOfMemory t left left' out out' (IsDurable tells leaves) → LeavesPrefix t left left' out out' versions leaves
+memory-leaves t left left' out out' versions tells leaves run = answered-leaves t left left' out out' versions tells leaves run.bytes run.commands run.session run.all_ok run.taken run.first run.answered
 
 put-leaves : (t : Tables) (left left' out out' : Option (List ℕ)) (versions : ℤ → Type 0) (tells leaves : Tables → Type 0) → PutCut t left left' out out' (IsDurable tells leaves) → LeavesPrefix t left left' out out' versions leaves
 put-leaves t left left' out out' versions tells leaves run =
@@ -196,7 +196,7 @@ run-leaves t left left' out out' versions tells leaves ok status (inl low) whole
 run-leaves t left left' out out' versions tells leaves ok status (inr (inl is)) whole read put cut short long = read-leaves t left left' out out' versions tells leaves (read is)
 run-leaves t left left' out out' versions tells leaves ok status (inr (inr (inl is))) whole read put cut short long = put-leaves t left left' out out' versions tells leaves (put is)
 run-leaves t left left' out out' versions tells leaves ok status (inr (inr (inr (inl is)))) whole read put cut short long = uncommitted-leaves t left left' out out' versions leaves (cut is)
-run-leaves t left left' out out' versions tells leaves ok status (inr (inr (inr (inr (inl is))))) whole read put cut short long = starved-leaves t left left' out out' versions tells leaves (short is)
+run-leaves t left left' out out' versions tells leaves ok status (inr (inr (inr (inr (inl is))))) whole read put cut short long = memory-leaves t left left' out out' versions tells leaves (short is)
 run-leaves t left left' out out' versions tells leaves ok status (inr (inr (inr (inr (inr is))))) whole read put cut short long = long-leaves t left left' out out' versions tells leaves (long is)
 
 last-sound : (t : Tables) (s : Session) (cs : List Command) (rs : List Reply) (t' : Tables) (s' : Session) (story : Story t s cs rs t' s') → SoundAlong t s cs rs t' s' story → IsSound t' s'

@@ -5,3 +5,4 @@ mod Refusals
 mod Crashes
 mod Samples
 mod SampleCrashes
+mod Ends

@@ -5,7 +5,6 @@ use Rattle.std.specs.Io.KnownBytes.{Consumes, IsAtEnd, Keeps}
 use Rattle.std.proofs.lemmas.List.{append_assoc, append-nil, length-append, take_all}
 use Rattle.std.proofs.Math.Seq.{take-append-add}
 use Rattle.std.proofs.lemmas.Grind.{common_steps}
-use Rattle.tap_base.specs.Counts.{Rose}
 use Rattle.tap_rows.specs.declared.tables.Tables.{Tables}
 use Rattle.script_lang.specs.declared.command.Command.{Command}
 use Rattle.script_lang.specs.Script.{script, complete, Reading, new_reading, script_from, complete_from}
@@ -15,7 +14,7 @@ use Rattle.tap_model.specs.Sound.{IsSound}
 use Rattle.tap_top.specs.declared.top.TheConstants.{SCRIPT_LIMIT, PIECE}
 use Rattle.tap_top.specs.Answers.{Answered, CutOff, Uncommitted, Closed, ClosedCut}
 use Rattle.tap_top.specs.Pieces.{PieceAnswered, PieceCut, PieceOutOfMemory}
-use Rattle.tap_top.specs.Statuses.{Whole, ReadCut, TookMany, TooLong, OutOfMemory, CutAt, PutCut, KeeperCut, HoldsScript}
+use Rattle.tap_top.specs.Statuses.{Whole, ReadCut, TookMany, TooLong, OutOfMemory, CutAt, PutCut, KeeperCut}
 use Rattle.tap_top.proofs.Stories.{Answered-then, Answered-less, CutOff-then, Uncommitted-then}
 use Rattle.tap_top.proofs.Steps.{PieceAnswered-start, PieceAnswered-then, CutAfter, joined, ends-cut, sides, take-drop}
 
@@ -296,14 +295,5 @@ few-taken taken n le within = omega arith
 pub none-taken : (a b : Option (List ℕ)) (n : ℕ) (piece : List ℕ) → n ≡ 0 → Consumes a b (take n piece) → Consumes a b []
 none-taken a b n piece e took = subst (λ k. Consumes a b (take k piece)) e took
 
-pub Rose-later : (a b c : ℕ) → a ≤ b → Rose b c → Rose a c
-Rose-later a b c le rose = grind arith
-
--- a script that is not too long gives no status 8
-pub not-many : (left left' : Option (List ℕ)) → HoldsScript left → TookMany left left' → ⊥
-not-many None left' holds long = holds
-not-many (Some bytes) None holds long = long.taken
-not-many (Some bytes) (Some rest) holds long = let l = length-append long.bytes rest in let e = ap length long.taken in let m = long.many in absurd (omega arith)
-
 pub OutOfMemory-same : (t : Tables) (left new out out1 out2 : Option (List ℕ)) (Ends : Tables → Type 0) → out2 ≡ out1 → OutOfMemory t left new out out1 Ends → OutOfMemory t left new out out2 Ends
-OutOfMemory-same t left new out out1 out2 Ends same starved = subst (λ o. OutOfMemory t left new out o Ends) (sym same) starved
+OutOfMemory-same t left new out out1 out2 Ends same run = subst (λ o. OutOfMemory t left new out o Ends) (sym same) run

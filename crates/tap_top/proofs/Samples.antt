@@ -28,7 +28,7 @@ use Rattle.tap_top.specs.Statuses.{IsFront}
 use Rattle.sample_gen.specs.Samples.{sample_of}
 use Rattle.sample_gen.specs.Summaries.{summary_lines}
 use Rattle.sample_gen.specs.declared.summary.Summary.{Summary}
-use Rattle.tap_top.specs.Samples.{refusals_in, hits_in, total, summary_of, Performed, NoneStarved, Counted, Adds, LastStarved, FirstPerformed, NextUncommitted, FrontPut, Sampled, SampledCut}
+use Rattle.tap_top.specs.Samples.{refusals_in, hits_in, total, summary_of, Performed, NeverOutOfMemory, Counted, Adds, LastOutOfMemory, FirstPerformed, NextUncommitted, FrontPut, Sampled, SampledCut}
 use Rattle.tap_top.proofs.Stories.{Story-then, Story-sound, first-sound}
 
 total-append : (count : Reply → ℕ) (xs ys : List Reply) → total count (xs ++ ys) ≡ total count xs + total count ys
@@ -39,7 +39,7 @@ total-append count (x ∷ xs) ys = ap (λ n. count x + n) (total-append count xs
   sum : (a b c : ℕ) → a + (b + c) ≡ a + b + c
   sum a b c = omega arith
 
-each-append : (xs ys : List Reply) → NoneStarved xs → NoneStarved ys → NoneStarved (xs ++ ys)
+each-append : (xs ys : List Reply) → NeverOutOfMemory xs → NeverOutOfMemory ys → NeverOutOfMemory (xs ++ ys)
 each-append [] ys none more = more
 each-append (x ∷ xs) ys none more = (none.0, each-append xs ys none.1 more)
 
@@ -97,31 +97,21 @@ Performed-with t s xs Ends Less s1 one less = record { replies = one.replies; ta
 -- a command for which there may have been no memory
 pub FirstPerformed-one : (t : Tables) (s : Session) (c : Command) (r : Reply) (Ends : Tables → Type 0) (t' : Tables) (s' : Session) → IsSound t s → Step t s c r t' s' → Ends t' → FirstPerformed t s (c ∷ []) Ends
 FirstPerformed-one t s c r Ends t' s' sound step ends =
-    let last : LastStarved (r ∷ []) = record { most = []; last = r ∷ []; split = refl; none = tt; few = omega arith } in record {
+    let last : LastOutOfMemory (r ∷ []) = record { most = []; last = r ∷ []; split = refl; none = tt; few = omega arith } in record {
       done = c ∷ [];
       first = record { rest = []; is = refl };
       session' = s';
-      performed = Performed-one t s c r (λ replies x. LastStarved replies × Ends x) t' s' sound step (last, ends);
+      performed = Performed-one t s c r (λ replies x. LastOutOfMemory replies × Ends x) t' s' sound step (last, ends);
     }
 
 -- nothing was performed
 pub FirstPerformed-none : (t : Tables) (s : Session) (commands : List Command) (Ends : Tables → Type 0) → IsSound t s → Ends t → FirstPerformed t s commands Ends
 FirstPerformed-none t s commands Ends sound ends =
-    let last : LastStarved [] = record { most = []; last = []; split = refl; none = tt; few = omega arith } in record {
+    let last : LastOutOfMemory [] = record { most = []; last = []; split = refl; none = tt; few = omega arith } in record {
       done = [];
       first = record { rest = commands; is = refl };
       session' = s;
-      performed = Performed-none t s (λ replies x. LastStarved replies × Ends x) sound (last, ends);
-    }
-
--- all commands were performed
-pub FirstPerformed-all : (t : Tables) (s : Session) (commands : List Command) (Ends Less : Tables → Type 0) (tally : Tally) (s' : Session) → ((x : Tables) → Ends x → Less x) → Performed t s commands (λ replies x. Ends x × Counted tally replies) s' → FirstPerformed t s commands Less
-FirstPerformed-all t s commands Ends Less tally s' less one =
-    let last : LastStarved one.replies = record { most = one.replies; last = []; split = sym (append-nil one.replies); none = one.ends.1.none; few = omega arith } in record {
-      done = commands;
-      first = record { rest = []; is = sym (append-nil commands) };
-      session' = s';
-      performed = Performed-with t s commands (λ replies x. Ends x × Counted tally replies) (λ replies x. LastStarved replies × Less x) s' one (last, less one.tables' one.ends.0);
+      performed = Performed-none t s (λ replies x. LastOutOfMemory replies × Ends x) sound (last, ends);
     }
 
 -- the commit of a command failed
@@ -132,7 +122,7 @@ NextUncommitted-one t s c leaves sound accepted either =
       next = c;
       first = record { rest = []; is = refl };
       session' = s;
-      performed = Performed-none t s (λ replies x. NoneStarved replies × MayHaveCommitted leaves c s x) sound (tt, may);
+      performed = Performed-none t s (λ replies x. NeverOutOfMemory replies × MayHaveCommitted leaves c s x) sound (tt, may);
     }
 
 -- a loop over commands: those that were performed, and those that are left
@@ -168,11 +158,11 @@ Performing-short all left c rest t s Mid tally s1 Ends before next one =
     let q = one p.tables' p.ends.0 in
     let r = q.performed in
     let l = r.ends.0 in
-    let last : LastStarved (p.replies ++ r.replies) = record { most = p.replies ++ l.most; last = l.last; split = ap (λ xs. p.replies ++ xs) l.split ∙ sym (append_assoc p.replies l.most l.last); none = each-append p.replies l.most p.ends.1.none l.none; few = l.few } in record {
+    let last : LastOutOfMemory (p.replies ++ r.replies) = record { most = p.replies ++ l.most; last = l.last; split = ap (λ xs. p.replies ++ xs) l.split ∙ sym (append_assoc p.replies l.most l.last); none = each-append p.replies l.most p.ends.1.none l.none; few = l.few } in record {
       done = before.done ++ q.done;
       first = longer-front all left before.done (c ∷ []) rest before.split next q.done q.first;
       session' = q.session';
-      performed = Performed-then t s before.done (λ replies x. Mid x × Counted tally replies) s1 q.done (λ replies x. LastStarved replies × Ends x) (λ replies x. LastStarved replies × Ends x) q.session' p r (last, r.ends.1);
+      performed = Performed-then t s before.done (λ replies x. Mid x × Counted tally replies) s1 q.done (λ replies x. LastOutOfMemory replies × Ends x) (λ replies x. LastOutOfMemory replies × Ends x) q.session' p r (last, r.ends.1);
     }
 
 -- the commit of the next command failed
@@ -185,7 +175,7 @@ Performing-uncommitted all left c rest t s Mid tally s1 leaves before next one =
       next = q.next;
       first = subst (λ cs. IsFront cs all) (sym (append_assoc before.done q.done (q.next ∷ []))) (longer-front all left before.done (c ∷ []) rest before.split next (q.done ++ q.next ∷ []) q.first);
       session' = q.session';
-      performed = Performed-then t s before.done (λ replies x. Mid x × Counted tally replies) s1 q.done (λ replies x. NoneStarved replies × MayHaveCommitted leaves q.next q.session' x) (λ replies x. NoneStarved replies × MayHaveCommitted leaves q.next q.session' x) q.session' p r (each-append p.replies r.replies p.ends.1.none r.ends.0, r.ends.1);
+      performed = Performed-then t s before.done (λ replies x. Mid x × Counted tally replies) s1 q.done (λ replies x. NeverOutOfMemory replies × MayHaveCommitted leaves q.next q.session' x) (λ replies x. NeverOutOfMemory replies × MayHaveCommitted leaves q.next q.session' x) q.session' p r (each-append p.replies r.replies p.ends.1.none r.ends.0, r.ends.1);
     }
 
 pub none-left : (xs : List Command) → length xs ≡ 0 → xs ≡ []
@@ -208,8 +198,8 @@ summed : (t : Tables) (n : ℕ) (cs : List Command) (engine : Engine) (tells lea
 summed t n cs engine tells leaves tally s' summary count long all one is =
     Summary-of summary n count tally.refused (length engine.index.docs) (length engine.index.notes) tally.delivered one.replies one.tables' is (long ∙ ap length all) one.ends.1.refused (ap (λ rows. length rows.docs) one.ends.0.represents.rows) (ap (λ rows. length rows.notes) one.ends.0.represents.rows) one.ends.1.delivered
 
-ended : (t : Tables) (n : ℕ) (engine : Engine) (tells leaves : Tables → Type 0) (tally : Tally) (s' : Session) → AllPerformed t no_session (sample_of n) engine tells leaves tally s' → Performed t no_session (sample_of n) (λ replies x. NoneStarved replies × IsDurable tells leaves x) s'
-ended t n engine tells leaves tally s' one = Performed-with t no_session (sample_of n) (λ replies x. EngineMatchesKeeper engine tells leaves x × Counted tally replies) (λ replies x. NoneStarved replies × IsDurable tells leaves x) s' one (one.ends.1.none, one.ends.0.holds)
+ended : (t : Tables) (n : ℕ) (engine : Engine) (tells leaves : Tables → Type 0) (tally : Tally) (s' : Session) → AllPerformed t no_session (sample_of n) engine tells leaves tally s' → Performed t no_session (sample_of n) (λ replies x. NeverOutOfMemory replies × IsDurable tells leaves x) s'
+ended t n engine tells leaves tally s' one = Performed-with t no_session (sample_of n) (λ replies x. EngineMatchesKeeper engine tells leaves x × Counted tally replies) (λ replies x. NeverOutOfMemory replies × IsDurable tells leaves x) s' one (one.ends.1.none, one.ends.0.holds)
 
 pub Sampled-put : (t : Tables) (n : ℕ) (s : Session) (cs : List Command) (engine : Engine) (tells leaves : Tables → Type 0) (tally : Tally) (s' : Session) (summary : Summary) (count : ℕ) (out out' : Option (List ℕ)) (ok : Bool) → count ≡ length cs → s ≡ no_session → cs ≡ sample_of n → AllPerformed t s cs engine tells leaves tally s' → summary ≡ record { messages = n; commands = count; refused = tally.refused; documents = length engine.index.docs; notes = length engine.index.notes; delivered = tally.delivered } → Appends out out' (summary_lines summary) → ok ≡ (summary.refused == 0) → Sampled t n out out' (IsDurable tells leaves) ok
 unfolding ended at-start Performed-with

@@ -84,9 +84,6 @@ Feeding-more piece left left' n old now new t s out mid Mid s1 ok out2 Ends s2 o
   answered_piece = PieceAnswered-then before.fed (take n left) old now new t s out mid Mid s1 ok out2 Ends s2 ok2 before.answered_piece (one before.answered_piece.answered.tables' before.answered_piece.answered.ends);
 }
 
-pub Feeding-end : (piece left : List ℕ) (old now : Reading) (t : Tables) (s : Session) (out mid : Option (List ℕ)) (Ends : Tables → Type 0) (s1 : Session) (ok : Bool) → Feeding piece left old now t s out mid Ends s1 ok → left ≡ [] → PieceAnswered piece old now t s out mid Ends s1 ok
-Feeding-end piece left old now t s out mid Ends s1 ok before none = subst (λ xs. PieceAnswered xs old now t s out mid Ends s1 ok) (sym (before.split ∙ ap (λ xs. before.fed ++ xs) none ∙ append-nil before.fed)) before.answered_piece
-
 -- a reply is cut off
 pub Feeding-cut : (piece left : List ℕ) (old now : Reading) (t : Tables) (s : Session) (out mid : Option (List ℕ)) (Mid : Tables → Type 0) (s1 : Session) (ok : Bool) (out2 : Option (List ℕ)) (Ends : Tables → Type 0) → Feeding piece left old now t s out mid Mid s1 ok → ((t1 : Tables) → Mid t1 → PieceCut left now (λ done last. CutOff t1 s1 done last mid out2 Ends)) → PieceCut piece old (λ done last. CutOff t s done last out out2 Ends)
 Feeding-cut piece left old now t s out mid Mid s1 ok out2 Ends before cut =

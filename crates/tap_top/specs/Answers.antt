@@ -13,7 +13,8 @@ use Rattle.tap_model.specs.Stories.{Story}
 use Rattle.tap_top.specs.Points.{SoundAlong}
 
 -- the commands were answered as in a story, their replies were taken, and this holds of the tables at its end
-pub record Answered (tables : Tables) (session : Session) (commands : List Command) (out out' : Option (List ℕ)) (Ends : Tables → Type 0) (session' : Session) (all_ok : Bool) : Type 0 where
+pub record Answered (tables : Tables) (session : Session) (commands : List Command)
+    (out out' : Option (List ℕ)) (Ends : Tables → Type 0) (session' : Session) (all_ok : Bool) : Type 0 where
   pub replies : List Reply
   pub tables' : Tables
   pub story : Story tables session commands replies tables' session'
@@ -24,7 +25,8 @@ pub record Answered (tables : Tables) (session : Session) (commands : List Comma
 
 -- the commands and one more were answered as in a story, and this holds of the tables at its end; their replies were taken,
 -- and of its own the first n bytes
-pub record CutOff (tables : Tables) (session : Session) (done : List Command) (last : Command) (out out' : Option (List ℕ)) (Ends : Tables → Type 0) : Type 0 where
+pub record CutOff (tables : Tables) (session : Session) (done : List Command) (last : Command)
+    (out out' : Option (List ℕ)) (Ends : Tables → Type 0) : Type 0 where
   pub replies : List Reply
   pub reply : Reply
   pub tables' : Tables
@@ -42,19 +44,21 @@ pub record MayHaveCommitted (leaves : Tables → Type 0) (next : Command) (sessi
   pub either : (x : Tables) → leaves x → (x ≡ tables) ⊎ (x ≡ tables_after (answer_of next session tables).change tables)
 
 -- the commands were answered and their replies were taken; the commit of the next one failed
-pub record Uncommitted (tables : Tables) (session : Session) (done : List Command) (next : Command) (out out' : Option (List ℕ)) (leaves : Tables → Type 0) : Type 0 where
+pub record Uncommitted (tables : Tables) (session : Session) (done : List Command) (next : Command)
+    (out out' : Option (List ℕ)) (leaves : Tables → Type 0) : Type 0 where
   pub session' : Session
   pub all_ok : Bool
   pub answered : Answered tables session done out out' (MayHaveCommitted leaves next session') session' all_ok
 
 -- the last commands were answered; whether all replies begin `ok`, those before them too
-pub record Closed (tables : Tables) (session : Session) (commands : List Command) (out out' : Option (List ℕ)) (Ends : Tables → Type 0) (before all_ok : Bool) : Type 0 where
+pub record Closed (tables : Tables) (session : Session) (commands : List Command)
+    (out out' : Option (List ℕ)) (Ends : Tables → Type 0) (before all_ok : Bool) : Type 0 where
   pub session' : Session
   pub ok : Bool
   pub answered : Answered tables session commands out out' Ends session' ok
   pub all_is : all_ok ≡ (before && ok)
 
--- there was one command more, and it was cut off so
+-- there was one command more, and it was cut off as Cut says
 pub record ClosedCut (commands : List Command) (Cut : List Command → Command → Type 0) : Type 0 where
   pub last : Command
   pub only : commands ≡ last ∷ []

@@ -1,5 +1,5 @@
 -- What a crash leaves: the tables after some first commands.
-use Rattle.std.specs.Prelude.{ℕ, ℤ, pos, ◌≡◌, ◌≤◌, ◌-◌, ◌⊎◌, List, ◌++◌, length, take, Option}
+use Rattle.std.specs.Prelude.{ℕ, ℤ, ◌≡◌, ◌≤◌, ◌-◌, List, ◌++◌, length, take, Option}
 use Rattle.std.specs.List.{flat_map}
 use Rattle.std.specs.Io.KnownBytes.{Consumes, Appends}
 use Rattle.tap_rows.specs.declared.tables.Tables.{Tables}
@@ -10,6 +10,7 @@ use Rattle.tap_model.specs.declared.session.Session.{Session}
 use Rattle.tap_model.specs.Sessions.{no_session}
 use Rattle.tap_model.specs.Stories.{Story}
 use Rattle.tap_top.specs.declared.top.TheConstants.{SCRIPT_LIMIT}
+use Rattle.tap_top.specs.Premises.{IfKnown}
 use Rattle.tap_top.specs.Statuses.{AreFirst}
 
 -- x is the tables after the first k of these commands with these replies, for a k that is at least n
@@ -34,7 +35,8 @@ pub record AreWrittenReplies (replies : List Reply) (bytes : List ℕ) : Type 0 
 -- a crash leaves the tables after some first commands of the script, with all those among them whose replies lie whole in
 -- what was written; over a store of a known version nothing else was written than these replies, of which the last may be
 -- cut off or left out
-pub record LeavesPrefix (tables : Tables) (left left' out out' : Option (List ℕ)) (versions : ℤ → Type 0) (leaves : Tables → Type 0) : Type 0 where
+pub record LeavesPrefix (tables : Tables) (left left' out out' : Option (List ℕ))
+    (versions : ℤ → Type 0) (leaves : Tables → Type 0) : Type 0 where
   pub bytes : List ℕ
   pub taken : Consumes left left' bytes
   pub commands : List Command
@@ -45,5 +47,5 @@ pub record LeavesPrefix (tables : Tables) (left left' out out' : Option (List �
   pub story : Story tables no_session commands replies tables' session'
   pub written : List ℕ
   pub put : Appends out out' written
-  pub said : (v : ℤ) → versions v → (v ≡ pos 1) ⊎ (v ≡ pos 2) → AreWrittenReplies replies written
+  pub said : IfKnown versions (AreWrittenReplies replies written)
   pub each : (n : ℕ) → n ≤ length replies → AreFullyWritten n replies written → (x : Tables) → leaves x → IsPrefix tables commands replies n x

@@ -1,4 +1,5 @@
 pub mod Points
+pub mod Premises
 pub mod Answers
 pub mod Pieces
 pub mod Statuses
@@ -6,3 +7,4 @@ pub mod Refusals
 pub mod Opened
 pub mod Crashes
 pub mod Samples
+pub mod Ends

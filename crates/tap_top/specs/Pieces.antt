@@ -7,7 +7,8 @@ use Rattle.tap_model.specs.declared.session.Session.{Session}
 use Rattle.tap_top.specs.Answers.{Answered}
 
 -- a reader took bytes, the commands that they completed were answered, and their replies were taken
-pub record PieceAnswered (bytes : List ℕ) (old new : Reading) (tables : Tables) (session : Session) (out out' : Option (List ℕ)) (Ends : Tables → Type 0) (session' : Session) (all_ok : Bool) : Type 0 where
+pub record PieceAnswered (bytes : List ℕ) (old new : Reading) (tables : Tables) (session : Session)
+    (out out' : Option (List ℕ)) (Ends : Tables → Type 0) (session' : Session) (all_ok : Bool) : Type 0 where
   pub commands : List Command
   pub all : (rest : List ℕ) → script_from old (bytes ++ rest) ≡ commands ++ script_from new rest
   pub ended : (rest : List ℕ) → complete_from old (bytes ++ rest) ≡ commands ++ complete_from new rest
@@ -28,8 +29,9 @@ pub record PieceCut (bytes : List ℕ) (old : Reading) (Cut : List Command → C
   pub open_end : complete_from new [] ≡ []
   pub cut : Cut done last
 
--- a reader took a front of the bytes, and found no memory for the rest
-pub record PieceOutOfMemory (bytes : List ℕ) (old : Reading) (tables : Tables) (session : Session) (out out' : Option (List ℕ)) (Ends : Tables → Type 0) : Type 0 where
+-- a reader took a front of the bytes, and was out of memory for the rest
+pub record PieceOutOfMemory (bytes : List ℕ) (old : Reading) (tables : Tables) (session : Session)
+    (out out' : Option (List ℕ)) (Ends : Tables → Type 0) : Type 0 where
   pub fed : List ℕ
   pub more : List ℕ
   pub split : bytes ≡ fed ++ more

@@ -1,4 +1,4 @@
--- What holds at each point of a story, and of what is kept there.
+-- What holds at each point of a story, of the engine and of the keeper.
 use Rattle.std.specs.Prelude.{ℕ, ◌≡◌, ◌≤◌, List, [], ◌∷◌, Bool, true, false}
 use Rattle.keeper_core.specs.Keeping.{IsDurable}
 use Rattle.tap_rows.specs.declared.tables.Tables.{Tables}
@@ -12,9 +12,11 @@ use Rattle.tap_engine.specs.Standing.{Represents}
 use Rattle.tap_engine.specs.Ready.{IsReady}
 
 -- the tables and the session are sound at each point of a story: before each command, and at the end
-abbrev pub SoundAlong : (tables : Tables) (session : Session) (commands : List Command) (replies : List Reply) (tables' : Tables) (session' : Session) → Story tables session commands replies tables' session' → Type 0
+abbrev pub SoundAlong : (tables : Tables) (session : Session) (commands : List Command) (replies : List Reply) (tables' : Tables) (session' : Session)
+    → Story tables session commands replies tables' session' → Type 0
 SoundAlong tables session [] [] tables' session' story = IsSound tables' session'
-SoundAlong tables session (command ∷ commands) (reply ∷ replies) tables' session' story = IsSound tables session × SoundAlong story.0 story.1 commands replies tables' session' story.3
+SoundAlong tables session (command ∷ commands) (reply ∷ replies) tables' session' story =
+    IsSound tables session × SoundAlong story.0 story.1 commands replies tables' session' story.3
 SoundAlong tables session [] (reply ∷ replies) tables' session' story = ⊥
 SoundAlong tables session (command ∷ commands) [] tables' session' story = ⊥
 
@@ -25,14 +27,13 @@ pub record CanPerform (engine : Engine) (attached stopped : Bool) : Type 0 where
   pub reachable : attached ≡ true
   pub keeping : stopped ≡ false
 
--- the engine stands for these tables, which are sound in its session; the keeper tells them, and a crash leaves these alone
+-- the engine represents these tables, which are sound in its session; the keeper tells them, and a crash leaves these alone
 pub record EngineMatchesKeeper (engine : Engine) (tells leaves : Tables → Type 0) (tables : Tables) : Type 0 where
   pub represents : Represents engine tables
   pub sound : IsSound tables engine.session
   pub holds : IsDurable tells leaves tables
 
--- what a call leaves of a keeper, whatever it answers: its place, a count of faults that doesn't fall, and that it was honest
--- before where it is so now
+-- what no call changes of a keeper: its place; its count of faults doesn't fall; and if it is honest after, it was before
 pub record KeeperFrame (place place' : List ℕ) (faults faults' : ℕ) (honest honest' : Type 0) : Type 0 where
   pub same : place' ≡ place
   pub later : faults ≤ faults'

@@ -17,6 +17,7 @@ use Rattle.tap_kept.specs.Starting.{first_unread}
 use Rattle.tap_top.specs.declared.store_fault.StoreFault.{StoreFault}
 use Rattle.tap_top.specs.declared.store_fault.StoreFault.TheVariants.{Version, Damaged}
 
+-- the word of a table in the line of a refused store
 abbrev pub table_word : TableName → List ℕ
 table_word Docs = codes "docs"
 table_word Notes = codes "notes"
@@ -25,6 +26,7 @@ table_word Runs = codes "runs"
 table_word Picks = codes "picks"
 table_word Filters = codes "filters"
 
+-- the word of a reason in that line
 abbrev pub why_word : Why → List ℕ
 why_word Number = codes "number"
 why_word Moment = codes "moment"
@@ -67,7 +69,8 @@ pub record CutLine (status : ℕ) (text : List ℕ) (out out' : Option (List ℕ
 
 -- a store with this fault was refused, or not looked at: of its line the first n bytes were put, all of them with status 6;
 -- nothing was read, its tables are as before, and a crash leaves these alone
-pub record Refused (status : ℕ) (fault : StoreFault) (left left' out out' : Option (List ℕ)) (tells leaves : Tables → Type 0) (tables : Tables) : Type 0 where
+pub record Refused (status : ℕ) (fault : StoreFault) (left left' out out' : Option (List ℕ))
+    (tells leaves : Tables → Type 0) (tables : Tables) : Type 0 where
   pub statuses : status ≡ 2 ⊎ (status ≡ 4 ⊎ (status ≡ 5 ⊎ (status ≡ 6 ⊎ status ≡ 7)))
   pub unread : left' ≡ left
   pub line : CutLine status (stop_line fault) out out'

@@ -43,36 +43,36 @@ pub record Performed (tables : Tables) (session : Session) (commands : List Comm
   pub sound : SoundAlong tables session commands replies tables' session' story
   pub ends : Ends replies tables'
 
--- no reply says that there was no memory
-abbrev pub NoneStarved : List Reply → Type 0
-NoneStarved replies = Each (λ reply. reply ≢ No Memory) replies
+-- no reply says that a command was out of memory
+abbrev pub NeverOutOfMemory : List Reply → Type 0
+NeverOutOfMemory replies = Each (λ reply. reply ≢ No Memory) replies
 
--- what replies came to, none of which says that there was no memory
+-- the counts of replies, none of which says that a command was out of memory
 pub record Counted (tally : Tally) (replies : List Reply) : Type 0 where
   pub refused : tally.refused ≡ total refusals_in replies
   pub delivered : tally.delivered ≡ total hits_in replies
-  pub none : NoneStarved replies
+  pub none : NeverOutOfMemory replies
 
--- what they came to, with what was counted before them
+-- the counts of replies, added to those before; none of the replies says that a command was out of memory
 pub record Adds (before after : Tally) (replies : List Reply) : Type 0 where
   pub refused : after.refused ≡ before.refused + total refusals_in replies
   pub delivered : after.delivered ≡ before.delivered + total hits_in replies
-  pub none : NoneStarved replies
+  pub none : NeverOutOfMemory replies
 
--- none but the last reply says that there was no memory
-pub record LastStarved (replies : List Reply) : Type 0 where
+-- no reply but the last says that a command was out of memory
+pub record LastOutOfMemory (replies : List Reply) : Type 0 where
   pub most : List Reply
   pub last : List Reply
   pub split : replies ≡ most ++ last
-  pub none : NoneStarved most
+  pub none : NeverOutOfMemory most
   pub few : length last ≤ 1
 
--- some first commands were performed, until there was no memory
+-- some first commands were performed, until one was out of memory
 pub record FirstPerformed (tables : Tables) (session : Session) (commands : List Command) (Ends : Tables → Type 0) : Type 0 where
   pub done : List Command
   pub first : IsFront done commands
   pub session' : Session
-  pub performed : Performed tables session done (λ replies tables'. LastStarved replies × Ends tables') session'
+  pub performed : Performed tables session done (λ replies tables'. LastOutOfMemory replies × Ends tables') session'
 
 -- some first commands were performed, and the commit of the next one failed
 pub record NextUncommitted (tables : Tables) (session : Session) (commands : List Command) (leaves : Tables → Type 0) : Type 0 where
@@ -80,7 +80,7 @@ pub record NextUncommitted (tables : Tables) (session : Session) (commands : Lis
   pub next : Command
   pub first : IsFront (done ++ next ∷ []) commands
   pub session' : Session
-  pub performed : Performed tables session done (λ replies tables'. NoneStarved replies × MayHaveCommitted leaves next session' tables') session'
+  pub performed : Performed tables session done (λ replies tables'. NeverOutOfMemory replies × MayHaveCommitted leaves next session' tables') session'
 
 -- the summary of a sample with n messages: of these replies, and of the tables at the end
 abbrev pub summary_of : ℕ → List Reply → Tables → Summary
@@ -93,10 +93,10 @@ summary_of n replies tables = record {
   delivered = total hits_in replies;
 }
 
--- statuses 0 and 1: all commands of the sample were performed, none without memory, and the lines of its summary were put
+-- statuses 0 and 1: all commands of the sample were performed, none was out of memory, and the lines of its summary were put
 pub record Sampled (tables : Tables) (n : ℕ) (out out' : Option (List ℕ)) (Ends : Tables → Type 0) (all_ok : Bool) : Type 0 where
   pub session' : Session
-  pub performed : Performed tables no_session (sample_of n) (λ replies tables'. NoneStarved replies × Ends tables') session'
+  pub performed : Performed tables no_session (sample_of n) (λ replies tables'. NeverOutOfMemory replies × Ends tables') session'
   pub written : Appends out out' (summary_lines (summary_of n performed.replies performed.tables'))
   pub ok : all_ok ≡ list_all is_accepted performed.replies
 
@@ -105,10 +105,11 @@ pub record FrontPut (text : List ℕ) (out out' : Option (List ℕ)) : Type 0 wh
   pub k : ℕ
   pub written : Appends out out' (take k text)
 
--- status 4: the same, and the first bytes of these lines were put
+-- status 4: all commands of the sample were performed, none was out of memory, and of the lines of its summary the first
+-- bytes were put
 pub record SampledCut (tables : Tables) (n : ℕ) (out out' : Option (List ℕ)) (Ends : Tables → Type 0) : Type 0 where
   pub session' : Session
-  pub performed : Performed tables no_session (sample_of n) (λ replies tables'. NoneStarved replies × Ends tables') session'
+  pub performed : Performed tables no_session (sample_of n) (λ replies tables'. NeverOutOfMemory replies × Ends tables') session'
   pub cut : FrontPut (summary_lines (summary_of n performed.replies performed.tables')) out out'
 
 -- a crash leaves the tables after some first commands
@@ -121,6 +122,6 @@ pub record LeavesFirst (tables : Tables) (commands : List Command) (leaves : Tab
   pub story : Story tables no_session done replies tables' session'
   pub each : (x : Tables) → leaves x → IsPrefix tables done replies 0 x
 
--- and here these tables alone
+-- a crash leaves these tables alone
 abbrev pub LeavesOnly : Tables → (Tables → Type 0) → Type 0
 LeavesOnly tables leaves = (x : Tables) → leaves x → x ≡ tables

@@ -9,12 +9,12 @@ use Rattle.tap_model.specs.Sessions.{no_session}
 use Rattle.tap_top.specs.declared.top.TheConstants.{SCRIPT_LIMIT, PIECE}
 use Rattle.tap_top.specs.Answers.{Answered, CutOff, Uncommitted}
 
--- these are the first of those
+-- the front is the first of the commands
 pub record IsFront (front commands : List Command) : Type 0 where
   pub rest : List Command
   pub is : commands ≡ front ++ rest
 
--- the first commands of the whole script, of its complete ones where something is left in the source
+-- the first commands of the complete ones; or, if nothing is left in the source, of the whole script
 abbrev pub AreFirst : List Command → List ℕ → Option (List ℕ) → Type 0
 AreFirst commands bytes left = IsFront commands (complete bytes) ⊎ (IsAtEnd left × IsFront commands (script bytes))
 
@@ -78,7 +78,7 @@ pub record Unattached (tables : Tables) (left left' out out' : Option (List ℕ)
   pub unwritten : out' ≡ out
   pub alone : (x : Tables) → leaves x → x ≡ tables
 
--- status 7: some first commands were answered
+-- status 7, out of memory: some first commands were answered
 pub record OutOfMemory (tables : Tables) (left left' out out' : Option (List ℕ)) (Ends : Tables → Type 0) : Type 0 where
   pub bytes : List ℕ
   pub taken : Consumes left left' bytes
@@ -103,7 +103,7 @@ pub record TooLong (tables : Tables) (left left' out out' : Option (List ℕ)) (
   pub all_ok : Bool
   pub answered : Answered tables no_session (complete (take SCRIPT_LIMIT long.bytes)) out out' Ends session all_ok
 
--- the source tells its bytes, and a script may have so many
+-- the source tells its bytes, and they are no more than a script may have
 abbrev pub HoldsScript : Option (List ℕ) → Type 0
 HoldsScript None = ⊥
 HoldsScript (Some bytes) = length bytes ≤ SCRIPT_LIMIT

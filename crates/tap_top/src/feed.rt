@@ -1,10 +1,11 @@
+//! Commands one by one: each is performed when its last line is read, and its reply is put before the next one.
 ghost use Rattle.std.specs.Prelude.{◌≡◌, ◌≤◌, ◌<◌, ◌↔◌, [], ◌∷◌, Some, None, true, length, take, drop, OnOk, IfOk, IsErrOf};
 ghost use Rattle.keeper_core.specs.Keeping.{IsDurable};
 ghost use Rattle.tap_base.specs.Counts.{Rose};
-ghost use Rattle.tap_rows.specs.declared.tables.Tables.{Tables};
 ghost use Rattle.script_lang.specs.Replies.{is_accepted};
 ghost use Rattle.script_lang.specs.Script.{script_from, complete_from};
 ghost use Rattle.tap_top.specs.Points.{CanPerform, EngineMatchesKeeper, KeeperFrame};
+ghost use Rattle.tap_top.specs.Premises.{FromEngine};
 ghost use Rattle.tap_top.specs.Answers.{Answered, CutOff, Uncommitted, ClosedCut};
 ghost use Rattle.tap_top.specs.Pieces.{PieceAnswered, PieceCut, PieceOutOfMemory};
 ghost use Rattle.tap_top.specs.declared.feed.Stop.{Stop};
@@ -17,15 +18,18 @@ use tap_base::Steps;
 use tap_edges::Sink;
 use tap_engine::{Engine, EngineFault};
 
-/// Why no more commands were performed.
+/// Why no more commands are performed.
 #[derive(Clone, Copy, Debug, PartialEq, Eq)]
 pub enum Stop {
+    /// A reply could not be put.
     Put,
+    /// The keeper failed.
     Keeper,
+    /// The reader is out of memory.
     Memory,
 }
 
-// Does the reply begin `ok`?
+// Returns whether the reply begins `ok`.
 fn is_ok(reply: &Reply) -> bool
     ensures { result ≡ is_accepted reply.now }
 {
@@ -35,7 +39,8 @@ fn is_ok(reply: &Reply) -> bool
     }
 }
 
-/// Performs a command and puts its reply; whether it begins `ok`.
+/// Performs a command and puts its reply; returns whether the reply begins `ok`. Fails if the keeper fails, and then nothing is
+/// put, or if the put fails.
 pub fn answer<K: Sink, P: Keeper, L: Ledger>(
     alloc: Global,
     engine: &mut Engine,
@@ -45,16 +50,24 @@ pub fn answer<K: Sink, P: Keeper, L: Ledger>(
     sink: &mut K,
 ) -> Result<bool, Stop>
     requires can { CanPerform engine.old (P.attached keeper.old) (P.stopped keeper.old) }
-    ensures ok { IfOk result (λ ok. (t : Tables) → P.honest keeper.new → EngineMatchesKeeper engine.old (P.tells keeper.old) (P.may_leave keeper.old) t → Answered t engine.old.session (command ∷ []) (K.out sink.old) (K.out sink.new) (EngineMatchesKeeper engine.new (P.tells keeper.new) (P.may_leave keeper.new)) engine.new.session ok) }
-    ensures put { IsErrOf result Stop.Put → (t : Tables) → P.honest keeper.new → EngineMatchesKeeper engine.old (P.tells keeper.old) (P.may_leave keeper.old) t → CutOff t engine.old.session [] command (K.out sink.old) (K.out sink.new) (IsDurable (P.tells keeper.new) (P.may_leave keeper.new)) }
-    ensures uncommitted { IsErrOf result Stop.Keeper → (t : Tables) → P.honest keeper.new → EngineMatchesKeeper engine.old (P.tells keeper.old) (P.may_leave keeper.old) t → Uncommitted t engine.old.session [] command (K.out sink.old) (K.out sink.new) (P.may_leave keeper.new) }
+    ensures ok { IfOk result (λ ok. FromEngine (P.honest keeper.new) engine.old (P.tells keeper.old) (P.may_leave keeper.old) (λ t.
+        Answered t engine.old.session (command ∷ []) (K.out sink.old) (K.out sink.new)
+        (EngineMatchesKeeper engine.new (P.tells keeper.new) (P.may_leave keeper.new)) engine.new.session ok)) }
+    ensures put { IsErrOf result Stop.Put →
+        FromEngine (P.honest keeper.new) engine.old (P.tells keeper.old) (P.may_leave keeper.old) (λ t.
+        CutOff t engine.old.session [] command (K.out sink.old) (K.out sink.new)
+        (IsDurable (P.tells keeper.new) (P.may_leave keeper.new))) }
+    ensures uncommitted { IsErrOf result Stop.Keeper →
+        FromEngine (P.honest keeper.new) engine.old (P.tells keeper.old) (P.may_leave keeper.old) (λ t.
+        Uncommitted t engine.old.session [] command (K.out sink.old) (K.out sink.new) (P.may_leave keeper.new)) }
     ensures able { IsErrOf result Stop.Memory → ⊥ }
     ensures can { OnOk result (CanPerform engine.new (P.attached keeper.new) (P.stopped keeper.new)) }
     ensures stopped { (P.stopped keeper.new ≡ true) ↔ IsErrOf result Stop.Keeper }
     ensures cause { IsErrOf result Stop.Put → Rose (K.faults sink.old) (K.faults sink.new) }
     ensures kept_cause { IsErrOf result Stop.Keeper → Rose (P.faults keeper.old) (P.faults keeper.new) }
     ensures later { K.faults sink.old ≤ K.faults sink.new }
-    ensures keeper { KeeperFrame (P.place keeper.old) (P.place keeper.new) (P.faults keeper.old) (P.faults keeper.new) (P.honest keeper.old) (P.honest keeper.new) }
+    ensures frame { KeeperFrame (P.place keeper.old) (P.place keeper.new) (P.faults keeper.old) (P.faults keeper.new)
+        (P.honest keeper.old) (P.honest keeper.new) }
 {
     let reply = match engine.perform(alloc, keeper, command, steps) {
         Ok(reply) => reply,
@@ -66,7 +79,7 @@ pub fn answer<K: Sink, P: Keeper, L: Ledger>(
     }
 }
 
-// What follows the first `n` bytes.
+// Returns the bytes after the first `n`.
 fn rest_from(bytes: &[u8], n: usize) -> &[u8]
     requires { n ≤ length bytes.now }
     ensures { result.now ≡ drop n bytes.now }
@@ -74,14 +87,14 @@ fn rest_from(bytes: &[u8], n: usize) -> &[u8]
     &bytes[n..]
 }
 
-/// How many bytes a step took, and whether the reply to the command that they completed begins `ok`.
+// How many bytes a line took, and whether the reply to the command that it completed begins `ok`.
 #[derive(Clone, Copy, Debug, PartialEq, Eq)]
 struct LineTaken {
     used: usize,
     ok: bool,
 }
 
-// Takes the next line, and performs the command that it completes.
+// Takes the next line of a piece, and performs the command that it completes.
 fn take_one<K: Sink, P: Keeper, L: Ledger>(
     alloc: Global,
     reader: &mut ScriptReader,
@@ -95,16 +108,25 @@ fn take_one<K: Sink, P: Keeper, L: Ledger>(
     requires can { CanPerform engine.old (P.attached keeper.old) (P.stopped keeper.old) }
     ensures within { IfOk result (λ step. (0 < step.used) × (step.used ≤ length piece.now)) }
     ensures open { OnOk result (complete_from reader.new [] ≡ []) }
-    ensures ok { IfOk result (λ step. (t : Tables) → P.honest keeper.new → EngineMatchesKeeper engine.old (P.tells keeper.old) (P.may_leave keeper.old) t → PieceAnswered (take step.used piece.now) reader.old reader.new t engine.old.session (K.out sink.old) (K.out sink.new) (EngineMatchesKeeper engine.new (P.tells keeper.new) (P.may_leave keeper.new)) engine.new.session step.ok) }
-    ensures put { IsErrOf result Stop.Put → (t : Tables) → P.honest keeper.new → EngineMatchesKeeper engine.old (P.tells keeper.old) (P.may_leave keeper.old) t → PieceCut piece.now reader.old (λ done last. CutOff t engine.old.session done last (K.out sink.old) (K.out sink.new) (IsDurable (P.tells keeper.new) (P.may_leave keeper.new))) }
-    ensures uncommitted { IsErrOf result Stop.Keeper → (t : Tables) → P.honest keeper.new → EngineMatchesKeeper engine.old (P.tells keeper.old) (P.may_leave keeper.old) t → PieceCut piece.now reader.old (λ done next. Uncommitted t engine.old.session done next (K.out sink.old) (K.out sink.new) (P.may_leave keeper.new)) }
+    ensures ok { IfOk result (λ step. FromEngine (P.honest keeper.new) engine.old (P.tells keeper.old) (P.may_leave keeper.old) (λ t.
+        PieceAnswered (take step.used piece.now) reader.old reader.new t engine.old.session (K.out sink.old) (K.out sink.new)
+        (EngineMatchesKeeper engine.new (P.tells keeper.new) (P.may_leave keeper.new)) engine.new.session step.ok)) }
+    ensures put { IsErrOf result Stop.Put →
+        FromEngine (P.honest keeper.new) engine.old (P.tells keeper.old) (P.may_leave keeper.old) (λ t.
+        PieceCut piece.now reader.old (λ done last. CutOff t engine.old.session done last (K.out sink.old) (K.out sink.new)
+        (IsDurable (P.tells keeper.new) (P.may_leave keeper.new)))) }
+    ensures uncommitted { IsErrOf result Stop.Keeper →
+        FromEngine (P.honest keeper.new) engine.old (P.tells keeper.old) (P.may_leave keeper.old) (λ t.
+        PieceCut piece.now reader.old (λ done next. Uncommitted t engine.old.session done next (K.out sink.old) (K.out sink.new)
+        (P.may_leave keeper.new))) }
     ensures memory { IsErrOf result Stop.Memory → (keeper.new ≡ keeper.old) × ((engine.new ≡ engine.old) × (K.out sink.new ≡ K.out sink.old)) }
     ensures can { OnOk result (CanPerform engine.new (P.attached keeper.new) (P.stopped keeper.new)) }
     ensures stopped { (P.stopped keeper.new ≡ true) ↔ IsErrOf result Stop.Keeper }
     ensures cause { IsErrOf result Stop.Put → Rose (K.faults sink.old) (K.faults sink.new) }
     ensures kept_cause { IsErrOf result Stop.Keeper → Rose (P.faults keeper.old) (P.faults keeper.new) }
     ensures later { K.faults sink.old ≤ K.faults sink.new }
-    ensures keeper { KeeperFrame (P.place keeper.old) (P.place keeper.new) (P.faults keeper.old) (P.faults keeper.new) (P.honest keeper.old) (P.honest keeper.new) }
+    ensures frame { KeeperFrame (P.place keeper.old) (P.place keeper.new) (P.faults keeper.old) (P.faults keeper.new)
+        (P.honest keeper.old) (P.honest keeper.new) }
 {
     let got = match reader.take(piece) {
         Ok(got) => got,
@@ -120,7 +142,8 @@ fn take_one<K: Sink, P: Keeper, L: Ledger>(
     }
 }
 
-/// Performs the commands that a piece completes, each reply before the next command; whether all begin `ok`.
+/// Performs the commands that a piece completes, and puts each reply before the next command; returns whether all replies
+/// begin `ok`.
 pub fn feed<K: Sink, P: Keeper, L: Ledger>(
     alloc: Global,
     reader: &mut ScriptReader,
@@ -133,16 +156,28 @@ pub fn feed<K: Sink, P: Keeper, L: Ledger>(
     requires open { complete_from reader.old [] ≡ [] }
     requires can { CanPerform engine.old (P.attached keeper.old) (P.stopped keeper.old) }
     ensures open { OnOk result (complete_from reader.new [] ≡ []) }
-    ensures ok { IfOk result (λ ok. (t : Tables) → P.honest keeper.new → EngineMatchesKeeper engine.old (P.tells keeper.old) (P.may_leave keeper.old) t → PieceAnswered piece.now reader.old reader.new t engine.old.session (K.out sink.old) (K.out sink.new) (EngineMatchesKeeper engine.new (P.tells keeper.new) (P.may_leave keeper.new)) engine.new.session ok) }
-    ensures put { IsErrOf result Stop.Put → (t : Tables) → P.honest keeper.new → EngineMatchesKeeper engine.old (P.tells keeper.old) (P.may_leave keeper.old) t → PieceCut piece.now reader.old (λ done last. CutOff t engine.old.session done last (K.out sink.old) (K.out sink.new) (IsDurable (P.tells keeper.new) (P.may_leave keeper.new))) }
-    ensures uncommitted { IsErrOf result Stop.Keeper → (t : Tables) → P.honest keeper.new → EngineMatchesKeeper engine.old (P.tells keeper.old) (P.may_leave keeper.old) t → PieceCut piece.now reader.old (λ done next. Uncommitted t engine.old.session done next (K.out sink.old) (K.out sink.new) (P.may_leave keeper.new)) }
-    ensures memory { IsErrOf result Stop.Memory → (t : Tables) → P.honest keeper.new → EngineMatchesKeeper engine.old (P.tells keeper.old) (P.may_leave keeper.old) t → PieceOutOfMemory piece.now reader.old t engine.old.session (K.out sink.old) (K.out sink.new) (IsDurable (P.tells keeper.new) (P.may_leave keeper.new)) }
+    ensures ok { IfOk result (λ ok. FromEngine (P.honest keeper.new) engine.old (P.tells keeper.old) (P.may_leave keeper.old) (λ t.
+        PieceAnswered piece.now reader.old reader.new t engine.old.session (K.out sink.old) (K.out sink.new)
+        (EngineMatchesKeeper engine.new (P.tells keeper.new) (P.may_leave keeper.new)) engine.new.session ok)) }
+    ensures put { IsErrOf result Stop.Put →
+        FromEngine (P.honest keeper.new) engine.old (P.tells keeper.old) (P.may_leave keeper.old) (λ t.
+        PieceCut piece.now reader.old (λ done last. CutOff t engine.old.session done last (K.out sink.old) (K.out sink.new)
+        (IsDurable (P.tells keeper.new) (P.may_leave keeper.new)))) }
+    ensures uncommitted { IsErrOf result Stop.Keeper →
+        FromEngine (P.honest keeper.new) engine.old (P.tells keeper.old) (P.may_leave keeper.old) (λ t.
+        PieceCut piece.now reader.old (λ done next. Uncommitted t engine.old.session done next (K.out sink.old) (K.out sink.new)
+        (P.may_leave keeper.new))) }
+    ensures memory { IsErrOf result Stop.Memory →
+        FromEngine (P.honest keeper.new) engine.old (P.tells keeper.old) (P.may_leave keeper.old) (λ t.
+        PieceOutOfMemory piece.now reader.old t engine.old.session (K.out sink.old) (K.out sink.new)
+        (IsDurable (P.tells keeper.new) (P.may_leave keeper.new))) }
     ensures can { OnOk result (CanPerform engine.new (P.attached keeper.new) (P.stopped keeper.new)) }
     ensures stopped { (P.stopped keeper.new ≡ true) ↔ IsErrOf result Stop.Keeper }
     ensures cause { IsErrOf result Stop.Put → Rose (K.faults sink.old) (K.faults sink.new) }
     ensures kept_cause { IsErrOf result Stop.Keeper → Rose (P.faults keeper.old) (P.faults keeper.new) }
     ensures later { K.faults sink.old ≤ K.faults sink.new }
-    ensures keeper { KeeperFrame (P.place keeper.old) (P.place keeper.new) (P.faults keeper.old) (P.faults keeper.new) (P.honest keeper.old) (P.honest keeper.new) }
+    ensures frame { KeeperFrame (P.place keeper.old) (P.place keeper.new) (P.faults keeper.old) (P.faults keeper.new)
+        (P.honest keeper.old) (P.honest keeper.new) }
 {
     let mut all_ok = true;
     let mut rest = piece;
@@ -160,7 +195,7 @@ pub fn feed<K: Sink, P: Keeper, L: Ledger>(
     Ok(all_ok)
 }
 
-/// Performs the command that the end of input completes or cuts off; whether its reply begins `ok`.
+/// Performs the command that the end of input completes or cuts off, if there is one; returns whether its reply begins `ok`.
 pub fn finish<K: Sink, P: Keeper, L: Ledger>(
     alloc: Global,
     reader: &mut ScriptReader,
@@ -170,15 +205,24 @@ pub fn finish<K: Sink, P: Keeper, L: Ledger>(
     sink: &mut K,
 ) -> Result<bool, Stop>
     requires can { CanPerform engine.old (P.attached keeper.old) (P.stopped keeper.old) }
-    ensures ok { IfOk result (λ ok. (t : Tables) → P.honest keeper.new → EngineMatchesKeeper engine.old (P.tells keeper.old) (P.may_leave keeper.old) t → Answered t engine.old.session (script_from reader.old []) (K.out sink.old) (K.out sink.new) (EngineMatchesKeeper engine.new (P.tells keeper.new) (P.may_leave keeper.new)) engine.new.session ok) }
-    ensures put { IsErrOf result Stop.Put → (t : Tables) → P.honest keeper.new → EngineMatchesKeeper engine.old (P.tells keeper.old) (P.may_leave keeper.old) t → ClosedCut (script_from reader.old []) (λ done last. CutOff t engine.old.session done last (K.out sink.old) (K.out sink.new) (IsDurable (P.tells keeper.new) (P.may_leave keeper.new))) }
-    ensures uncommitted { IsErrOf result Stop.Keeper → (t : Tables) → P.honest keeper.new → EngineMatchesKeeper engine.old (P.tells keeper.old) (P.may_leave keeper.old) t → ClosedCut (script_from reader.old []) (λ done next. Uncommitted t engine.old.session done next (K.out sink.old) (K.out sink.new) (P.may_leave keeper.new)) }
+    ensures ok { IfOk result (λ ok. FromEngine (P.honest keeper.new) engine.old (P.tells keeper.old) (P.may_leave keeper.old) (λ t.
+        Answered t engine.old.session (script_from reader.old []) (K.out sink.old) (K.out sink.new)
+        (EngineMatchesKeeper engine.new (P.tells keeper.new) (P.may_leave keeper.new)) engine.new.session ok)) }
+    ensures put { IsErrOf result Stop.Put →
+        FromEngine (P.honest keeper.new) engine.old (P.tells keeper.old) (P.may_leave keeper.old) (λ t.
+        ClosedCut (script_from reader.old []) (λ done last. CutOff t engine.old.session done last (K.out sink.old) (K.out sink.new)
+        (IsDurable (P.tells keeper.new) (P.may_leave keeper.new)))) }
+    ensures uncommitted { IsErrOf result Stop.Keeper →
+        FromEngine (P.honest keeper.new) engine.old (P.tells keeper.old) (P.may_leave keeper.old) (λ t.
+        ClosedCut (script_from reader.old []) (λ done next. Uncommitted t engine.old.session done next (K.out sink.old) (K.out sink.new)
+        (P.may_leave keeper.new))) }
     ensures memory { IsErrOf result Stop.Memory → (keeper.new ≡ keeper.old) × ((engine.new ≡ engine.old) × (K.out sink.new ≡ K.out sink.old)) }
     ensures stopped { (P.stopped keeper.new ≡ true) ↔ IsErrOf result Stop.Keeper }
     ensures cause { IsErrOf result Stop.Put → Rose (K.faults sink.old) (K.faults sink.new) }
     ensures kept_cause { IsErrOf result Stop.Keeper → Rose (P.faults keeper.old) (P.faults keeper.new) }
     ensures later { K.faults sink.old ≤ K.faults sink.new }
-    ensures keeper { KeeperFrame (P.place keeper.old) (P.place keeper.new) (P.faults keeper.old) (P.faults keeper.new) (P.honest keeper.old) (P.honest keeper.new) }
+    ensures frame { KeeperFrame (P.place keeper.old) (P.place keeper.new) (P.faults keeper.old) (P.faults keeper.new)
+        (P.honest keeper.old) (P.honest keeper.new) }
 {
     match reader.finish() {
         Ok(None) => Ok(true),

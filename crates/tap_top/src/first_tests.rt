@@ -1,7 +1,7 @@
 use crate::test_runs::{answers_within, push_number};
-use tap_base::{Memory, Text, Texts, nth_word};
 use std::alloc::Global;
 use std::test::Fail;
+use tap_base::{Memory, Text, Texts, nth_word};
 
 // Appends the question of a second.
 fn push_question(script: &mut Text, second: u32, condition: &[u8]) -> Result<(), Memory> {

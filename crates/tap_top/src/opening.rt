@@ -1,3 +1,4 @@
+//! Opens a store: attaches the keeper, checks the tables, and starts an engine over them.
 ghost use Rattle.std.specs.Prelude.{◌≡◌, ◌⊎◌, ◌↔◌, ◌≤◌, ℤ, true, false, Some, None, IfOk, OnOk, IsErrOf};
 ghost use Rattle.keeper_core.specs.Keeping.{IsDurable};
 ghost use Rattle.tap_base.specs.Counts.{Rose};
@@ -5,6 +6,7 @@ ghost use Rattle.tap_rows.specs.declared.tables.Tables.{Tables as TableRows};
 ghost use Rattle.tap_model.specs.Sessions.{no_session};
 ghost use Rattle.tap_engine.specs.Standing.{Represents};
 ghost use Rattle.tap_top.specs.Points.{CanPerform};
+ghost use Rattle.tap_top.specs.Premises.{IfTold};
 ghost use Rattle.tap_top.specs.Refusals.{row_fault, fault_of};
 ghost use Rattle.tap_top.specs.Opened.{IfRefused};
 ghost use Rattle.tap_top.specs.declared.opening.OpenFault.{OpenFault};
@@ -19,8 +21,11 @@ use tap_rows::Tables;
 /// Why a store wasn't opened.
 #[derive(Clone, Copy, Debug, PartialEq, Eq)]
 pub enum OpenFault {
+    /// The store is refused.
     Refused(StoreFault),
+    /// The keeper failed.
     Keeper,
+    /// Out of memory.
     Memory,
 }
 
@@ -61,11 +66,14 @@ pub fn open_store<P: Keeper>(
     requires running { P.stopped keeper.old ≡ false }
     ensures can { IfOk result (λ engine. CanPerform engine (P.attached keeper.new) (P.stopped keeper.new)) }
     ensures session { IfOk result (λ engine. engine.session ≡ no_session) }
-    ensures represents { IfOk result (λ engine. P.honest keeper.new → (t : TableRows) → P.tells keeper.old t → Represents engine t) }
-    ensures kept { P.honest keeper.new → (t : TableRows) → P.tells keeper.old t → P.stopped keeper.new ≡ false → IsDurable (P.tells keeper.new) (P.may_leave keeper.new) t }
-    ensures crash { P.honest keeper.new → (t : TableRows) → P.tells keeper.old t → (x : TableRows) → P.may_leave keeper.new x → x ≡ t }
-    ensures sure { OnOk result (P.honest keeper.new → (t : TableRows) → P.tells keeper.old t → (v : ℤ) → P.has_version keeper.old v → fault_of v t ≡ None) }
-    ensures refused { IfRefused result (λ fault. P.honest keeper.new → (t : TableRows) → P.tells keeper.old t → (v : ℤ) → P.has_version keeper.old v → fault_of v t ≡ Some fault) }
+    ensures represents { IfOk result (λ engine. IfTold (P.honest keeper.new) (P.tells keeper.old) (λ t. Represents engine t)) }
+    ensures kept { IfTold (P.honest keeper.new) (P.tells keeper.old) (λ t.
+        P.stopped keeper.new ≡ false → IsDurable (P.tells keeper.new) (P.may_leave keeper.new) t) }
+    ensures crash { IfTold (P.honest keeper.new) (P.tells keeper.old) (λ t. (x : TableRows) → P.may_leave keeper.new x → x ≡ t) }
+    ensures sure { OnOk result (IfTold (P.honest keeper.new) (P.tells keeper.old) (λ t.
+        (v : ℤ) → P.has_version keeper.old v → fault_of v t ≡ None)) }
+    ensures refused { IfRefused result (λ fault. IfTold (P.honest keeper.new) (P.tells keeper.old) (λ t.
+        (v : ℤ) → P.has_version keeper.old v → fault_of v t ≡ Some fault)) }
     ensures stopped { (P.stopped keeper.new ≡ true) ↔ IsErrOf result OpenFault.Keeper }
     ensures cause { IsErrOf result OpenFault.Keeper → Rose (P.faults keeper.old) (P.faults keeper.new) }
     ensures placed { (P.place keeper.new ≡ place.now) ⊎ IsErrOf result OpenFault.Memory }

@@ -1,19 +1,20 @@
-ghost use Rattle.std.specs.Prelude.{◌≡◌, ◌≢◌, ◌≤◌, ◌+◌, ◌⊎◌, ◌↔◌, ◌==◌, ℕ, ℤ, pos, List, [], ◌∷◌, Option, Some, None, true, false, length, OnOk, IfOk, IfSome, IsErrOf};
+//! A sample: its commands are performed without replies, and the lines of its summary are put at the end.
+ghost use Rattle.std.specs.Prelude.{◌≡◌, ◌≢◌, ◌≤◌, ◌+◌, ◌⊎◌, ◌↔◌, ◌==◌, ℕ, List, [], ◌∷◌, Option, Some, None};
+ghost use Rattle.std.specs.Prelude.{true, false, length, OnOk, IfOk, IfSome, IsErrOf};
 ghost use Rattle.std.specs.Io.KnownBytes.{Appends};
 ghost use Rattle.keeper_core.specs.Keeping.{IsDurable};
 ghost use Rattle.tap_base.specs.Counts.{Rose};
-ghost use Rattle.tap_rows.specs.declared.tables.Tables.{Tables};
 ghost use Rattle.script_lang.specs.declared.reply.Reply.{Reply as ReplyOf};
 ghost use Rattle.script_lang.specs.declared.refusal.Refusal.{Refusal as RefusalOf};
-ghost use Rattle.sample_gen.specs.Samples.{sample_of};
 ghost use Rattle.sample_gen.specs.Summaries.{summary_lines};
 ghost use Rattle.tap_model.specs.Sessions.{no_session};
-ghost use Rattle.tap_model.specs.Sound.{IsStore};
 ghost use Rattle.tap_top.specs.declared.store_fault.StoreFault.{StoreFault as StoreFaultOf};
+ghost use Rattle.tap_top.specs.declared.sampled.Cut.{Cut};
 ghost use Rattle.tap_top.specs.Refusals.{fault_of, Refused};
 ghost use Rattle.tap_top.specs.Points.{CanPerform, EngineMatchesKeeper, KeeperFrame};
-ghost use Rattle.tap_top.specs.Samples.{refusals_in, hits_in, Performed, Counted, Adds, FirstPerformed, NextUncommitted, FrontPut, Sampled, SampledCut, LeavesFirst, LeavesOnly};
-ghost use Rattle.tap_top.specs.declared.sampled.Cut.{Cut};
+ghost use Rattle.tap_top.specs.Premises.{FromEngine, FromStore, FromVersion, IfKnown};
+ghost use Rattle.tap_top.specs.Ends.{EngineSampleEnds, SampleEnds};
+ghost use Rattle.tap_top.specs.Samples.{refusals_in, hits_in, Performed, Counted, Adds, FirstPerformed, NextUncommitted, FrontPut};
 
 use crate::opening::{OpenFault, open_store};
 use crate::refusing::refuse;
@@ -27,14 +28,16 @@ use tap_base::{Rows, Steps};
 use tap_edges::Sink;
 use tap_engine::{Engine, EngineFault};
 
-/// Why not all commands of a sample were performed.
+/// Why some commands of a sample were not performed.
 #[derive(Clone, Copy, Debug, PartialEq, Eq)]
 pub enum Cut {
+    /// The keeper failed.
     Keeper,
+    /// A command, or the count of its reply, was out of memory.
     Memory,
 }
 
-// Counts a reply, unless it says that there was no memory.
+// Counts a reply; returns `None` if it says that there was no memory, or if a count would pass the end of its type.
 fn count(tally: Tally, reply: &Reply) -> Option<Tally>
     ensures refused { IfSome result (λ counted. counted.refused ≡ tally.refused + refusals_in reply.now) }
     ensures delivered { IfSome result (λ counted. counted.delivered ≡ tally.delivered + hits_in reply.now) }
@@ -46,7 +49,7 @@ fn count(tally: Tally, reply: &Reply) -> Option<Tally>
     }
 }
 
-// Performs a command, and counts its reply.
+// Performs a command and counts its reply. Fails if the keeper fails, or if the command is out of memory.
 fn perform_one<P: Keeper, L: Ledger>(
     alloc: Global,
     engine: &mut Engine,
@@ -56,13 +59,20 @@ fn perform_one<P: Keeper, L: Ledger>(
     tally: Tally,
 ) -> Result<Tally, Cut>
     requires can { CanPerform engine.old (P.attached keeper.old) (P.stopped keeper.old) }
-    ensures ok { IfOk result (λ counted. (t : Tables) → P.honest keeper.new → EngineMatchesKeeper engine.old (P.tells keeper.old) (P.may_leave keeper.old) t → Performed t engine.old.session (command ∷ []) (λ replies x. EngineMatchesKeeper engine.new (P.tells keeper.new) (P.may_leave keeper.new) x × Adds tally counted replies) engine.new.session) }
-    ensures memory { IsErrOf result Cut.Memory → (t : Tables) → P.honest keeper.new → EngineMatchesKeeper engine.old (P.tells keeper.old) (P.may_leave keeper.old) t → FirstPerformed t engine.old.session (command ∷ []) (IsDurable (P.tells keeper.new) (P.may_leave keeper.new)) }
-    ensures keeper { IsErrOf result Cut.Keeper → (t : Tables) → P.honest keeper.new → EngineMatchesKeeper engine.old (P.tells keeper.old) (P.may_leave keeper.old) t → NextUncommitted t engine.old.session (command ∷ []) (P.may_leave keeper.new) }
+    ensures ok { IfOk result (λ counted. FromEngine (P.honest keeper.new) engine.old (P.tells keeper.old) (P.may_leave keeper.old) (λ t.
+        Performed t engine.old.session (command ∷ [])
+        (λ replies x. EngineMatchesKeeper engine.new (P.tells keeper.new) (P.may_leave keeper.new) x × Adds tally counted replies) engine.new.session)) }
+    ensures memory { IsErrOf result Cut.Memory →
+        FromEngine (P.honest keeper.new) engine.old (P.tells keeper.old) (P.may_leave keeper.old) (λ t.
+        FirstPerformed t engine.old.session (command ∷ []) (IsDurable (P.tells keeper.new) (P.may_leave keeper.new))) }
+    ensures keeper { IsErrOf result Cut.Keeper →
+        FromEngine (P.honest keeper.new) engine.old (P.tells keeper.old) (P.may_leave keeper.old) (λ t.
+        NextUncommitted t engine.old.session (command ∷ []) (P.may_leave keeper.new)) }
     ensures can { OnOk result (CanPerform engine.new (P.attached keeper.new) (P.stopped keeper.new)) }
     ensures stopped { (P.stopped keeper.new ≡ true) ↔ IsErrOf result Cut.Keeper }
     ensures kept_cause { IsErrOf result Cut.Keeper → Rose (P.faults keeper.old) (P.faults keeper.new) }
-    ensures goes_on { KeeperFrame (P.place keeper.old) (P.place keeper.new) (P.faults keeper.old) (P.faults keeper.new) (P.honest keeper.old) (P.honest keeper.new) }
+    ensures frame { KeeperFrame (P.place keeper.old) (P.place keeper.new) (P.faults keeper.old) (P.faults keeper.new)
+        (P.honest keeper.old) (P.honest keeper.new) }
 {
     let reply = match engine.perform(alloc, keeper, command, steps) {
         Ok(reply) => reply,
@@ -74,7 +84,7 @@ fn perform_one<P: Keeper, L: Ledger>(
     }
 }
 
-// Performs the commands; what their replies come to. It ends at the first reply that says that there was no memory.
+// Performs the commands; returns the counts of their replies. Stops at the first command that is out of memory.
 fn perform_all<P: Keeper, L: Ledger>(
     alloc: Global,
     engine: &mut Engine,
@@ -83,13 +93,20 @@ fn perform_all<P: Keeper, L: Ledger>(
     steps: &mut Steps<L>,
 ) -> Result<Tally, Cut>
     requires can { CanPerform engine.old (P.attached keeper.old) (P.stopped keeper.old) }
-    ensures ok { IfOk result (λ tally. (t : Tables) → P.honest keeper.new → EngineMatchesKeeper engine.old (P.tells keeper.old) (P.may_leave keeper.old) t → Performed t engine.old.session commands (λ replies x. EngineMatchesKeeper engine.new (P.tells keeper.new) (P.may_leave keeper.new) x × Counted tally replies) engine.new.session) }
-    ensures memory { IsErrOf result Cut.Memory → (t : Tables) → P.honest keeper.new → EngineMatchesKeeper engine.old (P.tells keeper.old) (P.may_leave keeper.old) t → FirstPerformed t engine.old.session commands (IsDurable (P.tells keeper.new) (P.may_leave keeper.new)) }
-    ensures keeper { IsErrOf result Cut.Keeper → (t : Tables) → P.honest keeper.new → EngineMatchesKeeper engine.old (P.tells keeper.old) (P.may_leave keeper.old) t → NextUncommitted t engine.old.session commands (P.may_leave keeper.new) }
+    ensures ok { IfOk result (λ tally. FromEngine (P.honest keeper.new) engine.old (P.tells keeper.old) (P.may_leave keeper.old) (λ t.
+        Performed t engine.old.session commands
+        (λ replies x. EngineMatchesKeeper engine.new (P.tells keeper.new) (P.may_leave keeper.new) x × Counted tally replies) engine.new.session)) }
+    ensures memory { IsErrOf result Cut.Memory →
+        FromEngine (P.honest keeper.new) engine.old (P.tells keeper.old) (P.may_leave keeper.old) (λ t.
+        FirstPerformed t engine.old.session commands (IsDurable (P.tells keeper.new) (P.may_leave keeper.new))) }
+    ensures keeper { IsErrOf result Cut.Keeper →
+        FromEngine (P.honest keeper.new) engine.old (P.tells keeper.old) (P.may_leave keeper.old) (λ t.
+        NextUncommitted t engine.old.session commands (P.may_leave keeper.new)) }
     ensures can { OnOk result (CanPerform engine.new (P.attached keeper.new) (P.stopped keeper.new)) }
     ensures stopped { (P.stopped keeper.new ≡ true) ↔ IsErrOf result Cut.Keeper }
     ensures kept_cause { IsErrOf result Cut.Keeper → Rose (P.faults keeper.old) (P.faults keeper.new) }
-    ensures goes_on { KeeperFrame (P.place keeper.old) (P.place keeper.new) (P.faults keeper.old) (P.faults keeper.new) (P.honest keeper.old) (P.honest keeper.new) }
+    ensures frame { KeeperFrame (P.place keeper.old) (P.place keeper.new) (P.faults keeper.old) (P.faults keeper.new)
+        (P.honest keeper.old) (P.honest keeper.new) }
 {
     let mut tally = Tally::new();
     for command in commands.into_vec() {
@@ -102,9 +119,16 @@ fn perform_all<P: Keeper, L: Ledger>(
     Ok(tally)
 }
 
-// What became of the sample.
+// Returns the summary of a sample that was performed to its end.
 fn sum_up(n: u32, commands: usize, tally: Tally, engine: &Engine) -> Summary
-    ensures { result ≡ record { messages = n; commands = commands; refused = tally.refused; documents = length engine.now.index.docs; notes = length engine.now.index.notes; delivered = tally.delivered } }
+    ensures { result ≡ record {
+      messages = n;
+      commands = commands;
+      refused = tally.refused;
+      documents = length engine.now.index.docs;
+      notes = length engine.now.index.notes;
+      delivered = tally.delivered;
+    } }
 {
     Summary {
         messages: n,
@@ -116,7 +140,7 @@ fn sum_up(n: u32, commands: usize, tally: Tally, engine: &Engine) -> Summary
     }
 }
 
-// Puts the lines of a summary; the status.
+// Puts the lines of a summary; returns the status: 0 if no command was refused, else 1, or 4 if the put failed.
 fn put_summary<K: Sink>(summary: Summary, sink: &mut K) -> u8
     ensures statuses { result ≤ 1 ⊎ result ≡ 4 }
     ensures ok { result ≤ 1 → (result == 0) ≡ (summary.refused == 0) }
@@ -131,7 +155,7 @@ fn put_summary<K: Sink>(summary: Summary, sink: &mut K) -> u8
     }
 }
 
-// Performs the commands of a sample, and puts its summary; the status of the run.
+// Performs the commands of a sample and puts its summary; returns the status of the run.
 fn run_sample<K: Sink, P: Keeper, L: Ledger>(
     alloc: Global,
     n: u32,
@@ -144,16 +168,15 @@ fn run_sample<K: Sink, P: Keeper, L: Ledger>(
     requires few { n ≤ 100000 }
     requires can { CanPerform engine.old (P.attached keeper.old) (P.stopped keeper.old) }
     requires session { engine.old.session ≡ no_session }
-    ensures whole { result ≤ 1 → (t : Tables) → P.honest keeper.new → EngineMatchesKeeper engine.old (P.tells keeper.old) (P.may_leave keeper.old) t → Sampled t n (K.out sink.old) (K.out sink.new) (IsDurable (P.tells keeper.new) (P.may_leave keeper.new)) (result == 0) }
-    ensures cut { result ≡ 4 → (t : Tables) → P.honest keeper.new → EngineMatchesKeeper engine.old (P.tells keeper.old) (P.may_leave keeper.old) t → SampledCut t n (K.out sink.old) (K.out sink.new) (IsDurable (P.tells keeper.new) (P.may_leave keeper.new)) }
-    ensures uncommitted { result ≡ 5 → (t : Tables) → P.honest keeper.new → EngineMatchesKeeper engine.old (P.tells keeper.old) (P.may_leave keeper.old) t → NextUncommitted t no_session (sample_of n) (P.may_leave keeper.new) }
-    ensures memory { result ≡ 7 → (t : Tables) → P.honest keeper.new → EngineMatchesKeeper engine.old (P.tells keeper.old) (P.may_leave keeper.old) t → FirstPerformed t no_session (sample_of n) (IsDurable (P.tells keeper.new) (P.may_leave keeper.new)) }
+    ensures ends { FromEngine (P.honest keeper.new) engine.old (P.tells keeper.old) (P.may_leave keeper.old) (λ t.
+        EngineSampleEnds result t n (K.out sink.old) (K.out sink.new) (P.tells keeper.new) (P.may_leave keeper.new)) }
     ensures silent { (result ≡ 5) ⊎ (result ≡ 7) → K.out sink.new ≡ K.out sink.old }
     ensures statuses { result ≤ 1 ⊎ (result ≡ 4 ⊎ (result ≡ 5 ⊎ result ≡ 7)) }
     ensures stopped { (P.stopped keeper.new ≡ true) ↔ (result ≡ 5) }
     ensures cause { result ≡ 4 → Rose (K.faults sink.old) (K.faults sink.new) }
     ensures kept_cause { result ≡ 5 → Rose (P.faults keeper.old) (P.faults keeper.new) }
-    ensures goes_on { KeeperFrame (P.place keeper.old) (P.place keeper.new) (P.faults keeper.old) (P.faults keeper.new) (P.honest keeper.old) (P.honest keeper.new) }
+    ensures frame { KeeperFrame (P.place keeper.old) (P.place keeper.new) (P.faults keeper.old) (P.faults keeper.new)
+        (P.honest keeper.old) (P.honest keeper.new) }
 {
     let Ok(commands) = sample(alloc, n) else {
         return 7;
@@ -168,7 +191,7 @@ fn run_sample<K: Sink, P: Keeper, L: Ledger>(
     put_summary(summary, sink)
 }
 
-// The same with an engine of its own, which ends with the run.
+// Runs a sample with an engine of its own. It is dropped here, where nothing else is done, as in `run_with`.
 fn sample_with<K: Sink, P: Keeper, L: Ledger>(
     alloc: Global,
     n: u32,
@@ -181,22 +204,21 @@ fn sample_with<K: Sink, P: Keeper, L: Ledger>(
     requires few { n ≤ 100000 }
     requires can { CanPerform engine (P.attached keeper.old) (P.stopped keeper.old) }
     requires session { engine.session ≡ no_session }
-    ensures whole { result ≤ 1 → (t : Tables) → P.honest keeper.new → EngineMatchesKeeper engine (P.tells keeper.old) (P.may_leave keeper.old) t → Sampled t n (K.out sink.old) (K.out sink.new) (IsDurable (P.tells keeper.new) (P.may_leave keeper.new)) (result == 0) }
-    ensures cut { result ≡ 4 → (t : Tables) → P.honest keeper.new → EngineMatchesKeeper engine (P.tells keeper.old) (P.may_leave keeper.old) t → SampledCut t n (K.out sink.old) (K.out sink.new) (IsDurable (P.tells keeper.new) (P.may_leave keeper.new)) }
-    ensures uncommitted { result ≡ 5 → (t : Tables) → P.honest keeper.new → EngineMatchesKeeper engine (P.tells keeper.old) (P.may_leave keeper.old) t → NextUncommitted t no_session (sample_of n) (P.may_leave keeper.new) }
-    ensures memory { result ≡ 7 → (t : Tables) → P.honest keeper.new → EngineMatchesKeeper engine (P.tells keeper.old) (P.may_leave keeper.old) t → FirstPerformed t no_session (sample_of n) (IsDurable (P.tells keeper.new) (P.may_leave keeper.new)) }
+    ensures ends { FromEngine (P.honest keeper.new) engine (P.tells keeper.old) (P.may_leave keeper.old) (λ t.
+        EngineSampleEnds result t n (K.out sink.old) (K.out sink.new) (P.tells keeper.new) (P.may_leave keeper.new)) }
     ensures silent { (result ≡ 5) ⊎ (result ≡ 7) → K.out sink.new ≡ K.out sink.old }
     ensures statuses { result ≤ 1 ⊎ (result ≡ 4 ⊎ (result ≡ 5 ⊎ result ≡ 7)) }
     ensures stopped { (P.stopped keeper.new ≡ true) ↔ (result ≡ 5) }
     ensures cause { result ≡ 4 → Rose (K.faults sink.old) (K.faults sink.new) }
     ensures kept_cause { result ≡ 5 → Rose (P.faults keeper.old) (P.faults keeper.new) }
-    ensures goes_on { KeeperFrame (P.place keeper.old) (P.place keeper.new) (P.faults keeper.old) (P.faults keeper.new) (P.honest keeper.old) (P.honest keeper.new) }
+    ensures frame { KeeperFrame (P.place keeper.old) (P.place keeper.new) (P.faults keeper.old) (P.faults keeper.new)
+        (P.honest keeper.old) (P.honest keeper.new) }
 {
     run_sample(alloc, n, sink, &mut engine, keeper, steps)
 }
 
-/// Attaches the keeper at a place, checks the tables that it has, performs the commands of a sample with `n` messages, and
-/// puts its summary; the status of the run. No replies are put.
+/// Attaches the keeper at a place, checks its tables, performs the commands of a sample with `n` messages, and puts its
+/// summary; returns the status of the run. No replies are put.
 pub fn sample_store<K: Sink, P: Keeper, L: Ledger>(
     alloc: Global,
     place: &str,
@@ -209,15 +231,23 @@ pub fn sample_store<K: Sink, P: Keeper, L: Ledger>(
     requires few { n ≤ 100000 }
     requires free { P.attached keeper.old ≡ false }
     requires running { P.stopped keeper.old ≡ false }
-    ensures whole { result ≤ 1 → (t : Tables) → P.honest keeper.new → IsDurable (P.tells keeper.old) (P.may_leave keeper.old) t → IsStore t → Sampled t n (K.out sink.old) (K.out sink.new) (IsDurable (P.tells keeper.new) (P.may_leave keeper.new)) (result == 0) }
-    ensures cut { result ≡ 4 → (t : Tables) → P.honest keeper.new → IsDurable (P.tells keeper.old) (P.may_leave keeper.old) t → IsStore t → (v : ℤ) → P.has_version keeper.old v → (v ≡ pos 1) ⊎ (v ≡ pos 2) → SampledCut t n (K.out sink.old) (K.out sink.new) (IsDurable (P.tells keeper.new) (P.may_leave keeper.new)) }
-    ensures keeper { result ≡ 5 → (t : Tables) → P.honest keeper.new → IsDurable (P.tells keeper.old) (P.may_leave keeper.old) t → IsStore t → LeavesOnly t (P.may_leave keeper.new) ⊎ NextUncommitted t no_session (sample_of n) (P.may_leave keeper.new) }
-    ensures memory { result ≡ 7 → (t : Tables) → P.honest keeper.new → IsDurable (P.tells keeper.old) (P.may_leave keeper.old) t → IsStore t → FirstPerformed t no_session (sample_of n) (IsDurable (P.tells keeper.new) (P.may_leave keeper.new)) }
+
+    // How the sample ended over a store that a session left.
+    ensures sample { FromStore (P.honest keeper.new) (P.tells keeper.old) (P.may_leave keeper.old) (λ t.
+        SampleEnds result t n (K.out sink.old) (K.out sink.new)
+        (P.has_version keeper.old) (P.tells keeper.new) (P.may_leave keeper.new)) }
     ensures silent { (result ≡ 5) ⊎ (result ≡ 7) → K.out sink.new ≡ K.out sink.old }
-    ensures crash { (t : Tables) → P.honest keeper.new → IsDurable (P.tells keeper.old) (P.may_leave keeper.old) t → IsStore t → LeavesFirst t (sample_of n) (P.may_leave keeper.new) }
-    ensures refused { (t : Tables) → P.honest keeper.new → IsDurable (P.tells keeper.old) (P.may_leave keeper.old) t → (v : ℤ) → P.has_version keeper.old v → (fault : StoreFaultOf) → fault_of v t ≡ Some fault → (left : Option (List ℕ)) → Refused result fault left left (K.out sink.old) (K.out sink.new) (P.tells keeper.new) (P.may_leave keeper.new) t }
-    ensures fine { (t : Tables) → P.honest keeper.new → IsDurable (P.tells keeper.old) (P.may_leave keeper.old) t → (v : ℤ) → P.has_version keeper.old v → fault_of v t ≡ None → result ≢ 6 }
-    ensures known { (t : Tables) → P.honest keeper.new → IsDurable (P.tells keeper.old) (P.may_leave keeper.old) t → IsStore t → (v : ℤ) → P.has_version keeper.old v → (v ≡ pos 1) ⊎ (v ≡ pos 2) → result ≢ 6 }
+
+    // A store is refused if and only if its version isn't known or one of its rows is damaged.
+    ensures refused { FromVersion (P.honest keeper.new) (P.tells keeper.old) (P.may_leave keeper.old) (P.has_version keeper.old) (λ t v.
+        (fault : StoreFaultOf) → fault_of v t ≡ Some fault → (left : Option (List ℕ)) →
+        Refused result fault left left (K.out sink.old) (K.out sink.new) (P.tells keeper.new) (P.may_leave keeper.new) t) }
+    ensures fine { FromVersion (P.honest keeper.new) (P.tells keeper.old) (P.may_leave keeper.old) (P.has_version keeper.old) (λ t v.
+        fault_of v t ≡ None → result ≢ 6) }
+    ensures known { FromStore (P.honest keeper.new) (P.tells keeper.old) (P.may_leave keeper.old) (λ t.
+        IfKnown (P.has_version keeper.old) (result ≢ 6)) }
+
+    // When each status comes.
     ensures cause { result ≡ 4 → Rose (K.faults sink.old) (K.faults sink.new) }
     ensures stopped { (P.stopped keeper.new ≡ true) ↔ (result ≡ 5) }
     ensures kept_cause { result ≡ 5 → Rose (P.faults keeper.old) (P.faults keeper.new) }

@@ -1,3 +1,4 @@
+//! Why a store is refused, and its line.
 ghost use Rattle.std.specs.Prelude.{◌≡◌, ◌≤◌, ◌+◌, ◌++◌, length};
 ghost use Rattle.arrayvec.specs.ArrayVec.{array_vec_len};
 ghost use Rattle.tap_top.specs.Refusals.{table_word, why_word, stop_line};
@@ -13,7 +14,7 @@ pub enum StoreFault {
     Version {
         version: i64,
     },
-    /// This is its first row that can't be used, with the row's place in its table from 1.
+    /// Its first damaged row, with the row's place in its table, counted from 1.
     Damaged {
         table: TableName,
         num: u32,
@@ -21,7 +22,7 @@ pub enum StoreFault {
     },
 }
 
-// Appends these bytes.
+// Appends bytes to a line that has room for them.
 fn push(line: &mut ArrayVec<u8, 128>, bytes: &[u8])
     requires { array_vec_len line.old + length bytes.now ≤ 128 }
     ensures { line.new.items ≡ line.old.items ++ bytes.now }
@@ -29,7 +30,7 @@ fn push(line: &mut ArrayVec<u8, 128>, bytes: &[u8])
     let _pushed = line.try_extend_from_slice(bytes);
 }
 
-// Appends the digits of a number.
+// Appends the decimal digits of a number, at most 40 bytes.
 fn push_number<I: Integer>(line: &mut ArrayVec<u8, 128>, n: I)
     requires { array_vec_len line.old + 40 ≤ 128 }
     ensures bytes { line.new.items ≡ line.old.items ++ I.text n }
@@ -39,7 +40,7 @@ fn push_number<I: Integer>(line: &mut ArrayVec<u8, 128>, n: I)
     push(line, digits.format(n).as_bytes());
 }
 
-// The word of a table.
+// Returns the word of a table.
 fn word_of_table(table: TableName) -> &'static [u8]
     ensures word { result.now ≡ table_word table }
     ensures short { length result.now ≤ 7 }
@@ -54,7 +55,7 @@ fn word_of_table(table: TableName) -> &'static [u8]
     }
 }
 
-// The word of a reason.
+// Returns the word of a reason.
 fn word_of_reason(why: Why) -> &'static [u8]
     ensures word { result.now ≡ why_word why }
     ensures short { length result.now ≤ 9 }
@@ -72,7 +73,7 @@ fn word_of_reason(why: Why) -> &'static [u8]
 }
 
 impl StoreFault {
-    /// The line that is put for it.
+    /// Returns the line that is put for a refused store; it takes no memory.
     pub fn line(self) -> ArrayVec<u8, 128>
         ensures { result.items ≡ stop_line self }
     {

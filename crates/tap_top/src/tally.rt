@@ -1,9 +1,10 @@
+//! Counts what the replies to a sample's commands come to.
 ghost use Rattle.std.specs.Prelude.{◌≡◌, ◌+◌, IfSome};
 ghost use Rattle.tap_top.specs.Samples.{refusals_in, hits_in};
 
 use script_lang::Reply;
 
-/// What replies come to: how many refuse, and what their runs delivered together.
+/// Counts of replies: how many refuse, and how many documents their runs delivered.
 #[derive(Clone, Copy, Debug, PartialEq, Eq)]
 pub struct Tally {
     pub refused: usize,
@@ -11,7 +12,7 @@ pub struct Tally {
 }
 
 impl Tally {
-    /// Of no replies.
+    /// Returns the counts of no replies.
     pub fn new() -> Tally
         ensures refused { result.refused ≡ 0 }
         ensures delivered { result.delivered ≡ 0 }
@@ -22,7 +23,7 @@ impl Tally {
         }
     }
 
-    /// With one reply more. None comes only where a count would pass its type's end.
+    /// Adds a reply; returns `None` if a count would pass the end of its type.
     pub fn with(self, reply: &Reply) -> Option<Tally>
         ensures refused { IfSome result (λ tally. tally.refused ≡ self.refused + refusals_in reply.now) }
         ensures delivered { IfSome result (λ tally. tally.delivered ≡ self.delivered + hits_in reply.now) }

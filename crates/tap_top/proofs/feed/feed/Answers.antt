@@ -15,22 +15,22 @@ loop-rest-init g c = record {
 
 pub loop-rest-preserved : goal.loop-rest-preserved
 loop-rest-preserved g c = record {
-  feeding = λ t honest at. Feeding-more _ _ _ c.in-Ok.step.used _ _ _ t _ _ _ _ _ c.loop-rest.all_ok _ _ _ c.in-Ok.step.ok (c.loop-rest.invariant.feeding t (c.in-Ok.ensures.keeper.before honest) at) c.rest_from-rest.ensures (λ t1 there. c.in-Ok.ensures.ok t1 honest there);
+  feeding = λ t honest at. Feeding-more _ _ _ c.in-Ok.step.used _ _ _ t _ _ _ _ _ c.loop-rest.all_ok _ _ _ c.in-Ok.step.ok (c.loop-rest.invariant.feeding t (c.in-Ok.ensures.frame.before honest) at) c.rest_from-rest.ensures (λ t1 there. c.in-Ok.ensures.ok t1 honest there);
   ended = c.in-Ok.ensures.open;
   can = c.in-Ok.ensures.can;
   later = (let a = c.loop-rest.invariant.later in let b = c.in-Ok.ensures.later in omega arith);
-  keeper = KeeperFrame-then _ _ _ _ _ _ _ _ _ c.loop-rest.invariant.keeper c.in-Ok.ensures.keeper;
+  keeper = KeeperFrame-then _ _ _ _ _ _ _ _ _ c.loop-rest.invariant.keeper c.in-Ok.ensures.frame;
 }
 
 pub returns-in-Err-Put-clause-put : goal.returns-in-Err-Put-clause-put
 returns-in-Err-Put-clause-put g c = λ _ t honest at.
-    Feeding-cut _ _ _ _ t _ _ _ _ _ _ _ _ (c.loop-rest.invariant.feeding t (c.in-Err-Put.ensures.keeper.before honest) at) (λ t1 there. c.in-Err-Put.ensures.put (ap Err c.in-Err-Put.field-0-is) t1 honest there)
+    Feeding-cut _ _ _ _ t _ _ _ _ _ _ _ _ (c.loop-rest.invariant.feeding t (c.in-Err-Put.ensures.frame.before honest) at) (λ t1 there. c.in-Err-Put.ensures.put (ap Err c.in-Err-Put.field-0-is) t1 honest there)
 
 pub returns-in-Err-Keeper-clause-uncommitted : goal.returns-in-Err-Keeper-clause-uncommitted
 returns-in-Err-Keeper-clause-uncommitted g c = λ _ t honest at.
-    Feeding-uncommitted _ _ _ _ t _ _ _ _ _ _ _ _ (c.loop-rest.invariant.feeding t (c.in-Err-Keeper.ensures.keeper.before honest) at) (λ t1 there. c.in-Err-Keeper.ensures.uncommitted (ap Err c.in-Err-Keeper.field-0-is) t1 honest there)
+    Feeding-uncommitted _ _ _ _ t _ _ _ _ _ _ _ _ (c.loop-rest.invariant.feeding t (c.in-Err-Keeper.ensures.frame.before honest) at) (λ t1 there. c.in-Err-Keeper.ensures.uncommitted (ap Err c.in-Err-Keeper.field-0-is) t1 honest there)
 
 pub returns-in-Err-Memory-clause-memory : goal.returns-in-Err-Memory-clause-memory
 returns-in-Err-Memory-clause-memory g c = λ _ t honest at.
     let same = c.in-Err-Memory.ensures.memory (ap Err c.in-Err-Memory.field-0-is) in
-    Feeding-short _ _ _ _ t _ _ _ _ _ _ _ _ (λ x there. subst (λ k. IsDurable (g.P.Keeper.tells k) (g.P.Keeper.may_leave k) x) (sym same.0) there.holds) same.1.1 (c.loop-rest.invariant.feeding t (c.in-Err-Memory.ensures.keeper.before honest) at)
+    Feeding-short _ _ _ _ t _ _ _ _ _ _ _ _ (λ x there. subst (λ k. IsDurable (g.P.Keeper.tells k) (g.P.Keeper.may_leave k) x) (sym same.0) there.holds) same.1.1 (c.loop-rest.invariant.feeding t (c.in-Err-Memory.ensures.frame.before honest) at)

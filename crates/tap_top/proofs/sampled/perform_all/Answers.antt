@@ -19,18 +19,18 @@ loop-command-init g c =
 pub loop-command-preserved : goal.loop-command-preserved
 loop-command-preserved g c = record {
   len = (let a = ap length c.in-Some.ensures.steps.0 in let b = c.in-Some.ensures.steps.1 in let d = c.loop-command.invariant.len in omega arith);
-  performing = λ t honest at. Performing-more c.args.commands _ c.in-Some.command _ t _ _ c.loop-command.tally _ (EngineMatchesKeeper c.perform_one.new.engine (g.P.Keeper.tells c.perform_one.new.keeper) (g.P.Keeper.may_leave c.perform_one.new.keeper)) c.in-Ok.counted _ (c.loop-command.invariant.performing t (c.in-Ok.ensures.goes_on.before honest) at) c.in-Some.ensures.steps.0 (λ x there. c.in-Ok.ensures.ok x honest there);
+  performing = λ t honest at. Performing-more c.args.commands _ c.in-Some.command _ t _ _ c.loop-command.tally _ (EngineMatchesKeeper c.perform_one.new.engine (g.P.Keeper.tells c.perform_one.new.keeper) (g.P.Keeper.may_leave c.perform_one.new.keeper)) c.in-Ok.counted _ (c.loop-command.invariant.performing t (c.in-Ok.ensures.frame.before honest) at) c.in-Some.ensures.steps.0 (λ x there. c.in-Ok.ensures.ok x honest there);
   can = c.in-Ok.ensures.can;
-  keeper = KeeperFrame-then _ _ _ _ _ _ _ _ _ c.loop-command.invariant.keeper c.in-Ok.ensures.goes_on;
+  keeper = KeeperFrame-then _ _ _ _ _ _ _ _ _ c.loop-command.invariant.keeper c.in-Ok.ensures.frame;
 }
 
 pub returns-in-Err-Keeper-clause-keeper : goal.returns-in-Err-Keeper-clause-keeper
 returns-in-Err-Keeper-clause-keeper g c = λ _ t honest at.
-    Performing-uncommitted c.args.commands _ c.in-Some.command _ t _ (EngineMatchesKeeper c.loop-command.engine (g.P.Keeper.tells c.loop-command.keeper) (g.P.Keeper.may_leave c.loop-command.keeper)) c.loop-command.tally _ _ (c.loop-command.invariant.performing t (c.in-Err-Keeper.ensures.goes_on.before honest) at) c.in-Some.ensures.steps.0 (λ x there. c.in-Err-Keeper.ensures.keeper (ap Err c.in-Err-Keeper.field-0-is) x honest there)
+    Performing-uncommitted c.args.commands _ c.in-Some.command _ t _ (EngineMatchesKeeper c.loop-command.engine (g.P.Keeper.tells c.loop-command.keeper) (g.P.Keeper.may_leave c.loop-command.keeper)) c.loop-command.tally _ _ (c.loop-command.invariant.performing t (c.in-Err-Keeper.ensures.frame.before honest) at) c.in-Some.ensures.steps.0 (λ x there. c.in-Err-Keeper.ensures.keeper (ap Err c.in-Err-Keeper.field-0-is) x honest there)
 
 pub returns-in-Err-Memory-clause-memory : goal.returns-in-Err-Memory-clause-memory
 returns-in-Err-Memory-clause-memory g c = λ _ t honest at.
-    Performing-short c.args.commands _ c.in-Some.command _ t _ (EngineMatchesKeeper c.loop-command.engine (g.P.Keeper.tells c.loop-command.keeper) (g.P.Keeper.may_leave c.loop-command.keeper)) c.loop-command.tally _ _ (c.loop-command.invariant.performing t (c.in-Err-Memory.ensures.goes_on.before honest) at) c.in-Some.ensures.steps.0 (λ x there. c.in-Err-Memory.ensures.memory (ap Err c.in-Err-Memory.field-0-is) x honest there)
+    Performing-short c.args.commands _ c.in-Some.command _ t _ (EngineMatchesKeeper c.loop-command.engine (g.P.Keeper.tells c.loop-command.keeper) (g.P.Keeper.may_leave c.loop-command.keeper)) c.loop-command.tally _ _ (c.loop-command.invariant.performing t (c.in-Err-Memory.ensures.frame.before honest) at) c.in-Some.ensures.steps.0 (λ x there. c.in-Err-Memory.ensures.memory (ap Err c.in-Err-Memory.field-0-is) x honest there)
 
 pub returns-clause-ok : goal.returns-clause-ok
 returns-clause-ok g c = λ t honest at.

@@ -1,46 +1,33 @@
 use Rattle.std.proofs.Common.{refl, inl, inr}
-use Rattle.std.specs.Prelude.{◌==◌}
-use Rattle.sample_gen.specs.Samples.{sample_of}
-use Rattle.tap_model.specs.Sessions.{no_session}
 use Rattle.tap_top.specs.Refusals.{fault_of}
 use Rattle.tap_top.proofs.Refusals.{fine-store, some-or-none, Refused-none, refused-for, not-stopped}
 use Rattle.tap_top.proofs.Crashes.{opened-at}
-use Rattle.tap_top.proofs.Samples.{FirstPerformed-none}
-use Rattle.tap_top.proofs.SampleCrashes.{alone-leaves, sample-leaves}
+use Rattle.tap_top.proofs.Ends.{sample-ends, refused-sample, failed-sample, unopened-sample}
 use Rattle.tap_top.proofs.sampled.sample_store.Goals as goal
 
-pub returns-in-Ok-clause-crash : goal.returns-in-Ok-clause-crash
-returns-in-Ok-clause-crash g c = λ t honest holds store.
-    let opened = c.sample_with.ensures.goes_on.before honest in
+pub returns-in-Ok-clause-sample : goal.returns-in-Ok-clause-sample
+returns-in-Ok-clause-sample g c = λ t honest holds store.
+    let opened = c.sample_with.ensures.frame.before honest in
     let at = opened-at c.in-Ok.engine _ _ t c.in-Ok.ensures.session (c.in-Ok.ensures.represents opened t holds.told) (c.in-Ok.ensures.kept opened t holds.told c.in-Ok.ensures.can.keeping) store in
-    sample-leaves t c.args.n _ _ (g.P.Keeper.tells c.sample_with.new.keeper) (g.P.Keeper.may_leave c.sample_with.new.keeper) (c.sample_with.result == 0) c.sample_with.result c.sample_with.ensures.statuses (λ e. c.sample_with.ensures.whole e t honest at) (λ e. c.sample_with.ensures.cut e t honest at) (λ e. c.sample_with.ensures.uncommitted e t honest at) (λ e. c.sample_with.ensures.memory e t honest at)
+    sample-ends t c.args.n _ _ (g.P.Keeper.has_version c.args.keeper.now) (g.P.Keeper.tells c.sample_with.new.keeper) (g.P.Keeper.may_leave c.sample_with.new.keeper) c.sample_with.result c.sample_with.ensures.statuses (c.sample_with.ensures.ends t honest at)
 
-pub returns-in-Ok-clause-keeper : goal.returns-in-Ok-clause-keeper
-returns-in-Ok-clause-keeper g c = λ is t honest holds store.
-    let opened = c.sample_with.ensures.goes_on.before honest in
-    let at = opened-at c.in-Ok.engine _ _ t c.in-Ok.ensures.session (c.in-Ok.ensures.represents opened t holds.told) (c.in-Ok.ensures.kept opened t holds.told c.in-Ok.ensures.can.keeping) store in
-    inr (c.sample_with.ensures.uncommitted is t honest at)
-
-pub returns-in-Err-Refused-clause-cut : goal.returns-in-Err-Refused-clause-cut
-returns-in-Err-Refused-clause-cut g c = λ _ t honest holds store v version known. absurd (some-or-none (fault_of v t) c.in-Err-Refused.fault (refused-for _ _ c.in-Err-Refused.fault c.in-Err-Refused.ensures.refused c.in-Err-Refused.field-0-is honest t holds.told v version) (fine-store t v store known))
-
-pub returns-in-Err-Refused-clause-crash : goal.returns-in-Err-Refused-clause-crash
-returns-in-Err-Refused-clause-crash g c = λ t honest holds store. alone-leaves t (sample_of c.args.n) _ (c.in-Err-Refused.ensures.crash honest t holds.told)
+pub returns-in-Err-Refused-clause-sample : goal.returns-in-Err-Refused-clause-sample
+returns-in-Err-Refused-clause-sample g c = λ t honest holds store.
+    refused-sample t c.args.n _ _ (g.P.Keeper.has_version c.args.keeper.now) _ _ c.refuse.result c.refuse.ensures.statuses
+    (λ v version known. absurd (some-or-none (fault_of v t) c.in-Err-Refused.fault (refused-for _ _ c.in-Err-Refused.fault c.in-Err-Refused.ensures.refused c.in-Err-Refused.field-0-is honest t holds.told v version) (fine-store t v store known)))
+    (c.in-Err-Refused.ensures.crash honest t holds.told)
 
 pub returns-in-Err-Refused-clause-known : goal.returns-in-Err-Refused-clause-known
 returns-in-Err-Refused-clause-known g c = λ t honest holds store v version known _. absurd (some-or-none (fault_of v t) c.in-Err-Refused.fault (refused-for _ _ c.in-Err-Refused.fault c.in-Err-Refused.ensures.refused c.in-Err-Refused.field-0-is honest t holds.told v version) (fine-store t v store known))
 
-pub returns-in-Err-Keeper-clause-crash : goal.returns-in-Err-Keeper-clause-crash
-returns-in-Err-Keeper-clause-crash g c = λ t honest holds store. alone-leaves t (sample_of c.args.n) _ (c.in-Err-Keeper.ensures.crash honest t holds.told)
+pub returns-in-Err-Keeper-clause-sample : goal.returns-in-Err-Keeper-clause-sample
+returns-in-Err-Keeper-clause-sample g c = λ t honest holds store. failed-sample t c.args.n _ _ _ _ _ (c.in-Err-Keeper.ensures.crash honest t holds.told)
 
 pub returns-in-Err-Keeper-clause-refused : goal.returns-in-Err-Keeper-clause-refused
 returns-in-Err-Keeper-clause-refused g c = λ t honest holds v version fault is left. Refused-none 5 fault left left _ _ _ _ t (inr (inr (inl refl))) (λ e. cc) refl refl (λ no. absurd (no refl)) (c.in-Err-Keeper.ensures.crash honest t holds.told)
 
-pub returns-in-Err-Memory-clause-memory : goal.returns-in-Err-Memory-clause-memory
-returns-in-Err-Memory-clause-memory g c = λ _ t honest holds store. FirstPerformed-none t no_session (sample_of c.args.n) _ store (c.in-Err-Memory.ensures.kept honest t holds.told (not-stopped (g.P.Keeper.stopped c.open_store.new.keeper) c.in-Err-Memory.ensures.stopped.0 (λ e. cc)))
-
-pub returns-in-Err-Memory-clause-crash : goal.returns-in-Err-Memory-clause-crash
-returns-in-Err-Memory-clause-crash g c = λ t honest holds store. alone-leaves t (sample_of c.args.n) _ (c.in-Err-Memory.ensures.crash honest t holds.told)
+pub returns-in-Err-Memory-clause-sample : goal.returns-in-Err-Memory-clause-sample
+returns-in-Err-Memory-clause-sample g c = λ t honest holds store. unopened-sample t c.args.n _ _ _ _ _ store (c.in-Err-Memory.ensures.kept honest t holds.told (not-stopped (g.P.Keeper.stopped c.open_store.new.keeper) c.in-Err-Memory.ensures.stopped.0 (λ e. cc)))
 
 pub returns-in-Err-Memory-clause-refused : goal.returns-in-Err-Memory-clause-refused
 returns-in-Err-Memory-clause-refused g c = λ t honest holds v version fault is left. Refused-none 7 fault left left _ _ _ _ t (inr (inr (inr (inr refl)))) (λ e. cc) refl refl (λ _. (c.in-Err-Memory.ensures.kept honest t holds.told (not-stopped (g.P.Keeper.stopped c.open_store.new.keeper) c.in-Err-Memory.ensures.stopped.0 (λ e. cc))).told) (c.in-Err-Memory.ensures.crash honest t holds.told)

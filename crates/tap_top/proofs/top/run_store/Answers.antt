@@ -1,31 +1,31 @@
 use Rattle.std.proofs.Common.{refl, sym, subst, inl, inr}
-use Rattle.std.specs.Prelude.{◌==◌}
 use Rattle.tap_model.specs.Sound.{IsStore}
 use Rattle.tap_top.specs.Refusals.{fault_of}
 use Rattle.tap_top.proofs.Refusals.{fine-store, some-or-none, Refused-none, refused-for, not-stopped}
-use Rattle.tap_top.proofs.Crashes.{nothing-leaves, none-leaves, run-leaves, leaves-stores, opened-at, OutOfMemory-none}
+use Rattle.tap_top.proofs.Crashes.{leaves-stores, opened-at}
+use Rattle.tap_top.proofs.Ends.{script-ends, refused-ends, failed-ends, unopened-ends}
 use Rattle.tap_top.proofs.top.run_store.Goals as goal
 
-pub returns-in-Ok-clause-crash : goal.returns-in-Ok-clause-crash
-returns-in-Ok-clause-crash g c = λ t honest holds store.
-    let opened = c.run_with.ensures.keeper.before honest in
+pub returns-in-Ok-clause-script : goal.returns-in-Ok-clause-script
+returns-in-Ok-clause-script g c = λ t honest holds store.
+    let opened = c.run_with.ensures.frame.before honest in
     let at = opened-at c.in-Ok.engine _ _ t c.in-Ok.ensures.session (c.in-Ok.ensures.represents opened t holds.told) (c.in-Ok.ensures.kept opened t holds.told c.in-Ok.ensures.can.keeping) store in
-    run-leaves t _ _ _ _ (g.P.Keeper.has_version c.args.keeper.now) (g.P.Keeper.tells c.run_with.new.keeper) (g.P.Keeper.may_leave c.run_with.new.keeper) (c.run_with.result == 0) c.run_with.result c.run_with.ensures.statuses (λ e. c.run_with.ensures.whole e t honest at) (λ e. c.run_with.ensures.read e t honest at) (λ e. c.run_with.ensures.put e t honest at) (λ e. c.run_with.ensures.uncommitted e t honest at) (λ e. c.run_with.ensures.memory e t honest at) (λ e. c.run_with.ensures.long e t honest at)
+    script-ends t _ _ _ _ (g.P.Keeper.has_version c.args.keeper.now) (g.P.Keeper.tells c.run_with.new.keeper) (g.P.Keeper.may_leave c.run_with.new.keeper) c.run_with.result c.run_with.ensures.statuses (c.run_with.ensures.ends t honest at)
 
 pub returns-in-Ok-clause-kept : goal.returns-in-Ok-clause-kept
-returns-in-Ok-clause-kept g c = λ t honest holds store x may. leaves-stores t _ _ _ _ _ _ store (returns-in-Ok-clause-crash g c t honest holds store) x may
+returns-in-Ok-clause-kept g c = λ t honest holds store x may. leaves-stores t _ _ _ _ _ _ store (returns-in-Ok-clause-script g c t honest holds store).crash x may
 
-pub returns-in-Err-Refused-clause-put : goal.returns-in-Err-Refused-clause-put
-returns-in-Err-Refused-clause-put g c = λ _ t honest holds store v version known. absurd (some-or-none (fault_of v t) c.in-Err-Refused.fault (refused-for _ _ c.in-Err-Refused.fault c.in-Err-Refused.ensures.refused c.in-Err-Refused.field-0-is honest t holds.told v version) (fine-store t v store known))
-
-pub returns-in-Err-Refused-clause-crash : goal.returns-in-Err-Refused-clause-crash
-returns-in-Err-Refused-clause-crash g c = λ t honest holds store. none-leaves t _ _ _ _ _ _ _ refl c.refuse.ensures.line.written (λ v version known. absurd (some-or-none (fault_of v t) c.in-Err-Refused.fault (refused-for _ _ c.in-Err-Refused.fault c.in-Err-Refused.ensures.refused c.in-Err-Refused.field-0-is honest t holds.told v version) (fine-store t v store known))) (c.in-Err-Refused.ensures.crash honest t holds.told)
+pub returns-in-Err-Refused-clause-script : goal.returns-in-Err-Refused-clause-script
+returns-in-Err-Refused-clause-script g c = λ t honest holds store.
+    refused-ends t _ _ _ _ (g.P.Keeper.has_version c.args.keeper.now) _ _ c.refuse.result _ c.refuse.ensures.statuses
+    (λ v version known. absurd (some-or-none (fault_of v t) c.in-Err-Refused.fault (refused-for _ _ c.in-Err-Refused.fault c.in-Err-Refused.ensures.refused c.in-Err-Refused.field-0-is honest t holds.told v version) (fine-store t v store known)))
+    refl c.refuse.ensures.line.written (c.in-Err-Refused.ensures.crash honest t holds.told)
 
 pub returns-in-Err-Refused-clause-known : goal.returns-in-Err-Refused-clause-known
 returns-in-Err-Refused-clause-known g c = λ t honest holds store v version known _. absurd (some-or-none (fault_of v t) c.in-Err-Refused.fault (refused-for _ _ c.in-Err-Refused.fault c.in-Err-Refused.ensures.refused c.in-Err-Refused.field-0-is honest t holds.told v version) (fine-store t v store known))
 
-pub returns-in-Err-Keeper-clause-crash : goal.returns-in-Err-Keeper-clause-crash
-returns-in-Err-Keeper-clause-crash g c = λ t honest holds store. nothing-leaves t _ _ _ _ _ _ refl refl (c.in-Err-Keeper.ensures.crash honest t holds.told)
+pub returns-in-Err-Keeper-clause-script : goal.returns-in-Err-Keeper-clause-script
+returns-in-Err-Keeper-clause-script g c = λ t honest holds store. failed-ends t _ _ _ _ _ _ _ refl refl (c.in-Err-Keeper.ensures.crash honest t holds.told)
 
 pub returns-in-Err-Keeper-clause-kept : goal.returns-in-Err-Keeper-clause-kept
 returns-in-Err-Keeper-clause-kept g c = λ t honest holds store x may. subst IsStore (sym (c.in-Err-Keeper.ensures.crash honest t holds.told x may)) store
@@ -33,11 +33,8 @@ returns-in-Err-Keeper-clause-kept g c = λ t honest holds store x may. subst IsS
 pub returns-in-Err-Keeper-clause-refused : goal.returns-in-Err-Keeper-clause-refused
 returns-in-Err-Keeper-clause-refused g c = λ t honest holds v version fault is. Refused-none 5 fault _ _ _ _ _ _ t (inr (inr (inl refl))) (λ e. cc) refl refl (λ no. absurd (no refl)) (c.in-Err-Keeper.ensures.crash honest t holds.told)
 
-pub returns-in-Err-Memory-clause-memory : goal.returns-in-Err-Memory-clause-memory
-returns-in-Err-Memory-clause-memory g c = λ _ t honest holds store. OutOfMemory-none t _ _ _ _ _ refl refl store (c.in-Err-Memory.ensures.kept honest t holds.told (not-stopped (g.P.Keeper.stopped c.open_store.new.keeper) c.in-Err-Memory.ensures.stopped.0 (λ e. cc)))
-
-pub returns-in-Err-Memory-clause-crash : goal.returns-in-Err-Memory-clause-crash
-returns-in-Err-Memory-clause-crash g c = λ t honest holds store. nothing-leaves t _ _ _ _ _ _ refl refl (c.in-Err-Memory.ensures.crash honest t holds.told)
+pub returns-in-Err-Memory-clause-script : goal.returns-in-Err-Memory-clause-script
+returns-in-Err-Memory-clause-script g c = λ t honest holds store. unopened-ends t _ _ _ _ _ _ _ refl refl store (c.in-Err-Memory.ensures.kept honest t holds.told (not-stopped (g.P.Keeper.stopped c.open_store.new.keeper) c.in-Err-Memory.ensures.stopped.0 (λ e. cc)))
 
 pub returns-in-Err-Memory-clause-refused : goal.returns-in-Err-Memory-clause-refused
 returns-in-Err-Memory-clause-refused g c = λ t honest holds v version fault is. Refused-none 7 fault _ _ _ _ _ _ t (inr (inr (inr (inr refl)))) (λ e. cc) refl refl (λ _. (c.in-Err-Memory.ensures.kept honest t holds.told (not-stopped (g.P.Keeper.stopped c.open_store.new.keeper) c.in-Err-Memory.ensures.stopped.0 (λ e. cc))).told) (c.in-Err-Memory.ensures.crash honest t holds.told)
