@@ -121,7 +121,7 @@ long-leaves t left left' out out' versions tells leaves run =
     answered-leaves t left left' out out' versions tells leaves run.long.bytes (complete (take SCRIPT_LIMIT run.long.bytes)) run.session run.all_ok run.long.taken (inl (all-of (complete (take SCRIPT_LIMIT run.long.bytes)))) run.answered
 
 memory-leaves : (t : Tables) (left left' out out' : Option (List ℕ)) (versions : ℤ → Type 0) (tells leaves : Tables → Type 0) → OutOfMemory t left left' out out' (IsDurable tells leaves) → LeavesPrefix t left left' out out' versions leaves
-memory-leaves t left left' out out' versions tells leaves run = answered-leaves t left left' out out' versions tells leaves run.bytes run.commands run.session run.all_ok run.taken run.first run.answered
+memory-leaves t left left' out out' versions tells leaves run = answered-leaves t left left' out out' versions tells leaves run.bytes run.commands run.session run.all_ok run.taken (inl run.first) run.answered
 
 put-leaves : (t : Tables) (left left' out out' : Option (List ℕ)) (versions : ℤ → Type 0) (tells leaves : Tables → Type 0) → PutCut t left left' out out' (IsDurable tells leaves) → LeavesPrefix t left left' out out' versions leaves
 put-leaves t left left' out out' versions tells leaves run =
@@ -227,7 +227,7 @@ OutOfMemory-none t left left' out out' Ends unread unwritten store ends = record
   taken = subst (λ l. Consumes left l []) (sym unread) (Consumes-none left);
   few = omega arith;
   commands = [];
-  first = inl (record { rest = complete (take SCRIPT_LIMIT []); is = refl });
+  first = record { rest = complete (take SCRIPT_LIMIT []); is = refl };
   session = no_session;
   all_ok = true;
   answered = subst (λ o. Answered t no_session [] out o Ends no_session true) (sym unwritten) (Answered-none t no_session out Ends store ends);

@@ -217,7 +217,7 @@ Running-short left mid new taken n room piece now t out out1 Mid s1 ok out2 Ends
       taken = Consumes-more left mid new before.taking.bytes (take n piece) before.taking.consumed took;
       few = few-more before.taking.bytes piece taken n before.taking.count le within;
       commands = answered_piece.commands ++ cut.answered_piece.commands;
-      first = inl (record { rest = complete_from cut.new cut.more; is = ap complete (front-of before.taking.bytes piece cut.fed cut.more taken n room before.taking.count le is cut.split) ∙ ended cut.more });
+      first = record { rest = complete_from cut.new cut.more; is = ap complete (front-of before.taking.bytes piece cut.fed cut.more taken n room before.taking.count le is cut.split) ∙ ended cut.more };
       session = cut.session';
       all_ok = ok && cut.all_ok;
       answered = Answered-then t no_session answered_piece.commands out out1 Mid s1 ok cut.answered_piece.commands out2 Ends cut.session' cut.all_ok answered_piece.answered cut.answered_piece.answered;
@@ -282,7 +282,7 @@ Running-end-short left mid new taken now t out out1 Ends Less s1 ok less before 
       taken = subst (Consumes left new) (append-nil before.taking.bytes) (Consumes-more left mid new before.taking.bytes [] before.taking.consumed took);
       few = few-now before.taking.bytes taken before.taking.count le;
       commands = answered_piece.commands;
-      first = inl (record { rest = []; is = ap complete same ∙ complete-is before.taking.bytes now answered_piece.commands answered_piece.ended answered_piece.open_end ∙ sym (append-nil answered_piece.commands) });
+      first = record { rest = []; is = ap complete same ∙ complete-is before.taking.bytes now answered_piece.commands answered_piece.ended answered_piece.open_end ∙ sym (append-nil answered_piece.commands) };
       session = s1;
       all_ok = ok;
       answered = Answered-less t no_session answered_piece.commands out out1 Ends Less s1 ok less answered_piece.answered;

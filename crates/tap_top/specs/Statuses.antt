@@ -78,13 +78,14 @@ pub record Unattached (tables : Tables) (left left' out out' : Option (List ℕ)
   pub unwritten : out' ≡ out
   pub alone : (x : Tables) → leaves x → x ≡ tables
 
--- status 7, out of memory: some first commands were answered
+-- status 7, out of memory: some first commands were answered, all of them completed by a line of the bytes that a script may
+-- have
 pub record OutOfMemory (tables : Tables) (left left' out out' : Option (List ℕ)) (Ends : Tables → Type 0) : Type 0 where
   pub bytes : List ℕ
   pub taken : Consumes left left' bytes
   pub few : length bytes ≤ SCRIPT_LIMIT + PIECE
   pub commands : List Command
-  pub first : AreFirst commands (take SCRIPT_LIMIT bytes) left'
+  pub first : IsFront commands (complete (take SCRIPT_LIMIT bytes))
   pub session : Session
   pub all_ok : Bool
   pub answered : Answered tables no_session commands out out' Ends session all_ok

@@ -1,3 +1,4 @@
+//! What a run delivers, against what asking at each second gives.
 use crate::test_runs::{answers_within, push_number};
 use std::alloc::Global;
 use std::test::Fail;
@@ -12,7 +13,7 @@ fn push_question(script: &mut Text, second: u32, condition: &[u8]) -> Result<(),
     script.push_slice(b"\n")
 }
 
-// A script that runs a query of this condition, and then asks for it at each of some seconds.
+// Returns a script that runs a query of this condition, and then asks for it at each of some seconds.
 fn script_of(
     alloc: Global,
     head: &[u8],
@@ -69,7 +70,7 @@ fn firsts_in(alloc: Global, written: &str) -> Result<(Text, Text), Memory> {
     Ok((ran, asked))
 }
 
-// The first seconds by a run and by asking at each of some seconds.
+// Returns the first seconds by a run, and by asking at each of some seconds.
 fn firsts_of(
     alloc: Global,
     head: &[u8],

@@ -1,3 +1,4 @@
+//! Sessions over a keeper that fails, and over stores of each version.
 ghost use Rattle.std.specs.Prelude.{◌≡◌, false};
 
 use crate::test_runs::{sink_of, source_of, written_over};
@@ -8,7 +9,7 @@ use tap_base::{DocNum, Memory, QueryNum, Rows, Text};
 use tap_edges::PutPlan;
 use tap_rows::{Change, Doc, FilterRow, Pick, QueryRow, RunRow, Tables};
 
-// A session over a keeper, where these puts fail: its status, and what was written.
+// Runs a session over a keeper, with puts that fail as planned; returns its status and what was written.
 fn cut_session(
     alloc: Global,
     keeper: &mut MemKeeper,
@@ -23,7 +24,7 @@ fn cut_session(
     written_over(alloc, keeper, source, sink)
 }
 
-// A session over a keeper, and what it wrote.
+// Runs a session over a keeper; returns what it wrote.
 fn session(alloc: Global, keeper: &mut MemKeeper, script: &[u8]) -> Result<(u8, Text), Memory>
     requires free { keeper.old.attached ≡ false }
     requires running { keeper.old.stopped ≡ false }
@@ -36,7 +37,7 @@ const FIRST: &[u8] =
 
 const SECOND: &[u8] = b"as ann\nat 111\nat 120\nmail\nSubject: hi\n\n.\nat 121\nrun q\nbox q\n";
 
-// The tables that a first session left.
+// Returns the tables that a first session left.
 fn first_left(alloc: Global) -> Result<Tables, Memory> {
     let mut keeper = MemKeeper::new(alloc, Tables::empty(alloc), 2, Vec::new(alloc));
     let (_status, _written) = session(alloc, &mut keeper, FIRST)?;
@@ -59,7 +60,7 @@ fn second_cut(alloc: Global, kept: bool) -> Result<(u8, Text, Tables), Memory> {
     Ok((status, written, keeper.after_crash()))
 }
 
-// What a session answers over these tables in a store of this version.
+// Runs a session over these tables in a store of this version; returns what it wrote.
 fn over(alloc: Global, tables: Tables, version: i64, script: &[u8]) -> Result<(u8, Text), Memory> {
     let mut keeper = MemKeeper::new(alloc, tables, version, Vec::new(alloc));
     session(alloc, &mut keeper, script)
@@ -109,7 +110,7 @@ fn a_crash_leaves_a_run_or_none_of_it(rt: HostRuntime) -> Result<(), Fail> {
     Ok(())
 }
 
-// A run of the first query, with its pick of the first document.
+// Returns a run of the first query, and its pick of the first document.
 fn run_with_pick(alloc: Global, num: u32, moment: i64) -> Result<Change, Memory> {
     let mut picks = Rows::new(alloc);
     picks.push(Pick {
@@ -127,7 +128,7 @@ fn run_with_pick(alloc: Global, num: u32, moment: i64) -> Result<Change, Memory>
     Ok(Change::RunDone(run, picks))
 }
 
-// A document of second 100.
+// Returns a document of second 100.
 fn one_doc(alloc: Global) -> Result<Change, Memory> {
     let mut docs = Rows::new(alloc);
     docs.push(Doc {
@@ -138,7 +139,7 @@ fn one_doc(alloc: Global) -> Result<Change, Memory> {
     Ok(Change::Docs(docs))
 }
 
-// A query of second 100.
+// Returns a query of second 100.
 fn one_query(alloc: Global) -> Result<Change, Memory> {
     Ok(Change::OneQuery(QueryRow {
         num: QueryNum(1),
@@ -149,7 +150,7 @@ fn one_query(alloc: Global) -> Result<Change, Memory> {
     }))
 }
 
-// One document that was picked in two runs.
+// Returns tables with one document that two runs delivered.
 fn picked_twice(alloc: Global) -> Result<Tables, Memory> {
     let mut tables = Tables::empty(alloc);
     tables.apply(one_doc(alloc)?)?;
@@ -159,7 +160,7 @@ fn picked_twice(alloc: Global) -> Result<Tables, Memory> {
     Ok(tables)
 }
 
-// A filter whose text can't be read.
+// Returns a filter whose text can't be read.
 fn unread_filter(alloc: Global) -> Result<Tables, Memory> {
     let mut tables = Tables::empty(alloc);
     tables.apply(Change::OneFilter(FilterRow {
@@ -212,7 +213,7 @@ fn stores_of_other_versions_are_refused(rt: HostRuntime) -> Result<(), Fail> {
     Ok(())
 }
 
-// A session whose attach fails.
+// Runs a session whose attach fails.
 fn unattached(alloc: Global) -> Result<(u8, Text), Memory> {
     let fails = vec![in alloc;
         KeepPlan {

@@ -1,9 +1,10 @@
+//! A long script: it ends in time only if each run reads new rows alone.
 use crate::test_runs::{answers_within, push_line, push_number};
 use std::alloc::Global;
 use std::test::Fail;
 use tap_base::{Memory, Text};
 
-// How many messages and how many runs.
+// How many messages and how many runs: so many that a run that reads all rows would not end in time.
 const COUNT: u32 = 100000;
 
 // Appends a moment and a run.
@@ -13,7 +14,7 @@ fn push_run(script: &mut Text, k: u32) -> Result<(), Memory> {
     script.push_slice(b"\nrun q\n")
 }
 
-// Many messages that aren't looked for, and then a run in each second.
+// Returns a script of many messages that no query finds, and then a run in each second.
 fn long_script(alloc: Global) -> Result<Text, Memory> {
     let mut script = Text::new(alloc);
     push_line(
@@ -47,7 +48,7 @@ fn push_ran(written: &mut Text, k: u32) -> Result<(), Memory> {
     written.push_slice(b"\n")
 }
 
-// What is answered.
+// Returns the replies to that script.
 fn long_answer(alloc: Global) -> Result<Text, Memory> {
     let mut written = Text::new(alloc);
     written.push_slice(b"ok 0 as ann\nok 0 at 1000\nok 0 query q\n")?;
@@ -60,7 +61,7 @@ fn long_answer(alloc: Global) -> Result<Text, Memory> {
     Ok(written)
 }
 
-// It ends only where a run looks at new rows alone.
+// It ends in time only if a run reads new rows alone.
 #[test]
 fn runs_over_many_messages_end(rt: HostRuntime) -> Result<(), Fail> {
     let alloc = rt.alloc();

@@ -13,7 +13,7 @@ use tap_base::{Memory, Steps, Text, Texts};
 use tap_edges::{MemSink, MemSource, PutPlan};
 use tap_rows::Tables;
 
-// Runs with the counter of a blank; the status.
+// Runs with the counter of a blank; returns the status.
 fn run<L: Ledger>(
     alloc: Global,
     blank: Blank,
@@ -33,7 +33,7 @@ fn run<L: Ledger>(
     tapestry(alloc, words, source, sink, keeper, &mut steps)
 }
 
-/// Runs with a counter of its own; the status.
+/// Runs with a counter of its own; returns the status.
 pub fn status_of(
     alloc: Global,
     words: &Texts,
@@ -48,14 +48,14 @@ pub fn status_of(
     run::<Brand>(alloc, Blank::new(1), words, source, sink, keeper)
 }
 
-// 1 in the place of 0.
+// Returns 1 for 0, and other numbers unchanged.
 fn at_least_one(size: usize) -> usize
     ensures { 0 < result }
 {
     if size == 0 { 1 } else { size }
 }
 
-/// A script that comes in pieces of `size` bytes, where these reads fail.
+/// Returns a source of a script in pieces of `size` bytes, of which these reads fail.
 pub fn source_of(
     alloc: Global,
     script: &[u8],
@@ -66,12 +66,12 @@ pub fn source_of(
     Ok(MemSource::new(Text::from_slice(alloc, script)?, sizes, fails))
 }
 
-/// A sink with so much room, where these puts fail.
+/// Returns a sink with so much room, of which these puts fail.
 pub fn sink_of(alloc: Global, room: usize, fails: Vec<PutPlan>) -> Result<MemSink, Memory> {
     MemSink::new(alloc, room, fails)
 }
 
-/// Runs over a keeper, without words; the status, and what was written.
+/// Runs over a keeper, without words; returns the status and what was written.
 pub fn written_over(
     alloc: Global,
     keeper: &mut MemKeeper,
@@ -100,12 +100,12 @@ pub fn answers_within(
     written_over(alloc, &mut keeper, source, sink)
 }
 
-/// The same with room for 4,096 bytes.
+/// Runs a script over no rows with room for 4,096 bytes of replies; returns the status and what was written.
 pub fn answers(alloc: Global, script: &[u8], size: usize) -> Result<(u8, Text), Memory> {
     answers_within(alloc, script, size, 4096)
 }
 
-/// A line with a part that is repeated.
+/// Appends a line with a part that is repeated.
 pub fn push_line(
     script: &mut Text,
     head: &[u8],
