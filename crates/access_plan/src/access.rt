@@ -1,12 +1,13 @@
+//! How the rows of a variable are reached.
+
 ghost use Rattle.std.specs.Prelude.{◌≡◌};
 ghost use Rattle.access_plan.specs.Views.{access_at};
 
 use crate::AccessRef;
 use tql_core::{NumExpr, TextExpr};
 
-/// How the rows of a variable are reached: the document of a number, the documents whose Message-ID, In-Reply-To or sender
-/// (RFC 5322 3.6) is a text, those of which a text is a word, the notes on the document of a number, or all rows of the
-/// table.
+/// The access to the rows of a variable: the document of a number, the documents whose Message-ID, In-Reply-To or sender
+/// (RFC 5322 3.6) is a text, those with a word, the notes on the document of a number, or all rows of the table.
 #[derive(PartialEq, Eq, Drop)]
 pub enum Access {
     ById(NumExpr),
@@ -20,7 +21,7 @@ pub enum Access {
 }
 
 impl Access {
-    /// The same access, borrowed.
+    /// Borrows the access.
     pub fn as_ref(&self) -> AccessRef<'_>
         ensures { access_at result ≡ self.now }
     {

@@ -1,3 +1,5 @@
+//! Accesses that are borrowed.
+
 ghost use Rattle.std.specs.Prelude.{◌≡◌, IfOk};
 ghost use Rattle.access_plan.specs.Accesses.{whole};
 ghost use Rattle.access_plan.specs.Views.{access_at};
@@ -7,7 +9,7 @@ use tap_base::{Copied, Memory};
 use tql_core::{NumExpr, TextExpr};
 use tql_tree::Table;
 
-/// An access whose other side is borrowed, so that it takes no memory.
+/// An access whose other side is borrowed. It takes no memory.
 #[derive(Clone, Copy)]
 pub enum AccessRef<'a> {
     ById(NumExpr),
@@ -20,7 +22,7 @@ pub enum AccessRef<'a> {
     AllNotes,
 }
 
-// All rows of a table.
+// Returns the access to all rows of a table.
 pub(crate) fn whole<'a>(table: Table) -> AccessRef<'a>
     ensures { access_at result ≡ whole table }
 {
@@ -31,7 +33,7 @@ pub(crate) fn whole<'a>(table: Table) -> AccessRef<'a>
 }
 
 impl<'a> AccessRef<'a> {
-    /// The access with a copy of its other side.
+    /// Copies the access and its other side. `Memory` comes if memory runs out.
     pub fn to_access(self) -> Result<Access, Memory>
         ensures { IfOk result (λ access. access ≡ access_at self.entry) }
     {

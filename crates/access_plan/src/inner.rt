@@ -1,3 +1,5 @@
+//! The access to the rows of an EXISTS in a body.
+
 ghost use Rattle.std.specs.Prelude.{◌≡◌, ◌<◌, length, Option};
 ghost use Rattle.tql_core.specs.Trees.{tree_at};
 ghost use Rattle.time_marks.specs.Marks.{guards_of};
@@ -12,7 +14,7 @@ use node_pool::{NodeId, Pool};
 use tql_core::{TNode, Var, node_at};
 use tql_tree::Table;
 
-// The access of this kind that the first such guard of the condition at the number gives.
+// Returns the access of this kind that the first such guard of the condition at the number gives.
 fn first_inner<'a>(pool: &'a Pool<TNode>, id: NodeId, var: Var, kind: Kind) -> Option<AccessRef<'a>>
     requires { id.0 < length pool.now }
     ensures { option_access result ≡ first_some (guard_access (is_other var) var kind) (guards_of (tree_at pool.now id.0)) }
@@ -27,7 +29,7 @@ fn first_inner<'a>(pool: &'a Pool<TNode>, id: NodeId, var: Var, kind: Kind) -> O
     }
 }
 
-// The access of the index that the guards of the condition at the number give.
+// Returns the access of the index that the guards of the condition at the number give.
 fn inner_index<'a>(
     pool: &'a Pool<TNode>,
     id: NodeId,
@@ -45,7 +47,7 @@ fn inner_index<'a>(
     None
 }
 
-/// The access to the rows of an EXISTS whose inner condition is at the number: by the index where a guard of the inner
+/// Returns the access to the rows of an EXISTS whose inner condition is at the number: by the index if a guard of the inner
 /// condition gives one, else all rows of the table. The rows of all other variables are known there. It takes no memory.
 pub fn inner_access<'a>(pool: &'a Pool<TNode>, id: NodeId, var: Var, table: Table) -> AccessRef<'a>
     requires { id.0 < length pool.now }

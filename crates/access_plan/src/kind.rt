@@ -1,3 +1,5 @@
+//! The kinds of access of the index.
+
 ghost use Rattle.std.specs.Prelude.{◌≡◌};
 ghost use Rattle.access_plan.specs.Accesses.{kinds};
 
@@ -14,7 +16,7 @@ pub enum Kind {
     NotesOf,
 }
 
-// The kinds of access to a table's rows, in the order in which they are tried.
+// Returns the kinds of access to a table's rows, in the order in which they are tried: the most selective first.
 pub(crate) fn kinds(table: Table) -> &'static [Kind]
     ensures { result.now ≡ kinds table }
 {

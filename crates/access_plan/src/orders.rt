@@ -1,3 +1,5 @@
+//! In which order the variables of a path are bound.
+
 ghost use Rattle.std.specs.Prelude.{◌≡◌, IfOk, Option};
 ghost use Rattle.access_plan.specs.Accesses.{first_some};
 ghost use Rattle.access_plan.specs.Orders.{driven, by_index, by_table, next_reach, order_of, orders_of};
@@ -12,7 +14,7 @@ use tap_base::{Memory, Rows};
 use time_marks::{Ranged, RangedQuery, Step};
 use tql_core::{Base, Var};
 
-// The variable of the driving row, where there is one.
+// Returns the variable of the driving row, or none for a fixed time.
 fn driven(alloc: Global, base: Base) -> Result<Rows<Var>, Memory>
     ensures { IfOk result (λ vars. vars ≡ driven base) }
 {
@@ -27,7 +29,7 @@ fn driven(alloc: Global, base: Base) -> Result<Rows<Var>, Memory>
     Ok(vars)
 }
 
-// The step, where it is still to be bound and has an access of the index.
+// Returns the step, if it is still to be bound and has an access of the index.
 fn by_index<'a>(bound: &[Var], step: &'a Step) -> Option<ReachRef<'a>>
     ensures { option_reach result ≡ by_index bound.now step.now }
 {
@@ -47,7 +49,7 @@ fn by_index<'a>(bound: &[Var], step: &'a Step) -> Option<ReachRef<'a>>
     })
 }
 
-// The step by all rows of its table, where it is still to be bound.
+// Returns the step by all rows of its table, if it is still to be bound.
 fn by_table<'a>(bound: &[Var], step: &'a Step) -> Option<ReachRef<'a>>
     ensures { option_reach result ≡ by_table bound.now step.now }
 {
@@ -61,7 +63,7 @@ fn by_table<'a>(bound: &[Var], step: &'a Step) -> Option<ReachRef<'a>>
     })
 }
 
-// The first step that is still to be bound and has an access of the index.
+// Returns the first step that is still to be bound and has an access of the index.
 fn first_by_index<'a>(path: &'a [Step], bound: &[Var]) -> Option<ReachRef<'a>>
     ensures { option_reach result ≡ first_some (by_index bound.now) path.now }
 {
@@ -73,7 +75,7 @@ fn first_by_index<'a>(path: &'a [Step], bound: &[Var]) -> Option<ReachRef<'a>>
     None
 }
 
-// The first step that is still to be bound.
+// Returns the first step that is still to be bound.
 fn first_by_table<'a>(path: &'a [Step], bound: &[Var]) -> Option<ReachRef<'a>>
     ensures { option_reach result ≡ first_some (by_table bound.now) path.now }
 {
@@ -85,7 +87,7 @@ fn first_by_table<'a>(path: &'a [Step], bound: &[Var]) -> Option<ReachRef<'a>>
     None
 }
 
-// Which step is bound next.
+// Returns the step that is bound next.
 fn next_reach<'a>(path: &'a [Step], bound: &[Var]) -> Option<ReachRef<'a>>
     ensures { option_reach result ≡ next_reach path.now bound.now }
 {
@@ -95,7 +97,7 @@ fn next_reach<'a>(path: &'a [Step], bound: &[Var]) -> Option<ReachRef<'a>>
     }
 }
 
-// The order in which the steps of a path are bound after the driving row.
+// Returns the order in which the steps of a path are bound after the driving row.
 pub(crate) fn order_of(alloc: Global, path: &[Step], base: Base) -> Result<Rows<Reach>, Memory>
     ensures { IfOk result (λ order. order ≡ order_of path.now base) }
 {
@@ -113,7 +115,7 @@ pub(crate) fn order_of(alloc: Global, path: &[Step], base: Base) -> Result<Rows<
     Ok(order)
 }
 
-// The order of each probe.
+// Returns the order of each probe.
 fn orders_of(alloc: Global, parts: &[Ranged]) -> Result<Rows<Rows<Reach>>, Memory>
     ensures { IfOk result (λ orders. orders ≡ orders_of parts.now) }
 {
@@ -124,8 +126,9 @@ fn orders_of(alloc: Global, parts: &[Ranged]) -> Result<Rows<Rows<Reach>>, Memor
     Ok(orders)
 }
 
-/// The query as it is, and for each probe the order of its variables and the access to each one's rows: after the driving
-/// row again and again the first step of the path that has an access of the index, else the first one.
+/// Returns the query unchanged, and for each probe the order of its variables with the access to each one's rows. After the
+/// driving row, again and again, comes the first step of the path that has an access of the index, else the first one.
+/// `Memory` comes if memory runs out.
 pub fn plan(alloc: Global, query: RangedQuery) -> Result<Plan, Memory>
     ensures query { IfOk result (λ plan. plan.query ≡ query) }
     ensures orders { IfOk result (λ plan. plan.orders ≡ orders_of query.parts) }

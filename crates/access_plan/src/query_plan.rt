@@ -1,3 +1,5 @@
+//! A query with its orders.
+
 ghost use Rattle.std.specs.Prelude.{◌≡◌};
 ghost use Rattle.std.specs.Coded.{Coded-set};
 ghost use Rattle.access_plan.specs.Orders.{orders_of};

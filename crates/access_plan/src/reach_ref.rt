@@ -1,3 +1,5 @@
+//! Reaches that are borrowed.
+
 ghost use Rattle.std.specs.Prelude.{◌≡◌, IfOk};
 ghost use Rattle.access_plan.specs.Views.{reach_at};
 
@@ -6,7 +8,7 @@ use tap_base::Memory;
 use tql_core::Var;
 use tql_tree::Table;
 
-/// A reach whose access is borrowed.
+/// A reach whose access is borrowed. It takes no memory.
 #[derive(Clone, Copy)]
 pub struct ReachRef<'a> {
     pub var: Var,
@@ -15,7 +17,7 @@ pub struct ReachRef<'a> {
 }
 
 impl<'a> ReachRef<'a> {
-    /// The reach with a copy of its access.
+    /// Copies the reach and its access. `Memory` comes if memory runs out.
     pub fn to_reach(self) -> Result<Reach, Memory>
         ensures { IfOk result (λ reach. reach ≡ reach_at self.entry) }
     {

@@ -7,19 +7,22 @@ use time_marks::{Probe, Ranged, RangedQuery, Seek, Step};
 use tql_core::{Atom, Base, ListField, NumExpr, NumField, TNode, Term, TextExpr, TextField, Var};
 use tql_tree::Table;
 
+// Returns a number field of a variable.
 fn number(var: u8, of: NumField) -> NumExpr {
     NumExpr::Field(Var(var), of)
 }
 
+// Returns a text field of a variable.
 fn text(var: u8, of: TextField) -> TextExpr {
     TextExpr::Field(Var(var), of)
 }
 
+// Returns a word as a literal.
 fn word(alloc: Global) -> Result<TextExpr, Memory> {
     Ok(TextExpr::Literal(Text::from_slice(alloc, b"lunch")?))
 }
 
-// A path of m and of two further documents with these guards.
+// Returns a path of m and two further documents with these guards.
 fn path(alloc: Global, ninth: Rows<Atom>, tenth: Rows<Atom>) -> Result<Rows<Step>, Memory> {
     let mut path = Rows::new(alloc);
     path.push(Step {
@@ -40,6 +43,7 @@ fn path(alloc: Global, ninth: Rows<Atom>, tenth: Rows<Atom>) -> Result<Rows<Step
     Ok(path)
 }
 
+// Returns the reach of a document.
 fn reach(var: u8, access: Access) -> Reach {
     Reach {
         var: Var(var),
@@ -48,7 +52,7 @@ fn reach(var: u8, access: Access) -> Reach {
     }
 }
 
-// Is this the order of the two further documents, where the mark is m's?
+// Returns whether this is the order of the two further documents, with m as the driver.
 fn has_order(
     alloc: Global,
     ninth: Rows<Atom>,
@@ -64,7 +68,7 @@ fn has_order(
     Ok(found == order)
 }
 
-// A number goes before a word, and the first one that an index finds before the first one.
+// Returns whether a number goes before a word, and a step with an access of the index before an earlier one without.
 fn numbers_before_words(alloc: Global) -> Result<bool, Memory> {
     let mut tenth = Rows::new(alloc);
     tenth.push(Atom::Has(Var(10), ListField::Words, word(alloc)?))?;
@@ -78,7 +82,7 @@ fn numbers_before_words(alloc: Global) -> Result<bool, Memory> {
     )
 }
 
-// A guard serves once the other document is bound.
+// Returns whether a guard serves once the other document is bound.
 fn bound_before(alloc: Global) -> Result<bool, Memory> {
     let mut ninth = Rows::new(alloc);
     ninth.push(Atom::Texts(
@@ -98,7 +102,7 @@ fn bound_before(alloc: Global) -> Result<bool, Memory> {
     )
 }
 
-// Without an index the first one comes first, and then a guard of the other one serves.
+// Returns whether the first step comes first if no guard serves, and then a guard of the other one serves.
 fn tables_in_order(alloc: Global) -> Result<bool, Memory> {
     let mut ninth = Rows::new(alloc);
     ninth.push(Atom::Texts(
@@ -130,7 +134,7 @@ fn paths_have_their_orders(rt: HostRuntime) -> Result<(), Memory> {
     Ok(())
 }
 
-// A query whose one probe is found whenever the second document of its path comes.
+// Returns a query of one probe, whose driver is the second document of its path.
 fn asked(alloc: Global) -> Result<RangedQuery, Memory> {
     let mut pool = Pool::new(alloc);
     let body = pool.intern(TNode::True)?;

@@ -1,17 +1,18 @@
-ghost use Rattle.std.specs.Prelude.{◌≡◌, ◌<◌, ◌++◌, [], codes, OnOk, length, nat_lt, if◌then◌else◌, true, Some};
-ghost use Rattle.node_pool.specs.Pools.{are_below};
-ghost use Rattle.tql_core.specs.Trees.{kids_of, node_tree, tree_at};
+//! Bodies of a pool in the syntax of a query.
+
+ghost use Rattle.std.specs.Prelude.{◌≡◌, ◌<◌, ◌++◌, codes, OnOk, length, nat_lt, Some};
+ghost use Rattle.tql_core.specs.Trees.{node_tree, tree_at};
 ghost use Rattle.tql_tree.specs.Canonical.{text_of_table, within};
 ghost use Rattle.incremental_rewrite.specs.Lines.{var_text, strength, body_text};
 
-use crate::texts::{name_of_table, put_atom, put_var};
+use crate::texts::{put_atom, put_var};
 use node_pool::{NodeId, Pool};
 use std::alloc::Global;
 use tap_base::{Memory, Text};
 use tql_core::{TNode, Var, node_at};
-use tql_tree::Table;
+use tql_tree::{Table, name_of_table, put_if};
 
-// How tightly the node holds together.
+// Returns the strength of the node's operator.
 fn strength_of(pool: &Pool<TNode>, node: &TNode) -> u8
     ensures { result ≡ strength (node_tree (Some node.now) (tree_at pool.now)) }
 {
@@ -23,17 +24,7 @@ fn strength_of(pool: &Pool<TNode>, node: &TNode) -> u8
     }
 }
 
-fn put_if(asked: bool, bytes: &[u8], into: &mut Text) -> Result<(), Memory>
-    ensures { OnOk result (into.new ≡ into.old ++ (if asked then bytes.now else [])) }
-{
-    if asked {
-        into.push_slice(bytes)
-    } else {
-        Ok(())
-    }
-}
-
-// Appends what binds a variable.
+// Appends the head of an EXISTS.
 fn put_binder(alloc: Global, var: Var, table: Table, into: &mut Text) -> Result<(), Memory>
     ensures { OnOk result (into.new ≡ into.old ++ codes "EXISTS (" ++ var_text var ++ codes ": " ++ text_of_table table ++ codes " WHERE ") }
 {
@@ -44,7 +35,7 @@ fn put_binder(alloc: Global, var: Var, table: Table, into: &mut Text) -> Result<
     into.push_slice(b" WHERE ")
 }
 
-/// Appends the condition at the number, in parentheses where it is weaker than asked.
+/// Appends the condition at the number, in parentheses if it is weaker than `least`.
 pub(crate) fn put_body(
     alloc: Global,
     pool: &Pool<TNode>,

@@ -1,16 +1,19 @@
-ghost use Rattle.std.specs.Prelude.{◌≡◌, ◌<◌, ◌++◌, ◌∷◌, [], codes, map, IfOk, OnOk, length, true};
+//! Window queries as lines of text.
+
+ghost use Rattle.std.specs.Prelude.{◌≡◌, ◌<◌, ◌++◌, codes, map, IfOk, OnOk, length, true};
 ghost use Rattle.std.specs.List.{flat_map};
 ghost use Rattle.time_marks.specs.KeptParts.{parts_kept};
 ghost use Rattle.time_marks.specs.Views.{probe_in, ranged_probes};
 ghost use Rattle.incremental_rewrite.specs.Lines.{joined, atom_text, guards_text, step_text, line_of, explain_lines};
 
 use crate::bodies::put_body;
-use crate::texts::{name_of_table, put_atom, put_term, put_var};
+use crate::texts::{put_atom, put_term, put_var};
 use node_pool::Pool;
 use std::alloc::Global;
 use tap_base::{Memory, Text, Texts};
 use time_marks::{Probe, Ranged, RangedQuery, Step};
 use tql_core::{Atom, TNode};
+use tql_tree::name_of_table;
 
 // Appends these atoms, each behind an AND.
 fn put_further(alloc: Global, atoms: &[Atom], into: &mut Text) -> Result<(), Memory>
@@ -23,7 +26,7 @@ fn put_further(alloc: Global, atoms: &[Atom], into: &mut Text) -> Result<(), Mem
     Ok(())
 }
 
-// Appends the guards of a step in brackets, where it has any.
+// Appends the guards of a step in brackets, or nothing if it has none.
 fn put_guards(alloc: Global, guards: &[Atom], into: &mut Text) -> Result<(), Memory>
     ensures { OnOk result (into.new ≡ into.old ++ guards_text guards.now) }
 {
@@ -72,7 +75,7 @@ fn put_path(alloc: Global, path: &[Step], into: &mut Text) -> Result<(), Memory>
     }
 }
 
-// The line of a probe.
+// Returns the line of a probe.
 fn line_of(alloc: Global, pool: &Pool<TNode>, probe: &Probe) -> Result<Text, Memory>
     requires { probe.now.body.0 < length pool.now }
     ensures { IfOk result (λ line. line ≡ line_of (probe_in pool.now probe.now)) }
@@ -87,7 +90,7 @@ fn line_of(alloc: Global, pool: &Pool<TNode>, probe: &Probe) -> Result<Text, Mem
     Ok(line)
 }
 
-// The lines of some parts.
+// Returns the lines of some parts.
 fn lines_of(alloc: Global, pool: &Pool<TNode>, parts: &[Ranged]) -> Result<Texts, Memory>
     requires { parts_kept pool.now parts.now ≡ true }
     ensures { IfOk result (λ lines. lines ≡ map (λ part. line_of (probe_in pool.now part.probe)) parts.now) }
@@ -99,8 +102,8 @@ fn lines_of(alloc: Global, pool: &Pool<TNode>, parts: &[Ranged]) -> Result<Texts
     Ok(lines)
 }
 
-/// A line for each probe: the steps of its path with their guards, the time of its mark, and its body as a query would
-/// have it. A variable k of an EXISTS is `vk`, its copy in a path `pk`.
+/// Returns a line for each probe: the steps of its path with their guards, the time of its mark, and its body in the
+/// syntax of a query. A variable k of an EXISTS is `vk`, its copy in a path `pk`. `Memory` comes if memory runs out.
 pub fn render(alloc: Global, query: &RangedQuery) -> Result<Texts, Memory>
     ensures { IfOk result (λ lines. lines ≡ explain_lines (ranged_probes query.now)) }
 {

@@ -18,7 +18,7 @@ use tap_base::{Memory, Op, Text, Texts};
 use tql_core::{Atom, Base, Cond, ListField, NumExpr, NumField, Term, TextExpr, Var};
 use tql_tree::Table;
 
-// The arrival of a variable's row, and so many seconds more.
+// Returns the arrival of a variable's row, some seconds later.
 fn arrival(var: u8, plus: i64) -> Term
     ensures { result ≡ record { base = B.Arrival (record { 0 = var }); plus = plus } }
 {
@@ -28,7 +28,7 @@ fn arrival(var: u8, plus: i64) -> Term
     }
 }
 
-// The lines of a condition that is asked for the seconds from the start on.
+// Returns the lines of a condition for the seconds from the start on.
 fn explained(alloc: Global, cond: &Cond, start: i64) -> Result<Texts, Memory>
     requires scoped { IsQuery (condition cond.now) }
     requires bounded { are_bounded (condition cond.now) ≡ true }
@@ -40,18 +40,21 @@ fn explained(alloc: Global, cond: &Cond, start: i64) -> Result<Texts, Memory>
     render(alloc, &ranged)
 }
 
-// The message has come 3 seconds ago, and less than 6.
+// Returns the condition that the message came at least 3 and less than 6 seconds ago.
 fn between(alloc: Global) -> Result<Cond, Memory>
-    ensures { IfOk result (λ cond. condition cond ≡ All (NowAtLeast (record { base = B.Arrival (record { 0 = 0 }); plus = pos 3 })) (NowBefore (record { base = B.Arrival (record { 0 = 0 }); plus = pos 6 }))) }
+    ensures { IfOk result (λ cond. condition cond ≡ All (NowAtLeast (record { base = B.Arrival (record { 0 = 0 }); plus = pos 3 }))
+        (NowBefore (record { base = B.Arrival (record { 0 = 0 }); plus = pos 6 }))) }
 {
     let since = Box::new(alloc, Cond::NowAtLeast(arrival(0, 3)))?;
     let until = Box::new(alloc, Cond::NowBefore(arrival(0, 6)))?;
     Ok(Cond::All(since, until))
 }
 
-// There is no note on the message that came less than 5 seconds ago.
+// Returns the condition that no note on the message came less than 5 seconds ago.
 fn unnoted(alloc: Global) -> Result<Cond, Memory>
-    ensures { IfOk result (λ cond. condition cond ≡ Not (Exists (record { 0 = 1 }) Notes (All (Plain (Numbers (Field (record { 0 = 1 }) DocOf) Eq (Field (record { 0 = 0 }) Id))) (NowBefore (record { base = B.Arrival (record { 0 = 1 }); plus = pos 5 }))))) }
+    ensures { IfOk result (λ cond. condition cond ≡ Not
+        (Exists (record { 0 = 1 }) Notes (All (Plain (Numbers (Field (record { 0 = 1 }) DocOf) Eq (Field (record { 0 = 0 }) Id)))
+        (NowBefore (record { base = B.Arrival (record { 0 = 1 }); plus = pos 5 }))))) }
 {
     let on = Cond::Plain(Atom::Numbers(
         NumExpr::Field(Var(1), NumField::DocOf),
@@ -65,7 +68,7 @@ fn unnoted(alloc: Global) -> Result<Cond, Memory>
     Ok(Cond::Not(noted))
 }
 
-// The day of now began after the message came.
+// Returns the condition that the day of now began after the message came.
 fn next_day() -> Cond
     ensures { condition result ≡ NowAtLeast (record { base = B.ArrivalDay (record { 0 = 0 }) (pos 1); plus = pos 0 }) }
 {
@@ -75,7 +78,7 @@ fn next_day() -> Cond
     })
 }
 
-// The message says hi.
+// Returns the condition that hi is a word of the message.
 fn says_hi(alloc: Global) -> Result<Cond, Memory>
     ensures { IfOk result (λ cond. condition cond ≡ Plain (Has (record { 0 = 0 }) Words (X.Literal (codes "hi")))) }
 {

@@ -1,36 +1,16 @@
-ghost use Rattle.std.specs.Prelude.{◌≡◌, ◌++◌, ◌∷◌, [], OnOk, codes, drop};
-ghost use Rattle.std.specs.List.{flat_map};
-ghost use Rattle.std.specs.Fmt.{decimal};
-ghost use Rattle.tql_tree.specs.Canonical.{doubled, text_of_bytes, text_of_table, text_of_op};
-ghost use Rattle.incremental_rewrite.specs.Lines.{var_text, plus_text, arrival_text, date_text, term_text, num_field_text, text_field_text, list_field_text, number_text, text_text, atom_text};
+//! Atoms, times and variables in the syntax of a query.
+
+ghost use Rattle.std.specs.Prelude.{◌≡◌, ◌++◌, OnOk, codes};
+ghost use Rattle.tql_tree.specs.Canonical.{text_of_op};
+ghost use Rattle.incremental_rewrite.specs.Lines.{var_text, plus_text, arrival_text, date_text, term_text};
+ghost use Rattle.incremental_rewrite.specs.Lines.{num_field_text, text_field_text, list_field_text, number_text, text_text, atom_text};
 
 use std::alloc::Global;
 use tap_base::{Memory, Op, Text, put_decimal};
 use tql_core::{Atom, Base, ListField, NumExpr, NumField, Term, TextExpr, TextField, Var};
-use tql_tree::Table;
+use tql_tree::{name_of_op, put_quoted};
 
-pub(crate) fn name_of_table(table: Table) -> &'static [u8]
-    ensures { result.now ≡ text_of_table table }
-{
-    match table {
-        Table::Docs => b"DOC".as_slice(),
-        Table::Notes => b"NOTE".as_slice(),
-    }
-}
-
-fn name_of_op(op: Op) -> &'static [u8]
-    ensures { result.now ≡ text_of_op op }
-{
-    match op {
-        Op::Eq => b"=".as_slice(),
-        Op::Ne => b"<>".as_slice(),
-        Op::Lt => b"<".as_slice(),
-        Op::Le => b"<=".as_slice(),
-        Op::Gt => b">".as_slice(),
-        Op::Ge => b">=".as_slice(),
-    }
-}
-
+// Returns the name of a number field.
 fn name_of_number(field: NumField) -> &'static [u8]
     ensures { result.now ≡ num_field_text field }
 {
@@ -42,6 +22,7 @@ fn name_of_number(field: NumField) -> &'static [u8]
     }
 }
 
+// Returns the name of a text field.
 fn name_of_text(field: TextField) -> &'static [u8]
     ensures { result.now ≡ text_field_text field }
 {
@@ -56,6 +37,7 @@ fn name_of_text(field: TextField) -> &'static [u8]
     }
 }
 
+// Returns the name of a list field.
 fn name_of_list(field: ListField) -> &'static [u8]
     ensures { result.now ≡ list_field_text field }
 {
@@ -84,7 +66,7 @@ pub(crate) fn put_var(alloc: Global, var: Var, into: &mut Text) -> Result<(), Me
     }
 }
 
-// Appends what is added to a time.
+// Appends a number of seconds that is added to a time, or nothing if it is 0.
 fn put_plus(alloc: Global, n: i64, into: &mut Text) -> Result<(), Memory>
     ensures { OnOk result (into.new ≡ into.old ++ plus_text n) }
 {
@@ -95,13 +77,14 @@ fn put_plus(alloc: Global, n: i64, into: &mut Text) -> Result<(), Memory>
         into.push_slice(b" + ")?;
         return put_decimal(alloc, n, into);
     }
+    // The digits without their sign, which has blanks around it here.
     let mut digits = Text::new(alloc);
     put_decimal(alloc, n, &mut digits)?;
     into.push_slice(b" - ")?;
     into.push_slice(&digits.as_slice()[1..])
 }
 
-// Appends an arrival and what is added to it.
+// Appends an arrival and the seconds that are added to it.
 fn put_arrival(alloc: Global, var: Var, plus: i64, into: &mut Text) -> Result<(), Memory>
     ensures { OnOk result (into.new ≡ into.old ++ arrival_text var plus) }
 {
@@ -110,7 +93,7 @@ fn put_arrival(alloc: Global, var: Var, plus: i64, into: &mut Text) -> Result<()
     put_plus(alloc, plus, into)
 }
 
-// Appends a date and what is added to it.
+// Appends a date and the seconds that are added to it.
 fn put_date(alloc: Global, var: Var, plus: i64, into: &mut Text) -> Result<(), Memory>
     ensures { OnOk result (into.new ≡ into.old ++ date_text var plus) }
 {
@@ -143,7 +126,7 @@ pub(crate) fn put_term(alloc: Global, term: Term, into: &mut Text) -> Result<(),
     }
 }
 
-// Appends a number, or a field that is one.
+// Appends a number or the name of a number field.
 fn put_number(alloc: Global, x: NumExpr, into: &mut Text) -> Result<(), Memory>
     ensures { OnOk result (into.new ≡ into.old ++ number_text x) }
 {
@@ -157,41 +140,12 @@ fn put_number(alloc: Global, x: NumExpr, into: &mut Text) -> Result<(), Memory>
     }
 }
 
-// Appends a byte of a text, a quote twice.
-fn put_byte(b: u8, into: &mut Text) -> Result<(), Memory>
-    ensures { OnOk result (into.new ≡ into.old ++ doubled b) }
-{
-    if b == b'\'' {
-        into.push_slice(b"''")
-    } else {
-        into.push_slice(&[b])
-    }
-}
-
-fn put_inner(bytes: &[u8], into: &mut Text) -> Result<(), Memory>
-    ensures { OnOk result (into.new ≡ into.old ++ flat_map doubled bytes.now) }
-{
-    for b in bytes {
-        put_byte(*b, into)?;
-    }
-    Ok(())
-}
-
-// Appends a text in quotes.
-fn put_bytes(bytes: &[u8], into: &mut Text) -> Result<(), Memory>
-    ensures { OnOk result (into.new ≡ into.old ++ text_of_bytes bytes.now) }
-{
-    into.push_slice(b"'")?;
-    put_inner(bytes, into)?;
-    into.push_slice(b"'")
-}
-
-// Appends a text, or a field that is one.
+// Appends a text in quotes or the name of a text field.
 fn put_text(alloc: Global, x: &TextExpr, into: &mut Text) -> Result<(), Memory>
     ensures { OnOk result (into.new ≡ into.old ++ text_text x.now) }
 {
     match x {
-        TextExpr::Literal(text) => put_bytes(text.as_slice(), into),
+        TextExpr::Literal(text) => put_quoted(text.as_slice(), into),
         TextExpr::Field(var, field) => {
             put_var(alloc, *var, into)?;
             into.push_slice(b".")?;
@@ -200,7 +154,7 @@ fn put_text(alloc: Global, x: &TextExpr, into: &mut Text) -> Result<(), Memory>
     }
 }
 
-// Appends the sign of a comparison.
+// Appends the sign of a comparison between blanks.
 fn put_op(op: Op, into: &mut Text) -> Result<(), Memory>
     ensures { OnOk result (into.new ≡ into.old ++ codes " " ++ text_of_op op ++ codes " ") }
 {

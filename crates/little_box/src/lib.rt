@@ -1,4 +1,4 @@
-//! The deliveries of one query.
+//! The deliveries of one query, in order of delivery.
 #![tactic(auto)]
 
 ghost use Rattle.std.specs.Prelude.{◌≡◌, ◌<◌, ◌≤◌, ◌++◌, ◌∷◌, [], false, length, take, OnOk, OnErr, option_copied, slice_get};
@@ -10,7 +10,7 @@ use std::marker::Model;
 use tap_base::{DocNum, Memory};
 use tap_rows::Entry;
 
-/// What one query has delivered, in order of delivery. No document is delivered twice.
+/// The deliveries of one query, in order of delivery. No document is delivered twice.
 #[derive(Drop)]
 pub struct LittleBox {
     entries: IndexMap<u32, Entry>,
@@ -30,7 +30,7 @@ impl Model for LittleBox {
 }
 
 impl LittleBox {
-    /// The empty box.
+    /// Returns a box without deliveries.
     pub fn new(alloc: Global) -> LittleBox
         ensures { result ≡ [] }
     {
@@ -39,7 +39,7 @@ impl LittleBox {
         }
     }
 
-    /// How many entries there are. Their documents are distinct.
+    /// Returns how many entries there are. Their documents are distinct.
     pub fn len(&self) -> u32
         ensures count { result ≡ length self.now }
         ensures distinct { AreDistinct self.now }
@@ -47,14 +47,14 @@ impl LittleBox {
         self.entries.len() as u32
     }
 
-    /// Is the document in the box? One look-up, which takes no memory.
+    /// Returns whether the document is in the box, by one look-up. It takes no memory.
     pub fn has(&self, doc: DocNum) -> bool
         ensures { result ≡ is_in doc.0 self.now }
     {
         self.entries.contains_key(&doc.0)
     }
 
-    /// The entry at this place, from 0. None exactly where there is no such place.
+    /// Returns the entry at this place, from 0. `None` comes if and only if there is no such place.
     pub fn entry(&self, i: u32) -> Option<&Entry>
         ensures { option_copied result ≡ slice_get self.now i }
     {
@@ -64,7 +64,7 @@ impl LittleBox {
         }
     }
 
-    /// Appends an entry. At Err nothing has changed.
+    /// Appends an entry. `Memory` comes if memory runs out, and then nothing has changed.
     pub fn add(&mut self, entry: Entry) -> Result<(), Memory>
         requires unseen { is_in entry.doc.0 self.old ≡ false }
         requires room { length self.old < 4294967295 }
@@ -75,7 +75,7 @@ impl LittleBox {
         Ok(())
     }
 
-    /// Keeps the first `n` entries. It takes no memory.
+    /// Removes all entries but the first `n`. It takes no memory.
     pub fn cut(&mut self, n: u32)
         requires { n ≤ length self.old }
         ensures { self.new ≡ take n self.old }

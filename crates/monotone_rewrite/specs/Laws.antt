@@ -53,7 +53,8 @@ pub record IsGrowingOver (c : Condition) (T : Tables) (start : ℤ) (family : �
 -- the documents of the union are the least such family
 pub record IsLeastGrowing (c : Condition) (T : Tables) (start : ℤ) : Type 0 where
   pub growing : IsGrowingOver c T start (in_union c T start)
-  pub least : (family : ℤ → ℕ → Bool) → IsGrowingOver c T start family → (t : ℤ) (n : ℕ) → in_union c T start t n ≡ true → family t n ≡ true
+  pub least : (family : ℤ → ℕ → Bool) → IsGrowingOver c T start family → (t : ℤ) (n : ℕ) → in_union c T start t n ≡ true
+      → family t n ≡ true
 
 abbrev pub UnionIsLeast : Type 0
 UnionIsLeast = (c : Condition) (T : Tables) (start : ℤ) → IsLeastGrowing c T start

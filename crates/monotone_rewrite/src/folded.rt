@@ -1,7 +1,8 @@
+//! Bodies of a condition at a time, folded into the nodes of a pool.
+
 ghost use Rattle.std.specs.Prelude.{◌≡◌, IfOk, OnOk};
 ghost use Rattle.tql_core.specs.Condition.{condition};
 ghost use Rattle.tql_core.specs.Trees.{IsTreeAt, KeepsTrees};
-ghost use Rattle.tql_core.specs.Values.{compare};
 ghost use Rattle.time_marks.specs.Marks.{body};
 ghost use Rattle.monotone_rewrite.specs.Folding.{same_base, is_there, fold_atom, fold};
 
@@ -10,23 +11,9 @@ use crate::shared::{
 };
 use node_pool::{NodeId, Pool};
 use tap_base::{Copied, Memory, Op};
-use tql_core::{Atom, Base, Cond, TNode, Term};
+use tql_core::{Atom, Base, Cond, TNode, Term, compares};
 
-// Does the comparison of two numbers hold?
-fn compares(op: Op, x: i64, y: i64) -> bool
-    ensures { result ≡ compare op x y }
-{
-    match op {
-        Op::Eq => x == y,
-        Op::Ne => x != y,
-        Op::Lt => x < y,
-        Op::Le => x <= y,
-        Op::Gt => x > y,
-        Op::Ge => x >= y,
-    }
-}
-
-// Are the bases equal?
+// Returns whether the bases are equal.
 fn is_same_base(a: Base, b: Base) -> bool
     ensures { result ≡ same_base a b }
 {
@@ -40,7 +27,7 @@ fn is_same_base(a: Base, b: Base) -> bool
     }
 }
 
-// Is the base present wherever the term is?
+// Returns whether each row that has the term has the base.
 fn is_there(at: &Term, base: Base) -> bool
     ensures { result ≡ is_there at.now base }
 {
@@ -53,7 +40,7 @@ fn is_there(at: &Term, base: Base) -> bool
     }
 }
 
-// An atom, where what is known of it is worked out.
+// Interns an atom. A comparison that is known is True or False.
 fn folded_atom(pool: &mut Pool<TNode>, at: &Term, atom: Atom) -> Result<NodeId, Memory>
     ensures kept { OnOk result (KeepsTrees pool.old pool.new) }
     ensures tree { IfOk result (λ id. IsTreeAt pool.new id.0 (fold_atom at.now atom)) }
@@ -64,7 +51,7 @@ fn folded_atom(pool: &mut Pool<TNode>, at: &Term, atom: Atom) -> Result<NodeId, 
         Atom::Has(v, f, y) => shared(pool, TNode::Plain(Atom::Has(v, f, y))),
         Atom::Times(x, op, y) => {
             if is_same_base(x.base, y.base) && is_there(at, x.base) {
-                shared_constant(pool, compares(op, x.plus, y.plus))
+                shared_constant(pool, compares(op, i128::from(x.plus), i128::from(y.plus)))
             } else {
                 shared(pool, TNode::Plain(Atom::Times(x, op, y)))
             }
@@ -72,7 +59,8 @@ fn folded_atom(pool: &mut Pool<TNode>, at: &Term, atom: Atom) -> Result<NodeId, 
     }
 }
 
-/// The body of the condition at the term, folded, as a node of the pool.
+/// Interns the body of the condition at the term, folded from the leaves up, and returns its node. `Memory` comes if
+/// memory runs out or the pool is full.
 pub(crate) fn folded_body(pool: &mut Pool<TNode>, cond: &Cond, at: &Term) -> Result<NodeId, Memory>
     ensures kept { OnOk result (KeepsTrees pool.old pool.new) }
     ensures tree { IfOk result (λ id. IsTreeAt pool.new id.0 (fold at.now (body (condition cond.now) at.now))) }

@@ -1,28 +1,28 @@
 //! Laws of window queries, over their definitions alone.
 ghost use Rattle.monotone_rewrite.specs.Laws.{WindowIsUnion, DistinctIsUnion, LaterRowsKeepFirst, UnionIsLeast, ProbesKeepScopes};
 
-/// The window query over the past seconds gives the union of what was given at each of them, with first seconds; and
-/// over the seconds since the last run, without what was given before, what is fresh.
+/// States that the window query over the past seconds gives the union of what each of them gives, with first seconds.
+/// Over the seconds since the last run, without what was given before, it gives what is fresh.
 pub fn the_window_is_the_union()
     ensures { WindowIsUnion }
 {}
 
-/// The same of the distinct probes.
+/// States the same law of the distinct probes.
 pub fn distinct_probes_are_the_union()
     ensures { DistinctIsUnion }
 {}
 
-/// Rows that come later change no first second of a condition.
+/// States that rows that come later change no first second of a condition.
 pub fn later_rows_keep_first()
     ensures { LaterRowsKeepFirst }
 {}
 
-/// The union is the least growing family over what is given at each second.
+/// States that the union is the least growing family over what each second gives.
 pub fn the_union_is_least()
     ensures { UnionIsLeast }
 {}
 
-/// Each probe of a window query binds and names its variables as it should.
+/// States that each probe of a window query binds its variables once and names no others.
 pub fn probes_keep_scopes()
     ensures { ProbesKeepScopes }
 {}

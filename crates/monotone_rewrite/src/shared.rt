@@ -1,3 +1,5 @@
+//! Nodes of folded bodies, interned in the pool: equal nodes share one number.
+
 ghost use Rattle.std.specs.Prelude.{◌≡◌, ◌<◌, length, true, Some, IfOk, OnOk};
 ghost use Rattle.node_pool.specs.Pools.{are_below};
 ghost use Rattle.tql_core.specs.Trees.{kids_of, node_tree, tree_at, IsTreeAt, KeepsTrees};
@@ -9,7 +11,7 @@ use tap_base::Memory;
 use tql_core::{TNode, Var};
 use tql_tree::Table;
 
-// What a node says of itself: it is True, it is False, or neither.
+// What is known of a node: it is True, it is False, or neither.
 #[derive(Clone, Copy)]
 pub(crate) enum Kind {
     Yes,
@@ -17,7 +19,7 @@ pub(crate) enum Kind {
     Open,
 }
 
-// The node's number. `Memory` comes for want of memory, and where the pool has no further number.
+// Interns the node and returns its number. `Memory` comes if memory runs out or the pool has no further number.
 pub(crate) fn shared(pool: &mut Pool<TNode>, node: TNode) -> Result<NodeId, Memory>
     requires { are_below (length pool.old) (kids_of node) ≡ true }
     ensures kept { OnOk result (KeepsTrees pool.old pool.new) }
@@ -30,7 +32,7 @@ pub(crate) fn shared(pool: &mut Pool<TNode>, node: TNode) -> Result<NodeId, Memo
     Ok(id)
 }
 
-// What the node of this number says of itself.
+// Returns what is known of the node of this number.
 pub(crate) fn kind_of(pool: &Pool<TNode>, id: NodeId) -> Kind
     requires { id.0 < length pool.now }
     ensures { kind_is result ≡ known (tree_at pool.now id.0) }
@@ -42,7 +44,7 @@ pub(crate) fn kind_of(pool: &Pool<TNode>, id: NodeId) -> Kind
     }
 }
 
-// True or False.
+// Interns True or False.
 pub(crate) fn shared_constant(pool: &mut Pool<TNode>, truth: bool) -> Result<NodeId, Memory>
     ensures kept { OnOk result (KeepsTrees pool.old pool.new) }
     ensures tree { IfOk result (λ id. IsTreeAt pool.new id.0 (constant truth)) }
@@ -54,12 +56,13 @@ pub(crate) fn shared_constant(pool: &mut Pool<TNode>, truth: bool) -> Result<Nod
     }
 }
 
-// Both, where what is known of either is worked out.
+// Interns the conjunction, unless one side is known.
 pub(crate) fn shared_all(pool: &mut Pool<TNode>, l: NodeId, r: NodeId) -> Result<NodeId, Memory>
     requires left { l.0 < length pool.old }
     requires right { r.0 < length pool.old }
     ensures kept { OnOk result (KeepsTrees pool.old pool.new) }
-    ensures tree { IfOk result (λ id. IsTreeAt pool.new id.0 (fold_all (known (tree_at pool.old l.0)) (known (tree_at pool.old r.0)) (tree_at pool.old l.0) (tree_at pool.old r.0))) }
+    ensures tree { IfOk result (λ id. IsTreeAt pool.new id.0 (fold_all (known (tree_at pool.old l.0)) (known (tree_at pool.old r.0)) (tree_at pool.old l.0)
+        (tree_at pool.old r.0))) }
 {
     match (kind_of(pool, l), kind_of(pool, r)) {
         (Kind::No, _) => shared(pool, TNode::False),
@@ -70,12 +73,13 @@ pub(crate) fn shared_all(pool: &mut Pool<TNode>, l: NodeId, r: NodeId) -> Result
     }
 }
 
-// Either, where what is known of one is worked out.
+// Interns the disjunction, unless one side is known.
 pub(crate) fn shared_either(pool: &mut Pool<TNode>, l: NodeId, r: NodeId) -> Result<NodeId, Memory>
     requires left { l.0 < length pool.old }
     requires right { r.0 < length pool.old }
     ensures kept { OnOk result (KeepsTrees pool.old pool.new) }
-    ensures tree { IfOk result (λ id. IsTreeAt pool.new id.0 (fold_either (known (tree_at pool.old l.0)) (known (tree_at pool.old r.0)) (tree_at pool.old l.0) (tree_at pool.old r.0))) }
+    ensures tree { IfOk result (λ id. IsTreeAt pool.new id.0 (fold_either (known (tree_at pool.old l.0)) (known (tree_at pool.old r.0)) (tree_at pool.old l.0)
+        (tree_at pool.old r.0))) }
 {
     match (kind_of(pool, l), kind_of(pool, r)) {
         (Kind::Yes, _) => shared(pool, TNode::True),
@@ -86,7 +90,7 @@ pub(crate) fn shared_either(pool: &mut Pool<TNode>, l: NodeId, r: NodeId) -> Res
     }
 }
 
-// The opposite, where what is known is worked out.
+// Interns the negation. It is known if its operand is.
 pub(crate) fn shared_not(pool: &mut Pool<TNode>, x: NodeId) -> Result<NodeId, Memory>
     requires { x.0 < length pool.old }
     ensures kept { OnOk result (KeepsTrees pool.old pool.new) }
@@ -99,7 +103,7 @@ pub(crate) fn shared_not(pool: &mut Pool<TNode>, x: NodeId) -> Result<NodeId, Me
     }
 }
 
-// Some row, unless none can be one.
+// Interns an EXISTS. It is False if its inner condition is.
 pub(crate) fn shared_exists(
     pool: &mut Pool<TNode>,
     var: Var,

@@ -9,7 +9,7 @@ use tap_base::Memory;
 use tql_core::{Base, Cond, Term, Var};
 use tql_tree::Table;
 
-// The arrival of a variable's row, and so many seconds more.
+// Returns the arrival of a variable's row, some seconds later.
 fn arrival(var: u8, plus: i64) -> Term
     ensures { result ≡ record { base = Arrival (record { 0 = var }); plus = plus } }
 {
@@ -19,16 +19,17 @@ fn arrival(var: u8, plus: i64) -> Term
     }
 }
 
-// There is no note that arrived less than 5 seconds ago.
+// Returns the condition that no note arrived less than 5 seconds ago.
 fn unnoted(alloc: Global) -> Result<Cond, Memory>
-    ensures { IfOk result (λ cond. condition cond ≡ Not (Exists (record { 0 = 1 }) Notes (NowBefore (record { base = Arrival (record { 0 = 1 }); plus = pos 5 })))) }
+    ensures { IfOk result (λ cond. condition cond ≡ Not
+        (Exists (record { 0 = 1 }) Notes (NowBefore (record { base = Arrival (record { 0 = 1 }); plus = pos 5 })))) }
 {
     let young = Box::new(alloc, Cond::NowBefore(arrival(1, 5)))?;
     let noted = Box::new(alloc, Cond::Exists(Var(1), Table::Notes, young))?;
     Ok(Cond::Not(noted))
 }
 
-// Never.
+// Returns a condition that never holds.
 fn never(alloc: Global) -> Result<Cond, Memory>
     ensures { IfOk result (λ cond. condition cond ≡ All (Not Always) Never) }
 {

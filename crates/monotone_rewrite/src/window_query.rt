@@ -1,3 +1,5 @@
+//! The window query of a condition: a probe for each rising mark.
+
 ghost use Rattle.std.specs.Prelude.{◌≡◌, ◌<◌, pos, ◌≤ℤ◌, [], ◌∷◌, ◌++◌, IfOk, OnOk, not, true, length};
 ghost use Rattle.std.specs.List.{filter};
 ghost use Rattle.tql_core.specs.Bounds.{are_bounded, is_bounded};
@@ -18,7 +20,7 @@ use tap_base::{Memory, Rows};
 use time_marks::{Mark, Probe, WindowQuery, rising_from};
 use tql_core::{Cond, TNode};
 
-// Is the body anything but False?
+// Returns whether the body is anything but False.
 fn can_find(pool: &Pool<TNode>, body: NodeId) -> bool
     requires { body.0 < length pool.now }
     ensures { result ≡ not (is_no (known (tree_at pool.now body.0))) }
@@ -40,7 +42,8 @@ fn push_probe(
     requires bounded { is_bounded mark.now.at ≡ true }
     requires kept { are_kept pool.now probes.old ≡ true }
     ensures kept { OnOk result (are_kept pool.now probes.new ≡ true) }
-    ensures probes { OnOk result (probes_in pool.now probes.new ≡ probes_in pool.now probes.old ++ filter can_find (record { path = mark.now.path; at = mark.now.at; body = tree_at pool.now body.0 } ∷ [])) }
+    ensures probes { OnOk result (probes_in pool.now probes.new ≡ probes_in pool.now probes.old
+        ++ filter can_find (record { path = mark.now.path; at = mark.now.at; body = tree_at pool.now body.0 } ∷ [])) }
 {
     if can_find(pool, body) {
         let path = mark.path.copy()?;
@@ -63,14 +66,15 @@ fn add_probe(
     requires bounded { is_bounded mark.now.at ≡ true }
     requires kept { are_kept pool.old probes.old ≡ true }
     ensures kept { OnOk result (are_kept pool.new probes.new ≡ true) }
-    ensures probes { OnOk result (probes_in pool.new probes.new ≡ probes_in pool.old probes.old ++ filter can_find (fold_probe (probe_of (condition cond.now) mark.now) ∷ [])) }
+    ensures probes { OnOk result (probes_in pool.new probes.new ≡ probes_in pool.old probes.old
+        ++ filter can_find (fold_probe (probe_of (condition cond.now) mark.now) ∷ [])) }
 {
     let body = folded_body(pool, cond, &mark.at)?;
     push_probe(pool, mark, body, probes)?;
     Ok(())
 }
 
-// The window query of the condition.
+// Returns the window query of the condition.
 fn window_query(alloc: Global, cond: &Cond, start: i64) -> Result<WindowQuery, Memory>
     requires scoped { IsQuery (condition cond.now) }
     requires bounded { are_bounded (condition cond.now) ≡ true }
@@ -87,12 +91,12 @@ fn window_query(alloc: Global, cond: &Cond, start: i64) -> Result<WindowQuery, M
     Ok(WindowQuery { pool, probes })
 }
 
-/// The window query of a condition that is asked for the seconds from the start on: a probe for each of its rising
-/// marks, folded, without those whose body is False. Over the window from the start to t it finds each document that
-/// was given at some second below t, with the first such second, and no other; it is the minimum bounding monotone
-/// query. Its probes bind and name their variables as they should. The condition names no variable but `m` and those
-/// that its EXISTS bind, and its times are as typing gives them. `Memory` comes for want of memory, and where the bodies
-/// have more than 4,294,967,295 nodes.
+/// Returns the window query of a condition for the seconds from the start on. It has a probe for each rising mark, with
+/// its body folded, without those whose body is False. Over the window from the start to t it finds each document that
+/// some second below t gives, with the first such second, and no other: it is the minimum bounding monotone query.
+/// The condition names no variable but `m` and those that its EXISTS bind, and its times are in the range that typing
+/// gives them. Times are in seconds since 1970-01-01T00:00:00Z. `Memory` comes if memory runs out or the bodies have
+/// more than 4,294,967,295 nodes.
 pub fn monotone_from(alloc: Global, cond: &Cond, start: i64) -> Result<WindowQuery, Memory>
     requires scoped { IsQuery (condition cond.now) }
     requires bounded { are_bounded (condition cond.now) ≡ true }
@@ -106,7 +110,7 @@ pub fn monotone_from(alloc: Global, cond: &Cond, start: i64) -> Result<WindowQue
     Ok(query)
 }
 
-/// The window query of a condition that is asked for all seconds from 0.
+/// Returns the window query of a condition for all seconds from 0. `Memory` comes as in `monotone_from`.
 pub fn monotone(alloc: Global, cond: &Cond) -> Result<WindowQuery, Memory>
     requires scoped { IsQuery (condition cond.now) }
     requires bounded { are_bounded (condition cond.now) ≡ true }

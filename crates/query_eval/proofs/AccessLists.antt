@@ -1,6 +1,6 @@
 -- The rows that walks of the index hand out are those that an access admits.
 use Rattle.std.proofs.Common.{◌≡◌, ℕ, suc, ◌+◌, ◌<◌, ◌≤◌, ℤ, pos, Bool, true, false, List, [], ◌∷◌, Option, Some, None, length, refl, sym, ap, ◌∙◌, subst, inl, inr, arith, map, nat_eq}
-use Rattle.std.specs.Prelude.{◌||◌, ◌≤ℤ◌, int_le, int_lt, option_to_list, filter}
+use Rattle.std.specs.Prelude.{◌||◌, ◌≤ℤ◌, int_le, option_to_list, filter}
 use Rattle.std.specs.List.{list_any, find}
 use Rattle.std.specs.Str.{bytes_eq}
 use Rattle.std.specs.Ordering.{int_eq, is_eq}
@@ -21,7 +21,7 @@ use Rattle.tql_core.specs.Row.{Row, OfDoc, OfNote, arrival, fields}
 use Rattle.tql_core.specs.Values.{field, both, both_texts, text_cmp, text_field, list_field, has}
 use Rattle.row_index.specs.Texts as texts
 use Rattle.row_index.specs.Texts.{with_text, msgids, parents, senders, words_in}
-use Rattle.row_index.specs.Orders.{Numbered, doc_number, IsMoment, up_to}
+use Rattle.row_index.specs.Orders.{Numbered, doc_number, IsMoment}
 use Rattle.row_index.specs.Held.{notes_on}
 
 module _ {A : Type 0} (of : A → Row) where

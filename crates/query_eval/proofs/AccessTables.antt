@@ -1,5 +1,5 @@
 -- What an access reaches where all rows have come.
-use Rattle.std.proofs.Common.{◌≡◌, ℕ, ℤ, pos, Bool, true, false, List, [], ◌∷◌, Option, Some, None, refl, sym, ap, ◌∙◌, subst, inl, inr, map}
+use Rattle.std.proofs.Common.{◌≡◌, ℤ, pos, Bool, true, List, [], ◌∷◌, refl, sym, ap, ◌∙◌, inl, inr, map}
 use Rattle.std.specs.Prelude.{◌≤ℤ◌, ◌||◌, filter}
 use Rattle.std.specs.List.{list_any}
 use Rattle.std.proofs.lemmas.Bool.{cases_Bool, both_ways}
@@ -9,7 +9,7 @@ use Rattle.tql_tree.specs.declared.table.Table.{Table}
 use Rattle.tql_tree.specs.declared.table.Table.TheVariants.{Docs, Notes}
 use Rattle.tql_core.specs.declared.term.Var.{Var}
 use Rattle.tql_core.specs.Condition.{Condition}
-use Rattle.tql_core.specs.Row.{Row, OfDoc, OfNote, arrival, rows_of}
+use Rattle.tql_core.specs.Row.{OfDoc, OfNote, rows_of}
 use Rattle.tql_core.specs.Values.{Env}
 use Rattle.time_marks.specs.Marks.{guards_of}
 use Rattle.row_index.specs.Orders.{IsMoment, doc_arrival, note_arrival, up_to}

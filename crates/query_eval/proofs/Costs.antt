@@ -1,19 +1,12 @@
 -- How many steps a run takes.
-use Rattle.std.proofs.Common.{◌≡◌, ℕ, suc, ◌+◌, ◌≤◌, ℤ, pos, Bool, true, false, List, [], ◌∷◌, ◌++◌, Option, Some, None, refl, sym, ap, ◌∙◌, subst, inl, inr, arith, nat_eq, map, if◌then◌else◌}
-use Rattle.std.specs.Prelude.{◌⊎◌, ◌&&◌, filter, fold, option_to_list, int_le, int_lt}
-use Rattle.std.proofs.lemmas.Bool.{cases_Bool, false≢true}
+use Rattle.std.proofs.Common.{◌≡◌, ℕ, ◌+◌, ◌≤◌, Bool, true, List, [], ◌∷◌, refl, sym, ap, ◌∙◌, inl, inr, arith, map, if◌then◌else◌}
+use Rattle.std.specs.Prelude.{◌&&◌, filter, fold, int_le, int_lt}
+use Rattle.std.proofs.lemmas.Bool.{cases_Bool}
 use Rattle.tap_rows.specs.declared.rows.Doc.{Doc}
-use Rattle.tap_rows.specs.declared.tables.Tables.{Tables}
-use Rattle.tql_tree.specs.declared.table.Table.{Table}
-use Rattle.tql_tree.specs.declared.table.Table.TheVariants.{Docs, Notes}
-use Rattle.tql_core.specs.declared.term.Var.{Var}
-use Rattle.tql_core.specs.Row.{Row, OfDoc, OfNote, arrival, date, rows_of}
+use Rattle.tql_core.specs.Row.{OfDoc, date}
 use Rattle.tap_rows.specs.Kept.{In}
-use Rattle.tql_core.specs.Values.{Env, bind, lookup, value, on_row}
-use Rattle.row_index.specs.Orders.{in_window, doc_arrival}
 use Rattle.row_index.specs.Dates.{has_date, stored_date, is_earlier, put_dated, in_date_order, dated_in}
 use Rattle.time_marks.specs.declared.window.Window.{Window}
-use Rattle.time_marks.specs.Windows.{is_within}
 use Rattle.time_marks.specs.Seeks.{lies_in}
 use Rattle.query_eval.specs.Work.{total}
 use Rattle.query_eval.proofs.DriverLaws.{date_lies}

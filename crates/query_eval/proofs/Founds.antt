@@ -1,9 +1,8 @@
 -- The hits of all parts are just the marks that their query finds.
-use Rattle.std.proofs.Common.{◌≡◌, ℕ, suc, ◌+◌, ◌<◌, ◌≤◌, ℤ, pos, Bool, true, false, List, [], ◌∷◌, ◌++◌, Option, Some, None, length, refl, sym, ap, ◌∙◌, subst, inl, inr, arith, nat_eq, map}
-use Rattle.std.specs.Prelude.{◌⊎◌, ◌&&◌, int_le, int_lt, nat_lt, ◌≤ℤ◌, ◌<ℤ◌, option_to_list, slice_get}
-use Rattle.std.specs.List.{flat_map, list_all}
+use Rattle.std.proofs.Common.{◌≡◌, ℕ, suc, ◌+◌, ◌<◌, ◌≤◌, ℤ, true, List, [], ◌∷◌, ◌++◌, length, refl, sym, ap, ◌∙◌, subst, inl, inr, arith, map}
+use Rattle.std.specs.Prelude.{◌⊎◌, int_le, int_lt, nat_lt, ◌≤ℤ◌, ◌<ℤ◌, option_to_list}
 use Rattle.std.proofs.lemmas.Int.{ints}
-use Rattle.std.proofs.lemmas.Bool.{cases_Bool, and_parts, and_from, false≢true}
+use Rattle.std.proofs.lemmas.Bool.{and_parts, and_from}
 use Rattle.tap_rows.specs.declared.tables.Tables.{Tables}
 use Rattle.tap_rows.specs.declared.results.Hit.{Hit}
 use Rattle.tap_rows.specs.declared.results.Entry.{Entry}
@@ -12,7 +11,6 @@ use Rattle.tql_core.specs.declared.term.Var.{Var}
 use Rattle.tql_core.specs.declared.term.Base.{Base}
 use Rattle.tql_core.specs.declared.term.Base.TheVariants as B
 use Rattle.tql_core.specs.declared.term.Term.{Term}
-use Rattle.tql_core.specs.declared.tnode.TNode.{TNode}
 use Rattle.tql_core.specs.Bounds.{is_near, is_bounded, is_bounded_base}
 use Rattle.tap_rows.specs.Kept.{In}
 use Rattle.tql_core.specs.Trees.{tree_at}
@@ -20,13 +18,12 @@ use Rattle.time_marks.specs.declared.mark.Step.{Step}
 use Rattle.time_marks.specs.declared.ranged.Ranged.{Ranged}
 use Rattle.time_marks.specs.declared.ranged_query.RangedQuery.{RangedQuery}
 use Rattle.time_marks.specs.declared.window.Window.{Window}
-use Rattle.time_marks.specs.Windows.{is_within}
-use Rattle.time_marks.specs.Found.{vars_of, Distinct, IsProbe, nested}
+use Rattle.time_marks.specs.Found.{vars_of, IsProbe, nested}
 use Rattle.time_marks.specs.Kept.{is_kept}
-use Rattle.time_marks.specs.Probes.{Probe, found, finds}
+use Rattle.time_marks.specs.Probes.{Probe, finds}
 use Rattle.time_marks.specs.Seeks.{seek_of, seek_plus}
 use Rattle.time_marks.specs.Views.{probe_in, ranged_probes}
-use Rattle.time_marks.proofs.Lists.{any_in, in_any, all_in, in_map, map_in, in_left, in_right, append_in}
+use Rattle.time_marks.proofs.Lists.{any_in, in_any, all_in, in_map, map_in, append_in}
 use Rattle.access_plan.specs.declared.reach.Reach.{Reach}
 use Rattle.access_plan.specs.Orders.{driven, order_of}
 use Rattle.access_plan.specs.Laws.{order_vars, numbers_of, IsServed, IsOrder}

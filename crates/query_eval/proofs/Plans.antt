@@ -1,13 +1,12 @@
 -- What a run of a plan keeps, and what it costs.
-use Rattle.std.proofs.Common.{◌≡◌, ℕ, zero, suc, ◌+◌, ◌-◌, ◌<◌, ◌≤◌, ℤ, pos, Bool, true, false, List, [], ◌∷◌, Option, Some, None, length, refl, sym, ap, ◌∙◌, subst, inl, inr, arith, map}
-use Rattle.std.specs.Prelude.{◌⊎◌, ◌&&◌, nat_lt, nat_le, slice_get, if◌then◌else◌}
+use Rattle.std.proofs.Common.{◌≡◌, ℕ, zero, suc, ◌+◌, ◌-◌, ◌<◌, ◌≤◌, true, List, [], ◌∷◌, Some, length, refl, sym, ap, ◌∙◌, subst, inl, inr, arith}
+use Rattle.std.specs.Prelude.{nat_lt, nat_le, slice_get, if◌then◌else◌}
 use Rattle.tap_base.specs.declared.numbers.DocNum.{DocNum}
 use Rattle.tap_rows.specs.declared.rows.Doc.{Doc}
 use Rattle.tap_rows.specs.declared.tables.Tables.{Tables}
 use Rattle.tap_rows.specs.declared.results.Hit.{Hit}
 use Rattle.tap_rows.specs.declared.results.Entry.{Entry}
 use Rattle.tap_rows.specs.Kept as kept
-use Rattle.tql_core.specs.declared.term.Var.{Var}
 use Rattle.tap_rows.specs.Kept.{In}
 use Rattle.row_index.specs.Orders.{Numbered, doc_number}
 use Rattle.time_marks.specs.declared.ranged.Ranged.{Ranged}
@@ -22,10 +21,9 @@ use Rattle.access_plan.proofs.Served.{orders_serve}
 use Rattle.query_eval.specs.Lowest.{lowered, lowest, has_place, with_hit, keeping}
 use Rattle.query_eval.specs.Placed.{IsPlaced}
 use Rattle.query_eval.specs.Work.{total}
-use Rattle.query_eval.specs.Nested.{was_seen}
 use Rattle.query_eval.specs.Drivers.{seek_var, seek_cost}
-use Rattle.query_eval.specs.Runs.{part_order, part_hits, part_cost, query_hits, query_cost, HasValidProbes, HasNoMark, PathIsDocument, rows_due}
-use Rattle.query_eval.proofs.Members.{of_kept, no_more}
+use Rattle.query_eval.specs.Runs.{part_order, part_cost, query_hits, query_cost, HasValidProbes, HasNoMark, PathIsDocument, rows_due}
+use Rattle.query_eval.proofs.Members.{no_more}
 use Rattle.query_eval.proofs.Costs.{total_none, total_map}
 use Rattle.query_eval.proofs.Dues.{quiet_cost, alone_cost}
 use Rattle.query_eval.proofs.Founds.{part_probe, part_bounded, query_found}

@@ -1,6 +1,6 @@
 -- The probe of a plan that finds each document some seconds after it came.
-use Rattle.std.proofs.Common.{◌≡◌, ℕ, zero, suc, true, length, ◌+◌, ◌≤◌, ◌<◌, ◌∙◌, pos, List, [], ◌∷◌, Some, refl, sym, ap, subst, inl, inr, arith}
-use Rattle.std.specs.Prelude.{◌⊎◌, ◌&&◌, nat_lt, map, slice_get}
+use Rattle.std.proofs.Common.{◌≡◌, ℕ, zero, suc, true, length, ◌<◌, ◌∙◌, pos, List, [], ◌∷◌, Some, refl, sym, ap, subst, inl, inr, arith}
+use Rattle.std.specs.Prelude.{◌&&◌, nat_lt, map, slice_get}
 use Rattle.std.specs.List.{list_all}
 use Rattle.tql_tree.specs.declared.table.Table.TheVariants.{Docs}
 use Rattle.tql_core.specs.declared.term.Base.TheVariants.{Arrival}

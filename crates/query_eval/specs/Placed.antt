@@ -1,5 +1,6 @@
 -- Hits with the places of their documents among them.
-use Rattle.std.specs.Prelude.{◌≡◌, ℕ, ◌-◌, ◌<◌, ◌≤◌, Bool, false, Option, Some, None, List, length, nat_eq, slice_get, vec_capacity, ◌^◌}
+use Rattle.std.specs.Prelude.{◌≡◌, ℕ, ◌-◌, ◌<◌, ◌≤◌, Bool, false, Option}
+use Rattle.std.specs.Prelude.{Some, None, List, length, nat_eq, slice_get, vec_capacity, ◌^◌}
 use Rattle.query_eval.specs.declared.kept_hits.KeptHits.{KeptHits}
 use Rattle.tap_rows.specs.declared.results.Hit.{Hit}
 
@@ -13,7 +14,9 @@ has_at hits place doc = is_of doc (slice_get hits place)
 
 -- under the number of each hit's document stands the hit's place
 abbrev pub IsPlaced : List Hit → List ℕ → Type 0
-IsPlaced hits places = (k : ℕ) (hit : Hit) → slice_get hits k ≡ Some hit → (0 < hit.doc.0) × (hit.doc.0 ≤ length places) × (slice_get places (hit.doc.0 - 1) ≡ Some k)
+IsPlaced hits places =
+    (k : ℕ) (hit : Hit) → slice_get hits k ≡ Some hit
+    → (0 < hit.doc.0) × (hit.doc.0 ≤ length places) × (slice_get places (hit.doc.0 - 1) ≡ Some k)
 
 -- there is room for a hit of each document that has a place
 pub record HasRoom (kept : KeptHits) : Type 0 where

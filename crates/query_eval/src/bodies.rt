@@ -1,12 +1,11 @@
-// The truth of a body.
+//! The truth of a body.
 
-ghost use Rattle.std.specs.Prelude.{◌≡◌, ◌+◌, ◌<◌, ◌≤◌, pos, length, not, ◌&&◌, ◌||◌};
-ghost use Rattle.std.specs.List.{list_any};
-ghost use Rattle.tql_core.specs.Trees.{tree_at, node_tree, kids_of};
+ghost use Rattle.std.specs.Prelude.{◌≡◌, ◌+◌, ◌<◌, ◌≤◌, pos, length, ◌&&◌, ◌||◌};
+ghost use Rattle.tql_core.specs.Trees.{tree_at};
 ghost use Rattle.tql_core.specs.Holds.{truth};
 ghost use Rattle.tql_core.specs.Values.{bind};
 ghost use Rattle.time_marks.specs.Found.{nested};
-ghost use Rattle.query_eval.specs.Work.{reached, work};
+ghost use Rattle.query_eval.specs.Work.{work};
 
 use crate::rows_by::inner_rows;
 use node_pool::{NodeId, Pool};
@@ -15,7 +14,8 @@ use std::sync::ledger::Ledger;
 use tap_base::Steps;
 use tql_core::{Env, TNode, node_at, true_atom};
 
-/// Is the body at the number true over all rows?
+/// Returns whether the body at the number is true over all rows. It stops at the first row that decides an EXISTS. It
+/// takes no memory.
 pub(crate) fn body_holds<'a, L: Ledger>(
     pool: &'a Pool<TNode>,
     body: NodeId,

@@ -1,9 +1,7 @@
-// Hits in order of their second, then of their document.
+//! Hits in order of their second, then of their document.
 
 ghost use Rattle.std.specs.Prelude.{◌≡◌};
 ghost use Rattle.std.specs.Ordering.{is_lt};
-ghost use Rattle.std.specs.List.Sorted.{IsPermutation};
-ghost use Rattle.tap_rows.specs.Kept.{In};
 ghost use Rattle.tap_rows.specs.Results.{is_before};
 ghost use Rattle.tap_rows.specs.declared.results.Hit.{Hit};
 ghost use Rattle.query_eval.specs.Found.{AreApart, InOrder, HaveSame};
@@ -11,6 +9,7 @@ ghost use Rattle.query_eval.specs.Found.{AreApart, InOrder, HaveSame};
 use std::cmp::Ordering;
 use tap_rows::Hit;
 
+// Compares hits by second, then by document.
 fn compare(a: &Hit, b: &Hit) -> Ordering
     ensures { is_lt result ≡ is_before a.now b.now }
 {

@@ -1,8 +1,7 @@
-// A run's hits, in room that was taken before.
+//! The hits of a run, in room that was taken before it.
 
 ghost use Rattle.std.specs.Prelude.{◌≡◌, ◌≤◌, ◌<◌, [], length, slice_get, option_copied, IfOk, OnOk, OnErr};
 ghost use Rattle.tap_rows.specs.declared.results.Hit.{Hit};
-ghost use Rattle.query_eval.specs.Lowest.{lowered};
 ghost use Rattle.query_eval.specs.Hits.{HitsWithRoom};
 
 use crate::kept_hits::KeptHits;
@@ -30,7 +29,7 @@ impl Model for Hits {
 }
 
 impl Hits {
-    /// No hits, with room for none.
+    /// Returns no hits, with room for none.
     pub fn new(alloc: Global) -> Hits
         ensures { result ≡ record { hits = []; room = 0 } }
     {
@@ -42,7 +41,7 @@ impl Hits {
         }
     }
 
-    /// No hits, with room for `n`.
+    /// Returns no hits, with room for one of each of the documents 1 to `n`. `Memory` comes if memory runs out.
     pub fn with_room(alloc: Global, n: u32) -> Result<Hits, Memory>
         ensures { IfOk result (λ h. h ≡ record { hits = []; room = n }) }
     {
@@ -54,35 +53,35 @@ impl Hits {
         })
     }
 
-    /// How many hits there is room for. It takes no memory, and neither do `len` and `get`.
+    /// Returns how many hits there is room for.
     pub fn room(&self) -> u32
         ensures { result ≡ self.now.room }
     {
         self.kept.places.len() as u32
     }
 
-    /// How many hits there are.
+    /// Returns how many hits there are.
     pub fn len(&self) -> u32
         ensures { result ≡ length self.now.hits }
     {
         self.kept.hits.len() as u32
     }
 
-    /// The hit at this place, from 0. None exactly where there is no such place.
+    /// Returns the hit at this place, from 0. `None` comes if and only if there is no such place.
     pub fn get(&self, i: u32) -> Option<&Hit>
         ensures { option_copied result ≡ slice_get self.now.hits i }
     {
         self.kept.hits.get(i as usize)
     }
 
-    /// The hits.
+    /// Borrows the hits.
     pub fn as_slice(&self) -> &[Hit]
         ensures { result.now ≡ self.now.hits }
     {
         self.kept.hits.as_slice()
     }
 
-    /// The hits as a list.
+    /// Returns the hits as a list.
     pub(crate) fn into_rows(self) -> Rows<Hit>
         ensures { result ≡ self.hits }
     {
@@ -91,7 +90,8 @@ impl Hits {
         Rows::from_vec(hits)
     }
 
-    /// Makes the room at least `n`, and changes nothing else. At Err nothing has changed.
+    /// Makes the room at least `n`, and changes nothing else. `Memory` comes if memory runs out, and then nothing has
+    /// changed.
     pub fn grow(&mut self, n: u32) -> Result<(), Memory>
         ensures hits { self.new.hits ≡ self.old.hits }
         ensures room { self.old.room ≤ self.new.room }

@@ -1,17 +1,15 @@
-// The hits of one probe.
+//! The hits of one probe.
 
 ghost use Rattle.std.specs.Prelude.{◌≡◌, ◌+◌, ◌<◌, ◌≤◌, [], length, true, option_to_list};
 ghost use Rattle.std.specs.List.{flat_map};
 ghost use Rattle.tql_core.specs.Values.{bind};
 ghost use Rattle.query_eval.specs.Work.{total};
 ghost use Rattle.jiff_core.specs.Calendar.{IsWithin};
-ghost use Rattle.tql_core.specs.Trees.{tree_at};
 ghost use Rattle.tql_core.specs.Bounds.{is_near};
-ghost use Rattle.time_marks.specs.Found.{nested};
 ghost use Rattle.time_marks.specs.Seeks.{seek_plus};
-ghost use Rattle.time_marks.specs.Views.{probe_in};
 ghost use Rattle.query_eval.specs.Lowest.{keeping};
 ghost use Rattle.query_eval.specs.Placed.{IsReady};
+ghost use Rattle.query_eval.specs.Searches.{searched, HasBody, HasSlots};
 ghost use Rattle.query_eval.specs.Drivers.{seek_var, hits_at, seek_hits, cost_at, seek_cost, driving};
 
 use crate::drivers::{mark_in, seek_var, stored_rows, table_in};
@@ -24,7 +22,7 @@ use tap_base::Steps;
 use time_marks::{Seek, Window};
 use tql_core::{Env, Var, value};
 
-// Keeps the hits beside the rows that are bound, where the mark that they give lies in the window.
+// Stores the hits beside the rows that are bound, if their mark lies in the window.
 fn collect_at<'a, L: Ledger>(
     search: &Search<'a>,
     order: &'a [Reach],
@@ -33,13 +31,14 @@ fn collect_at<'a, L: Ledger>(
     into: &mut KeptHits,
     steps: &mut Steps<L>,
 )
-    requires node { search.now.probe.now.body.0 < length search.now.pool.now }
-    requires room { length env.now + length order.now + nested (tree_at search.now.pool.now search.now.probe.now.body.0) ≤ 16 }
+    requires node { HasBody search.now }
+    requires room { HasSlots search.now (length env.now + length order.now) }
     requires ready { IsReady into.old }
-    ensures hits { into.new.hits.items ≡ keeping (length into.old.places.items) into.old.hits.items (hits_at search.now.seen.now search.now.index.now w (probe_in search.now.pool.now search.now.probe.now) order.now env.now) }
+    ensures hits { into.new.hits.items ≡ keeping (length into.old.places.items) into.old.hits.items
+        (hits_at search.now.seen.now search.now.index.now w (searched search.now) order.now env.now) }
     ensures ready { IsReady into.new }
     ensures places { length into.new.places.items ≡ length into.old.places.items }
-    ensures steps { steps.new ≤ steps.old + cost_at search.now.index.now w (probe_in search.now.pool.now search.now.probe.now) order.now env.now }
+    ensures steps { steps.new ≤ steps.old + cost_at search.now.index.now w (searched search.now) order.now env.now }
     ensures more { steps.old ≤ steps.new }
 {
     if let Some(mark) = mark_in(w, value(search.probe.at, env)) {
@@ -47,18 +46,18 @@ fn collect_at<'a, L: Ledger>(
     }
 }
 
-// The driving rows of the probe.
+// Returns the driving rows of the probe.
 fn driving<'a>(search: &Search<'a>, seek: Seek, var: Var, w: Window) -> RowWalk<'a>
     requires plus { is_near (seek_plus seek) ≡ true }
     requires low { IsWithin 500000000000 w.low }
     requires high { IsWithin 500000000000 w.high }
-    ensures { result ≡ driving search.now.index.now w (probe_in search.now.pool.now search.now.probe.now) seek var }
+    ensures { result ≡ driving search.now.index.now w (searched search.now) seek var }
 {
     let table = table_in(search.probe.path.as_slice(), var);
     stored_rows(seek, table, seek.window(w), search.index)
 }
 
-// Keeps the hits at the marks of all driving rows.
+// Stores the hits at the marks of all driving rows.
 fn collect_driven<'a, L: Ledger>(
     search: &Search<'a>,
     order: &'a [Reach],
@@ -71,13 +70,16 @@ fn collect_driven<'a, L: Ledger>(
     requires plus { is_near (seek_plus seek) ≡ true }
     requires low { IsWithin 500000000000 w.low }
     requires high { IsWithin 500000000000 w.high }
-    requires node { search.now.probe.now.body.0 < length search.now.pool.now }
-    requires room { 1 + length order.now + nested (tree_at search.now.pool.now search.now.probe.now.body.0) ≤ 16 }
+    requires node { HasBody search.now }
+    requires room { HasSlots search.now (1 + length order.now) }
     requires ready { IsReady into.old }
-    ensures hits { into.new.hits.items ≡ keeping (length into.old.places.items) into.old.hits.items (flat_map (λ row. hits_at search.now.seen.now search.now.index.now w (probe_in search.now.pool.now search.now.probe.now) order.now (bind var row [])) (driving search.now.index.now w (probe_in search.now.pool.now search.now.probe.now) seek var)) }
+    ensures hits { into.new.hits.items ≡ keeping (length into.old.places.items) into.old.hits.items
+        (flat_map (λ row. hits_at search.now.seen.now search.now.index.now w (searched search.now) order.now (bind var row []))
+        (driving search.now.index.now w (searched search.now) seek var)) }
     ensures ready { IsReady into.new }
     ensures places { length into.new.places.items ≡ length into.old.places.items }
-    ensures steps { steps.new ≤ steps.old + total (λ row. 1 + cost_at search.now.index.now w (probe_in search.now.pool.now search.now.probe.now) order.now (bind var row [])) (driving search.now.index.now w (probe_in search.now.pool.now search.now.probe.now) seek var) }
+    ensures steps { steps.new ≤ steps.old + total (λ row. 1 + cost_at search.now.index.now w (searched search.now) order.now (bind var row []))
+        (driving search.now.index.now w (searched search.now) seek var) }
     ensures more { steps.old ≤ steps.new }
 {
     let mut rows = driving(search, seek, var, w);
@@ -86,7 +88,7 @@ fn collect_driven<'a, L: Ledger>(
     }
 }
 
-/// Keeps the hits of a probe: at its fixed mark, or at those of all driving rows.
+/// Stores the hits of a probe: at its fixed mark, or at those of all driving rows.
 pub(crate) fn collect_part<'a, L: Ledger>(
     search: &Search<'a>,
     order: &'a [Reach],
@@ -98,13 +100,14 @@ pub(crate) fn collect_part<'a, L: Ledger>(
     requires plus { is_near (seek_plus seek) ≡ true }
     requires low { IsWithin 500000000000 w.low }
     requires high { IsWithin 500000000000 w.high }
-    requires node { search.now.probe.now.body.0 < length search.now.pool.now }
-    requires room { length (option_to_list (seek_var seek)) + length order.now + nested (tree_at search.now.pool.now search.now.probe.now.body.0) ≤ 16 }
+    requires node { HasBody search.now }
+    requires room { HasSlots search.now (length (option_to_list (seek_var seek)) + length order.now) }
     requires ready { IsReady into.old }
-    ensures hits { into.new.hits.items ≡ keeping (length into.old.places.items) into.old.hits.items (seek_hits search.now.seen.now search.now.index.now w (probe_in search.now.pool.now search.now.probe.now) order.now seek (seek_var seek)) }
+    ensures hits { into.new.hits.items ≡ keeping (length into.old.places.items) into.old.hits.items
+        (seek_hits search.now.seen.now search.now.index.now w (searched search.now) order.now seek (seek_var seek)) }
     ensures ready { IsReady into.new }
     ensures places { length into.new.places.items ≡ length into.old.places.items }
-    ensures steps { steps.new ≤ steps.old + seek_cost search.now.index.now w (probe_in search.now.pool.now search.now.probe.now) order.now seek (seek_var seek) }
+    ensures steps { steps.new ≤ steps.old + seek_cost search.now.index.now w (searched search.now) order.now seek (seek_var seek) }
     ensures more { steps.old ≤ steps.new }
 {
     match seek_var(seek) {

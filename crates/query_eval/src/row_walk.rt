@@ -1,4 +1,4 @@
-// Walks over rows of either table.
+//! Walks over rows of either table.
 
 ghost use Rattle.std.specs.Prelude.{◌≡◌, ◌+◌, [], ◌++◌, None, length, map, nat_eq, option_to_list};
 ghost use Rattle.std.specs.List.{find};
@@ -18,6 +18,7 @@ struct One<'a> {
     num: DocNum,
 }
 
+// The rows that are left, by where they come from.
 #[derive(Drop)]
 enum Left<'a> {
     Docs(DocWalk<'a>),
@@ -26,7 +27,7 @@ enum Left<'a> {
     Nothing,
 }
 
-/// The rows of one table that are still to be handed out.
+/// A walk over rows of one table. Its value is the rows that are left.
 #[derive(Drop)]
 pub(crate) struct RowWalk<'a> {
     left: Left<'a>,
@@ -42,7 +43,7 @@ impl<'a> Model for RowWalk<'a> {
     ghost view = { λ walk. rows_left walk.left };
 }
 
-// The document of a number, with a step where there is one.
+// Returns the document of a number, with one step if there is one.
 fn doc_of<'a, L: Ledger>(one: &One<'a>, steps: &mut Steps<L>) -> Option<RowRef<'a>>
     ensures row { row_list result ≡ map OfDoc (option_to_list (find (λ doc. nat_eq doc.num.0 one.now.num.0) one.now.index.now.docs)) }
     ensures steps { steps.new ≡ steps.old + length (row_list result) }
@@ -54,7 +55,7 @@ fn doc_of<'a, L: Ledger>(one: &One<'a>, steps: &mut Steps<L>) -> Option<RowRef<'
 }
 
 impl<'a> RowWalk<'a> {
-    /// A walk over no rows.
+    /// Returns a walk over no rows.
     pub(crate) fn none() -> RowWalk<'a>
         ensures { result ≡ [] }
     {
@@ -63,7 +64,7 @@ impl<'a> RowWalk<'a> {
         }
     }
 
-    /// A walk over documents.
+    /// Returns a walk over documents.
     pub(crate) fn of_docs(docs: DocWalk<'a>) -> RowWalk<'a>
         ensures { result ≡ map OfDoc docs.entry }
     {
@@ -72,7 +73,7 @@ impl<'a> RowWalk<'a> {
         }
     }
 
-    /// A walk over notes.
+    /// Returns a walk over notes.
     pub(crate) fn of_notes(notes: NoteWalk<'a>) -> RowWalk<'a>
         ensures { result ≡ map OfNote notes.entry }
     {
@@ -81,7 +82,7 @@ impl<'a> RowWalk<'a> {
         }
     }
 
-    /// The document of this number, if there is one.
+    /// Returns a walk over the document of this number, if there is one.
     pub(crate) fn of_one(index: &'a RowIndex, num: DocNum) -> RowWalk<'a>
         ensures { result ≡ map OfDoc (option_to_list (find (λ doc. nat_eq doc.num.0 num.0) index.now.docs)) }
     {
@@ -90,7 +91,7 @@ impl<'a> RowWalk<'a> {
         }
     }
 
-    /// The next row, with one step. None exactly at the end, and then there is no step.
+    /// Removes and returns the next row, with one step. `None` comes if and only if no row is left, and then no step.
     pub(crate) fn next<L: Ledger>(&mut self, steps: &mut Steps<L>) -> Option<RowRef<'a>>
         ensures rows { self.old ≡ row_list result ++ self.new }
         ensures end { result ≡ None → self.old ≡ [] }

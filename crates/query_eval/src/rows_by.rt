@@ -1,6 +1,6 @@
-// The rows that an access of the index reaches.
+//! The rows that an access of the index reaches.
 
-ghost use Rattle.std.specs.Prelude.{◌≡◌, ◌<◌, ◌≤◌, ℕ, ℤ, pos, false, length, filter, map, option_copied, Option, Some, None, IfSome};
+ghost use Rattle.std.specs.Prelude.{◌≡◌, ◌<◌, ◌≤◌, ℕ, pos, false, length, filter, map, option_copied, Option, Some, None, IfSome};
 ghost use Rattle.tap_base.specs.declared.numbers.Op.TheVariants.{Eq};
 ghost use Rattle.tql_core.specs.declared.atom.NumField.TheVariants.{Id, DocOf};
 ghost use Rattle.tql_core.specs.declared.atom.TextField.TheVariants.{From, MsgId, InReplyTo};
@@ -19,7 +19,7 @@ use tap_base::DocNum;
 use tql_core::{Env, TNode, Var, number, text};
 use tql_tree::Table;
 
-// The number, where it has 32 bits.
+// Returns the number, if it has 32 bits.
 fn short(num: Option<i128>) -> Option<u32>
     ensures some { IfSome result (λ n. num ≡ Some (pos n)) }
     ensures none { result ≡ None → (k : ℕ) → k ≤ 4294967295 → both Eq (Some (pos k)) num ≡ false }
@@ -30,10 +30,11 @@ fn short(num: Option<i128>) -> Option<u32>
     }
 }
 
-// The document of this number.
+// Returns the document of this number.
 fn with_number(num: Option<i128>, index: &RowIndex) -> RowWalk<'_>
     ensures { result ≡ filter (λ row. both Eq (field Id row) num) (map OfDoc index.now.docs) }
 {
+    // Brings into scope that the documents' numbers are their places.
     let _docs = index.docs();
     match short(num) {
         None => RowWalk::none(),
@@ -41,7 +42,7 @@ fn with_number(num: Option<i128>, index: &RowIndex) -> RowWalk<'_>
     }
 }
 
-// The documents of this message id.
+// Returns the documents of this message id.
 fn with_msgid<'a>(text: Option<&[u8]>, index: &'a RowIndex) -> RowWalk<'a>
     ensures { result ≡ filter (λ row. both_texts Eq (text_field MsgId row) (option_copied text.entry)) (map OfDoc index.now.docs) }
 {
@@ -51,7 +52,7 @@ fn with_msgid<'a>(text: Option<&[u8]>, index: &'a RowIndex) -> RowWalk<'a>
     }
 }
 
-// The documents that answer this message id.
+// Returns the documents that reply to this message id.
 fn with_parent<'a>(text: Option<&[u8]>, index: &'a RowIndex) -> RowWalk<'a>
     ensures { result ≡ filter (λ row. both_texts Eq (text_field InReplyTo row) (option_copied text.entry)) (map OfDoc index.now.docs) }
 {
@@ -61,7 +62,7 @@ fn with_parent<'a>(text: Option<&[u8]>, index: &'a RowIndex) -> RowWalk<'a>
     }
 }
 
-// The documents of this sender.
+// Returns the documents of this sender.
 fn with_sender<'a>(text: Option<&[u8]>, index: &'a RowIndex) -> RowWalk<'a>
     ensures { result ≡ filter (λ row. both_texts Eq (text_field From row) (option_copied text.entry)) (map OfDoc index.now.docs) }
 {
@@ -71,7 +72,7 @@ fn with_sender<'a>(text: Option<&[u8]>, index: &'a RowIndex) -> RowWalk<'a>
     }
 }
 
-// The documents that have this word.
+// Returns the documents that have this word.
 fn with_word<'a>(text: Option<&[u8]>, index: &'a RowIndex) -> RowWalk<'a>
     ensures { result ≡ filter (λ row. has (list_field Words row) (option_copied text.entry)) (map OfDoc index.now.docs) }
 {
@@ -81,10 +82,11 @@ fn with_word<'a>(text: Option<&[u8]>, index: &'a RowIndex) -> RowWalk<'a>
     }
 }
 
-// The notes on the document of this number.
+// Returns the notes on the document of this number.
 fn with_doc(num: Option<i128>, index: &RowIndex) -> RowWalk<'_>
     ensures { result ≡ filter (λ row. both Eq (field DocOf row) num) (map OfNote index.now.notes) }
 {
+    // Brings into scope that the numbers of noted documents have 32 bits.
     let _notes = index.notes();
     match short(num) {
         None => RowWalk::none(),
@@ -92,7 +94,7 @@ fn with_doc(num: Option<i128>, index: &RowIndex) -> RowWalk<'_>
     }
 }
 
-/// The rows that an access reaches, of a whole table those that have arrived by `last`.
+/// Returns the rows that an access reaches, of a whole table those that have arrived by `last`.
 pub(crate) fn rows_by<'a>(
     access: AccessRef<'a>,
     last: i64,
@@ -113,7 +115,7 @@ pub(crate) fn rows_by<'a>(
     }
 }
 
-/// The rows of an EXISTS whose inner condition is at the number, by its access.
+/// Returns the rows of an EXISTS whose inner condition is at the number, by its access.
 pub(crate) fn inner_rows<'a>(
     pool: &'a Pool<TNode>,
     inner: NodeId,
@@ -125,6 +127,7 @@ pub(crate) fn inner_rows<'a>(
     requires { inner.0 < length pool.now }
     ensures { result ≡ reached index.now var table (tree_at pool.now inner.0) env.now }
 {
+    // Brings into scope that no row arrived after the last second.
     let _docs = index.docs();
     let _notes = index.notes();
     rows_by(inner_access(pool, inner, var, table), i64::MAX, env, index)

@@ -19,7 +19,7 @@ use time_marks::{Probe, Ranged, RangedQuery, Seek, Step, Window};
 use tql_core::{Base, TNode, Term, Var};
 use tql_tree::Table;
 
-// A document without a text.
+// Returns a document without a text.
 fn blank_doc(alloc: Global, num: u32, arrival: i64) -> KeptDoc
     ensures { result ≡ record { num = record { 0 = num }; arrival = arrival; text = [] } }
 {
@@ -44,7 +44,7 @@ fn blank_doc(alloc: Global, num: u32, arrival: i64) -> KeptDoc
     KeptDoc::new(doc, fields)
 }
 
-// Two documents of second 100.
+// Returns two documents of second 100.
 fn two_docs(alloc: Global) -> Result<RowIndex, Memory> {
     let mut index = RowIndex::new(alloc);
     index.add_doc(blank_doc(alloc, 1, 100))?;
@@ -52,7 +52,7 @@ fn two_docs(alloc: Global) -> Result<RowIndex, Memory> {
     Ok(index)
 }
 
-// A box with the second document.
+// Returns a box with the second document.
 fn second_seen(alloc: Global) -> Result<LittleBox, Memory> {
     let mut seen = LittleBox::new(alloc);
     seen.add(Entry {
@@ -63,9 +63,14 @@ fn second_seen(alloc: Global) -> Result<LittleBox, Memory> {
     Ok(seen)
 }
 
-// The probe that finds a document five seconds after its arrival.
+// Returns the probe that finds a document five seconds after its arrival.
 fn old_probe(alloc: Global, body: NodeId) -> Result<Probe, Memory>
-    ensures { IfOk result (λ probe. probe ≡ record { path = record { var = record { 0 = 0 }; table = Docs; guards = [] } ∷ []; at = record { base = Arrival (record { 0 = 0 }); plus = pos 5 }; body = body }) }
+    ensures { IfOk result (λ probe. probe ≡ record {
+      path = record { var = record { 0 = 0 }; table = Docs; guards = [] }
+          ∷ [];
+      at = record { base = Arrival (record { 0 = 0 }); plus = pos 5 };
+      body = body;
+    }) }
 {
     let mut path = Rows::new(alloc);
     path.push(Step {
@@ -83,9 +88,15 @@ fn old_probe(alloc: Global, body: NodeId) -> Result<Probe, Memory>
     })
 }
 
-// That probe alone, with its seek.
+// Returns that probe alone, with its seek.
 fn old_parts(alloc: Global, body: NodeId) -> Result<Rows<Ranged>, Memory>
-    ensures { IfOk result (λ parts. map (λ part. part.probe) parts ≡ record { path = record { var = record { 0 = 0 }; table = Docs; guards = [] } ∷ []; at = record { base = Arrival (record { 0 = 0 }); plus = pos 5 }; body = body } ∷ []) }
+    ensures { IfOk result (λ parts. map (λ part. part.probe) parts
+        ≡ record {
+          path = record { var = record { 0 = 0 }; table = Docs; guards = [] }
+              ∷ [];
+          at = record { base = Arrival (record { 0 = 0 }); plus = pos 5 };
+          body = body;
+        } ∷ []) }
 {
     let probe = old_probe(alloc, body)?;
     let seek = Seek::of(probe.at);
@@ -94,7 +105,7 @@ fn old_parts(alloc: Global, body: NodeId) -> Result<Rows<Ranged>, Memory>
     Ok(parts)
 }
 
-// The query of that probe.
+// Returns the query of that probe.
 fn old_query(alloc: Global) -> Result<RangedQuery, Memory>
     ensures { IfOk result HasValidProbes }
 {
@@ -104,14 +115,14 @@ fn old_query(alloc: Global) -> Result<RangedQuery, Memory>
     Ok(RangedQuery { pool, parts })
 }
 
-// Its plan.
+// Returns the plan of that query.
 fn old_plan(alloc: Global) -> Result<Plan, Memory>
     ensures { IfOk result (λ plan. HasValidProbes plan.query) }
 {
     plan(alloc, old_query(alloc)?)
 }
 
-// What the plan gives of two documents, of which one is in the box, below this second.
+// Returns what the plan gives below this second of two documents, one of which is in the box.
 fn found<L: Ledger>(alloc: Global, blank: Blank, high: i64) -> Result<Rows<Hit>, Memory>
     requires name { blank.name ≡ L.name }
     requires parts { blank.parts ≡ L.parts }

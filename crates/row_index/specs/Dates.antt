@@ -1,5 +1,6 @@
 -- Documents in order of date.
-use Rattle.std.specs.Prelude.{◌≡◌, ℤ, pos, ◌-◌, Bool, ◌&&◌, ◌||◌, not, List, [], ◌∷◌, int_lt, nat_lt, filter, map, fold, if◌then◌else◌}
+use Rattle.std.specs.Prelude.{◌≡◌, ℤ, pos, ◌-◌, Bool, ◌&&◌, ◌||◌, not}
+use Rattle.std.specs.Prelude.{List, [], ◌∷◌, int_lt, nat_lt, filter, map, fold, if◌then◌else◌}
 use Rattle.std.specs.Option.{is_some, unwrap_or}
 use Rattle.tap_rows.specs.declared.rows.Doc.{Doc}
 use Rattle.row_index.specs.declared.dates.Dated.{Dated}

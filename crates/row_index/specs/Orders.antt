@@ -1,5 +1,6 @@
 -- Rows in order of arrival, and those of a window.
-use Rattle.std.specs.Prelude.{◌≡◌, ℕ, ◌+◌, ◌<◌, ◌^◌, ℤ, pos, ◌≤ℤ◌, true, ◌&&◌, List, [], ◌∷◌, length, int_le, int_lt, filter}
+use Rattle.std.specs.Prelude.{◌≡◌, ℕ, ◌+◌, ◌<◌, ◌^◌, ℤ, pos, ◌≤ℤ◌}
+use Rattle.std.specs.Prelude.{true, ◌&&◌, List, [], ◌∷◌, length, int_le, int_lt, filter}
 use Rattle.std.specs.List.{list_all}
 use Rattle.tap_rows.specs.declared.rows.Doc.{Doc}
 use Rattle.tap_rows.specs.declared.rows.Note.{Note}

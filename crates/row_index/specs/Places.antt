@@ -1,5 +1,6 @@
 -- The places of rows under their keys.
-use Rattle.std.specs.Prelude.{ℕ, ◌-◌, Bool, false, Option, Some, None, List, [], ◌∷◌, ◌++◌, length, take, nat_eq, slice_get, if◌then◌else◌}
+use Rattle.std.specs.Prelude.{ℕ, ◌-◌, Bool, false, Option, Some, None, List}
+use Rattle.std.specs.Prelude.{[], ◌∷◌, ◌++◌, length, take, nat_eq, slice_get, if◌then◌else◌}
 use Rattle.std.specs.List.{list_any}
 
 -- is the number there, and this one?

@@ -1,11 +1,11 @@
-// The rows of some seconds, found by halving.
+//! The rows of some seconds, found by halving: arrivals never fall.
 
-ghost use Rattle.std.specs.Prelude.{◌≡◌, not, int_le, int_lt, filter};
+ghost use Rattle.std.specs.Prelude.{◌≡◌, not, int_lt, filter};
 ghost use Rattle.row_index.specs.Orders.{Rising, doc_arrival, note_arrival, in_window, up_to};
 
 use tap_rows::{KeptDoc, Note};
 
-// The documents that arrived before the moment.
+// Returns the documents that arrived before the moment.
 fn docs_before(docs: &[KeptDoc], moment: i64) -> &[KeptDoc]
     requires { Rising doc_arrival docs.now }
     ensures { result.now ≡ filter (λ doc. int_lt doc.arrival moment) docs.now }
@@ -13,7 +13,7 @@ fn docs_before(docs: &[KeptDoc], moment: i64) -> &[KeptDoc]
     &docs[..docs.partition_point(|doc| doc.doc().arrival < moment)]
 }
 
-// The documents that didn't arrive before the moment.
+// Returns the documents that arrived at the moment or later.
 fn docs_from(docs: &[KeptDoc], moment: i64) -> &[KeptDoc]
     requires { Rising doc_arrival docs.now }
     ensures { result.now ≡ filter (λ doc. not (int_lt doc.arrival moment)) docs.now }
@@ -21,7 +21,7 @@ fn docs_from(docs: &[KeptDoc], moment: i64) -> &[KeptDoc]
     &docs[docs.partition_point(|doc| doc.doc().arrival < moment)..]
 }
 
-// The documents that arrived from `low` up to but not at `high`.
+// Returns the documents that arrived from `low` up to but not at `high`.
 pub(crate) fn docs_within(docs: &[KeptDoc], low: i64, high: i64) -> &[KeptDoc]
     requires { Rising doc_arrival docs.now }
     ensures { result.now ≡ in_window doc_arrival low high docs.now }
@@ -29,7 +29,7 @@ pub(crate) fn docs_within(docs: &[KeptDoc], low: i64, high: i64) -> &[KeptDoc]
     docs_from(docs_before(docs, high), low)
 }
 
-// The documents that arrived up to `last`.
+// Returns the documents that arrived up to `last`.
 pub(crate) fn docs_up_to(docs: &[KeptDoc], last: i64) -> &[KeptDoc]
     requires { Rising doc_arrival docs.now }
     ensures { result.now ≡ up_to doc_arrival last docs.now }
@@ -37,7 +37,7 @@ pub(crate) fn docs_up_to(docs: &[KeptDoc], last: i64) -> &[KeptDoc]
     &docs[..docs.partition_point(|doc| doc.doc().arrival <= last)]
 }
 
-// The notes that arrived before the moment.
+// Returns the notes that arrived before the moment.
 fn notes_before(notes: &[Note], moment: i64) -> &[Note]
     requires { Rising note_arrival notes.now }
     ensures { result.now ≡ filter (λ note. int_lt note.arrival moment) notes.now }
@@ -45,7 +45,7 @@ fn notes_before(notes: &[Note], moment: i64) -> &[Note]
     &notes[..notes.partition_point(|note| note.arrival < moment)]
 }
 
-// The notes that didn't arrive before the moment.
+// Returns the notes that arrived at the moment or later.
 fn notes_from(notes: &[Note], moment: i64) -> &[Note]
     requires { Rising note_arrival notes.now }
     ensures { result.now ≡ filter (λ note. not (int_lt note.arrival moment)) notes.now }
@@ -53,7 +53,7 @@ fn notes_from(notes: &[Note], moment: i64) -> &[Note]
     &notes[notes.partition_point(|note| note.arrival < moment)..]
 }
 
-// The notes that arrived from `low` up to but not at `high`.
+// Returns the notes that arrived from `low` up to but not at `high`.
 pub(crate) fn notes_within(notes: &[Note], low: i64, high: i64) -> &[Note]
     requires { Rising note_arrival notes.now }
     ensures { result.now ≡ in_window note_arrival low high notes.now }
@@ -61,7 +61,7 @@ pub(crate) fn notes_within(notes: &[Note], low: i64, high: i64) -> &[Note]
     notes_from(notes_before(notes, high), low)
 }
 
-// The notes that arrived up to `last`.
+// Returns the notes that arrived up to `last`.
 pub(crate) fn notes_up_to(notes: &[Note], last: i64) -> &[Note]
     requires { Rising note_arrival notes.now }
     ensures { result.now ≡ up_to note_arrival last notes.now }

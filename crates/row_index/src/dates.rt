@@ -1,8 +1,7 @@
-// The places of documents by their dates.
+//! The places of documents by their dates.
 
 ghost use Rattle.std.specs.Prelude.{◌≡◌, ℤ, ◌≤ℤ◌, ◌&&◌, int_le, int_lt, List, [], ◌∷◌, ◌++◌, map, OnOk, OnErr};
 ghost use Rattle.tap_rows.specs.declared.rows.Doc.{Doc};
-ghost use Rattle.row_index.specs.Orders.{in_window};
 ghost use Rattle.row_index.specs.Texts.{fields, IsNext};
 ghost use Rattle.row_index.specs.Dates.{DatePosts, dated, dated_in};
 
@@ -26,14 +25,15 @@ pub(crate) struct Dates {
     set: BTreeSet<Dated>,
 }
 
-// The date of a document.
+// Returns the date of a document.
 fn date_of(doc: &KeptDoc) -> Option<i64>
     ensures { result ≡ (fields doc.now).date }
 {
     fields_in(doc).date
 }
 
-// An end not below `low`, which `high` can stand for.
+// Returns an end that isn't below `low`, with the same seconds from `low` up to it as up to `high`: a range of a set must
+// not end before it begins.
 fn end_from(low: i64, high: i64) -> i64
     ensures same { (x : ℤ) → (int_le low x && int_lt x result) ≡ (int_le low x && int_lt x high) }
     ensures above { low ≤ℤ result }
@@ -42,7 +42,7 @@ fn end_from(low: i64, high: i64) -> i64
 }
 
 impl Dates {
-    /// No dates.
+    /// Returns an index of no dates.
     pub(crate) fn new(alloc: Global) -> Dates
         ensures { DatePosts [] result }
     {
@@ -51,7 +51,7 @@ impl Dates {
         }
     }
 
-    /// The document's date, too, if it has one.
+    /// Adds the document's date, if it has one. `Memory` comes if memory runs out.
     pub(crate) fn add(&mut self, doc: &KeptDoc, place: u32) -> Result<(), Memory>
         ensures ok { OnOk result ((docs : List Doc) → IsNext docs doc.now place → DatePosts docs self.old → DatePosts (docs ++ doc.now ∷ []) self.new) }
         ensures err { OnErr result ((docs : List Doc) → DatePosts docs self.old → DatePosts docs self.new) }
@@ -62,7 +62,7 @@ impl Dates {
         Ok(())
     }
 
-    /// The document's date no longer.
+    /// Removes the document's date, if it has one.
     pub(crate) fn forget(&mut self, doc: &KeptDoc, place: u32)
         ensures { (docs : List Doc) → IsNext docs doc.now place → DatePosts (docs ++ doc.now ∷ []) self.old → DatePosts docs self.new }
     {
@@ -71,7 +71,7 @@ impl Dates {
         }
     }
 
-    /// The dates from `low` up to but not `high`.
+    /// Returns the dates from `low` up to but not at `high`.
     pub(crate) fn within(&self, low: i64, high: i64) -> Range<'_, Dated>
         ensures { (docs : List Doc) → DatePosts docs self.now → result ≡ map dated (dated_in low high docs) }
     {

@@ -1,9 +1,8 @@
-// The places of documents by their texts and dates.
+//! The places of documents by their texts and dates.
 
-ghost use Rattle.std.specs.Prelude.{◌≡◌, List, [], ◌∷◌, ◌++◌, OnOk, OnErr};
+ghost use Rattle.std.specs.Prelude.{List, [], ◌∷◌, ◌++◌, OnOk, OnErr};
 ghost use Rattle.tap_rows.specs.declared.rows.Doc.{Doc};
-ghost use Rattle.row_index.specs.Texts.{IsNext, TextPosts};
-ghost use Rattle.row_index.specs.Dates.{DatePosts};
+ghost use Rattle.row_index.specs.Texts.{IsNext};
 ghost use Rattle.row_index.specs.Held.{DocPosts};
 
 use crate::dates::Dates;
@@ -12,7 +11,7 @@ use std::alloc::Global;
 use tap_base::Memory;
 use tap_rows::KeptDoc;
 
-/// What finds documents.
+/// The indexes of documents, by text and by date.
 #[derive(Drop)]
 pub(crate) struct DocPlaces {
     pub(crate) texts: DocTexts,
@@ -20,7 +19,7 @@ pub(crate) struct DocPlaces {
 }
 
 impl DocPlaces {
-    /// No places.
+    /// Returns indexes of no documents.
     pub(crate) fn new(alloc: Global) -> DocPlaces
         ensures { DocPosts [] result }
     {
@@ -30,7 +29,7 @@ impl DocPlaces {
         }
     }
 
-    /// The document, too, at the place after those of `docs`. At Err all is as it was for them.
+    /// Adds the document at the place after those of `docs`. After an error they are found as before.
     pub(crate) fn add(&mut self, doc: &KeptDoc, place: u32) -> Result<(), Memory>
         ensures ok { OnOk result ((docs : List Doc) → IsNext docs doc.now place → DocPosts docs self.old → DocPosts (docs ++ doc.now ∷ []) self.new) }
         ensures err { OnErr result ((docs : List Doc) → IsNext docs doc.now place → DocPosts docs self.old → DocPosts docs self.new) }
@@ -43,7 +42,7 @@ impl DocPlaces {
         done
     }
 
-    /// The last document no longer.
+    /// Removes the last document.
     pub(crate) fn forget(&mut self, doc: &KeptDoc, place: u32)
         ensures { (docs : List Doc) → IsNext docs doc.now place → DocPosts (docs ++ doc.now ∷ []) self.old → DocPosts docs self.new }
     {

@@ -1,8 +1,7 @@
-// The places of documents by their texts.
+//! The places of documents by their texts.
 
-ghost use Rattle.std.specs.Prelude.{◌≡◌, ◌+◌, ℕ, List, [], ◌∷◌, ◌++◌, length, OnOk, OnErr};
+ghost use Rattle.std.specs.Prelude.{◌≡◌, ◌+◌, List, [], ◌∷◌, ◌++◌, OnOk, OnErr};
 ghost use Rattle.tap_rows.specs.declared.rows.Doc.{Doc};
-ghost use Rattle.row_index.specs.Orders.{Numbered, doc_number};
 ghost use Rattle.row_index.specs.Texts.{fields, IsNext, TextPosts, IsPosted, IsPartly, IsUnposted};
 
 use crate::postings::Postings;
@@ -10,7 +9,7 @@ use std::alloc::Global;
 use tap_base::Memory;
 use tap_rows::{Fields, KeptDoc};
 
-/// The places of documents by message id, by the message id that they answer, by sender and by word.
+/// The places of documents by message id, by the message id that they reply to, by sender and by word.
 #[derive(Drop)]
 pub(crate) struct DocTexts {
     pub(crate) msgid: Postings,
@@ -19,7 +18,7 @@ pub(crate) struct DocTexts {
     pub(crate) word: Postings,
 }
 
-// The fields of a document.
+// Returns the fields of a document.
 #[tactic(auto, unfolding(crate::specs::Texts::fields))]
 pub(crate) fn fields_in(doc: &KeptDoc) -> &Fields
     ensures { result.now ≡ fields doc.now }
@@ -28,7 +27,7 @@ pub(crate) fn fields_in(doc: &KeptDoc) -> &Fields
 }
 
 impl DocTexts {
-    /// No places.
+    /// Returns an index of no texts.
     pub(crate) fn new(alloc: Global) -> DocTexts
         ensures { TextPosts [] result }
     {
@@ -40,7 +39,7 @@ impl DocTexts {
         }
     }
 
-    // The place under each text of the document. After `Memory` it is under some of them.
+    // Puts the place under each text of the document. After `Memory` it is under some of them.
     fn put(&mut self, doc: &KeptDoc, place: u32) -> Result<(), Memory>
         ensures ok { OnOk result (IsPosted doc.now place self.old self.new) }
         ensures err { OnErr result (IsPartly doc.now place self.old self.new) }
@@ -52,7 +51,7 @@ impl DocTexts {
         self.word.add_all(fields.words.as_slice(), place)
     }
 
-    // The place no longer under any text of the document.
+    // Removes the place from under each text of the document.
     fn take(&mut self, doc: &KeptDoc, place: u32)
         ensures { IsUnposted doc.now place self.old self.new }
     {
@@ -63,7 +62,7 @@ impl DocTexts {
         self.word.forget_all(fields.words.as_slice(), place);
     }
 
-    /// The document under its texts, at the place after those of `docs`. At Err all is as it was for them.
+    /// Adds the document under its texts, at the place after those of `docs`. After an error they are found as before.
     pub(crate) fn add(&mut self, doc: &KeptDoc, place: u32) -> Result<(), Memory>
         ensures ok { OnOk result ((docs : List Doc) → IsNext docs doc.now place → TextPosts docs self.old → TextPosts (docs ++ doc.now ∷ []) self.new) }
         ensures err { OnErr result ((docs : List Doc) → IsNext docs doc.now place → TextPosts docs self.old → TextPosts docs self.new) }
@@ -75,7 +74,7 @@ impl DocTexts {
         done
     }
 
-    /// The document no longer under its texts.
+    /// Removes the document from under its texts.
     pub(crate) fn forget(&mut self, doc: &KeptDoc, place: u32)
         ensures { (docs : List Doc) → IsNext docs doc.now place → TextPosts (docs ++ doc.now ∷ []) self.old → TextPosts docs self.new }
     {

@@ -1,4 +1,4 @@
-//! The rows of documents and notes, with what finds some of them.
+//! The rows of documents and notes, and their indexes.
 #![tactic(auto)]
 
 mod arrivals;

@@ -1,4 +1,4 @@
-// The places of notes by their document.
+//! The places of notes by their document.
 
 ghost use Rattle.std.specs.Prelude.{◌≡◌, [], nat_eq, false, OnOk, OnErr};
 ghost use Rattle.row_index.specs.Places.{under, posted, unposted, has_key};
@@ -25,7 +25,7 @@ impl Model for NotePlaces {
 }
 
 impl NotePlaces {
-    /// No places.
+    /// Returns an index of no notes.
     pub(crate) fn new(alloc: Global) -> NotePlaces
         ensures { result ≡ [] }
     {
@@ -35,7 +35,7 @@ impl NotePlaces {
         }
     }
 
-    /// The places under the number: one look-up.
+    /// Returns the places under the number, by one look-up.
     pub(crate) fn under(&self, key: u32) -> &[u32]
         ensures { result.now ≡ under nat_eq key self.now }
     {
@@ -45,7 +45,7 @@ impl NotePlaces {
         }
     }
 
-    // The first place under a number.
+    // Puts the first place under a number.
     fn begin(&mut self, key: u32, place: u32) -> Result<(), Memory>
         requires { has_key nat_eq key self.old ≡ false }
         ensures ok { OnOk result (self.new ≡ posted nat_eq key place self.old) }
@@ -57,7 +57,7 @@ impl NotePlaces {
         Ok(())
     }
 
-    /// The place under the number, too.
+    /// Puts the place under the number. After an error nothing has changed.
     pub(crate) fn add(&mut self, key: u32, place: u32) -> Result<(), Memory>
         ensures ok { OnOk result (self.new ≡ posted nat_eq key place self.old) }
         ensures err { OnErr result (self.new ≡ self.old) }
@@ -68,7 +68,7 @@ impl NotePlaces {
         }
     }
 
-    /// The place no longer under the number, if it was its last one.
+    /// Removes the place from under the number, if it is the last one there.
     pub(crate) fn forget(&mut self, key: u32, place: u32)
         ensures { self.new ≡ unposted nat_eq key place self.old }
     {

@@ -1,11 +1,11 @@
-// The places of some rows, in order.
+//! Lists of places, in order.
 
 ghost use Rattle.std.specs.Prelude.{◌≡◌, OnOk, OnErr};
 ghost use Rattle.row_index.specs.Places.{ends_with, with_place, without_place};
 
 use tap_base::Memory;
 
-// Is this the last place?
+// Returns whether this is the last place.
 fn ends_with(places: &[u32], place: u32) -> bool
     ensures { result ≡ ends_with place places.now }
 {
@@ -15,7 +15,7 @@ fn ends_with(places: &[u32], place: u32) -> bool
     }
 }
 
-// The place goes to the end, if it isn't there yet.
+// Appends the place, unless it is the last one.
 pub(crate) fn put_place(places: &mut Vec<u32>, place: u32) -> Result<(), Memory>
     ensures ok { OnOk result (places.new.items ≡ with_place place places.old.items) }
     ensures err { OnErr result (places.new.items ≡ places.old.items) }
@@ -27,7 +27,7 @@ pub(crate) fn put_place(places: &mut Vec<u32>, place: u32) -> Result<(), Memory>
     Ok(())
 }
 
-// The place leaves the end, if it is there.
+// Removes the place, if it is the last one.
 pub(crate) fn drop_place(places: &mut Vec<u32>, place: u32)
     ensures { places.new.items ≡ without_place place places.old.items }
 {

@@ -1,4 +1,4 @@
-// The places of rows by a text of theirs.
+//! Posting lists: the places of rows under a text of theirs.
 
 ghost use Rattle.std.specs.Prelude.{◌≡◌, [], false, option_to_list, OnOk, OnErr};
 ghost use Rattle.std.specs.Str.{bytes_eq};
@@ -27,7 +27,7 @@ impl Model for Postings {
 }
 
 impl Postings {
-    /// No places.
+    /// Returns an index of no texts.
     pub(crate) fn new(alloc: Global) -> Postings
         ensures { result ≡ [] }
     {
@@ -37,7 +37,7 @@ impl Postings {
         }
     }
 
-    /// The places under the text: one look-up.
+    /// Returns the places under the text, by one look-up.
     pub(crate) fn under(&self, key: &[u8]) -> &[u32]
         ensures { result.now ≡ under bytes_eq key.now self.now }
     {
@@ -47,7 +47,7 @@ impl Postings {
         }
     }
 
-    // The first place under a text.
+    // Puts the first place under a text.
     fn begin(&mut self, key: &[u8], place: u32) -> Result<(), Memory>
         requires { has_key bytes_eq key.now self.old ≡ false }
         ensures ok { OnOk result (self.new ≡ posted bytes_eq key.now place self.old) }
@@ -60,7 +60,7 @@ impl Postings {
         Ok(())
     }
 
-    /// The place under the text, too.
+    /// Puts the place under the text. After an error nothing has changed.
     pub(crate) fn add(&mut self, key: &[u8], place: u32) -> Result<(), Memory>
         ensures ok { OnOk result (self.new ≡ posted bytes_eq key.now place self.old) }
         ensures err { OnErr result (self.new ≡ self.old) }
@@ -71,7 +71,7 @@ impl Postings {
         }
     }
 
-    /// The place no longer under the text, if it was its last one.
+    /// Removes the place from under the text, if it is the last one there.
     pub(crate) fn forget(&mut self, key: &[u8], place: u32)
         ensures { self.new ≡ unposted bytes_eq key.now place self.old }
     {
@@ -80,7 +80,7 @@ impl Postings {
         }
     }
 
-    /// The place under each of the texts, too. After `Memory` it is under the first few of them.
+    /// Puts the place under each of the texts. After `Memory` it is under the first few of them.
     pub(crate) fn add_all(&mut self, keys: &[Text], place: u32) -> Result<(), Memory>
         ensures ok { OnOk result (self.new ≡ posted_all bytes_eq keys.now place self.old) }
         ensures err { OnErr result (IsPartlyPosted keys.now place self.old self.new) }
@@ -91,7 +91,7 @@ impl Postings {
         Ok(())
     }
 
-    /// The place no longer under any of the texts.
+    /// Removes the place from under each of the texts.
     pub(crate) fn forget_all(&mut self, keys: &[Text], place: u32)
         ensures { self.new ≡ unposted_all bytes_eq keys.now place self.old }
     {
@@ -100,7 +100,7 @@ impl Postings {
         }
     }
 
-    /// The place under the text, too, where there is one.
+    /// Puts the place under the text, if there is one.
     pub(crate) fn add_some(&mut self, key: &Option<Text>, place: u32) -> Result<(), Memory>
         ensures ok { OnOk result (self.new ≡ posted_all bytes_eq (option_to_list key.now) place self.old) }
         ensures err { OnErr result (IsPartlyPosted (option_to_list key.now) place self.old self.new) }
@@ -111,7 +111,7 @@ impl Postings {
         }
     }
 
-    /// The place no longer under the text, where there is one.
+    /// Removes the place from under the text, if there is one.
     pub(crate) fn forget_some(&mut self, key: &Option<Text>, place: u32)
         ensures { self.new ≡ unposted_all bytes_eq (option_to_list key.now) place self.old }
     {

@@ -1,6 +1,7 @@
-// The rows and their index.
+//! The rows of documents and notes, and their indexes.
 
-ghost use Rattle.std.specs.Prelude.{◌≡◌, ◌+◌, ◌<◌, ℕ, ℤ, pos, ◌≤ℤ◌, List, [], ◌∷◌, ◌++◌, length, nat_eq, option_copied, option_to_list, slice_get, OnOk, OnErr};
+ghost use Rattle.std.specs.Prelude.{◌≡◌, ◌+◌, ◌<◌, ℤ, pos, ◌≤ℤ◌, []};
+ghost use Rattle.std.specs.Prelude.{◌∷◌, length, nat_eq, option_copied, option_to_list, slice_get, OnOk, OnErr};
 ghost use Rattle.std.specs.List.{find};
 ghost use Rattle.tap_rows.specs.declared.rows.Doc.{Doc};
 ghost use Rattle.tap_rows.specs.declared.rows.Note.{Note};
@@ -25,7 +26,7 @@ use std::sync::ledger::Ledger;
 use tap_base::{DocNum, Memory, Steps};
 use tap_rows::{KeptDoc, Note};
 
-/// All documents and notes, with what finds some of them. It is seen as tables that have no other rows.
+/// All documents and notes, with their indexes. Its value is the tables with these rows and no others.
 #[derive(Drop)]
 pub struct RowIndex {
     docs: Vec<KeptDoc>,
@@ -47,7 +48,7 @@ impl Model for RowIndex {
 }
 
 impl RowIndex {
-    /// No rows.
+    /// Returns an index of no rows.
     pub fn new(alloc: Global) -> RowIndex
         ensures { result ≡ no_rows }
     {
@@ -59,7 +60,7 @@ impl RowIndex {
         }
     }
 
-    /// How many documents there are. Their numbers are their places, from 1, and their arrivals never fall.
+    /// Returns how many documents there are. Their numbers are their places, from 1, and their arrivals never fall.
     pub fn docs(&self) -> u32
         ensures count { result ≡ length self.now.docs }
         ensures places { InPlace doc_number doc_arrival self.now.docs }
@@ -68,8 +69,8 @@ impl RowIndex {
         self.docs.len() as u32
     }
 
-    /// How many notes there are. Their numbers are their places, from 1, and their arrivals never fall. The numbers of the
-    /// documents that they are on have 32 bits.
+    /// Returns how many notes there are. Their numbers are their places, from 1, and their arrivals never fall. The numbers
+    /// of the documents that they are on have 32 bits.
     pub fn notes(&self) -> u32
         ensures count { result ≡ length self.now.notes }
         ensures documents { AreOnDocs self.now.notes }
@@ -78,77 +79,77 @@ impl RowIndex {
         self.notes.len() as u32
     }
 
-    /// The documents that arrived from `low` up to but not at `high`, in seconds since 1970-01-01T00:00:00Z.
+    /// Returns the documents that arrived from `low` up to but not at `high`, in seconds since 1970-01-01T00:00:00Z.
     pub fn docs_arrived(&self, low: i64, high: i64) -> DocWalk<'_>
         ensures { result ≡ in_window doc_arrival low high self.now.docs }
     {
         Walk::over(docs_within(&self.docs, low, high))
     }
 
-    /// The documents that arrived up to `last`.
+    /// Returns the documents that arrived up to `last`.
     pub fn all_docs_to(&self, last: i64) -> DocWalk<'_>
         ensures { result ≡ up_to doc_arrival last self.now.docs }
     {
         Walk::over(docs_up_to(&self.docs, last))
     }
 
-    /// The documents whose date is from `low` up to but not at `high`, in order of date, then of number.
+    /// Returns the documents whose date is from `low` up to but not at `high`, in order of date, then of number.
     pub fn docs_dated(&self, low: i64, high: i64) -> DocWalk<'_>
         ensures { result ≡ dated_in low high self.now.docs }
     {
         Walk::by_date(&self.docs, self.places.dates.within(low, high))
     }
 
-    /// The documents whose Message-ID (RFC 5322 3.6.4) is the text. One look-up.
+    /// Returns the documents whose Message-ID (RFC 5322 3.6.4) is the text, by one look-up.
     pub fn by_msgid(&self, text: &[u8]) -> DocWalk<'_>
         ensures { result ≡ with_text msgids text.now self.now.docs }
     {
         Walk::placed(&self.docs, self.places.texts.msgid.under(text))
     }
 
-    /// The documents whose In-Reply-To (RFC 5322 3.6.4) is the text. One look-up.
+    /// Returns the documents whose In-Reply-To (RFC 5322 3.6.4) is the text, by one look-up.
     pub fn by_parent(&self, text: &[u8]) -> DocWalk<'_>
         ensures { result ≡ with_text parents text.now self.now.docs }
     {
         Walk::placed(&self.docs, self.places.texts.parent.under(text))
     }
 
-    /// The documents whose sender (RFC 5322 3.6.2) is the text. One look-up.
+    /// Returns the documents whose sender (RFC 5322 3.6.2) is the text, by one look-up.
     pub fn by_sender(&self, text: &[u8]) -> DocWalk<'_>
         ensures { result ≡ with_text senders text.now self.now.docs }
     {
         Walk::placed(&self.docs, self.places.texts.sender.under(text))
     }
 
-    /// The documents of which the text is a word. One look-up.
+    /// Returns the documents of which the text is a word, by one look-up.
     pub fn by_word(&self, text: &[u8]) -> DocWalk<'_>
         ensures { result ≡ with_text words_in text.now self.now.docs }
     {
         Walk::placed(&self.docs, self.places.texts.word.under(text))
     }
 
-    /// The notes on this document. One look-up.
+    /// Returns the notes on this document, by one look-up.
     pub fn notes_of(&self, doc: DocNum) -> NoteWalk<'_>
         ensures { result ≡ notes_on doc.0 self.now.notes }
     {
         Walk::placed(&self.notes, self.on_doc.under(doc.0))
     }
 
-    /// The notes that arrived from `low` up to but not at `high`.
+    /// Returns the notes that arrived from `low` up to but not at `high`.
     pub fn notes_arrived(&self, low: i64, high: i64) -> NoteWalk<'_>
         ensures { result ≡ in_window note_arrival low high self.now.notes }
     {
         Walk::over(notes_within(&self.notes, low, high))
     }
 
-    /// The notes that arrived up to `last`.
+    /// Returns the notes that arrived up to `last`.
     pub fn all_notes_to(&self, last: i64) -> NoteWalk<'_>
         ensures { result ≡ up_to note_arrival last self.now.notes }
     {
         Walk::over(notes_up_to(&self.notes, last))
     }
 
-    /// The document of this number, with a step. None exactly where there is no such number, and then no step.
+    /// Returns the document of this number, with one step. `None` comes if and only if there is none, and then no step.
     pub fn doc<L: Ledger>(&self, num: DocNum, steps: &mut Steps<L>) -> Option<&KeptDoc>
         ensures doc { option_copied result ≡ find (λ doc. nat_eq doc.num.0 num.0) self.now.docs }
         ensures steps { steps.new ≡ steps.old + length (option_to_list (option_copied result)) }
@@ -160,7 +161,7 @@ impl RowIndex {
         doc
     }
 
-    /// All documents, with a step for each.
+    /// Returns all documents, with a step for each.
     pub fn every_doc<L: Ledger>(&self, steps: &mut Steps<L>) -> &[KeptDoc]
         ensures docs { result.now ≡ self.now.docs }
         ensures steps { steps.new ≡ steps.old + length self.now.docs }
@@ -169,7 +170,7 @@ impl RowIndex {
         &self.docs
     }
 
-    /// All notes, with a step for each.
+    /// Returns all notes, with a step for each.
     pub fn every_note<L: Ledger>(&self, steps: &mut Steps<L>) -> &[Note]
         ensures notes { result.now ≡ self.now.notes }
         ensures steps { steps.new ≡ steps.old + length self.now.notes }
@@ -178,7 +179,7 @@ impl RowIndex {
         &self.notes
     }
 
-    /// One more document, behind the others. At Err nothing has changed.
+    /// Appends a document. `Memory` comes if memory runs out, and then nothing has changed.
     pub fn add_doc(&mut self, doc: KeptDoc) -> Result<(), Memory>
         requires number { doc.num.0 ≡ length self.old.docs + 1 }
         requires moment { IsMoment doc.arrival }
@@ -187,13 +188,14 @@ impl RowIndex {
         ensures err { OnErr result (self.new ≡ self.old) }
     {
         let place = number_of(&doc) - 1;
+        // Memory first, so that the push after the indexes can't fail.
         self.docs.reserve(1)?;
         self.places.add(&doc, place)?;
         self.docs.push(doc)?;
         Ok(())
     }
 
-    /// One more note, behind the others. At Err nothing has changed.
+    /// Appends a note. `Memory` comes if memory runs out, and then nothing has changed.
     pub fn add_note(&mut self, note: Note) -> Result<(), Memory>
         requires number { note.num.0 ≡ length self.old.notes + 1 }
         requires moment { IsMoment note.arrival }
@@ -202,13 +204,14 @@ impl RowIndex {
         ensures err { OnErr result (self.new ≡ self.old) }
     {
         let place = note.num.0 - 1;
+        // Memory first, so that the push after the index can't fail.
         self.notes.reserve(1)?;
         self.on_doc.add(note.doc.0, place)?;
         self.notes.push(note)?;
         Ok(())
     }
 
-    /// The last document no longer. It takes no memory.
+    /// Removes the last document. It takes no memory.
     pub fn forget_last_doc(&mut self)
         requires { 0 < length self.old.docs }
         ensures last { self.new ≡ without_last_doc self.old }
@@ -219,7 +222,7 @@ impl RowIndex {
         }
     }
 
-    /// The last note no longer. It takes no memory.
+    /// Removes the last note. It takes no memory.
     pub fn forget_last_note(&mut self)
         requires { 0 < length self.old.notes }
         ensures last { self.new ≡ without_last_note self.old }
@@ -231,21 +234,21 @@ impl RowIndex {
     }
 }
 
-// The document's number.
+// Returns the document's number.
 fn number_of(doc: &KeptDoc) -> u32
     ensures { result ≡ doc.now.num.0 }
 {
     doc.doc().num.0
 }
 
-// The document at this place.
+// Returns the document at this place, from 0.
 fn doc_in(docs: &[KeptDoc], place: usize) -> Option<&KeptDoc>
     ensures { option_copied result ≡ slice_get docs.now place }
 {
     docs.get(place)
 }
 
-// The document of this number.
+// Returns the document of this number.
 fn doc_at(docs: &[KeptDoc], num: u32) -> Option<&KeptDoc>
     requires { InPlace doc_number doc_arrival docs.now }
     ensures { option_copied result ≡ find (λ doc. nat_eq doc.num.0 num) docs.now }

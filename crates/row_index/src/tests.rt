@@ -7,7 +7,7 @@ use std::sync::ledger::{Blank, Ledger};
 use tap_base::{DocNum, Memory, NoteNum, Steps, Text, Texts};
 use tap_rows::{Doc, Fields, KeptDoc, Note};
 
-// A document without a text.
+// Returns a document without a text.
 fn blank_doc(alloc: Global, num: u32, arrival: i64) -> KeptDoc
     ensures { result ≡ record { num = record { 0 = num }; arrival = arrival; text = [] } }
 {
@@ -32,7 +32,7 @@ fn blank_doc(alloc: Global, num: u32, arrival: i64) -> KeptDoc
     KeptDoc::new(doc, fields)
 }
 
-// A note without texts.
+// Returns a note without texts.
 fn blank_note(alloc: Global, num: u32, doc: u32, arrival: i64) -> Note
     ensures { result ≡ record { num = record { 0 = num }; doc = record { 0 = doc }; author = []; kind = []; value = pos 0; arrival = arrival; text = [] } }
 {
@@ -47,7 +47,7 @@ fn blank_note(alloc: Global, num: u32, doc: u32, arrival: i64) -> Note
     }
 }
 
-// How many rows a walk hands out.
+// Returns how many rows a walk hands out.
 fn count<T, L: Ledger>(walk: Walk<'_, T>, steps: &mut Steps<L>) -> usize {
     let mut rows = walk;
     let mut n: usize = 0;
@@ -57,7 +57,7 @@ fn count<T, L: Ledger>(walk: Walk<'_, T>, steps: &mut Steps<L>) -> usize {
     n
 }
 
-// The counts of some walks over two documents and a note.
+// Returns the counts of some walks over two documents and a note.
 fn counts<L: Ledger>(alloc: Global, blank: Blank) -> Result<[usize; 6], Memory>
     requires name { blank.name ≡ L.name }
     requires parts { blank.parts ≡ L.parts }

@@ -1,6 +1,7 @@
-// Walks over rows.
+//! Walks over rows.
 
-ghost use Rattle.std.specs.Prelude.{◌≡◌, ◌+◌, List, [], ◌∷◌, ◌++◌, option_to_list, Option, Some, None, option_copied, IfSome, length, map, slice_get};
+ghost use Rattle.std.specs.Prelude.{◌≡◌, ◌+◌, List, [], ◌∷◌, ◌++◌, option_to_list};
+ghost use Rattle.std.specs.Prelude.{Option, Some, None, option_copied, IfSome, length, map, slice_get};
 ghost use Rattle.row_index.specs.Walks.{left_in, at_places, places_in};
 
 use crate::dates::Dated;
@@ -10,28 +11,28 @@ use std::sync::ledger::Ledger;
 use tap_base::Steps;
 use tap_rows::{KeptDoc, Note};
 
-// Places in a list, or those of some dates.
+// Places that are left: those of a list, or those of some dates.
 #[derive(Drop)]
 enum Places<'a> {
     Listed(&'a [u32]),
     ByDate(Range<'a, Dated>),
 }
 
-// Some rows, by their places.
+// Rows that are left, by their places.
 #[derive(Drop)]
 struct Picked<'a, T> {
     rows: &'a [T],
     places: Places<'a>,
 }
 
-// Rows beside one another, or picked ones.
+// Rows that are left: those of a slice, or picked ones.
 #[derive(Drop)]
 enum Left<'a, T> {
     Beside(&'a [T]),
     Picked(Picked<'a, T>),
 }
 
-/// The rows that are still to be handed out, lent by the index that owns them. No row is copied.
+/// A walk over rows that the index lends. Its value is the rows that are left. No row is copied.
 #[derive(Drop)]
 pub struct Walk<'a, T> {
     left: Left<'a, T>,
@@ -52,7 +53,7 @@ pub type DocWalk<'a> = Walk<'a, KeptDoc>;
 /// A walk over notes.
 pub type NoteWalk<'a> = Walk<'a, Note>;
 
-// The next place, which is then no longer left.
+// Removes and returns the next place.
 fn take_place<'a>(places: &mut Places<'a>) -> Option<u32>
     ensures places { places_in places.old ≡ option_to_list result ++ places_in places.new }
     ensures end { result ≡ None → places_in places.old ≡ [] }
@@ -72,14 +73,14 @@ fn take_place<'a>(places: &mut Places<'a>) -> Option<u32>
     }
 }
 
-// The row at this place.
+// Returns the row at this place, from 0.
 fn row_at<'a, T>(rows: &'a [T], place: u32) -> Option<&'a T>
     ensures { option_copied result ≡ slice_get rows.now place }
 {
     rows.get(place as usize)
 }
 
-// The next row, which is then no longer left.
+// Removes and returns the next row.
 fn take_first<'a, T>(left: &mut Left<'a, T>) -> Option<&'a T>
     ensures none { result ≡ None → left_in left.old ≡ [] }
     ensures some { IfSome result (λ row. left_in left.old ≡ row.now ∷ left_in left.new) }
@@ -100,7 +101,7 @@ fn take_first<'a, T>(left: &mut Left<'a, T>) -> Option<&'a T>
 }
 
 impl<'a, T> Walk<'a, T> {
-    // The rows of a slice.
+    // Returns a walk over the rows of a slice.
     pub(crate) fn over(rows: &'a [T]) -> Walk<'a, T>
         ensures { result ≡ rows.now }
     {
@@ -109,7 +110,7 @@ impl<'a, T> Walk<'a, T> {
         }
     }
 
-    // The rows at these places.
+    // Returns a walk over the rows at these places.
     pub(crate) fn placed(rows: &'a [T], places: &'a [u32]) -> Walk<'a, T>
         ensures { result ≡ at_places rows.now places.now }
     {
@@ -121,7 +122,7 @@ impl<'a, T> Walk<'a, T> {
         }
     }
 
-    // The rows of these dates.
+    // Returns a walk over the rows of these dates.
     pub(crate) fn by_date(rows: &'a [T], dates: Range<'a, Dated>) -> Walk<'a, T>
         ensures { result ≡ at_places rows.now (map (λ key. key.place) dates.entry) }
     {
@@ -133,7 +134,8 @@ impl<'a, T> Walk<'a, T> {
         }
     }
 
-    /// The next row, with one step. None exactly at the end, and then there is no step. It takes no memory.
+    /// Removes and returns the next row, with one step. `None` comes if and only if no row is left, and then no step. It
+    /// takes no memory.
     pub fn next<L: Ledger>(&mut self, steps: &mut Steps<L>) -> Option<&'a T>
         ensures rows { self.old ≡ option_to_list (option_copied result) ++ self.new }
         ensures end { result ≡ None → self.old ≡ [] }
@@ -141,6 +143,7 @@ impl<'a, T> Walk<'a, T> {
     {
         match take_first(&mut self.left) {
             None => {
+                // What is left after the end is no row, whatever the walk was over.
                 self.left = Left::Beside(&[]);
                 None
             }

@@ -1,4 +1,4 @@
-use Rattle.std.proofs.Common.{◌≡◌, true, sym, subst, refl, arith, inl, inr}
+use Rattle.std.proofs.Common.{◌≡◌, true, sym, subst, refl, inl}
 use Rattle.tql_core.specs.Bounds.{are_bounded}
 use Rattle.tql_core.specs.Scope.{IsQuery}
 use Rattle.incremental_rewrite.proofs.tests.a_window_of_seconds_has_one_line.Goals as goal

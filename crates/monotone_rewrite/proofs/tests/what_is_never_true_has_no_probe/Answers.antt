@@ -1,4 +1,4 @@
-use Rattle.std.proofs.Common.{◌≡◌, true, sym, subst, refl, arith, inl, inr}
+use Rattle.std.proofs.Common.{◌≡◌, true, sym, subst, refl}
 use Rattle.tql_core.specs.Bounds.{are_bounded}
 use Rattle.tql_core.specs.Scope.{IsQuery}
 use Rattle.monotone_rewrite.proofs.tests.what_is_never_true_has_no_probe.Goals as goal

@@ -1,10 +1,7 @@
-use Rattle.std.proofs.Common.{rules, ◌≡◌, ◌≤◌, ◌+◌, ◌∙◌, sym, ap, pos, arith}
-use Rattle.std.specs.List.{list_any}
+use Rattle.std.proofs.Common.{rules, ◌≡◌, arith}
 use Rattle.tql_core.specs.Condition.{Exists}
 use Rattle.tql_core.specs.Trees.{tree_at}
-use Rattle.tql_core.specs.Holds.{truth}
-use Rattle.tql_core.specs.Values.{bind}
-use Rattle.query_eval.specs.Work.{work, total, reached}
+use Rattle.query_eval.specs.Work.{reached}
 use Rattle.query_eval.proofs.Inner.{exists_same, exists_work}
 use Rattle.query_eval.proofs.bodies.+body_holds.Goals as goal
 

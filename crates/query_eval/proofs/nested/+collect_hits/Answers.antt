@@ -1,10 +1,10 @@
-use Rattle.std.proofs.Common.{rules, ◌≡◌, ◌≤◌, ◌+◌, [], ◌∷◌, ◌∙◌, None, Some, arith, length, refl, sym, ap, to_z, of_z, w64}
+use Rattle.std.proofs.Common.{rules, ◌≡◌, ◌≤◌, ◌+◌, ◌∷◌, ◌∙◌, None, Some, arith, length, refl, sym, ap, to_z, of_z, w64}
 use Rattle.std.specs.Prelude.{option_to_list}
 use Rattle.tql_core.specs.Bindings.{row_of}
 use Rattle.tql_core.specs.Row.{OfDoc, OfNote}
 use Rattle.tql_core.specs.Values.{bind, lookup}
 use Rattle.time_marks.specs.Views.{probe_in}
-use Rattle.access_plan.specs.Views.{reach_at, access_at}
+use Rattle.access_plan.specs.Views.{reach_at}
 use Rattle.query_eval.specs.Lowest.{keeping}
 use Rattle.query_eval.specs.Work.{rows_by}
 use Rattle.query_eval.specs.Rests.{further}

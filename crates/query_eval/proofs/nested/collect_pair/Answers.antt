@@ -1,4 +1,4 @@
-use Rattle.std.proofs.Common.{rules, ◌≡◌, ◌∙◌, true, false, Some, length, sym}
+use Rattle.std.proofs.Common.{rules, ◌≡◌, true, false, Some, length}
 use Rattle.time_marks.specs.Views.{probe_in}
 use Rattle.query_eval.specs.Lowest.{with_hit}
 use Rattle.query_eval.specs.Nested.{new_doc, holds_here}

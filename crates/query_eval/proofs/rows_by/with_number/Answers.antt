@@ -1,7 +1,4 @@
-use Rattle.std.proofs.Common.{rules, ◌≡◌, ◌∙◌, Some, pos, map, nat_eq}
-use Rattle.std.specs.Prelude.{option_to_list}
-use Rattle.std.specs.List.{find}
-use Rattle.tql_core.specs.Row.{OfDoc}
+use Rattle.std.proofs.Common.{rules, ◌≡◌, ◌∙◌, Some, pos}
 use Rattle.query_eval.proofs.AccessLists.{no_doc, doc_picked}
 use Rattle.query_eval.proofs.rows_by.with_number.Goals as goal
 
