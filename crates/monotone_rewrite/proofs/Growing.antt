@@ -34,7 +34,7 @@ count_end a t x lo hi =
 pub later_keeps_first : LaterRowsKeepFirst
 later_keeps_first c t tables later doc start until grown le = first-later (truth_of c) t tables later doc start until (of-the-second c) grown le
 
--- the first of the numbers tried is found where one of them passes
+-- the first of the numbers tried is found if one of them passes
 first_there : (p : ℤ → Bool) (n : ℕ) (a x : ℤ) → a ≤ℤ x → x <ℤ (a +ℤ pos n) → p x ≡ true → (f : ℤ) × (first_from p n a ≡ Some f)
 first_there p n a x lo hi y = go (first_from p n a) refl
   where

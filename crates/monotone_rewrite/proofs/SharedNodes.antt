@@ -16,7 +16,7 @@ use Rattle.monotone_rewrite.specs.Query.{can_find}
 use Rattle.monotone_rewrite.specs.Folding.{known, fold_all, fold_either, fold_not, fold_exists}
 
 module _ (nodes : List TNode) where
-  -- what two numbers say together, where what each says is known
+  -- what two numbers say together, if what each says is known
   pub all_known : (after : List TNode) (l r id : ℕ) (x y : Condition) → IsTreeAt nodes l x → IsTreeAt nodes r y
       → IsTreeAt after id (fold_all (known (tree_at nodes l)) (known (tree_at nodes r)) (tree_at nodes l) (tree_at nodes r)) → IsTreeAt after id (fold_all (known x) (known y) x y)
   all_known after l r id x y a b t = record { within = t.within; is = t.is ∙ rw (a.is, b.is) refl }

@@ -79,7 +79,7 @@ gap_end a t x lo hi =
 gap_within : (a t x : ℤ) → a ≤ℤ x → x <ℤ t → x <ℤ (a +ℤ pos (int_gap a t))
 gap_within a t x lo hi = let z = gap_is a t (omega (arith, ints)) in omega (arith, ints, z)
 
--- nothing passes where no second is found
+-- nothing passes if no second is found
 pub least_none : (p : ℤ → Bool) (a t x : ℤ) → least_second p a t ≡ None → a ≤ℤ x → x <ℤ t → p x ≡ false
 least_none p a t x h lo hi = first_none p (int_gap a t) a x h lo (gap_within a t x lo hi)
 

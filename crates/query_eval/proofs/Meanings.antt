@@ -148,7 +148,7 @@ module _ (seen : Doc → Bool) (X : List Probe) (T : Tables) (w : Window) (numbe
       go None e r = rw e r
       go (Some s) e r = rw e ((λ y i q. above y i q), r)
 
-  -- the least mark, where one is found
+  -- the least mark, if one is found
   least_is : (d : Doc) (b : ℤ) → found X T d b ≡ true → w.low ≤ℤ b → b <ℤ w.high → (least_b : ℤ) × (least X T d w ≡ Some least_b) × (least_b ≤ℤ b)
   least_is d b f l h = go (least X T d w) refl
     where

@@ -43,7 +43,7 @@ num_below m n h = less_not m n (omega (arith, h))
 int_not_less : (x : ℤ) → int_lt x x ≡ false
 int_not_less x = grind (arith, ints)
 
--- a document of a later place stands before another exactly where its date is less
+-- a document of a later place comes before another if and only if its date is less
 cmp_later : (d o : Doc) → o.num.0 - 1 < d.num.0 - 1 → dated_cmp (dated d) (dated o) ≡ (if is_earlier d o then Less else Greater)
 cmp_later d o h = plain (stored_date d) (stored_date o) (num_below o.num.0 d.num.0 h) (nat_greater (o.num.0 - 1) (d.num.0 - 1) h)
   where
