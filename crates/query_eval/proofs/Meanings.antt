@@ -18,7 +18,8 @@ use Rattle.query_eval.specs.Lowest.{lowest}
 use Rattle.query_eval.proofs.Lows.{kept_all}
 use Rattle.query_eval.specs.Laws.{LowestHitsAreTheMeaning}
 use Rattle.query_eval.proofs.HitOrder.{same_rising, ordered_in, in_ordered, rising_order}
-use Rattle.query_eval.proofs.LeastSeconds.{least_none, least_within, least_passes, least_least}
+use Rattle.tap_rows.proofs.SecondsLaws.{least_second-within}
+use Rattle.query_eval.proofs.LeastSeconds.{least_none, least_passes, least_least}
 
 some_same : {A : Type 0} {x y : A} → Some x ≡ Some y → x ≡ y
 some_same e = cc
@@ -169,7 +170,7 @@ module _ (seen : Doc → Bool) (X : List Probe) (T : Tables) (w : Window) (numbe
 
   found_least : (h : Hit) (d : Doc) → In d T.docs → seen d ≡ false → h.doc ≡ d.num → least X T d w ≡ Some h.first → IsFound seen X T w h
   found_least h d i u n e =
-      let r = least_within (found X T d) w.low w.high h.first e in
+      let r = least_second-within (found X T d) w.low w.high h.first e in
       record { doc = d; is_row = i; unseen = u; num = n; at = least_passes (found X T d) w.low w.high h.first e; low = r.0; high = r.1 }
 
   -- the same of a list in order with one hit of each document, the least of those that are found

@@ -43,10 +43,6 @@ module _ {A : Type 0} where
       go (inl q) k = rw q (inr k)
       go (inr q) k = rw q k
 
-  pub none_are : (xs : List A) → ((x : A) → In x xs → ⊥) → xs ≡ []
-  none_are [] h = refl
-  none_are (x ∷ xs) h = absurd (h x (inl refl))
-
 module _ {A B : Type 0} where
   pub from_flat : (f : A → List B) (xs : List A) (y : B) → In y (flat_map f xs) → (x : A) × In x xs × In y (f x)
   from_flat f [] y i = absurd i
