@@ -19,7 +19,7 @@ module _ {A : Type 0} (p q : A → Bool) (fewer : (x : A) → q x ≡ true → p
     go false e true f h = rw (e, f) (omega arith)
     go false e false f h = rw (e, f) h
 
-  -- and fewer where an element passes the wider test alone
+  -- and fewer if an element passes the wider test alone
   pub count_< : (xs : List A) (y : A) → In y xs → p y ≡ true → q y ≡ false → length (filter q xs) < length (filter p xs)
   count_< [] y i h k = absurd i
   count_< (x ∷ xs) y (inl i) h k =
@@ -41,7 +41,7 @@ count_all p (x ∷ xs) = go (p x) refl (count_all p xs) where
   go true e h = rw e (omega arith)
   go false e h = rw e (omega arith)
 
--- none passes where there are none that pass
+-- none passes if there are none that pass
 pub count_none : {A : Type 0} (p : A → Bool) (xs : List A) (x : A) → length (filter p xs) ≤ 0 → In x xs → p x ≡ false
 count_none p [] x h i = absurd i
 count_none p (y ∷ ys) x h i = go (count_none p ys x) (p y) refl i where

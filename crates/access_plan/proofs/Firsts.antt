@@ -1,4 +1,4 @@
--- First answers over guards.
+-- First results over guards.
 use Rattle.std.proofs.Common.{◌≡◌, ◌∙◌, refl, sym, ap, Option, Some, None, List, [], ◌∷◌, ◌++◌}
 use Rattle.std.specs.Option.{option_or}
 use Rattle.tql_core.specs.declared.atom.Atom.{Atom}
@@ -12,7 +12,7 @@ module _ {B : Type 0} where
   or_or (Some b) y z = refl
 
 module _ {A B : Type 0} where
-  -- the first answer of two lists
+  -- the first result of two lists
   pub first_some-append : (f : A → Option B) (xs ys : List A) → first_some f (xs ++ ys) ≡ option_or (first_some f xs) (first_some f ys)
   first_some-append f [] ys = refl
   first_some-append f (x ∷ xs) ys = ap (option_or (f x)) (first_some-append f xs ys) ∙ sym (or_or (f x) (first_some f xs) (first_some f ys))
@@ -21,7 +21,7 @@ module _ {B : Type 0} (f : Atom → Option B) (x l r : Condition) (e : x ≡ All
   both_guards : first_some f (guards_of x) ≡ option_or (first_some f (guards_of l)) (first_some f (guards_of r))
   both_guards = ap (λ c. first_some f (guards_of c)) e ∙ first_some-append f (guards_of l) (guards_of r)
 
-  -- the first answer of a condition's guards is that of the left part, or where this has none that of the right one
+  -- the first result of a condition's guards is that of the left part, or where this has none that of the right one
   pub first_left : (o : Option B) (b : B) → o ≡ first_some f (guards_of l) → o ≡ Some b → Some b ≡ first_some f (guards_of x)
   first_left o b h k = sym (both_guards ∙ ap (λ y. option_or y (first_some f (guards_of r))) (sym h ∙ k))
 

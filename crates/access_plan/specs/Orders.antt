@@ -10,7 +10,7 @@ use Rattle.access_plan.specs.declared.access.Access.{Access}
 use Rattle.access_plan.specs.declared.reach.Reach.{Reach}
 use Rattle.access_plan.specs.Accesses.{first_some, is_bound, index_access, whole}
 
--- the variable of the driving row, where there is one
+-- the variable of the driving row, if there is one
 abbrev pub driven : Base → List Var
 driven (Arrival v) = v ∷ []
 driven (Date v) = v ∷ []

@@ -32,7 +32,7 @@ joined between text (x ∷ xs) = text x ++ flat_map (λ y. between ++ text y) xs
 abbrev pub var_text : Var → List ℕ
 var_text v = if v.0 == 0 then codes "m" else (if nat_lt v.0 8 then codes "v" ++ decimal v.0 else codes "p" ++ decimal (v.0 - 8))
 
--- a number of seconds that is added; none where it is 0
+-- a number of seconds that is added; none if it is 0
 abbrev pub plus_text : ℤ → List ℕ
 plus_text (pos zero) = []
 plus_text (pos (suc n)) = codes " + " ++ decimal (suc n)
@@ -90,13 +90,13 @@ atom_text (Texts x op y) = text_text x ++ codes " " ++ text_of_op op ++ codes " 
 atom_text (Times x op y) = term_text x ++ codes " " ++ text_of_op op ++ codes " " ++ term_text y
 atom_text (Has v f y) = var_text v ++ codes "." ++ list_field_text f ++ codes " HAS " ++ text_text y
 
--- how tightly it holds together: 0 for OR, 1 for AND, 2 for what is one unit
+-- the strength of the operator: 0 for OR, 1 for AND, 2 for a unit
 abbrev pub strength : Condition → ℕ
 strength (Either l r) = 0
 strength (All l r) = 1
 strength _ = 2
 
--- a condition as a query would have it
+-- a condition in the syntax of a query
 abbrev pub body_text : Condition → List ℕ
 body_text Always = codes "TRUE"
 body_text Never = codes "FALSE"
@@ -108,7 +108,7 @@ body_text (Either l r) = body_text l ++ codes " OR " ++ within (nat_lt (strength
 body_text (Not x) = codes "NOT " ++ within (nat_lt (strength x) 2) (body_text x)
 body_text (Exists v t x) = codes "EXISTS (" ++ var_text v ++ codes ": " ++ text_of_table t ++ codes " WHERE " ++ body_text x ++ codes ")"
 
--- the guards of a step in brackets, where it has any
+-- the guards of a step in brackets, if it has any
 abbrev pub guards_text : List Atom → List ℕ
 guards_text [] = []
 guards_text (a ∷ guards) = codes " [" ++ joined (codes " AND ") atom_text (a ∷ guards) ++ codes "]"

@@ -126,7 +126,7 @@ module _ (c : Condition) (a : ℤ) (q : IsQuery c) (T : Tables) (d : Doc) where
             (crossed_here T s (0 ∷ []) (asked_of d) (asked_of d) true (arrival_term document_var) refl (ap Some (plus_none d.arrival ∙ reached u s d.arrival n new p.0)) keeps_m)
       ]))
 
-  -- and so is one that is given at the start, where that is above 0
+  -- and so is one that is given at the start, if that is above 0
   pub starts : pos 0 <ℤ a → given c T d a ≡ true → found (unfolded c a) T d a ≡ true
   starts h b =
       let p = and_parts (int_le d.arrival a) (truth (visible T a) a c (asked_of d)) b in

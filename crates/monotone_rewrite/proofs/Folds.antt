@@ -202,7 +202,7 @@ module _ (T : Tables) (n : ℤ) (e : Term) where
   exists_truth Open v t x env a = refl
   exists_truth No v t x env a = rw (no_is x a) (sym (any_false (rows_of t T)))
 
-  -- folding keeps the truth of a body where at is present
+  -- folding keeps the truth of a body if at is present
   pub fold_truth : (x : Condition) (scope : List ℕ) (env : Env) → Named scope x → Bounds scope env → Present env → truth T n (fold (copy_term e) x) env ≡ truth T n x env
   fold_truth Always scope env na h p = refl
   fold_truth Never scope env na h p = refl

@@ -1,9 +1,9 @@
 -- Rows that come later, and the union as the least growing family.
-use Rattle.std.proofs.Common.{◌≡◌, ℕ, zero, suc, ℤ, pos, negsuc, Bool, true, Option, Some, None, List, [], ◌∷◌, refl, sym, ap, ◌∙◌, subst, inl, inr, arith}
+use Rattle.std.proofs.Common.{◌≡◌, ℕ, zero, suc, ℤ, pos, Bool, true, Option, Some, None, List, [], ◌∷◌, refl, sym, ap, ◌∙◌, subst, inl, inr, arith}
 use Rattle.std.specs.Prelude.{◌⊎◌, ◌+ℤ◌, ◌≤ℤ◌, ◌<ℤ◌, nat_eq}
 use Rattle.std.specs.List.{filter, filter_map, cons_option}
 use Rattle.std.proofs.lemmas.Bool.{cases_Bool, both_ways, eqb-true, eq-eqb}
-use Rattle.std.proofs.lemmas.Int.{ints, by_lt_z}
+use Rattle.std.proofs.lemmas.Int.{ints}
 use Rattle.tap_rows.specs.declared.rows.Doc.{Doc}
 use Rattle.tql_core.specs.Condition.{Condition}
 use Rattle.tap_rows.specs.declared.tables.Tables.{Tables}
@@ -17,32 +17,22 @@ use Rattle.monotone_rewrite.specs.Laws.{LaterRowsKeepFirst, union_docs, in_union
 use Rattle.tap_rows.proofs.LaterLaws.{first-later}
 use Rattle.tql_core.proofs.OfTheSecond.{of-the-second}
 use Rattle.time_marks.proofs.Lists.{any_in, in_any, in_map, map_in}
-use Rattle.monotone_rewrite.proofs.Union.{first_none, first_bounds, count_is, keep_all}
-
-count_end : (a t x : ℤ) → a ≤ℤ x → x <ℤ (a +ℤ pos (count_between a t)) → x <ℤ t
-count_end a t x lo hi =
-    by_lt_z a t
-    (λ w. let z = count_is a t (omega (arith, ints)) in omega (arith, ints, z))
-    (λ w. let z = count_none a t w in absurd (omega (arith, ints, z)))
-  where
-    count_none : (a t : ℤ) → t ≤ℤ a → count_between a t ≡ 0
-    count_none (pos a) (pos t) h = omega (arith, ints)
-    count_none (pos a) (negsuc t) h = refl
-    count_none (negsuc a) (pos t) h = absurd (omega (arith, ints))
-    count_none (negsuc a) (negsuc t) h = omega (arith, ints)
+use Rattle.tap_rows.proofs.SecondsLaws.{first_from-none, first_from-within, gap-end, gap-is}
+use Rattle.monotone_rewrite.proofs.Union.{keep_all}
 
 pub later_keeps_first : LaterRowsKeepFirst
 later_keeps_first c t tables later doc start until grown le = first-later (truth_of c) t tables later doc start until (of-the-second c) grown le
 
--- the first of the numbers tried is found where one of them passes
+-- the first of the numbers tried is found if one of them passes
 first_there : (p : ℤ → Bool) (n : ℕ) (a x : ℤ) → a ≤ℤ x → x <ℤ (a +ℤ pos n) → p x ≡ true → (f : ℤ) × (first_from p n a ≡ Some f)
 first_there p n a x lo hi y = go (first_from p n a) refl
   where
     go : (o : Option ℤ) → first_from p n a ≡ o → (f : ℤ) × (first_from p n a ≡ Some f)
-    go None e = absurd (both_ways (p x) (first_none p n a x e lo hi) y)
+    go None e = absurd (both_ways (p x) (first_from-none p n a x e lo hi) y)
     go (Some f) e = (f, e)
 
-first_passes : (p : ℤ → Bool) (n : ℕ) (a f : ℤ) → first_from p n a ≡ Some f → p f ≡ true
+-- the number that is found passes
+pub first_passes : (p : ℤ → Bool) (n : ℕ) (a f : ℤ) → first_from p n a ≡ Some f → p f ≡ true
 first_passes p zero a f e = absurd cc
 first_passes p (suc n) a f e =
     elim (cases_Bool (p a)) [
@@ -130,12 +120,12 @@ filter_in p (y ∷ ys) x i =
 
 module _ (c : Condition) (T : Tables) (a : ℤ) where
   zero_on : (t : ℤ) (d : Doc) → at_least a (first c T d a t) ≡ first c T d a t
-  zero_on t d = keep_all a (first c T d a t) (λ f y. (first_bounds (given c T d) (count_between a t) a f y).0)
+  zero_on t d = keep_all a (first c T d a t) (λ f y. (first_from-within (given c T d) (count_between a t) a f y).0)
 
   -- a document that was given at a second below t is in the union
   given_in : (s t : ℤ) (d : Doc) → a ≤ℤ s → s <ℤ t → In d T.docs → given c T d s ≡ true → in_union c T a t d.num.0 ≡ true
   given_in s t d lo hi i y =
-      let z = count_is a t (omega (arith, ints)) in
+      let z = gap-is a t (omega (arith, ints)) in
       let f = first_there (given c T d) (count_between a t) a s lo (omega (arith, ints, z)) y in
       let hit = in_ordered _ _ (in_hits (λ d. at_least a (first c T d a t)) T.docs d f.0 i (zero_on t d ∙ f.1)) in
       in_any (λ k. nat_eq k d.num.0) (union_docs c T a t) d.num.0 (in_map (λ (h : Hit). h.doc.0) (union c T a t) _ hit) (eq-eqb d.num.0 d.num.0 refl)
@@ -147,8 +137,8 @@ module _ (c : Condition) (T : Tables) (a : ℤ) where
       let l = map_in (λ (h : Hit). h.doc.0) (union c T a t) k.0 k.1 in
       let r = hits_in (λ d. at_least a (first c T d a t)) T.docs l.0 (ordered_in _ l.0 l.1) in
       let e : first c T r.0 a t ≡ Some l.0.first = sym (zero_on t r.0) ∙ r.2 in
-      let b = first_bounds (given c T r.0) (count_between a t) a l.0.first e in
-      (r.0, l.0.first, r.1, sym (eqb-true k.0 n k.2) ∙ l.2 ∙ ap (λ z. z.0) r.3, b.0, count_end a t l.0.first b.0 b.1, first_passes (given c T r.0) (count_between a t) a l.0.first e)
+      let b = first_from-within (given c T r.0) (count_between a t) a l.0.first e in
+      (r.0, l.0.first, r.1, sym (eqb-true k.0 n k.2) ∙ l.2 ∙ ap (λ z. z.0) r.3, b.0, gap-end a t l.0.first b.0 b.1, first_passes (given c T r.0) (count_between a t) a l.0.first e)
 
   gives_in : (d : Doc) (s : ℤ) → In d (gives c T s) → In d T.docs × (given c T d s ≡ true)
   gives_in d s i = filter_in (λ d. given c T d s) T.docs d i

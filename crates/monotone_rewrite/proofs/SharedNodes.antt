@@ -1,5 +1,5 @@
 -- Nodes of a pool that grows.
-use Rattle.std.proofs.Common.{◌≡◌, ◌∙◌, refl, ℕ, ◌<◌, true, List, [], ◌∷◌, ◌++◌, length, arith}
+use Rattle.std.proofs.Common.{◌≡◌, ◌∙◌, refl, ℕ, true, List, [], ◌∷◌, ◌++◌, length, arith}
 use Rattle.std.specs.Prelude.{nat_lt}
 use Rattle.std.specs.List.{filter}
 use Rattle.std.proofs.lemmas.Bool.{and_parts, and_from}
@@ -13,10 +13,10 @@ use Rattle.time_marks.specs.declared.mark.Mark.{Mark}
 use Rattle.time_marks.specs.Kept.{is_kept, are_kept}
 use Rattle.time_marks.specs.Views.{probes_in}
 use Rattle.monotone_rewrite.specs.Query.{can_find}
-use Rattle.monotone_rewrite.specs.Folding.{known, fold_all, fold_either, fold_not, fold_exists}
+use Rattle.monotone_rewrite.specs.Folding.{known, fold_all, fold_either, fold_exists}
 
 module _ (nodes : List TNode) where
-  -- what two numbers say together, where what each says is known
+  -- what two numbers say together, if what each says is known
   pub all_known : (after : List TNode) (l r id : ℕ) (x y : Condition) → IsTreeAt nodes l x → IsTreeAt nodes r y
       → IsTreeAt after id (fold_all (known (tree_at nodes l)) (known (tree_at nodes r)) (tree_at nodes l) (tree_at nodes r)) → IsTreeAt after id (fold_all (known x) (known y) x y)
   all_known after l r id x y a b t = record { within = t.within; is = t.is ∙ rw (a.is, b.is) refl }
@@ -25,19 +25,9 @@ module _ (nodes : List TNode) where
       → IsTreeAt after id (fold_either (known (tree_at nodes l)) (known (tree_at nodes r)) (tree_at nodes l) (tree_at nodes r)) → IsTreeAt after id (fold_either (known x) (known y) x y)
   either_known after l r id x y a b t = record { within = t.within; is = t.is ∙ rw (a.is, b.is) refl }
 
-  pub not_known : (after : List TNode) (l id : ℕ) (x : Condition) → IsTreeAt nodes l x
-      → IsTreeAt after id (fold_not (known (tree_at nodes l)) (tree_at nodes l)) → IsTreeAt after id (fold_not (known x) x)
-  not_known after l id x a t = record { within = t.within; is = t.is ∙ rw a.is refl }
-
   pub exists_known : (after : List TNode) (l id : ℕ) (v : Var) (table : Table) (x : Condition) → IsTreeAt nodes l x
       → IsTreeAt after id (fold_exists (known (tree_at nodes l)) v table (tree_at nodes l)) → IsTreeAt after id (fold_exists (known x) v table x)
   exists_known after l id v table x a t = record { within = t.within; is = t.is ∙ rw a.is refl }
-
-pub kept_within : (nodes : List TNode) (id : ℕ) (x : Condition) → IsTreeAt nodes id x → id < length nodes
-kept_within nodes id x t = t.within
-
-pub kept_through : (a b c : List TNode) → KeepsTrees a b → KeepsTrees b c → KeepsTrees a c
-kept_through a b c f g id x t = g id x (f id x t)
 
 module _ (old new : List TNode) (keeps : KeepsTrees old new) where
   here : (id : ℕ) → nat_lt id (length old) ≡ true → IsTreeAt new id (tree_at old id)

@@ -79,7 +79,7 @@ unnoted-probes : window unnoted (pos 0)
     ∷ []
 unnoted-probes = refl
 
--- where a document came before second 0, a query without a start would miss it
+-- if a document came before second 0, a query without a start would miss it
 abbrev early : Doc
 early = record { num = record { 0 = 1 }; arrival = negsuc 4; text = [] }
 

@@ -11,7 +11,7 @@ use Rattle.tql_core.specs.declared.term.Var.{Var}
 use Rattle.tql_core.specs.Condition.{Condition, Always, Never, Plain, NowAtLeast, NowBefore, All, Either, Not, Exists}
 use Rattle.tql_core.specs.Values.{compare}
 
--- what a condition says of itself: it is True, it is False, or neither
+-- what is known of a condition: it is True, it is False, or neither
 pub data Known : Type 0 where
   Yes : Known
   No : Known

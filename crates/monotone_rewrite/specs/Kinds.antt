@@ -1,4 +1,4 @@
--- What a node of the code says of itself.
+-- What is known of a node of the code.
 use Rattle.monotone_rewrite.specs.Folding.{Known, Yes, No, Open}
 use Rattle.monotone_rewrite.specs.declared.shared.Kind.{Kind}
 use Rattle.monotone_rewrite.specs.declared.shared.Kind.TheVariants as K

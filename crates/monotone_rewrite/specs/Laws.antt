@@ -28,7 +28,7 @@ pub record IsUnionOf (c : Condition) (start : ℤ) (X : List Probe) : Type 0 whe
 abbrev pub WindowIsUnion : Type 0
 WindowIsUnion = (c : Condition) (start : ℤ) → IsQuery c → pos 0 ≤ℤ start → IsUnionOf c start (window c start)
 
--- the same of the distinct probes
+-- the same law of the distinct probes
 abbrev pub DistinctIsUnion : Type 0
 DistinctIsUnion = (c : Condition) (start : ℤ) → IsQuery c → pos 0 ≤ℤ start → IsUnionOf c start (distinct_probes (window c start))
 
@@ -63,6 +63,6 @@ UnionIsLeast = (c : Condition) (T : Tables) (start : ℤ) → IsLeastGrowing c T
 abbrev pub AreProbes : List Probe → Type 0
 AreProbes X = (p : Probe) → In p X → IsProbe p
 
--- the probes of a query's window do
+-- the probes of a query's window bind and name their variables as they should
 abbrev pub ProbesKeepScopes : Type 0
 ProbesKeepScopes = (c : Condition) (start : ℤ) → IsQuery c → AreProbes (window c start)

@@ -1,4 +1,4 @@
--- What an access reaches where all rows have come.
+-- What an access reaches once all rows have arrived.
 use Rattle.std.proofs.Common.{◌≡◌, ℤ, pos, Bool, true, List, [], ◌∷◌, refl, sym, ap, ◌∙◌, inl, inr, map}
 use Rattle.std.specs.Prelude.{◌≤ℤ◌, ◌||◌, filter}
 use Rattle.std.specs.List.{list_any}
@@ -26,7 +26,7 @@ docs_by last a env T e = picked OfDoc _ _ T.docs (λ d. refl) ∙ ap (λ z. rows
 pub notes_by : (last : ℤ) (a : Access) (env : Env) (T : Tables) → a ≡ AllNotes → map OfNote (up_to note_arrival last T.notes) ≡ rows_by last a env T
 notes_by last a env T e = picked OfNote _ _ T.notes (λ d. refl) ∙ ap (λ z. rows_by last z env T) (sym e)
 
--- where all rows have come, a walk by an access hands out all that it admits
+-- if all rows have come, a walk by an access hands out all that it admits
 module _ (last : ℤ) (T : Tables) (late : pos 250000000000 ≤ℤ last) (docs : Each (λ doc. IsMoment (doc_arrival doc)) T.docs) (notes : Each (λ note. IsMoment (note_arrival note)) T.notes) where
   rows_come : (t : Table) → filter (λ row. admits_by last AllDocs [] row) (rows_of t T) ≡ filter (λ row. true) (rows_of t T)
   rows_come Docs = all_by OfDoc doc_arrival last T.docs (λ d. refl) late docs

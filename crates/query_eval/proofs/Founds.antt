@@ -6,7 +6,6 @@ use Rattle.std.proofs.lemmas.Bool.{and_parts, and_from}
 use Rattle.tap_rows.specs.declared.tables.Tables.{Tables}
 use Rattle.tap_rows.specs.declared.results.Hit.{Hit}
 use Rattle.tap_rows.specs.declared.results.Entry.{Entry}
-use Rattle.tap_rows.specs.Kept as kept
 use Rattle.tql_core.specs.declared.term.Var.{Var}
 use Rattle.tql_core.specs.declared.term.Base.{Base}
 use Rattle.tql_core.specs.declared.term.Base.TheVariants as B
@@ -32,7 +31,7 @@ use Rattle.query_eval.specs.Found.{IsFound, AreFound}
 use Rattle.query_eval.specs.Nested.{was_seen}
 use Rattle.query_eval.specs.Drivers.{seek_var, seek_hits}
 use Rattle.query_eval.specs.Runs.{part_order, part_hits, query_hits, HasValidProbes, IsFit}
-use Rattle.query_eval.proofs.Members.{to_kept, of_kept, from_flat, to_flat, no_more}
+use Rattle.query_eval.proofs.Members.{from_flat, to_flat, no_more}
 use Rattle.query_eval.proofs.Nesting.{IsFoundBy}
 use Rattle.query_eval.proofs.Finding.{driven_is, driven_in, seek_sound, seek_complete}
 
@@ -135,15 +134,15 @@ module _ (q : RangedQuery) where
       pub query_found : AreFound (was_seen entries) (ranged_probes q) T w (query_hits entries T w q)
       query_found = record { sound = to; complete = back }
         where
-          to : (h : Hit) → kept.In h (query_hits entries T w q) → IsFound (was_seen entries) (ranged_probes q) T w h
+          to : (h : Hit) → In h (query_hits entries T w q) → IsFound (was_seen entries) (ranged_probes q) T w h
           to h i =
-              let a = from_flat (part_hits entries T w q.pool) q.parts h (of_kept (query_hits entries T w q) h i) in
+              let a = from_flat (part_hits entries T w q.pool) q.parts h i in
               let p = probe_in q.pool a.0.probe in
               let f = seek_sound entries T w p (part_order a.0) (part_probe a.0 a.1) (orders_serve p.path p.at.base) (part_bounded a.0 a.1) (seek_var (seek_of p.at)) refl h (of_seek a.0 h a.2) in
               let b = and_parts (int_le w.low h.first) (int_lt h.first w.high) f.within in
               record {
                 doc = f.doc;
-                is_row = to_kept T.docs f.doc f.is_row;
+                is_row = f.is_row;
                 unseen = f.unseen;
                 num = f.num;
                 at = in_any (finds T f.doc h.first) (ranged_probes q) p (in_map (λ (part : Ranged). probe_in q.pool part.probe) q.parts a.0 a.1) f.at;
@@ -151,19 +150,18 @@ module _ (q : RangedQuery) where
                 high = lt_back h.first w.high b.1;
               }
 
-          back : (h : Hit) → IsFound (was_seen entries) (ranged_probes q) T w h → kept.In h (query_hits entries T w q)
+          back : (h : Hit) → IsFound (was_seen entries) (ranged_probes q) T w h → In h (query_hits entries T w q)
           back h f =
               let x = any_in (finds T f.doc h.first) (ranged_probes q) f.at in
               let a = map_in (λ (part : Ranged). probe_in q.pool part.probe) q.parts x.0 x.1 in
               let p = probe_in q.pool a.0.probe in
               let g : IsFoundBy entries p T w h = record {
                 doc = f.doc;
-                is_row = of_kept T.docs f.doc f.is_row;
+                is_row = f.is_row;
                 unseen = f.unseen;
                 num = f.num;
                 at = subst (λ z. finds T f.doc h.first z ≡ true) a.2 x.2;
                 within = and_from _ _ (le_to w.low h.first f.low) (lt_to h.first w.high f.high);
               } in
-              to_kept (query_hits entries T w q) h
-              (to_flat (part_hits entries T w q.pool) q.parts a.0 h a.1
-              (to_seek a.0 h (seek_complete entries T w p (part_order a.0) (part_probe a.0 a.1) (orders_serve p.path p.at.base) (part_bounded a.0 a.1) (seek_var (seek_of p.at)) refl h g)))
+              to_flat (part_hits entries T w q.pool) q.parts a.0 h a.1
+              (to_seek a.0 h (seek_complete entries T w p (part_order a.0) (part_probe a.0 a.1) (orders_serve p.path p.at.base) (part_bounded a.0 a.1) (seek_var (seek_of p.at)) refl h g))

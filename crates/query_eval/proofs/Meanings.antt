@@ -18,7 +18,8 @@ use Rattle.query_eval.specs.Lowest.{lowest}
 use Rattle.query_eval.proofs.Lows.{kept_all}
 use Rattle.query_eval.specs.Laws.{LowestHitsAreTheMeaning}
 use Rattle.query_eval.proofs.HitOrder.{same_rising, ordered_in, in_ordered, rising_order}
-use Rattle.query_eval.proofs.LeastSeconds.{least_none, least_within, least_passes, least_least}
+use Rattle.tap_rows.proofs.SecondsLaws.{least_second-within}
+use Rattle.query_eval.proofs.LeastSeconds.{least_none, least_passes, least_least}
 
 some_same : {A : Type 0} {x y : A} → Some x ≡ Some y → x ≡ y
 some_same e = cc
@@ -148,7 +149,7 @@ module _ (seen : Doc → Bool) (X : List Probe) (T : Tables) (w : Window) (numbe
       go None e r = rw e r
       go (Some s) e r = rw e ((λ y i q. above y i q), r)
 
-  -- the least mark, where one is found
+  -- the least mark, if one is found
   least_is : (d : Doc) (b : ℤ) → found X T d b ≡ true → w.low ≤ℤ b → b <ℤ w.high → (least_b : ℤ) × (least X T d w ≡ Some least_b) × (least_b ≤ℤ b)
   least_is d b f l h = go (least X T d w) refl
     where
@@ -169,7 +170,7 @@ module _ (seen : Doc → Bool) (X : List Probe) (T : Tables) (w : Window) (numbe
 
   found_least : (h : Hit) (d : Doc) → In d T.docs → seen d ≡ false → h.doc ≡ d.num → least X T d w ≡ Some h.first → IsFound seen X T w h
   found_least h d i u n e =
-      let r = least_within (found X T d) w.low w.high h.first e in
+      let r = least_second-within (found X T d) w.low w.high h.first e in
       record { doc = d; is_row = i; unseen = u; num = n; at = least_passes (found X T d) w.low w.high h.first e; low = r.0; high = r.1 }
 
   -- the same of a list in order with one hit of each document, the least of those that are found

@@ -3,23 +3,11 @@ use Rattle.std.proofs.Common.{◌≡◌, ℕ, ◌≤◌, suc, Bool, true, false,
 use Rattle.std.specs.Prelude.{◌⊎◌, filter, option_to_list, if◌then◌else◌}
 use Rattle.std.specs.List.{flat_map}
 use Rattle.std.proofs.lemmas.Bool.{cases_Bool}
-use Rattle.tap_rows.specs.Kept as kept
 use Rattle.tap_rows.specs.Kept.{In}
 use Rattle.time_marks.specs.Found.{Distinct}
 use Rattle.time_marks.proofs.Lists.{in_left, in_right, append_in}
 
 module _ {A : Type 0} where
-  -- the two words for a member of a list
-  pub to_kept : (xs : List A) (x : A) → In x xs → kept.In x xs
-  to_kept [] x i = i
-  to_kept (y ∷ ys) x (inl e) = inl e
-  to_kept (y ∷ ys) x (inr i) = inr (to_kept ys x i)
-
-  pub of_kept : (xs : List A) (x : A) → kept.In x xs → In x xs
-  of_kept [] x i = i
-  of_kept (y ∷ ys) x (inl e) = inl e
-  of_kept (y ∷ ys) x (inr i) = inr (of_kept ys x i)
-
   pub in_filter : (p : A → Bool) (xs : List A) (x : A) → In x (filter p xs) → In x xs × (p x ≡ true)
   in_filter p [] x i = absurd i
   in_filter p (z ∷ zs) x i =
@@ -42,10 +30,6 @@ module _ {A : Type 0} where
       go : (p z ≡ true) ⊎ (p z ≡ false) → In x (filter p zs) → In x (filter p (z ∷ zs))
       go (inl q) k = rw q (inr k)
       go (inr q) k = rw q k
-
-  pub none_are : (xs : List A) → ((x : A) → In x xs → ⊥) → xs ≡ []
-  none_are [] h = refl
-  none_are (x ∷ xs) h = absurd (h x (inl refl))
 
 module _ {A B : Type 0} where
   pub from_flat : (f : A → List B) (xs : List A) (y : B) → In y (flat_map f xs) → (x : A) × In x xs × In y (f x)

@@ -6,7 +6,6 @@ use Rattle.tap_rows.specs.declared.rows.Doc.{Doc}
 use Rattle.tap_rows.specs.declared.tables.Tables.{Tables}
 use Rattle.tap_rows.specs.declared.results.Hit.{Hit}
 use Rattle.tap_rows.specs.declared.results.Entry.{Entry}
-use Rattle.tap_rows.specs.Kept as kept
 use Rattle.tap_rows.specs.Kept.{In}
 use Rattle.row_index.specs.Orders.{Numbered, doc_number}
 use Rattle.time_marks.specs.declared.ranged.Ranged.{Ranged}
@@ -29,13 +28,13 @@ use Rattle.query_eval.proofs.Dues.{quiet_cost, alone_cost}
 use Rattle.query_eval.proofs.Founds.{part_probe, part_bounded, query_found}
 
 -- hits whose documents all have places are kept as by the lowering alone
-all_placed : (n : ℕ) (ks hs : List Hit) → ((h : Hit) → kept.In h hs → has_place n h.doc.0 ≡ true) → keeping n ks hs ≡ lowest ks hs
+all_placed : (n : ℕ) (ks hs : List Hit) → ((h : Hit) → In h hs → has_place n h.doc.0 ≡ true) → keeping n ks hs ≡ lowest ks hs
 all_placed n ks [] f = refl
 all_placed n ks (h ∷ hs) f =
     let e : with_hit n ks h ≡ lowered ks h = ap (λ b. if b then lowered ks h else ks) (f h (inl refl)) in
     ap (λ z. keeping n z hs) e ∙ all_placed n (lowered ks h) hs (λ x i. f x (inr i))
 
-number_within : (n : ℕ) (docs : List Doc) (d : Doc) → Numbered doc_number n docs → kept.In d docs → (n ≤ d.num.0) × (d.num.0 < n + length docs)
+number_within : (n : ℕ) (docs : List Doc) (d : Doc) → Numbered doc_number n docs → In d docs → (n ≤ d.num.0) × (d.num.0 < n + length docs)
 number_within n [] d h i = absurd i
 number_within n (x ∷ xs) d h (inl e) =
     let q : d.num.0 ≡ n = ap (λ (z : Doc). z.num.0) e ∙ h.0 in
@@ -64,7 +63,7 @@ hits_kept q entries T w n ks now ps num room none k =
             le : (doc : ℕ) → doc ≤ n → nat_le doc n ≡ true
             le doc h = grind arith
 
-    placed : (h : Hit) → kept.In h (query_hits entries T w q) → has_place n h.doc.0 ≡ true
+    placed : (h : Hit) → In h (query_hits entries T w q) → has_place n h.doc.0 ≡ true
     placed h i =
         let f = (query_found q ps entries T w).sound h i in
         place h.doc.0 (subst (λ (z : DocNum). (1 ≤ z.0) × (z.0 < 1 + length T.docs)) (sym f.num) (number_within 1 T.docs f.doc num f.is_row))

@@ -6,25 +6,25 @@ use Rattle.tap_rows.specs.declared.results.Hit.{Hit}
 abbrev pub lower : Hit → Hit → Hit
 lower x h = if int_le x.first h.first then x else h
 
--- the kept hits with one more, or with that of its document lowered
+-- the stored hits with one more, or with that of its document lowered
 abbrev pub lowered : List Hit → Hit → List Hit
 lowered [] h = h ∷ []
 lowered (x ∷ xs) h = if nat_eq x.doc.0 h.doc.0 then lower x h ∷ xs else x ∷ lowered xs h
 
--- the kept hits after all of these
+-- the stored hits after all of these
 abbrev pub lowest : List Hit → List Hit → List Hit
 lowest kept [] = kept
 lowest kept (h ∷ hs) = lowest (lowered kept h) hs
 
--- has the document a place, where there are places for n documents?
+-- has the document a place among n?
 abbrev pub has_place : ℕ → ℕ → Bool
 has_place n doc = nat_lt 0 doc && nat_le doc n
 
--- the kept hits with one more, where its document has a place
+-- the stored hits with one more, if its document has a place
 abbrev pub with_hit : ℕ → List Hit → Hit → List Hit
 with_hit n kept h = if has_place n h.doc.0 then lowered kept h else kept
 
--- the kept hits after all of these
+-- the stored hits after all of these
 abbrev pub keeping : ℕ → List Hit → List Hit → List Hit
 keeping n kept [] = kept
 keeping n kept (h ∷ hs) = keeping n (with_hit n kept h) hs

@@ -23,7 +23,7 @@ pub record HasRoom (kept : KeptHits) : Type 0 where
   pub room : length kept.places.items ≤ vec_capacity kept.hits
   pub counted : length kept.places.items < 2 ^ 32
 
--- hits may be kept
+-- hits can be stored
 pub record IsReady (kept : KeptHits) : Type 0 where
   pub placed : IsPlaced kept.hits.items kept.places.items
   pub room : HasRoom kept

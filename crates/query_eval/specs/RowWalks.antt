@@ -1,4 +1,4 @@
--- The rows that a walk over either table has still to hand out.
+-- The rows that are left of a walk over either table.
 use Rattle.std.specs.Prelude.{Option, Some, None, List, [], ◌∷◌, map, option_to_list, nat_eq}
 use Rattle.std.specs.List.{find}
 use Rattle.tql_core.specs.declared.row_ref.RowRef.{RowRef}

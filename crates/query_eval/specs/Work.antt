@@ -29,7 +29,7 @@ total f (x ∷ xs) = f x + total f xs
 abbrev pub reached : Tables → Var → Table → Condition → Env → List Row
 reached T v t x env = filter (admits (inner_access v t x) env) (rows_of t T)
 
--- a step for each row of an outermost EXISTS, and the work of what stands in it
+-- a step for each row of an outermost EXISTS, and the work of its inner condition
 abbrev pub work : Tables → Condition → Env → ℕ
 work T Always env = 0
 work T Never env = 0

@@ -1,5 +1,5 @@
 -- Documents that are put in order of date, and taken away again.
-use Rattle.std.proofs.Common.{◌≡◌, ℕ, zero, suc, ◌+◌, ◌-◌, ◌<◌, ◌≤◌, ℤ, Bool, true, false, not, List, [], ◌∷◌, ◌++◌, Some, None, length, map, filter, refl, sym, ap, ◌∙◌, inl, inr, arith, if◌then◌else◌}
+use Rattle.std.proofs.Common.{◌≡◌, ℕ, zero, suc, ◌+◌, ◌-◌, ◌<◌, ◌≤◌, ℤ, Bool, true, false, not, List, [], ◌∷◌, ◌++◌, Some, length, map, filter, refl, sym, ap, ◌∙◌, inl, inr, arith, if◌then◌else◌}
 use Rattle.std.specs.Prelude.{slice_get, pos, int_le, int_lt, nat_lt, fold, ◌&&◌, ◌||◌, ◌==◌}
 use Rattle.std.specs.Option.{is_some, unwrap_or}
 use Rattle.std.specs.declared.cmp.Ordering.{Ordering}
@@ -43,7 +43,7 @@ num_below m n h = less_not m n (omega (arith, h))
 int_not_less : (x : ℤ) → int_lt x x ≡ false
 int_not_less x = grind (arith, ints)
 
--- a document of a later place stands before another exactly where its date is less
+-- a document of a later place comes before another if and only if its date is less
 cmp_later : (d o : Doc) → o.num.0 - 1 < d.num.0 - 1 → dated_cmp (dated d) (dated o) ≡ (if is_earlier d o then Less else Greater)
 cmp_later d o h = plain (stored_date d) (stored_date o) (num_below o.num.0 d.num.0 h) (nat_greater (o.num.0 - 1) (d.num.0 - 1) h)
   where
@@ -109,9 +109,6 @@ filter_without t (doc ∷ docs) d e =
 
 order_with : (docs : List Doc) (d : Doc) → has_date d ≡ true → in_date_order (docs ++ d ∷ []) ≡ put_dated d (in_date_order docs)
 order_with docs d e = ap (λ z. fold (λ sorted doc. put_dated doc sorted) [] z) (filter_with has_date docs d e) ∙ fold_onto (filter has_date docs) [] d
-
-pub order_without : (docs : List Doc) (d : Doc) → has_date d ≡ false → in_date_order (docs ++ d ∷ []) ≡ in_date_order docs
-order_without docs d e = ap (λ z. fold (λ sorted doc. put_dated doc sorted) [] z) (filter_without has_date docs d e)
 
 -- each document in order is one of those
 
@@ -210,9 +207,6 @@ dates_in low high end docs keys part w p k = p ∙ ap (λ z. filter (range_conta
 
 pub date_there : (d : Doc) (t : ℤ) → Some t ≡ (fields d).date → has_date d ≡ true
 date_there d t e = sym (ap (λ o. is_some o) e)
-
-pub no_date : (d : Doc) → None ≡ (fields d).date → has_date d ≡ false
-no_date d e = sym (ap (λ o. is_some o) e)
 
 pub key_is : (d : Doc) (t u : ℤ) (p : ℕ) (docs : List Doc) → Some t ≡ (fields d).date → u ≡ t → d.num.0 ≡ length docs + 1 → p ≡ length docs → record { date = u; place = p } ≡ dated d
 key_is d t u p docs e q n b =

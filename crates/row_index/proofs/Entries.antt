@@ -95,7 +95,7 @@ module _ {Z K Q : Type 0} (eq : Q → Q → Bool) (seen : K → Q) where
         | inr b ↦ let q = rw b at h in rw b (ap (λ z. (seen x.0, x.1.items) ∷ z) (not_there key place es q))
       ]
 
-  -- the same of a map that get_mut lent, where ps are the entries as the map is seen
+  -- the same of a map that get_mut lent, if ps are the entries as the map is seen
   pub put_back : (key : Q) (place : ℕ) (es fs : List (K × Vec ℕ Z)) (ps : List (Q × List ℕ)) (v w : Vec ℕ Z) → plain es ≡ ps → lookup (finds eq seen key) es ≡ Some v → fs ≡ set_value (finds eq seen key) es w → w.items ≡ with_place place v.items → plain fs ≡ posted eq key place ps
   put_back key place es fs ps v w p h f e = ap plain f ∙ changed key place es v w h e ∙ ap (λ z. posted eq key place z) p
 

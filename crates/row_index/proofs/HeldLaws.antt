@@ -33,18 +33,6 @@ held_doc_more docs more doc p old new notes on_doc h e w m a q f s = subst (λ z
   notes_on_docs = h.notes_on_docs;
 })
 
-pub held_doc_same : (docs : List Doc) (doc : Doc) (p : ℕ) (old new : DocPlaces) (notes : List Note) (on_doc : List (ℕ × List ℕ))
-    → IsHeld docs old notes on_doc → doc.num.0 ≡ length docs + 1
-    → p ≡ doc.num.0 - 1 → ((docs : List Doc) → IsNext docs doc p → DocPosts docs old → DocPosts docs new)
-    → IsHeld docs new notes on_doc
-held_doc_same docs doc p old new notes on_doc h e q f = record {
-  docs_stand = h.docs_stand;
-  notes_stand = h.notes_stand;
-  docs_found = f docs (next_doc docs doc p h.docs_stand e q) h.docs_found;
-  notes_found = h.notes_found;
-  notes_on_docs = h.notes_on_docs;
-}
-
 pub held_doc_less : (docs all : List Doc) (doc : Doc) (p : ℕ) (old new : DocPlaces) (notes : List Note) (on_doc : List (ℕ × List ℕ))
     → IsHeld all old notes on_doc → all ≡ docs ++ doc ∷ [] → p ≡ length docs
     → ((docs : List Doc) → IsNext docs doc p → DocPosts (docs ++ doc ∷ []) old → DocPosts docs new)

@@ -46,9 +46,6 @@ put_twice p xs =
 pub taken_put : (p : ℕ) (xs : List ℕ) → ends_with p xs ≡ false → without_place p (with_place p xs) ≡ xs
 taken_put p xs e = ap (λ z. without_place p z) (put_new p xs e) ∙ put_taken p xs
 
-pub taken_twice : (p : ℕ) (xs : List ℕ) → ends_with p (without_place p xs) ≡ false → without_place p (without_place p xs) ≡ without_place p xs
-taken_twice p xs e = not_taken p (without_place p xs) e
-
 -- one key
 
 module _ {K : Type 0} (eq : K → K → Bool) (sound : (x y : K) → eq x y ≡ true → x ≡ y) where

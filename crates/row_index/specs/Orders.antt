@@ -25,7 +25,7 @@ abbrev pub Numbered : {A : Type 0} → (A → ℕ) → ℕ → List A → Type 0
 Numbered number n [] = Unit {0}
 Numbered number n (x ∷ xs) = (number x ≡ n) × Numbered number (n + 1) xs
 
--- a moment of the clock that commands tell
+-- a moment of the clock that commands give
 pub record IsMoment (s : ℤ) : Type 0 where
   pub early : pos 0 ≤ℤ s
   pub late : s ≤ℤ pos 250000000000

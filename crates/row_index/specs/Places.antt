@@ -3,7 +3,7 @@ use Rattle.std.specs.Prelude.{ℕ, ◌-◌, Bool, false, Option, Some, None, Lis
 use Rattle.std.specs.Prelude.{[], ◌∷◌, ◌++◌, length, take, nat_eq, slice_get, if◌then◌else◌}
 use Rattle.std.specs.List.{list_any}
 
--- is the number there, and this one?
+-- is there a number, and is it this one?
 abbrev pub is_number : ℕ → Option ℕ → Bool
 is_number n None = false
 is_number n (Some m) = nat_eq m n
@@ -12,11 +12,11 @@ is_number n (Some m) = nat_eq m n
 abbrev pub ends_with : ℕ → List ℕ → Bool
 ends_with place places = is_number place (slice_get places (length places - 1))
 
--- the place at the end, where it isn't there yet
+-- the place at the end, if it isn't there yet
 abbrev pub with_place : ℕ → List ℕ → List ℕ
 with_place place places = if ends_with place places then places else places ++ place ∷ []
 
--- the place no longer at the end
+-- the place removed from the end, if it is there
 abbrev pub without_place : ℕ → List ℕ → List ℕ
 without_place place places = if ends_with place places then take (length places - 1) places else places
 
@@ -26,12 +26,12 @@ module _ {K : Type 0} (eq : K → K → Bool) where
   under key [] = []
   under key (e ∷ es) = if eq key e.0 then e.1 else under key es
 
-  -- the place under the key, too
+  -- the place put under the key
   abbrev pub posted : K → ℕ → List (K × List ℕ) → List (K × List ℕ)
   posted key place [] = (key, place ∷ []) ∷ []
   posted key place (e ∷ es) = if eq key e.0 then (e.0, with_place place e.1) ∷ es else e ∷ posted key place es
 
-  -- the place no longer under the key
+  -- the place removed from under the key
   abbrev pub unposted : K → ℕ → List (K × List ℕ) → List (K × List ℕ)
   unposted key place [] = []
   unposted key place (e ∷ es) = if eq key e.0 then (e.0, without_place place e.1) ∷ es else e ∷ unposted key place es

@@ -4,12 +4,12 @@ use Rattle.std.specs.Str.{bytes_eq}
 use Rattle.std.specs.List.{list_any}
 use Rattle.row_index.specs.Places.{under, posted, unposted}
 
--- the place under each of the keys, too
+-- the place put under each of the keys
 abbrev pub posted_all : {K : Type 0} → (K → K → Bool) → List K → ℕ → List (K × List ℕ) → List (K × List ℕ)
 posted_all eq [] place es = es
 posted_all eq (key ∷ keys) place es = posted_all eq keys place (posted eq key place es)
 
--- the place no longer under any of the keys
+-- the place removed from under each of the keys
 abbrev pub unposted_all : {K : Type 0} → (K → K → Bool) → List K → ℕ → List (K × List ℕ) → List (K × List ℕ)
 unposted_all eq [] place es = es
 unposted_all eq (key ∷ keys) place es = unposted_all eq keys place (unposted eq key place es)

@@ -17,7 +17,7 @@ fields doc = fields_of doc.text
 abbrev pub msgids : Doc → List (List ℕ)
 msgids doc = option_to_list (fields doc).msgid
 
--- the message id that it answers, or none
+-- the message id that it replies to, or none
 abbrev pub parents : Doc → List (List ℕ)
 parents doc = option_to_list (fields doc).inreplyto
 

@@ -1,4 +1,4 @@
--- The rows that a walk has still to hand out.
+-- The rows that are left of a walk.
 use Rattle.std.specs.Prelude.{ℕ, Option, Some, None, List, [], ◌∷◌, map, slice_get}
 use Rattle.row_index.specs.declared.dates.Dated.{Dated}
 use Rattle.row_index.specs.declared.walk.Places.{Places}
@@ -6,7 +6,7 @@ use Rattle.row_index.specs.declared.walk.Places.TheVariants.{Listed, ByDate}
 use Rattle.row_index.specs.declared.walk.Left.{Left}
 use Rattle.row_index.specs.declared.walk.Left.TheVariants.{Beside, Picked}
 
--- an element that may be absent, before others that count only where it is there
+-- an element before others, or nothing if it is absent
 abbrev pub put_before : {A : Type 0} → Option A → List A → List A
 put_before None rest = []
 put_before (Some x) rest = x ∷ rest
