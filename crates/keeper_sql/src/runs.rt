@@ -1,12 +1,10 @@
 //! The table `runs`.
 
-ghost use Rattle.std.specs.Prelude.{◌≡◌, ◌<◌, ◌^◌, [], ◌∷◌, map, IsTrue, IfOk, OnOk, OnErr};
-ghost use Rattle.sqlite.specs.Held.{state};
-ghost use Rattle.sqlite.specs.State.{HasCleanDisk, Survives, IsUnchanged};
+ghost use Rattle.std.specs.Prelude.{◌≡◌, ◌<◌, ◌^◌, [], ◌∷◌, map, IfOk, OnOk};
 ghost use Rattle.sqlite.specs.Values.{bound};
 ghost use Rattle.keeper_sql.specs.RowsAsValues.{given_run, run_in, run_shown, as_kept};
-ghost use Rattle.keeper_sql.specs.Store.{only, RowsWritten, Undone, AreKeyed};
-ghost use Rattle.keeper_sql.specs.Schema.{store_schema};
+ghost use Rattle.keeper_sql.specs.Store.{only, RowsWritten};
+ghost use Rattle.keeper_sql.specs.Calls.{AreRowsOf, CommitsNothing, Does, DoesOrUndoes, Reads, ReadsOnly, ReadsOrUndoes};
 
 use crate::reading::{integer, no_memory, number};
 use sqlite::types::ValueRef;
@@ -29,9 +27,9 @@ fn run_values(run: &RunRow) -> [ValueRef<'_>; 3]
 /// Adds a run.
 pub fn insert_run<S: Alter>(tx: &mut Transaction<'_, S>, run: &RunRow) -> Result<(), Error>
     ensures same_reference { tx.new.conn.ghost_name ≡ tx.old.conn.ghost_name }
-    ensures ok { HasCleanDisk (state S.Store tx.new.conn.now) → IsTrue (state S.Store tx.old.conn.now).in_transaction → OnOk result (RowsWritten (only 4 (as_kept (given_run run.now) ∷ [])) (state S.Store tx.old.conn.now) (state S.Store tx.new.conn.now)) }
-    ensures err { HasCleanDisk (state S.Store tx.new.conn.now) → IsTrue (state S.Store tx.old.conn.now).in_transaction → OnErr result (Undone (state S.Store tx.old.conn.now) (state S.Store tx.new.conn.now)) }
-    ensures survives { Survives (state S.Store tx.old.conn.now) (state S.Store tx.new.conn.now) (λ _. ⊥) }
+    ensures ok { Does S.Store tx.old.conn.now tx.new.conn.now result (RowsWritten (only 4 (as_kept (given_run run.now) ∷ []))) }
+    ensures err { DoesOrUndoes S.Store tx.old.conn.now tx.new.conn.now result }
+    ensures survives { CommitsNothing S.Store tx.old.conn.now tx.new.conn.now }
     ensures read { OnOk result (run_in (as_kept (given_run run.now)) ≡ run.now) }
 {
     let values = run_values(run);
@@ -69,10 +67,10 @@ pub fn read_runs<S: Alter>(
     tx: &mut Transaction<'_, S>,
 ) -> Result<Rows<RunRow>, Error>
     ensures same_reference { tx.new.conn.ghost_name ≡ tx.old.conn.ghost_name }
-    ensures same { HasCleanDisk (state S.Store tx.new.conn.now) → (state S.Store tx.old.conn.now).now.schema ≡ store_schema → OnOk result (IsUnchanged (state S.Store tx.old.conn.now) (state S.Store tx.new.conn.now)) }
-    ensures read { HasCleanDisk (state S.Store tx.new.conn.now) → (state S.Store tx.old.conn.now).now.schema ≡ store_schema → IfOk result (λ rows. AreKeyed ((state S.Store tx.old.conn.now).now.trees 4) → rows ≡ map run_in ((state S.Store tx.old.conn.now).now.trees 4)) }
-    ensures err { HasCleanDisk (state S.Store tx.new.conn.now) → (state S.Store tx.old.conn.now).now.schema ≡ store_schema → OnErr result (Undone (state S.Store tx.old.conn.now) (state S.Store tx.new.conn.now)) }
-    ensures survives { Survives (state S.Store tx.old.conn.now) (state S.Store tx.new.conn.now) (λ _. ⊥) }
+    ensures same { ReadsOnly S.Store tx.old.conn.now tx.new.conn.now result }
+    ensures read { Reads S.Store tx.old.conn.now tx.new.conn.now result (AreRowsOf 4 run_in) }
+    ensures err { ReadsOrUndoes S.Store tx.old.conn.now tx.new.conn.now result }
+    ensures survives { CommitsNothing S.Store tx.old.conn.now tx.new.conn.now }
 {
     match tx.query_all("SELECT num, query, moment FROM runs ORDER BY num", &[]) {
         Ok(shown) => runs_of(alloc, shown.as_slice()),

@@ -2,7 +2,7 @@
 
 ghost use Rattle.std.specs.Prelude.{◌≡◌, false, None};
 
-use crate::keep::{keep, is_settled};
+use crate::keep::{is_settled, keep};
 use crate::opened::open_kept;
 use keeper_core::{AttachFault, CommitFault, Keeper};
 use sqlite::{Alter, Connection};
