@@ -1,4 +1,4 @@
-//! The rows of a change, in one transaction.
+//! Commits the rows of a change, in one transaction.
 
 ghost use Rattle.std.specs.Prelude.{◌≡◌, [], ◌∷◌, map, false, OnOk, OnErr};
 ghost use Rattle.sqlite.specs.Held.{state};
@@ -16,7 +16,7 @@ use crate::runs::insert_run;
 use sqlite::{Alter, Connection, Error, Transaction};
 use tap_rows::{Change, Pick, RunRow};
 
-// Adds a run and what it delivered.
+// Inserts the rows of a run and of what it delivered.
 fn insert_run_done<S: Alter>(
     tx: &mut Transaction<'_, S>,
     run: &RunRow,
@@ -31,13 +31,10 @@ fn insert_run_done<S: Alter>(
         × (map pick_in (map (λ p. as_kept (given_pick p)) picks.now) ≡ picks.now)) }
 {
     insert_run(tx, run)?;
-    match insert_picks(tx, picks) {
-        Ok(()) => Ok(()),
-        Err(error) => Err(error),
-    }
+    insert_picks(tx, picks)
 }
 
-// Adds the rows of a change.
+// Inserts the rows of a change.
 fn insert_change<S: Alter>(tx: &mut Transaction<'_, S>, change: &Change) -> Result<(), Error>
     ensures same_reference { tx.new.conn.ghost_name ≡ tx.old.conn.ghost_name }
     ensures ok { Does S.Store tx.old.conn.now tx.new.conn.now result (RowsWritten (rows_of change.now)) }
@@ -54,7 +51,7 @@ fn insert_change<S: Alter>(tx: &mut Transaction<'_, S>, change: &Change) -> Resu
     }
 }
 
-/// Adds the rows of a change in one transaction.
+/// Inserts and commits the rows of a change in one transaction, which is rolled back if an insert fails.
 pub fn commit_change<S: Alter>(conn: &mut Connection<S>, change: &Change) -> Result<(), Error>
     requires { (state S.Store conn.old).in_transaction ≡ false }
     ensures ended { (state S.Store conn.new).in_transaction ≡ false }

@@ -1,4 +1,4 @@
-//! The tables of the store are made where they aren't there.
+//! Makes the tables of a store that aren't there.
 
 ghost use Rattle.std.specs.Prelude.{◌≡◌};
 ghost use Rattle.keeper_sql.specs.Schema.{schema_prefix_0, schema_prefix_1, schema_prefix_2, schema_prefix_3};
@@ -8,6 +8,7 @@ ghost use Rattle.keeper_sql.specs.Calls.{CommitsNothing, Does, DoesOrUndoes};
 
 use sqlite::{Alter, Error, Transaction};
 
+// Makes the table of the version, unless it is there; and so do the next six for their tables.
 fn create_meta<S: Alter>(tx: &mut Transaction<'_, S>) -> Result<(), Error>
     ensures same_reference { tx.new.conn.ghost_name ≡ tx.old.conn.ghost_name }
     ensures ok { Does S.Store tx.old.conn.now tx.new.conn.now result (Makes schema_prefix_0 0 schema_prefix_1 1) }
@@ -116,6 +117,7 @@ fn create_filters<S: Alter>(tx: &mut Transaction<'_, S>) -> Result<(), Error>
     }
 }
 
+// Makes the first two tables. The steps to seven are small, since each call in a function costs its proof dearly.
 fn create_two<S: Alter>(tx: &mut Transaction<'_, S>) -> Result<(), Error>
     ensures same_reference { tx.new.conn.ghost_name ≡ tx.old.conn.ghost_name }
     ensures ok { Does S.Store tx.old.conn.now tx.new.conn.now result (Makes schema_prefix_0 0 schema_prefix_2 2) }
@@ -123,12 +125,10 @@ fn create_two<S: Alter>(tx: &mut Transaction<'_, S>) -> Result<(), Error>
     ensures survives { CommitsNothing S.Store tx.old.conn.now tx.new.conn.now }
 {
     create_meta(tx)?;
-    match create_docs(tx) {
-        Ok(()) => Ok(()),
-        Err(error) => Err(error),
-    }
+    create_docs(tx)
 }
 
+// Makes the first four tables.
 fn create_four<S: Alter>(tx: &mut Transaction<'_, S>) -> Result<(), Error>
     ensures same_reference { tx.new.conn.ghost_name ≡ tx.old.conn.ghost_name }
     ensures ok { Does S.Store tx.old.conn.now tx.new.conn.now result (Makes schema_prefix_0 0 schema_prefix_4 4) }
@@ -137,12 +137,10 @@ fn create_four<S: Alter>(tx: &mut Transaction<'_, S>) -> Result<(), Error>
 {
     create_two(tx)?;
     create_notes(tx)?;
-    match create_queries(tx) {
-        Ok(()) => Ok(()),
-        Err(error) => Err(error),
-    }
+    create_queries(tx)
 }
 
+// Makes the first six tables.
 fn create_six<S: Alter>(tx: &mut Transaction<'_, S>) -> Result<(), Error>
     ensures same_reference { tx.new.conn.ghost_name ≡ tx.old.conn.ghost_name }
     ensures ok { Does S.Store tx.old.conn.now tx.new.conn.now result (Makes schema_prefix_0 0 schema_prefix_6 6) }
@@ -151,13 +149,10 @@ fn create_six<S: Alter>(tx: &mut Transaction<'_, S>) -> Result<(), Error>
 {
     create_four(tx)?;
     create_runs(tx)?;
-    match create_picks(tx) {
-        Ok(()) => Ok(()),
-        Err(error) => Err(error),
-    }
+    create_picks(tx)
 }
 
-/// Makes the tables that aren't there.
+/// Makes the tables that aren't there. A table that is there is unchanged.
 pub fn create_all<S: Alter>(tx: &mut Transaction<'_, S>) -> Result<(), Error>
     ensures same_reference { tx.new.conn.ghost_name ≡ tx.old.conn.ghost_name }
     ensures ok { Does S.Store tx.old.conn.now tx.new.conn.now result (Makes schema_prefix_0 0 schema_prefix_7 7) }
@@ -165,8 +160,5 @@ pub fn create_all<S: Alter>(tx: &mut Transaction<'_, S>) -> Result<(), Error>
     ensures survives { CommitsNothing S.Store tx.old.conn.now tx.new.conn.now }
 {
     create_six(tx)?;
-    match create_filters(tx) {
-        Ok(()) => Ok(()),
-        Err(error) => Err(error),
-    }
+    create_filters(tx)
 }

@@ -1,4 +1,4 @@
-//! The table `docs`.
+//! Writes and reads the rows of the table `docs`.
 
 ghost use Rattle.std.specs.Prelude.{◌≡◌, ◌<◌, ◌^◌, [], ◌∷◌, map, IfOk, OnOk};
 ghost use Rattle.sqlite.specs.Values.{bound};
@@ -13,6 +13,7 @@ use std::alloc::Global;
 use tap_base::{DocNum, Rows};
 use tap_rows::Doc;
 
+// Returns the parameters of the statement that inserts a document.
 fn doc_values(doc: &Doc) -> [ValueRef<'_>; 3]
     ensures given { bound result ≡ given_doc doc.now }
     ensures range { doc.now.num.0 < 2 ^ 32 }
@@ -24,7 +25,7 @@ fn doc_values(doc: &Doc) -> [ValueRef<'_>; 3]
     ]
 }
 
-/// Adds a document.
+/// Inserts the row of a document.
 pub fn insert_doc<S: Alter>(tx: &mut Transaction<'_, S>, doc: &Doc) -> Result<(), Error>
     ensures same_reference { tx.new.conn.ghost_name ≡ tx.old.conn.ghost_name }
     ensures ok { Does S.Store tx.old.conn.now tx.new.conn.now result (RowsWritten (only 1 (as_kept (given_doc doc.now) ∷ []))) }
@@ -42,7 +43,7 @@ pub fn insert_doc<S: Alter>(tx: &mut Transaction<'_, S>, doc: &Doc) -> Result<()
     }
 }
 
-/// Adds the documents, in their order.
+/// Inserts the rows of the documents, in their order.
 pub fn insert_docs<S: Alter>(tx: &mut Transaction<'_, S>, docs: &[Doc]) -> Result<(), Error>
     ensures same_reference { tx.new.conn.ghost_name ≡ tx.old.conn.ghost_name }
     ensures ok { Does S.Store tx.old.conn.now tx.new.conn.now result (RowsWritten (only 1 (map (λ x. as_kept (given_doc x)) docs.now))) }
@@ -56,6 +57,7 @@ pub fn insert_docs<S: Alter>(tx: &mut Transaction<'_, S>, docs: &[Doc]) -> Resul
     Ok(())
 }
 
+// Returns a document as a row shows it. `OutOfMemory` if its texts could not be copied.
 fn doc_of(alloc: Global, row: &Row) -> Result<Doc, Error>
     ensures { IfOk result (λ x. x ≡ doc_shown row.now) }
 {
@@ -65,6 +67,7 @@ fn doc_of(alloc: Global, row: &Row) -> Result<Doc, Error>
     Ok(Doc { num, arrival, text })
 }
 
+// Returns the documents as the rows of a query show them.
 fn docs_of(alloc: Global, shown: &[Row]) -> Result<Rows<Doc>, Error>
     ensures { IfOk result (λ rows. rows ≡ map doc_shown shown.now) }
 {
@@ -75,7 +78,7 @@ fn docs_of(alloc: Global, shown: &[Row]) -> Result<Rows<Doc>, Error>
     Ok(rows)
 }
 
-/// Reads the documents, in order of their numbers.
+/// Returns the documents, in order of their numbers.
 pub fn read_docs<S: Alter>(alloc: Global, tx: &mut Transaction<'_, S>) -> Result<Rows<Doc>, Error>
     ensures same_reference { tx.new.conn.ghost_name ≡ tx.old.conn.ghost_name }
     ensures same { ReadsOnly S.Store tx.old.conn.now tx.new.conn.now result }

@@ -1,4 +1,4 @@
-//! The table `filters`.
+//! Writes and reads the rows of the table `filters`.
 
 ghost use Rattle.std.specs.Prelude.{◌≡◌, ◌<◌, ◌^◌, [], ◌∷◌, map, IfOk, OnOk};
 ghost use Rattle.sqlite.specs.Values.{bound};
@@ -13,6 +13,7 @@ use std::alloc::Global;
 use tap_base::Rows;
 use tap_rows::FilterRow;
 
+// Returns the parameters of the statement that inserts a filter.
 fn filter_values(filter: &FilterRow) -> [ValueRef<'_>; 4]
     ensures given { bound result ≡ given_filter filter.now }
     ensures range { filter.now.num < 2 ^ 32 }
@@ -25,7 +26,7 @@ fn filter_values(filter: &FilterRow) -> [ValueRef<'_>; 4]
     ]
 }
 
-/// Adds a filter.
+/// Inserts the row of a filter.
 pub fn insert_filter<S: Alter>(tx: &mut Transaction<'_, S>, filter: &FilterRow) -> Result<(), Error>
     ensures same_reference { tx.new.conn.ghost_name ≡ tx.old.conn.ghost_name }
     ensures ok { Does S.Store tx.old.conn.now tx.new.conn.now result (RowsWritten (only 6 (as_kept (given_filter filter.now) ∷ []))) }
@@ -43,6 +44,7 @@ pub fn insert_filter<S: Alter>(tx: &mut Transaction<'_, S>, filter: &FilterRow) 
     }
 }
 
+// Returns a filter as a row shows it. `OutOfMemory` if its texts could not be copied.
 fn filter_of(alloc: Global, row: &Row) -> Result<FilterRow, Error>
     ensures { IfOk result (λ x. x ≡ filter_shown row.now) }
 {
@@ -58,6 +60,7 @@ fn filter_of(alloc: Global, row: &Row) -> Result<FilterRow, Error>
     })
 }
 
+// Returns the filters as the rows of a query show them.
 fn filters_of(alloc: Global, shown: &[Row]) -> Result<Rows<FilterRow>, Error>
     ensures { IfOk result (λ rows. rows ≡ map filter_shown shown.now) }
 {
@@ -68,7 +71,7 @@ fn filters_of(alloc: Global, shown: &[Row]) -> Result<Rows<FilterRow>, Error>
     Ok(rows)
 }
 
-/// Reads the filters, in order of their numbers.
+/// Returns the filters, in order of their numbers.
 pub fn read_filters<S: Alter>(
     alloc: Global,
     tx: &mut Transaction<'_, S>,

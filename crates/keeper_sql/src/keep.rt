@@ -1,4 +1,4 @@
-//! A commit, and what it leaves where it fails.
+//! Commits a change, and finds out what an error left.
 
 ghost use Rattle.std.specs.Prelude.{◌≡◌, ◌↔◌, false, IsTrue, OnOk, Err};
 ghost use Rattle.sqlite.specs.Held.{state};
@@ -12,25 +12,26 @@ use keeper_core::CommitFault;
 use sqlite::{Alter, Connection, Error, ErrorCode};
 use tap_rows::Change;
 
-// Does the error name want of memory?
+// Does the error say that the call was out of memory?
 pub fn is_memory(error: &Error) -> bool
     ensures { IsTrue result ↔ (error.now ≡ Error.SqliteFailure ErrorCode.OutOfMemory) }
 {
     matches!(error, Error::SqliteFailure(ErrorCode::OutOfMemory))
 }
 
-// Between two calls a crash leaves what the connection shows.
+// Only for its clauses: between two calls a crash leaves what the connection shows.
 pub fn is_settled<S: Alter>(conn: &Connection<S>) -> bool
     requires { (state S.Store conn.now).in_transaction ≡ false }
     ensures live { IsLive (state S.Store conn.now) }
     ensures committed { IsTrue (state S.Store conn.now).is_open → (state S.Store conn.now).now ≡ (state S.Store conn.now).committed }
     ensures alone { IsTrue (state S.Store conn.now).is_open → LeavesItsTrees (state S.Store conn.now) }
 {
+    // For the clause `live`.
     let _schema = conn.schema();
     conn.is_autocommit()
 }
 
-// Is the store still open?
+// Is the store still open? A connection doesn't say so itself; one that compiles a statement is open.
 pub fn is_still_open<S: Alter>(conn: &mut Connection<S>) -> bool
     requires { (state S.Store conn.old).in_transaction ≡ false }
     ensures ended { (state S.Store conn.new).in_transaction ≡ false }
@@ -41,7 +42,7 @@ pub fn is_still_open<S: Alter>(conn: &mut Connection<S>) -> bool
     conn.prepare("SELECT 1").is_ok() && is_settled(conn)
 }
 
-// Was memory wanting, and is the store as it was?
+// Was the call out of memory, and is the store unchanged?
 pub fn is_only_memory<S: Alter>(conn: &mut Connection<S>, error: &Error) -> bool
     requires { (state S.Store conn.old).in_transaction ≡ false }
     ensures ended { (state S.Store conn.new).in_transaction ≡ false }
@@ -52,7 +53,7 @@ pub fn is_only_memory<S: Alter>(conn: &mut Connection<S>, error: &Error) -> bool
     is_memory(error) && is_still_open(conn)
 }
 
-/// Commits a change: all its rows or none.
+/// Commits all rows of a change, or none. `Memory` if the commit was out of memory and the store is open, else `Failed`.
 pub fn keep<S: Alter>(conn: &mut Connection<S>, change: &Change) -> Result<(), CommitFault>
     requires { (state S.Store conn.old).in_transaction ≡ false }
     ensures ended { (state S.Store conn.new).in_transaction ≡ false }
@@ -66,6 +67,7 @@ pub fn keep<S: Alter>(conn: &mut Connection<S>, change: &Change) -> Result<(), C
     ensures crash { HasCleanDisk (state S.Store conn.new) → IsTrue (state S.Store conn.old).is_open
         → LeavesOldOr (IsAfter change.now (state S.Store conn.old)) (state S.Store conn.old) (state S.Store conn.new) }
 {
+    // For its clauses, which the error needs.
     let _settled = is_settled(conn);
     match commit_change(conn, change) {
         Ok(()) => Ok(()),

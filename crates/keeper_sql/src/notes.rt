@@ -1,4 +1,4 @@
-//! The table `notes`.
+//! Writes and reads the rows of the table `notes`.
 
 ghost use Rattle.std.specs.Prelude.{◌≡◌, ◌<◌, ◌^◌, [], ◌∷◌, map, IfOk, OnOk};
 ghost use Rattle.sqlite.specs.Values.{bound};
@@ -13,6 +13,7 @@ use std::alloc::Global;
 use tap_base::{DocNum, NoteNum, Rows};
 use tap_rows::Note;
 
+// Returns the parameters of the statement that inserts a note.
 fn note_values(note: &Note) -> [ValueRef<'_>; 7]
     ensures given { bound result ≡ given_note note.now }
     ensures range { (note.now.num.0 < 2 ^ 32) × (note.now.doc.0 < 2 ^ 32) }
@@ -28,7 +29,7 @@ fn note_values(note: &Note) -> [ValueRef<'_>; 7]
     ]
 }
 
-/// Adds a note.
+/// Inserts the row of a note.
 pub fn insert_note<S: Alter>(tx: &mut Transaction<'_, S>, note: &Note) -> Result<(), Error>
     ensures same_reference { tx.new.conn.ghost_name ≡ tx.old.conn.ghost_name }
     ensures ok { Does S.Store tx.old.conn.now tx.new.conn.now result (RowsWritten (only 2 (as_kept (given_note note.now) ∷ []))) }
@@ -46,6 +47,7 @@ pub fn insert_note<S: Alter>(tx: &mut Transaction<'_, S>, note: &Note) -> Result
     }
 }
 
+// Returns a note as a row shows it. `OutOfMemory` if its texts could not be copied.
 fn note_of(alloc: Global, row: &Row) -> Result<Note, Error>
     ensures { IfOk result (λ x. x ≡ note_shown row.now) }
 {
@@ -67,6 +69,7 @@ fn note_of(alloc: Global, row: &Row) -> Result<Note, Error>
     })
 }
 
+// Returns the notes as the rows of a query show them.
 fn notes_of(alloc: Global, shown: &[Row]) -> Result<Rows<Note>, Error>
     ensures { IfOk result (λ rows. rows ≡ map note_shown shown.now) }
 {
@@ -77,7 +80,7 @@ fn notes_of(alloc: Global, shown: &[Row]) -> Result<Rows<Note>, Error>
     Ok(rows)
 }
 
-/// Reads the notes, in order of their numbers.
+/// Returns the notes, in order of their numbers.
 pub fn read_notes<S: Alter>(alloc: Global, tx: &mut Transaction<'_, S>) -> Result<Rows<Note>, Error>
     ensures same_reference { tx.new.conn.ghost_name ≡ tx.old.conn.ghost_name }
     ensures same { ReadsOnly S.Store tx.old.conn.now tx.new.conn.now result }

@@ -1,4 +1,4 @@
-//! How a store is opened, in a transaction.
+//! Opens a store, in a transaction.
 
 ghost use Rattle.std.specs.Prelude.{◌≡◌, ◌≢◌, pos, false, IsTrue, IfOk, OnOk, OnErr};
 ghost use Rattle.keeper_core.specs.Keeping.{IfAlien};
@@ -18,14 +18,14 @@ use sqlite::{Alter, Connection, Error, Transaction};
 use std::alloc::Global;
 use tap_rows::Tables;
 
-/// What a store gives as it is opened: its tables, or a version that isn't known.
+/// What the open of a store gives: its tables, or a version other than 1 and 2.
 #[derive(Drop)]
 pub enum Opened {
     Held(Tables),
     Alien(i64),
 }
 
-// Makes the tables that aren't there, and settles the version.
+// Makes the tables that aren't there, raises the version, and returns it.
 fn prepare<S: Alter>(tx: &mut Transaction<'_, S>) -> Result<i64, Error>
     ensures same_reference { tx.new.conn.ghost_name ≡ tx.old.conn.ghost_name }
     ensures never { IfOk result (λ version. version ≢ pos 1) }
@@ -40,7 +40,7 @@ fn prepare<S: Alter>(tx: &mut Transaction<'_, S>) -> Result<i64, Error>
     }
 }
 
-/// Opens a store in a transaction, and reads its tables.
+/// Opens a store in a transaction, and returns its tables or its version.
 pub fn open_within<S: Alter>(alloc: Global, tx: &mut Transaction<'_, S>) -> Result<Opened, Error>
     ensures same_reference { tx.new.conn.ghost_name ≡ tx.old.conn.ghost_name }
     ensures never { IfOk result IsRefusedAt }
@@ -58,7 +58,7 @@ pub fn open_within<S: Alter>(alloc: Global, tx: &mut Transaction<'_, S>) -> Resu
     }
 }
 
-/// Opens a store in one transaction.
+/// Opens a store in one transaction. It is committed if the tables are returned, else rolled back.
 pub fn open_store<S: Alter>(alloc: Global, conn: &mut Connection<S>) -> Result<Opened, Error>
     requires { (state S.Store conn.old).in_transaction ≡ false }
     ensures ended { (state S.Store conn.new).in_transaction ≡ false }
@@ -79,7 +79,8 @@ pub fn open_store<S: Alter>(alloc: Global, conn: &mut Connection<S>) -> Result<O
     }
 }
 
-/// Opens a store, which is as it was unless its tables are given or a call failed.
+/// Opens a store in one transaction, and returns its tables. After `Alien` and `Memory` the store is open and unchanged.
+/// `Failed` if a call failed.
 pub fn open_kept<S: Alter>(alloc: Global, conn: &mut Connection<S>) -> Result<Tables, AttachFault>
     requires { (state S.Store conn.old).in_transaction ≡ false }
     ensures ended { (state S.Store conn.new).in_transaction ≡ false }
@@ -94,9 +95,11 @@ pub fn open_kept<S: Alter>(alloc: Global, conn: &mut Connection<S>) -> Result<Ta
     ensures crash { HasCleanDisk (state S.Store conn.new) → IsTrue (state S.Store conn.old).is_open
         → LeavesOldOr (IsAfterOpen (state S.Store conn.old)) (state S.Store conn.old) (state S.Store conn.new) }
 {
+    // For its clauses, which the errors need.
     let _settled = is_settled(conn);
     match open_store(alloc, conn) {
         Ok(Opened::Held(tables)) => {
+            // For the clause `given_alone`.
             let _alone = is_settled(conn);
             Ok(tables)
         }

@@ -1,4 +1,4 @@
-//! All tables of a store, read in a transaction.
+//! Reads all tables of a store, in a transaction.
 
 ghost use Rattle.std.specs.Prelude.{◌≡◌, map};
 ghost use Rattle.keeper_sql.specs.RowsAsValues.{tables_in, doc_in, note_in, query_in, run_in, pick_in, filter_in};
@@ -16,6 +16,7 @@ use std::alloc::Global;
 use tap_base::Rows;
 use tap_rows::{Doc, FilterRow, Note, Pick, QueryRow, RunRow, Tables};
 
+// What users wrote. The tables are read in two steps, so that a function makes at most three reads.
 #[derive(Drop)]
 struct EarlierTables {
     docs: Rows<Doc>,
@@ -23,6 +24,7 @@ struct EarlierTables {
     queries: Rows<QueryRow>,
 }
 
+// What runs delivered, and the filters.
 #[derive(Drop)]
 struct LaterTables {
     runs: Rows<RunRow>,
@@ -30,6 +32,7 @@ struct LaterTables {
     filters: Rows<FilterRow>,
 }
 
+// Returns the documents, notes and queries.
 fn read_written<S: Alter>(
     alloc: Global,
     tx: &mut Transaction<'_, S>,
@@ -59,6 +62,7 @@ fn read_written<S: Alter>(
     }
 }
 
+// Returns the runs, picks and filters.
 fn read_derived<S: Alter>(alloc: Global, tx: &mut Transaction<'_, S>) -> Result<LaterTables, Error>
     ensures same_reference { tx.new.conn.ghost_name ≡ tx.old.conn.ghost_name }
     ensures same { ReadsOnly S.Store tx.old.conn.now tx.new.conn.now result }
@@ -85,7 +89,7 @@ fn read_derived<S: Alter>(alloc: Global, tx: &mut Transaction<'_, S>) -> Result<
     }
 }
 
-/// Reads all tables.
+/// Returns all tables of a store.
 pub fn read_tables<S: Alter>(alloc: Global, tx: &mut Transaction<'_, S>) -> Result<Tables, Error>
     ensures same_reference { tx.new.conn.ghost_name ≡ tx.old.conn.ghost_name }
     ensures same { ReadsOnly S.Store tx.old.conn.now tx.new.conn.now result }

@@ -1,4 +1,4 @@
-//! The table `picks`.
+//! Writes and reads the rows of the table `picks`.
 
 ghost use Rattle.std.specs.Prelude.{◌≡◌, ◌<◌, ◌^◌, [], ◌∷◌, map, IfOk, OnOk};
 ghost use Rattle.sqlite.specs.Values.{bound};
@@ -13,6 +13,7 @@ use std::alloc::Global;
 use tap_base::{DocNum, QueryNum, Rows};
 use tap_rows::Pick;
 
+// Returns the parameters of the statement that inserts a delivered document.
 fn pick_values(pick: &Pick) -> [ValueRef<'_>; 5]
     ensures given { bound result ≡ given_pick pick.now }
     ensures range { (pick.now.num < 2 ^ 32) × (pick.now.query.0 < 2 ^ 32) × (pick.now.run < 2 ^ 32) × (pick.now.doc.0 < 2 ^ 32) }
@@ -26,7 +27,7 @@ fn pick_values(pick: &Pick) -> [ValueRef<'_>; 5]
     ]
 }
 
-/// Adds a delivered document.
+/// Inserts the row of a delivered document.
 pub fn insert_pick<S: Alter>(tx: &mut Transaction<'_, S>, pick: &Pick) -> Result<(), Error>
     ensures same_reference { tx.new.conn.ghost_name ≡ tx.old.conn.ghost_name }
     ensures ok { Does S.Store tx.old.conn.now tx.new.conn.now result (RowsWritten (only 5 (as_kept (given_pick pick.now) ∷ []))) }
@@ -44,7 +45,7 @@ pub fn insert_pick<S: Alter>(tx: &mut Transaction<'_, S>, pick: &Pick) -> Result
     }
 }
 
-/// Adds the delivered documents, in their order.
+/// Inserts the rows of the delivered documents, in their order.
 pub fn insert_picks<S: Alter>(tx: &mut Transaction<'_, S>, picks: &[Pick]) -> Result<(), Error>
     ensures same_reference { tx.new.conn.ghost_name ≡ tx.old.conn.ghost_name }
     ensures ok { Does S.Store tx.old.conn.now tx.new.conn.now result (RowsWritten (only 5 (map (λ x. as_kept (given_pick x)) picks.now))) }
@@ -58,6 +59,7 @@ pub fn insert_picks<S: Alter>(tx: &mut Transaction<'_, S>, picks: &[Pick]) -> Re
     Ok(())
 }
 
+// Returns a delivered document as a row shows it.
 fn pick_of(row: &Row) -> Result<Pick, Error>
     ensures { IfOk result (λ x. x ≡ pick_shown row.now) }
 {
@@ -75,6 +77,7 @@ fn pick_of(row: &Row) -> Result<Pick, Error>
     })
 }
 
+// Returns the delivered documents as the rows of a query show them.
 fn picks_of(alloc: Global, shown: &[Row]) -> Result<Rows<Pick>, Error>
     ensures { IfOk result (λ rows. rows ≡ map pick_shown shown.now) }
 {
@@ -85,7 +88,7 @@ fn picks_of(alloc: Global, shown: &[Row]) -> Result<Rows<Pick>, Error>
     Ok(rows)
 }
 
-/// Reads the delivered documents, in order of their numbers.
+/// Returns the delivered documents, in order of their numbers.
 pub fn read_picks<S: Alter>(alloc: Global, tx: &mut Transaction<'_, S>) -> Result<Rows<Pick>, Error>
     ensures same_reference { tx.new.conn.ghost_name ≡ tx.old.conn.ghost_name }
     ensures same { ReadsOnly S.Store tx.old.conn.now tx.new.conn.now result }

@@ -1,4 +1,4 @@
-//! The table `queries`.
+//! Writes and reads the rows of the table `queries`.
 
 ghost use Rattle.std.specs.Prelude.{◌≡◌, ◌<◌, ◌^◌, [], ◌∷◌, map, IfOk, OnOk};
 ghost use Rattle.sqlite.specs.Values.{bound};
@@ -13,6 +13,7 @@ use std::alloc::Global;
 use tap_base::{QueryNum, Rows};
 use tap_rows::QueryRow;
 
+// Returns the parameters of the statement that inserts a query.
 fn query_values(query: &QueryRow) -> [ValueRef<'_>; 5]
     ensures given { bound result ≡ given_query query.now }
     ensures range { query.now.num.0 < 2 ^ 32 }
@@ -26,7 +27,7 @@ fn query_values(query: &QueryRow) -> [ValueRef<'_>; 5]
     ]
 }
 
-/// Adds a query.
+/// Inserts the row of a query.
 pub fn insert_query<S: Alter>(tx: &mut Transaction<'_, S>, query: &QueryRow) -> Result<(), Error>
     ensures same_reference { tx.new.conn.ghost_name ≡ tx.old.conn.ghost_name }
     ensures ok { Does S.Store tx.old.conn.now tx.new.conn.now result (RowsWritten (only 3 (as_kept (given_query query.now) ∷ []))) }
@@ -44,6 +45,7 @@ pub fn insert_query<S: Alter>(tx: &mut Transaction<'_, S>, query: &QueryRow) -> 
     }
 }
 
+// Returns a query as a row shows it. `OutOfMemory` if its texts could not be copied.
 fn query_of(alloc: Global, row: &Row) -> Result<QueryRow, Error>
     ensures { IfOk result (λ x. x ≡ query_shown row.now) }
 {
@@ -61,6 +63,7 @@ fn query_of(alloc: Global, row: &Row) -> Result<QueryRow, Error>
     })
 }
 
+// Returns the queries as the rows of a query show them.
 fn queries_of(alloc: Global, shown: &[Row]) -> Result<Rows<QueryRow>, Error>
     ensures { IfOk result (λ rows. rows ≡ map query_shown shown.now) }
 {
@@ -71,7 +74,7 @@ fn queries_of(alloc: Global, shown: &[Row]) -> Result<Rows<QueryRow>, Error>
     Ok(rows)
 }
 
-/// Reads the queries, in order of their numbers.
+/// Returns the queries, in order of their numbers.
 pub fn read_queries<S: Alter>(
     alloc: Global,
     tx: &mut Transaction<'_, S>,

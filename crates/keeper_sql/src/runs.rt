@@ -1,4 +1,4 @@
-//! The table `runs`.
+//! Writes and reads the rows of the table `runs`.
 
 ghost use Rattle.std.specs.Prelude.{◌≡◌, ◌<◌, ◌^◌, [], ◌∷◌, map, IfOk, OnOk};
 ghost use Rattle.sqlite.specs.Values.{bound};
@@ -13,6 +13,7 @@ use std::alloc::Global;
 use tap_base::{QueryNum, Rows};
 use tap_rows::RunRow;
 
+// Returns the parameters of the statement that inserts a run.
 fn run_values(run: &RunRow) -> [ValueRef<'_>; 3]
     ensures given { bound result ≡ given_run run.now }
     ensures range { (run.now.num < 2 ^ 32) × (run.now.query.0 < 2 ^ 32) }
@@ -24,7 +25,7 @@ fn run_values(run: &RunRow) -> [ValueRef<'_>; 3]
     ]
 }
 
-/// Adds a run.
+/// Inserts the row of a run.
 pub fn insert_run<S: Alter>(tx: &mut Transaction<'_, S>, run: &RunRow) -> Result<(), Error>
     ensures same_reference { tx.new.conn.ghost_name ≡ tx.old.conn.ghost_name }
     ensures ok { Does S.Store tx.old.conn.now tx.new.conn.now result (RowsWritten (only 4 (as_kept (given_run run.now) ∷ []))) }
@@ -42,6 +43,7 @@ pub fn insert_run<S: Alter>(tx: &mut Transaction<'_, S>, run: &RunRow) -> Result
     }
 }
 
+// Returns a run as a row shows it.
 fn run_of(row: &Row) -> Result<RunRow, Error>
     ensures { IfOk result (λ x. x ≡ run_shown row.now) }
 {
@@ -51,6 +53,7 @@ fn run_of(row: &Row) -> Result<RunRow, Error>
     Ok(RunRow { num, query, moment })
 }
 
+// Returns the runs as the rows of a query show them.
 fn runs_of(alloc: Global, shown: &[Row]) -> Result<Rows<RunRow>, Error>
     ensures { IfOk result (λ rows. rows ≡ map run_shown shown.now) }
 {
@@ -61,7 +64,7 @@ fn runs_of(alloc: Global, shown: &[Row]) -> Result<Rows<RunRow>, Error>
     Ok(rows)
 }
 
-/// Reads the runs, in order of their numbers.
+/// Returns the runs, in order of their numbers.
 pub fn read_runs<S: Alter>(
     alloc: Global,
     tx: &mut Transaction<'_, S>,

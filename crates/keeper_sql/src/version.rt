@@ -1,4 +1,4 @@
-//! The version of a store.
+//! Reads and raises the version of a store.
 
 ghost use Rattle.std.specs.Prelude.{◌≡◌, ◌≢◌, pos, IfOk, OnErr};
 ghost use Rattle.sqlite.specs.Held.{state};
@@ -9,6 +9,7 @@ ghost use Rattle.keeper_sql.specs.Calls.{CommitsNothing, Does, DoesOrUndoes, Giv
 use crate::reading::integer;
 use sqlite::{Alter, Error, Row, Transaction};
 
+// Returns the version that the rows of `meta` show, if there is one.
 fn version_of(shown: &[Row]) -> Result<Option<i64>, Error>
     ensures { IfOk result (λ version. version ≡ version_shown shown.now) }
 {
@@ -18,7 +19,7 @@ fn version_of(shown: &[Row]) -> Result<Option<i64>, Error>
     }
 }
 
-/// Reads the version, if there is one.
+/// Returns the version, if the store has one.
 pub fn read_version<S: Alter>(tx: &mut Transaction<'_, S>) -> Result<Option<i64>, Error>
     ensures same_reference { tx.new.conn.ghost_name ≡ tx.old.conn.ghost_name }
     ensures same { ReadsOnly S.Store tx.old.conn.now tx.new.conn.now result }
@@ -32,7 +33,7 @@ pub fn read_version<S: Alter>(tx: &mut Transaction<'_, S>) -> Result<Option<i64>
     }
 }
 
-/// Makes the version 2.
+/// Writes version 2.
 pub fn write_version<S: Alter>(tx: &mut Transaction<'_, S>) -> Result<(), Error>
     ensures same_reference { tx.new.conn.ghost_name ≡ tx.old.conn.ghost_name }
     ensures ok { Does S.Store tx.old.conn.now tx.new.conn.now result Raises }
@@ -48,7 +49,7 @@ pub fn write_version<S: Alter>(tx: &mut Transaction<'_, S>) -> Result<(), Error>
     }
 }
 
-// Makes the version 2, and gives it.
+// Writes version 2, and returns it.
 fn raise_version<S: Alter>(tx: &mut Transaction<'_, S>) -> Result<i64, Error>
     ensures same_reference { tx.new.conn.ghost_name ≡ tx.old.conn.ghost_name }
     ensures ok { Gives S.Store tx.old.conn.now tx.new.conn.now result (λ version old new. (version ≡ pos 2) × Raises old new) }
@@ -62,7 +63,7 @@ fn raise_version<S: Alter>(tx: &mut Transaction<'_, S>) -> Result<i64, Error>
     }
 }
 
-/// The version of a store, which becomes 2 where there is none or 1.
+/// Returns the version of a store. A store of version 1, or of none, gets version 2 first.
 pub fn settle_version<S: Alter>(tx: &mut Transaction<'_, S>) -> Result<i64, Error>
     ensures same_reference { tx.new.conn.ghost_name ≡ tx.old.conn.ghost_name }
     ensures never { IfOk result (λ version. version ≢ pos 1) }
