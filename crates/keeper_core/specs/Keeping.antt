@@ -1,4 +1,4 @@
--- What is said of the tables that a keeper keeps.
+-- What is said of the tables of a keeper.
 use Rattle.std.specs.Prelude.{◌≡◌, ℤ, ⊤, Result, Ok, Err}
 use Rattle.tap_rows.specs.declared.tables.Tables.{Tables}
 use Rattle.keeper_core.specs.declared.fault.AttachFault.{AttachFault}
@@ -9,7 +9,7 @@ pub record IsDurable (tells leaves : Tables → Type 0) (tables : Tables) : Type
   pub told : tells tables
   pub alone : (x : Tables) → leaves x → x ≡ tables
 
--- this holds of the version for which an attach was refused
+-- if an attach was refused for a version, this holds of it
 abbrev pub IfAlien : {T : Type 0} → Result T AttachFault → (ℤ → Type 0) → Type 0
 IfAlien (Ok given) P = ⊤
 IfAlien (Err (Alien version)) P = P version

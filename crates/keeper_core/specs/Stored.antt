@@ -1,5 +1,6 @@
--- What the keepers in memory stand for.
-use Rattle.std.specs.Prelude.{ℕ, ℤ, pos, List, Bool, true, false, ◌||◌, Option, Some, None, [], ◌∷◌, ◌==◌, if◌then◌else◌, Result, Ok, Err}
+-- What the keepers in memory represent.
+use Rattle.std.specs.Prelude.{ℕ, ℤ, pos, List, Bool, true, false, ◌||◌}
+use Rattle.std.specs.Prelude.{Option, Some, None, [], ◌∷◌, ◌==◌, if◌then◌else◌, Result, Ok, Err}
 use Rattle.std.specs.Ordering.{int_eq}
 use Rattle.tap_base.specs.Counts.{next_count}
 use Rattle.tap_rows.specs.declared.tables.Tables.{Tables}
@@ -11,7 +12,7 @@ use Rattle.keeper_core.specs.declared.fault.CommitFault.{CommitFault}
 use Rattle.keeper_core.specs.declared.fault.CommitFault.TheVariants as commit
 use Rattle.keeper_core.specs.declared.mem_keeper.KeepPlan.{KeepPlan}
 
--- a keeper in memory: its tables and their version, what a crash leaves, how the coming calls go, and how it stands
+-- a keeper in memory: its tables and their version, what a crash leaves, the plan of its failures, and its state
 pub record Stored : Type 0 where
   pub tables : Tables
   pub version : ℤ
@@ -29,23 +30,24 @@ pub record Sure : Type 0 where
   pub attached : Bool
   pub place : List ℕ
 
--- does the plan let this call fail, and does a crash then leave the new tables?
+-- if the plan lets this call fail, whether a crash then leaves the new tables
 abbrev pub planned : List KeepPlan → ℕ → Option Bool
 planned [] call = None
 planned (plan ∷ plans) call = if plan.call == call then Some plan.kept else planned plans call
 
--- a version that is attached
+-- a store of this version can be attached
 abbrev pub is_known : ℤ → Bool
 is_known version = int_eq version (pos 1) || int_eq version (pos 2)
 
--- the next tables that a crash may leave after a failure, by the plan
+-- the tables that a crash leaves after a failed commit, by the plan
 abbrev pub left_by : Bool → Tables → Change → Tables
 left_by true tables change = after tables change
 left_by false tables change = tables
 
--- the keeper after a call that the plan lets fail
+-- the keeper after a call that failed by the plan
 abbrev pub stopped_with : Tables → Stored → Stored
-stopped_with left keeper = record keeper { left = left; calls = next_count keeper.calls; stopped = true; faults = next_count keeper.faults }
+stopped_with left keeper =
+    record keeper { left = left; calls = next_count keeper.calls; stopped = true; faults = next_count keeper.faults }
 
 -- the keeper after an attach at a place
 abbrev pub attached_at : List ℕ → Option Bool → Stored → Stored
@@ -58,7 +60,7 @@ attached_at place None keeper =
       place = place;
     }
 
--- what an attach answers
+-- what an attach returns
 abbrev pub attach_answer : Option Bool → Stored → Result Tables AttachFault
 attach_answer (Some kept) keeper = Err Failed
 attach_answer None keeper = if is_known keeper.version then Ok keeper.tables else Err (Alien keeper.version)
@@ -69,7 +71,7 @@ committed change (Some kept) keeper = stopped_with (left_by kept keeper.tables c
 committed change None keeper =
     record keeper { tables = after keeper.tables change; left = after keeper.tables change; calls = next_count keeper.calls }
 
--- what a commit answers
+-- what a commit returns
 abbrev pub commit_answer : Option Bool → Result (Unit {0}) CommitFault
 commit_answer (Some kept) = Err commit.Failed
 commit_answer None = Ok tt

@@ -1,27 +1,31 @@
+//! The errors of a keeper.
+
 ghost use Rattle.std.specs.Prelude.{◌≡◌};
 
 use tap_base::Memory;
 use thiserror::Error;
 
-/// Why a keeper wasn't attached.
+/// The error of an attach.
 #[derive(Debug, Drop, Error)]
 pub enum AttachFault {
-    /// The store has a version that isn't known.
+    /// The store has this version, which is neither 1 nor 2.
     #[error("store version {version}")]
     Alien { version: i64 },
     /// The store failed, and the keeper is stopped.
     #[error("store failed")]
     Failed,
+    /// The call was out of memory. Nothing else is changed.
     #[error("no memory")]
     Memory,
 }
 
-/// Why a change wasn't committed.
+/// The error of a commit.
 #[derive(Debug, Drop, Error)]
 pub enum CommitFault {
     /// The store failed, and the keeper is stopped.
     #[error("store failed")]
     Failed,
+    /// The call was out of memory. Nothing else is changed.
     #[error("no memory")]
     Memory,
 }

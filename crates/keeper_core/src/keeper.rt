@@ -1,3 +1,5 @@
+//! What a keeper of tables promises.
+
 ghost use Rattle.std.specs.Prelude.{◌≡◌, ◌≢◌, ◌⊎◌, ◌↔◌, ◌≤◌, ℕ, ℤ, pos, List, Bool, true, false, Err, IsOk, IfOk, OnOk};
 ghost use Rattle.tap_rows.specs.Tables.{after};
 ghost use Rattle.tap_rows.specs.WellFormed.{is_well_formed};
@@ -12,10 +14,33 @@ use tap_rows::{Change, Tables};
 
 /// Keeps the tables of a store. It is attached once, and then each change is one commit.
 ///
-/// What it tells of its tables, and what a crash leaves, is promised while it is honest: while the store has returned
-/// what was written to it, and nobody else has written to it.
+/// | State | `attached` | `stopped` | What may be called |
+/// |---|---|---|---|
+/// | free | false | false | `attach` |
+/// | attached | true | false | `commit` |
+/// | stopped | either | true | nothing |
+///
+/// ```text
+///            attach: Ok                commit: Ok, Memory
+/// free ----------------------> attached ----+
+///  | ^                            |  ^      |
+///  | | attach: Alien, Memory      |  +------+
+///  +-+                            |
+///  |  attach: Failed              |  commit: Failed
+///  +-----------> stopped <--------+
+/// ```
+///
+/// A keeper is honest while its store has returned what was written to it, and nobody else has written to it. Honesty
+/// that is lost doesn't come back. While a keeper is honest, this holds of the tables that it tells, if it tells any:
+///
+/// - free: they are the tables that an attach returns, and a crash in or after an attach leaves them.
+/// - attached: they are the tables that the attach returned, with the rows of each committed change, and a crash
+///   leaves them alone.
+/// - stopped: a crash leaves the tables of before the call that failed, or those with all rows of its change.
+///
+/// Of a keeper that isn't honest only the states, the place and the count of failures are promised.
 pub trait Keeper {
-    // It tells these tables as those that it keeps. A keeper may tell none, as one that has opened no store yet.
+    // It tells that its store has these tables. A keeper may tell none, as one whose open failed.
     ghost tells: { Self → TableRows → Type 0 };
 
     // It tells this version of its store.
@@ -32,27 +57,30 @@ pub trait Keeper {
     // A call has failed.
     ghost stopped: { Self → Bool };
 
-    // The place that it was attached at, empty at first.
+    // The place that it is attached at, empty at first.
     ghost place: { Self → List ℕ };
 
     // How often the store has failed.
     ghost faults: { Self → ℕ };
 
-    /// Attaches the store at a place, and gives its tables. A store without any table holds the empty tables, in
-    /// version 2; one of version 1 becomes one of version 2.
+    /// Attaches the store at a place, and returns its tables. A store without any table has no rows and version 2; one of
+    /// version 1 gets version 2. `Alien` if the store has another version, `Failed` if the store failed, `Memory` if the
+    /// attach was out of memory: the place is then unchanged, and a later attach may succeed.
     fn attach(&mut self, alloc: Global, at: &str) -> Result<Tables, AttachFault>
         requires free { attached self.old ≡ false }
         requires running { stopped self.old ≡ false }
         ensures attached { (attached self.new ≡ true) ↔ IsOk result }
         ensures stopped { (stopped self.new ≡ true) ↔ (result ≡ Err AttachFault.Failed) }
         ensures placed { (place self.new ≡ at.now) ⊎ ((result ≡ Err AttachFault.Memory) × (place self.new ≡ place self.old)) }
+        ensures stays { result ≡ Err AttachFault.Memory → place self.new ≡ place self.old }
         ensures later { faults self.old ≤ faults self.new }
         ensures cause { result ≡ Err AttachFault.Failed → Rose (faults self.old) (faults self.new) }
         ensures honest { honest self.new → honest self.old }
 
-        // The tables that it told: it gives them, and still tells them unless it failed.
+        // The tables that it told: it returns them, and tells them unless it failed.
         ensures given { IfOk result (λ given. honest self.new → (s : TableRows) → tells self.old s → s ≡ given) }
-        ensures kept { honest self.new → (s : TableRows) → tells self.old s → stopped self.new ≡ false → IsDurable (tells self.new) (may_leave self.new) s }
+        ensures kept { honest self.new → (s : TableRows) → tells self.old s → stopped self.new ≡ false
+            → IsDurable (tells self.new) (may_leave self.new) s }
         ensures crash { honest self.new → (s : TableRows) → tells self.old s → (x : TableRows) → may_leave self.new x → x ≡ s }
 
         // The version.
@@ -60,9 +88,11 @@ pub trait Keeper {
         ensures known { honest self.new → (v : ℤ) → has_version self.old v → OnOk result ((v ≡ pos 1) ⊎ (v ≡ pos 2)) }
         ensures alien { IfAlien result (λ v. (v ≢ pos 1) × (v ≢ pos 2)) }
         ensures same { IfAlien result (λ v. honest self.new → (w : ℤ) → has_version self.old w → (w ≡ v) × has_version self.new w) }
-        ensures migrated { result ≡ Err AttachFault.Memory → honest self.new → (w : ℤ) → has_version self.old w → has_version self.new w ⊎ ((w ≡ pos 1) × has_version self.new (pos 2)) };
+        ensures migrated { result ≡ Err AttachFault.Memory → honest self.new → (w : ℤ) → has_version self.old w
+            → has_version self.new w ⊎ ((w ≡ pos 1) × has_version self.new (pos 2)) };
 
-    /// Appends the rows of a change, all of them or none.
+    /// Appends the rows of a change, all of them or none. `Failed` if the store failed: a crash then leaves none or all of
+    /// them. `Memory` if the commit was out of memory: the tables are unchanged.
     fn commit(&mut self, change: &Change) -> Result<(), CommitFault>
         requires ready { attached self.old ≡ true }
         requires running { stopped self.old ≡ false }
@@ -72,12 +102,16 @@ pub trait Keeper {
         ensures cause { result ≡ Err CommitFault.Failed → Rose (faults self.old) (faults self.new) }
         ensures honest { honest self.new → honest self.old }
 
-        // The tables, where they stand in order and the rows of the change stand in order behind them.
-        ensures ok { honest self.new → (s : TableRows) → tells self.old s → is_well_formed s ≡ true → fits s change.now ≡ true → OnOk result (IsDurable (tells self.new) (may_leave self.new) (after s change.now)) }
-        ensures memory { honest self.new → (s : TableRows) → tells self.old s → result ≡ Err CommitFault.Memory → IsDurable (tells self.new) (may_leave self.new) s }
-        ensures crash { honest self.new → (s : TableRows) → tells self.old s → is_well_formed s ≡ true → fits s change.now ≡ true → (x : TableRows) → may_leave self.new x → (x ≡ s) ⊎ (x ≡ after s change.now) }
-        ensures version { honest self.new → (s : TableRows) → tells self.old s → is_well_formed s ≡ true → fits s change.now ≡ true → (v : ℤ) → has_version self.old v → stopped self.new ≡ false → has_version self.new v };
+        // The tables, if they are well formed and the change fits them.
+        ensures ok { honest self.new → (s : TableRows) → tells self.old s → is_well_formed s ≡ true → fits s change.now ≡ true
+            → OnOk result (IsDurable (tells self.new) (may_leave self.new) (after s change.now)) }
+        ensures memory { honest self.new → (s : TableRows) → tells self.old s → result ≡ Err CommitFault.Memory
+            → IsDurable (tells self.new) (may_leave self.new) s }
+        ensures crash { honest self.new → (s : TableRows) → tells self.old s → is_well_formed s ≡ true → fits s change.now ≡ true
+            → (x : TableRows) → may_leave self.new x → (x ≡ s) ⊎ (x ≡ after s change.now) }
+        ensures version { honest self.new → (s : TableRows) → tells self.old s → is_well_formed s ≡ true → fits s change.now ≡ true
+            → (v : ℤ) → has_version self.old v → stopped self.new ≡ false → has_version self.new v };
 
-    // It tells one tables at most.
+    // It tells the tables of one store at most.
     ghost one: { (k : Self) (s t : TableRows) → tells k s → tells k t → s ≡ t };
 }

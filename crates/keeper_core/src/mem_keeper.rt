@@ -1,4 +1,7 @@
-ghost use Rattle.std.specs.Prelude.{◌≡◌, ◌≢◌, ◌⊎◌, ◌↔◌, ◌≤◌, ◌<◌, ℕ, ℤ, pos, List, [], Bool, true, false, Option, Some, None, Err, IsOk, IfOk, OnOk, OnErr, unwrap_or, is_some};
+//! A keeper in memory whose calls fail by a plan.
+
+ghost use Rattle.std.specs.Prelude.{◌≡◌, ◌≢◌, ◌⊎◌, ◌↔◌, ◌≤◌, ◌<◌, ℕ, ℤ, pos};
+ghost use Rattle.std.specs.Prelude.{List, [], Bool, true, false, Option, Some, None, Err, IsOk, IfOk, OnOk, OnErr, unwrap_or, is_some};
 ghost use Rattle.tap_rows.specs.Tables.{after};
 ghost use Rattle.keeper_core.specs.Stored.{Stored, planned, stopped_with, attached_at, attach_answer, committed, commit_answer};
 ghost use Rattle.tap_base.specs.Counts.{next_count};
@@ -9,19 +12,19 @@ use std::marker::Model;
 use tap_base::{Memory, Text};
 use tap_rows::{Change, Tables};
 
-/// The call of this number fails; where it is a commit, `kept` says whether a crash leaves the new tables.
+/// Makes the call of this number fail. If that is a commit, `kept` says whether a crash leaves the new tables.
 #[derive(Clone, Copy, Debug, PartialEq, Eq)]
 pub struct KeepPlan {
     pub call: u64,
     pub kept: bool,
 }
 
-/// A keeper in memory, whose calls fail as a plan says.
+/// Keeps tables in memory. Its calls fail as a plan says.
 #[derive(Drop)]
 pub struct MemKeeper {
     tables: Tables,
     version: i64,
-    // what a crash leaves after a failed commit, where these aren't the tables
+    // what a crash leaves after a failed commit, if that isn't `tables`
     left: Option<Tables>,
     fails: Vec<KeepPlan>,
     calls: u64,
@@ -49,7 +52,7 @@ impl Model for MemKeeper {
     ghost invariant = { λ k. k.stopped ≡ false → k.left ≡ None };
 }
 
-// Does the plan let this call fail?
+// Returns `kept` of the plan for this call, if the call is to fail.
 fn plan_of(fails: &[KeepPlan], call: u64) -> Option<bool>
     ensures { result ≡ planned fails.now call }
 {
@@ -61,7 +64,7 @@ fn plan_of(fails: &[KeepPlan], call: u64) -> Option<bool>
     None
 }
 
-// The tables with a change.
+// Returns a copy of the tables with the rows of a change.
 fn tables_with(tables: &Tables, change: Change) -> Result<Tables, Memory>
     ensures { IfOk result (λ all. all ≡ after tables.now change) }
 {
@@ -71,10 +74,20 @@ fn tables_with(tables: &Tables, change: Change) -> Result<Tables, Memory>
 }
 
 impl MemKeeper {
-    /// Keeps these tables in a store of this version. Its calls of `attach` and `commit` are numbered from 0, without
-    /// those that find no memory; the calls of `fails` fail, and no other does.
+    /// Returns a keeper of these tables in a store of this version. Its calls of `attach` and `commit` are numbered from
+    /// 0, without those that are out of memory; the calls of `fails` fail, and no other does.
     pub fn new(alloc: Global, tables: Tables, version: i64, fails: Vec<KeepPlan>) -> MemKeeper
-        ensures { result ≡ record { tables = tables; version = version; left = tables; fails = fails.items; calls = 0; attached = false; stopped = false; place = []; faults = 0 } }
+        ensures { result ≡ record {
+          tables = tables;
+          version = version;
+          left = tables;
+          fails = fails.items;
+          calls = 0;
+          attached = false;
+          stopped = false;
+          place = [];
+          faults = 0;
+        } }
     {
         MemKeeper {
             tables,
@@ -89,21 +102,21 @@ impl MemKeeper {
         }
     }
 
-    /// The tables that it keeps.
+    /// Returns the tables of the store.
     pub fn tables(&self) -> &Tables
         ensures { result.now ≡ self.now.tables }
     {
         &self.tables
     }
 
-    /// The version of its store.
+    /// Returns the version of the store.
     pub fn version(&self) -> i64
         ensures { result ≡ self.now.version }
     {
         self.version
     }
 
-    /// What a crash now leaves.
+    /// Returns the tables that a crash leaves now.
     pub fn after_crash(self) -> Tables
         ensures { result ≡ self.left }
     {
@@ -114,7 +127,7 @@ impl MemKeeper {
         }
     }
 
-    // Stops at a failure, after which a crash leaves these tables, or those that it keeps.
+    // Stops at a failure. A crash then leaves these tables, or its own if there are none.
     fn stop(&mut self, left: Option<Tables>)
         requires { self.old.stopped ≡ false }
         ensures { self.new ≡ stopped_with (unwrap_or left self.old.tables) self.old }
@@ -153,8 +166,11 @@ impl Keeper for MemKeeper {
         ensures alone { self.old.left ≡ self.old.tables }
 
         // The plan.
-        ensures plan { ((result ≡ Err AttachFault.Memory) × (self.new ≡ self.old)) ⊎ ((result ≡ attach_answer (planned self.old.fails self.old.calls) self.old) × (self.new ≡ attached_at at.now (planned self.old.fails self.old.calls) self.old)) }
+        ensures plan { ((result ≡ Err AttachFault.Memory) × (self.new ≡ self.old))
+            ⊎ ((result ≡ attach_answer (planned self.old.fails self.old.calls) self.old)
+            × (self.new ≡ attached_at at.now (planned self.old.fails self.old.calls) self.old)) }
     {
+        // All memory is taken first, so that a call that is out of memory changes nothing.
         let tables = self.tables.copy()?;
         let place = Text::from_slice(alloc, at.as_bytes())?;
         self.place = place;
@@ -180,7 +196,9 @@ impl Keeper for MemKeeper {
         ensures alone { self.old.left ≡ self.old.tables }
 
         // The plan.
-        ensures plan { ((result ≡ Err CommitFault.Memory) × (self.new ≡ self.old)) ⊎ ((result ≡ commit_answer (planned self.old.fails self.old.calls)) × (self.new ≡ committed change.now (planned self.old.fails self.old.calls) self.old)) }
+        ensures plan { ((result ≡ Err CommitFault.Memory) × (self.new ≡ self.old))
+            ⊎ ((result ≡ commit_answer (planned self.old.fails self.old.calls))
+            × (self.new ≡ committed change.now (planned self.old.fails self.old.calls) self.old)) }
     {
         let call = self.calls;
         let more = change.copy()?;

@@ -1,3 +1,5 @@
+//! A keeper in memory that never fails.
+
 ghost use Rattle.std.specs.Prelude.{◌≡◌, false, []};
 ghost use Rattle.keeper_core.specs.Stored.{Sure};
 
@@ -7,7 +9,7 @@ use std::marker::Model;
 use tap_base::Text;
 use tap_rows::{Change, Tables};
 
-/// A keeper in memory that never fails.
+/// Keeps tables in memory, and never fails.
 #[derive(Drop)]
 pub struct SureKeeper {
     tables: Tables,
@@ -22,7 +24,7 @@ impl Model for SureKeeper {
 }
 
 impl SureKeeper {
-    /// Keeps these tables, in version 2.
+    /// Returns a keeper of these tables, in a store of version 2.
     pub fn new(alloc: Global, tables: Tables) -> SureKeeper
         ensures { result ≡ record { tables = tables; attached = false; place = [] } }
     {

@@ -1,3 +1,5 @@
+//! Keepers in memory, and what a caller of any keeper knows.
+
 ghost use Rattle.std.specs.Prelude.{◌≡◌, ◌≢◌, ◌⊎◌, ◌↔◌, ℤ, pos, true, false, codes, IfOk};
 ghost use Rattle.tap_rows.specs.Tables.{after};
 ghost use Rattle.tap_rows.specs.WellFormed.{is_well_formed};
@@ -12,8 +14,8 @@ use std::test::Fail;
 use tap_base::{DocNum, Memory, Rows, Text};
 use tap_rows::{Change, Doc, Tables};
 
-// What a caller of any keeper knows, whatever it answers: 0 where both changes were committed, 5 where the keeper
-// failed, 6 where it has another version, 7 where there was no memory.
+// Attaches any keeper and commits two changes. Returns 0 if both were committed, 5 if the keeper failed, 6 if its store
+// has another version, 7 if a call was out of memory.
 fn keep_two<P: Keeper>(alloc: Global, keeper: &mut P, one: &Change, two: &Change) -> u8
     requires free { P.attached keeper.old ≡ false }
     requires running { P.stopped keeper.old ≡ false }
@@ -21,9 +23,16 @@ fn keep_two<P: Keeper>(alloc: Global, keeper: &mut P, one: &Change, two: &Change
     ensures cause { result ≡ 5 → Rose (P.faults keeper.old) (P.faults keeper.new) }
     ensures placed { (P.place keeper.new ≡ codes "store") ⊎ (result ≡ 7) }
     ensures known { P.honest keeper.new → (v : ℤ) → P.has_version keeper.old v → (v ≡ pos 1) ⊎ (v ≡ pos 2) → result ≢ 6 }
-    ensures done { result ≡ 0 → P.honest keeper.new → (s : TableRows) → P.tells keeper.old s → is_well_formed s ≡ true → fits s one.now ≡ true → is_well_formed (after s one.now) ≡ true → fits (after s one.now) two.now ≡ true → IsDurable (P.tells keeper.new) (P.may_leave keeper.new) (after (after s one.now) two.now) }
-    ensures refused { result ≡ 6 → P.honest keeper.new → (s : TableRows) → P.tells keeper.old s → IsDurable (P.tells keeper.new) (P.may_leave keeper.new) s }
-    ensures crash { P.honest keeper.new → (s : TableRows) → P.tells keeper.old s → is_well_formed s ≡ true → fits s one.now ≡ true → is_well_formed (after s one.now) ≡ true → fits (after s one.now) two.now ≡ true → (x : TableRows) → P.may_leave keeper.new x → (x ≡ s) ⊎ ((x ≡ after s one.now) ⊎ (x ≡ after (after s one.now) two.now)) }
+    ensures done { result ≡ 0 → P.honest keeper.new → (s : TableRows) → P.tells keeper.old s
+        → is_well_formed s ≡ true → fits s one.now ≡ true
+        → is_well_formed (after s one.now) ≡ true → fits (after s one.now) two.now ≡ true
+        → IsDurable (P.tells keeper.new) (P.may_leave keeper.new) (after (after s one.now) two.now) }
+    ensures refused { result ≡ 6 → P.honest keeper.new → (s : TableRows) → P.tells keeper.old s
+        → IsDurable (P.tells keeper.new) (P.may_leave keeper.new) s }
+    ensures crash { P.honest keeper.new → (s : TableRows) → P.tells keeper.old s
+        → is_well_formed s ≡ true → fits s one.now ≡ true
+        → is_well_formed (after s one.now) ≡ true → fits (after s one.now) two.now ≡ true
+        → (x : TableRows) → P.may_leave keeper.new x → (x ≡ s) ⊎ ((x ≡ after s one.now) ⊎ (x ≡ after (after s one.now) two.now)) }
 {
     match keeper.attach(alloc, "store") {
         Ok(_tables) => {}
@@ -43,7 +52,7 @@ fn keep_two<P: Keeper>(alloc: Global, keeper: &mut P, one: &Change, two: &Change
     }
 }
 
-// A document of this number.
+// Returns a change that adds a document of this number.
 fn one_doc(alloc: Global, num: u32) -> Result<Change, Memory> {
     let mut docs = Rows::new(alloc);
     docs.push(Doc {
@@ -54,8 +63,8 @@ fn one_doc(alloc: Global, num: u32) -> Result<Change, Memory> {
     Ok(Change::Docs(docs))
 }
 
-// The status of two commits over a keeper of a version whose calls fail so, the number of documents that it has then
-// and its version, and the number of documents that a crash leaves.
+// Commits two documents over a keeper of a version whose calls fail so. Returns the status, the number of documents and
+// the version then, and the number of documents that a crash leaves.
 fn kept(
     alloc: Global,
     version: i64,

@@ -1,5 +1,6 @@
 pub mod Schema
 pub mod RowsAsValues
 pub mod Store
+pub mod Calls
 pub mod Telling
 pub mod Opening

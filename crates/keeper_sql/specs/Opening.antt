@@ -1,4 +1,4 @@
--- What an open store gives.
+-- What the open of a store gives.
 use Rattle.std.specs.Prelude.{◌≡◌, ◌≢◌, pos, IsTrue, Result, Ok, Err}
 use Rattle.sqlite.specs.State.{State}
 use Rattle.keeper_sql.specs.declared.opened.Opened.{Opened}
@@ -24,10 +24,11 @@ IsRefusedAt (Alien version) = (version ≢ pos 1) × (version ≢ pos 2)
 -- the store was opened so, and that was committed; or it has this version
 abbrev pub IsStored : State → State → Opened → Type 0
 IsStored old new (Held tables) =
-    IsTrue old.is_open × IsTrue new.is_open × (new.committed ≡ new.now) × OpensTo (pos 2) old.now new.now × (AreAllKeyed new.now → tables ≡ tables_in new.now.trees)
+    IsTrue old.is_open × IsTrue new.is_open × (new.committed ≡ new.now) × OpensTo (pos 2) old.now new.now
+    × (AreAllKeyed new.now → tables ≡ tables_in new.now.trees)
 IsStored old new (Alien version) = (db : Database) × OpensTo version old.now db
 
--- this holds where the store was not opened
+-- if the store was not opened, this holds
 abbrev pub UnlessHeld : Result Opened Error → Type 0 → Type 0
 UnlessHeld (Ok (Held tables)) P = Unit {0}
 UnlessHeld (Ok (Alien version)) P = P
@@ -37,7 +38,7 @@ UnlessHeld (Err e) P = P
 abbrev pub IsHeld : State → State → Tables → Type 0
 IsHeld old new tables = IsStored old new (Held tables)
 
--- this holds where no call of the store failed
+-- if the attach ended by a version or by memory, this holds
 abbrev pub UnlessFailed : {T : Type 0} → Result T AttachFault → Type 0 → Type 0
 UnlessFailed (Ok given) P = Unit {0}
 UnlessFailed (Err (fault.Alien version)) P = P

@@ -1,5 +1,6 @@
--- The rows of the store as a statement is given them, as a tree keeps them, and as they are read from it.
-use Rattle.std.specs.Prelude.{◌≡◌, ◌^◌, ℕ, ℤ, pos, negsuc, nat_lt, if◌then◌else◌, ◌==◌, List, [], ◌∷◌, ◌++◌, map, filter, Option, Some, None}
+-- The rows of the store as a statement is given them, as a tree holds them, and as they are read from it.
+use Rattle.std.specs.Prelude.{◌≡◌, ◌^◌, ℕ, ℤ, pos, negsuc, nat_lt, if◌then◌else◌, ◌==◌}
+use Rattle.std.specs.Prelude.{List, [], ◌∷◌, ◌++◌, map, filter, Option, Some, None}
 use Rattle.tap_rows.specs.declared.rows.Doc.{Doc}
 use Rattle.tap_rows.specs.declared.rows.Note.{Note}
 use Rattle.tap_rows.specs.declared.rows.QueryRow.{QueryRow}
@@ -37,7 +38,7 @@ given_pick p = Int (pos p.num) ∷ Int (pos p.query.0) ∷ Int (pos p.run) ∷ I
 abbrev pub given_filter : FilterRow → Row
 given_filter f = Int (pos f.num) ∷ Blob f.owner ∷ Blob f.source ∷ Int f.arrival ∷ []
 
--- as a tree keeps it: the column of the key is the row's key, and stands empty in its place
+-- as a tree holds it: the column of the key is the row's key, and stands empty in its place
 abbrev pub as_kept : Row → Row
 as_kept [] = []
 as_kept (key ∷ values) = key ∷ Null ∷ values
@@ -186,7 +187,7 @@ tables_in db = record {
   filters = map filter_in (db 6);
 }
 
--- the tables of a store, where no table is listed none
+-- the tables of a store; without a listed table they are empty
 abbrev pub tables_listed : List Row → Trees → Tables
 tables_listed [] db = no_rows
 tables_listed (r ∷ rs) db = tables_in db

@@ -41,25 +41,36 @@ a_table name tree columns checks = record {
 }
 
 abbrev pub meta_at : ℕ → Table
-meta_at tree = a_table (codes "meta") tree (a_column (codes "id") Integer false ∷ int_column (codes "version") ∷ []) (op2 (Compare Eq Binary) (col 1 0) (lit (Int (pos 1))) ∷ [])
+meta_at tree =
+    a_table (codes "meta") tree
+    (a_column (codes "id") Integer false ∷ int_column (codes "version") ∷ []) (op2 (Compare Eq Binary) (col 1 0) (lit (Int (pos 1))) ∷ [])
 
 abbrev pub docs_at : ℕ → Table
 docs_at tree = a_table (codes "docs") tree (num_column ∷ int_column (codes "arrival") ∷ blob_column (codes "body") ∷ []) []
 
 abbrev pub notes_at : ℕ → Table
-notes_at tree = a_table (codes "notes") tree (num_column ∷ int_column (codes "doc") ∷ blob_column (codes "author") ∷ blob_column (codes "kind") ∷ int_column (codes "value") ∷ int_column (codes "arrival") ∷ blob_column (codes "body") ∷ []) []
+notes_at tree =
+    a_table (codes "notes") tree
+    (num_column ∷ int_column (codes "doc") ∷ blob_column (codes "author") ∷ blob_column (codes "kind")
+    ∷ int_column (codes "value") ∷ int_column (codes "arrival") ∷ blob_column (codes "body") ∷ []) []
 
 abbrev pub queries_at : ℕ → Table
-queries_at tree = a_table (codes "queries") tree (num_column ∷ blob_column (codes "owner") ∷ blob_column (codes "name") ∷ blob_column (codes "source") ∷ int_column (codes "arrival") ∷ []) []
+queries_at tree =
+    a_table (codes "queries") tree
+    (num_column ∷ blob_column (codes "owner") ∷ blob_column (codes "name") ∷ blob_column (codes "source") ∷ int_column (codes "arrival") ∷ []) []
 
 abbrev pub runs_at : ℕ → Table
 runs_at tree = a_table (codes "runs") tree (num_column ∷ int_column (codes "query") ∷ int_column (codes "moment") ∷ []) []
 
 abbrev pub picks_at : ℕ → Table
-picks_at tree = a_table (codes "picks") tree (num_column ∷ int_column (codes "query") ∷ int_column (codes "run") ∷ int_column (codes "doc") ∷ int_column (codes "second") ∷ []) []
+picks_at tree =
+    a_table (codes "picks") tree
+    (num_column ∷ int_column (codes "query") ∷ int_column (codes "run") ∷ int_column (codes "doc") ∷ int_column (codes "second") ∷ []) []
 
 abbrev pub filters_at : ℕ → Table
-filters_at tree = a_table (codes "filters") tree (num_column ∷ blob_column (codes "owner") ∷ blob_column (codes "source") ∷ int_column (codes "arrival") ∷ []) []
+filters_at tree =
+    a_table (codes "filters") tree
+    (num_column ∷ blob_column (codes "owner") ∷ blob_column (codes "source") ∷ int_column (codes "arrival") ∷ []) []
 
 -- no tables
 abbrev pub no_schema : Schema
@@ -67,7 +78,11 @@ no_schema = record { tables = []; indexes = []; views = [] }
 
 -- the tables of the store, each in the tree of its place
 abbrev pub store_schema : Schema
-store_schema = record { tables = meta_at 0 ∷ docs_at 1 ∷ notes_at 2 ∷ queries_at 3 ∷ runs_at 4 ∷ picks_at 5 ∷ filters_at 6 ∷ []; indexes = []; views = [] }
+store_schema = record {
+  tables = meta_at 0 ∷ docs_at 1 ∷ notes_at 2 ∷ queries_at 3 ∷ runs_at 4 ∷ picks_at 5 ∷ filters_at 6 ∷ [];
+  indexes = [];
+  views = [];
+}
 
 -- ---- the statements
 
@@ -78,19 +93,23 @@ abbrev pub create_docs : List ℕ
 create_docs = codes "CREATE TABLE IF NOT EXISTS docs (num INTEGER PRIMARY KEY, arrival INTEGER NOT NULL, body BLOB NOT NULL) STRICT"
 
 abbrev pub create_notes : List ℕ
-create_notes = codes "CREATE TABLE IF NOT EXISTS notes (num INTEGER PRIMARY KEY, doc INTEGER NOT NULL, author BLOB NOT NULL, kind BLOB NOT NULL, value INTEGER NOT NULL, arrival INTEGER NOT NULL, body BLOB NOT NULL) STRICT"
+create_notes =
+    codes "CREATE TABLE IF NOT EXISTS notes (num INTEGER PRIMARY KEY, doc INTEGER NOT NULL, author BLOB NOT NULL, kind BLOB NOT NULL, value INTEGER NOT NULL, arrival INTEGER NOT NULL, body BLOB NOT NULL) STRICT"
 
 abbrev pub create_queries : List ℕ
-create_queries = codes "CREATE TABLE IF NOT EXISTS queries (num INTEGER PRIMARY KEY, owner BLOB NOT NULL, name BLOB NOT NULL, source BLOB NOT NULL, arrival INTEGER NOT NULL) STRICT"
+create_queries =
+    codes "CREATE TABLE IF NOT EXISTS queries (num INTEGER PRIMARY KEY, owner BLOB NOT NULL, name BLOB NOT NULL, source BLOB NOT NULL, arrival INTEGER NOT NULL) STRICT"
 
 abbrev pub create_runs : List ℕ
 create_runs = codes "CREATE TABLE IF NOT EXISTS runs (num INTEGER PRIMARY KEY, query INTEGER NOT NULL, moment INTEGER NOT NULL) STRICT"
 
 abbrev pub create_picks : List ℕ
-create_picks = codes "CREATE TABLE IF NOT EXISTS picks (num INTEGER PRIMARY KEY, query INTEGER NOT NULL, run INTEGER NOT NULL, doc INTEGER NOT NULL, second INTEGER NOT NULL) STRICT"
+create_picks =
+    codes "CREATE TABLE IF NOT EXISTS picks (num INTEGER PRIMARY KEY, query INTEGER NOT NULL, run INTEGER NOT NULL, doc INTEGER NOT NULL, second INTEGER NOT NULL) STRICT"
 
 abbrev pub create_filters : List ℕ
-create_filters = codes "CREATE TABLE IF NOT EXISTS filters (num INTEGER PRIMARY KEY, owner BLOB NOT NULL, source BLOB NOT NULL, arrival INTEGER NOT NULL) STRICT"
+create_filters =
+    codes "CREATE TABLE IF NOT EXISTS filters (num INTEGER PRIMARY KEY, owner BLOB NOT NULL, source BLOB NOT NULL, arrival INTEGER NOT NULL) STRICT"
 
 abbrev pub insert_doc : List ℕ
 insert_doc = codes "INSERT INTO docs (num, arrival, body) VALUES (?1, ?2, ?3)"
@@ -158,4 +177,8 @@ abbrev pub schema_prefix_6 : Schema
 schema_prefix_6 = record { tables = meta_at 0 ∷ docs_at 1 ∷ notes_at 2 ∷ queries_at 3 ∷ runs_at 4 ∷ picks_at 5 ∷ []; indexes = []; views = [] }
 
 abbrev pub schema_prefix_7 : Schema
-schema_prefix_7 = record { tables = meta_at 0 ∷ docs_at 1 ∷ notes_at 2 ∷ queries_at 3 ∷ runs_at 4 ∷ picks_at 5 ∷ filters_at 6 ∷ []; indexes = []; views = [] }
+schema_prefix_7 = record {
+  tables = meta_at 0 ∷ docs_at 1 ∷ notes_at 2 ∷ queries_at 3 ∷ runs_at 4 ∷ picks_at 5 ∷ filters_at 6 ∷ [];
+  indexes = [];
+  views = [];
+}

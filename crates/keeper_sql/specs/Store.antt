@@ -71,7 +71,7 @@ pub record RowsWritten (rows : ℕ → List Row) (old new : State) : Type 0 wher
   pub committed : new.committed ≡ old.committed
   pub puts : old.now.schema ≡ store_schema → Puts rows old.now new.now
 
--- the transaction goes on, and tables that weren't there were made; where all were there, nothing is changed
+-- the transaction goes on, and tables that weren't there were made; if all were there, nothing is changed
 pub record Makes (before : Schema) (n : ℕ) (after : Schema) (m : ℕ) (old new : State) : Type 0 where
   pub was_open : IsTrue new.is_open → IsTrue old.is_open
   pub is_open : IsTrue old.is_open → IsTrue new.is_open
@@ -88,7 +88,7 @@ pub record Raises (old new : State) : Type 0 where
   pub committed : new.committed ≡ old.committed
   pub writes : old.now.schema ≡ store_schema → IsMeta (old.now.trees 0) → WritesVersion (pos 2) old.now new.now
 
--- the transaction goes on over a store with this version: 2 where there was none or 1, else as it was
+-- the transaction goes on over a store with this version: 2 if it was 1 or none, else unchanged
 pub record Settles (version : ℤ) (old new : State) : Type 0 where
   pub was_open : IsTrue new.is_open → IsTrue old.is_open
   pub is_open : IsTrue old.is_open → IsTrue new.is_open
@@ -145,11 +145,11 @@ pub record AreAllKeyed (db : Database) : Type 0 where
   pub picks : AreKeyed (db.trees 5)
   pub filters : AreKeyed (db.trees 6)
 
--- a database of ours: it has the store's tables, or none yet
+-- a database of this program: it has the store's tables, or none yet
 abbrev pub IsOurs : Database → Type 0
 IsOurs db = ((db.schema ≡ store_schema) × IsMeta (db.trees 0)) ⊎ (db.schema ≡ no_schema)
 
--- a store with all its tables and this version was made of ours
+-- a store with all its tables and this version was made of a database of this program
 pub record OpensTo (version : ℤ) (old new : Database) : Type 0 where
   pub schema : new.schema ≡ store_schema
   pub meta : new.trees 0 ≡ meta_row version ∷ []

@@ -1,4 +1,4 @@
--- A store tells one tables.
+-- A store tells the tables of one store.
 use Rattle.std.proofs.Common.{◌≡◌, ◌∙◌, sym, Bool, true, false, inl, inr}
 use Rattle.tap_rows.specs.declared.tables.Tables.{Tables}
 use Rattle.sqlite.specs.State.{State}

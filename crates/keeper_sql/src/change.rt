@@ -1,11 +1,11 @@
-//! The rows of a change, in one transaction.
+//! Commits the rows of a change, in one transaction.
 
-ghost use Rattle.std.specs.Prelude.{◌≡◌, [], ◌∷◌, map, false, IsTrue, OnOk, OnErr};
+ghost use Rattle.std.specs.Prelude.{◌≡◌, [], ◌∷◌, map, false, OnOk, OnErr};
 ghost use Rattle.sqlite.specs.Held.{state};
 ghost use Rattle.sqlite.specs.State.{HasCleanDisk, Survives};
-ghost use Rattle.tap_rows.specs.declared.rows.Pick.{Pick as PickRow};
 ghost use Rattle.keeper_sql.specs.RowsAsValues.{rows_of, IsReadBack, only, both, as_kept, given_run, given_pick, run_in, pick_in};
-ghost use Rattle.keeper_sql.specs.Store.{RowsWritten, Undone, Commits, IsAfter, LeavesOnlyTrees};
+ghost use Rattle.keeper_sql.specs.Store.{RowsWritten, Commits, IsAfter};
+ghost use Rattle.keeper_sql.specs.Calls.{CommitsNothing, Does, DoesOrUndoes, IsRolledBack, LeavesItsTrees, WasOpen};
 
 use crate::docs::insert_docs;
 use crate::filters::insert_filter;
@@ -16,31 +16,30 @@ use crate::runs::insert_run;
 use sqlite::{Alter, Connection, Error, Transaction};
 use tap_rows::{Change, Pick, RunRow};
 
-// Adds a run and what it delivered.
+// Inserts the rows of a run and of what it delivered.
 fn insert_run_done<S: Alter>(
     tx: &mut Transaction<'_, S>,
     run: &RunRow,
     picks: &[Pick],
 ) -> Result<(), Error>
     ensures same_reference { tx.new.conn.ghost_name ≡ tx.old.conn.ghost_name }
-    ensures ok { HasCleanDisk (state S.Store tx.new.conn.now) → IsTrue (state S.Store tx.old.conn.now).in_transaction → OnOk result (RowsWritten (both (only 4 (as_kept (given_run run.now) ∷ [])) (only 5 (map (λ p. as_kept (given_pick p)) picks.now))) (state S.Store tx.old.conn.now) (state S.Store tx.new.conn.now)) }
-    ensures err { HasCleanDisk (state S.Store tx.new.conn.now) → IsTrue (state S.Store tx.old.conn.now).in_transaction → OnErr result (Undone (state S.Store tx.old.conn.now) (state S.Store tx.new.conn.now)) }
-    ensures survives { Survives (state S.Store tx.old.conn.now) (state S.Store tx.new.conn.now) (λ _. ⊥) }
-    ensures read { OnOk result ((run_in (as_kept (given_run run.now)) ≡ run.now) × (map pick_in (map (λ p. as_kept (given_pick p)) picks.now) ≡ picks.now)) }
+    ensures ok { Does S.Store tx.old.conn.now tx.new.conn.now result
+        (RowsWritten (both (only 4 (as_kept (given_run run.now) ∷ [])) (only 5 (map (λ p. as_kept (given_pick p)) picks.now)))) }
+    ensures err { DoesOrUndoes S.Store tx.old.conn.now tx.new.conn.now result }
+    ensures survives { CommitsNothing S.Store tx.old.conn.now tx.new.conn.now }
+    ensures read { OnOk result ((run_in (as_kept (given_run run.now)) ≡ run.now)
+        × (map pick_in (map (λ p. as_kept (given_pick p)) picks.now) ≡ picks.now)) }
 {
     insert_run(tx, run)?;
-    match insert_picks(tx, picks) {
-        Ok(()) => Ok(()),
-        Err(error) => Err(error),
-    }
+    insert_picks(tx, picks)
 }
 
-// Adds the rows of a change.
+// Inserts the rows of a change.
 fn insert_change<S: Alter>(tx: &mut Transaction<'_, S>, change: &Change) -> Result<(), Error>
     ensures same_reference { tx.new.conn.ghost_name ≡ tx.old.conn.ghost_name }
-    ensures ok { HasCleanDisk (state S.Store tx.new.conn.now) → IsTrue (state S.Store tx.old.conn.now).in_transaction → OnOk result (RowsWritten (rows_of change.now) (state S.Store tx.old.conn.now) (state S.Store tx.new.conn.now)) }
-    ensures err { HasCleanDisk (state S.Store tx.new.conn.now) → IsTrue (state S.Store tx.old.conn.now).in_transaction → OnErr result (Undone (state S.Store tx.old.conn.now) (state S.Store tx.new.conn.now)) }
-    ensures survives { Survives (state S.Store tx.old.conn.now) (state S.Store tx.new.conn.now) (λ _. ⊥) }
+    ensures ok { Does S.Store tx.old.conn.now tx.new.conn.now result (RowsWritten (rows_of change.now)) }
+    ensures err { DoesOrUndoes S.Store tx.old.conn.now tx.new.conn.now result }
+    ensures survives { CommitsNothing S.Store tx.old.conn.now tx.new.conn.now }
     ensures read { OnOk result (IsReadBack change.now) }
 {
     match change {
@@ -52,14 +51,14 @@ fn insert_change<S: Alter>(tx: &mut Transaction<'_, S>, change: &Change) -> Resu
     }
 }
 
-/// Adds the rows of a change in one transaction.
+/// Inserts and commits the rows of a change in one transaction, which is rolled back if an insert fails.
 pub fn commit_change<S: Alter>(conn: &mut Connection<S>, change: &Change) -> Result<(), Error>
     requires { (state S.Store conn.old).in_transaction ≡ false }
     ensures ended { (state S.Store conn.new).in_transaction ≡ false }
     ensures ok { HasCleanDisk (state S.Store conn.new) → OnOk result (Commits (rows_of change.now) (state S.Store conn.old) (state S.Store conn.new)) }
-    ensures settled { HasCleanDisk (state S.Store conn.new) → OnOk result (LeavesOnlyTrees (state S.Store conn.new) (state S.Store conn.new).now.trees) }
-    ensures was_open { HasCleanDisk (state S.Store conn.new) → OnErr result (IsTrue (state S.Store conn.new).is_open → IsTrue (state S.Store conn.old).is_open) }
-    ensures undone { HasCleanDisk (state S.Store conn.new) → OnErr result (IsTrue (state S.Store conn.new).is_open → (state S.Store conn.new).now ≡ (state S.Store conn.old).committed) }
+    ensures settled { HasCleanDisk (state S.Store conn.new) → OnOk result (LeavesItsTrees (state S.Store conn.new)) }
+    ensures was_open { HasCleanDisk (state S.Store conn.new) → OnErr result (WasOpen (state S.Store conn.old) (state S.Store conn.new)) }
+    ensures undone { HasCleanDisk (state S.Store conn.new) → OnErr result (IsRolledBack (state S.Store conn.old) (state S.Store conn.new)) }
     ensures survives { Survives (state S.Store conn.old) (state S.Store conn.new) (IsAfter change.now (state S.Store conn.old)) }
     ensures read { OnOk result (IsReadBack change.now) }
 {

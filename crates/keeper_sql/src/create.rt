@@ -1,18 +1,19 @@
-//! The tables of the store are made where they aren't there.
+//! Makes the tables of a store that aren't there.
 
-ghost use Rattle.std.specs.Prelude.{◌≡◌, IsTrue, OnOk, OnErr};
-ghost use Rattle.sqlite.specs.Held.{state};
-ghost use Rattle.sqlite.specs.State.{HasCleanDisk, Survives};
-ghost use Rattle.keeper_sql.specs.Schema.{schema_prefix_0, schema_prefix_1, schema_prefix_2, schema_prefix_3, schema_prefix_4, schema_prefix_5, schema_prefix_6, schema_prefix_7};
-ghost use Rattle.keeper_sql.specs.Store.{Makes, Undone};
+ghost use Rattle.std.specs.Prelude.{◌≡◌};
+ghost use Rattle.keeper_sql.specs.Schema.{schema_prefix_0, schema_prefix_1, schema_prefix_2, schema_prefix_3};
+ghost use Rattle.keeper_sql.specs.Schema.{schema_prefix_4, schema_prefix_5, schema_prefix_6, schema_prefix_7};
+ghost use Rattle.keeper_sql.specs.Store.{Makes};
+ghost use Rattle.keeper_sql.specs.Calls.{CommitsNothing, Does, DoesOrUndoes};
 
 use sqlite::{Alter, Error, Transaction};
 
+// Makes the table of the version, unless it is there; and so do the next six for their tables.
 fn create_meta<S: Alter>(tx: &mut Transaction<'_, S>) -> Result<(), Error>
     ensures same_reference { tx.new.conn.ghost_name ≡ tx.old.conn.ghost_name }
-    ensures ok { HasCleanDisk (state S.Store tx.new.conn.now) → IsTrue (state S.Store tx.old.conn.now).in_transaction → OnOk result (Makes schema_prefix_0 0 schema_prefix_1 1 (state S.Store tx.old.conn.now) (state S.Store tx.new.conn.now)) }
-    ensures err { HasCleanDisk (state S.Store tx.new.conn.now) → IsTrue (state S.Store tx.old.conn.now).in_transaction → OnErr result (Undone (state S.Store tx.old.conn.now) (state S.Store tx.new.conn.now)) }
-    ensures survives { Survives (state S.Store tx.old.conn.now) (state S.Store tx.new.conn.now) (λ _. ⊥) }
+    ensures ok { Does S.Store tx.old.conn.now tx.new.conn.now result (Makes schema_prefix_0 0 schema_prefix_1 1) }
+    ensures err { DoesOrUndoes S.Store tx.old.conn.now tx.new.conn.now result }
+    ensures survives { CommitsNothing S.Store tx.old.conn.now tx.new.conn.now }
 {
     match tx.execute(
         "CREATE TABLE IF NOT EXISTS meta (id INTEGER PRIMARY KEY CHECK (id = 1), version INTEGER NOT NULL) STRICT",
@@ -25,9 +26,9 @@ fn create_meta<S: Alter>(tx: &mut Transaction<'_, S>) -> Result<(), Error>
 
 fn create_docs<S: Alter>(tx: &mut Transaction<'_, S>) -> Result<(), Error>
     ensures same_reference { tx.new.conn.ghost_name ≡ tx.old.conn.ghost_name }
-    ensures ok { HasCleanDisk (state S.Store tx.new.conn.now) → IsTrue (state S.Store tx.old.conn.now).in_transaction → OnOk result (Makes schema_prefix_1 1 schema_prefix_2 2 (state S.Store tx.old.conn.now) (state S.Store tx.new.conn.now)) }
-    ensures err { HasCleanDisk (state S.Store tx.new.conn.now) → IsTrue (state S.Store tx.old.conn.now).in_transaction → OnErr result (Undone (state S.Store tx.old.conn.now) (state S.Store tx.new.conn.now)) }
-    ensures survives { Survives (state S.Store tx.old.conn.now) (state S.Store tx.new.conn.now) (λ _. ⊥) }
+    ensures ok { Does S.Store tx.old.conn.now tx.new.conn.now result (Makes schema_prefix_1 1 schema_prefix_2 2) }
+    ensures err { DoesOrUndoes S.Store tx.old.conn.now tx.new.conn.now result }
+    ensures survives { CommitsNothing S.Store tx.old.conn.now tx.new.conn.now }
 {
     match tx.execute(
         "CREATE TABLE IF NOT EXISTS docs (num INTEGER PRIMARY KEY, arrival INTEGER NOT NULL, body BLOB NOT NULL) STRICT",
@@ -40,12 +41,13 @@ fn create_docs<S: Alter>(tx: &mut Transaction<'_, S>) -> Result<(), Error>
 
 fn create_notes<S: Alter>(tx: &mut Transaction<'_, S>) -> Result<(), Error>
     ensures same_reference { tx.new.conn.ghost_name ≡ tx.old.conn.ghost_name }
-    ensures ok { HasCleanDisk (state S.Store tx.new.conn.now) → IsTrue (state S.Store tx.old.conn.now).in_transaction → OnOk result (Makes schema_prefix_2 2 schema_prefix_3 3 (state S.Store tx.old.conn.now) (state S.Store tx.new.conn.now)) }
-    ensures err { HasCleanDisk (state S.Store tx.new.conn.now) → IsTrue (state S.Store tx.old.conn.now).in_transaction → OnErr result (Undone (state S.Store tx.old.conn.now) (state S.Store tx.new.conn.now)) }
-    ensures survives { Survives (state S.Store tx.old.conn.now) (state S.Store tx.new.conn.now) (λ _. ⊥) }
+    ensures ok { Does S.Store tx.old.conn.now tx.new.conn.now result (Makes schema_prefix_2 2 schema_prefix_3 3) }
+    ensures err { DoesOrUndoes S.Store tx.old.conn.now tx.new.conn.now result }
+    ensures survives { CommitsNothing S.Store tx.old.conn.now tx.new.conn.now }
 {
     match tx.execute(
-        "CREATE TABLE IF NOT EXISTS notes (num INTEGER PRIMARY KEY, doc INTEGER NOT NULL, author BLOB NOT NULL, kind BLOB NOT NULL, value INTEGER NOT NULL, arrival INTEGER NOT NULL, body BLOB NOT NULL) STRICT",
+        "CREATE TABLE IF NOT EXISTS notes (num INTEGER PRIMARY KEY, doc INTEGER NOT NULL, \
+         author BLOB NOT NULL, kind BLOB NOT NULL, value INTEGER NOT NULL, arrival INTEGER NOT NULL, body BLOB NOT NULL) STRICT",
         &[],
     ) {
         Ok(_) => Ok(()),
@@ -55,12 +57,13 @@ fn create_notes<S: Alter>(tx: &mut Transaction<'_, S>) -> Result<(), Error>
 
 fn create_queries<S: Alter>(tx: &mut Transaction<'_, S>) -> Result<(), Error>
     ensures same_reference { tx.new.conn.ghost_name ≡ tx.old.conn.ghost_name }
-    ensures ok { HasCleanDisk (state S.Store tx.new.conn.now) → IsTrue (state S.Store tx.old.conn.now).in_transaction → OnOk result (Makes schema_prefix_3 3 schema_prefix_4 4 (state S.Store tx.old.conn.now) (state S.Store tx.new.conn.now)) }
-    ensures err { HasCleanDisk (state S.Store tx.new.conn.now) → IsTrue (state S.Store tx.old.conn.now).in_transaction → OnErr result (Undone (state S.Store tx.old.conn.now) (state S.Store tx.new.conn.now)) }
-    ensures survives { Survives (state S.Store tx.old.conn.now) (state S.Store tx.new.conn.now) (λ _. ⊥) }
+    ensures ok { Does S.Store tx.old.conn.now tx.new.conn.now result (Makes schema_prefix_3 3 schema_prefix_4 4) }
+    ensures err { DoesOrUndoes S.Store tx.old.conn.now tx.new.conn.now result }
+    ensures survives { CommitsNothing S.Store tx.old.conn.now tx.new.conn.now }
 {
     match tx.execute(
-        "CREATE TABLE IF NOT EXISTS queries (num INTEGER PRIMARY KEY, owner BLOB NOT NULL, name BLOB NOT NULL, source BLOB NOT NULL, arrival INTEGER NOT NULL) STRICT",
+        "CREATE TABLE IF NOT EXISTS queries (num INTEGER PRIMARY KEY, owner BLOB NOT NULL, name BLOB NOT NULL, \
+         source BLOB NOT NULL, arrival INTEGER NOT NULL) STRICT",
         &[],
     ) {
         Ok(_) => Ok(()),
@@ -70,9 +73,9 @@ fn create_queries<S: Alter>(tx: &mut Transaction<'_, S>) -> Result<(), Error>
 
 fn create_runs<S: Alter>(tx: &mut Transaction<'_, S>) -> Result<(), Error>
     ensures same_reference { tx.new.conn.ghost_name ≡ tx.old.conn.ghost_name }
-    ensures ok { HasCleanDisk (state S.Store tx.new.conn.now) → IsTrue (state S.Store tx.old.conn.now).in_transaction → OnOk result (Makes schema_prefix_4 4 schema_prefix_5 5 (state S.Store tx.old.conn.now) (state S.Store tx.new.conn.now)) }
-    ensures err { HasCleanDisk (state S.Store tx.new.conn.now) → IsTrue (state S.Store tx.old.conn.now).in_transaction → OnErr result (Undone (state S.Store tx.old.conn.now) (state S.Store tx.new.conn.now)) }
-    ensures survives { Survives (state S.Store tx.old.conn.now) (state S.Store tx.new.conn.now) (λ _. ⊥) }
+    ensures ok { Does S.Store tx.old.conn.now tx.new.conn.now result (Makes schema_prefix_4 4 schema_prefix_5 5) }
+    ensures err { DoesOrUndoes S.Store tx.old.conn.now tx.new.conn.now result }
+    ensures survives { CommitsNothing S.Store tx.old.conn.now tx.new.conn.now }
 {
     match tx.execute(
         "CREATE TABLE IF NOT EXISTS runs (num INTEGER PRIMARY KEY, query INTEGER NOT NULL, moment INTEGER NOT NULL) STRICT",
@@ -85,12 +88,13 @@ fn create_runs<S: Alter>(tx: &mut Transaction<'_, S>) -> Result<(), Error>
 
 fn create_picks<S: Alter>(tx: &mut Transaction<'_, S>) -> Result<(), Error>
     ensures same_reference { tx.new.conn.ghost_name ≡ tx.old.conn.ghost_name }
-    ensures ok { HasCleanDisk (state S.Store tx.new.conn.now) → IsTrue (state S.Store tx.old.conn.now).in_transaction → OnOk result (Makes schema_prefix_5 5 schema_prefix_6 6 (state S.Store tx.old.conn.now) (state S.Store tx.new.conn.now)) }
-    ensures err { HasCleanDisk (state S.Store tx.new.conn.now) → IsTrue (state S.Store tx.old.conn.now).in_transaction → OnErr result (Undone (state S.Store tx.old.conn.now) (state S.Store tx.new.conn.now)) }
-    ensures survives { Survives (state S.Store tx.old.conn.now) (state S.Store tx.new.conn.now) (λ _. ⊥) }
+    ensures ok { Does S.Store tx.old.conn.now tx.new.conn.now result (Makes schema_prefix_5 5 schema_prefix_6 6) }
+    ensures err { DoesOrUndoes S.Store tx.old.conn.now tx.new.conn.now result }
+    ensures survives { CommitsNothing S.Store tx.old.conn.now tx.new.conn.now }
 {
     match tx.execute(
-        "CREATE TABLE IF NOT EXISTS picks (num INTEGER PRIMARY KEY, query INTEGER NOT NULL, run INTEGER NOT NULL, doc INTEGER NOT NULL, second INTEGER NOT NULL) STRICT",
+        "CREATE TABLE IF NOT EXISTS picks (num INTEGER PRIMARY KEY, query INTEGER NOT NULL, run INTEGER NOT NULL, \
+         doc INTEGER NOT NULL, second INTEGER NOT NULL) STRICT",
         &[],
     ) {
         Ok(_) => Ok(()),
@@ -100,9 +104,9 @@ fn create_picks<S: Alter>(tx: &mut Transaction<'_, S>) -> Result<(), Error>
 
 fn create_filters<S: Alter>(tx: &mut Transaction<'_, S>) -> Result<(), Error>
     ensures same_reference { tx.new.conn.ghost_name ≡ tx.old.conn.ghost_name }
-    ensures ok { HasCleanDisk (state S.Store tx.new.conn.now) → IsTrue (state S.Store tx.old.conn.now).in_transaction → OnOk result (Makes schema_prefix_6 6 schema_prefix_7 7 (state S.Store tx.old.conn.now) (state S.Store tx.new.conn.now)) }
-    ensures err { HasCleanDisk (state S.Store tx.new.conn.now) → IsTrue (state S.Store tx.old.conn.now).in_transaction → OnErr result (Undone (state S.Store tx.old.conn.now) (state S.Store tx.new.conn.now)) }
-    ensures survives { Survives (state S.Store tx.old.conn.now) (state S.Store tx.new.conn.now) (λ _. ⊥) }
+    ensures ok { Does S.Store tx.old.conn.now tx.new.conn.now result (Makes schema_prefix_6 6 schema_prefix_7 7) }
+    ensures err { DoesOrUndoes S.Store tx.old.conn.now tx.new.conn.now result }
+    ensures survives { CommitsNothing S.Store tx.old.conn.now tx.new.conn.now }
 {
     match tx.execute(
         "CREATE TABLE IF NOT EXISTS filters (num INTEGER PRIMARY KEY, owner BLOB NOT NULL, source BLOB NOT NULL, arrival INTEGER NOT NULL) STRICT",
@@ -113,57 +117,48 @@ fn create_filters<S: Alter>(tx: &mut Transaction<'_, S>) -> Result<(), Error>
     }
 }
 
+// Makes the first two tables. The steps to seven are small, since each call in a function costs its proof dearly.
 fn create_two<S: Alter>(tx: &mut Transaction<'_, S>) -> Result<(), Error>
     ensures same_reference { tx.new.conn.ghost_name ≡ tx.old.conn.ghost_name }
-    ensures ok { HasCleanDisk (state S.Store tx.new.conn.now) → IsTrue (state S.Store tx.old.conn.now).in_transaction → OnOk result (Makes schema_prefix_0 0 schema_prefix_2 2 (state S.Store tx.old.conn.now) (state S.Store tx.new.conn.now)) }
-    ensures err { HasCleanDisk (state S.Store tx.new.conn.now) → IsTrue (state S.Store tx.old.conn.now).in_transaction → OnErr result (Undone (state S.Store tx.old.conn.now) (state S.Store tx.new.conn.now)) }
-    ensures survives { Survives (state S.Store tx.old.conn.now) (state S.Store tx.new.conn.now) (λ _. ⊥) }
+    ensures ok { Does S.Store tx.old.conn.now tx.new.conn.now result (Makes schema_prefix_0 0 schema_prefix_2 2) }
+    ensures err { DoesOrUndoes S.Store tx.old.conn.now tx.new.conn.now result }
+    ensures survives { CommitsNothing S.Store tx.old.conn.now tx.new.conn.now }
 {
     create_meta(tx)?;
-    match create_docs(tx) {
-        Ok(()) => Ok(()),
-        Err(error) => Err(error),
-    }
+    create_docs(tx)
 }
 
+// Makes the first four tables.
 fn create_four<S: Alter>(tx: &mut Transaction<'_, S>) -> Result<(), Error>
     ensures same_reference { tx.new.conn.ghost_name ≡ tx.old.conn.ghost_name }
-    ensures ok { HasCleanDisk (state S.Store tx.new.conn.now) → IsTrue (state S.Store tx.old.conn.now).in_transaction → OnOk result (Makes schema_prefix_0 0 schema_prefix_4 4 (state S.Store tx.old.conn.now) (state S.Store tx.new.conn.now)) }
-    ensures err { HasCleanDisk (state S.Store tx.new.conn.now) → IsTrue (state S.Store tx.old.conn.now).in_transaction → OnErr result (Undone (state S.Store tx.old.conn.now) (state S.Store tx.new.conn.now)) }
-    ensures survives { Survives (state S.Store tx.old.conn.now) (state S.Store tx.new.conn.now) (λ _. ⊥) }
+    ensures ok { Does S.Store tx.old.conn.now tx.new.conn.now result (Makes schema_prefix_0 0 schema_prefix_4 4) }
+    ensures err { DoesOrUndoes S.Store tx.old.conn.now tx.new.conn.now result }
+    ensures survives { CommitsNothing S.Store tx.old.conn.now tx.new.conn.now }
 {
     create_two(tx)?;
     create_notes(tx)?;
-    match create_queries(tx) {
-        Ok(()) => Ok(()),
-        Err(error) => Err(error),
-    }
+    create_queries(tx)
 }
 
+// Makes the first six tables.
 fn create_six<S: Alter>(tx: &mut Transaction<'_, S>) -> Result<(), Error>
     ensures same_reference { tx.new.conn.ghost_name ≡ tx.old.conn.ghost_name }
-    ensures ok { HasCleanDisk (state S.Store tx.new.conn.now) → IsTrue (state S.Store tx.old.conn.now).in_transaction → OnOk result (Makes schema_prefix_0 0 schema_prefix_6 6 (state S.Store tx.old.conn.now) (state S.Store tx.new.conn.now)) }
-    ensures err { HasCleanDisk (state S.Store tx.new.conn.now) → IsTrue (state S.Store tx.old.conn.now).in_transaction → OnErr result (Undone (state S.Store tx.old.conn.now) (state S.Store tx.new.conn.now)) }
-    ensures survives { Survives (state S.Store tx.old.conn.now) (state S.Store tx.new.conn.now) (λ _. ⊥) }
+    ensures ok { Does S.Store tx.old.conn.now tx.new.conn.now result (Makes schema_prefix_0 0 schema_prefix_6 6) }
+    ensures err { DoesOrUndoes S.Store tx.old.conn.now tx.new.conn.now result }
+    ensures survives { CommitsNothing S.Store tx.old.conn.now tx.new.conn.now }
 {
     create_four(tx)?;
     create_runs(tx)?;
-    match create_picks(tx) {
-        Ok(()) => Ok(()),
-        Err(error) => Err(error),
-    }
+    create_picks(tx)
 }
 
-/// Makes the tables that aren't there.
+/// Makes the tables that aren't there. A table that is there is unchanged.
 pub fn create_all<S: Alter>(tx: &mut Transaction<'_, S>) -> Result<(), Error>
     ensures same_reference { tx.new.conn.ghost_name ≡ tx.old.conn.ghost_name }
-    ensures ok { HasCleanDisk (state S.Store tx.new.conn.now) → IsTrue (state S.Store tx.old.conn.now).in_transaction → OnOk result (Makes schema_prefix_0 0 schema_prefix_7 7 (state S.Store tx.old.conn.now) (state S.Store tx.new.conn.now)) }
-    ensures err { HasCleanDisk (state S.Store tx.new.conn.now) → IsTrue (state S.Store tx.old.conn.now).in_transaction → OnErr result (Undone (state S.Store tx.old.conn.now) (state S.Store tx.new.conn.now)) }
-    ensures survives { Survives (state S.Store tx.old.conn.now) (state S.Store tx.new.conn.now) (λ _. ⊥) }
+    ensures ok { Does S.Store tx.old.conn.now tx.new.conn.now result (Makes schema_prefix_0 0 schema_prefix_7 7) }
+    ensures err { DoesOrUndoes S.Store tx.old.conn.now tx.new.conn.now result }
+    ensures survives { CommitsNothing S.Store tx.old.conn.now tx.new.conn.now }
 {
     create_six(tx)?;
-    match create_filters(tx) {
-        Ok(()) => Ok(()),
-        Err(error) => Err(error),
-    }
+    create_filters(tx)
 }

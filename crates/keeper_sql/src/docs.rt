@@ -1,12 +1,10 @@
-//! The table `docs`.
+//! Writes and reads the rows of the table `docs`.
 
-ghost use Rattle.std.specs.Prelude.{◌≡◌, ◌<◌, ◌^◌, [], ◌∷◌, map, IsTrue, IfOk, OnOk, OnErr};
-ghost use Rattle.sqlite.specs.Held.{state};
-ghost use Rattle.sqlite.specs.State.{HasCleanDisk, Survives, IsUnchanged};
+ghost use Rattle.std.specs.Prelude.{◌≡◌, ◌<◌, ◌^◌, [], ◌∷◌, map, IfOk, OnOk};
 ghost use Rattle.sqlite.specs.Values.{bound};
 ghost use Rattle.keeper_sql.specs.RowsAsValues.{given_doc, doc_in, doc_shown, as_kept};
-ghost use Rattle.keeper_sql.specs.Store.{only, RowsWritten, Undone, AreKeyed};
-ghost use Rattle.keeper_sql.specs.Schema.{store_schema};
+ghost use Rattle.keeper_sql.specs.Store.{only, RowsWritten};
+ghost use Rattle.keeper_sql.specs.Calls.{AreRowsOf, CommitsNothing, Does, DoesOrUndoes, Reads, ReadsOnly, ReadsOrUndoes};
 
 use crate::reading::{bytes, integer, no_memory, number};
 use sqlite::types::ValueRef;
@@ -15,6 +13,7 @@ use std::alloc::Global;
 use tap_base::{DocNum, Rows};
 use tap_rows::Doc;
 
+// Returns the parameters of the statement that inserts a document.
 fn doc_values(doc: &Doc) -> [ValueRef<'_>; 3]
     ensures given { bound result ≡ given_doc doc.now }
     ensures range { doc.now.num.0 < 2 ^ 32 }
@@ -26,12 +25,12 @@ fn doc_values(doc: &Doc) -> [ValueRef<'_>; 3]
     ]
 }
 
-/// Adds a document.
+/// Inserts the row of a document.
 pub fn insert_doc<S: Alter>(tx: &mut Transaction<'_, S>, doc: &Doc) -> Result<(), Error>
     ensures same_reference { tx.new.conn.ghost_name ≡ tx.old.conn.ghost_name }
-    ensures ok { HasCleanDisk (state S.Store tx.new.conn.now) → IsTrue (state S.Store tx.old.conn.now).in_transaction → OnOk result (RowsWritten (only 1 (as_kept (given_doc doc.now) ∷ [])) (state S.Store tx.old.conn.now) (state S.Store tx.new.conn.now)) }
-    ensures err { HasCleanDisk (state S.Store tx.new.conn.now) → IsTrue (state S.Store tx.old.conn.now).in_transaction → OnErr result (Undone (state S.Store tx.old.conn.now) (state S.Store tx.new.conn.now)) }
-    ensures survives { Survives (state S.Store tx.old.conn.now) (state S.Store tx.new.conn.now) (λ _. ⊥) }
+    ensures ok { Does S.Store tx.old.conn.now tx.new.conn.now result (RowsWritten (only 1 (as_kept (given_doc doc.now) ∷ []))) }
+    ensures err { DoesOrUndoes S.Store tx.old.conn.now tx.new.conn.now result }
+    ensures survives { CommitsNothing S.Store tx.old.conn.now tx.new.conn.now }
     ensures read { OnOk result (doc_in (as_kept (given_doc doc.now)) ≡ doc.now) }
 {
     let values = doc_values(doc);
@@ -44,12 +43,12 @@ pub fn insert_doc<S: Alter>(tx: &mut Transaction<'_, S>, doc: &Doc) -> Result<()
     }
 }
 
-/// Adds the documents, in their order.
+/// Inserts the rows of the documents, in their order.
 pub fn insert_docs<S: Alter>(tx: &mut Transaction<'_, S>, docs: &[Doc]) -> Result<(), Error>
     ensures same_reference { tx.new.conn.ghost_name ≡ tx.old.conn.ghost_name }
-    ensures ok { HasCleanDisk (state S.Store tx.new.conn.now) → IsTrue (state S.Store tx.old.conn.now).in_transaction → OnOk result (RowsWritten (only 1 (map (λ x. as_kept (given_doc x)) docs.now)) (state S.Store tx.old.conn.now) (state S.Store tx.new.conn.now)) }
-    ensures err { HasCleanDisk (state S.Store tx.new.conn.now) → IsTrue (state S.Store tx.old.conn.now).in_transaction → OnErr result (Undone (state S.Store tx.old.conn.now) (state S.Store tx.new.conn.now)) }
-    ensures survives { Survives (state S.Store tx.old.conn.now) (state S.Store tx.new.conn.now) (λ _. ⊥) }
+    ensures ok { Does S.Store tx.old.conn.now tx.new.conn.now result (RowsWritten (only 1 (map (λ x. as_kept (given_doc x)) docs.now))) }
+    ensures err { DoesOrUndoes S.Store tx.old.conn.now tx.new.conn.now result }
+    ensures survives { CommitsNothing S.Store tx.old.conn.now tx.new.conn.now }
     ensures read { OnOk result (map doc_in (map (λ x. as_kept (given_doc x)) docs.now) ≡ docs.now) }
 {
     'adds: for doc in docs {
@@ -58,6 +57,7 @@ pub fn insert_docs<S: Alter>(tx: &mut Transaction<'_, S>, docs: &[Doc]) -> Resul
     Ok(())
 }
 
+// Returns a document as a row shows it. `OutOfMemory` if its texts could not be copied.
 fn doc_of(alloc: Global, row: &Row) -> Result<Doc, Error>
     ensures { IfOk result (λ x. x ≡ doc_shown row.now) }
 {
@@ -67,6 +67,7 @@ fn doc_of(alloc: Global, row: &Row) -> Result<Doc, Error>
     Ok(Doc { num, arrival, text })
 }
 
+// Returns the documents as the rows of a query show them.
 fn docs_of(alloc: Global, shown: &[Row]) -> Result<Rows<Doc>, Error>
     ensures { IfOk result (λ rows. rows ≡ map doc_shown shown.now) }
 {
@@ -77,13 +78,13 @@ fn docs_of(alloc: Global, shown: &[Row]) -> Result<Rows<Doc>, Error>
     Ok(rows)
 }
 
-/// Reads the documents, in order of their numbers.
+/// Returns the documents, in order of their numbers.
 pub fn read_docs<S: Alter>(alloc: Global, tx: &mut Transaction<'_, S>) -> Result<Rows<Doc>, Error>
     ensures same_reference { tx.new.conn.ghost_name ≡ tx.old.conn.ghost_name }
-    ensures same { HasCleanDisk (state S.Store tx.new.conn.now) → (state S.Store tx.old.conn.now).now.schema ≡ store_schema → OnOk result (IsUnchanged (state S.Store tx.old.conn.now) (state S.Store tx.new.conn.now)) }
-    ensures read { HasCleanDisk (state S.Store tx.new.conn.now) → (state S.Store tx.old.conn.now).now.schema ≡ store_schema → IfOk result (λ rows. AreKeyed ((state S.Store tx.old.conn.now).now.trees 1) → rows ≡ map doc_in ((state S.Store tx.old.conn.now).now.trees 1)) }
-    ensures err { HasCleanDisk (state S.Store tx.new.conn.now) → (state S.Store tx.old.conn.now).now.schema ≡ store_schema → OnErr result (Undone (state S.Store tx.old.conn.now) (state S.Store tx.new.conn.now)) }
-    ensures survives { Survives (state S.Store tx.old.conn.now) (state S.Store tx.new.conn.now) (λ _. ⊥) }
+    ensures same { ReadsOnly S.Store tx.old.conn.now tx.new.conn.now result }
+    ensures read { Reads S.Store tx.old.conn.now tx.new.conn.now result (AreRowsOf 1 doc_in) }
+    ensures err { ReadsOrUndoes S.Store tx.old.conn.now tx.new.conn.now result }
+    ensures survives { CommitsNothing S.Store tx.old.conn.now tx.new.conn.now }
 {
     match tx.query_all("SELECT num, arrival, body FROM docs ORDER BY num", &[]) {
         Ok(shown) => docs_of(alloc, shown.as_slice()),

@@ -1,12 +1,10 @@
-//! The table `filters`.
+//! Writes and reads the rows of the table `filters`.
 
-ghost use Rattle.std.specs.Prelude.{◌≡◌, ◌<◌, ◌^◌, [], ◌∷◌, map, IsTrue, IfOk, OnOk, OnErr};
-ghost use Rattle.sqlite.specs.Held.{state};
-ghost use Rattle.sqlite.specs.State.{HasCleanDisk, Survives, IsUnchanged};
+ghost use Rattle.std.specs.Prelude.{◌≡◌, ◌<◌, ◌^◌, [], ◌∷◌, map, IfOk, OnOk};
 ghost use Rattle.sqlite.specs.Values.{bound};
 ghost use Rattle.keeper_sql.specs.RowsAsValues.{given_filter, filter_in, filter_shown, as_kept};
-ghost use Rattle.keeper_sql.specs.Store.{only, RowsWritten, Undone, AreKeyed};
-ghost use Rattle.keeper_sql.specs.Schema.{store_schema};
+ghost use Rattle.keeper_sql.specs.Store.{only, RowsWritten};
+ghost use Rattle.keeper_sql.specs.Calls.{AreRowsOf, CommitsNothing, Does, DoesOrUndoes, Reads, ReadsOnly, ReadsOrUndoes};
 
 use crate::reading::{bytes, integer, no_memory, number};
 use sqlite::types::ValueRef;
@@ -15,6 +13,7 @@ use std::alloc::Global;
 use tap_base::Rows;
 use tap_rows::FilterRow;
 
+// Returns the parameters of the statement that inserts a filter.
 fn filter_values(filter: &FilterRow) -> [ValueRef<'_>; 4]
     ensures given { bound result ≡ given_filter filter.now }
     ensures range { filter.now.num < 2 ^ 32 }
@@ -27,12 +26,12 @@ fn filter_values(filter: &FilterRow) -> [ValueRef<'_>; 4]
     ]
 }
 
-/// Adds a filter.
+/// Inserts the row of a filter.
 pub fn insert_filter<S: Alter>(tx: &mut Transaction<'_, S>, filter: &FilterRow) -> Result<(), Error>
     ensures same_reference { tx.new.conn.ghost_name ≡ tx.old.conn.ghost_name }
-    ensures ok { HasCleanDisk (state S.Store tx.new.conn.now) → IsTrue (state S.Store tx.old.conn.now).in_transaction → OnOk result (RowsWritten (only 6 (as_kept (given_filter filter.now) ∷ [])) (state S.Store tx.old.conn.now) (state S.Store tx.new.conn.now)) }
-    ensures err { HasCleanDisk (state S.Store tx.new.conn.now) → IsTrue (state S.Store tx.old.conn.now).in_transaction → OnErr result (Undone (state S.Store tx.old.conn.now) (state S.Store tx.new.conn.now)) }
-    ensures survives { Survives (state S.Store tx.old.conn.now) (state S.Store tx.new.conn.now) (λ _. ⊥) }
+    ensures ok { Does S.Store tx.old.conn.now tx.new.conn.now result (RowsWritten (only 6 (as_kept (given_filter filter.now) ∷ []))) }
+    ensures err { DoesOrUndoes S.Store tx.old.conn.now tx.new.conn.now result }
+    ensures survives { CommitsNothing S.Store tx.old.conn.now tx.new.conn.now }
     ensures read { OnOk result (filter_in (as_kept (given_filter filter.now)) ≡ filter.now) }
 {
     let values = filter_values(filter);
@@ -45,6 +44,7 @@ pub fn insert_filter<S: Alter>(tx: &mut Transaction<'_, S>, filter: &FilterRow) 
     }
 }
 
+// Returns a filter as a row shows it. `OutOfMemory` if its texts could not be copied.
 fn filter_of(alloc: Global, row: &Row) -> Result<FilterRow, Error>
     ensures { IfOk result (λ x. x ≡ filter_shown row.now) }
 {
@@ -60,6 +60,7 @@ fn filter_of(alloc: Global, row: &Row) -> Result<FilterRow, Error>
     })
 }
 
+// Returns the filters as the rows of a query show them.
 fn filters_of(alloc: Global, shown: &[Row]) -> Result<Rows<FilterRow>, Error>
     ensures { IfOk result (λ rows. rows ≡ map filter_shown shown.now) }
 {
@@ -70,16 +71,16 @@ fn filters_of(alloc: Global, shown: &[Row]) -> Result<Rows<FilterRow>, Error>
     Ok(rows)
 }
 
-/// Reads the filters, in order of their numbers.
+/// Returns the filters, in order of their numbers.
 pub fn read_filters<S: Alter>(
     alloc: Global,
     tx: &mut Transaction<'_, S>,
 ) -> Result<Rows<FilterRow>, Error>
     ensures same_reference { tx.new.conn.ghost_name ≡ tx.old.conn.ghost_name }
-    ensures same { HasCleanDisk (state S.Store tx.new.conn.now) → (state S.Store tx.old.conn.now).now.schema ≡ store_schema → OnOk result (IsUnchanged (state S.Store tx.old.conn.now) (state S.Store tx.new.conn.now)) }
-    ensures read { HasCleanDisk (state S.Store tx.new.conn.now) → (state S.Store tx.old.conn.now).now.schema ≡ store_schema → IfOk result (λ rows. AreKeyed ((state S.Store tx.old.conn.now).now.trees 6) → rows ≡ map filter_in ((state S.Store tx.old.conn.now).now.trees 6)) }
-    ensures err { HasCleanDisk (state S.Store tx.new.conn.now) → (state S.Store tx.old.conn.now).now.schema ≡ store_schema → OnErr result (Undone (state S.Store tx.old.conn.now) (state S.Store tx.new.conn.now)) }
-    ensures survives { Survives (state S.Store tx.old.conn.now) (state S.Store tx.new.conn.now) (λ _. ⊥) }
+    ensures same { ReadsOnly S.Store tx.old.conn.now tx.new.conn.now result }
+    ensures read { Reads S.Store tx.old.conn.now tx.new.conn.now result (AreRowsOf 6 filter_in) }
+    ensures err { ReadsOrUndoes S.Store tx.old.conn.now tx.new.conn.now result }
+    ensures survives { CommitsNothing S.Store tx.old.conn.now tx.new.conn.now }
 {
     match tx.query_all(
         "SELECT num, owner, source, arrival FROM filters ORDER BY num",

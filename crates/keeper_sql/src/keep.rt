@@ -1,68 +1,73 @@
-//! A commit, and what it leaves where it fails.
+//! Commits a change, and finds out what an error left.
 
-ghost use Rattle.std.specs.Prelude.{◌≡◌, ◌⊎◌, ◌↔◌, false, IsTrue, OnOk, Err};
+ghost use Rattle.std.specs.Prelude.{◌≡◌, ◌↔◌, false, IsTrue, OnOk, Err};
 ghost use Rattle.sqlite.specs.Held.{state};
 ghost use Rattle.sqlite.specs.State.{HasCleanDisk, Survives, IsUnchanged, IsLive};
-ghost use Rattle.sqlite_trees.specs.Tree.{Trees};
 ghost use Rattle.keeper_sql.specs.RowsAsValues.{rows_of, IsReadBack};
-ghost use Rattle.keeper_sql.specs.Store.{Commits, IsAfter, LeavesOnlyTrees};
+ghost use Rattle.keeper_sql.specs.Store.{Commits, IsAfter};
+ghost use Rattle.keeper_sql.specs.Calls.{LeavesItsTrees, LeavesOldOr};
 
 use crate::change::commit_change;
 use keeper_core::CommitFault;
 use sqlite::{Alter, Connection, Error, ErrorCode};
 use tap_rows::Change;
 
-// Does the error name want of memory?
+// Does the error say that the call was out of memory?
 pub fn is_memory(error: &Error) -> bool
     ensures { IsTrue result ↔ (error.now ≡ Error.SqliteFailure ErrorCode.OutOfMemory) }
 {
     matches!(error, Error::SqliteFailure(ErrorCode::OutOfMemory))
 }
 
-// Between two calls a crash leaves what the connection shows.
+// Only for its clauses: between two calls a crash leaves what the connection shows.
 pub fn is_settled<S: Alter>(conn: &Connection<S>) -> bool
     requires { (state S.Store conn.now).in_transaction ≡ false }
     ensures live { IsLive (state S.Store conn.now) }
     ensures committed { IsTrue (state S.Store conn.now).is_open → (state S.Store conn.now).now ≡ (state S.Store conn.now).committed }
-    ensures alone { IsTrue (state S.Store conn.now).is_open → LeavesOnlyTrees (state S.Store conn.now) (state S.Store conn.now).now.trees }
+    ensures alone { IsTrue (state S.Store conn.now).is_open → LeavesItsTrees (state S.Store conn.now) }
 {
+    // For the clause `live`.
     let _schema = conn.schema();
     conn.is_autocommit()
 }
 
-// Is the store still open?
+// Is the store still open? A connection doesn't say so itself; one that compiles a statement is open.
 pub fn is_still_open<S: Alter>(conn: &mut Connection<S>) -> bool
     requires { (state S.Store conn.old).in_transaction ≡ false }
     ensures ended { (state S.Store conn.new).in_transaction ≡ false }
     ensures same { HasCleanDisk (state S.Store conn.new) → IsTrue result → IsUnchanged (state S.Store conn.old) (state S.Store conn.new) }
-    ensures alone { HasCleanDisk (state S.Store conn.new) → IsTrue result → LeavesOnlyTrees (state S.Store conn.new) (state S.Store conn.new).now.trees }
+    ensures alone { HasCleanDisk (state S.Store conn.new) → IsTrue result → LeavesItsTrees (state S.Store conn.new) }
     ensures survives { Survives (state S.Store conn.old) (state S.Store conn.new) (λ _. ⊥) }
 {
     conn.prepare("SELECT 1").is_ok() && is_settled(conn)
 }
 
-// Was memory wanting, and is the store as it was?
+// Was the call out of memory, and is the store unchanged?
 pub fn is_only_memory<S: Alter>(conn: &mut Connection<S>, error: &Error) -> bool
     requires { (state S.Store conn.old).in_transaction ≡ false }
     ensures ended { (state S.Store conn.new).in_transaction ≡ false }
     ensures same { HasCleanDisk (state S.Store conn.new) → IsTrue result → IsUnchanged (state S.Store conn.old) (state S.Store conn.new) }
-    ensures alone { HasCleanDisk (state S.Store conn.new) → IsTrue result → LeavesOnlyTrees (state S.Store conn.new) (state S.Store conn.new).now.trees }
+    ensures alone { HasCleanDisk (state S.Store conn.new) → IsTrue result → LeavesItsTrees (state S.Store conn.new) }
     ensures survives { Survives (state S.Store conn.old) (state S.Store conn.new) (λ _. ⊥) }
 {
     is_memory(error) && is_still_open(conn)
 }
 
-/// Commits a change: all its rows or none.
+/// Commits all rows of a change, or none. `Memory` if the commit was out of memory and the store is open, else `Failed`.
 pub fn keep<S: Alter>(conn: &mut Connection<S>, change: &Change) -> Result<(), CommitFault>
     requires { (state S.Store conn.old).in_transaction ≡ false }
     ensures ended { (state S.Store conn.new).in_transaction ≡ false }
     ensures honest { HasCleanDisk (state S.Store conn.new) → HasCleanDisk (state S.Store conn.old) }
     ensures ok { HasCleanDisk (state S.Store conn.new) → OnOk result (Commits (rows_of change.now) (state S.Store conn.old) (state S.Store conn.new)) }
     ensures read { OnOk result (IsReadBack change.now) }
-    ensures alone { HasCleanDisk (state S.Store conn.new) → OnOk result (LeavesOnlyTrees (state S.Store conn.new) (state S.Store conn.new).now.trees) }
-    ensures memory { HasCleanDisk (state S.Store conn.new) → result ≡ Err CommitFault.Memory → IsTrue (state S.Store conn.new).is_open × ((state S.Store conn.new).now ≡ (state S.Store conn.old).now) × LeavesOnlyTrees (state S.Store conn.new) (state S.Store conn.new).now.trees }
-    ensures crash { HasCleanDisk (state S.Store conn.new) → IsTrue (state S.Store conn.old).is_open → (db : Trees) → (state S.Store conn.new).may_leave db → (db ≡ (state S.Store conn.old).now.trees) ⊎ IsAfter change.now (state S.Store conn.old) db }
+    ensures alone { HasCleanDisk (state S.Store conn.new) → OnOk result (LeavesItsTrees (state S.Store conn.new)) }
+    ensures memory { HasCleanDisk (state S.Store conn.new) → result ≡ Err CommitFault.Memory
+        → IsTrue (state S.Store conn.new).is_open × ((state S.Store conn.new).now ≡ (state S.Store conn.old).now)
+        × LeavesItsTrees (state S.Store conn.new) }
+    ensures crash { HasCleanDisk (state S.Store conn.new) → IsTrue (state S.Store conn.old).is_open
+        → LeavesOldOr (IsAfter change.now (state S.Store conn.old)) (state S.Store conn.old) (state S.Store conn.new) }
 {
+    // For its clauses, which the error needs.
     let _settled = is_settled(conn);
     match commit_change(conn, change) {
         Ok(()) => Ok(()),

@@ -1,4 +1,4 @@
-//! The keeper over SQL.
+//! The keeper of tables in an SQL database.
 #![tactic(auto)]
 
 mod change;

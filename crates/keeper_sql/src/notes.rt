@@ -1,12 +1,10 @@
-//! The table `notes`.
+//! Writes and reads the rows of the table `notes`.
 
-ghost use Rattle.std.specs.Prelude.{◌≡◌, ◌<◌, ◌^◌, [], ◌∷◌, map, IsTrue, IfOk, OnOk, OnErr};
-ghost use Rattle.sqlite.specs.Held.{state};
-ghost use Rattle.sqlite.specs.State.{HasCleanDisk, Survives, IsUnchanged};
+ghost use Rattle.std.specs.Prelude.{◌≡◌, ◌<◌, ◌^◌, [], ◌∷◌, map, IfOk, OnOk};
 ghost use Rattle.sqlite.specs.Values.{bound};
 ghost use Rattle.keeper_sql.specs.RowsAsValues.{given_note, note_in, note_shown, as_kept};
-ghost use Rattle.keeper_sql.specs.Store.{only, RowsWritten, Undone, AreKeyed};
-ghost use Rattle.keeper_sql.specs.Schema.{store_schema};
+ghost use Rattle.keeper_sql.specs.Store.{only, RowsWritten};
+ghost use Rattle.keeper_sql.specs.Calls.{AreRowsOf, CommitsNothing, Does, DoesOrUndoes, Reads, ReadsOnly, ReadsOrUndoes};
 
 use crate::reading::{bytes, integer, no_memory, number};
 use sqlite::types::ValueRef;
@@ -15,6 +13,7 @@ use std::alloc::Global;
 use tap_base::{DocNum, NoteNum, Rows};
 use tap_rows::Note;
 
+// Returns the parameters of the statement that inserts a note.
 fn note_values(note: &Note) -> [ValueRef<'_>; 7]
     ensures given { bound result ≡ given_note note.now }
     ensures range { (note.now.num.0 < 2 ^ 32) × (note.now.doc.0 < 2 ^ 32) }
@@ -30,12 +29,12 @@ fn note_values(note: &Note) -> [ValueRef<'_>; 7]
     ]
 }
 
-/// Adds a note.
+/// Inserts the row of a note.
 pub fn insert_note<S: Alter>(tx: &mut Transaction<'_, S>, note: &Note) -> Result<(), Error>
     ensures same_reference { tx.new.conn.ghost_name ≡ tx.old.conn.ghost_name }
-    ensures ok { HasCleanDisk (state S.Store tx.new.conn.now) → IsTrue (state S.Store tx.old.conn.now).in_transaction → OnOk result (RowsWritten (only 2 (as_kept (given_note note.now) ∷ [])) (state S.Store tx.old.conn.now) (state S.Store tx.new.conn.now)) }
-    ensures err { HasCleanDisk (state S.Store tx.new.conn.now) → IsTrue (state S.Store tx.old.conn.now).in_transaction → OnErr result (Undone (state S.Store tx.old.conn.now) (state S.Store tx.new.conn.now)) }
-    ensures survives { Survives (state S.Store tx.old.conn.now) (state S.Store tx.new.conn.now) (λ _. ⊥) }
+    ensures ok { Does S.Store tx.old.conn.now tx.new.conn.now result (RowsWritten (only 2 (as_kept (given_note note.now) ∷ []))) }
+    ensures err { DoesOrUndoes S.Store tx.old.conn.now tx.new.conn.now result }
+    ensures survives { CommitsNothing S.Store tx.old.conn.now tx.new.conn.now }
     ensures read { OnOk result (note_in (as_kept (given_note note.now)) ≡ note.now) }
 {
     let values = note_values(note);
@@ -48,6 +47,7 @@ pub fn insert_note<S: Alter>(tx: &mut Transaction<'_, S>, note: &Note) -> Result
     }
 }
 
+// Returns a note as a row shows it. `OutOfMemory` if its texts could not be copied.
 fn note_of(alloc: Global, row: &Row) -> Result<Note, Error>
     ensures { IfOk result (λ x. x ≡ note_shown row.now) }
 {
@@ -69,6 +69,7 @@ fn note_of(alloc: Global, row: &Row) -> Result<Note, Error>
     })
 }
 
+// Returns the notes as the rows of a query show them.
 fn notes_of(alloc: Global, shown: &[Row]) -> Result<Rows<Note>, Error>
     ensures { IfOk result (λ rows. rows ≡ map note_shown shown.now) }
 {
@@ -79,13 +80,13 @@ fn notes_of(alloc: Global, shown: &[Row]) -> Result<Rows<Note>, Error>
     Ok(rows)
 }
 
-/// Reads the notes, in order of their numbers.
+/// Returns the notes, in order of their numbers.
 pub fn read_notes<S: Alter>(alloc: Global, tx: &mut Transaction<'_, S>) -> Result<Rows<Note>, Error>
     ensures same_reference { tx.new.conn.ghost_name ≡ tx.old.conn.ghost_name }
-    ensures same { HasCleanDisk (state S.Store tx.new.conn.now) → (state S.Store tx.old.conn.now).now.schema ≡ store_schema → OnOk result (IsUnchanged (state S.Store tx.old.conn.now) (state S.Store tx.new.conn.now)) }
-    ensures read { HasCleanDisk (state S.Store tx.new.conn.now) → (state S.Store tx.old.conn.now).now.schema ≡ store_schema → IfOk result (λ rows. AreKeyed ((state S.Store tx.old.conn.now).now.trees 2) → rows ≡ map note_in ((state S.Store tx.old.conn.now).now.trees 2)) }
-    ensures err { HasCleanDisk (state S.Store tx.new.conn.now) → (state S.Store tx.old.conn.now).now.schema ≡ store_schema → OnErr result (Undone (state S.Store tx.old.conn.now) (state S.Store tx.new.conn.now)) }
-    ensures survives { Survives (state S.Store tx.old.conn.now) (state S.Store tx.new.conn.now) (λ _. ⊥) }
+    ensures same { ReadsOnly S.Store tx.old.conn.now tx.new.conn.now result }
+    ensures read { Reads S.Store tx.old.conn.now tx.new.conn.now result (AreRowsOf 2 note_in) }
+    ensures err { ReadsOrUndoes S.Store tx.old.conn.now tx.new.conn.now result }
+    ensures survives { CommitsNothing S.Store tx.old.conn.now tx.new.conn.now }
 {
     match tx.query_all(
         "SELECT num, doc, author, kind, value, arrival, body FROM notes ORDER BY num",

@@ -1,13 +1,13 @@
-//! How a store is opened, in a transaction.
+//! Opens a store, in a transaction.
 
-ghost use Rattle.std.specs.Prelude.{◌≡◌, ◌≢◌, ◌⊎◌, pos, false, IsTrue, IfOk, OnOk, OnErr};
+ghost use Rattle.std.specs.Prelude.{◌≡◌, ◌≢◌, pos, false, IsTrue, IfOk, OnOk, OnErr};
 ghost use Rattle.keeper_core.specs.Keeping.{IfAlien};
-ghost use Rattle.sqlite_trees.specs.Tree.{Trees};
 ghost use Rattle.sqlite.specs.Effect.{Database};
 ghost use Rattle.sqlite.specs.Held.{state};
 ghost use Rattle.sqlite.specs.State.{HasCleanDisk, Survives, IsLive};
-ghost use Rattle.keeper_sql.specs.Store.{Undone, IsOurs, OpensTo, OpensAt, IsAfterOpen, LeavesOnlyTrees};
+ghost use Rattle.keeper_sql.specs.Store.{Undone, OpensTo, OpensAt, IsAfterOpen};
 ghost use Rattle.keeper_sql.specs.Opening.{IsOpened, IsRefusedAt, IsStored, IsHeld, UnlessHeld, UnlessFailed};
+ghost use Rattle.keeper_sql.specs.Calls.{CommitsNothing, InOurs, IsRolledBack, LeavesItsTrees, LeavesOldOr, OverOurs, ShowsTheSame, WasOpen};
 
 use crate::create::create_all;
 use crate::keep::{is_only_memory, is_settled, is_still_open};
@@ -18,20 +18,21 @@ use sqlite::{Alter, Connection, Error, Transaction};
 use std::alloc::Global;
 use tap_rows::Tables;
 
-/// What a store gives as it is opened: its tables, or a version that isn't known.
+/// What the open of a store gives: its tables, or a version other than 1 and 2.
 #[derive(Drop)]
 pub enum Opened {
     Held(Tables),
     Alien(i64),
 }
 
-// Makes the tables that aren't there, and settles the version.
+// Makes the tables that aren't there, raises the version, and returns it.
 fn prepare<S: Alter>(tx: &mut Transaction<'_, S>) -> Result<i64, Error>
     ensures same_reference { tx.new.conn.ghost_name ≡ tx.old.conn.ghost_name }
     ensures never { IfOk result (λ version. version ≢ pos 1) }
-    ensures ok { HasCleanDisk (state S.Store tx.new.conn.now) → IsTrue (state S.Store tx.old.conn.now).in_transaction → IsOurs (state S.Store tx.old.conn.now).now → IfOk result (λ version. OpensAt version (state S.Store tx.old.conn.now) (state S.Store tx.new.conn.now)) }
-    ensures err { HasCleanDisk (state S.Store tx.new.conn.now) → IsTrue (state S.Store tx.old.conn.now).in_transaction → IsOurs (state S.Store tx.old.conn.now).now → OnErr result (Undone (state S.Store tx.old.conn.now) (state S.Store tx.new.conn.now)) }
-    ensures survives { Survives (state S.Store tx.old.conn.now) (state S.Store tx.new.conn.now) (λ _. ⊥) }
+    ensures ok { InOurs S.Store tx.old.conn.now tx.new.conn.now (IfOk result (λ version.
+        OpensAt version (state S.Store tx.old.conn.now) (state S.Store tx.new.conn.now))) }
+    ensures err { InOurs S.Store tx.old.conn.now tx.new.conn.now (OnErr result (Undone (state S.Store tx.old.conn.now) (state S.Store tx.new.conn.now))) }
+    ensures survives { CommitsNothing S.Store tx.old.conn.now tx.new.conn.now }
 {
     match create_all(tx) {
         Ok(()) => settle_version(tx),
@@ -39,13 +40,13 @@ fn prepare<S: Alter>(tx: &mut Transaction<'_, S>) -> Result<i64, Error>
     }
 }
 
-/// Opens a store in a transaction, and reads its tables.
+/// Opens a store in a transaction, and returns its tables or its version.
 pub fn open_within<S: Alter>(alloc: Global, tx: &mut Transaction<'_, S>) -> Result<Opened, Error>
     ensures same_reference { tx.new.conn.ghost_name ≡ tx.old.conn.ghost_name }
     ensures never { IfOk result IsRefusedAt }
-    ensures ok { HasCleanDisk (state S.Store tx.new.conn.now) → IsTrue (state S.Store tx.old.conn.now).in_transaction → IsOurs (state S.Store tx.old.conn.now).now → IfOk result (IsOpened (state S.Store tx.old.conn.now) (state S.Store tx.new.conn.now)) }
-    ensures err { HasCleanDisk (state S.Store tx.new.conn.now) → IsTrue (state S.Store tx.old.conn.now).in_transaction → IsOurs (state S.Store tx.old.conn.now).now → OnErr result (Undone (state S.Store tx.old.conn.now) (state S.Store tx.new.conn.now)) }
-    ensures survives { Survives (state S.Store tx.old.conn.now) (state S.Store tx.new.conn.now) (λ _. ⊥) }
+    ensures ok { InOurs S.Store tx.old.conn.now tx.new.conn.now (IfOk result (IsOpened (state S.Store tx.old.conn.now) (state S.Store tx.new.conn.now))) }
+    ensures err { InOurs S.Store tx.old.conn.now tx.new.conn.now (OnErr result (Undone (state S.Store tx.old.conn.now) (state S.Store tx.new.conn.now))) }
+    ensures survives { CommitsNothing S.Store tx.old.conn.now tx.new.conn.now }
 {
     match prepare(tx) {
         Err(error) => Err(error),
@@ -57,14 +58,14 @@ pub fn open_within<S: Alter>(alloc: Global, tx: &mut Transaction<'_, S>) -> Resu
     }
 }
 
-/// Opens a store in one transaction.
+/// Opens a store in one transaction. It is committed if the tables are returned, else rolled back.
 pub fn open_store<S: Alter>(alloc: Global, conn: &mut Connection<S>) -> Result<Opened, Error>
     requires { (state S.Store conn.old).in_transaction ≡ false }
     ensures ended { (state S.Store conn.new).in_transaction ≡ false }
     ensures never { IfOk result IsRefusedAt }
-    ensures ok { HasCleanDisk (state S.Store conn.new) → IsOurs (state S.Store conn.old).now → IfOk result (IsStored (state S.Store conn.old) (state S.Store conn.new)) }
-    ensures was_open { HasCleanDisk (state S.Store conn.new) → IsOurs (state S.Store conn.old).now → UnlessHeld result (IsTrue (state S.Store conn.new).is_open → IsTrue (state S.Store conn.old).is_open) }
-    ensures undone { HasCleanDisk (state S.Store conn.new) → IsOurs (state S.Store conn.old).now → UnlessHeld result (IsTrue (state S.Store conn.new).is_open → (state S.Store conn.new).now ≡ (state S.Store conn.old).committed) }
+    ensures ok { OverOurs S.Store conn.old conn.new (IfOk result (IsStored (state S.Store conn.old) (state S.Store conn.new))) }
+    ensures was_open { OverOurs S.Store conn.old conn.new (UnlessHeld result (WasOpen (state S.Store conn.old) (state S.Store conn.new))) }
+    ensures undone { OverOurs S.Store conn.old conn.new (UnlessHeld result (IsRolledBack (state S.Store conn.old) (state S.Store conn.new))) }
     ensures survives { Survives (state S.Store conn.old) (state S.Store conn.new) (IsAfterOpen (state S.Store conn.old)) }
 {
     let mut tx = conn.transaction();
@@ -78,23 +79,27 @@ pub fn open_store<S: Alter>(alloc: Global, conn: &mut Connection<S>) -> Result<O
     }
 }
 
-/// Opens a store, which is as it was unless its tables are given or a call failed.
+/// Opens a store in one transaction, and returns its tables. After `Alien` and `Memory` the store is open and unchanged.
+/// `Failed` if a call failed.
 pub fn open_kept<S: Alter>(alloc: Global, conn: &mut Connection<S>) -> Result<Tables, AttachFault>
     requires { (state S.Store conn.old).in_transaction ≡ false }
     ensures ended { (state S.Store conn.new).in_transaction ≡ false }
     ensures honest { HasCleanDisk (state S.Store conn.new) → HasCleanDisk (state S.Store conn.old) }
     ensures never { IfAlien result (λ v. (v ≢ pos 1) × (v ≢ pos 2)) }
-    ensures ok { HasCleanDisk (state S.Store conn.new) → IsOurs (state S.Store conn.old).now → IfOk result (IsHeld (state S.Store conn.old) (state S.Store conn.new)) }
+    ensures ok { OverOurs S.Store conn.old conn.new (IfOk result (IsHeld (state S.Store conn.old) (state S.Store conn.new))) }
     ensures live { OnOk result (IsLive (state S.Store conn.new)) }
-    ensures given_alone { HasCleanDisk (state S.Store conn.new) → IsOurs (state S.Store conn.old).now → OnOk result (LeavesOnlyTrees (state S.Store conn.new) (state S.Store conn.new).now.trees) }
-    ensures alone { HasCleanDisk (state S.Store conn.new) → UnlessFailed result (LeavesOnlyTrees (state S.Store conn.new) (state S.Store conn.new).now.trees) }
-    ensures still { HasCleanDisk (state S.Store conn.new) → IsOurs (state S.Store conn.old).now → UnlessFailed result (IsTrue (state S.Store conn.new).is_open × IsTrue (state S.Store conn.old).is_open × ((state S.Store conn.new).now ≡ (state S.Store conn.old).now)) }
-    ensures alien { HasCleanDisk (state S.Store conn.new) → IsOurs (state S.Store conn.old).now → IfAlien result (λ v. (db : Database) × OpensTo v (state S.Store conn.old).now db) }
-    ensures crash { HasCleanDisk (state S.Store conn.new) → IsTrue (state S.Store conn.old).is_open → (db : Trees) → (state S.Store conn.new).may_leave db → (db ≡ (state S.Store conn.old).now.trees) ⊎ IsAfterOpen (state S.Store conn.old) db }
+    ensures given_alone { OverOurs S.Store conn.old conn.new (OnOk result (LeavesItsTrees (state S.Store conn.new))) }
+    ensures alone { HasCleanDisk (state S.Store conn.new) → UnlessFailed result (LeavesItsTrees (state S.Store conn.new)) }
+    ensures still { OverOurs S.Store conn.old conn.new (UnlessFailed result (ShowsTheSame (state S.Store conn.old) (state S.Store conn.new))) }
+    ensures alien { OverOurs S.Store conn.old conn.new (IfAlien result (λ v. (db : Database) × OpensTo v (state S.Store conn.old).now db)) }
+    ensures crash { HasCleanDisk (state S.Store conn.new) → IsTrue (state S.Store conn.old).is_open
+        → LeavesOldOr (IsAfterOpen (state S.Store conn.old)) (state S.Store conn.old) (state S.Store conn.new) }
 {
+    // For its clauses, which the errors need.
     let _settled = is_settled(conn);
     match open_store(alloc, conn) {
         Ok(Opened::Held(tables)) => {
+            // For the clause `given_alone`.
             let _alone = is_settled(conn);
             Ok(tables)
         }

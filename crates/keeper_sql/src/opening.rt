@@ -1,11 +1,9 @@
-//! All tables of a store, read in a transaction.
+//! Reads all tables of a store, in a transaction.
 
-ghost use Rattle.std.specs.Prelude.{◌≡◌, ◌≢◌, pos, map, IsTrue, IfOk, OnOk, OnErr};
-ghost use Rattle.sqlite.specs.Held.{state};
-ghost use Rattle.sqlite.specs.State.{HasCleanDisk, Survives, IsUnchanged};
+ghost use Rattle.std.specs.Prelude.{◌≡◌, map};
 ghost use Rattle.keeper_sql.specs.RowsAsValues.{tables_in, doc_in, note_in, query_in, run_in, pick_in, filter_in};
-ghost use Rattle.keeper_sql.specs.Schema.{store_schema};
-ghost use Rattle.keeper_sql.specs.Store.{Undone, AreKeyed, AreAllKeyed};
+ghost use Rattle.keeper_sql.specs.Store.{AreAllKeyed};
+ghost use Rattle.keeper_sql.specs.Calls.{CommitsNothing, Reads, ReadsOnly, ReadsOrUndoes};
 
 use crate::docs::read_docs;
 use crate::filters::read_filters;
@@ -18,6 +16,7 @@ use std::alloc::Global;
 use tap_base::Rows;
 use tap_rows::{Doc, FilterRow, Note, Pick, QueryRow, RunRow, Tables};
 
+// What users wrote. The tables are read in two steps, so that a function makes at most three reads.
 #[derive(Drop)]
 struct EarlierTables {
     docs: Rows<Doc>,
@@ -25,6 +24,7 @@ struct EarlierTables {
     queries: Rows<QueryRow>,
 }
 
+// What runs delivered, and the filters.
 #[derive(Drop)]
 struct LaterTables {
     runs: Rows<RunRow>,
@@ -32,12 +32,17 @@ struct LaterTables {
     filters: Rows<FilterRow>,
 }
 
-fn read_written<S: Alter>(alloc: Global, tx: &mut Transaction<'_, S>) -> Result<EarlierTables, Error>
+// Returns the documents, notes and queries.
+fn read_written<S: Alter>(
+    alloc: Global,
+    tx: &mut Transaction<'_, S>,
+) -> Result<EarlierTables, Error>
     ensures same_reference { tx.new.conn.ghost_name ≡ tx.old.conn.ghost_name }
-    ensures same { HasCleanDisk (state S.Store tx.new.conn.now) → (state S.Store tx.old.conn.now).now.schema ≡ store_schema → OnOk result (IsUnchanged (state S.Store tx.old.conn.now) (state S.Store tx.new.conn.now)) }
-    ensures read { HasCleanDisk (state S.Store tx.new.conn.now) → (state S.Store tx.old.conn.now).now.schema ≡ store_schema → IfOk result (λ all. AreAllKeyed (state S.Store tx.old.conn.now).now → (all.docs ≡ map doc_in ((state S.Store tx.old.conn.now).now.trees 1)) × (all.notes ≡ map note_in ((state S.Store tx.old.conn.now).now.trees 2)) × (all.queries ≡ map query_in ((state S.Store tx.old.conn.now).now.trees 3))) }
-    ensures err { HasCleanDisk (state S.Store tx.new.conn.now) → (state S.Store tx.old.conn.now).now.schema ≡ store_schema → OnErr result (Undone (state S.Store tx.old.conn.now) (state S.Store tx.new.conn.now)) }
-    ensures survives { Survives (state S.Store tx.old.conn.now) (state S.Store tx.new.conn.now) (λ _. ⊥) }
+    ensures same { ReadsOnly S.Store tx.old.conn.now tx.new.conn.now result }
+    ensures read { Reads S.Store tx.old.conn.now tx.new.conn.now result (λ db all. AreAllKeyed db
+        → (all.docs ≡ map doc_in (db.trees 1)) × (all.notes ≡ map note_in (db.trees 2)) × (all.queries ≡ map query_in (db.trees 3))) }
+    ensures err { ReadsOrUndoes S.Store tx.old.conn.now tx.new.conn.now result }
+    ensures survives { CommitsNothing S.Store tx.old.conn.now tx.new.conn.now }
 {
     let docs = match read_docs(alloc, tx) {
         Ok(docs) => docs,
@@ -57,12 +62,14 @@ fn read_written<S: Alter>(alloc: Global, tx: &mut Transaction<'_, S>) -> Result<
     }
 }
 
+// Returns the runs, picks and filters.
 fn read_derived<S: Alter>(alloc: Global, tx: &mut Transaction<'_, S>) -> Result<LaterTables, Error>
     ensures same_reference { tx.new.conn.ghost_name ≡ tx.old.conn.ghost_name }
-    ensures same { HasCleanDisk (state S.Store tx.new.conn.now) → (state S.Store tx.old.conn.now).now.schema ≡ store_schema → OnOk result (IsUnchanged (state S.Store tx.old.conn.now) (state S.Store tx.new.conn.now)) }
-    ensures read { HasCleanDisk (state S.Store tx.new.conn.now) → (state S.Store tx.old.conn.now).now.schema ≡ store_schema → IfOk result (λ all. AreAllKeyed (state S.Store tx.old.conn.now).now → (all.runs ≡ map run_in ((state S.Store tx.old.conn.now).now.trees 4)) × (all.picks ≡ map pick_in ((state S.Store tx.old.conn.now).now.trees 5)) × (all.filters ≡ map filter_in ((state S.Store tx.old.conn.now).now.trees 6))) }
-    ensures err { HasCleanDisk (state S.Store tx.new.conn.now) → (state S.Store tx.old.conn.now).now.schema ≡ store_schema → OnErr result (Undone (state S.Store tx.old.conn.now) (state S.Store tx.new.conn.now)) }
-    ensures survives { Survives (state S.Store tx.old.conn.now) (state S.Store tx.new.conn.now) (λ _. ⊥) }
+    ensures same { ReadsOnly S.Store tx.old.conn.now tx.new.conn.now result }
+    ensures read { Reads S.Store tx.old.conn.now tx.new.conn.now result (λ db all. AreAllKeyed db
+        → (all.runs ≡ map run_in (db.trees 4)) × (all.picks ≡ map pick_in (db.trees 5)) × (all.filters ≡ map filter_in (db.trees 6))) }
+    ensures err { ReadsOrUndoes S.Store tx.old.conn.now tx.new.conn.now result }
+    ensures survives { CommitsNothing S.Store tx.old.conn.now tx.new.conn.now }
 {
     let runs = match read_runs(alloc, tx) {
         Ok(runs) => runs,
@@ -82,13 +89,13 @@ fn read_derived<S: Alter>(alloc: Global, tx: &mut Transaction<'_, S>) -> Result<
     }
 }
 
-/// Reads all tables.
+/// Returns all tables of a store.
 pub fn read_tables<S: Alter>(alloc: Global, tx: &mut Transaction<'_, S>) -> Result<Tables, Error>
     ensures same_reference { tx.new.conn.ghost_name ≡ tx.old.conn.ghost_name }
-    ensures same { HasCleanDisk (state S.Store tx.new.conn.now) → (state S.Store tx.old.conn.now).now.schema ≡ store_schema → OnOk result (IsUnchanged (state S.Store tx.old.conn.now) (state S.Store tx.new.conn.now)) }
-    ensures read { HasCleanDisk (state S.Store tx.new.conn.now) → (state S.Store tx.old.conn.now).now.schema ≡ store_schema → IfOk result (λ tables. AreAllKeyed (state S.Store tx.old.conn.now).now → tables ≡ tables_in (state S.Store tx.old.conn.now).now.trees) }
-    ensures err { HasCleanDisk (state S.Store tx.new.conn.now) → (state S.Store tx.old.conn.now).now.schema ≡ store_schema → OnErr result (Undone (state S.Store tx.old.conn.now) (state S.Store tx.new.conn.now)) }
-    ensures survives { Survives (state S.Store tx.old.conn.now) (state S.Store tx.new.conn.now) (λ _. ⊥) }
+    ensures same { ReadsOnly S.Store tx.old.conn.now tx.new.conn.now result }
+    ensures read { Reads S.Store tx.old.conn.now tx.new.conn.now result (λ db tables. AreAllKeyed db → tables ≡ tables_in db.trees) }
+    ensures err { ReadsOrUndoes S.Store tx.old.conn.now tx.new.conn.now result }
+    ensures survives { CommitsNothing S.Store tx.old.conn.now tx.new.conn.now }
 {
     let written = match read_written(alloc, tx) {
         Ok(written) => written,

@@ -1,12 +1,10 @@
-//! The table `picks`.
+//! Writes and reads the rows of the table `picks`.
 
-ghost use Rattle.std.specs.Prelude.{◌≡◌, ◌<◌, ◌^◌, [], ◌∷◌, map, IsTrue, IfOk, OnOk, OnErr};
-ghost use Rattle.sqlite.specs.Held.{state};
-ghost use Rattle.sqlite.specs.State.{HasCleanDisk, Survives, IsUnchanged};
+ghost use Rattle.std.specs.Prelude.{◌≡◌, ◌<◌, ◌^◌, [], ◌∷◌, map, IfOk, OnOk};
 ghost use Rattle.sqlite.specs.Values.{bound};
 ghost use Rattle.keeper_sql.specs.RowsAsValues.{given_pick, pick_in, pick_shown, as_kept};
-ghost use Rattle.keeper_sql.specs.Store.{only, RowsWritten, Undone, AreKeyed};
-ghost use Rattle.keeper_sql.specs.Schema.{store_schema};
+ghost use Rattle.keeper_sql.specs.Store.{only, RowsWritten};
+ghost use Rattle.keeper_sql.specs.Calls.{AreRowsOf, CommitsNothing, Does, DoesOrUndoes, Reads, ReadsOnly, ReadsOrUndoes};
 
 use crate::reading::{integer, no_memory, number};
 use sqlite::types::ValueRef;
@@ -15,6 +13,7 @@ use std::alloc::Global;
 use tap_base::{DocNum, QueryNum, Rows};
 use tap_rows::Pick;
 
+// Returns the parameters of the statement that inserts a delivered document.
 fn pick_values(pick: &Pick) -> [ValueRef<'_>; 5]
     ensures given { bound result ≡ given_pick pick.now }
     ensures range { (pick.now.num < 2 ^ 32) × (pick.now.query.0 < 2 ^ 32) × (pick.now.run < 2 ^ 32) × (pick.now.doc.0 < 2 ^ 32) }
@@ -28,12 +27,12 @@ fn pick_values(pick: &Pick) -> [ValueRef<'_>; 5]
     ]
 }
 
-/// Adds a delivered document.
+/// Inserts the row of a delivered document.
 pub fn insert_pick<S: Alter>(tx: &mut Transaction<'_, S>, pick: &Pick) -> Result<(), Error>
     ensures same_reference { tx.new.conn.ghost_name ≡ tx.old.conn.ghost_name }
-    ensures ok { HasCleanDisk (state S.Store tx.new.conn.now) → IsTrue (state S.Store tx.old.conn.now).in_transaction → OnOk result (RowsWritten (only 5 (as_kept (given_pick pick.now) ∷ [])) (state S.Store tx.old.conn.now) (state S.Store tx.new.conn.now)) }
-    ensures err { HasCleanDisk (state S.Store tx.new.conn.now) → IsTrue (state S.Store tx.old.conn.now).in_transaction → OnErr result (Undone (state S.Store tx.old.conn.now) (state S.Store tx.new.conn.now)) }
-    ensures survives { Survives (state S.Store tx.old.conn.now) (state S.Store tx.new.conn.now) (λ _. ⊥) }
+    ensures ok { Does S.Store tx.old.conn.now tx.new.conn.now result (RowsWritten (only 5 (as_kept (given_pick pick.now) ∷ []))) }
+    ensures err { DoesOrUndoes S.Store tx.old.conn.now tx.new.conn.now result }
+    ensures survives { CommitsNothing S.Store tx.old.conn.now tx.new.conn.now }
     ensures read { OnOk result (pick_in (as_kept (given_pick pick.now)) ≡ pick.now) }
 {
     let values = pick_values(pick);
@@ -46,12 +45,12 @@ pub fn insert_pick<S: Alter>(tx: &mut Transaction<'_, S>, pick: &Pick) -> Result
     }
 }
 
-/// Adds the delivered documents, in their order.
+/// Inserts the rows of the delivered documents, in their order.
 pub fn insert_picks<S: Alter>(tx: &mut Transaction<'_, S>, picks: &[Pick]) -> Result<(), Error>
     ensures same_reference { tx.new.conn.ghost_name ≡ tx.old.conn.ghost_name }
-    ensures ok { HasCleanDisk (state S.Store tx.new.conn.now) → IsTrue (state S.Store tx.old.conn.now).in_transaction → OnOk result (RowsWritten (only 5 (map (λ x. as_kept (given_pick x)) picks.now)) (state S.Store tx.old.conn.now) (state S.Store tx.new.conn.now)) }
-    ensures err { HasCleanDisk (state S.Store tx.new.conn.now) → IsTrue (state S.Store tx.old.conn.now).in_transaction → OnErr result (Undone (state S.Store tx.old.conn.now) (state S.Store tx.new.conn.now)) }
-    ensures survives { Survives (state S.Store tx.old.conn.now) (state S.Store tx.new.conn.now) (λ _. ⊥) }
+    ensures ok { Does S.Store tx.old.conn.now tx.new.conn.now result (RowsWritten (only 5 (map (λ x. as_kept (given_pick x)) picks.now))) }
+    ensures err { DoesOrUndoes S.Store tx.old.conn.now tx.new.conn.now result }
+    ensures survives { CommitsNothing S.Store tx.old.conn.now tx.new.conn.now }
     ensures read { OnOk result (map pick_in (map (λ x. as_kept (given_pick x)) picks.now) ≡ picks.now) }
 {
     'adds: for pick in picks {
@@ -60,6 +59,7 @@ pub fn insert_picks<S: Alter>(tx: &mut Transaction<'_, S>, picks: &[Pick]) -> Re
     Ok(())
 }
 
+// Returns a delivered document as a row shows it.
 fn pick_of(row: &Row) -> Result<Pick, Error>
     ensures { IfOk result (λ x. x ≡ pick_shown row.now) }
 {
@@ -77,6 +77,7 @@ fn pick_of(row: &Row) -> Result<Pick, Error>
     })
 }
 
+// Returns the delivered documents as the rows of a query show them.
 fn picks_of(alloc: Global, shown: &[Row]) -> Result<Rows<Pick>, Error>
     ensures { IfOk result (λ rows. rows ≡ map pick_shown shown.now) }
 {
@@ -87,13 +88,13 @@ fn picks_of(alloc: Global, shown: &[Row]) -> Result<Rows<Pick>, Error>
     Ok(rows)
 }
 
-/// Reads the delivered documents, in order of their numbers.
+/// Returns the delivered documents, in order of their numbers.
 pub fn read_picks<S: Alter>(alloc: Global, tx: &mut Transaction<'_, S>) -> Result<Rows<Pick>, Error>
     ensures same_reference { tx.new.conn.ghost_name ≡ tx.old.conn.ghost_name }
-    ensures same { HasCleanDisk (state S.Store tx.new.conn.now) → (state S.Store tx.old.conn.now).now.schema ≡ store_schema → OnOk result (IsUnchanged (state S.Store tx.old.conn.now) (state S.Store tx.new.conn.now)) }
-    ensures read { HasCleanDisk (state S.Store tx.new.conn.now) → (state S.Store tx.old.conn.now).now.schema ≡ store_schema → IfOk result (λ rows. AreKeyed ((state S.Store tx.old.conn.now).now.trees 5) → rows ≡ map pick_in ((state S.Store tx.old.conn.now).now.trees 5)) }
-    ensures err { HasCleanDisk (state S.Store tx.new.conn.now) → (state S.Store tx.old.conn.now).now.schema ≡ store_schema → OnErr result (Undone (state S.Store tx.old.conn.now) (state S.Store tx.new.conn.now)) }
-    ensures survives { Survives (state S.Store tx.old.conn.now) (state S.Store tx.new.conn.now) (λ _. ⊥) }
+    ensures same { ReadsOnly S.Store tx.old.conn.now tx.new.conn.now result }
+    ensures read { Reads S.Store tx.old.conn.now tx.new.conn.now result (AreRowsOf 5 pick_in) }
+    ensures err { ReadsOrUndoes S.Store tx.old.conn.now tx.new.conn.now result }
+    ensures survives { CommitsNothing S.Store tx.old.conn.now tx.new.conn.now }
 {
     match tx.query_all(
         "SELECT num, query, run, doc, second FROM picks ORDER BY num",

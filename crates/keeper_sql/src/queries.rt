@@ -1,12 +1,10 @@
-//! The table `queries`.
+//! Writes and reads the rows of the table `queries`.
 
-ghost use Rattle.std.specs.Prelude.{◌≡◌, ◌<◌, ◌^◌, [], ◌∷◌, map, IsTrue, IfOk, OnOk, OnErr};
-ghost use Rattle.sqlite.specs.Held.{state};
-ghost use Rattle.sqlite.specs.State.{HasCleanDisk, Survives, IsUnchanged};
+ghost use Rattle.std.specs.Prelude.{◌≡◌, ◌<◌, ◌^◌, [], ◌∷◌, map, IfOk, OnOk};
 ghost use Rattle.sqlite.specs.Values.{bound};
 ghost use Rattle.keeper_sql.specs.RowsAsValues.{given_query, query_in, query_shown, as_kept};
-ghost use Rattle.keeper_sql.specs.Store.{only, RowsWritten, Undone, AreKeyed};
-ghost use Rattle.keeper_sql.specs.Schema.{store_schema};
+ghost use Rattle.keeper_sql.specs.Store.{only, RowsWritten};
+ghost use Rattle.keeper_sql.specs.Calls.{AreRowsOf, CommitsNothing, Does, DoesOrUndoes, Reads, ReadsOnly, ReadsOrUndoes};
 
 use crate::reading::{bytes, integer, no_memory, number};
 use sqlite::types::ValueRef;
@@ -15,6 +13,7 @@ use std::alloc::Global;
 use tap_base::{QueryNum, Rows};
 use tap_rows::QueryRow;
 
+// Returns the parameters of the statement that inserts a query.
 fn query_values(query: &QueryRow) -> [ValueRef<'_>; 5]
     ensures given { bound result ≡ given_query query.now }
     ensures range { query.now.num.0 < 2 ^ 32 }
@@ -28,12 +27,12 @@ fn query_values(query: &QueryRow) -> [ValueRef<'_>; 5]
     ]
 }
 
-/// Adds a query.
+/// Inserts the row of a query.
 pub fn insert_query<S: Alter>(tx: &mut Transaction<'_, S>, query: &QueryRow) -> Result<(), Error>
     ensures same_reference { tx.new.conn.ghost_name ≡ tx.old.conn.ghost_name }
-    ensures ok { HasCleanDisk (state S.Store tx.new.conn.now) → IsTrue (state S.Store tx.old.conn.now).in_transaction → OnOk result (RowsWritten (only 3 (as_kept (given_query query.now) ∷ [])) (state S.Store tx.old.conn.now) (state S.Store tx.new.conn.now)) }
-    ensures err { HasCleanDisk (state S.Store tx.new.conn.now) → IsTrue (state S.Store tx.old.conn.now).in_transaction → OnErr result (Undone (state S.Store tx.old.conn.now) (state S.Store tx.new.conn.now)) }
-    ensures survives { Survives (state S.Store tx.old.conn.now) (state S.Store tx.new.conn.now) (λ _. ⊥) }
+    ensures ok { Does S.Store tx.old.conn.now tx.new.conn.now result (RowsWritten (only 3 (as_kept (given_query query.now) ∷ []))) }
+    ensures err { DoesOrUndoes S.Store tx.old.conn.now tx.new.conn.now result }
+    ensures survives { CommitsNothing S.Store tx.old.conn.now tx.new.conn.now }
     ensures read { OnOk result (query_in (as_kept (given_query query.now)) ≡ query.now) }
 {
     let values = query_values(query);
@@ -46,6 +45,7 @@ pub fn insert_query<S: Alter>(tx: &mut Transaction<'_, S>, query: &QueryRow) -> 
     }
 }
 
+// Returns a query as a row shows it. `OutOfMemory` if its texts could not be copied.
 fn query_of(alloc: Global, row: &Row) -> Result<QueryRow, Error>
     ensures { IfOk result (λ x. x ≡ query_shown row.now) }
 {
@@ -63,6 +63,7 @@ fn query_of(alloc: Global, row: &Row) -> Result<QueryRow, Error>
     })
 }
 
+// Returns the queries as the rows of a query show them.
 fn queries_of(alloc: Global, shown: &[Row]) -> Result<Rows<QueryRow>, Error>
     ensures { IfOk result (λ rows. rows ≡ map query_shown shown.now) }
 {
@@ -73,16 +74,16 @@ fn queries_of(alloc: Global, shown: &[Row]) -> Result<Rows<QueryRow>, Error>
     Ok(rows)
 }
 
-/// Reads the queries, in order of their numbers.
+/// Returns the queries, in order of their numbers.
 pub fn read_queries<S: Alter>(
     alloc: Global,
     tx: &mut Transaction<'_, S>,
 ) -> Result<Rows<QueryRow>, Error>
     ensures same_reference { tx.new.conn.ghost_name ≡ tx.old.conn.ghost_name }
-    ensures same { HasCleanDisk (state S.Store tx.new.conn.now) → (state S.Store tx.old.conn.now).now.schema ≡ store_schema → OnOk result (IsUnchanged (state S.Store tx.old.conn.now) (state S.Store tx.new.conn.now)) }
-    ensures read { HasCleanDisk (state S.Store tx.new.conn.now) → (state S.Store tx.old.conn.now).now.schema ≡ store_schema → IfOk result (λ rows. AreKeyed ((state S.Store tx.old.conn.now).now.trees 3) → rows ≡ map query_in ((state S.Store tx.old.conn.now).now.trees 3)) }
-    ensures err { HasCleanDisk (state S.Store tx.new.conn.now) → (state S.Store tx.old.conn.now).now.schema ≡ store_schema → OnErr result (Undone (state S.Store tx.old.conn.now) (state S.Store tx.new.conn.now)) }
-    ensures survives { Survives (state S.Store tx.old.conn.now) (state S.Store tx.new.conn.now) (λ _. ⊥) }
+    ensures same { ReadsOnly S.Store tx.old.conn.now tx.new.conn.now result }
+    ensures read { Reads S.Store tx.old.conn.now tx.new.conn.now result (AreRowsOf 3 query_in) }
+    ensures err { ReadsOrUndoes S.Store tx.old.conn.now tx.new.conn.now result }
+    ensures survives { CommitsNothing S.Store tx.old.conn.now tx.new.conn.now }
 {
     match tx.query_all(
         "SELECT num, owner, name, source, arrival FROM queries ORDER BY num",

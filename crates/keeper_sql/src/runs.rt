@@ -1,12 +1,10 @@
-//! The table `runs`.
+//! Writes and reads the rows of the table `runs`.
 
-ghost use Rattle.std.specs.Prelude.{◌≡◌, ◌<◌, ◌^◌, [], ◌∷◌, map, IsTrue, IfOk, OnOk, OnErr};
-ghost use Rattle.sqlite.specs.Held.{state};
-ghost use Rattle.sqlite.specs.State.{HasCleanDisk, Survives, IsUnchanged};
+ghost use Rattle.std.specs.Prelude.{◌≡◌, ◌<◌, ◌^◌, [], ◌∷◌, map, IfOk, OnOk};
 ghost use Rattle.sqlite.specs.Values.{bound};
 ghost use Rattle.keeper_sql.specs.RowsAsValues.{given_run, run_in, run_shown, as_kept};
-ghost use Rattle.keeper_sql.specs.Store.{only, RowsWritten, Undone, AreKeyed};
-ghost use Rattle.keeper_sql.specs.Schema.{store_schema};
+ghost use Rattle.keeper_sql.specs.Store.{only, RowsWritten};
+ghost use Rattle.keeper_sql.specs.Calls.{AreRowsOf, CommitsNothing, Does, DoesOrUndoes, Reads, ReadsOnly, ReadsOrUndoes};
 
 use crate::reading::{integer, no_memory, number};
 use sqlite::types::ValueRef;
@@ -15,6 +13,7 @@ use std::alloc::Global;
 use tap_base::{QueryNum, Rows};
 use tap_rows::RunRow;
 
+// Returns the parameters of the statement that inserts a run.
 fn run_values(run: &RunRow) -> [ValueRef<'_>; 3]
     ensures given { bound result ≡ given_run run.now }
     ensures range { (run.now.num < 2 ^ 32) × (run.now.query.0 < 2 ^ 32) }
@@ -26,12 +25,12 @@ fn run_values(run: &RunRow) -> [ValueRef<'_>; 3]
     ]
 }
 
-/// Adds a run.
+/// Inserts the row of a run.
 pub fn insert_run<S: Alter>(tx: &mut Transaction<'_, S>, run: &RunRow) -> Result<(), Error>
     ensures same_reference { tx.new.conn.ghost_name ≡ tx.old.conn.ghost_name }
-    ensures ok { HasCleanDisk (state S.Store tx.new.conn.now) → IsTrue (state S.Store tx.old.conn.now).in_transaction → OnOk result (RowsWritten (only 4 (as_kept (given_run run.now) ∷ [])) (state S.Store tx.old.conn.now) (state S.Store tx.new.conn.now)) }
-    ensures err { HasCleanDisk (state S.Store tx.new.conn.now) → IsTrue (state S.Store tx.old.conn.now).in_transaction → OnErr result (Undone (state S.Store tx.old.conn.now) (state S.Store tx.new.conn.now)) }
-    ensures survives { Survives (state S.Store tx.old.conn.now) (state S.Store tx.new.conn.now) (λ _. ⊥) }
+    ensures ok { Does S.Store tx.old.conn.now tx.new.conn.now result (RowsWritten (only 4 (as_kept (given_run run.now) ∷ []))) }
+    ensures err { DoesOrUndoes S.Store tx.old.conn.now tx.new.conn.now result }
+    ensures survives { CommitsNothing S.Store tx.old.conn.now tx.new.conn.now }
     ensures read { OnOk result (run_in (as_kept (given_run run.now)) ≡ run.now) }
 {
     let values = run_values(run);
@@ -44,6 +43,7 @@ pub fn insert_run<S: Alter>(tx: &mut Transaction<'_, S>, run: &RunRow) -> Result
     }
 }
 
+// Returns a run as a row shows it.
 fn run_of(row: &Row) -> Result<RunRow, Error>
     ensures { IfOk result (λ x. x ≡ run_shown row.now) }
 {
@@ -53,6 +53,7 @@ fn run_of(row: &Row) -> Result<RunRow, Error>
     Ok(RunRow { num, query, moment })
 }
 
+// Returns the runs as the rows of a query show them.
 fn runs_of(alloc: Global, shown: &[Row]) -> Result<Rows<RunRow>, Error>
     ensures { IfOk result (λ rows. rows ≡ map run_shown shown.now) }
 {
@@ -63,16 +64,16 @@ fn runs_of(alloc: Global, shown: &[Row]) -> Result<Rows<RunRow>, Error>
     Ok(rows)
 }
 
-/// Reads the runs, in order of their numbers.
+/// Returns the runs, in order of their numbers.
 pub fn read_runs<S: Alter>(
     alloc: Global,
     tx: &mut Transaction<'_, S>,
 ) -> Result<Rows<RunRow>, Error>
     ensures same_reference { tx.new.conn.ghost_name ≡ tx.old.conn.ghost_name }
-    ensures same { HasCleanDisk (state S.Store tx.new.conn.now) → (state S.Store tx.old.conn.now).now.schema ≡ store_schema → OnOk result (IsUnchanged (state S.Store tx.old.conn.now) (state S.Store tx.new.conn.now)) }
-    ensures read { HasCleanDisk (state S.Store tx.new.conn.now) → (state S.Store tx.old.conn.now).now.schema ≡ store_schema → IfOk result (λ rows. AreKeyed ((state S.Store tx.old.conn.now).now.trees 4) → rows ≡ map run_in ((state S.Store tx.old.conn.now).now.trees 4)) }
-    ensures err { HasCleanDisk (state S.Store tx.new.conn.now) → (state S.Store tx.old.conn.now).now.schema ≡ store_schema → OnErr result (Undone (state S.Store tx.old.conn.now) (state S.Store tx.new.conn.now)) }
-    ensures survives { Survives (state S.Store tx.old.conn.now) (state S.Store tx.new.conn.now) (λ _. ⊥) }
+    ensures same { ReadsOnly S.Store tx.old.conn.now tx.new.conn.now result }
+    ensures read { Reads S.Store tx.old.conn.now tx.new.conn.now result (AreRowsOf 4 run_in) }
+    ensures err { ReadsOrUndoes S.Store tx.old.conn.now tx.new.conn.now result }
+    ensures survives { CommitsNothing S.Store tx.old.conn.now tx.new.conn.now }
 {
     match tx.query_all("SELECT num, query, moment FROM runs ORDER BY num", &[]) {
         Ok(shown) => runs_of(alloc, shown.as_slice()),

@@ -1,8 +1,8 @@
-//! The keeper over a connection.
+//! The keeper over a connection to a database.
 
 ghost use Rattle.std.specs.Prelude.{◌≡◌, false, None};
 
-use crate::keep::{keep, is_settled};
+use crate::keep::{is_settled, keep};
 use crate::opened::open_kept;
 use keeper_core::{AttachFault, CommitFault, Keeper};
 use sqlite::{Alter, Connection};
@@ -22,7 +22,7 @@ pub struct SqlKeeper<S: Alter> {
 }
 
 impl<S: Alter> SqlKeeper<S> {
-    /// A keeper over this connection, which is neither attached nor stopped.
+    /// Returns a keeper over this connection, which is neither attached nor stopped.
     pub fn adopt(connection: Connection<S>) -> SqlKeeper<S>
         requires { connection.in_transaction ≡ false }
         ensures free { (result.attached ≡ false) × (result.stopped ≡ false) }
@@ -77,7 +77,9 @@ impl<S: Alter> Keeper for SqlKeeper<S> {
     ghost faults = { λ k. k.faults };
 
     fn attach(&mut self, alloc: Global, at: &str) -> Result<Tables, AttachFault> {
+        // For its clauses, which a failure needs.
         let _settled = is_settled(&self.connection);
+        // Taken first: what comes later than the open of the store takes no memory.
         let place = Text::from_slice(alloc, at.as_bytes())?;
         match open_kept(alloc, &mut self.connection) {
             Ok(tables) => {

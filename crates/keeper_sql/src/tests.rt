@@ -1,3 +1,5 @@
+//! Two sessions over one store in memory.
+
 ghost use Rattle.std.specs.Prelude.{◌≡◌, false};
 
 use crate::SqlKeeper;
@@ -23,7 +25,7 @@ fn keep<P: Keeper>(alloc: Global, keeper: &mut P, change: &Change) -> Option<usi
     Some(docs)
 }
 
-// A document of this number.
+// Returns a change that adds a document of this number.
 fn one_doc(alloc: Global, num: u32) -> Result<Change, Memory> {
     let mut docs = Rows::new(alloc);
     docs.push(Doc {

@@ -1,15 +1,15 @@
-//! The version of a store.
+//! Reads and raises the version of a store.
 
-ghost use Rattle.std.specs.Prelude.{◌≡◌, ◌≢◌, pos, IsTrue, IfOk, OnOk, OnErr};
+ghost use Rattle.std.specs.Prelude.{◌≡◌, ◌≢◌, pos, IfOk, OnErr};
 ghost use Rattle.sqlite.specs.Held.{state};
-ghost use Rattle.sqlite.specs.State.{HasCleanDisk, Survives, IsUnchanged};
 ghost use Rattle.keeper_sql.specs.RowsAsValues.{version_in, version_shown};
-ghost use Rattle.keeper_sql.specs.Schema.{store_schema};
 ghost use Rattle.keeper_sql.specs.Store.{Undone, Raises, Settles, AreKeyed, IsMeta};
+ghost use Rattle.keeper_sql.specs.Calls.{CommitsNothing, Does, DoesOrUndoes, Gives, InStore, Reads, ReadsOnly, ReadsOrUndoes};
 
 use crate::reading::integer;
 use sqlite::{Alter, Error, Row, Transaction};
 
+// Returns the version that the rows of `meta` show, if there is one.
 fn version_of(shown: &[Row]) -> Result<Option<i64>, Error>
     ensures { IfOk result (λ version. version ≡ version_shown shown.now) }
 {
@@ -19,13 +19,13 @@ fn version_of(shown: &[Row]) -> Result<Option<i64>, Error>
     }
 }
 
-/// Reads the version, if there is one.
+/// Returns the version, if the store has one.
 pub fn read_version<S: Alter>(tx: &mut Transaction<'_, S>) -> Result<Option<i64>, Error>
     ensures same_reference { tx.new.conn.ghost_name ≡ tx.old.conn.ghost_name }
-    ensures same { HasCleanDisk (state S.Store tx.new.conn.now) → (state S.Store tx.old.conn.now).now.schema ≡ store_schema → OnOk result (IsUnchanged (state S.Store tx.old.conn.now) (state S.Store tx.new.conn.now)) }
-    ensures read { HasCleanDisk (state S.Store tx.new.conn.now) → (state S.Store tx.old.conn.now).now.schema ≡ store_schema → IfOk result (λ version. AreKeyed ((state S.Store tx.old.conn.now).now.trees 0) → version ≡ version_in ((state S.Store tx.old.conn.now).now.trees 0)) }
-    ensures err { HasCleanDisk (state S.Store tx.new.conn.now) → (state S.Store tx.old.conn.now).now.schema ≡ store_schema → OnErr result (Undone (state S.Store tx.old.conn.now) (state S.Store tx.new.conn.now)) }
-    ensures survives { Survives (state S.Store tx.old.conn.now) (state S.Store tx.new.conn.now) (λ _. ⊥) }
+    ensures same { ReadsOnly S.Store tx.old.conn.now tx.new.conn.now result }
+    ensures read { Reads S.Store tx.old.conn.now tx.new.conn.now result (λ db version. AreKeyed (db.trees 0) → version ≡ version_in (db.trees 0)) }
+    ensures err { ReadsOrUndoes S.Store tx.old.conn.now tx.new.conn.now result }
+    ensures survives { CommitsNothing S.Store tx.old.conn.now tx.new.conn.now }
 {
     match tx.query_all("SELECT id, version FROM meta ORDER BY id", &[]) {
         Ok(shown) => version_of(shown.as_slice()),
@@ -33,12 +33,12 @@ pub fn read_version<S: Alter>(tx: &mut Transaction<'_, S>) -> Result<Option<i64>
     }
 }
 
-/// Makes the version 2.
+/// Writes version 2.
 pub fn write_version<S: Alter>(tx: &mut Transaction<'_, S>) -> Result<(), Error>
     ensures same_reference { tx.new.conn.ghost_name ≡ tx.old.conn.ghost_name }
-    ensures ok { HasCleanDisk (state S.Store tx.new.conn.now) → IsTrue (state S.Store tx.old.conn.now).in_transaction → OnOk result (Raises (state S.Store tx.old.conn.now) (state S.Store tx.new.conn.now)) }
-    ensures err { HasCleanDisk (state S.Store tx.new.conn.now) → IsTrue (state S.Store tx.old.conn.now).in_transaction → OnErr result (Undone (state S.Store tx.old.conn.now) (state S.Store tx.new.conn.now)) }
-    ensures survives { Survives (state S.Store tx.old.conn.now) (state S.Store tx.new.conn.now) (λ _. ⊥) }
+    ensures ok { Does S.Store tx.old.conn.now tx.new.conn.now result Raises }
+    ensures err { DoesOrUndoes S.Store tx.old.conn.now tx.new.conn.now result }
+    ensures survives { CommitsNothing S.Store tx.old.conn.now tx.new.conn.now }
 {
     match tx.execute(
         "INSERT OR REPLACE INTO meta (id, version) VALUES (1, 2)",
@@ -49,13 +49,13 @@ pub fn write_version<S: Alter>(tx: &mut Transaction<'_, S>) -> Result<(), Error>
     }
 }
 
-// Makes the version 2, and gives it.
+// Writes version 2, and returns it.
 fn raise_version<S: Alter>(tx: &mut Transaction<'_, S>) -> Result<i64, Error>
     ensures same_reference { tx.new.conn.ghost_name ≡ tx.old.conn.ghost_name }
-    ensures ok { HasCleanDisk (state S.Store tx.new.conn.now) → IsTrue (state S.Store tx.old.conn.now).in_transaction → IfOk result (λ version. (version ≡ pos 2) × Raises (state S.Store tx.old.conn.now) (state S.Store tx.new.conn.now)) }
+    ensures ok { Gives S.Store tx.old.conn.now tx.new.conn.now result (λ version old new. (version ≡ pos 2) × Raises old new) }
     ensures two { IfOk result (λ version. version ≡ pos 2) }
-    ensures err { HasCleanDisk (state S.Store tx.new.conn.now) → IsTrue (state S.Store tx.old.conn.now).in_transaction → OnErr result (Undone (state S.Store tx.old.conn.now) (state S.Store tx.new.conn.now)) }
-    ensures survives { Survives (state S.Store tx.old.conn.now) (state S.Store tx.new.conn.now) (λ _. ⊥) }
+    ensures err { DoesOrUndoes S.Store tx.old.conn.now tx.new.conn.now result }
+    ensures survives { CommitsNothing S.Store tx.old.conn.now tx.new.conn.now }
 {
     match write_version(tx) {
         Ok(()) => Ok(2),
@@ -63,13 +63,14 @@ fn raise_version<S: Alter>(tx: &mut Transaction<'_, S>) -> Result<i64, Error>
     }
 }
 
-/// The version of a store, which becomes 2 where there is none or 1.
+/// Returns the version of a store. A store of version 1, or of none, gets version 2 first.
 pub fn settle_version<S: Alter>(tx: &mut Transaction<'_, S>) -> Result<i64, Error>
     ensures same_reference { tx.new.conn.ghost_name ≡ tx.old.conn.ghost_name }
     ensures never { IfOk result (λ version. version ≢ pos 1) }
-    ensures ok { HasCleanDisk (state S.Store tx.new.conn.now) → IsTrue (state S.Store tx.old.conn.now).in_transaction → (state S.Store tx.old.conn.now).now.schema ≡ store_schema → IsMeta ((state S.Store tx.old.conn.now).now.trees 0) → IfOk result (λ version. Settles version (state S.Store tx.old.conn.now) (state S.Store tx.new.conn.now)) }
-    ensures err { HasCleanDisk (state S.Store tx.new.conn.now) → IsTrue (state S.Store tx.old.conn.now).in_transaction → (state S.Store tx.old.conn.now).now.schema ≡ store_schema → OnErr result (Undone (state S.Store tx.old.conn.now) (state S.Store tx.new.conn.now)) }
-    ensures survives { Survives (state S.Store tx.old.conn.now) (state S.Store tx.new.conn.now) (λ _. ⊥) }
+    ensures ok { InStore S.Store tx.old.conn.now tx.new.conn.now (IsMeta ((state S.Store tx.old.conn.now).now.trees 0)
+        → IfOk result (λ version. Settles version (state S.Store tx.old.conn.now) (state S.Store tx.new.conn.now))) }
+    ensures err { InStore S.Store tx.old.conn.now tx.new.conn.now (OnErr result (Undone (state S.Store tx.old.conn.now) (state S.Store tx.new.conn.now))) }
+    ensures survives { CommitsNothing S.Store tx.old.conn.now tx.new.conn.now }
 {
     match read_version(tx) {
         Err(error) => Err(error),
