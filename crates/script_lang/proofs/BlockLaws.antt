@@ -4,11 +4,10 @@ use Rattle.mail_lines.specs.declared.line.Line.{Line}
 use Rattle.mail_lines.specs.declared.line.Line.TheVariants.{Whole as WholeLine}
 use Rattle.mail_lines.specs.declared.block.Block.{Block}
 use Rattle.mail_lines.specs.declared.block.Block.TheVariants.{Whole}
-use Rattle.mail_lines.specs.Blocks.{with_line, block_from, block_of, whole_block}
+use Rattle.mail_lines.specs.Blocks.{with_line, block_from, block_of}
 use Rattle.mail_lines.specs.Lines.{lines}
 use Rattle.mail_lines.proofs.BlockLaws.{block-is}
-use Rattle.tap_base.specs.LineWords.{word, has_words}
-use Rattle.script_lang.specs.declared.command.Command.{Command}
+use Rattle.tap_base.specs.LineWords.{has_words}
 use Rattle.script_lang.specs.declared.state.BlockKind.{BlockKind}
 use Rattle.script_lang.specs.declared.state.BlockKind.TheVariants.{OfMail, OfMbox, OfFilter}
 use Rattle.script_lang.specs.declared.state.State.{State}
@@ -29,9 +28,15 @@ opens-kind OfMail formed = refl
 opens-kind OfMbox formed = refl
 opens-kind OfFilter formed = refl
 
--- the commands of lines that begin with those of a block, where the first opens this state
+-- the commands of lines of which the first opens this state
+opened-run : (state : State) (first : List ℕ) (ls : List Line) → after_text first ≡ state → commands_from Outside (WholeLine first ∷ ls) ++ at_end (state_after Outside (WholeLine first ∷ ls)) ≡ (commands_outside state first ++ commands_from state ls) ++ at_end (state_after state ls)
+opened-run state first ls is = ap (λ s. (commands_outside s first ++ commands_from s ls) ++ at_end (state_after s ls)) is
+
 opened-commands : (first : List ℕ) (kind : BlockKind) (formed : Bool) (text more : List Line) → after_text first ≡ opened formed kind → NoDot text → commands_from Outside (WholeLine first ∷ text ++ WholeLine (codes ".") ∷ more) ++ at_end (state_after Outside (WholeLine first ∷ text ++ WholeLine (codes ".") ∷ more)) ≡ block_command kind formed (block_of (limit_of kind) text) ∷ (commands_from Outside more ++ at_end (state_after Outside more))
-opened-commands first kind formed text more is none = rw (is, inside-commands kind formed (limit_of kind) (Whole []) text more none, inside-state kind formed (limit_of kind) (Whole []) text more none) refl
+opened-commands first kind formed text more is none =
+    opened-run (opened formed kind) first (text ++ WholeLine (codes ".") ∷ more) is
+    ∙ ap (λ cs. cs ++ at_end (state_after (opened formed kind) (text ++ WholeLine (codes ".") ∷ more))) (inside-commands kind formed (limit_of kind) (Whole []) text more none)
+    ∙ ap (λ s. (block_command kind formed (block_of (limit_of kind) text) ∷ commands_from Outside more) ++ at_end s) (inside-state kind formed (limit_of kind) (Whole []) text more none)
 
 pub blocks_read : BlocksAreRead
 blocks_read kind bytes rest first text cut named none =
