@@ -20,7 +20,6 @@ use Rattle.tql_text.specs.declared.fault.TextFault.{TextFault}
 use Rattle.tql_text.specs.Texts.{of_tree}
 use Rattle.appraiser.specs.declared.fault.RuleFault.{RuleFault}
 use Rattle.appraiser.specs.declared.fault.RuleFault.TheVariants.{Line, ManyRules}
-use Rattle.appraiser.specs.declared.read.TheConstants.{RULE_LIMIT}
 use Rattle.appraiser.specs.Rules.{Rule}
 use Rattle.appraiser.specs.RuleLines.{is_priority, is_word, number_of, text_of, place_of_now, rated, timeless_rule, rule_with, shaped, rule_at, rule_of_tokens, rule_of_reading, rule_of}
 use Rattle.appraiser.specs.RuleTexts.{rule_lines, rules_at, with_rule, rules_of}
@@ -97,7 +96,7 @@ lines-named [] = tt
 lines-named (l ∷ ls) = one-named l.0 (rule_of l.1) (rules_at ls) (rule-named l.1) (lines-named ls)
 
 pub text-named : (text : List ℕ) → IfRules (rules_of text)
-text-named text = go (nat_le (length (rule_lines text)) RULE_LIMIT) where
+text-named text = go (nat_le (length (rule_lines text)) 64) where
   go : (b : Bool) → IfRules (if b then rules_at (rule_lines text) else Err ManyRules)
   go true = lines-named (rule_lines text)
   go false = tt

@@ -8,7 +8,8 @@ use Rattle.appraiser.specs.Rules.{Rule}
 use Rattle.appraiser.specs.RuleTexts.{rules_of}
 use Rattle.appraiser.specs.Listings.{listing_of}
 
--- each class of a list that is rated by the rules of a text is a name
+-- each class of a list that the rules of a text rate is a name
 abbrev pub ClassesAreNames : Type 0
 ClassesAreNames =
-    (text : List ℕ) (rules : List Rule) → rules_of text ≡ Ok rules → (docs : List Doc) (entries : List Entry) → All (λ row. is_name row.class ≡ true) (listing_of rules docs entries)
+    (text : List ℕ) (rules : List Rule) → rules_of text ≡ Ok rules → (docs : List Doc) (entries : List Entry)
+    → All (λ row. is_name row.class ≡ true) (listing_of rules docs entries)

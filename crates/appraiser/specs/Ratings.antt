@@ -5,7 +5,7 @@ use Rattle.tap_rows.specs.Tables.{no_rows}
 use Rattle.tql_core.specs.Holds.{truth, asked_of}
 use Rattle.appraiser.specs.Rules.{Rule}
 
--- does the rule hold for the document? Its condition speaks of neither now nor other rows, so it is asked of no rows
+-- does the rule hold for the document? Its condition names neither now nor other rows, so no rows and the second 0 will do
 abbrev pub holds_for : Doc → Rule → Bool
 holds_for doc rule = truth no_rows (pos 0) rule.condition (asked_of doc)
 
@@ -13,12 +13,12 @@ holds_for doc rule = truth no_rows (pos 0) rule.condition (asked_of doc)
 abbrev pub holding : List Rule → Doc → List Rule
 holding rules doc = filter (holds_for doc) rules
 
--- the greatest of some priorities, 0 where there is none
+-- the greatest of some priorities, 0 if there is none
 abbrev pub greatest : List ℕ → ℕ
 greatest [] = 0
 greatest (n ∷ ns) = max n (greatest ns)
 
--- the class of the first of some rules, `other` where there is none
+-- the class of the first of some rules, `other` if there is none
 abbrev pub first_class : List Rule → List ℕ
 first_class [] = codes "other"
 first_class (rule ∷ rules) = rule.class

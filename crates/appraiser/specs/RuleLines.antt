@@ -1,5 +1,6 @@
 -- The rule of one line: WHEN, a condition, PRIORITY and a number, CLASS and a text; or the place of the line's first fault.
-use Rattle.std.specs.Prelude.{ℕ, ℤ, pos, nat_abs, ◌-◌, ◌⊎◌, ◌≡◌, List, [], ◌∷◌, length, take, drop, Bool, true, false, ◌&&◌, ◌||◌, nat_lt, int_le, Option, Some, None, Result, Ok, Err, codes, if◌then◌else◌}
+use Rattle.std.specs.Prelude.{ℕ, ℤ, pos, nat_abs, ◌-◌, ◌⊎◌, ◌≡◌, List, [], ◌∷◌, length, take, drop, Bool, true, false, ◌&&◌}
+use Rattle.std.specs.Prelude.{◌||◌, nat_lt, int_le, Option, Some, None, Result, Ok, Err, codes, if◌then◌else◌}
 use Rattle.std.specs.Str.{bytes_eq}
 use Rattle.tap_base.specs.Names.{is_name}
 use Rattle.tql_lex.specs.declared.kind.Kind.{Kind}
@@ -77,7 +78,7 @@ text_of (Word w) = None
 text_of (Number n) = None
 text_of (Mark sign) = None
 
--- a word that speaks of now or of other rows
+-- is the token a word that names now or other rows?
 abbrev pub is_of_now : Kind → Bool
 is_of_now kind = is_word (codes "now") kind || is_word (codes "today") kind || is_word (codes "exists") kind
 
@@ -90,18 +91,18 @@ place_of_now (token ∷ tokens) = if is_of_now token.kind then Some token.place 
 abbrev pub is_priority : ℤ → Bool
 is_priority n = int_le (pos 0) n && int_le n (pos 1000)
 
--- the rule, where its priority and its class may stand
+-- the rule, if its priority and its class may stand in one
 abbrev pub rated : Condition → ℤ → ℕ → List ℕ → ℕ → Result Rule ℕ
 rated c priority priority_place class class_place =
     if is_priority priority then (if is_name class then Ok (record { condition = c; priority = nat_abs priority; class = class }) else Err class_place)
     else Err priority_place
 
--- the same, where the condition speaks of neither now nor other rows
+-- the rule, if its condition names neither now nor other rows: `Some` is the place of the first word that does
 abbrev pub timeless_rule : Option ℕ → Condition → ℤ → ℕ → List ℕ → ℕ → Result Rule ℕ
 timeless_rule (Some place) c priority priority_place class class_place = Err place
 timeless_rule None c priority priority_place class class_place = rated c priority priority_place class class_place
 
--- the same, where there is a condition
+-- the rule of a reading of its condition
 abbrev pub rule_with : Result Condition TextFault → ℕ → ℕ → List Token → ℤ → ℕ → List ℕ → ℕ → Result Rule ℕ
 rule_with (Err fault) begins ends middle priority priority_place class class_place = Err (fault_place begins ends fault)
 rule_with (Ok c) begins ends middle priority priority_place class class_place = timeless_rule (place_of_now middle) c priority priority_place class class_place
@@ -109,14 +110,16 @@ rule_with (Ok c) begins ends middle priority priority_place class class_place = 
 -- the rule of the tokens of a condition and of PRIORITY, its number, CLASS and its text; the line has this length
 abbrev pub shaped : ℕ → ℕ → List Token → Token → Option ℤ → ℕ → Bool → Option (List ℕ) → ℕ → Result Rule ℕ
 shaped len begins middle priority (Some n) n_place true (Some class) class_place =
-    if is_word (codes "priority") priority.kind then rule_with (of_tree (query_at 32 middle)) begins priority.place middle n n_place class class_place else Err len
+    if is_word (codes "priority") priority.kind then rule_with (of_tree (query_at 32 middle)) begins priority.place middle n n_place class class_place
+    else Err len
 shaped len begins middle priority (Some n) n_place true None class_place = Err len
 shaped len begins middle priority (Some n) n_place false class class_place = Err len
 shaped len begins middle priority None n_place is_class class class_place = Err len
 
 -- the rule of the tokens after WHEN, the last four apart
 abbrev pub rule_at : ℕ → ℕ → List Token → List Token → Result Rule ℕ
-rule_at len begins middle (p ∷ n ∷ c ∷ t ∷ []) = shaped len begins middle p (number_of n.kind) n.place (is_word (codes "class") c.kind) (text_of t.kind) t.place
+rule_at len begins middle (p ∷ n ∷ c ∷ t ∷ []) =
+    shaped len begins middle p (number_of n.kind) n.place (is_word (codes "class") c.kind) (text_of t.kind) t.place
 rule_at len begins middle [] = Err len
 rule_at len begins middle (p ∷ []) = Err len
 rule_at len begins middle (p ∷ n ∷ []) = Err len
@@ -129,6 +132,7 @@ rule_of_tokens len [] = Err 0
 rule_of_tokens len (first ∷ rest) =
     if is_word (codes "when") first.kind then rule_at len first.place (take (length rest - 4) rest) (drop (length rest - 4) rest) else Err first.place
 
+-- the rule of a reading of a line's tokens
 abbrev pub rule_of_reading : ℕ → Result (List Token) LexFault → Result Rule ℕ
 rule_of_reading len (Err fault) = Err (lex_place fault)
 rule_of_reading len (Ok tokens) = rule_of_tokens len tokens
@@ -137,7 +141,7 @@ rule_of_reading len (Ok tokens) = rule_of_tokens len tokens
 unfoldable pub rule_of : List ℕ → Result Rule ℕ
 rule_of line = rule_of_reading (length line) (lexed line)
 
--- the answer is what the definition gives, or want of memory
+-- the result is what the definition gives, or out of memory
 abbrev pub ReadsRule : Result Rule ℕ → Result KeptRule LineFault → Type 0
 ReadsRule expected (Ok rule) = expected ≡ Ok (rule_view rule)
 ReadsRule expected (Err (At place)) = expected ≡ Err place

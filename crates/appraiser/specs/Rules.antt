@@ -4,16 +4,16 @@ use Rattle.tql_core.specs.Condition.{Condition, condition}
 use Rattle.appraiser.specs.declared.rule.KeptRule.{KeptRule}
 use Rattle.appraiser.specs.declared.rules.Rules.{Rules}
 
--- a rule: what documents must say, and how those that do are rated
+-- a rule: a condition, and the rating of the documents that it holds for
 pub record Rule : Type 0 where
   pub condition : Condition
   pub priority : ℕ
   pub class : List ℕ
 
--- what a rule of the code says
+-- the rule that the code's represents
 abbrev pub rule_view : KeptRule → Rule
 rule_view kept = record { condition = condition kept.cond; priority = kept.priority; class = kept.class }
 
--- what the rules of the code say, in their order
+-- the rules that the code's represent, in their order
 abbrev pub rules_in : Rules → List Rule
 rules_in rules = map rule_view rules.items

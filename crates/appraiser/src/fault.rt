@@ -1,3 +1,4 @@
+//! Why a text is no filter.
 ghost use Rattle.std.specs.Prelude.{◌≡◌};
 
 use std::alloc::{AllocError, AllocFailed};
@@ -10,7 +11,7 @@ pub enum RuleFault {
     Line { number: usize, place: u32 },
     /// There are more than 64 rules.
     ManyRules,
-    /// Want of memory.
+    /// Out of memory.
     Memory,
 }
 

@@ -1,7 +1,7 @@
 //! Laws of ratings, over their definitions alone.
 ghost use Rattle.appraiser.specs.Laws.{ClassesAreNames};
 
-/// Each class of a list that is rated by the rules of a text is a name.
+/// Shows that each class of a list that the rules of a text rate is a name.
 pub fn classes_are_names()
     ensures { ClassesAreNames }
 {}

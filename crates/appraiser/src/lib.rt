@@ -1,4 +1,4 @@
-//! Filters: the rules of a text, how they rate a document, and a box in the order of its ratings.
+//! Filters: reads the rules of a text, rates documents by them, and lists a box in the order of its ratings.
 #![tactic(auto)]
 
 mod fault;

@@ -1,3 +1,4 @@
+//! Why a line is no rule.
 ghost use Rattle.std.specs.Prelude.{◌≡◌};
 
 use tap_base::Memory;
@@ -7,7 +8,7 @@ use tap_base::Memory;
 pub enum LineFault {
     /// Its first fault is at this byte, from 0.
     At(u32),
-    /// Want of memory.
+    /// Out of memory.
     Memory,
 }
 

@@ -1,3 +1,4 @@
+//! Lists a box in the order of its ratings.
 ghost use Rattle.std.specs.Prelude.{◌≡◌, ◌++◌, ◌∷◌, [], map, IfOk, OnOk};
 ghost use Rattle.std.specs.Option.{option_copied};
 ghost use Rattle.tap_rows.specs.WellFormed.{row_at};
@@ -21,7 +22,7 @@ struct Rank {
     doc: u32,
 }
 
-// The rank of a row.
+// Returns the rank of a row.
 fn rank_of(row: &Listed) -> Rank
     ensures { result ≡ rank_of row.now }
 {
@@ -32,7 +33,7 @@ fn rank_of(row: &Listed) -> Rank
     }
 }
 
-// The document of a number, with a step.
+// Returns the document of a number, at the cost of a step.
 fn doc_of<'a, L: Ledger>(
     index: &'a RowIndex,
     num: DocNum,
@@ -40,11 +41,12 @@ fn doc_of<'a, L: Ledger>(
 ) -> Option<&'a KeptDoc>
     ensures { option_copied result ≡ row_at num.0 index.now.docs }
 {
+    // The call gives the clause that the index's documents are those of its tables; its value is not needed.
     let _docs = index.docs();
     index.doc(num, steps)
 }
 
-// An entry with the rating of its document.
+// Rates an entry by its document; without one, as no rules do.
 fn rate_entry<'a>(
     alloc: Global,
     rules: &'a Rules,
@@ -70,7 +72,7 @@ fn rate_entry<'a>(
     }
 }
 
-// The entries, each with the rating of its document.
+// Rates each entry by its document.
 fn rate_entries<'a, L: Ledger>(
     alloc: Global,
     rules: &'a Rules,
@@ -88,7 +90,7 @@ fn rate_entries<'a, L: Ledger>(
     Ok(rows)
 }
 
-// Puts rows in order.
+// Sorts rows by priority from the greatest, then first second, then document.
 fn sort_rows(rows: &mut Vec<Listed>) -> Result<(), Memory>
     ensures { OnOk result (rows.new.items ≡ sorted_by is_above rows.old.items) }
 {
@@ -96,9 +98,9 @@ fn sort_rows(rows: &mut Vec<Listed>) -> Result<(), Memory>
     Ok(())
 }
 
-/// The entries of a box, each with the rating of its document, in order of priority from the greatest, then of first
-/// second, then of number. The document of each entry is looked up in the index, with a step. An entry whose document isn't
-/// there is rated as by no rules. `Memory` comes only for want of memory.
+/// Returns the entries of a box, each with the rating of its document, sorted by priority from the greatest, then by first
+/// second, then by document number. Each entry costs one step, for the look-up of its document. An entry without a
+/// document in the index is rated as no rules rate it. `Memory` means out of memory.
 pub fn listing<'a, L: Ledger>(
     alloc: Global,
     rules: &'a Rules,

@@ -1,3 +1,4 @@
+//! Rates documents by rules.
 ghost use Rattle.std.specs.Prelude.{◌≡◌, max, map};
 ghost use Rattle.appraiser.specs.Rules.{rules_in, rule_view};
 ghost use Rattle.appraiser.specs.Ratings.{priority_of, class_of};
@@ -5,14 +6,16 @@ ghost use Rattle.appraiser.specs.Ratings.{priority_of, class_of};
 use crate::{KeptRule, Rules};
 use tap_rows::KeptDoc;
 
-/// How a document is rated.
+/// The rating of a document.
 #[derive(Clone, Copy)]
 pub struct Rating<'a> {
+    /// From 0 to 1,000.
     pub priority: u32,
+    /// A name.
     pub class: &'a [u8],
 }
 
-// The greater number.
+// Returns the greater number.
 fn greater(a: u32, b: u32) -> u32
     ensures { result ≡ max a b }
 {
@@ -41,8 +44,8 @@ fn rate<'a>(rules: &'a [KeptRule], doc: &'a KeptDoc) -> Rating<'a>
     }
 }
 
-/// Rates a document: its priority is the greatest of the rules that hold for it, 0 where none does; its class is that of
-/// the first of them, `other` where there is none. It takes no memory.
+/// Rates a document: its priority is the greatest of the rules that hold for it, 0 if none does; its class is that of the
+/// first of them, `other` if none does. It takes no memory.
 pub fn appraise<'a>(rules: &'a Rules, doc: &'a KeptDoc) -> Rating<'a>
     ensures priority { result.priority ≡ priority_of (rules_in rules.now) doc.now }
     ensures class { result.class.now ≡ class_of (rules_in rules.now) doc.now }

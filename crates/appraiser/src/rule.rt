@@ -1,3 +1,4 @@
+//! A rule of a filter.
 ghost use Rattle.std.specs.Prelude.{◌≡◌, pos, Some, false};
 ghost use Rattle.tap_base.specs.declared.numbers.Op.TheVariants.{Le, Gt};
 ghost use Rattle.tap_rows.specs.Tables.{no_rows};
@@ -11,8 +12,8 @@ use tap_base::Text;
 use tap_rows::KeptDoc;
 use tql_core::{Cond, Env, RowRef, Term, Var, true_atom, value};
 
-/// A rule of a filter: the documents that its condition holds for have this priority, or a greater one, and the first
-/// such rule gives the class. The condition speaks of neither now nor other rows.
+/// A rule of a filter. A document that its condition holds for has this priority at least, and the class of the first such
+/// rule. The condition names neither now nor other rows.
 #[derive(Drop)]
 pub struct KeptRule {
     pub(crate) cond: Cond,
@@ -40,7 +41,8 @@ fn is_before(term: Term, env: &Env) -> bool
     }
 }
 
-// The truth of a condition over no rows, where now is 0.
+// Evaluates a condition over no rows at the second 0. A rule's condition names neither now nor other rows, so any second
+// and any rows give the same.
 fn holds<'a>(cond: &'a Cond, env: &Env<'a>) -> bool
     ensures { result ≡ truth no_rows (pos 0) (condition cond.now) env.now }
 {

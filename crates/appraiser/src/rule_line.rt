@@ -1,3 +1,4 @@
+//! Reads the rule of one line.
 ghost use Rattle.std.specs.Prelude.{◌≡◌, ◌-◌, length, take, drop};
 ghost use Rattle.std.specs.Option.{option_copied};
 ghost use Rattle.tql_core.specs.Condition.{Condition};
@@ -5,7 +6,8 @@ ghost use Rattle.tql_text.specs.Texts.{of_tree};
 ghost use Rattle.tql_parse.specs.Reading.{query_at};
 ghost use Rattle.tql_core.specs.Condition.{condition};
 ghost use Rattle.appraiser.specs.Rules.{rule_view};
-ghost use Rattle.appraiser.specs.RuleLines.{lex_place, parse_place, type_place, fault_place, is_word, number_of, text_of, is_of_now, place_of_now, is_priority, rated, timeless_rule, rule_with, rule_at, rule_of_tokens, rule_of, ReadsRule};
+ghost use Rattle.appraiser.specs.RuleLines.{lex_place, parse_place, type_place, fault_place, is_word, number_of, text_of, is_of_now, place_of_now};
+ghost use Rattle.appraiser.specs.RuleLines.{is_priority, rated, timeless_rule, rule_with, rule_at, rule_of_tokens, rule_of, ReadsRule};
 
 use crate::KeptRule;
 use crate::line_fault::LineFault;
@@ -17,7 +19,10 @@ use tql_parse::ParseFault;
 use tql_text::{TextFault, read_tokens};
 use tql_types::TypeFault;
 
-// The place of a fault of tokens.
+// The most bytes of a line of a rule: as many as those of a query's text.
+const LINE_LIMIT: u32 = 4096;
+
+// Returns the place of a fault of tokens.
 fn lex_place(fault: LexFault) -> u32
     ensures { result ≡ lex_place fault }
 {
@@ -25,12 +30,12 @@ fn lex_place(fault: LexFault) -> u32
         LexFault::BadByte { place }
         | LexFault::OpenString { place }
         | LexFault::BigNumber { place } => place,
-        LexFault::TooLong { .. } => 4096,
+        LexFault::TooLong { .. } => LINE_LIMIT,
         LexFault::Memory => 0,
     }
 }
 
-// The place of a fault of syntax.
+// Returns the place of a fault of syntax, where PRIORITY stands at `ends`.
 fn parse_place(ends: u32, fault: ParseFault) -> u32
     ensures { result ≡ parse_place ends fault }
 {
@@ -41,7 +46,7 @@ fn parse_place(ends: u32, fault: ParseFault) -> u32
     }
 }
 
-// The place of a fault of types.
+// Returns the place of a fault of types, where WHEN stands at `begins`.
 fn type_place(begins: u32, fault: TypeFault) -> u32
     ensures { result ≡ type_place begins fault }
 {
@@ -58,7 +63,7 @@ fn type_place(begins: u32, fault: TypeFault) -> u32
     }
 }
 
-// The place of a fault of a condition.
+// Returns the place of a fault of a condition between WHEN and PRIORITY.
 fn fault_place(begins: u32, ends: u32, fault: TextFault) -> u32
     ensures { result ≡ fault_place begins ends fault }
 {
@@ -80,7 +85,7 @@ fn is_word(kind: &Kind, name: &[u8]) -> bool
     }
 }
 
-// The number of a token.
+// Returns the number of a token, if it is one.
 fn number_of(kind: &Kind) -> Option<i64>
     ensures { result ≡ number_of kind.now }
 {
@@ -90,7 +95,7 @@ fn number_of(kind: &Kind) -> Option<i64>
     }
 }
 
-// The text of a token.
+// Returns the text of a token, if it is one.
 fn text_of(kind: &Kind) -> Option<&Text>
     ensures { option_copied result ≡ text_of kind.now }
 {
@@ -100,14 +105,14 @@ fn text_of(kind: &Kind) -> Option<&Text>
     }
 }
 
-// Does the token speak of now or of other rows?
+// Does the token name now or other rows?
 fn is_of_now(kind: &Kind) -> bool
     ensures { result ≡ is_of_now kind.now }
 {
     is_word(kind, b"now") || is_word(kind, b"today") || is_word(kind, b"exists")
 }
 
-// The place of the first token that speaks of now or of other rows.
+// Returns the place of the first token that names now or other rows.
 fn place_of_now(tokens: &[Token]) -> Option<u32>
     ensures { result ≡ place_of_now tokens.now }
 {
@@ -119,14 +124,17 @@ fn place_of_now(tokens: &[Token]) -> Option<u32>
     None
 }
 
-// Is the number that of a priority?
+// The greatest priority.
+const PRIORITY_LIMIT: i64 = 1000;
+
+// Is the number a priority?
 fn is_priority(n: i64) -> bool
     ensures { result ≡ is_priority n }
 {
-    0 <= n && n <= 1000
+    0 <= n && n <= PRIORITY_LIMIT
 }
 
-// The rule, where its priority and its class may stand.
+// Makes the rule, if its priority and its class may stand in one.
 fn rated(
     cond: Cond,
     priority: i64,
@@ -149,7 +157,7 @@ fn rated(
     })
 }
 
-// The same, where the condition speaks of neither now nor other rows.
+// Makes the rule, if its condition names neither now nor other rows.
 fn timeless_rule(
     middle: &[Token],
     cond: Cond,
@@ -166,7 +174,7 @@ fn timeless_rule(
     }
 }
 
-// The same, where there is a condition between WHEN and PRIORITY.
+// Makes the rule of a line whose last four tokens fit: reads the condition first.
 fn rule_with(
     alloc: Global,
     begins: u32,
@@ -186,7 +194,7 @@ fn rule_with(
     }
 }
 
-// The rule of the tokens of a condition and of the four after it.
+// Reads the rule of the tokens of a condition and of the four after it.
 fn rule_at(
     alloc: Global,
     len: u32,
@@ -215,7 +223,7 @@ fn rule_at(
     )
 }
 
-// The rule of the tokens after WHEN.
+// Reads the rule of the tokens after WHEN.
 fn rule_after(alloc: Global, len: u32, begins: u32, rest: &[Token]) -> Result<KeptRule, LineFault>
     ensures { ReadsRule (rule_at len begins (take (length rest.now - 4) rest.now) (drop (length rest.now - 4) rest.now)) result }
 {
@@ -226,7 +234,7 @@ fn rule_after(alloc: Global, len: u32, begins: u32, rest: &[Token]) -> Result<Ke
     rule_at(alloc, len, begins, middle, last)
 }
 
-// The rule of a line's tokens.
+// Reads the rule of a line's tokens.
 fn rule_of_tokens(alloc: Global, len: u32, tokens: &[Token]) -> Result<KeptRule, LineFault>
     ensures { ReadsRule (rule_of_tokens len tokens.now) result }
 {
@@ -240,15 +248,16 @@ fn rule_of_tokens(alloc: Global, len: u32, tokens: &[Token]) -> Result<KeptRule,
     }
 }
 
-/// The rule of a line, or the place of its first fault: that of its tokens; a first one that isn't WHEN; the line's end
-/// where the last four aren't PRIORITY, a number, CLASS and a text; a fault of the condition; a word that speaks of now
-/// or of other rows; a number above 1,000; a text that is no name.
+/// Reads the rule of a line. `At` gives the place of its first fault, in this order: a fault of its tokens; a first token
+/// other than WHEN; the line's end, if the last four tokens aren't PRIORITY, a number, CLASS and a text; a fault of the
+/// condition; a word that names now or other rows; a number above 1,000; a text that is no name. `Memory` means out of
+/// memory.
 #[tactic(auto, unfolding(crate::specs::RuleLines::rule_of))]
 pub(crate) fn read_rule(alloc: Global, line: &[u8]) -> Result<KeptRule, LineFault>
     ensures { ReadsRule (rule_of line.now) result }
 {
-    if line.len() > 4096 {
-        return Err(LineFault::At(4096));
+    if line.len() > LINE_LIMIT as usize {
+        return Err(LineFault::At(LINE_LIMIT));
     }
     match lex(alloc, line) {
         Ok(tokens) => rule_of_tokens(alloc, line.len() as u32, &tokens),

@@ -1,3 +1,4 @@
+//! The rules of a filter.
 ghost use Rattle.std.specs.Prelude.{◌≡◌, [], length};
 ghost use Rattle.appraiser.specs.Rules.{rules_in};
 
@@ -12,7 +13,7 @@ pub struct Rules {
 }
 
 impl Rules {
-    /// No rules.
+    /// Returns a filter without rules.
     pub fn none(alloc: Global) -> Rules
         ensures { rules_in result ≡ [] }
     {
@@ -21,7 +22,7 @@ impl Rules {
         }
     }
 
-    /// How many rules there are.
+    /// Returns how many rules there are.
     pub fn len(&self) -> usize
         ensures { result ≡ length (rules_in self.now) }
     {

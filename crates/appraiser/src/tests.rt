@@ -9,12 +9,36 @@ use std::test::Fail;
 use tap_base::{DocNum, Memory, Steps, Text, Texts};
 use tap_rows::{Doc, Entry, Fields, KeptDoc};
 
-// How many rules the text has, or its fault.
+// Returns how many rules the text has, or its fault.
 fn rules_or_fault(alloc: Global, text: &[u8]) -> Result<usize, RuleFault> {
     match read_rules(alloc, text) {
         Ok(rules) => Ok(rules.len()),
         Err(fault) => Err(fault),
     }
+}
+
+// A filter's text of so many rules, behind a comment.
+fn rules_text(alloc: Global, n: usize) -> Result<Text, Memory> {
+    let mut text = Text::from_slice(alloc, b"# rules\n")?;
+    let mut done = 0;
+    'rules: while done < n {
+        text.push_slice(b"WHEN TRUE PRIORITY 1 CLASS 'a'\n")?;
+        done += 1;
+    }
+    Ok(text)
+}
+
+#[test]
+fn a_filter_has_64_rules_at_most(rt: HostRuntime) -> Result<(), Fail> {
+    let alloc = rt.alloc();
+    let full = rules_text(alloc, 64)?;
+    assert_eq!(rt; rules_or_fault(alloc, full.as_slice()), Ok(64));
+    let more = rules_text(alloc, 65)?;
+    assert_eq!(rt;
+        rules_or_fault(alloc, more.as_slice()),
+        Err(RuleFault::ManyRules)
+    );
+    Ok(())
 }
 
 #[test]

@@ -1,5 +1,6 @@
 -- Well worded words: at most one pair of each option, in either order.
-use Rattle.std.specs.Prelude.{◌≡◌, ◌⊎◌, ◌≤◌, ℕ, List, [], ◌∷◌, ◌++◌, Bool, true, false, not, ◌==◌, Option, Some, None, unwrap_or, codes}
+use Rattle.std.specs.Prelude.{◌≡◌, ◌⊎◌, ◌≤◌, ℕ, List, [], ◌∷◌, ◌++◌, Bool, true, false, not, ◌==◌, Option, Some, None}
+use Rattle.std.specs.Prelude.{unwrap_or, codes}
 use Rattle.std.specs.Fmt.{decimal}
 use Rattle.command_words.specs.Options.{default_place}
 

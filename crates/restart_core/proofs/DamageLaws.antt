@@ -6,7 +6,6 @@ use Rattle.std.specs.Option.{option_or}
 use Rattle.std.proofs.lemmas.Bool.{and_parts, and_from, false≢true}
 use Rattle.tap_base.specs.Names.{is_name}
 use Rattle.tap_rows.specs.declared.tables.Tables.{Tables}
-use Rattle.tap_rows.specs.declared.tables.TheConstants.{MESSAGE_LIMIT}
 use Rattle.tap_rows.specs.declared.rows.Doc.{Doc}
 use Rattle.tap_rows.specs.declared.rows.Note.{Note}
 use Rattle.tap_rows.specs.declared.rows.QueryRow.{QueryRow}
@@ -74,7 +73,7 @@ docs-none : (place : ℕ) (low : ℤ) (docs : List Doc) → is_none (docs_damage
 docs-none place low [] = refl
 docs-none place low (doc ∷ docs) =
     rows-none Docs place (doc_reason place low doc) (docs_damage (place + 1) doc.arrival docs) (doc_stands place low doc) (docs_stand (place + 1) doc.arrival docs)
-    (three (doc.num.0 == place) (may_follow low doc.arrival) (nat_le (length doc.text) MESSAGE_LIMIT) Number Moment Text)
+    (three (doc.num.0 == place) (may_follow low doc.arrival) (nat_le (length doc.text) 1048576) Number Moment Text)
     (docs-none (place + 1) doc.arrival docs)
 
 notes-none : (docs : List Doc) (place : ℕ) (low : ℤ) (notes : List Note) → is_none (notes_damage docs place low notes) ≡ notes_stand docs place low notes

@@ -1,11 +1,11 @@
--- The first damaged row of the tables, and why it is damaged. Tables are looked at in order, rows from the first on. What a
--- row must be is said in WellFormed of tap_rows; here it is told apart by reasons. The texts of filters are not looked at.
-use Rattle.std.specs.Prelude.{ℕ, ◌+◌, ℤ, pos, List, [], ◌∷◌, ◌++◌, length, Bool, true, false, not, ◌&&◌, ◌==◌, nat_le, int_le, int_lt, Option, Some, None, Result, Ok, Err, if◌then◌else◌}
+-- The first damaged row of the tables, and why it is damaged. The tables are checked in order, each from its first row on.
+-- WellFormed of tap_rows defines what a row must be; here each part of that is a reason. Texts of filters are not read.
+use Rattle.std.specs.Prelude.{ℕ, ◌+◌, ℤ, pos, List, [], ◌∷◌, ◌++◌, length, Bool, true, false, not, ◌&&◌, ◌==◌, nat_le, int_le}
+use Rattle.std.specs.Prelude.{int_lt, Option, Some, None, Result, Ok, Err, if◌then◌else◌}
 use Rattle.std.specs.List.{list_any}
 use Rattle.std.specs.Option.{option_or}
 use Rattle.tap_base.specs.Names.{is_name}
 use Rattle.tap_rows.specs.declared.tables.Tables.{Tables}
-use Rattle.tap_rows.specs.declared.tables.TheConstants.{MESSAGE_LIMIT}
 use Rattle.tap_rows.specs.declared.rows.Doc.{Doc}
 use Rattle.tap_rows.specs.declared.rows.Note.{Note}
 use Rattle.tap_rows.specs.declared.rows.QueryRow.{QueryRow}
@@ -34,7 +34,7 @@ first_of [] = None
 first_of (None ∷ reasons) = first_of reasons
 first_of (Some why ∷ reasons) = Some why
 
--- a row's place, or 0 where it is above the greatest number of 32 bits
+-- a row's place, or 0 if it is above the greatest number of 32 bits
 abbrev pub number_of : ℕ → ℕ
 number_of place = if nat_le place 4294967295 then place else 0
 
@@ -48,14 +48,20 @@ abbrev pub is_condition : Result Condition TextFault → Bool
 is_condition (Ok condition) = true
 is_condition (Err fault) = false
 
--- does a query's source say a condition?
+-- can a query's source be read as a condition?
 abbrev pub is_readable : QueryRow → Bool
 is_readable query = is_condition (condition_of (condition_text query.source))
 
+-- why a document at this place, behind this moment, is damaged
 abbrev pub doc_reason : ℕ → ℤ → Doc → Option Why
 doc_reason place low doc =
-    first_of (damaged_unless (doc.num.0 == place) Number ∷ damaged_unless (may_follow low doc.arrival) Moment ∷ damaged_unless (nat_le (length doc.text) MESSAGE_LIMIT) Text ∷ [])
+    first_of (
+    damaged_unless (doc.num.0 == place) Number
+    ∷ damaged_unless (may_follow low doc.arrival) Moment
+    ∷ damaged_unless (nat_le (length doc.text) 1048576) Text
+    ∷ [])
 
+-- why a note is damaged
 abbrev pub note_reason : List Doc → ℕ → ℤ → Note → Option Why
 note_reason docs place low note =
     first_of (
@@ -65,21 +71,34 @@ note_reason docs place low note =
     ∷ damaged_unless (is_name note.author && is_name note.kind) Name
     ∷ [])
 
--- a query by itself, its text aside
+-- why a query by itself is damaged, its text aside
 abbrev pub own_reason : ℕ → ℤ → QueryRow → Option Why
 own_reason place low query =
-    first_of (damaged_unless (query.num.0 == place) Number ∷ damaged_unless (may_follow low query.arrival) Moment ∷ damaged_unless (is_name query.owner && is_name query.name) Name ∷ [])
+    first_of (
+    damaged_unless (query.num.0 == place) Number
+    ∷ damaged_unless (may_follow low query.arrival) Moment
+    ∷ damaged_unless (is_name query.owner && is_name query.name) Name
+    ∷ [])
 
--- a query behind these
+-- why a query behind these is damaged
 abbrev pub query_reason : List QueryRow → ℕ → ℤ → QueryRow → Option Why
 query_reason earlier place low query =
-    first_of (own_reason place low query ∷ damaged_unless (not (list_any (is_query_of query.owner query.name) earlier)) Twice ∷ damaged_unless (is_readable query) Text ∷ [])
+    first_of (
+    own_reason place low query
+    ∷ damaged_unless (not (list_any (is_query_of query.owner query.name) earlier)) Twice
+    ∷ damaged_unless (is_readable query) Text
+    ∷ [])
 
+-- why a run is damaged
 abbrev pub run_reason : List QueryRow → ℕ → ℤ → RunRow → Option Why
 run_reason queries place low run =
-    first_of (damaged_unless (run.num == place) Number ∷ damaged_unless (may_follow low run.moment) Moment ∷ damaged_unless (was_defined queries run.query.0 run.moment) Reference ∷ [])
+    first_of (
+    damaged_unless (run.num == place) Number
+    ∷ damaged_unless (may_follow low run.moment) Moment
+    ∷ damaged_unless (was_defined queries run.query.0 run.moment) Reference
+    ∷ [])
 
--- are the pick's run and document there, and is the run one of its query?
+-- do the pick's run and document exist, and is the run one of its query?
 abbrev pub refers : Pick → Option RunRow → Option Doc → Bool
 refers pick (Some run) (Some doc) = run.query.0 == pick.query.0
 refers pick (Some run) None = false
@@ -91,10 +110,11 @@ is_within pick (Some run) (Some doc) = int_lt pick.first run.moment && int_le do
 is_within pick (Some run) None = false
 is_within pick None doc = false
 
--- is it a pick of the same document for the same query?
+-- is the other a pick of the same document for the same query?
 abbrev pub is_same_pick : Pick → Pick → Bool
 is_same_pick pick other = (other.query.0 == pick.query.0) && (other.doc.0 == pick.doc.0)
 
+-- why a pick behind these is damaged
 abbrev pub pick_reason : List RunRow → List Doc → List Pick → ℕ → Option Pick → Pick → Option Why
 pick_reason runs docs earlier place before pick =
     first_of (
@@ -105,36 +125,52 @@ pick_reason runs docs earlier place before pick =
     ∷ damaged_unless (comes_after before pick) Order
     ∷ [])
 
+-- why a filter is damaged
 abbrev pub filter_reason : ℕ → ℤ → FilterRow → Option Why
 filter_reason place low filter =
-    first_of (damaged_unless (filter.num == place) Number ∷ damaged_unless (may_follow low filter.arrival) Moment ∷ damaged_unless (is_name filter.owner) Name ∷ [])
+    first_of (
+    damaged_unless (filter.num == place) Number
+    ∷ damaged_unless (may_follow low filter.arrival) Moment
+    ∷ damaged_unless (is_name filter.owner) Name
+    ∷ [])
 
--- the first damaged row of a table from this place on, behind these rows and this moment
+-- the first damaged document from this place on, behind this moment
 abbrev pub docs_damage : ℕ → ℤ → List Doc → Option RestartFault
 docs_damage place low [] = None
-docs_damage place low (doc ∷ docs) = option_or (row_damage Docs place (doc_reason place low doc)) (docs_damage (place + 1) doc.arrival docs)
+docs_damage place low (doc ∷ docs) =
+    option_or (row_damage Docs place (doc_reason place low doc)) (docs_damage (place + 1) doc.arrival docs)
 
+-- the first damaged note
 abbrev pub notes_damage : List Doc → ℕ → ℤ → List Note → Option RestartFault
 notes_damage docs place low [] = None
-notes_damage docs place low (note ∷ notes) = option_or (row_damage Notes place (note_reason docs place low note)) (notes_damage docs (place + 1) note.arrival notes)
+notes_damage docs place low (note ∷ notes) =
+    option_or (row_damage Notes place (note_reason docs place low note)) (notes_damage docs (place + 1) note.arrival notes)
 
+-- the first damaged query, behind these
 abbrev pub queries_damage : List QueryRow → ℕ → ℤ → List QueryRow → Option RestartFault
 queries_damage earlier place low [] = None
 queries_damage earlier place low (query ∷ queries) =
-    option_or (row_damage Queries place (query_reason earlier place low query)) (queries_damage (earlier ++ query ∷ []) (place + 1) query.arrival queries)
+    option_or (row_damage Queries place (query_reason earlier place low query))
+    (queries_damage (earlier ++ query ∷ []) (place + 1) query.arrival queries)
 
+-- the first damaged run
 abbrev pub runs_damage : List QueryRow → ℕ → ℤ → List RunRow → Option RestartFault
 runs_damage queries place low [] = None
-runs_damage queries place low (run ∷ runs) = option_or (row_damage Runs place (run_reason queries place low run)) (runs_damage queries (place + 1) run.moment runs)
+runs_damage queries place low (run ∷ runs) =
+    option_or (row_damage Runs place (run_reason queries place low run)) (runs_damage queries (place + 1) run.moment runs)
 
+-- the first damaged pick, behind these
 abbrev pub picks_damage : List RunRow → List Doc → List Pick → ℕ → Option Pick → List Pick → Option RestartFault
 picks_damage runs docs earlier place before [] = None
 picks_damage runs docs earlier place before (pick ∷ picks) =
-    option_or (row_damage Picks place (pick_reason runs docs earlier place before pick)) (picks_damage runs docs (earlier ++ pick ∷ []) (place + 1) (Some pick) picks)
+    option_or (row_damage Picks place (pick_reason runs docs earlier place before pick))
+    (picks_damage runs docs (earlier ++ pick ∷ []) (place + 1) (Some pick) picks)
 
+-- the first damaged filter
 abbrev pub filters_damage : ℕ → ℤ → List FilterRow → Option RestartFault
 filters_damage place low [] = None
-filters_damage place low (filter ∷ filters) = option_or (row_damage Filters place (filter_reason place low filter)) (filters_damage (place + 1) filter.arrival filters)
+filters_damage place low (filter ∷ filters) =
+    option_or (row_damage Filters place (filter_reason place low filter)) (filters_damage (place + 1) filter.arrival filters)
 
 -- the first damaged row of the tables, with its reason
 unfoldable pub damage_of : Tables → Option RestartFault

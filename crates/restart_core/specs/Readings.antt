@@ -7,14 +7,14 @@ use Rattle.tql_text.specs.declared.fault.TextFault.{TextFault}
 use Rattle.tql_text.specs.Texts.{condition_of}
 use Rattle.restart_core.specs.Starts.{condition_text}
 
--- what the text of a query's source says
+-- the reading of a query's condition
 abbrev pub reading_of : QueryRow → Result Condition TextFault
 reading_of query = condition_of (condition_text query.source)
 
--- what each query's text says
+-- the readings of the queries' conditions
 abbrev pub readings_of : List QueryRow → List (Result Condition TextFault)
 readings_of queries = map reading_of queries
 
--- conditions, each as what a text says
+-- the readings that give these conditions
 abbrev pub as_read : List Cond → List (Result Condition TextFault)
 as_read conds = map (λ cond. Ok (condition cond)) conds

@@ -4,15 +4,15 @@ use Rattle.std.specs.Str.{str_eq_ignore_ascii_case}
 use Rattle.tap_base.specs.LineWords.{word, after_words}
 use Rattle.restart_core.specs.declared.start.Start.{Start}
 
--- is a source from now: are its first two words FROM and NOW, in any case?
+-- is a source from now? Its first two words are then FROM and NOW, in any case
 unfoldable pub is_from_now : List ℕ → Bool
 is_from_now source = str_eq_ignore_ascii_case (word 0 source) (codes "FROM") && str_eq_ignore_ascii_case (word 1 source) (codes "NOW")
 
--- the text of its condition: what follows these two words and the blanks after them; all of a source that isn't from now
+-- the text of its condition: what follows these words and the blanks after them; all of a source that isn't from now
 unfoldable pub condition_text : List ℕ → List ℕ
 condition_text source = if is_from_now source then after_words 2 source else source
 
--- the source that is stored: with the two words as they are written here
+-- the source that is stored: its first words, if it is from now, in capitals and with one blank after each
 unfoldable pub stored_source : List ℕ → List ℕ
 stored_source source = if is_from_now source then codes "FROM NOW " ++ condition_text source else source
 

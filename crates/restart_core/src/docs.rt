@@ -1,3 +1,4 @@
+//! The first damaged document.
 ghost use Rattle.std.specs.Prelude.{◌≡◌, ◌<◌, ◌^◌, ◌+◌, pos, length};
 ghost use Rattle.restart_core.specs.Damages.{doc_reason, docs_damage};
 
@@ -5,7 +6,7 @@ use crate::rows::{follows, row_damage};
 use crate::{RestartFault, TableName, Why};
 use tap_rows::{Doc, MESSAGE_LIMIT};
 
-// Why the document is damaged at this place.
+// Returns why the document is damaged at this place, if it is.
 fn reason(place: usize, low: i64, doc: &Doc) -> Option<Why>
     ensures { result ≡ doc_reason place low doc.now }
 {
@@ -20,7 +21,7 @@ fn reason(place: usize, low: i64, doc: &Doc) -> Option<Why>
     }
 }
 
-// The first damaged document.
+// Returns the first damaged document.
 pub(crate) fn docs_damage(docs: &[Doc]) -> Option<RestartFault>
     ensures { result ≡ docs_damage 1 (pos 0) docs.now }
 {

@@ -1,3 +1,4 @@
+//! The first damaged filter.
 ghost use Rattle.std.specs.Prelude.{◌≡◌, pos};
 ghost use Rattle.restart_core.specs.Damages.{filter_reason, filters_damage};
 
@@ -6,7 +7,7 @@ use crate::{RestartFault, TableName, Why};
 use tap_base::is_name;
 use tap_rows::FilterRow;
 
-// Why the filter is damaged at this place.
+// Returns why the filter is damaged at this place, if it is.
 fn reason(place: usize, low: i64, filter: &FilterRow) -> Option<Why>
     ensures { result ≡ filter_reason place low filter.now }
 {
@@ -21,7 +22,7 @@ fn reason(place: usize, low: i64, filter: &FilterRow) -> Option<Why>
     }
 }
 
-// The first damaged filter. Its rules aren't looked at.
+// Returns the first damaged filter. The texts of filters are not read here.
 pub(crate) fn filters_damage(filters: &[FilterRow]) -> Option<RestartFault>
     ensures { result ≡ filters_damage 1 (pos 0) filters.now }
 {

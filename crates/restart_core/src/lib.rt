@@ -1,5 +1,4 @@
-//! What stored rows say when they are read again: whether a query's source is from now, and the text of its condition; and
-//! whether the stored tables are sound.
+//! Reads stored tables again: checks that no row is damaged, and reads the conditions of their queries.
 #![tactic(auto)]
 
 mod docs;

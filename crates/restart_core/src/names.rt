@@ -1,3 +1,4 @@
+//! The owners and names of queries.
 ghost use Rattle.std.specs.Prelude.{◌≡◌, ◌++◌, ◌∷◌, [], List, not, map, true, IfOk};
 ghost use Rattle.std.specs.List.{list_any};
 ghost use Rattle.tap_rows.specs.declared.rows.QueryRow.{QueryRow};
@@ -10,14 +11,14 @@ use std::marker::Model;
 use tap_base::{Memory, Text};
 use tap_rows::QueryRow;
 
-/// What a query may not say twice: its owner and its name.
+/// The key of a query: its owner and its name.
 #[derive(PartialEq, Eq, Hash, Drop)]
 pub(crate) struct Named {
     owner: Text,
     name: Text,
 }
 
-/// The distinct owners and names of some queries, in order. A name of an owner is looked up once.
+/// The distinct keys of some queries, in order, as a set: one look-up finds whether a key is new.
 #[derive(Drop)]
 pub(crate) struct Names {
     set: IndexSet<Named>,
@@ -33,7 +34,7 @@ impl Model for Names {
 }
 
 impl Names {
-    // No names.
+    // Returns no keys.
     pub(crate) fn new(alloc: Global) -> Names
         ensures { result ≡ [] }
     {
@@ -42,10 +43,12 @@ impl Names {
         }
     }
 
-    // Adds the query's owner and name, and says whether they are new, where the names are those of some queries.
+    // Adds the key of a query, and returns whether it is new among the keys of some queries.
     pub(crate) fn add(&mut self, query: &QueryRow) -> Result<bool, Memory>
-        ensures new { (queries : List QueryRow) → self.old ≡ map named_of queries → IfOk result (λ new. new ≡ not (list_any (is_query_of query.now.owner query.now.name) queries)) }
-        ensures names { (queries : List QueryRow) → self.old ≡ map named_of queries → IfOk result (λ new. new ≡ true → self.new ≡ map named_of (queries ++ query.now ∷ [])) }
+        ensures new { (queries : List QueryRow) → self.old ≡ map named_of queries
+            → IfOk result (λ new. new ≡ not (list_any (is_query_of query.now.owner query.now.name) queries)) }
+        ensures names { (queries : List QueryRow) → self.old ≡ map named_of queries
+            → IfOk result (λ new. new ≡ true → self.new ≡ map named_of (queries ++ query.now ∷ [])) }
     {
         let owner = query.owner.copy()?;
         let name = query.name.copy()?;

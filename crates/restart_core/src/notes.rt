@@ -1,3 +1,4 @@
+//! The first damaged note.
 ghost use Rattle.std.specs.Prelude.{◌≡◌, pos};
 ghost use Rattle.tap_rows.specs.WellFormed.{has_arrived};
 ghost use Rattle.restart_core.specs.Damages.{note_reason, notes_damage};
@@ -17,7 +18,7 @@ fn has_arrived(docs: &[Doc], num: u32, moment: i64) -> bool
     }
 }
 
-// Why the note is damaged at this place.
+// Returns why the note is damaged at this place, if it is.
 fn reason(docs: &[Doc], place: usize, low: i64, note: &Note) -> Option<Why>
     ensures { result ≡ note_reason docs.now place low note.now }
 {
@@ -34,7 +35,7 @@ fn reason(docs: &[Doc], place: usize, low: i64, note: &Note) -> Option<Why>
     }
 }
 
-// The first damaged note on these documents.
+// Returns the first damaged note on these documents.
 pub(crate) fn notes_damage(docs: &[Doc], notes: &[Note]) -> Option<RestartFault>
     ensures { result ≡ notes_damage docs.now 1 (pos 0) notes.now }
 {

@@ -1,3 +1,4 @@
+//! The queries and documents of picks.
 ghost use Rattle.std.specs.Prelude.{◌≡◌, ◌++◌, ◌∷◌, [], List, not, map, true, IfOk};
 ghost use Rattle.std.specs.List.{list_any};
 ghost use Rattle.tap_rows.specs.declared.rows.Pick.{Pick};
@@ -10,14 +11,14 @@ use std::marker::Model;
 use tap_base::Memory;
 use tap_rows::Pick;
 
-/// What a pick may not say twice: a query and a document, by their numbers.
+/// The key of a pick: the numbers of its query and its document.
 #[derive(Clone, Copy, Debug, PartialEq, Eq, Hash)]
 pub(crate) struct Pair {
     query: u32,
     doc: u32,
 }
 
-/// The distinct pairs of a query and a document of some picks, in order. A pair is looked up once.
+/// The distinct keys of some picks, in order, as a set: one look-up finds whether a key is new.
 #[derive(Drop)]
 pub(crate) struct Picked {
     pairs: IndexSet<Pair>,
@@ -33,7 +34,7 @@ impl Model for Picked {
 }
 
 impl Picked {
-    // No pairs.
+    // Returns no keys.
     pub(crate) fn new(alloc: Global) -> Picked
         ensures { result ≡ [] }
     {
@@ -42,10 +43,12 @@ impl Picked {
         }
     }
 
-    // Adds the pick's pair, and says whether it is new, where the pairs are those of some picks.
+    // Adds the key of a pick, and returns whether it is new among the keys of some picks.
     pub(crate) fn add(&mut self, pick: &Pick) -> Result<bool, Memory>
-        ensures new { (picks : List Pick) → self.old ≡ map pair_of picks → IfOk result (λ new. new ≡ not (list_any (is_same_pick pick.now) picks)) }
-        ensures pairs { (picks : List Pick) → self.old ≡ map pair_of picks → IfOk result (λ new. new ≡ true → self.new ≡ map pair_of (picks ++ pick.now ∷ [])) }
+        ensures new { (picks : List Pick) → self.old ≡ map pair_of picks
+            → IfOk result (λ new. new ≡ not (list_any (is_same_pick pick.now) picks)) }
+        ensures pairs { (picks : List Pick) → self.old ≡ map pair_of picks
+            → IfOk result (λ new. new ≡ true → self.new ≡ map pair_of (picks ++ pick.now ∷ [])) }
     {
         Ok(
             self.pairs.insert(Pair {

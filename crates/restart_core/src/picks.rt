@@ -1,3 +1,4 @@
+//! The first damaged pick.
 ghost use Rattle.std.specs.Prelude.{◌≡◌, ◌++◌, ◌∷◌, ◌||◌, ◌&&◌, int_lt, int_le, nat_lt, List, [], map, None, IfOk};
 ghost use Rattle.std.specs.Option.{option_copied};
 ghost use Rattle.tap_rows.specs.WellFormed.{comes_after};
@@ -12,7 +13,7 @@ use std::alloc::Global;
 use tap_base::Memory;
 use tap_rows::{Doc, Pick, RunRow};
 
-// Are the pick's run and document there, and is the run one of its query?
+// Do the pick's run and document exist, and is the run one of its query?
 fn refers(pick: &Pick, run: Option<&RunRow>, doc: Option<&Doc>) -> bool
     ensures { result ≡ refers pick.now (option_copied run.entry) (option_copied doc.entry) }
 {
@@ -51,7 +52,8 @@ fn comes_after(before: Option<&Pick>, pick: &Pick) -> bool
     }
 }
 
-// Why the pick is damaged at this place, behind the one before and the pairs of all before, which its own joins.
+// Returns why the pick is damaged at this place, behind the pick before and the keys of all before. Its own key joins these
+// in the third check, which so comes to the set only for a pick that refers to rows.
 fn reason(
     runs: &[RunRow],
     docs: &[Doc],
@@ -60,8 +62,10 @@ fn reason(
     before: Option<&Pick>,
     pick: &Pick,
 ) -> Result<Option<Why>, Memory>
-    ensures why { (earlier : List Pick) → picked.old ≡ map pair_of earlier → IfOk result (λ why. why ≡ pick_reason runs.now docs.now earlier place (option_copied before.entry) pick.now) }
-    ensures pairs { (earlier : List Pick) → picked.old ≡ map pair_of earlier → IfOk result (λ why. why ≡ None → picked.new ≡ map pair_of (earlier ++ pick.now ∷ [])) }
+    ensures why { (earlier : List Pick) → picked.old ≡ map pair_of earlier
+        → IfOk result (λ why. why ≡ pick_reason runs.now docs.now earlier place (option_copied before.entry) pick.now) }
+    ensures pairs { (earlier : List Pick) → picked.old ≡ map pair_of earlier
+        → IfOk result (λ why. why ≡ None → picked.new ≡ map pair_of (earlier ++ pick.now ∷ [])) }
 {
     let run = row(runs, pick.run);
     let doc = row(docs, pick.doc.0);
@@ -80,7 +84,7 @@ fn reason(
     }
 }
 
-// The first damaged pick of these runs and documents.
+// Returns the first damaged pick of these runs and documents.
 pub(crate) fn picks_damage(
     alloc: Global,
     runs: &[RunRow],

@@ -1,3 +1,4 @@
+//! The conditions of queries, or the first damaged one.
 ghost use Rattle.std.specs.Prelude.{◌≡◌, ◌⊎◌, ◌++◌, ◌∷◌, List, map, pos, [], None, Some, Ok, OnOk, IfOk, IfErr};
 ghost use Rattle.tap_rows.specs.declared.rows.QueryRow.{QueryRow};
 ghost use Rattle.tql_core.specs.Condition.{condition};
@@ -17,7 +18,7 @@ use tap_rows::QueryRow;
 use tql_core::Cond;
 use tql_text::{TextFault, read_condition};
 
-// Why the query is damaged at this place by itself, its text aside.
+// Returns why the query is damaged at this place by itself, its text aside.
 fn own_reason(place: usize, low: i64, query: &QueryRow) -> Option<Why>
     ensures { result ≡ own_reason place low query.now }
 {
@@ -32,7 +33,7 @@ fn own_reason(place: usize, low: i64, query: &QueryRow) -> Option<Why>
     }
 }
 
-// The condition of a query's text, or its first fault.
+// Reads the condition of a query's text.
 fn read_text(alloc: Global, query: &QueryRow) -> Result<Cond, TextFault>
     ensures { Reads (reading_of query.now) result }
 {
@@ -40,7 +41,7 @@ fn read_text(alloc: Global, query: &QueryRow) -> Result<Cond, TextFault>
     read_condition(alloc, &source[cut_start(source).at..])
 }
 
-// The condition of the query at this place, whose owner and name join those before it.
+// Reads the condition of the query at this place, and adds its key to those before it.
 fn read_query(
     alloc: Global,
     names: &mut Names,
@@ -49,9 +50,13 @@ fn read_query(
     query: &QueryRow,
 ) -> Result<Cond, RestartFault>
     ensures cond { IfOk result (λ cond. reading_of query.now ≡ Ok (condition cond)) }
-    ensures stands { (earlier : List QueryRow) → names.old ≡ map named_of earlier → OnOk result (query_reason earlier place low query.now ≡ None) }
-    ensures names { (earlier : List QueryRow) → names.old ≡ map named_of earlier → OnOk result (names.new ≡ map named_of (earlier ++ query.now ∷ [])) }
-    ensures fault { (earlier : List QueryRow) → names.old ≡ map named_of earlier → IfErr result (λ fault. (fault ≡ RestartFault.Memory) ⊎ (row_damage TableName.Queries place (query_reason earlier place low query.now) ≡ Some fault)) }
+    ensures stands { (earlier : List QueryRow) → names.old ≡ map named_of earlier
+        → OnOk result (query_reason earlier place low query.now ≡ None) }
+    ensures names { (earlier : List QueryRow) → names.old ≡ map named_of earlier
+        → OnOk result (names.new ≡ map named_of (earlier ++ query.now ∷ [])) }
+    ensures fault { (earlier : List QueryRow) → names.old ≡ map named_of earlier
+        → IfErr result (λ fault. (fault ≡ RestartFault.Memory)
+        ⊎ (row_damage TableName.Queries place (query_reason earlier place low query.now) ≡ Some fault)) }
 {
     if let Some(why) = own_reason(place, low, query) {
         return Err(damaged(TableName::Queries, place, why));
@@ -66,7 +71,7 @@ fn read_query(
     }
 }
 
-// The conditions of the queries, or the first of them that is damaged.
+// Reads the conditions of the queries. An error gives the first damaged query, or means out of memory.
 pub(crate) fn read_queries(alloc: Global, queries: &[QueryRow]) -> Result<Vec<Cond>, RestartFault>
     ensures sound { OnOk result (queries_damage [] 1 (pos 0) queries.now ≡ None) }
     ensures conds { IfOk result (λ conds. readings_of queries.now ≡ as_read conds.items) }

@@ -1,3 +1,4 @@
+//! What the rows of all tables share.
 ghost use Rattle.std.specs.Prelude.{◌≡◌, Option};
 ghost use Rattle.std.specs.Option.{option_copied};
 ghost use Rattle.tap_rows.specs.WellFormed.{may_follow, row_at};
@@ -7,7 +8,7 @@ ghost use Rattle.restart_core.specs.Damages.{number_of, row_damage};
 use crate::{RestartFault, TableName, Why};
 use tap_base::LAST_MOMENT;
 
-// The row of a number, counted from 1.
+// Returns the row of a number, counted from 1.
 pub(crate) fn row<T>(rows: &[T], num: u32) -> Option<&T>
     ensures { option_copied result ≡ row_at num rows.now }
 {
@@ -25,14 +26,21 @@ pub(crate) fn follows(low: i64, moment: i64) -> bool
     low <= moment && moment <= LAST_MOMENT as i64
 }
 
-// A row's place as a number of 32 bits.
+// The greatest place that a damage can name: it is told as a number of 32 bits.
+const PLACE_LIMIT: usize = 4294967295;
+
+// Returns a row's place as a number of 32 bits, 0 if it is above them.
 fn number_of(place: usize) -> u32
     ensures { result ≡ number_of place }
 {
-    if place <= 4294967295 { place as u32 } else { 0 }
+    if place <= PLACE_LIMIT {
+        place as u32
+    } else {
+        0
+    }
 }
 
-// The row at this place is damaged for this reason.
+// Returns the damage of the row at this place for a reason.
 pub(crate) fn damaged(table: TableName, place: usize, why: Why) -> RestartFault
     ensures { result ≡ RestartFault.Damaged table (number_of place) why }
 {
@@ -43,7 +51,7 @@ pub(crate) fn damaged(table: TableName, place: usize, why: Why) -> RestartFault
     }
 }
 
-// The damage of the row at this place, if there is a reason.
+// Returns the damage of the row at this place, if there is a reason.
 pub(crate) fn row_damage(table: TableName, place: usize, why: Option<Why>) -> Option<RestartFault>
     ensures { result ≡ row_damage table place why }
 {

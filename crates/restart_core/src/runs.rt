@@ -1,3 +1,4 @@
+//! The first damaged run.
 ghost use Rattle.std.specs.Prelude.{◌≡◌, pos};
 ghost use Rattle.tap_rows.specs.WellFormed.{was_defined};
 ghost use Rattle.restart_core.specs.Damages.{run_reason, runs_damage};
@@ -16,7 +17,7 @@ fn was_defined(queries: &[QueryRow], num: u32, moment: i64) -> bool
     }
 }
 
-// Why the run is damaged at this place.
+// Returns why the run is damaged at this place, if it is.
 fn reason(queries: &[QueryRow], place: usize, low: i64, run: &RunRow) -> Option<Why>
     ensures { result ≡ run_reason queries.now place low run.now }
 {
@@ -31,7 +32,7 @@ fn reason(queries: &[QueryRow], place: usize, low: i64, run: &RunRow) -> Option<
     }
 }
 
-// The first damaged run of these queries.
+// Returns the first damaged run of these queries.
 pub(crate) fn runs_damage(queries: &[QueryRow], runs: &[RunRow]) -> Option<RestartFault>
     ensures { result ≡ runs_damage queries.now 1 (pos 0) runs.now }
 {

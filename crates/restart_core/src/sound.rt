@@ -1,3 +1,4 @@
+//! Stored tables of which no row is damaged.
 ghost use Rattle.std.specs.Prelude.{◌≡◌, ◌⊎◌, None, Some, true, OnOk, IfOk, IfErr};
 ghost use Rattle.tap_rows.specs.WellFormed.{is_well_formed};
 ghost use Rattle.restart_core.specs.declared.fault.RestartFault.{RestartFault};
@@ -16,7 +17,7 @@ use std::marker::Model;
 use tap_rows::Tables;
 use tql_core::Cond;
 
-/// Stored tables of which no row is damaged, with the conditions of their queries. It is seen as the tables.
+/// Stored tables of which no row is damaged, with the conditions of their queries. Contracts see the tables alone.
 #[derive(Drop)]
 pub struct Sound {
     tables: Tables,
@@ -36,7 +37,7 @@ impl Model for Sound {
     ghost invariant = { λ sound. (damage_of sound.tables ≡ None) × (readings_of sound.tables.queries ≡ as_read sound.conds.items) };
 }
 
-// No damage, or the damage as a fault.
+// Reports a damage as an error.
 fn refuse(damage: Option<RestartFault>) -> Result<(), RestartFault>
     ensures ok { OnOk result (damage ≡ None) }
     ensures fault { IfErr result (λ fault. damage ≡ Some fault) }
@@ -47,9 +48,9 @@ fn refuse(damage: Option<RestartFault>) -> Result<(), RestartFault>
     }
 }
 
-/// Looks at all rows of stored tables, in the order documents, notes, queries, runs, picks, filters, rows from the first,
-/// and answers the first damaged one with its first reason. The texts of queries are read, those of filters aren't. It
-/// takes one look-up for each query and each pick.
+/// Checks all rows of stored tables, in the order documents, notes, queries, runs, picks, filters, and returns the tables if
+/// none is damaged. `Damaged` gives the first damaged row and its first reason, `Memory` means out of memory. The texts of
+/// queries are read, those of filters are not. Each query and each pick takes one look-up.
 #[tactic(auto, unfolding(crate::specs::Damages::damage_of))]
 pub fn check_tables(alloc: Global, tables: Tables) -> Result<Sound, RestartFault>
     ensures tables { IfOk result (λ sound. sound ≡ tables) }
@@ -71,7 +72,7 @@ pub fn check_tables(alloc: Global, tables: Tables) -> Result<Sound, RestartFault
 }
 
 impl Sound {
-    /// The tables and the condition of each query, in order. It takes no memory.
+    /// Returns the tables and the condition of each query, in order. It takes no memory.
     pub fn into_parts(self) -> (Tables, Vec<Cond>)
         ensures tables { result.0 ≡ self }
         ensures sound { damage_of self ≡ None }

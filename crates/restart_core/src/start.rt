@@ -1,12 +1,15 @@
+//! The beginning of a query's source.
 ghost use Rattle.std.specs.Prelude.{◌≡◌, ◌≤◌, drop, length};
 ghost use Rattle.restart_core.specs.Starts.{is_from_now, condition_text, start_in};
 
 use tap_base::{nth_word, skip_words};
 
-/// Whether a query's source is from now, and the place at which the text of its condition begins, in bytes from 0.
+/// How a query's source begins.
 #[derive(Clone, Copy, Debug, PartialEq, Eq)]
 pub struct Start {
+    /// Whether its first two words are FROM and NOW.
     pub from_now: bool,
+    /// The byte, from 0, at which the text of its condition begins.
     pub at: usize,
 }
 
@@ -19,8 +22,8 @@ fn is_from_now(source: &[u8]) -> bool
         && nth_word(source, 1).eq_ignore_ascii_case(b"NOW")
 }
 
-/// Cuts FROM NOW off the source of a query, where these are its first two words in any case. Words are the longest runs
-/// of bytes that are neither space nor tab. It takes no memory.
+/// Finds where the condition of a query's source begins: behind FROM NOW and the blanks after it, if these are its first two
+/// words in any case, else at its first byte. A word is a longest run of bytes other than space and tab. It takes no memory.
 #[tactic(auto, unfolding(crate::specs::Starts::condition_text))]
 pub fn cut_start(source: &[u8]) -> Start
     ensures value { result ≡ start_in source.now }

@@ -1,5 +1,6 @@
 -- The commands of a sample: two queries, messages that answer one another, notes and runs.
-use Rattle.std.specs.Prelude.{ℕ, zero, suc, pos, ◌+◌, ◌-◌, ◌*◌, ◌/◌, ◌%◌, List, [], ◌∷◌, ◌++◌, Bool, ◌&&◌, ◌==◌, nat_lt, codes, if◌then◌else◌}
+use Rattle.std.specs.Prelude.{ℕ, zero, suc, pos, ◌+◌, ◌-◌, ◌*◌, ◌/◌, ◌%◌, List, [], ◌∷◌, ◌++◌, Bool, ◌&&◌, ◌==◌}
+use Rattle.std.specs.Prelude.{nat_lt, codes, if◌then◌else◌}
 use Rattle.std.specs.Fmt.{decimal}
 use Rattle.mail_lines.specs.declared.block.Block.TheVariants.{Whole}
 use Rattle.script_lang.specs.Replies.{line}
@@ -21,12 +22,14 @@ draw i = state_after i / 65536
 
 -- the word of message i
 abbrev pub word_of : ℕ → List ℕ
-word_of drawn = if drawn % 4 == 0 then codes "alpha" else if drawn % 4 == 1 then codes "beta" else if drawn % 4 == 2 then codes "gamma" else codes "delta"
+word_of drawn =
+    if drawn % 4 == 0 then codes "alpha" else if drawn % 4 == 1 then codes "beta" else if drawn % 4 == 2 then codes "gamma" else codes "delta"
 
+-- the identifier of message i
 unfoldable pub message_id : ℕ → List ℕ
 message_id i = codes "<m" ++ decimal i ++ codes "@parc>"
 
--- does message i answer an earlier one? About a third of them do
+-- does message i answer an earlier one? About every third does
 unfoldable pub is_answer : ℕ → ℕ → Bool
 is_answer i drawn = nat_lt 1 i && drawn % 3 == 0
 
@@ -38,22 +41,25 @@ parent_of i drawn = drawn % (i - 1) + 1
 abbrev pub answer_line : ℕ → List ℕ
 answer_line j = line (codes "In-Reply-To: " ++ message_id j)
 
+-- the line that names the message that is answered, if one is
 abbrev pub parent_line : ℕ → ℕ → List ℕ
 parent_line i drawn = if is_answer i drawn then answer_line (parent_of i drawn) else []
 
 -- the text of message i, for which drawn is drawn
 unfoldable pub message_text : ℕ → ℕ → List ℕ
 message_text i drawn =
-    line (codes "From: user@parc") ++ line (codes "Message-ID: " ++ message_id i) ++ parent_line i drawn ++ line (codes "Subject: " ++ word_of drawn) ++ line [] ++ line (codes "about " ++ word_of drawn)
+    line (codes "From: user@parc") ++ line (codes "Message-ID: " ++ message_id i) ++ parent_line i drawn ++ line (codes "Subject: " ++ word_of drawn)
+    ++ line [] ++ line (codes "about " ++ word_of drawn)
 
+-- a run of each query
 abbrev pub both_runs : List Command
 both_runs = Run (codes "q1") ∷ Run (codes "q2") ∷ []
 
--- each fifth message gets a note
+-- the note on message i: each fifth message gets one
 abbrev pub note_after : ℕ → ℕ → List Command
 note_after i drawn = if i % 5 == 0 then AddNote i (codes "score") (pos (drawn % 10)) (codes "good") ∷ [] else []
 
--- and after each tenth both queries run
+-- the runs after message i: both queries run after each tenth message
 abbrev pub runs_after : ℕ → List Command
 runs_after i = if i % 10 == 0 then both_runs else []
 
@@ -61,7 +67,7 @@ runs_after i = if i % 10 == 0 then both_runs else []
 abbrev pub commands_of_message : ℕ → ℕ → List Command
 commands_of_message i drawn = At (decimal (1000 + 10 * i)) ∷ Mail (Whole (message_text i drawn)) ∷ note_after i drawn ++ runs_after i
 
--- those of the first n messages
+-- the commands of the first n messages
 abbrev pub commands_of_messages : ℕ → List Command
 commands_of_messages zero = []
 commands_of_messages (suc i) = commands_of_messages i ++ commands_of_message (suc i) (draw (suc i))

@@ -1,4 +1,4 @@
--- The lines that sum up what became of a sample.
+-- The lines that sum up a sample.
 use Rattle.std.specs.Prelude.{ℕ, List, ◌++◌, codes}
 use Rattle.std.specs.Fmt.{decimal}
 use Rattle.script_lang.specs.Replies.{line}

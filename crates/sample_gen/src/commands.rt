@@ -1,3 +1,4 @@
+//! The commands of a sample.
 ghost use Rattle.std.specs.Prelude.{◌≡◌, ◌≤◌, ◌<◌, ◌+◌, ◌*◌, ◌++◌, ◌∷◌, [], true, OnOk, IfOk};
 ghost use Rattle.std.specs.Fmt.{decimal};
 ghost use Rattle.std.specs.List.{list_all};
@@ -12,10 +13,10 @@ use script_lang::Command;
 use std::alloc::Global;
 use tap_base::{Memory, Rows, Text};
 
-/// The most messages of a sample.
+/// The most messages of a sample: few enough that each second and each document number of a sample fits.
 pub const SAMPLE_LIMIT: u32 = 100_000;
 
-// Appends a command that sets the moment.
+// Appends a command that sets the moment to a second.
 fn push_moment(alloc: Global, commands: &mut Rows<Command>, second: u32) -> Result<(), Memory>
     ensures { OnOk result (commands.new ≡ commands.old ++ Command.At (decimal second) ∷ []) }
 {
@@ -61,7 +62,7 @@ fn push_note(alloc: Global, commands: &mut Rows<Command>, i: u32, drawn: u32) ->
     })
 }
 
-// Appends the runs after message `i`, if there are some.
+// Appends the runs after message `i`, if it has any.
 fn push_runs_after(alloc: Global, commands: &mut Rows<Command>, i: u32) -> Result<(), Memory>
     ensures { OnOk result (commands.new ≡ commands.old ++ runs_after i) }
 {
@@ -87,7 +88,8 @@ fn push_message(
     push_runs_after(alloc, commands, i)
 }
 
-// Appends the commands of the first `n` messages.
+// Appends the commands of the first `n` messages. What is drawn for a message are the generator's upper bits, since the lower
+// ones of a linear congruential generator repeat soon.
 fn push_messages(alloc: Global, commands: &mut Rows<Command>, n: u32) -> Result<(), Memory>
     requires { n ≤ 100000 }
     ensures { OnOk result (commands.new ≡ commands.old ++ commands_of_messages n) }
@@ -102,7 +104,7 @@ fn push_messages(alloc: Global, commands: &mut Rows<Command>, n: u32) -> Result<
     Ok(())
 }
 
-// The user and the two queries.
+// Returns the first commands: the user and the two queries.
 fn open_sample(alloc: Global) -> Result<Rows<Command>, Memory>
     ensures { IfOk result (λ commands. commands ≡ opening) }
 {
@@ -119,8 +121,8 @@ fn open_sample(alloc: Global) -> Result<Rows<Command>, Memory>
     Ok(commands)
 }
 
-/// The commands of a sample with `n` messages, which answer one another, with notes, two queries and their runs. `Memory`
-/// comes only for want of memory.
+/// Returns the commands of a sample with `n` messages, some of which answer earlier ones, with notes, two queries and their
+/// runs. The same `n` gives the same commands. `Memory` means out of memory.
 pub fn sample(alloc: Global, n: u32) -> Result<Rows<Command>, Memory>
     requires some { 1 ≤ n }
     requires few { n ≤ SAMPLE_LIMIT }

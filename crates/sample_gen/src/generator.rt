@@ -1,7 +1,9 @@
+//! A generator of numbers.
 ghost use Rattle.std.specs.Prelude.{◌≡◌};
 ghost use Rattle.sample_gen.specs.Samples.{next_state};
 
-/// The next number of the generator, which is linear and congruential.
+/// Returns the number after `x` of a linear congruential generator, with the multiplier, increment and modulus of ISO C's
+/// example of `rand`.
 pub fn next_state(x: u32) -> u32
     ensures { result ≡ next_state x }
 {

@@ -1,4 +1,4 @@
-//! A sample: commands that any number of messages make, and the lines that sum up what became of them.
+//! A sample: the commands that a number of messages give, and the lines that sum up their replies.
 #![tactic(auto)]
 
 mod commands;

@@ -1,3 +1,4 @@
+//! The messages of a sample.
 ghost use Rattle.std.specs.Prelude.{◌≡◌, ◌<◌, ◌++◌, true, OnOk, IfOk};
 ghost use Rattle.script_lang.specs.Replies.{line};
 ghost use Rattle.sample_gen.specs.Samples.{word_of, message_id, is_answer, parent_line, message_text};
@@ -5,7 +6,7 @@ ghost use Rattle.sample_gen.specs.Samples.{word_of, message_id, is_answer, paren
 use std::alloc::Global;
 use tap_base::{Memory, Text};
 
-// The word of a message for which `drawn` is drawn.
+// Returns the word of a message for which `drawn` is drawn.
 fn word_of(drawn: u32) -> &'static [u8]
     ensures { result.now ≡ word_of drawn }
 {
@@ -26,7 +27,7 @@ fn push_line(into: &mut Text, name: &[u8], value: &[u8]) -> Result<(), Memory>
     into.push_slice(b"\n")
 }
 
-// Appends the name of message `i`.
+// Appends the identifier of message `i` (RFC 5322 3.6.4).
 #[tactic(auto, unfolding(crate::specs::Samples::message_id))]
 fn push_id(alloc: Global, into: &mut Text, i: u32) -> Result<(), Memory>
     ensures { OnOk result (into.new ≡ into.old ++ message_id i) }
@@ -37,7 +38,7 @@ fn push_id(alloc: Global, into: &mut Text, i: u32) -> Result<(), Memory>
     into.push_slice(b"@parc>")
 }
 
-// Appends a line of a name and the name of message `i`.
+// Appends a line of a name and the identifier of message `i`.
 fn push_id_line(alloc: Global, into: &mut Text, name: &[u8], i: u32) -> Result<(), Memory>
     ensures { OnOk result (into.new ≡ into.old ++ line (name.now ++ message_id i)) }
 {
@@ -55,7 +56,7 @@ fn is_answer(i: u32, drawn: u32) -> bool
     i > 1 && drawn % 3 == 0
 }
 
-// Appends the line that says which message is answered, if one is.
+// Appends the line that names the message that is answered, if one is.
 fn push_parent(alloc: Global, into: &mut Text, i: u32, drawn: u32) -> Result<(), Memory>
     ensures { OnOk result (into.new ≡ into.old ++ parent_line i drawn) }
 {
@@ -65,7 +66,7 @@ fn push_parent(alloc: Global, into: &mut Text, i: u32, drawn: u32) -> Result<(),
     push_id_line(alloc, into, b"In-Reply-To: ", drawn % (i - 1) + 1)
 }
 
-/// The text of message `i`, for which `drawn` is drawn.
+/// Returns the text of message `i`, for which `drawn` is drawn. `Memory` means out of memory.
 #[tactic(auto, unfolding(crate::specs::Samples::message_text))]
 pub fn message_text(alloc: Global, i: u32, drawn: u32) -> Result<Text, Memory>
     ensures { IfOk result (λ text. text ≡ message_text i drawn) }

@@ -1,3 +1,4 @@
+//! The lines that sum up a sample.
 ghost use Rattle.std.specs.Prelude.{◌≡◌, ◌≤◌, ◌+◌, ◌++◌, length, codes};
 ghost use Rattle.std.specs.Fmt.{decimal};
 ghost use Rattle.arrayvec.specs.ArrayVec.{array_vec_len};
@@ -5,17 +6,21 @@ ghost use Rattle.script_lang.specs.Replies.{line};
 ghost use Rattle.sample_gen.specs.Summaries.{count_line, summary_lines};
 
 use arrayvec::ArrayVec;
-use itoa::{Buffer, Integer};
+use itoa::Integer;
+use script_lang::{push_bytes, push_number};
 
-/// What became of a sample: its messages and commands, the commands that were refused, the documents and notes that are
-/// kept at the end, and what all its runs delivered together.
+/// The counts of a sample.
 #[derive(Clone, Copy, Debug, PartialEq, Eq)]
 pub struct Summary {
     pub messages: u32,
     pub commands: usize,
+    /// The commands that were refused.
     pub refused: usize,
+    /// The documents that are stored at the end.
     pub documents: u32,
+    /// The notes that are stored at the end.
     pub notes: u32,
+    /// The deliveries of all runs together.
     pub delivered: u64,
 }
 
@@ -26,14 +31,13 @@ fn push_count<I: Integer>(buffer: &mut ArrayVec<u8, 512>, name: &[u8], n: I)
     ensures bytes { buffer.new.items ≡ buffer.old.items ++ line (name.now ++ I.text n) }
     ensures short { array_vec_len buffer.new ≤ array_vec_len buffer.old + 51 }
 {
-    let mut digits = Buffer::new();
-    let _name = buffer.try_extend_from_slice(name);
-    let _number = buffer.try_extend_from_slice(digits.format(n).as_bytes());
-    let _end = buffer.try_extend_from_slice(b"\n");
+    push_bytes(buffer, name);
+    push_number(buffer, n);
+    push_bytes(buffer, b"\n");
 }
 
 impl Summary {
-    /// The six lines of the summary. It takes no memory.
+    /// Returns the six lines of the summary. It takes no memory.
     pub fn lines(&self) -> ArrayVec<u8, 512>
         ensures { result.items ≡ summary_lines self.now }
     {

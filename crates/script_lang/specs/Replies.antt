@@ -1,5 +1,6 @@
 -- The bytes of each reply.
-use Rattle.std.specs.Prelude.{ℕ, ℤ, ◌≡◌, ◌≤◌, ◌-◌, ◌+◌, ◌^◌, min, List, [], ◌∷◌, ◌++◌, length, take, Bool, true, false, Option, Some, None, codes}
+use Rattle.std.specs.Prelude.{ℕ, ℤ, ◌≡◌, ◌≤◌, ◌-◌, ◌+◌, ◌^◌, min, List, [], ◌∷◌, ◌++◌, length, take, Bool, true, false}
+use Rattle.std.specs.Prelude.{Option, Some, None, codes}
 use Rattle.std.specs.List.{flat_map, All}
 use Rattle.std.specs.Fmt.{decimal, signed_decimal}
 use Rattle.std.specs.Io.KnownBytes.{Appends}
@@ -16,13 +17,16 @@ use Rattle.tql_parse.specs.declared.fault.ParseFault.TheVariants.{Unexpected, En
 use Rattle.tql_types.specs.declared.fault.TypeFault.{TypeFault}
 use Rattle.tql_types.specs.declared.fault.TypeFault.TheVariants.{NoVar, NoField, Clash, Shadow, BadTime, BigSpan, ManyVars, ManyNodes, Memory as TypeMemory}
 use Rattle.script_lang.specs.declared.refusal.LimitName.{LimitName}
-use Rattle.script_lang.specs.declared.refusal.LimitName.TheVariants.{Line, Message, Block, Note, Documents, Notes, Queries, AllQueries, Users, Filters, Runs, Picks, Store}
+use Rattle.script_lang.specs.declared.refusal.LimitName.TheVariants.{Line, Message, Block, Note, Documents, Notes, Queries, AllQueries, Users, Filters, Runs}
+use Rattle.script_lang.specs.declared.refusal.LimitName.TheVariants.{Picks, Store}
 use Rattle.script_lang.specs.declared.refusal.Refusal.{Refusal}
-use Rattle.script_lang.specs.declared.refusal.Refusal.TheVariants.{Unknown, Form, Cut, NotBuilt, BadMoment, Backwards, NoMoment, NoUser, BadName, Taken, NoQuery, NoDoc, Lex, Parse, Types, NotOver, Limit, Rule, ManyRules, Memory, NoRun}
+use Rattle.script_lang.specs.declared.refusal.Refusal.TheVariants.{Unknown, Form, Cut, NotBuilt, BadMoment, Backwards, NoMoment, NoUser, BadName, Taken}
+use Rattle.script_lang.specs.declared.refusal.Refusal.TheVariants.{NoQuery, NoDoc, Lex, Parse, Types, NotOver, Limit, Rule, ManyRules, Memory, NoRun}
 use Rattle.script_lang.specs.declared.reply.Reply.{Reply}
-use Rattle.script_lang.specs.declared.reply.Reply.TheVariants.{At, AsUser, OneDoc, Docs, OneNote, Defined, Ran, BoxOf, ListOf, Filter, Explain, Asked, Wake, ScoresOf, DigestOf, No}
+use Rattle.script_lang.specs.declared.reply.Reply.TheVariants.{At, AsUser, OneDoc, Docs, OneNote, Defined, Ran, BoxOf, ListOf, Filter, Explain, Asked, Wake}
+use Rattle.script_lang.specs.declared.reply.Reply.TheVariants.{ScoresOf, DigestOf, No}
 
--- a line
+-- a line: a text and an LF
 abbrev pub line : List ℕ → List ℕ
 line text = text ++ 10 ∷ []
 
@@ -30,21 +34,27 @@ line text = text ++ 10 ∷ []
 abbrev pub head : ℕ → List ℕ → List ℕ
 head n name = codes "ok " ++ decimal n ++ codes " " ++ name ++ codes " "
 
+-- the line of a document that a run delivers
 abbrev pub hit_line : Hit → List ℕ
 hit_line hit = line (codes "doc " ++ decimal hit.doc.0 ++ codes " first " ++ signed_decimal hit.first)
 
+-- a document of a box, with its first second and its run
 abbrev pub entry_text : Entry → List ℕ
 entry_text entry = codes "doc " ++ decimal entry.doc.0 ++ codes " first " ++ signed_decimal entry.first ++ codes " run " ++ decimal entry.run
 
+-- the line of a document of a box
 abbrev pub entry_line : Entry → List ℕ
 entry_line entry = line (entry_text entry)
 
+-- the line of a document of a list, with its priority and its class
 abbrev pub listed_line : Listed → List ℕ
 listed_line row = line (entry_text row.entry ++ codes " priority " ++ decimal row.priority ++ codes " class " ++ row.class)
 
+-- the line of a document that a condition gives
 abbrev pub doc_line : DocNum → List ℕ
 doc_line doc = line (codes "doc " ++ decimal doc.0)
 
+-- the line of the votes on a document
 abbrev pub score_line : Score → List ℕ
 score_line row = line (codes "doc " ++ decimal row.doc.0 ++ codes " voters " ++ decimal row.voters ++ codes " sum " ++ signed_decimal row.sum)
 
@@ -64,7 +74,7 @@ limit_words Runs = codes "no 16 runs"
 limit_words Picks = codes "no 16 picks"
 limit_words Store = codes "no 16 store"
 
--- the text of a fault; a fault that is want of memory is the refusal for that
+-- the text of a fault of tokens; out of memory has one text wherever it comes
 abbrev pub lex_text : LexFault → List ℕ
 lex_text (BadByte place) = codes "no 12 byte " ++ decimal place
 lex_text (OpenString place) = codes "no 12 string " ++ decimal place
@@ -72,12 +82,14 @@ lex_text (BigNumber place) = codes "no 12 number " ++ decimal place
 lex_text (TooLong len) = codes "no 12 long " ++ decimal len
 lex_text LexMemory = codes "no 18"
 
+-- the text of a fault of syntax
 abbrev pub parse_text : ParseFault → List ℕ
 parse_text (Unexpected place) = codes "no 13 token " ++ decimal place
 parse_text Ended = codes "no 13 ended"
 parse_text (Deep place) = codes "no 13 deep " ++ decimal place
 parse_text ParseMemory = codes "no 18"
 
+-- the text of a fault of types
 abbrev pub type_text : TypeFault → List ℕ
 type_text (NoVar place) = codes "no 14 variable " ++ decimal place
 type_text (NoField place) = codes "no 14 field " ++ decimal place
@@ -113,7 +125,7 @@ refusal_text ManyRules = codes "no 17 many"
 refusal_text Memory = codes "no 18"
 refusal_text (NoRun runs) = codes "no 19 " ++ decimal runs
 
--- a moment at which a run is next worth while
+-- the moment at which a run is next worthwhile
 abbrev pub moment_text : Option ℤ → List ℕ
 moment_text None = codes "never"
 moment_text (Some moment) = signed_decimal moment
@@ -137,7 +149,7 @@ first_text (ScoresOf kind rows) = head (length rows) (codes "scores") ++ kind
 first_text (DigestOf name ordinal lines) = head (length lines) (codes "digest") ++ name ++ codes " " ++ decimal ordinal
 first_text (No refusal) = refusal_text refusal
 
--- the lines that follow
+-- the lines that follow the first
 abbrev pub rest_lines : Reply → List ℕ
 rest_lines (Ran ordinal moment hits) = flat_map hit_line hits
 rest_lines (BoxOf name entries) = flat_map entry_line entries
@@ -165,10 +177,11 @@ is_accepted reply = true
 abbrev pub reply_bytes : Reply → List ℕ
 reply_bytes reply = line (first_text reply) ++ rest_lines reply
 
--- a name of a reply is not longer than a name may be
+-- a name has at most 32 bytes
 abbrev pub IsShort : List ℕ → Type 0
 IsShort name = length name ≤ 32
 
+-- each name in the reply is short
 abbrev pub HasShortNames : Reply → Type 0
 HasShortNames (AsUser name) = IsShort name
 HasShortNames (Defined name) = IsShort name
@@ -187,11 +200,11 @@ HasShortNames (Filter rules) = Unit {0}
 HasShortNames (Asked moment docs) = Unit {0}
 HasShortNames (No refusal) = Unit {0}
 
--- a count of 64 bits stands still at its end
+-- a count of 64 bits, which stays at its greatest value
 abbrev pub counted : ℕ → ℕ
 counted n = min n (2 ^ 64 - 1)
 
--- a failed put appended the first n of these bytes, and its count is of those and of `start` bytes before them
+-- a failed put appended the first n of these bytes; its count is of these n and the `start` bytes before them
 pub record TookSome (start : ℕ) (old new : Option (List ℕ)) (bytes : List ℕ) (failed : PutFailed) : Type 0 where
   pub n : ℕ
   pub within : n ≤ length bytes

@@ -1,10 +1,14 @@
+//! The lines of replies.
 ghost use Rattle.std.specs.Prelude.{◌≡◌, ◌≤◌, ◌+◌, ◌++◌, List, [], ◌∷◌, ℕ, Option, length, codes};
 ghost use Rattle.std.specs.Fmt.{decimal, signed_decimal};
 ghost use Rattle.arrayvec.specs.ArrayVec.{array_vec_len};
-ghost use Rattle.script_lang.specs.Replies.{head, line, hit_line, entry_text, entry_line, listed_line, doc_line, score_line, IsShort, lex_text, parse_text, type_text, refusal_text, limit_words, moment_text, first_text};
+ghost use Rattle.script_lang.specs.Replies.{head, line, hit_line, entry_text, entry_line, listed_line, doc_line, score_line, IsShort, lex_text, parse_text};
+ghost use Rattle.script_lang.specs.Replies.{type_text, refusal_text, limit_words, moment_text, first_text};
 ghost use Rattle.script_lang.specs.declared.reply.Reply.{Reply};
 
-use crate::buffer::{head_line, head_name, head_number, number_line, push, push_number, text_line};
+use crate::buffer::{
+    head_line, head_name, head_number, number_line, push_bytes, push_number, text_line,
+};
 use crate::refusal::{LimitName, Refusal};
 use crate::score::Score;
 use arrayvec::ArrayVec;
@@ -14,10 +18,12 @@ use tql_lex::LexFault;
 use tql_parse::ParseFault;
 use tql_types::TypeFault;
 
-/// A row that is shown by one line.
+/// A row that one line shows.
 pub trait RowLine {
+    // The line, with its LF.
     ghost line: { Self → List ℕ };
 
+    /// Returns the line that shows the row.
     fn show(&self) -> ArrayVec<u8, 512>
         ensures { result.items ≡ line self.now };
 }
@@ -29,26 +35,26 @@ impl RowLine for Hit {
         ensures { result.items ≡ hit_line self.now }
     {
         let mut buffer = ArrayVec::new();
-        push(&mut buffer, b"doc ");
+        push_bytes(&mut buffer, b"doc ");
         push_number(&mut buffer, self.doc.0);
-        push(&mut buffer, b" first ");
+        push_bytes(&mut buffer, b" first ");
         push_number(&mut buffer, self.first);
-        push(&mut buffer, b"\n");
+        push_bytes(&mut buffer, b"\n");
         buffer
     }
 }
 
-// The text of an entry.
+// Returns the text of an entry, without an LF.
 fn entry_buffer(entry: &Entry) -> ArrayVec<u8, 512>
     ensures bytes { result.items ≡ entry_text entry.now }
     ensures short { array_vec_len result ≤ 140 }
 {
     let mut buffer = ArrayVec::new();
-    push(&mut buffer, b"doc ");
+    push_bytes(&mut buffer, b"doc ");
     push_number(&mut buffer, entry.doc.0);
-    push(&mut buffer, b" first ");
+    push_bytes(&mut buffer, b" first ");
     push_number(&mut buffer, entry.first);
-    push(&mut buffer, b" run ");
+    push_bytes(&mut buffer, b" run ");
     push_number(&mut buffer, entry.run);
     buffer
 }
@@ -60,7 +66,7 @@ impl RowLine for Entry {
         ensures { result.items ≡ entry_line self.now }
     {
         let mut buffer = entry_buffer(self);
-        push(&mut buffer, b"\n");
+        push_bytes(&mut buffer, b"\n");
         buffer
     }
 }
@@ -82,31 +88,32 @@ impl RowLine for Score {
         ensures { result.items ≡ score_line self.now }
     {
         let mut buffer = ArrayVec::new();
-        push(&mut buffer, b"doc ");
+        push_bytes(&mut buffer, b"doc ");
         push_number(&mut buffer, self.doc.0);
-        push(&mut buffer, b" voters ");
+        push_bytes(&mut buffer, b" voters ");
         push_number(&mut buffer, self.voters);
-        push(&mut buffer, b" sum ");
+        push_bytes(&mut buffer, b" sum ");
         push_number(&mut buffer, self.sum);
-        push(&mut buffer, b"\n");
+        push_bytes(&mut buffer, b"\n");
         buffer
     }
 }
 
-/// The line of a listed document.
+/// Returns the line of a listed document.
 pub fn listed(row: &Listed) -> ArrayVec<u8, 512>
     requires { IsShort row.now.class }
     ensures { result.items ≡ listed_line row.now }
 {
     let mut buffer = entry_buffer(&row.entry);
-    push(&mut buffer, b" priority ");
+    push_bytes(&mut buffer, b" priority ");
     push_number(&mut buffer, row.priority);
-    push(&mut buffer, b" class ");
-    push(&mut buffer, row.class.as_slice());
-    push(&mut buffer, b"\n");
+    push_bytes(&mut buffer, b" class ");
+    push_bytes(&mut buffer, row.class.as_slice());
+    push_bytes(&mut buffer, b"\n");
     buffer
 }
 
+// Returns the line of a fault of tokens.
 fn lex_line(fault: LexFault) -> ArrayVec<u8, 512>
     ensures { result.items ≡ line (lex_text fault) }
 {
@@ -119,6 +126,7 @@ fn lex_line(fault: LexFault) -> ArrayVec<u8, 512>
     }
 }
 
+// Returns the line of a fault of syntax.
 fn parse_line(fault: ParseFault) -> ArrayVec<u8, 512>
     ensures { result.items ≡ line (parse_text fault) }
 {
@@ -130,6 +138,7 @@ fn parse_line(fault: ParseFault) -> ArrayVec<u8, 512>
     }
 }
 
+// Returns the line of a fault of types.
 fn type_line(fault: TypeFault) -> ArrayVec<u8, 512>
     ensures { result.items ≡ line (type_text fault) }
 {
@@ -146,6 +155,7 @@ fn type_line(fault: TypeFault) -> ArrayVec<u8, 512>
     }
 }
 
+// Returns the line of a limit that would be passed.
 fn limit_line(name: LimitName) -> ArrayVec<u8, 512>
     ensures { result.items ≡ line (limit_words name) }
 {
@@ -166,20 +176,20 @@ fn limit_line(name: LimitName) -> ArrayVec<u8, 512>
     }
 }
 
-// The line of a fault at a place of a rule.
+// Returns the line of a fault at a place of a rule.
 fn rule_line(number: u32, place: u32) -> ArrayVec<u8, 512>
     ensures { result.items ≡ line (codes "no 17 " ++ decimal number ++ codes " " ++ decimal place) }
 {
     let mut buffer = ArrayVec::new();
-    push(&mut buffer, b"no 17 ");
+    push_bytes(&mut buffer, b"no 17 ");
     push_number(&mut buffer, number);
-    push(&mut buffer, b" ");
+    push_bytes(&mut buffer, b" ");
     push_number(&mut buffer, place);
-    push(&mut buffer, b"\n");
+    push_bytes(&mut buffer, b"\n");
     buffer
 }
 
-/// The line of a refusal.
+/// Returns the line of a refusal.
 pub fn refusal_line(refusal: Refusal) -> ArrayVec<u8, 512>
     ensures { result.items ≡ line (refusal_text refusal) }
 {
@@ -208,55 +218,55 @@ pub fn refusal_line(refusal: Refusal) -> ArrayVec<u8, 512>
     }
 }
 
-/// The first line of added messages.
+/// Returns the first line of the reply to `mbox`.
 pub fn docs_head(count: u32, first: u64) -> ArrayVec<u8, 512>
     ensures { result.items ≡ line (head 0 (codes "docs") ++ decimal count ++ codes " " ++ decimal first) }
 {
     let mut buffer = head_line(0, b"docs");
     push_number(&mut buffer, count);
-    push(&mut buffer, b" ");
+    push_bytes(&mut buffer, b" ");
     push_number(&mut buffer, first);
-    push(&mut buffer, b"\n");
+    push_bytes(&mut buffer, b"\n");
     buffer
 }
 
-/// The first line of a run.
+/// Returns the first line of the reply to `run`.
 pub fn run_head(n: usize, ordinal: u32, moment: i64) -> ArrayVec<u8, 512>
     ensures { result.items ≡ line (head n (codes "run") ++ decimal ordinal ++ codes " before " ++ signed_decimal moment) }
 {
     let mut buffer = head_line(n, b"run");
     push_number(&mut buffer, ordinal);
-    push(&mut buffer, b" before ");
+    push_bytes(&mut buffer, b" before ");
     push_number(&mut buffer, moment);
-    push(&mut buffer, b"\n");
+    push_bytes(&mut buffer, b"\n");
     buffer
 }
 
-/// The first line of a planned run.
+/// Returns the first line of the reply to `wake`.
 pub fn wake_head(name: &[u8], moment: Option<i64>) -> ArrayVec<u8, 512>
     requires { IsShort name.now }
     ensures { result.items ≡ line (head 0 (codes "wake") ++ name.now ++ codes " " ++ moment_text moment) }
 {
     let mut buffer = head_line(0, b"wake");
-    push(&mut buffer, name);
-    push(&mut buffer, b" ");
+    push_bytes(&mut buffer, name);
+    push_bytes(&mut buffer, b" ");
     match moment {
         Some(moment) => push_number(&mut buffer, moment),
-        None => push(&mut buffer, b"never"),
+        None => push_bytes(&mut buffer, b"never"),
     }
-    push(&mut buffer, b"\n");
+    push_bytes(&mut buffer, b"\n");
     buffer
 }
 
-/// The first line of a digest.
+/// Returns the first line of the reply to `digest`.
 pub fn digest_head(n: usize, name: &[u8], ordinal: u32) -> ArrayVec<u8, 512>
     requires { IsShort name.now }
     ensures { result.items ≡ line (head n (codes "digest") ++ name.now ++ codes " " ++ decimal ordinal) }
 {
     let mut buffer = head_line(n, b"digest");
-    push(&mut buffer, name);
-    push(&mut buffer, b" ");
+    push_bytes(&mut buffer, name);
+    push_bytes(&mut buffer, b" ");
     push_number(&mut buffer, ordinal);
-    push(&mut buffer, b"\n");
+    push_bytes(&mut buffer, b"\n");
     buffer
 }

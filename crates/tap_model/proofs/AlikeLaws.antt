@@ -14,7 +14,6 @@ use Rattle.script_lang.specs.declared.refusal.Refusal.TheVariants.{NoQuery, Take
 use Rattle.script_lang.specs.declared.refusal.LimitName.{LimitName}
 use Rattle.script_lang.specs.declared.refusal.LimitName.TheVariants.{Queries, AllQueries, Users, Filters, Runs, Picks, Store}
 use Rattle.restart_core.specs.Starts.{stored_source}
-use Rattle.tap_model.specs.declared.limits.TheConstants.{USER_QUERY_LIMIT, QUERY_LIMIT, USER_LIMIT, FILTER_ROW_LIMIT, RUN_LIMIT, PICK_LIMIT, STORE_LIMIT}
 use Rattle.tap_model.specs.declared.session.Session.{Session}
 use Rattle.tap_model.specs.Sessions.{or_empty, user_of, last_moment, greatest_moment}
 use Rattle.tap_model.specs.Queries.{query_named}
@@ -23,6 +22,7 @@ use Rattle.tap_model.specs.Verdicts.{first_refusal, verdict, checks, missing, re
 use Rattle.tap_model.specs.Privacy.{is_shared, is_user, concerns, owned_queries}
 use Rattle.tap_model.proofs.ViewLaws.{Core, core_of, cores, source_in, named-core}
 use Rattle.tap_model.proofs.CoreLaws.{same-text}
+use Rattle.tap_model.specs.Limits.{filter_limit, pick_limit, query_limit, run_limit, store_limit, user_limit, user_query_limit}
 
 -- the refusal, if there is one, is shared
 abbrev pub May : Option Refusal → Type 0
@@ -67,11 +67,11 @@ twin tables other = record { docs = tables.docs; notes = tables.notes; queries =
 both-may : (name : LimitName) (limit count count' more more' : ℕ) → is_shared (Limit name) ≡ true → May (limit_refusal name limit count more) × May (limit_refusal name limit count' more')
 both-may name limit count count' more more' shared = (may-pass name limit count more shared, may-pass name limit count' more' shared)
 
-store-may : (t o : Tables) (more : ℕ) → May (limit_refusal Store STORE_LIMIT (stored_bytes t) more) × May (limit_refusal Store STORE_LIMIT (stored_bytes (twin t o)) more)
-store-may t o more = both-may Store STORE_LIMIT (stored_bytes t) (stored_bytes (twin t o)) more more refl
+store-may : (t o : Tables) (more : ℕ) → May (limit_refusal Store store_limit (stored_bytes t) more) × May (limit_refusal Store store_limit (stored_bytes (twin t o)) more)
+store-may t o more = both-may Store store_limit (stored_bytes t) (stored_bytes (twin t o)) more more refl
 
-users-may : (user : List ℕ) (t o : Tables) → May (limit_refusal Users USER_LIMIT (different (owners_in t)) (new_users user t)) × May (limit_refusal Users USER_LIMIT (different (owners_in (twin t o))) (new_users user (twin t o)))
-users-may user t o = both-may Users USER_LIMIT (different (owners_in t)) (different (owners_in (twin t o))) (new_users user t) (new_users user (twin t o)) refl
+users-may : (user : List ℕ) (t o : Tables) → May (limit_refusal Users user_limit (different (owners_in t)) (new_users user t)) × May (limit_refusal Users user_limit (different (owners_in (twin t o))) (new_users user (twin t o)))
+users-may user t o = both-may Users user_limit (different (owners_in t)) (different (owners_in (twin t o))) (new_users user t) (new_users user (twin t o)) refl
 
 -- what the user sees of two tables with the same documents and notes is the same
 pub record AreTwins (user : List ℕ) (tables other : Tables) : Type 0 where
@@ -130,13 +130,13 @@ checks-alike (Mbox block) user s t o m at by twins = (inl refl, (inl refl, (inl 
 checks-alike (AddNote doc kind value text) user s t o m at by twins = (inl refl, (inl refl, (inl refl, (inl refl, (inl refl, (inl refl, (inr (store-may t o (length text)), tt)))))))
 checks-alike (Define name source) user s t o m at by twins =
     let own = own-twins user s t o by twins in
-    (inl refl, (inl refl, (inl refl, (inl (taken-same s name t o own), (inl refl, (inl (ap (λ n. limit_refusal Queries USER_QUERY_LIMIT n 1) (count-same (user_of s) t o own)), (inr (both-may AllQueries QUERY_LIMIT (length t.queries) (length o.queries) 1 1 refl), (inr (users-may (user_of s) t o), (inr (store-may t o (length (stored_source source))), tt)))))))))
+    (inl refl, (inl refl, (inl refl, (inl (taken-same s name t o own), (inl refl, (inl (ap (λ n. limit_refusal Queries user_query_limit n 1) (count-same (user_of s) t o own)), (inr (both-may AllQueries query_limit (length t.queries) (length o.queries) 1 1 refl), (inr (users-may (user_of s) t o), (inr (store-may t o (length (stored_source source))), tt)))))))))
 checks-alike (Run name) user s t o m at by twins =
     let own = own-twins user s t o by twins in
-    (inl refl, (inl refl, (inl refl, (inl (missing-same s name t o own), (inr (both-may Runs RUN_LIMIT (length t.runs) (length o.runs) 1 1 refl), (inr (both-may Picks PICK_LIMIT (length t.picks) (length o.picks) (delivers s name t) (delivers s name (twin t o)) refl), tt))))))
+    (inl refl, (inl refl, (inl refl, (inl (missing-same s name t o own), (inr (both-may Runs run_limit (length t.runs) (length o.runs) 1 1 refl), (inr (both-may Picks pick_limit (length t.picks) (length o.picks) (delivers s name t) (delivers s name (twin t o)) refl), tt))))))
 checks-alike (BoxOf name) user s t o m at by twins = (inl refl, (inl refl, (inl (missing-same s name t o (own-twins user s t o by twins)), tt)))
 checks-alike (ListOf name) user s t o m at by twins = (inl refl, (inl refl, (inl (missing-same s name t o (own-twins user s t o by twins)), tt)))
-checks-alike (Filter block) user s t o m at by twins = (inl refl, (inl refl, (inl refl, (inr (users-may (user_of s) t o), (inr (both-may Filters FILTER_ROW_LIMIT (length t.filters) (length o.filters) 1 1 refl), (inr (store-may t o (length (text_of block))), (inl refl, tt)))))))
+checks-alike (Filter block) user s t o m at by twins = (inl refl, (inl refl, (inl refl, (inr (users-may (user_of s) t o), (inr (both-may Filters filter_limit (length t.filters) (length o.filters) 1 1 refl), (inr (store-may t o (length (text_of block))), (inl refl, tt)))))))
 checks-alike (Explain name) user s t o m at by twins = (inl refl, (inl refl, (inl (missing-same s name t o (own-twins user s t o by twins)), tt)))
 checks-alike (Ask moment source) user s t o m at by twins = (inl refl, (inl refl, (inl refl, (inl refl, tt))))
 checks-alike (Wake name) user s t o m at by twins = (inl refl, tt)

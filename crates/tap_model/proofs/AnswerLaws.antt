@@ -1,17 +1,12 @@
 -- What is found among rows, and what follows of a verdict.
 use Rattle.std.proofs.Common.{◌≡◌, ◌∙◌, sym, refl, ap, List, [], ◌∷◌, Option, Some, None, Bool, true, false, inl, inr, if◌then◌else◌}
 use Rattle.std.specs.Prelude.{find}
-use Rattle.tap_rows.specs.declared.tables.Tables.{Tables}
 use Rattle.tap_rows.specs.declared.rows.QueryRow.{QueryRow}
 use Rattle.tap_rows.specs.Kept.{In, IsOfTheSecond}
 use Rattle.tql_core.proofs.OfTheSecond.{of-the-second}
 use Rattle.script_lang.specs.declared.refusal.Refusal.{Refusal}
-use Rattle.script_lang.specs.declared.command.Command.{Command}
-use Rattle.tap_model.specs.declared.session.Session.{Session}
 use Rattle.tap_model.specs.Queries.{condition_by, truth_of}
 use Rattle.tap_model.specs.Verdicts.{first_refusal, verdict}
-use Rattle.tap_model.specs.Replies.{answer_of, answer_by, accepted, tables_after}
-use Rattle.tap_model.specs.Stories.{Follows}
 
 pub some-none : (x : Refusal) → Some x ≡ None → ⊥
 some-none x e = cc
@@ -29,16 +24,6 @@ find-in p (x ∷ qs) q e = go (p x) refl (find-in p qs q) where
   go : (b : Bool) → p x ≡ b → (find p qs ≡ Some q → In q qs) → In q (x ∷ qs)
   go true y rest = inl (sym (some-row x q (sym (ap (λ b. if b then Some x else find p qs) y) ∙ e)))
   go false n rest = inr (rest (sym (ap (λ b. if b then Some x else find p qs) n) ∙ e))
-
--- what isn't refused is accepted
-pub follows-accepted : (t : Tables) (s : Session) (c : Command) → verdict c s t ≡ None → Follows t s c (accepted c s t).reply (tables_after (accepted c s t).change t) (accepted c s t).session
-follows-accepted t s c none =
-    let is : answer_of c s t ≡ accepted c s t = ap (λ v. answer_by v c s t) none in
-    record {
-      reply_is = sym (ap (λ a. a.reply) is);
-      tables_are = sym (ap (λ a. tables_after a.change t) is);
-      session_is = sym (ap (λ a. a.session) is);
-    }
 
 pub second-none : (x y : Option Refusal) (rest : List (Option Refusal)) → first_refusal (x ∷ y ∷ rest) ≡ None → y ≡ None
 second-none None None rest e = refl

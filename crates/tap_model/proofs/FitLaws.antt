@@ -19,7 +19,6 @@ use Rattle.tap_rows.specs.Kept.{Each, In, IsBy}
 use Rattle.tap_rows.proofs.LaterLaws.{each-map}
 use Rattle.mail_lines.specs.declared.block.Block.{Block}
 use Rattle.mail_lines.specs.declared.block.Block.TheVariants.{Whole, Long}
-use Rattle.script_lang.specs.declared.state.TheConstants.{MESSAGE_LIMIT}
 use Rattle.script_lang.specs.declared.command.Command.{Command}
 use Rattle.script_lang.specs.declared.command.Command.TheVariants.{At, AsUser, Mail, Mbox, AddNote, Define, Run, BoxOf, ListOf, Filter, Explain, Ask, Wake, ScoresOf, DigestOf, Bad}
 use Rattle.script_lang.specs.declared.refusal.Refusal.{Refusal}
@@ -36,6 +35,7 @@ use Rattle.tap_model.proofs.AnswerLaws.{some-none, find-in}
 use Rattle.tap_model.proofs.HeldLaws.{Held, moment_or_zero-by, now-at}
 use Rattle.tap_model.proofs.RowLaws.{some-same, low-by, row-within}
 use Rattle.tap_model.proofs.RunFits.{run-fits}
+use Rattle.tap_model.specs.Limits.{message_limit}
 
 -- no check refuses
 pub all-none : (checks : List (Option Refusal)) → first_refusal checks ≡ None → Each (λ check. check ≡ None) checks
@@ -96,7 +96,7 @@ made tables this change fit e = subst (λ change. fits tables change ≡ true) (
 docs-fit : (place : ℕ) (low m : ℤ) (texts : List (List ℕ)) → low ≤ℤ m → m ≤ℤ pos LAST_MOMENT → are_short texts ≡ true → docs_stand place low (docs_from place m texts) ≡ true
 docs-fit place low m [] le last short = refl
 docs-fit place low m (text ∷ texts) le last short =
-    let both = and_parts (nat_le (length text) MESSAGE_LIMIT) (are_short texts) short in
+    let both = and_parts (nat_le (length text) message_limit) (are_short texts) short in
     and_from _ _ (and_from _ _ (and_from _ _ (same-num place) (follows low m le last)) both.0) (docs-fit (place + 1) m m texts (omega (arith, ints)) last both.1)
 
 some-fit : (tables : Tables) (docs : List Doc) (change : Change) → fits tables (Docs docs) ≡ true → some_docs docs ≡ Some change → fits tables change ≡ true
@@ -110,7 +110,7 @@ texts-fit texts session tables sound none short =
 
 mail-short : (block : Block) → too_long block ≡ None → are_short (text_of block ∷ []) ≡ true
 mail-short Long e = refl
-mail-short (Whole text) e = and_from _ _ (refuse_unless-holds (nat_le (length text) MESSAGE_LIMIT) (Limit Message) e) refl
+mail-short (Whole text) e = and_from _ _ (refuse_unless-holds (nat_le (length text) message_limit) (Limit Message) e) refl
 
 -- a note of the moment on a document that is there
 note-fit : (doc : ℕ) (kind : List ℕ) (value : ℤ) (text : List ℕ) (session : Session) (tables : Tables) → IsSound tables session → missing NoMoment session.moment ≡ None → missing NoUser session.user ≡ None → bad_name kind ≡ None → no_doc doc (length tables.docs) ≡ None

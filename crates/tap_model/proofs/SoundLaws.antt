@@ -61,7 +61,3 @@ sound-start = record { kept = kept-empty truth_of start_of truth-of-second; now 
 -- a session leaves tables that another may begin with
 pub sound-store : (tables : Tables) (session : Session) → IsSound tables session → IsStore tables
 sound-store tables session sound = record { kept = sound.kept; now = tt; formed = sound.formed; sources = sound.sources; rules = sound.rules; user = tt }
-
--- so do the tables after a command, whoever is told of it
-pub answer-store : (command : Command) (session : Session) (tables : Tables) → IsSound tables session → IsStore (tables_after (answer_of command session tables).change tables)
-answer-store command session tables sound = sound-store (tables_after (answer_of command session tables).change tables) (answer_of command session tables).session (answer-sound command session tables sound)

@@ -16,7 +16,6 @@ use Rattle.tql_types.specs.Core.{typed}
 use Rattle.tql_text.specs.Texts.{condition_of, of_typing, of_tree, of_tokens}
 use Rattle.appraiser.specs.declared.fault.RuleFault.{RuleFault}
 use Rattle.appraiser.specs.declared.fault.RuleFault.TheVariants.{ManyRules}
-use Rattle.appraiser.specs.declared.read.TheConstants.{RULE_LIMIT}
 use Rattle.appraiser.specs.Rules.{Rule}
 use Rattle.appraiser.specs.RuleLines.{rule_of}
 use Rattle.appraiser.specs.RuleTexts.{rules_of, rules_at, rule_lines, with_rule}
@@ -54,7 +53,7 @@ lines-read (line ∷ lines) none = go (rule_of line.1) (rules_at lines) (lines-r
 -- a filter's text without a fault has rules
 pub rules-read : (source : List ℕ) → filter_fault source ≡ None → IsOk (rules_of source)
 unfolding filter_fault
-rules-read source none = go (nat_le (length (rule_lines source)) RULE_LIMIT) none where
+rules-read source none = go (nat_le (length (rule_lines source)) 64) none where
   go : (b : Bool) → rules_refusal (if b then rules_at (rule_lines source) else Err ManyRules) ≡ None → IsOk (if b then rules_at (rule_lines source) else Err ManyRules)
   go true none = lines-read (rule_lines source) none
   go false none = absurd (some-none refusal.ManyRules none)

@@ -7,7 +7,7 @@ use Rattle.appraiser.specs.declared.fault.RuleFault.{RuleFault}
 use Rattle.appraiser.specs.Rules.{Rule}
 use Rattle.appraiser.specs.RuleTexts.{rules_of}
 
--- the rules of a reading; one with a fault has none
+-- the rules of a reading; one with a fault has no rules
 abbrev pub or_none : Result (List Rule) RuleFault → List Rule
 or_none (Err fault) = []
 or_none (Ok rules) = rules

@@ -17,10 +17,12 @@ use Rattle.tap_model.specs.Replies.{answer_of}
 use Rattle.tap_model.specs.Stories.{Step, next_tables}
 use Rattle.tap_model.specs.Sound.{IsSound, IsStore}
 
--- a new session over no rows is sound, and each step keeps that
+-- a new session over no rows is sound, and each step from a sound point leads to a sound point
 pub record StepsAreSound : Type 0 where
   pub first : IsSound no_rows no_session
-  pub next : (tables : Tables) (session : Session) (command : Command) (reply : Reply) (tables' : Tables) (session' : Session) → Step tables session command reply tables' session' → IsSound tables session → IsSound tables' session'
+  pub next :
+      (tables : Tables) (session : Session) (command : Command) (reply : Reply) (tables' : Tables) (session' : Session)
+      → Step tables session command reply tables' session' → IsSound tables session → IsSound tables' session'
 
 -- at a sound point the rows that a command adds stand in order behind those of the tables
 abbrev pub AcceptedChangesFit : Type 0

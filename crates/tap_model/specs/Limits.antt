@@ -1,11 +1,52 @@
--- How much is stored, and which limit would be passed.
-use Rattle.std.specs.Prelude.{ℕ, ◌+◌, List, [], ◌∷◌, ◌++◌, length, map, filter, ◌==◌, ◌||◌, nat_le, Option, Some, None, sum_by, if◌then◌else◌}
+-- The limits, how much is stored, and which limit a command would pass.
+use Rattle.std.specs.Prelude.{ℕ, ◌+◌, List, [], ◌∷◌, ◌++◌, length, map, filter, ◌==◌, ◌||◌, nat_le, Option, Some, None, sum_by}
+use Rattle.std.specs.Prelude.{if◌then◌else◌}
 use Rattle.std.specs.Str.{bytes_eq}
 use Rattle.tap_base.specs.Words.{holds}
 use Rattle.tap_rows.specs.declared.tables.Tables.{Tables}
 use Rattle.script_lang.specs.declared.refusal.Refusal.{Refusal}
 use Rattle.script_lang.specs.declared.refusal.Refusal.TheVariants.{Limit}
 use Rattle.script_lang.specs.declared.refusal.LimitName.{LimitName}
+
+-- the most bytes of a message, of a filter's text and of a note
+abbrev pub message_limit : ℕ
+message_limit = 1048576
+
+abbrev pub filter_text_limit : ℕ
+filter_text_limit = 65536
+
+abbrev pub note_text_limit : ℕ
+note_text_limit = 4096
+
+-- the most documents, notes, runs and deliveries
+abbrev pub document_limit : ℕ
+document_limit = 1000000
+
+abbrev pub note_limit : ℕ
+note_limit = 1000000
+
+abbrev pub run_limit : ℕ
+run_limit = 1000000
+
+abbrev pub pick_limit : ℕ
+pick_limit = 4000000
+
+-- the most queries of one user and of all, the most filters, and the most users that own one of these
+abbrev pub user_query_limit : ℕ
+user_query_limit = 64
+
+abbrev pub query_limit : ℕ
+query_limit = 4000
+
+abbrev pub filter_limit : ℕ
+filter_limit = 10000
+
+abbrev pub user_limit : ℕ
+user_limit = 1000
+
+-- the most bytes of the texts of documents, notes, queries and filters
+abbrev pub store_limit : ℕ
+store_limit = 134217728
 
 -- the bytes of the texts of documents, notes, queries and filters
 abbrev pub stored_bytes : Tables → ℕ
@@ -26,10 +67,10 @@ different (text ∷ texts) = if holds texts text then different texts else diffe
 abbrev pub queries_of : List ℕ → Tables → ℕ
 queries_of user tables = length (filter (λ query. bytes_eq query.owner user) tables.queries)
 
--- how many users more own a query or a filter when this one does
+-- how many more users own a query or a filter once this one does
 abbrev pub new_users : List ℕ → Tables → ℕ
 new_users user tables = if holds (owners_in tables) user then 0 else 1
 
--- the limit, if it would be passed by so many more; a count that stays passes none
+-- the limit, if so many more would pass it; none more pass no limit
 abbrev pub limit_refusal : LimitName → ℕ → ℕ → ℕ → Option Refusal
 limit_refusal name limit count more = if (more == 0) || nat_le (count + more) limit then None else Some (Limit name)

@@ -1,4 +1,4 @@
--- What one user sees, which commands concern the user, and which refusals come of what all users share.
+-- What one user sees, which commands concern the user, and which refusals depend on what all users share.
 use Rattle.std.specs.Prelude.{ℕ, ℤ, List, [], ◌∷◌, Bool, true, false, Option, Some, None, filter, map, if◌then◌else◌}
 use Rattle.std.specs.Option.{option_map}
 use Rattle.std.specs.Str.{bytes_eq}
@@ -29,6 +29,7 @@ pub record QueryView : Type 0 where
   pub runs : List ℤ
   pub entries : List Entry
 
+-- a query as its user sees it in these tables
 abbrev pub query_view : Tables → QueryRow → QueryView
 query_view tables query = record {
   name = query.name;
@@ -50,6 +51,7 @@ pub record View : Type 0 where
   pub filter : Option (List ℕ)
   pub moment : Option ℤ
 
+-- what this user sees
 abbrev pub view_of : List ℕ → Session → Tables → View
 view_of user session tables = record {
   docs = tables.docs;
@@ -59,7 +61,7 @@ view_of user session tables = record {
   moment = session.moment;
 }
 
--- a refusal for want of what all users share: of memory, or of room within a limit over all of them
+-- does the refusal depend on what all users share: memory, or room within a limit over all of them?
 abbrev pub is_shared : Refusal → Bool
 is_shared Memory = true
 is_shared (Limit AllQueries) = true
@@ -70,6 +72,7 @@ is_shared (Limit Picks) = true
 is_shared (Limit Store) = true
 is_shared refusal = false
 
+-- is the reply such a refusal?
 abbrev pub is_shared_reply : Reply → Bool
 is_shared_reply (No refusal) = is_shared refusal
 is_shared_reply reply = false
@@ -89,7 +92,7 @@ concerns user session (Mbox block) = true
 concerns user session (AddNote doc kind value text) = true
 concerns user session command = is_user user session.user
 
--- who gives a command, where that matters
+-- who gives a command, if that matters
 abbrev pub giver : Session → Command → Option (List ℕ)
 giver session (At text) = None
 giver session (Mail block) = None
@@ -101,6 +104,7 @@ pub record Deed : Type 0 where
   pub command : Command
   pub giver : Option (List ℕ)
 
+-- the deed of a command in a session
 abbrev pub deed_of : Session → Command → Deed
 deed_of session command = record { command = command; giver = giver session command }
 
@@ -132,7 +136,8 @@ pub record Tale : Type 0 where
   pub story : Story tables session commands replies tables' session'
 
 -- the acts along a story that concern the user
-abbrev pub acts_along : (user : List ℕ) (tables : Tables) (session : Session) (commands : List Command) (replies : List Reply) (tables' : Tables) (session' : Session) → Story tables session commands replies tables' session' → List Act
+abbrev pub acts_along : (user : List ℕ) (tables : Tables) (session : Session) (commands : List Command) (replies : List Reply)
+    (tables' : Tables) (session' : Session) → Story tables session commands replies tables' session' → List Act
 acts_along user tables session [] [] tables' session' story = []
 acts_along user tables session (command ∷ commands) (reply ∷ replies) tables' session' story =
     if concerns user session command
@@ -141,10 +146,11 @@ acts_along user tables session (command ∷ commands) (reply ∷ replies) tables
 acts_along user tables session [] (reply ∷ replies) tables' session' story = []
 acts_along user tables session (command ∷ commands) [] tables' session' story = []
 
+-- the acts of a tale that concern the user
 abbrev pub acts_of : List ℕ → Tale → List Act
 acts_of user tale = acts_along user tale.tables tale.session tale.commands tale.replies tale.tables' tale.session' tale.story
 
--- the deeds and the replies of some acts
+-- the deeds of some acts, and their replies
 abbrev pub deeds : List Act → List Deed
 deeds acts = map (λ act. act.deed) acts
 

@@ -1,10 +1,10 @@
--- What a user is answered depends on what the user sees alone.
+-- A user's replies depend on what the user sees alone.
 use Rattle.std.specs.Prelude.{ℕ, ℤ, ◌≡◌, ◌⊎◌, List, true, false, Some}
 use Rattle.tap_rows.specs.Kept.{Each}
 use Rattle.tap_model.specs.Privacy.{view_of, is_shared_reply, concerns, deed_of, Move, Tale, acts_of, deeds, replies_in}
 
--- from sound points that look alike to the user, at a moment, one deed that concerns the user gets one reply and leaves
--- points that look alike, unless it meets a shared refusal
+-- take two moves from sound points that look alike to the user, at a moment; if both are one deed that concerns the user, they
+-- have the same reply and lead to points that look alike, unless one of them meets a shared refusal
 abbrev pub SameDeedSameReply : Type 0
 SameDeedSameReply =
     (user : List ℕ) (moment : ℤ) (a b : Move)
@@ -16,13 +16,13 @@ SameDeedSameReply =
     ⊎ ((is_shared_reply b.reply ≡ true)
     ⊎ ((a.reply ≡ b.reply) × (view_of user a.session' a.tables' ≡ view_of user b.session' b.tables')))
 
--- a command that doesn't concern the user leaves what the user sees
+-- a command that doesn't concern the user leaves what the user sees unchanged
 abbrev pub OthersLeaveTheView : Type 0
 OthersLeaveTheView =
     (user : List ℕ) (a : Move) → concerns user a.session a.command ≡ false → view_of user a.session' a.tables' ≡ view_of user a.session a.tables
 
--- two stories from points that look alike to the user, at a moment, whose acts that concern the user have the same deeds
--- and meet no shared refusal, have the same replies to them and end at points that look alike, whatever else stands in them
+-- take two stories from sound points that look alike to the user, at a moment; if the acts in them that concern the user
+-- have the same deeds and meet no shared refusal, they have the same replies, and the ends look alike
 abbrev pub SameDeedsSameReplies : Type 0
 SameDeedsSameReplies =
     (user : List ℕ) (moment : ℤ) (a b : Tale)

@@ -18,7 +18,7 @@ use Rattle.monotone_rewrite.specs.Query.{window}
 use Rattle.incremental_rewrite.specs.Lines.{explain_lines}
 use Rattle.restart_core.specs.Starts.{is_from_now, condition_text}
 
--- the condition of a reading; one with a fault is never true
+-- the condition of a reading; one with a fault has a condition that never holds
 abbrev pub or_never : Result Condition TextFault → Condition
 or_never (Err fault) = Never
 or_never (Ok condition) = condition
@@ -35,7 +35,7 @@ condition_by query = condition_in (condition_text query.source)
 abbrev pub truth_of : QueryRow → Truth
 truth_of query = Holds.truth_of (condition_by query)
 
--- the first second that a query covers: its arrival where it is from now, else the first of all
+-- the first second that a query covers: its arrival if it is from now, else 0
 unfoldable pub start_of : QueryRow → ℤ
 start_of query = if is_from_now query.source then query.arrival else pos 0
 

@@ -13,11 +13,13 @@ use Rattle.tap_rows.specs.Results.{run_moments, snapshot}
 use Rattle.tap_rows.specs.Deliveries.{run_change}
 use Rattle.tql_core.specs.Holds as Holds
 use Rattle.script_lang.specs.declared.command.Command.{Command}
-use Rattle.script_lang.specs.declared.command.Command.TheVariants.{At, AsUser, Mail, Mbox, AddNote, Define, Run, BoxOf, ListOf, Filter, Explain, Ask, Wake, ScoresOf, DigestOf, Bad}
+use Rattle.script_lang.specs.declared.command.Command.TheVariants.{At, AsUser, Mail, Mbox, AddNote, Define, Run, BoxOf, ListOf, Filter, Explain, Ask, Wake}
+use Rattle.script_lang.specs.declared.command.Command.TheVariants.{ScoresOf, DigestOf, Bad}
 use Rattle.script_lang.specs.declared.refusal.Refusal.{Refusal}
 use Rattle.script_lang.specs.declared.refusal.Refusal.TheVariants.{NotBuilt, BadMoment, NoQuery}
 use Rattle.script_lang.specs.declared.reply.Reply.{Reply}
-use Rattle.script_lang.specs.declared.reply.Reply.TheVariants.{At as SetAt, AsUser as SetUser, OneDoc, OneNote as NoteAdded, Defined, Ran, BoxOf as Boxed, ListOf as Listing, Filter as FilterAdded, Explain as Explained, Asked, No, Docs as DocsAdded}
+use Rattle.script_lang.specs.declared.reply.Reply.TheVariants.{At as SetAt, AsUser as SetUser, OneDoc, OneNote as NoteAdded, Defined, Ran, BoxOf as Boxed}
+use Rattle.script_lang.specs.declared.reply.Reply.TheVariants.{ListOf as Listing, Filter as FilterAdded, Explain as Explained, Asked, No, Docs as DocsAdded}
 use Rattle.tap_model.specs.declared.session.Session.{Session}
 use Rattle.tap_model.specs.Sessions.{moment_or_zero, user_of}
 use Rattle.tap_model.specs.Queries.{condition_in, truth_of, start_of, query_named, hits_of, box_in, lines_of}
@@ -32,16 +34,16 @@ pub record Answer : Type 0 where
   pub session : Session
   pub change : Option Change
 
--- a refusal, by which nothing moves
+-- the answer of a refused command, which changes nothing
 abbrev pub refused : Refusal → Session → Answer
 refused refusal session = record { reply = No refusal; session = session; change = None }
 
--- the session's moment is this second
+-- `at`: the session has this moment
 abbrev pub set_moment : Option ℤ → Session → Answer
 set_moment None session = refused BadMoment session
 set_moment (Some second) session = record { reply = SetAt second; session = record session { moment = Some second }; change = None }
 
--- the session's user is this one
+-- `as`: the session has this user
 abbrev pub set_user : List ℕ → Session → Answer
 set_user name session = record { reply = SetUser name; session = record session { user = Some name }; change = None }
 
@@ -49,7 +51,7 @@ set_user name session = record { reply = SetUser name; session = record session 
 abbrev pub next_doc : Tables → ℤ → List ℕ → Doc
 next_doc tables moment text = record { num = record { 0 = length tables.docs + 1 }; arrival = moment; text = text }
 
--- a document with this text
+-- `mail`: a document with this text
 abbrev pub add_mail : List ℕ → Session → Tables → Answer
 add_mail text session tables = record {
   reply = OneDoc (record { 0 = length tables.docs + 1 });
@@ -66,12 +68,12 @@ docs_from num moment (text ∷ texts) = record { num = record { 0 = num }; arriv
 abbrev pub next_docs : Tables → ℤ → List (List ℕ) → List Doc
 next_docs tables moment texts = docs_from (length tables.docs + 1) moment texts
 
--- some documents as a change; none change nothing
+-- documents as a change; no documents are no change
 abbrev pub some_docs : List Doc → Option Change
 some_docs [] = None
 some_docs (doc ∷ docs) = Some (Docs (doc ∷ docs))
 
--- documents with these texts, all in one change
+-- `mbox`: documents with these texts, all in one change
 abbrev pub add_mbox : List (List ℕ) → Session → Tables → Answer
 add_mbox texts session tables = record {
   reply = DocsAdded (length texts) (length tables.docs + 1);
@@ -84,7 +86,7 @@ abbrev pub next_query : Tables → Session → List ℕ → List ℕ → QueryRo
 next_query tables session name source =
     record { num = record { 0 = length tables.queries + 1 }; owner = user_of session; name = name; source = source; arrival = moment_or_zero session }
 
--- a query of the user
+-- `query`: a query of the user
 abbrev pub add_query : List ℕ → List ℕ → Session → Tables → Answer
 add_query name source session tables = record {
   reply = Defined name;
@@ -104,7 +106,7 @@ next_note tables session doc kind value text = record {
   text = text;
 }
 
--- a note of the user on this document
+-- `note`: a note of the user on this document
 abbrev pub add_note : ℕ → List ℕ → ℤ → List ℕ → Session → Tables → Answer
 add_note doc kind value text session tables = record {
   reply = NoteAdded (record { 0 = length tables.notes + 1 });
@@ -112,7 +114,7 @@ add_note doc kind value text session tables = record {
   change = Some (OneNote (next_note tables session doc kind value text));
 }
 
--- a run of this query: its ordinal, the moment, and what it delivers
+-- `run`: a run of this query, with its ordinal, the moment and what it delivers
 abbrev pub run_query : Option QueryRow → Session → Tables → Answer
 run_query None session tables = refused NoQuery session
 run_query (Some query) session tables = record {
@@ -121,12 +123,12 @@ run_query (Some query) session tables = record {
   change = Some (run_change (truth_of query) (start_of query) tables query.num (moment_or_zero session));
 }
 
--- the box of this query
+-- `box`: the box of this query
 abbrev pub show_box : Option QueryRow → List ℕ → Session → Tables → Answer
 show_box None name session tables = refused NoQuery session
 show_box (Some query) name session tables = record { reply = Boxed name (box_in query tables); session = session; change = None }
 
--- the box of this query in the order of its documents' ratings by the user's rules
+-- `list`: the box of this query in the order of its documents' ratings by the user's rules
 abbrev pub show_list : Option QueryRow → List ℕ → Session → Tables → Answer
 show_list None name session tables = refused NoQuery session
 show_list (Some query) name session tables = record {
@@ -135,7 +137,7 @@ show_list (Some query) name session tables = record {
   change = None;
 }
 
--- the window query of this query, a line for each probe
+-- `explain`: the window query of this query, one line for each probe
 abbrev pub show_lines : Option QueryRow → List ℕ → Session → Tables → Answer
 show_lines None name session tables = refused NoQuery session
 show_lines (Some query) name session tables = record { reply = Explained name (lines_of query); session = session; change = None }
@@ -145,7 +147,7 @@ abbrev pub next_filter : Tables → Session → List ℕ → FilterRow
 next_filter tables session source =
     record { num = length tables.filters + 1; owner = user_of session; source = source; arrival = moment_or_zero session }
 
--- a filter of the user with this text
+-- `filter`: a filter of the user with this text
 abbrev pub add_filter : List ℕ → Session → Tables → Answer
 add_filter source session tables = record {
   reply = FilterAdded (length (rules_in_text source));
@@ -153,7 +155,7 @@ add_filter source session tables = record {
   change = Some (OneFilter (next_filter tables session source));
 }
 
--- the documents that the condition of a text gives at a second
+-- `ask`: the documents for which a text's condition holds at a second
 abbrev pub ask_at : Option ℤ → List ℕ → Session → Tables → Answer
 ask_at None source session tables = refused BadMoment session
 ask_at (Some second) source session tables = record {
@@ -162,7 +164,7 @@ ask_at (Some second) source session tables = record {
   change = None;
 }
 
--- the answer to a command that isn't refused
+-- the answer to a command that is accepted
 abbrev pub accepted : Command → Session → Tables → Answer
 accepted (At text) session tables = set_moment (moment_of text) session
 accepted (AsUser name) session tables = set_user name session
@@ -181,7 +183,7 @@ accepted (Wake name) session tables = refused NotBuilt session
 accepted (ScoresOf kind) session tables = refused NotBuilt session
 accepted (DigestOf name ordinal) session tables = refused NotBuilt session
 
--- the answer by a verdict
+-- the answer to a command with this verdict
 abbrev pub answer_by : Option Refusal → Command → Session → Tables → Answer
 answer_by (Some refusal) command session tables = refused refusal session
 answer_by None command session tables = accepted command session tables

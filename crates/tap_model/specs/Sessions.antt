@@ -1,4 +1,4 @@
--- The moment and the user that commands are performed at and by.
+-- The moment at which commands are performed, and the user who gives them.
 use Rattle.std.specs.Prelude.{ℕ, ℤ, pos, List, [], ◌∷◌, ◌++◌, map, Option, Some, None, int_le, if◌then◌else◌}
 use Rattle.std.specs.Option.{option_or}
 use Rattle.tap_rows.specs.declared.tables.Tables.{Tables}
@@ -8,21 +8,21 @@ use Rattle.tap_model.specs.declared.session.Session.{Session}
 abbrev pub no_session : Session
 no_session = record { moment = None; user = None }
 
--- a number, or 0 where there is none
+-- a number, or 0 if there is none
 abbrev pub or_zero : Option ℤ → ℤ
 or_zero None = pos 0
 or_zero (Some n) = n
 
--- a text, or the empty one where there is none
+-- a text, or the empty one if there is none
 abbrev pub or_empty : Option (List ℕ) → List ℕ
 or_empty None = []
 or_empty (Some text) = text
 
--- the session's moment
+-- the session's moment, or 0
 abbrev pub moment_or_zero : Session → ℤ
 moment_or_zero session = or_zero session.moment
 
--- the session's user
+-- the session's user, or the empty text
 abbrev pub user_of : Session → List ℕ
 user_of session = or_empty session.user
 
@@ -31,7 +31,7 @@ abbrev pub later_of : ℤ → Option ℤ → ℤ
 later_of m None = m
 later_of m (Some n) = if int_le n m then m else n
 
--- the greatest of some moments
+-- the greatest of some moments, if there is one
 abbrev pub greatest_of : List ℤ → Option ℤ
 greatest_of [] = None
 greatest_of (m ∷ ms) = Some (later_of m (greatest_of ms))
@@ -46,6 +46,6 @@ moments_in tables =
 abbrev pub greatest_moment : Tables → Option ℤ
 greatest_moment tables = greatest_of (moments_in tables)
 
--- the moment that the next one may not be below: the session's, or the greatest of the tables where the session has none
+-- the least moment that `at` may set: the session's, or the greatest of the tables if the session has none
 abbrev pub last_moment : Session → Tables → Option ℤ
 last_moment session tables = option_or session.moment (greatest_moment tables)

@@ -11,22 +11,22 @@ use Rattle.tap_model.specs.Sessions.{no_session}
 use Rattle.tap_model.specs.Queries.{truth_of, start_of}
 use Rattle.tap_model.specs.Verdicts.{text_fault, filter_fault}
 
--- a second that a moment may be
+-- the second may be a moment
 abbrev pub IsMoment : ℤ → Type 0
 IsMoment m = (pos 0 ≤ℤ m) × (m ≤ℤ pos LAST_MOMENT)
 
--- no row is of a time after the session's moment, where it has one
+-- if the session has a moment, no row is of a later one
 abbrev pub IsNow : Option ℤ → Tables → Type 0
 IsNow None tables = Unit {0}
 IsNow (Some moment) tables = IsMoment moment × IsBy start_of moment tables
 
--- no user, or a name
+-- if the session has a user, it is a name
 abbrev pub IsUser : Option (List ℕ) → Type 0
 IsUser None = Unit {0}
 IsUser (Some name) = is_name name ≡ true
 
--- the rows stand in order, with each query's deliveries equal to its box; the session's moment is not below them; the texts
--- of queries and filters can be read; and the session's user is a name
+-- a sound point: each query's deliveries are its box; no row is later than the session's moment; the rows stand in order; the
+-- texts of queries and filters can be read; and the session's user is a name
 pub record IsSound (tables : Tables) (session : Session) : Type 0 where
   pub kept : IsKept truth_of start_of tables
   pub now : IsNow session.moment tables

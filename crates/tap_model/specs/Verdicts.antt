@@ -1,6 +1,6 @@
--- Why a command is refused: the first of its checks that refuses, in the order of the refusals' numbers, limits in the
--- order of the table of limits.
-use Rattle.std.specs.Prelude.{ℕ, ℤ, List, [], ◌∷◌, length, sum_by, Bool, true, false, ◌&&◌, ◌||◌, nat_le, int_le, int_lt, Option, Some, None, is_none, Result, Ok, Err, if◌then◌else◌}
+-- Why a command is refused: the first of its checks that refuses it.
+use Rattle.std.specs.Prelude.{ℕ, ℤ, List, [], ◌∷◌, length, sum_by, Bool, true, false, ◌&&◌, ◌||◌, nat_le, int_le, int_lt, Option, Some}
+use Rattle.std.specs.Prelude.{None, is_none, Result, Ok, Err, if◌then◌else◌}
 use Rattle.std.specs.Str.{all_ascii_digits}
 use Rattle.std.specs.List.{list_all}
 use Rattle.tap_base.specs.Numbers.{moment_of}
@@ -10,12 +10,14 @@ use Rattle.tap_rows.specs.declared.rows.QueryRow.{QueryRow}
 use Rattle.tap_rows.specs.declared.results.Hit.{Hit}
 use Rattle.mail_lines.specs.declared.block.Block.{Block}
 use Rattle.mail_lines.specs.declared.block.Block.TheVariants.{Whole, Long}
-use Rattle.script_lang.specs.declared.state.TheConstants.{MESSAGE_LIMIT, FILTER_LIMIT}
 use Rattle.script_lang.specs.declared.command.Command.{Command}
-use Rattle.script_lang.specs.declared.command.Command.TheVariants.{At, AsUser, Mail, Mbox, AddNote, Define, Run, BoxOf, ListOf, Filter, Explain, Ask, Wake, ScoresOf, DigestOf, Bad}
+use Rattle.script_lang.specs.declared.command.Command.TheVariants.{At, AsUser, Mail, Mbox, AddNote, Define, Run, BoxOf, ListOf, Filter, Explain, Ask, Wake}
+use Rattle.script_lang.specs.declared.command.Command.TheVariants.{ScoresOf, DigestOf, Bad}
 use Rattle.script_lang.specs.declared.refusal.Refusal.{Refusal}
-use Rattle.script_lang.specs.declared.refusal.Refusal.TheVariants.{NotBuilt, BadMoment, Backwards, NoMoment, NoUser, BadName, Taken, NoQuery, NoDoc, Lex, Parse, Types, NotOver, Limit, Rule, ManyRules}
-use Rattle.script_lang.specs.declared.refusal.LimitName.TheVariants.{Message, Block as BlockLimit, Note, Documents, Notes, Queries, AllQueries, Users, Filters, Runs, Picks, Store}
+use Rattle.script_lang.specs.declared.refusal.Refusal.TheVariants.{NotBuilt, BadMoment, Backwards, NoMoment, NoUser, BadName, Taken, NoQuery, NoDoc, Lex}
+use Rattle.script_lang.specs.declared.refusal.Refusal.TheVariants.{Parse, Types, NotOver, Limit, Rule, ManyRules}
+use Rattle.script_lang.specs.declared.refusal.LimitName.TheVariants.{Message, Block as BlockLimit, Note, Documents, Notes, Queries, AllQueries, Users}
+use Rattle.script_lang.specs.declared.refusal.LimitName.TheVariants.{Filters, Runs, Picks, Store}
 use Rattle.mail_lines.specs.Mbox.{mbox_messages}
 use Rattle.tql_core.specs.Condition.{Condition}
 use Rattle.tql_text.specs.declared.fault.TextFault.{TextFault}
@@ -27,18 +29,19 @@ use Rattle.appraiser.specs.Rules.{Rule as FilterRule}
 use Rattle.appraiser.specs.RuleTexts.{rules_of}
 use Rattle.restart_core.specs.Starts.{condition_text, stored_source}
 use Rattle.tap_model.specs.declared.session.Session.{Session}
-use Rattle.tap_model.specs.declared.limits.TheConstants.{DOCUMENT_LIMIT, NOTE_TEXT_LIMIT, NOTE_LIMIT, USER_QUERY_LIMIT, QUERY_LIMIT, USER_LIMIT, FILTER_ROW_LIMIT, RUN_LIMIT, PICK_LIMIT, STORE_LIMIT}
+use Rattle.tap_model.specs.Limits.{message_limit, filter_text_limit, note_text_limit, document_limit, note_limit, user_query_limit, query_limit}
+use Rattle.tap_model.specs.Limits.{user_limit, filter_limit, run_limit, pick_limit, store_limit}
 use Rattle.tap_model.specs.Sessions.{moment_or_zero, user_of, last_moment}
 use Rattle.tap_model.specs.Queries.{query_named, hits_of}
 use Rattle.tap_model.specs.Limits.{stored_bytes, owners_in, different, queries_of, new_users, limit_refusal}
 
--- the first refusal of some checks
+-- the first refusal of some checks, if there is one
 abbrev pub first_refusal : List (Option Refusal) → Option Refusal
 first_refusal [] = None
 first_refusal (None ∷ checks) = first_refusal checks
 first_refusal (Some refusal ∷ checks) = Some refusal
 
--- refused where there is none
+-- refused if there is none
 abbrev pub missing : {A : Type 0} → Refusal → Option A → Option Refusal
 missing refusal None = Some refusal
 missing refusal (Some x) = None
@@ -47,16 +50,19 @@ missing refusal (Some x) = None
 abbrev pub refuse_unless : Bool → Refusal → Option Refusal
 refuse_unless holds refusal = if holds then None else Some refusal
 
+-- the session has no moment
 abbrev pub no_moment : Session → Option Refusal
 no_moment session = missing NoMoment session.moment
 
+-- the session has no user
 abbrev pub no_user : Session → Option Refusal
 no_user session = missing NoUser session.user
 
+-- the text is no name
 unfoldable pub bad_name : List ℕ → Option Refusal
 bad_name name = refuse_unless (is_name name) BadName
 
--- the refusal of a text's fault
+-- the refusal of a text's fault; out of memory is no fault of the text
 abbrev pub fault_refusal : TextFault → Option Refusal
 fault_refusal (T.Lex fault) = Some (Lex fault)
 fault_refusal (T.Parse fault) = Some (Parse fault)
@@ -72,13 +78,13 @@ reading_refusal (Err fault) = fault_refusal fault
 unfoldable pub text_fault : List ℕ → Option Refusal
 text_fault text = reading_refusal (condition_of text)
 
--- a second below the last moment
+-- the second is below the last moment
 abbrev pub is_back : Option ℤ → Option ℤ → Option Refusal
 is_back None second = None
 is_back (Some last) None = None
 is_back (Some last) (Some second) = refuse_unless (int_le last second) (Backwards last)
 
--- a second that isn't below the present one
+-- the second isn't below the present moment
 abbrev pub not_over : Option ℤ → Option ℤ → Option Refusal
 not_over None now = None
 not_over (Some second) None = None
@@ -92,10 +98,10 @@ taken session name tables = refuse_unless (is_none (query_named (user_of session
 abbrev pub no_query : Session → List ℕ → Tables → Option Refusal
 no_query session name tables = missing NoQuery (query_named (user_of session) name tables)
 
--- a message that is too long
+-- the message is too long
 abbrev pub too_long : Block → Option Refusal
 too_long Long = Some (Limit Message)
-too_long (Whole text) = refuse_unless (nat_le (length text) MESSAGE_LIMIT) (Limit Message)
+too_long (Whole text) = refuse_unless (nat_le (length text) message_limit) (Limit Message)
 
 -- the messages of a mailbox file; a block that is too long has none
 abbrev pub messages_of : Block → List (List ℕ)
@@ -104,13 +110,13 @@ messages_of (Whole text) = mbox_messages text
 
 -- are all messages short enough?
 abbrev pub are_short : List (List ℕ) → Bool
-are_short messages = list_all (λ message. nat_le (length message) MESSAGE_LIMIT) messages
+are_short messages = list_all (λ message. nat_le (length message) message_limit) messages
 
 -- one of the messages is too long
 abbrev pub long_message : List (List ℕ) → Option Refusal
 long_message messages = refuse_unless (are_short messages) (Limit Message)
 
--- a mailbox file that is too long
+-- the mailbox file is too long
 abbrev pub long_block : Block → Option Refusal
 long_block Long = Some (Limit BlockLimit)
 long_block (Whole text) = None
@@ -119,20 +125,21 @@ long_block (Whole text) = None
 abbrev pub bytes_of : List (List ℕ) → ℕ
 bytes_of messages = sum_by length messages
 
--- a number that is no document's, where there are so many
+-- the number is no document's, if there are so many documents
 unfoldable pub no_doc : ℕ → ℕ → Option Refusal
 no_doc doc count = refuse_unless (nat_le 1 doc && nat_le doc count) NoDoc
 
--- a note of so many bytes that is too long
+-- a note of so many bytes is too long
 unfoldable pub long_note : ℕ → Option Refusal
-long_note len = refuse_unless (nat_le len NOTE_TEXT_LIMIT) (Limit Note)
+long_note len = refuse_unless (nat_le len note_text_limit) (Limit Note)
 
--- the refusal of a fault of a filter's text
+-- the refusal of a fault of a filter's text; out of memory is no fault of the text
 abbrev pub rule_refusal : RuleFault → Option Refusal
 rule_refusal (R.Line number place) = Some (Rule number place)
 rule_refusal R.ManyRules = Some ManyRules
 rule_refusal R.Memory = None
 
+-- the refusal of a reading of rules
 abbrev pub rules_refusal : Result (List FilterRule) RuleFault → Option Refusal
 rules_refusal (Ok rules) = None
 rules_refusal (Err fault) = rule_refusal fault
@@ -141,10 +148,10 @@ rules_refusal (Err fault) = rule_refusal fault
 unfoldable pub filter_fault : List ℕ → Option Refusal
 filter_fault source = rules_refusal (rules_of source)
 
--- a filter's block that is too long
+-- the filter's block is too long
 abbrev pub long_filter : Block → Option Refusal
 long_filter Long = Some (Limit BlockLimit)
-long_filter (Whole text) = refuse_unless (nat_le (length text) FILTER_LIMIT) (Limit BlockLimit)
+long_filter (Whole text) = refuse_unless (nat_le (length text) filter_text_limit) (Limit BlockLimit)
 
 -- the text of a block; one that is too long has none
 abbrev pub text_of : Block → List ℕ
@@ -168,8 +175,8 @@ checks (AsUser name) session tables = bad_name name ∷ []
 checks (Mail block) session tables =
     no_moment session
     ∷ too_long block
-    ∷ limit_refusal Documents DOCUMENT_LIMIT (length tables.docs) 1
-    ∷ limit_refusal Store STORE_LIMIT (stored_bytes tables) (length (text_of block))
+    ∷ limit_refusal Documents document_limit (length tables.docs) 1
+    ∷ limit_refusal Store store_limit (stored_bytes tables) (length (text_of block))
     ∷ []
 checks (Define name source) session tables =
     no_moment session
@@ -177,26 +184,26 @@ checks (Define name source) session tables =
     ∷ bad_name name
     ∷ taken session name tables
     ∷ text_fault (condition_text source)
-    ∷ limit_refusal Queries USER_QUERY_LIMIT (queries_of (user_of session) tables) 1
-    ∷ limit_refusal AllQueries QUERY_LIMIT (length tables.queries) 1
-    ∷ limit_refusal Users USER_LIMIT (different (owners_in tables)) (new_users (user_of session) tables)
-    ∷ limit_refusal Store STORE_LIMIT (stored_bytes tables) (length (stored_source source))
+    ∷ limit_refusal Queries user_query_limit (queries_of (user_of session) tables) 1
+    ∷ limit_refusal AllQueries query_limit (length tables.queries) 1
+    ∷ limit_refusal Users user_limit (different (owners_in tables)) (new_users (user_of session) tables)
+    ∷ limit_refusal Store store_limit (stored_bytes tables) (length (stored_source source))
     ∷ []
 checks (Run name) session tables =
     no_moment session
     ∷ no_user session
     ∷ bad_name name
     ∷ no_query session name tables
-    ∷ limit_refusal Runs RUN_LIMIT (length tables.runs) 1
-    ∷ limit_refusal Picks PICK_LIMIT (length tables.picks) (delivers session name tables)
+    ∷ limit_refusal Runs run_limit (length tables.runs) 1
+    ∷ limit_refusal Picks pick_limit (length tables.picks) (delivers session name tables)
     ∷ []
 checks (BoxOf name) session tables = no_user session ∷ bad_name name ∷ no_query session name tables ∷ []
 checks (Mbox block) session tables =
     no_moment session
     ∷ long_message (messages_of block)
     ∷ long_block block
-    ∷ limit_refusal Documents DOCUMENT_LIMIT (length tables.docs) (length (messages_of block))
-    ∷ limit_refusal Store STORE_LIMIT (stored_bytes tables) (bytes_of (messages_of block))
+    ∷ limit_refusal Documents document_limit (length tables.docs) (length (messages_of block))
+    ∷ limit_refusal Store store_limit (stored_bytes tables) (bytes_of (messages_of block))
     ∷ []
 checks (AddNote doc kind value text) session tables =
     no_moment session
@@ -204,17 +211,17 @@ checks (AddNote doc kind value text) session tables =
     ∷ bad_name kind
     ∷ no_doc doc (length tables.docs)
     ∷ long_note (length text)
-    ∷ limit_refusal Notes NOTE_LIMIT (length tables.notes) 1
-    ∷ limit_refusal Store STORE_LIMIT (stored_bytes tables) (length text)
+    ∷ limit_refusal Notes note_limit (length tables.notes) 1
+    ∷ limit_refusal Store store_limit (stored_bytes tables) (length text)
     ∷ []
 checks (ListOf name) session tables = no_user session ∷ bad_name name ∷ no_query session name tables ∷ []
 checks (Filter block) session tables =
     no_moment session
     ∷ no_user session
     ∷ long_filter block
-    ∷ limit_refusal Users USER_LIMIT (different (owners_in tables)) (new_users (user_of session) tables)
-    ∷ limit_refusal Filters FILTER_ROW_LIMIT (length tables.filters) 1
-    ∷ limit_refusal Store STORE_LIMIT (stored_bytes tables) (length (text_of block))
+    ∷ limit_refusal Users user_limit (different (owners_in tables)) (new_users (user_of session) tables)
+    ∷ limit_refusal Filters filter_limit (length tables.filters) 1
+    ∷ limit_refusal Store store_limit (stored_bytes tables) (length (text_of block))
     ∷ filter_fault (text_of block)
     ∷ []
 checks (Explain name) session tables = no_user session ∷ bad_name name ∷ no_query session name tables ∷ []
@@ -228,14 +235,14 @@ checks (DigestOf name ordinal) session tables = Some NotBuilt ∷ []
 abbrev pub verdict : Command → Session → Tables → Option Refusal
 verdict command session tables = first_refusal (checks command session tables)
 
--- refused for want of a moment, of a user or of a name
+-- is it refused since a moment, a user or a name is missing? These checks come first and need no memory
 abbrev pub is_early : Option Refusal → Bool
 is_early (Some NoMoment) = true
 is_early (Some NoUser) = true
 is_early (Some BadName) = true
 is_early refusal = false
 
--- a command that is answered without memory
+-- does the command need no memory?
 abbrev pub is_spared : Command → Session → Tables → Bool
 is_spared (Bad refusal) session tables = true
 is_spared (At text) session tables = all_ascii_digits text || is_early (verdict (At text) session tables)

@@ -1,9 +1,9 @@
-//! The most that is taken of each thing.
+//! The limits of a store, and of the texts in it. Definitions repeat these numbers, so that no change here goes unseen.
 
 /// The most documents.
 pub const DOCUMENT_LIMIT: usize = 1000000;
 
-/// The most bytes of a note.
+/// The most bytes of a note's text.
 pub const NOTE_TEXT_LIMIT: usize = 4096;
 
 /// The most notes.
@@ -24,7 +24,7 @@ pub const FILTER_ROW_LIMIT: usize = 10000;
 /// The most runs.
 pub const RUN_LIMIT: usize = 1000000;
 
-/// The most deliveries.
+/// The most deliveries of all runs together.
 pub const PICK_LIMIT: usize = 4000000;
 
 /// The most bytes of the texts of documents, notes, queries and filters together.

@@ -1,8 +1,9 @@
+//! The session.
 ghost use Rattle.std.specs.Prelude.{◌≡◌};
 
 use tap_base::Text;
 
-/// The moment and the user that commands are performed at and by. A moment is a second since 1970-01-01T00:00:00Z.
+/// The moment at which commands are performed, in seconds since 1970-01-01T00:00:00Z, and the user who gives them.
 #[derive(Drop)]
 pub struct Session {
     pub moment: Option<i64>,
@@ -12,7 +13,7 @@ pub struct Session {
 impl Session {
     ghost use Rattle.tap_model.specs.Sessions.{no_session};
 
-    /// A session without a moment and without a user.
+    /// Returns a session without a moment and without a user.
     pub fn new() -> Session
         ensures { result ≡ no_session }
     {

@@ -1,5 +1,4 @@
 use Rattle.std.proofs.Common.{rules, ◌≤◌, length}
-use Rattle.appraiser.specs.declared.read.TheConstants.{RULE_LIMIT}
 use Rattle.appraiser.specs.Rules.{rules_in}
 use Rattle.appraiser.specs.RuleTexts.{rule_lines}
 use Rattle.appraiser.proofs.Lines.{no_more}
@@ -7,5 +6,5 @@ use Rattle.appraiser.proofs.read.read_rules.Goals as goal
 
 pub returns-clause-few : goal.returns-clause-few
 returns-clause-few c =
-    let few : length (rule_lines c.args.text.now) ≤ RULE_LIMIT = search rules in
-    no_more c.args.text.now (rules_in c.in_ok-rules.rules) RULE_LIMIT few c.in_ok-rules.ensures.rules
+    let few : length (rule_lines c.args.text.now) ≤ 64 = search rules in
+    no_more c.args.text.now (rules_in c.in_ok-rules.rules) 64 few c.in_ok-rules.ensures.rules
