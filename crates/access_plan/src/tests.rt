@@ -1,3 +1,5 @@
+//! Tests of the orders of paths.
+
 use crate::orders::order_of;
 use crate::{Access, Reach, plan};
 use node_pool::Pool;

@@ -1,3 +1,5 @@
+//! Tests of the lines of window queries.
+
 ghost use Rattle.std.specs.Prelude.{◌≡◌, ◌≤ℤ◌, IfOk, pos, true, codes};
 ghost use Rattle.tap_base.specs.declared.numbers.Op.TheVariants.{Eq};
 ghost use Rattle.tql_tree.specs.declared.table.Table.TheVariants.{Notes};

@@ -1,3 +1,5 @@
+//! Tests of adding and removing deliveries.
+
 use crate::LittleBox;
 use tap_base::{DocNum, Memory};
 use tap_rows::Entry;

@@ -1,3 +1,5 @@
+//! Tests of window queries.
+
 ghost use Rattle.std.specs.Prelude.{◌≡◌, IfOk, pos};
 ghost use Rattle.tql_tree.specs.declared.table.Table.TheVariants.{Notes};
 ghost use Rattle.tql_core.specs.declared.term.Base.TheVariants.{Arrival};

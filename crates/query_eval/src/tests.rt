@@ -1,3 +1,5 @@
+//! Tests of runs over two documents, and of the hits that they store.
+
 ghost use Rattle.std.specs.Prelude.{◌≡◌, ◌<◌, pos, [], ◌∷◌, map, IfOk};
 ghost use Rattle.jiff_core.specs.Calendar.{IsWithin};
 ghost use Rattle.tql_tree.specs.declared.table.Table.TheVariants.{Docs};

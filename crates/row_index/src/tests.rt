@@ -1,3 +1,5 @@
+//! Tests of adding, walking and removing rows.
+
 ghost use Rattle.std.specs.Prelude.{◌≡◌, ◌<◌, pos, []};
 
 use crate::{RowIndex, Walk};
