@@ -1,6 +1,5 @@
 pub mod Added
 pub mod Parts
-pub mod Inserted
 pub mod Missing
 pub mod Digits
 pub mod Forms

@@ -1,12 +1,12 @@
 -- What is missing in a list of texts depends on what it holds alone, not on how often or in which order.
 use Rattle.std.proofs.Common.{◌≡◌, ◌∙◌, sym, ap, refl, arith, ℕ, List, [], ◌∷◌, ◌++◌, drop, length, Bool, true, false, if◌then◌else◌, ◌≤◌}
-use Rattle.std.specs.Prelude.{◌||◌, ◌==◌}
-use Rattle.std.specs.Str.{bytes_eq, str_to_ascii_lowercase}
+use Rattle.std.specs.Prelude.{◌||◌}
+use Rattle.std.specs.Str.{bytes_eq}
 use Rattle.std.proofs.lemmas.List.{append_assoc, append-nil, length-append}
 use Rattle.std.proofs.lemmas.List.Folds.{list_any-append}
 use Rattle.std.proofs.lemmas.Slice.Eq.{bytes_eq-Decides}
 use Rattle.std.proofs.Math.Seq.{drop-append_seam}
-use Rattle.tap_base.specs.Words.{with_new, holds, lowered_words}
+use Rattle.tap_base.specs.Words.{with_new, holds}
 
 -- the texts that are not in the list yet, in order of first appearance
 abbrev missing : List (List ℕ) → List (List ℕ) → List (List ℕ)
@@ -70,7 +70,3 @@ appended held set all xs rest is-set is-all is-rest =
 -- nothing is lost
 pub none_lost : (held xs : List (List ℕ)) → length held ≤ length (with_new held xs)
 none_lost held xs = rw (with_missing held xs, length-append held (missing held xs)) (omega arith)
-
--- a part that isn't empty is one word
-pub one_word : (held : List (List ℕ)) (part word : List ℕ) → (length part == 0) ≡ false → word ≡ str_to_ascii_lowercase part → with_new held (word ∷ []) ≡ with_new held (lowered_words (part ∷ []))
-one_word held part word some is = rw (some, is) refl

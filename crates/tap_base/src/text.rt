@@ -1,5 +1,6 @@
 //! A text of bytes.
 ghost use Rattle.std.specs.Prelude.{◌≡◌, ◌++◌, ◌<◌, ◌^◌, List, [], ℕ, OnOk, OnErr, IfOk, length, take};
+ghost use Rattle.std.specs.Str.{str_to_ascii_lowercase};
 
 use crate::Memory;
 use std::alloc::Global;
@@ -85,6 +86,16 @@ impl Text {
         ensures err { OnErr result (self.new ≡ self.old) }
     {
         self.bytes.extend_from_slice(bytes)?;
+        Ok(())
+    }
+
+    // Replaces the text by these bytes with A to Z lowered. Some of it may be left if this fails.
+    pub(crate) fn lower_from(&mut self, bytes: &[u8]) -> Result<(), Memory>
+        ensures { OnOk result (self.new ≡ str_to_ascii_lowercase bytes.now) }
+    {
+        self.bytes.clear();
+        self.bytes.extend_from_slice(bytes)?;
+        self.bytes.make_ascii_lowercase();
         Ok(())
     }
 
