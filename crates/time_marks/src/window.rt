@@ -7,6 +7,9 @@ ghost use Rattle.time_marks.specs.Windows.{is_within, moved, days_window};
 // The seconds of a UTC day.
 const DAY: i64 = 86_400;
 
+// The last second of a UTC day, counted from its start.
+const LAST_OF_DAY: i64 = 86_399;
+
 /// Holds the seconds from `low` up to but not with `high`, since 1970-01-01T00:00:00Z.
 #[derive(Clone, Copy, Debug, PartialEq, Eq)]
 pub struct Window {
@@ -50,7 +53,7 @@ fn day_end(end: i64) -> i64
     requires { IsWithin 900000000000 end }
     ensures { result ≡ round_up_to_day end -ℤ pos 86399 }
 {
-    round_up_to_day(end) - (DAY - 1)
+    round_up_to_day(end) - LAST_OF_DAY
 }
 
 impl Window {

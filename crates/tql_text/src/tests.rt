@@ -160,9 +160,13 @@ fn many_nodes(alloc: Global, front: &[u8]) -> Result<Vec<u8>, Fail> {
 fn a_condition_has_at_most_128_nodes(rt: HostRuntime) -> Result<(), Fail> {
     let alloc = rt.alloc();
     let too_many = TextFault::Types(TypeFault::ManyNodes);
-    assert!(rt; is_condition(alloc, &many_nodes(alloc, b"")?));
-    assert!(rt; is_condition(alloc, &many_nodes(alloc, b"NOT ")?));
-    assert!(rt; has_fault(alloc, &many_nodes(alloc, b"NOT NOT ")?, too_many));
-    assert!(rt; has_fault(alloc, &many_nodes(alloc, b"TRUE OR ")?, too_many));
+    let chain = many_nodes(alloc, b"")?;
+    let full = many_nodes(alloc, b"NOT ")?;
+    let above = many_nodes(alloc, b"NOT NOT ")?;
+    let longer = many_nodes(alloc, b"TRUE OR ")?;
+    assert!(rt; is_condition(alloc, &chain));
+    assert!(rt; is_condition(alloc, &full));
+    assert!(rt; has_fault(alloc, &above, too_many));
+    assert!(rt; has_fault(alloc, &longer, too_many));
     Ok(())
 }
