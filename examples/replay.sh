@@ -17,8 +17,8 @@ if [ "${1:-}" = --quick ]; then
     cp "$script" "$scratch/$name"
     cp "$here/$name.replies" "$scratch/$name.stdout"
   done
-  cd "$top/crates/tapestry_mem"
-  exec rt try --cases "$scratch"
+  (cd "$top/crates/tapestry_mem" && rt try --cases "$scratch")
+  exit
 fi
 
 differ=0

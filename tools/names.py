@@ -28,7 +28,7 @@ def words_in(files):
 SPECS = glob.glob("crates/*/specs/*.antt")
 EVERYWHERE = words_in([*SPECS, *glob.glob("crates/*/src/*.rt"), "crates.txt"])
 # Words of the pages that are no names of the code: wrong bodies, and words of the kit and of SQLite.
-OTHERS = {os.path.basename(it)[:-5] for it in glob.glob("crates/*/must-fail/*.edit")} | {"Wary", "journal_mode", "RT_JOBS"}
+OTHERS = {os.path.basename(it)[:-5] for it in glob.glob("crates/*/must-fail/*.edit")} | {"Wary", "journal_mode", "result_ok", "RT_JOBS"}
 
 
 def cells_of(line):
