@@ -23,7 +23,7 @@ use Rattle.script_lang.specs.declared.refusal.Refusal.TheVariants.{NoQuery, NoMo
 use Rattle.script_lang.specs.declared.refusal.LimitName.{LimitName}
 use Rattle.script_lang.specs.declared.refusal.LimitName.TheVariants.{Queries, AllQueries, Users, Store, Runs, Picks}
 use Rattle.script_lang.specs.declared.command.Command.TheVariants.{Define, Run, BoxOf}
-use Rattle.tap_model.specs.declared.limits.TheConstants.{USER_QUERY_LIMIT, QUERY_LIMIT, USER_LIMIT, STORE_LIMIT, RUN_LIMIT, PICK_LIMIT}
+use Rattle.tap_model.specs.Limits.{user_query_limit, query_limit, user_limit, store_limit, run_limit, pick_limit}
 use Rattle.tap_model.specs.declared.session.Session.{Session}
 use Rattle.tap_engine.specs.declared.engine.Engine.{Engine}
 use Rattle.tap_model.specs.Sessions.{or_zero, user_of, moment_or_zero}
@@ -152,7 +152,7 @@ hits-are e t name represents sound there = go (query_named (user_of e.session) n
 
 -- the checks of a run, by what is found of its query
 abbrev run_checks : Engine → ℕ → ℕ → Option Refusal → List Hit → Option Refusal
-run_checks e runs picks found hits = option_or (no_moment e.session) (option_or found (option_or (limit_refusal Runs RUN_LIMIT runs 1) (limit_refusal Picks PICK_LIMIT picks (length hits))))
+run_checks e runs picks found hits = option_or (no_moment e.session) (option_or found (option_or (limit_refusal Runs run_limit runs 1) (limit_refusal Picks pick_limit picks (length hits))))
 
 run-there : (e : Engine) (t : Tables) (name : List ℕ) → Represents e t → IsSound t e.session → (e.session.moment ≡ None → ⊥) → run_refusal e name ≡ verdict (Run name) e.session t
 unfolding look_refusal
@@ -164,7 +164,7 @@ run-there e t name represents sound there =
     ∙ ap (run_checks e e.run_count e.pick_count (option_or (no_user e.session) (option_or (bad_name name) (missing NoQuery o)))) (hits-are e t name represents sound there)
     ∙ ap (λ n. run_checks e n e.pick_count (option_or (no_user e.session) (option_or (bad_name name) (missing NoQuery o))) (hits_found o t (moment_or_zero e.session))) represents.run_count
     ∙ ap (λ n. run_checks e (length t.runs) n (option_or (no_user e.session) (option_or (bad_name name) (missing NoQuery o))) (hits_found o t (moment_or_zero e.session))) represents.pick_count
-    ∙ six (no_moment e.session) (no_user e.session) (bad_name name) (missing NoQuery o) (limit_refusal Runs RUN_LIMIT (length t.runs) 1) (limit_refusal Picks PICK_LIMIT (length t.picks) (length (hits_found o t (moment_or_zero e.session))))
+    ∙ six (no_moment e.session) (no_user e.session) (bad_name name) (missing NoQuery o) (limit_refusal Runs run_limit (length t.runs) 1) (limit_refusal Picks pick_limit (length t.picks) (length (hits_found o t (moment_or_zero e.session))))
 
 -- a run is refused as its verdict says
 pub run-verdict : (e : Engine) (t : Tables) (name : List ℕ) → Represents e t → IsSound t e.session → run_refusal e name ≡ verdict (Run name) e.session t
@@ -172,19 +172,19 @@ run-verdict e t name represents sound = go e.session.moment refl where
   go : (m : Option ℤ) → e.session.moment ≡ m → run_refusal e name ≡ verdict (Run name) e.session t
   go None none =
       let o = query_named (user_of e.session) name t in
-      ap (λ m. option_or (missing NoMoment m) (option_or (look_refusal e name) (option_or (limit_refusal Runs RUN_LIMIT e.run_count 1) (limit_refusal Picks PICK_LIMIT e.pick_count (length (cached_hits e (cached_named e name))))))) none
-      ∙ sym (ap (λ m. first_refusal (missing NoMoment m ∷ no_user e.session ∷ bad_name name ∷ missing NoQuery o ∷ limit_refusal Runs RUN_LIMIT (length t.runs) 1 ∷ limit_refusal Picks PICK_LIMIT (length t.picks) (length (hits_found o t (moment_or_zero e.session))) ∷ [])) none)
+      ap (λ m. option_or (missing NoMoment m) (option_or (look_refusal e name) (option_or (limit_refusal Runs run_limit e.run_count 1) (limit_refusal Picks pick_limit e.pick_count (length (cached_hits e (cached_named e name))))))) none
+      ∙ sym (ap (λ m. first_refusal (missing NoMoment m ∷ no_user e.session ∷ bad_name name ∷ missing NoQuery o ∷ limit_refusal Runs run_limit (length t.runs) 1 ∷ limit_refusal Picks pick_limit (length t.picks) (length (hits_found o t (moment_or_zero e.session))) ∷ [])) none)
   go (Some m) is = run-there e t name represents sound (some-moment e.session.moment m is)
 
 -- a run that isn't refused before its hits are counted
-pub run-left : (e : Engine) (name : List ℕ) (kept : CachedQuery) (m : ℤ) (hits : List Hit) → e.session.moment ≡ Some m → query_refusal e.session e.queries name ≡ None → limit_refusal Runs RUN_LIMIT e.run_count 1 ≡ None → cached_named e name ≡ Some kept
-    → hits ≡ hits_since kept e.index m → run_refusal e name ≡ limit_refusal Picks PICK_LIMIT e.pick_count (length hits)
+pub run-left : (e : Engine) (name : List ℕ) (kept : CachedQuery) (m : ℤ) (hits : List Hit) → e.session.moment ≡ Some m → query_refusal e.session e.queries name ≡ None → limit_refusal Runs run_limit e.run_count 1 ≡ None → cached_named e name ≡ Some kept
+    → hits ≡ hits_since kept e.index m → run_refusal e name ≡ limit_refusal Picks pick_limit e.pick_count (length hits)
 unfolding look_refusal
 run-left e name kept m hits is-m look runs named is-hits =
-    let picks : List Hit → Option Refusal = λ hits. limit_refusal Picks PICK_LIMIT e.pick_count (length hits) in
+    let picks : List Hit → Option Refusal = λ hits. limit_refusal Picks pick_limit e.pick_count (length hits) in
     let last = picks (cached_hits e (cached_named e name)) in
-    ap (λ o. option_or (missing NoMoment o) (option_or (query_refusal e.session e.queries name) (option_or (limit_refusal Runs RUN_LIMIT e.run_count 1) last))) is-m
-    ∙ ap (λ x. option_or x (option_or (limit_refusal Runs RUN_LIMIT e.run_count 1) last)) look
+    ap (λ o. option_or (missing NoMoment o) (option_or (query_refusal e.session e.queries name) (option_or (limit_refusal Runs run_limit e.run_count 1) last))) is-m
+    ∙ ap (λ x. option_or x (option_or (limit_refusal Runs run_limit e.run_count 1) last)) look
     ∙ ap (λ x. option_or x last) runs
     ∙ ap (λ k. picks (cached_hits e k)) named
     ∙ ap (λ z. picks (hits_since kept e.index z)) (ap or_zero is-m)
@@ -231,10 +231,10 @@ late-first (Some x) rest x-late rest-late = x-late
 limits-late : (engine : Engine) (user : List ℕ) (len : ℕ) → is_early (first_refusal (query_limits engine user len)) ≡ false
 unfolding query_limits
 limits-late engine user len =
-    late-first _ _ (limit_refusal-late Queries USER_QUERY_LIMIT (owned_in user engine.queries) 1)
-    (late-first _ _ (limit_refusal-late AllQueries QUERY_LIMIT (length engine.queries) 1)
-    (late-first _ _ (limit_refusal-late Users USER_LIMIT (length engine.owners) (if holds engine.owners user then 0 else 1))
-    (late-first _ [] (limit_refusal-late Store STORE_LIMIT engine.bytes len) refl)))
+    late-first _ _ (limit_refusal-late Queries user_query_limit (owned_in user engine.queries) 1)
+    (late-first _ _ (limit_refusal-late AllQueries query_limit (length engine.queries) 1)
+    (late-first _ _ (limit_refusal-late Users user_limit (length engine.owners) (if holds engine.owners user then 0 else 1))
+    (late-first _ [] (limit_refusal-late Store store_limit engine.bytes len) refl)))
 
 -- a query is refused for its text, or is out of memory, once it isn't refused for its moment, its user or its name
 pub text-refused : (e : Engine) (name source : List ℕ) (refusal : Refusal) → no_moment e.session ≡ None → no_user e.session ≡ None → None ≡ name_refusal e (user_of e.session) name
@@ -274,4 +274,4 @@ answers-box e t name entries represents sound none is = go (query_named (user_of
 
 -- a query isn't run without a moment
 pub run-moment : (e : Engine) (name : List ℕ) → run_refusal e name ≡ None → e.session.moment ≡ None → ⊥
-run-moment e name none no_m = some-none NoMoment (sym (ap (λ m. option_or (missing NoMoment m) (option_or (look_refusal e name) (option_or (limit_refusal Runs RUN_LIMIT e.run_count 1) (limit_refusal Picks PICK_LIMIT e.pick_count (length (cached_hits e (cached_named e name))))))) no_m) ∙ none)
+run-moment e name none no_m = some-none NoMoment (sym (ap (λ m. option_or (missing NoMoment m) (option_or (look_refusal e name) (option_or (limit_refusal Runs run_limit e.run_count 1) (limit_refusal Picks pick_limit e.pick_count (length (cached_hits e (cached_named e name))))))) no_m) ∙ none)

@@ -32,7 +32,7 @@ use Rattle.appraiser.specs.declared.fault.RuleFault.TheVariants as R
 use Rattle.appraiser.specs.Rules.{Rule}
 use Rattle.appraiser.specs.RuleTexts.{rules_of}
 use Rattle.appraiser.specs.Listings.{listing_of}
-use Rattle.tap_model.specs.declared.limits.TheConstants.{USER_LIMIT, FILTER_ROW_LIMIT, STORE_LIMIT}
+use Rattle.tap_model.specs.Limits.{user_limit, filter_limit, store_limit}
 use Rattle.tap_model.specs.declared.session.Session.{Session}
 use Rattle.tap_model.specs.Limits.{limit_refusal, different}
 use Rattle.tap_model.specs.Sessions.{user_of, moment_or_zero}
@@ -69,7 +69,7 @@ seven None None None None None None None = refl
 pub filter-verdict : (e : Engine) (t : Tables) (block : Block) → Represents e t → filter_refusal e block ≡ verdict (Filter block) e.session t
 unfolding filter_limits
 filter-verdict e t block represents =
-    seven (no_moment e.session) (no_user e.session) (long_filter block) (limit_refusal Users USER_LIMIT (length e.owners) (if holds e.owners (user_of e.session) then 0 else 1)) (limit_refusal Filters FILTER_ROW_LIMIT (length e.filters) 1) (limit_refusal Store STORE_LIMIT e.bytes (length (text_of block))) (filter_fault (text_of block))
+    seven (no_moment e.session) (no_user e.session) (long_filter block) (limit_refusal Users user_limit (length e.owners) (if holds e.owners (user_of e.session) then 0 else 1)) (limit_refusal Filters filter_limit (length e.filters) 1) (limit_refusal Store store_limit e.bytes (length (text_of block))) (filter_fault (text_of block))
     ∙ rw (represents.filters, represents.users, represents.owners (user_of e.session), represents.bytes) refl
 
 pub filter-refuses : (e : Engine) (block : Block) (refusal : Refusal) → RefusedBy (filter_refusal e block) refusal → (t : Tables) → Represents e t → Refuses refusal (Filter block) e.session t

@@ -16,7 +16,7 @@ use Rattle.script_lang.specs.declared.refusal.Refusal.TheVariants.{NoMoment, Mem
 use Rattle.script_lang.specs.declared.refusal.LimitName.TheVariants.{Message, Documents, Store}
 use Rattle.script_lang.specs.declared.command.Command.TheVariants.{Mbox}
 use Rattle.script_lang.specs.declared.reply.Reply.TheVariants.{Docs as DocsAdded}
-use Rattle.tap_model.specs.declared.limits.TheConstants.{DOCUMENT_LIMIT, STORE_LIMIT}
+use Rattle.tap_model.specs.Limits.{document_limit, store_limit}
 use Rattle.tap_model.specs.declared.session.Session.{Session}
 use Rattle.tap_model.specs.Sessions.{moment_or_zero}
 use Rattle.tap_model.specs.Limits.{limit_refusal}
@@ -40,7 +40,7 @@ first-or (Some x) rest = refl
 pub mbox-verdict : (e : Engine) (t : Tables) (block : Block) → Represents e t → mbox_refusal e block ≡ verdict (Mbox block) e.session t
 unfolding mbox_bounds
 mbox-verdict e t block represents =
-    first-or (no_moment e.session) (long_message (messages_of block) ∷ long_block block ∷ limit_refusal Documents DOCUMENT_LIMIT (length e.index.docs) (length (messages_of block)) ∷ limit_refusal Store STORE_LIMIT e.bytes (bytes_of (messages_of block)) ∷ [])
+    first-or (no_moment e.session) (long_message (messages_of block) ∷ long_block block ∷ limit_refusal Documents document_limit (length e.index.docs) (length (messages_of block)) ∷ limit_refusal Store store_limit e.bytes (bytes_of (messages_of block)) ∷ [])
     ∙ rw (docs-are represents, represents.bytes) refl
 
 pub mbox-refuses : (e : Engine) (block : Block) (refusal : Refusal) → RefusedBy (mbox_refusal e block) refusal → (t : Tables) → Represents e t → Refuses refusal (Mbox block) e.session t
@@ -66,8 +66,8 @@ mbox-memory e block moment = inr (refl, ap (λ x. is_early (option_or x (mbox_bo
   late =
       late-first _ _ (message-late (are_short (messages_of block)))
       (late-first _ _ (block-late block)
-      (late-first _ _ (limit_refusal-late Documents DOCUMENT_LIMIT (length e.index.docs) (length (messages_of block)))
-      (late-first _ [] (limit_refusal-late Store STORE_LIMIT e.bytes (bytes_of (messages_of block))) refl)))
+      (late-first _ _ (limit_refusal-late Documents document_limit (length e.index.docs) (length (messages_of block)))
+      (late-first _ [] (limit_refusal-late Store store_limit e.bytes (bytes_of (messages_of block))) refl)))
 
 both-true : (a b : Bool) → (a && b) ≡ true → (a ≡ true) × (b ≡ true)
 both-true true true e = (refl, refl)

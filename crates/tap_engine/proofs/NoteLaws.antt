@@ -13,7 +13,7 @@ use Rattle.script_lang.specs.declared.refusal.Refusal.TheVariants.{NoMoment}
 use Rattle.script_lang.specs.declared.command.Command.TheVariants.{AddNote}
 use Rattle.script_lang.specs.declared.reply.Reply.TheVariants.{OneNote as NoteAdded}
 use Rattle.script_lang.specs.declared.refusal.LimitName.TheVariants.{Notes, Store}
-use Rattle.tap_model.specs.declared.limits.TheConstants.{NOTE_LIMIT, STORE_LIMIT}
+use Rattle.tap_model.specs.Limits.{note_limit, store_limit}
 use Rattle.tap_model.specs.Limits.{limit_refusal}
 use Rattle.tap_model.specs.declared.session.Session.{Session}
 use Rattle.tap_engine.specs.declared.engine.Engine.{Engine}
@@ -37,7 +37,7 @@ four None None None rest = refl
 pub note-verdict : (e : Engine) (t : Tables) (doc : ℕ) (kind : List ℕ) (value : ℤ) (text : List ℕ) → Represents e t → note_refusal e doc kind text ≡ verdict (AddNote doc kind value text) e.session t
 unfolding note_bounds
 note-verdict e t doc kind value text represents =
-    four (no_moment e.session) (no_user e.session) (bad_name kind) (no_doc doc (length e.index.docs) ∷ long_note (length text) ∷ limit_refusal Notes NOTE_LIMIT (length e.index.notes) 1 ∷ limit_refusal Store STORE_LIMIT e.bytes (length text) ∷ [])
+    four (no_moment e.session) (no_user e.session) (bad_name kind) (no_doc doc (length e.index.docs) ∷ long_note (length text) ∷ limit_refusal Notes note_limit (length e.index.notes) 1 ∷ limit_refusal Store store_limit e.bytes (length text) ∷ [])
     ∙ rw (docs-are represents, notes-are represents, represents.bytes) refl
 
 pub note-refuses : (e : Engine) (doc : ℕ) (kind : List ℕ) (value : ℤ) (text : List ℕ) (refusal : Refusal) → RefusedBy (note_refusal e doc kind text) refusal → (t : Tables) → Represents e t → Refuses refusal (AddNote doc kind value text) e.session t

@@ -5,7 +5,7 @@ use Rattle.tap_base.specs.Words.{holds}
 use Rattle.mail_lines.specs.declared.block.Block.{Block}
 use Rattle.script_lang.specs.declared.refusal.Refusal.{Refusal}
 use Rattle.script_lang.specs.declared.refusal.LimitName.TheVariants.{Users, Filters, Store}
-use Rattle.tap_model.specs.declared.limits.TheConstants.{USER_LIMIT, FILTER_ROW_LIMIT, STORE_LIMIT}
+use Rattle.tap_model.specs.Limits.{user_limit, filter_limit, store_limit}
 use Rattle.tap_model.specs.Limits.{limit_refusal}
 use Rattle.tap_model.specs.Sessions.{user_of}
 use Rattle.tap_model.specs.Verdicts.{first_refusal, no_moment, no_user, long_filter, filter_fault, text_of}
@@ -14,9 +14,9 @@ use Rattle.tap_engine.specs.declared.engine.Engine.{Engine}
 -- the limits that a filter of this user and length may pass, in order
 unfoldable pub filter_limits : Engine → List ℕ → ℕ → List (Option Refusal)
 filter_limits engine user len =
-    limit_refusal Users USER_LIMIT (length engine.owners) (if holds engine.owners user then 0 else 1)
-    ∷ limit_refusal Filters FILTER_ROW_LIMIT (length engine.filters) 1
-    ∷ limit_refusal Store STORE_LIMIT engine.bytes len
+    limit_refusal Users user_limit (length engine.owners) (if holds engine.owners user then 0 else 1)
+    ∷ limit_refusal Filters filter_limit (length engine.filters) 1
+    ∷ limit_refusal Store store_limit engine.bytes len
     ∷ []
 
 -- why a filter is refused

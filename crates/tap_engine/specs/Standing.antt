@@ -10,8 +10,8 @@ use Rattle.row_index.specs.Rows.{rows_alone}
 use Rattle.script_lang.specs.declared.refusal.Refusal.{Refusal}
 use Rattle.script_lang.specs.declared.refusal.Refusal.TheVariants.{Taken, NoQuery, Memory}
 use Rattle.script_lang.specs.declared.refusal.LimitName.TheVariants.{Documents, Notes, Queries, AllQueries, Users, Runs, Picks, Store}
-use Rattle.tap_model.specs.declared.limits.TheConstants.{DOCUMENT_LIMIT, NOTE_LIMIT, USER_QUERY_LIMIT, QUERY_LIMIT}
-use Rattle.tap_model.specs.declared.limits.TheConstants.{USER_LIMIT, RUN_LIMIT, PICK_LIMIT, STORE_LIMIT}
+use Rattle.tap_model.specs.Limits.{document_limit, note_limit, user_query_limit, query_limit}
+use Rattle.tap_model.specs.Limits.{user_limit, run_limit, pick_limit, store_limit}
 use Rattle.tap_kept.specs.declared.cached_query.CachedQuery.{CachedQuery}
 use Rattle.tap_engine.specs.declared.engine.Engine.{Engine}
 use Rattle.tap_engine.specs.declared.run.Due.{Due}
@@ -57,10 +57,10 @@ name_refusal engine user name = option_or (bad_name name) (refuse_unless (is_non
 -- the limits that a query of this user and length may pass, in order
 unfoldable pub query_limits : Engine → List ℕ → ℕ → List (Option Refusal)
 query_limits engine user len =
-    limit_refusal Queries USER_QUERY_LIMIT (owned_in user engine.queries) 1
-    ∷ limit_refusal AllQueries QUERY_LIMIT (length engine.queries) 1
-    ∷ limit_refusal Users USER_LIMIT (length engine.owners) (if holds engine.owners user then 0 else 1)
-    ∷ limit_refusal Store STORE_LIMIT engine.bytes len
+    limit_refusal Queries user_query_limit (owned_in user engine.queries) 1
+    ∷ limit_refusal AllQueries query_limit (length engine.queries) 1
+    ∷ limit_refusal Users user_limit (length engine.owners) (if holds engine.owners user then 0 else 1)
+    ∷ limit_refusal Store store_limit engine.bytes len
     ∷ []
 
 -- why a new query is refused
@@ -78,8 +78,8 @@ mbox_bounds engine block messages =
     first_refusal
     (long_message messages
     ∷ long_block block
-    ∷ limit_refusal Documents DOCUMENT_LIMIT (length engine.index.docs) (length messages)
-    ∷ limit_refusal Store STORE_LIMIT engine.bytes (bytes_of messages)
+    ∷ limit_refusal Documents document_limit (length engine.index.docs) (length messages)
+    ∷ limit_refusal Store store_limit engine.bytes (bytes_of messages)
     ∷ [])
 
 -- why a mailbox file is refused
@@ -92,8 +92,8 @@ note_bounds engine doc len =
     first_refusal
     (no_doc doc (length engine.index.docs)
     ∷ long_note len
-    ∷ limit_refusal Notes NOTE_LIMIT (length engine.index.notes) 1
-    ∷ limit_refusal Store STORE_LIMIT engine.bytes len
+    ∷ limit_refusal Notes note_limit (length engine.index.notes) 1
+    ∷ limit_refusal Store store_limit engine.bytes len
     ∷ [])
 
 -- why a note is refused
@@ -140,8 +140,8 @@ abbrev pub run_refusal : Engine → List ℕ → Option Refusal
 run_refusal engine name =
     option_or (no_moment engine.session)
     (option_or (look_refusal engine name)
-    (option_or (limit_refusal Runs RUN_LIMIT engine.run_count 1)
-    (limit_refusal Picks PICK_LIMIT engine.pick_count (length (cached_hits engine (cached_named engine name))))))
+    (option_or (limit_refusal Runs run_limit engine.run_count 1)
+    (limit_refusal Picks pick_limit engine.pick_count (length (cached_hits engine (cached_named engine name))))))
 
 -- the refusal is this one; or it is out of memory, and the command isn't refused early for its moment, its user or its name
 abbrev pub RefusedBy : Option Refusal → Refusal → Type 0

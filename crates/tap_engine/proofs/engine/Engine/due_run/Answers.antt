@@ -1,6 +1,6 @@
 use Rattle.std.proofs.Common.{rules, ◌≡◌, ◌∙◌, ◌+◌, ◌≤◌, ap, subst, inl, length, Some, None, w64, to_z, of_z}
 use Rattle.script_lang.specs.declared.refusal.LimitName.TheVariants.{Runs, Picks}
-use Rattle.tap_model.specs.declared.limits.TheConstants.{RUN_LIMIT, PICK_LIMIT}
+use Rattle.tap_model.specs.Limits.{run_limit, pick_limit}
 use Rattle.tap_model.specs.Limits.{limit_refusal}
 use Rattle.tap_kept.specs.Keeping.{hits_since}
 use Rattle.tap_engine.specs.Standing.{query_refusal, run_refusal, RefusedBy}
@@ -19,10 +19,10 @@ returns-in_err-refuse_more-2-clause-refusal g c =
     let e = c.args.self.now in
     let is-m : e.session.moment ≡ Some c.in-Some.moment = search rules in
     let look : query_refusal e.session e.queries c.args.name.now ≡ None = search rules in
-    let runs : limit_refusal Runs RUN_LIMIT e.run_count 1 ≡ None = search rules in
+    let runs : limit_refusal Runs run_limit e.run_count 1 ≡ None = search rules in
     let same : to_z w64 (of_z w64 c.in-Some.moment) ≡ c.in-Some.moment = search rules in
     let hits : c.find.new.hits.hits ≡ hits_since c.in_ok-kept.kept.now e.index c.in-Some.moment = c.find.ensures.hits ∙ ap (hits_since c.in_ok-kept.kept.now e.index) same in
-    let refused : limit_refusal Picks PICK_LIMIT e.pick_count (length c.find.new.hits.hits) ≡ Some c.in_err-refuse_more-2.field-0.0 = search rules in
+    let refused : limit_refusal Picks pick_limit e.pick_count (length c.find.new.hits.hits) ≡ Some c.in_err-refuse_more-2.field-0.0 = search rules in
     let by : RefusedBy (run_refusal e c.args.name.now) c.in_err-refuse_more-2.field-0.0 = inl (run-left e c.args.name.now c.in_ok-kept.kept.now c.in-Some.moment c.find.new.hits.hits is-m look runs c.in_ok-kept.ensures.ok hits ∙ refused) in search (rules, by)
 
 pub returns-clause-verdict : goal.returns-clause-verdict
@@ -30,10 +30,10 @@ returns-clause-verdict g c =
     let e = c.args.self.now in
     let is-m : e.session.moment ≡ Some c.in-Some.moment = search rules in
     let look : query_refusal e.session e.queries c.args.name.now ≡ None = search rules in
-    let runs : limit_refusal Runs RUN_LIMIT e.run_count 1 ≡ None = search rules in
+    let runs : limit_refusal Runs run_limit e.run_count 1 ≡ None = search rules in
     let same : to_z w64 (of_z w64 c.in-Some.moment) ≡ c.in-Some.moment = search rules in
     let hits : c.find.new.hits.hits ≡ hits_since c.in_ok-kept.kept.now e.index c.in-Some.moment = c.find.ensures.hits ∙ ap (hits_since c.in_ok-kept.kept.now e.index) same in
-    let fine : limit_refusal Picks PICK_LIMIT e.pick_count (length c.find.new.hits.hits) ≡ None = search rules in
+    let fine : limit_refusal Picks pick_limit e.pick_count (length c.find.new.hits.hits) ≡ None = search rules in
     run-left e c.args.name.now c.in_ok-kept.kept.now c.in-Some.moment c.find.new.hits.hits is-m look runs c.in_ok-kept.ensures.ok hits ∙ fine
 
 pub returns-in_err-refuse_more-2-clause-quiet : goal.returns-in_err-refuse_more-2-clause-quiet
