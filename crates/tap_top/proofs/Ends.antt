@@ -110,8 +110,8 @@ low-not status (inl six) low = omega arith
 low-not status (inr four) low = omega arith
 
 not-other : (status n : ℕ) → (status ≡ 6 ⊎ status ≡ 4) → status ≡ n → (n ≡ 6 → ⊥) → (n ≡ 4 → ⊥) → ⊥
-not-other status n (inl six) is no yes = no (omega arith)
-not-other status n (inr four) is no yes = yes (omega arith)
+not-other status n (inl six) is from-six from-four = from-six (omega arith)
+not-other status n (inr four) is from-six from-four = from-four (omega arith)
 
 -- a store was refused
 pub refused-ends : (t : Tables) (left left' out out' : Option (List ℕ)) (versions : ℤ → Type 0) (tells leaves : Tables → Type 0) (status : ℕ) (written : List ℕ) → (status ≡ 6 ⊎ status ≡ 4) → IfKnown versions ⊥ → left' ≡ left → Appends out out' written → LeavesOnly t leaves → ScriptEnds status t left left' out out' versions tells leaves
