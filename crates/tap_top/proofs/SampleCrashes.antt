@@ -1,5 +1,5 @@
 -- What a crash leaves after each end of a sample.
-use Rattle.std.proofs.Common.{◌≡◌, sym, refl, subst, arith, ℕ, List, [], ◌∷◌, ◌++◌, length, Bool, Option, None, inl, inr, ◌≤◌}
+use Rattle.std.proofs.Common.{◌≡◌, sym, refl, arith, ℕ, List, [], ◌∷◌, ◌++◌, length, Bool, Option, inl, inr, ◌≤◌}
 use Rattle.std.specs.Prelude.{◌⊎◌}
 use Rattle.std.proofs.lemmas.List.{append-nil}
 use Rattle.tap_rows.specs.declared.tables.Tables.{Tables}
@@ -13,7 +13,6 @@ use Rattle.tap_model.specs.Replies.{answer_of, tables_after}
 use Rattle.tap_model.specs.Stories.{Story}
 use Rattle.keeper_core.specs.Keeping.{IsDurable}
 use Rattle.tap_top.specs.Statuses.{IsFront}
-use Rattle.tap_top.specs.Crashes.{IsPrefix}
 use Rattle.tap_top.specs.Samples.{Performed, FirstPerformed, NextUncommitted, Sampled, SampledCut, LeavesFirst, LeavesOnly}
 use Rattle.tap_top.proofs.Stories.{Story-then}
 use Rattle.tap_top.proofs.Crashes.{whole-prefix, front-prefix, story-store}

@@ -1,11 +1,10 @@
 -- A sample's commands go on, and what their replies come to.
-use Rattle.std.proofs.Common.{◌≡◌, ◌∙◌, sym, ap, refl, subst, arith, ℕ, List, [], ◌∷◌, ◌++◌, ◌+◌, length, take, Bool, true, false, Option, None, inl, inr, ◌≤◌, if◌then◌else◌}
+use Rattle.std.proofs.Common.{◌≡◌, ◌∙◌, sym, ap, refl, subst, arith, ℕ, List, [], ◌∷◌, ◌++◌, ◌+◌, length, Bool, true, false, Option, None, if◌then◌else◌}
 use Rattle.std.specs.Prelude.{◌⊎◌, ◌≢◌, ◌&&◌, ◌==◌}
 use Rattle.std.specs.List.{list_all}
 use Rattle.std.specs.Io.KnownBytes.{Appends}
-use Rattle.std.proofs.lemmas.List.{append_assoc, append-nil, length-append}
+use Rattle.std.proofs.lemmas.List.{append_assoc, append-nil}
 use Rattle.tap_rows.specs.declared.tables.Tables.{Tables}
-use Rattle.tap_rows.specs.Kept.{Each}
 use Rattle.script_lang.specs.declared.command.Command.{Command}
 use Rattle.script_lang.specs.declared.refusal.Refusal.TheVariants.{Memory}
 use Rattle.script_lang.specs.declared.reply.Reply.{Reply}
@@ -17,12 +16,11 @@ use Rattle.tap_model.specs.Sessions.{no_session}
 use Rattle.tap_model.specs.Sound.{IsSound}
 use Rattle.tap_model.specs.Verdicts.{verdict}
 use Rattle.tap_model.specs.Replies.{answer_of, tables_after}
-use Rattle.tap_model.specs.Stories.{Step, Story}
+use Rattle.tap_model.specs.Stories.{Step}
 use Rattle.tap_model.proofs.SoundLaws.{step-sound}
 use Rattle.tap_top.specs.declared.tally.Tally.{Tally}
 use Rattle.tap_engine.specs.declared.engine.Engine.{Engine}
-use Rattle.tap_engine.specs.Standing.{Represents}
-use Rattle.tap_top.specs.Points.{SoundAlong, EngineMatchesKeeper}
+use Rattle.tap_top.specs.Points.{EngineMatchesKeeper}
 use Rattle.tap_top.specs.Answers.{MayHaveCommitted}
 use Rattle.tap_top.specs.Statuses.{IsFront}
 use Rattle.sample_gen.specs.Samples.{sample_of}

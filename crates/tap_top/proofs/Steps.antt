@@ -1,7 +1,7 @@
 -- What a reader of a script and the commands that it completed did so far.
 use Rattle.std.proofs.Common.{◌≡◌, ◌∙◌, sym, ap, refl, subst, arith, ℕ, Err, List, [], ◌∷◌, ◌++◌, ◌+◌, ◌-◌, get_or, length, take, drop, Bool, true, Option, ◌≤◌, ◌<◌}
 use Rattle.std.specs.Prelude.{◌&&◌, option_to_list, Result}
-use Rattle.std.proofs.lemmas.List.{append_assoc, append-nil, take_more}
+use Rattle.std.proofs.lemmas.List.{append_assoc, take_more}
 use Rattle.std.proofs.lemmas.Grind.{common_steps}
 use Rattle.tap_rows.specs.declared.tables.Tables.{Tables}
 use Rattle.script_lang.specs.declared.command.Command.{Command}

@@ -1,5 +1,5 @@
 use Rattle.std.proofs.Common.{◌≡◌, ◌∙◌, arith, rules, Err, ap, sym, subst, length}
-use Rattle.std.specs.Vec.Iter.{into_iter_items, into_iter_len}
+use Rattle.std.specs.Vec.Iter.{into_iter_items}
 use Rattle.tap_top.specs.Points.{EngineMatchesKeeper}
 use Rattle.tap_top.proofs.Steps.{KeeperFrame-start, KeeperFrame-then}
 use Rattle.tap_top.proofs.Samples.{Performing, Performing-start, Performing-more, Performing-end, Performing-short, Performing-uncommitted, none-left}

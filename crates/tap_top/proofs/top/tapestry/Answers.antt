@@ -1,4 +1,4 @@
-use Rattle.std.proofs.Common.{◌≡◌, ◌∙◌, refl, sym, ap, subst, inl, inr, ℕ, Option, Some, None}
+use Rattle.std.proofs.Common.{◌≡◌, ◌∙◌, refl, sym, subst, inl, inr, ℕ, Option, Some, None}
 use Rattle.command_words.specs.declared.option_fault.OptionFault.{OptionFault}
 use Rattle.command_words.specs.declared.option_fault.OptionFault.TheVariants.{Refused as RefusedWords, Memory}
 use Rattle.command_words.specs.Words.{sample_in}
