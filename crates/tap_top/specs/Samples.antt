@@ -36,7 +36,8 @@ total count [] = 0
 total count (reply ∷ replies) = count reply + total count replies
 
 -- the commands were performed as in a story, and this holds of their replies and of the tables at its end
-pub record Performed (tables : Tables) (session : Session) (commands : List Command) (Ends : List Reply → Tables → Type 0) (session' : Session) : Type 0 where
+pub record Performed (tables : Tables) (session : Session) (commands : List Command)
+    (Ends : List Reply → Tables → Type 0) (session' : Session) : Type 0 where
   pub replies : List Reply
   pub tables' : Tables
   pub story : Story tables session commands replies tables' session'

@@ -1,5 +1,6 @@
 //! The top call: reads the words, opens the store, and performs a script or a sample over it.
-ghost use Rattle.std.specs.Prelude.{◌≡◌, ◌≢◌, ◌≤◌, ◌⊎◌, ◌&&◌, ◌↔◌, ◌==◌, ℕ, List, [], Option, Some, None, true, false, min};
+ghost use Rattle.std.specs.Prelude.{◌≡◌, ◌≢◌, ◌≤◌, ◌⊎◌, ◌&&◌, ◌↔◌, ◌==◌};
+ghost use Rattle.std.specs.Prelude.{ℕ, List, [], Option, Some, None, true, false, min};
 ghost use Rattle.std.specs.List.{All};
 ghost use Rattle.std.specs.Str.{IsUtf8};
 ghost use Rattle.clap.specs.Words.{takes, fault_of as faults_of};
