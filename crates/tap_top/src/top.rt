@@ -266,6 +266,7 @@ pub fn tapestry<S: Source, K: Sink, P: Keeper, L: Ledger>(
 
     // The words of the command line.
     ensures words { result ≡ 2 → takes app words.now ≡ false }
+    ensures exact { result ≡ 2 → faults_of app words.now ≢ [] }
     ensures worded { (path : Option (List ℕ)) (number : Option ℕ) → IsWellWorded words.now path number → result ≢ 2 }
     ensures faulty { (result ≡ 2) ⊎ ((result ≡ 7) ⊎ (faults_of app words.now ≡ [])) }
     ensures nothing { result ≡ 2 →

@@ -19,6 +19,9 @@ some-is found n one two = cc
 same-number : (found : Option ℕ) (m n : ℕ) → found ≡ Some m → found ≡ Some n → m ≡ n
 same-number found m n one two = cc
 
+pub returns-in-Err-Refused-clause-exact : goal.returns-in-Err-Refused-clause-exact
+returns-in-Err-Refused-clause-exact g c = λ _. c.in-Err-Refused.ensures.refused c.in-Err-Refused.field-0-is
+
 pub returns-in-Err-Refused-clause-script : goal.returns-in-Err-Refused-clause-script
 returns-in-Err-Refused-clause-script g c = λ _ t honest holds store. worded-ends t _ _ _ _ _ _ _ refl refl holds.alone
 
