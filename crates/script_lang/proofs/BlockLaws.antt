@@ -1,5 +1,6 @@
 -- A block of a script, by the lines that it has.
 use Rattle.std.proofs.Common.{◌≡◌, ◌∙◌, ap, refl, ℕ, List, [], ◌∷◌, ◌++◌, Bool, false, codes}
+use Rattle.std.specs.Prelude.{if◌then◌else◌}
 use Rattle.mail_lines.specs.declared.line.Line.{Line}
 use Rattle.mail_lines.specs.declared.line.Line.TheVariants.{Whole as WholeLine}
 use Rattle.mail_lines.specs.declared.block.Block.{Block}
@@ -21,7 +22,10 @@ inside-commands kind formed limit block (line ∷ text) more none = rw none.0 (i
 
 inside-state : (kind : BlockKind) (formed : Bool) (limit : ℕ) (block : Block) (text more : List Line) → NoDot text → state_after (Inside kind formed (record { block = block; limit = limit; failed = false })) (text ++ WholeLine (codes ".") ∷ more) ≡ state_after Outside more
 inside-state kind formed limit block [] more none = refl
-inside-state kind formed limit block (line ∷ text) more none = rw none.0 (inside-state kind formed limit (with_line limit block line) text more none.1)
+inside-state kind formed limit block (line ∷ text) more none =
+    let rest = text ++ WholeLine (codes ".") ∷ more in
+    ap (λ b. state_after (if b then Outside else Inside kind formed (record { block = with_line limit block line; limit = limit; failed = false })) rest) none.0
+    ∙ inside-state kind formed limit (with_line limit block line) text more none.1
 
 opens-kind : (kind : BlockKind) (formed : Bool) → opens formed (word_of_block kind) ≡ opened formed kind
 opens-kind OfMail formed = refl

@@ -21,7 +21,6 @@ use Rattle.tap_rows.proofs.SecondsLaws.{least_second-within, least_second-same}
 use Rattle.tap_rows.proofs.RunLaws.{rising-le, Within, fresh-within}
 use Rattle.tql_core.proofs.OfTheSecond.{of-the-second}
 use Rattle.tql_core.specs.Condition.{Condition, Never}
-use Rattle.tql_core.specs.Scope as scope
 use Rattle.tql_core.specs.Scope.{IsQuery}
 use Rattle.tql_core.specs.Holds as Holds
 use Rattle.tql_types.proofs.ScopeLaws.{typed-is-query}
@@ -268,7 +267,7 @@ filter-in p q (d ∷ docs) same = rw (same d (inl refl), filter-in p q docs (λ 
 same-without : (p q : Doc → Bool) (X : List Probe) (t : Tables) (w : Window) → ((d : Doc) → In d t.docs → p d ≡ q d) → meaning_without p X t w ≡ meaning_without q X t w
 same-without p q X t w same = ap (hits_by (λ d. least X t d w)) (filter-in p q t.docs same)
 
-from-zero : (num : ℕ) (low : ℤ) (docs : List Doc) → pos 0 ≤ℤ low → Arrived num low docs → (d : Doc) → scope.In d docs → pos 0 ≤ℤ d.arrival
+from-zero : (num : ℕ) (low : ℤ) (docs : List Doc) → pos 0 ≤ℤ low → Arrived num low docs → (d : Doc) → In d docs → pos 0 ≤ℤ d.arrival
 from-zero num low [] positive arrived d has = absurd has
 from-zero num low (x ∷ docs) positive arrived d (inl e) = subst (λ (y : Doc). pos 0 ≤ℤ y.arrival) (sym e) (omega (arith, ints, positive, arrived.0))
 from-zero num low (x ∷ docs) positive arrived d (inr has) = from-zero (suc num) x.arrival docs (omega (arith, ints, positive, arrived.0)) arrived.2 d has
