@@ -24,7 +24,7 @@ inside-state : (kind : BlockKind) (formed : Bool) (limit : ℕ) (block : Block) 
 inside-state kind formed limit block [] more none = refl
 inside-state kind formed limit block (line ∷ text) more none =
     let rest = text ++ WholeLine (codes ".") ∷ more in
-    ap (λ b. state_after (if b then Outside else Inside kind formed (record { block = with_line limit block line; limit = limit; failed = false })) rest) none.0
+    ap (λ b. state_after (if b then Outside else Inside kind formed (record { block = if b then Whole [] else with_line limit block line; limit = limit; failed = false })) rest) none.0
     ∙ inside-state kind formed limit (with_line limit block line) text more none.1
 
 opens-kind : (kind : BlockKind) (formed : Bool) → opens formed (word_of_block kind) ≡ opened formed kind
