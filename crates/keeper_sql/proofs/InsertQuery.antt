@@ -8,7 +8,7 @@ use Rattle.sqlite_rules.specs.declared.error.Rowids.TheVariants.{Chosen}
 use Rattle.sqlite_rules.specs.Edit.{edit_of, edited}
 use Rattle.sqlite_trees.specs.Tree.{Trees, put_row}
 use Rattle.sqlite.specs.Does.{Tally, Does}
-use Rattle.sqlite.specs.Rows.{EarlierTables}
+use Rattle.sqlite.specs.Rows.{Written}
 use Rattle.sqlite.specs.Effect.{Database}
 use Rattle.sqlite.specs.Listing.{understood}
 use Rattle.sqlite.specs.State.{State, mode_of, Executes}
@@ -31,7 +31,7 @@ puts_query old new x0 x1 x2 x3 x4 count has h =
     let given = went done.1 in
     let written = went (went given.2).2 in
     let counted = went written.2 in
-    let trees : done.0.trees ≡ written.0 = ap (λ (it : EarlierTables). it.trees) (same_value counted.2) ∙ same_value counted.1 in
+    let trees : done.0.trees ≡ written.0 = ap (λ (it : Written). it.trees) (same_value counted.2) ∙ same_value counted.1 in
     let step = one_step store_schema _ db written.0 (edit_of db (queries_at 3) [] Chosen 0 given.0) refl written.1 in
     let edit : edited db (edit_of db (queries_at 3) [] Chosen 0 given.0) ≡ put_row (Int x0 ∷ Null ∷ Blob x1 ∷ Blob x2 ∷ Blob x3 ∷ Int x4 ∷ []) (db 3) = ap (λ all. edited db (edit_of db (queries_at 3) [] Chosen 0 all)) given.1.1 ∙ rw (cast_int x0, cast_null, cast_int x4) refl in
     let tree : (t : ℕ) → new.now.trees t ≡ written.0 t = λ t. ap (λ (d : Database). d.trees t) now ∙ ap (λ (all : Trees). all t) trees in

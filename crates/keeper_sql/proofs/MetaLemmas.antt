@@ -18,7 +18,7 @@ use Rattle.sqlite_rules.specs.Calls.{ids_of}
 use Rattle.sqlite_rules.specs.Keys.{conflicts, AreConflicts}
 use Rattle.sqlite_trees.specs.Tree.{Trees, rowid, put_row, without_rowid}
 use Rattle.sqlite.specs.Does.{Tally, Does}
-use Rattle.sqlite.specs.Rows.{EarlierTables, Task, InsertsOr, TriesEach, Tries, Judged, Clears, Puts, nothing, mended, count_of}
+use Rattle.sqlite.specs.Rows.{Written, Task, InsertsOr, TriesEach, Tries, Judged, Clears, Puts, nothing, mended, count_of}
 use Rattle.sqlite.specs.Effect.{Database}
 use Rattle.sqlite.specs.Listing.{understood}
 use Rattle.sqlite.specs.State.{State, mode_of, Executes}
@@ -60,13 +60,13 @@ gone version = rw (value_cmp-Int (pos 1) (pos 1)) refl
 abbrev SameTrees : Trees → Trees → Type 0
 SameTrees old new = (new 1 ≡ old 1) × (new 2 ≡ old 2) × (new 3 ≡ old 3) × (new 4 ≡ old 4) × (new 5 ≡ old 5) × (new 6 ≡ old 6)
 
-put_step : (limit : Option ℕ) (keys : Keys) (db : Trees) (one : EarlierTables) → Puts (task_of limit keys) source db (Ok one) → (one.trees 0 ≡ put_row source (db 0)) × SameTrees db one.trees
+put_step : (limit : Option ℕ) (keys : Keys) (db : Trees) (one : Written) → Puts (task_of limit keys) source db (Ok one) → (one.trees 0 ≡ put_row source (db 0)) × SameTrees db one.trees
 put_step limit keys db one h =
     let made = went h in
     let next = made.0 in
     let step = one_step store_schema keys db next (edit_of db (meta_at 0) [] Given 0 (source ∷ [])) refl made.1 in
     let edit : edited db (edit_of db (meta_at 0) [] Given 0 (source ∷ [])) ≡ put_row source (db 0) = rw (cast_int (pos 1), cast_null, cast_int (pos 2)) refl in
-    let trees : one.trees ≡ next = ap (λ (w : EarlierTables). w.trees) (same_value made.2) in
+    let trees : one.trees ≡ next = ap (λ (w : Written). w.trees) (same_value made.2) in
     let at : (t : ℕ) → one.trees t ≡ next t = λ t. ap (λ (all : Trees). all t) trees in
     (at 0 ∙ step.rows ∙ edit, (at 1 ∙ step.tables.1.0 (omega arith), at 2 ∙ step.tables.1.1.0 (omega arith), at 3 ∙ step.tables.1.1.1.0 (omega arith), at 4 ∙ step.tables.1.1.1.1.0 (omega arith), at 5 ∙ step.tables.1.1.1.1.1.0 (omega arith), at 6 ∙ step.tables.1.1.1.1.1.1.0 (omega arith)))
 
@@ -77,11 +77,11 @@ then_same a b d p q = (q.0 ∙ p.0, q.1 ∙ p.1, q.2 ∙ p.2, q.3 ∙ p.3, q.4 �
 abbrev IsWritten : Trees → Trees → Type 0
 IsWritten old new = (new 0 ≡ source ∷ []) × SameTrees old new
 
-put_empty : (limit : Option ℕ) (keys : Keys) (db : Trees) (one : EarlierTables) → db 0 ≡ [] → Puts (task_of limit keys) source db (Ok one) → IsWritten db one.trees
+put_empty : (limit : Option ℕ) (keys : Keys) (db : Trees) (one : Written) → db 0 ≡ [] → Puts (task_of limit keys) source db (Ok one) → IsWritten db one.trees
 put_empty limit keys db one none h = let all = put_step limit keys db one h in (all.0 ∙ ap (put_row source) none, all.1)
 
 -- the old row goes, whatever else was found to conflict
-cleared : (limit : Option ℕ) (keys : Keys) (db : Trees) (version : ℤ) (one : EarlierTables) (x : Row) (more : List Row) → db 0 ≡ meta_row version ∷ [] → x ≡ Int (pos 1) ∷ []
+cleared : (limit : Option ℕ) (keys : Keys) (db : Trees) (version : ℤ) (one : Written) (x : Row) (more : List Row) → db 0 ≡ meta_row version ∷ [] → x ≡ Int (pos 1) ∷ []
     → Clears (task_of limit keys) Replace source db (x ∷ more) (Ok one) → IsWritten db one.trees
 cleared limit keys db version one x more row is h =
     let went_on = went h in
@@ -93,7 +93,7 @@ cleared limit keys db version one x more row is h =
     let put = put_empty limit keys mid one (step.rows ∙ left) went_on.2 in
     (put.0, then_same db mid one.trees same put.1)
 
-found_rows : (limit : Option ℕ) (keys : Keys) (db : Trees) (one : EarlierTables) (found : List Row) → IsMeta (db 0) → AreConflicts None [] (meta_at 0) (db 0) source found
+found_rows : (limit : Option ℕ) (keys : Keys) (db : Trees) (one : Written) (found : List Row) → IsMeta (db 0) → AreConflicts None [] (meta_at 0) (db 0) source found
     → Clears (task_of limit keys) Replace source db found (Ok one) → IsWritten db one.trees
 found_rows limit keys db one [] (inl none) same h = put_empty limit keys db one none h
 found_rows limit keys db one [] (inr (version, row)) same h =
@@ -108,11 +108,11 @@ found_rows limit keys db one (x ∷ more) (inr (version, row)) same h =
     let here : met.0 ≡ meta_row version = elim only [ inl e ↦ e | inr never ↦ absurd never ] in
     cleared limit keys db version one x more row (met.3 ∙ ap (λ (r : Row). rowid r ∷ []) here) h
 
-judged : (limit : Option ℕ) (keys : Keys) (db : Trees) (one : EarlierTables) (verdict : Option Refusal) → IsMeta (db 0) → Judged (task_of limit keys) Replace [] source db verdict (Ok one) → IsWritten db one.trees
+judged : (limit : Option ℕ) (keys : Keys) (db : Trees) (one : Written) (verdict : Option Refusal) → IsMeta (db 0) → Judged (task_of limit keys) Replace [] source db verdict (Ok one) → IsWritten db one.trees
 judged limit keys db one None meta h = found_rows limit keys db one h.0 meta h.1 h.2
 judged limit keys db one (Some why) meta h = absurd cc
 
-written : (limit : Option ℕ) (keys : Keys) (db : Trees) (w : EarlierTables) → IsMeta (db 0) → InsertsOr (task_of limit keys) Replace [] (Values (lit (Int (pos 1)) ∷ lit Null ∷ lit (Int (pos 2)) ∷ []) 3) db (Ok w) → IsWritten db w.trees
+written : (limit : Option ℕ) (keys : Keys) (db : Trees) (w : Written) → IsMeta (db 0) → InsertsOr (task_of limit keys) Replace [] (Values (lit (Int (pos 1)) ∷ lit Null ∷ lit (Int (pos 2)) ∷ []) 3) db (Ok w) → IsWritten db w.trees
 written limit keys db w meta h =
     let task = task_of limit keys in
     let given = went h in
@@ -121,8 +121,8 @@ written limit keys db w meta h =
     let last = went tried.2 in
     let each = went (subst (λ rows. TriesEach task Replace [] rows (count_of counter.0) (nothing db) (Ok tried.0)) given.1.1 tried.1) in
     let one = each.0 in
-    let done : tried.0.0.trees ≡ one.trees = ap (λ (p : EarlierTables × ℤ). p.0.trees) (same_value each.2) in
-    let all : w.trees ≡ tried.0.0.trees = ap (λ (it : EarlierTables). it.trees) (same_value last.2) ∙ same_value last.1 in
+    let done : tried.0.0.trees ≡ one.trees = ap (λ (p : Written × ℤ). p.0.trees) (same_value each.2) in
+    let all : w.trees ≡ tried.0.0.trees = ap (λ (it : Written). it.trees) (same_value last.2) ∙ same_value last.1 in
     let tries : Tries task Replace [] source db (Ok one) = subst (λ new. Tries task Replace [] new db (Ok one)) (new_meta (db 0)) each.1 in
     let here : IsWritten db one.trees = elim tries [
       | inl refused ↦ absurd (let e = refused.1 in cc)
