@@ -20,10 +20,8 @@ fn rules_or_fault(alloc: Global, text: &[u8]) -> Result<usize, RuleFault> {
 // A filter's text of so many rules, behind a comment.
 fn rules_text(alloc: Global, n: usize) -> Result<Text, Memory> {
     let mut text = Text::from_slice(alloc, b"# rules\n")?;
-    let mut done = 0;
-    'rules: while done < n {
+    for _ in 0..n {
         text.push_slice(b"WHEN TRUE PRIORITY 1 CLASS 'a'\n")?;
-        done += 1;
     }
     Ok(text)
 }
