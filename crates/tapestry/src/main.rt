@@ -7,8 +7,7 @@ ghost use Rattle.std.specs.Str.{IsUtf8};
 
 use command_words::{WordsFault, words_of_line};
 use keeper_core::Keeper;
-use keeper_file::{FileKeeper, PathOpener};
-use sqlite::Unknown;
+use keeper_file::FileKeeper;
 use std::alloc::Global;
 use std::marker::Brand;
 use std::process::ExitCode;
@@ -19,14 +18,6 @@ use tap_top::tapestry;
 
 #[cfg(test)]
 mod tests;
-
-// The status of words that aren't text, and of words that were read out of memory.
-const BAD_WORDS: u8 = 2;
-
-const OUT_OF_MEMORY: u8 = 7;
-
-// The status of a run that the keeper stopped: its store is left as it is.
-const KEEPER_FAILED: u8 = 5;
 
 // Runs over this source, sink and keeper, counting steps for the ledger of the blank.
 fn run<S: Source, K: Sink, P: Keeper, L: Ledger>(
@@ -52,12 +43,12 @@ fn main(rt: HostRuntime) -> ExitCode {
     let alloc = rt.alloc();
     let words = match words_of_line(&rt, alloc) {
         Ok(words) => words,
-        Err(WordsFault::NotText) => return ExitCode::from(BAD_WORDS),
-        Err(WordsFault::Memory) => return ExitCode::from(OUT_OF_MEMORY),
+        Err(WordsFault::NotText) => return ExitCode::from(2),
+        Err(WordsFault::Memory) => return ExitCode::from(7),
     };
     let mut source = StdSource::new(rt.stdin());
     let mut sink = StdSink::new(rt.stdout());
-    let mut keeper = FileKeeper::new(PathOpener::new(&rt, Unknown));
+    let mut keeper = FileKeeper::new(&rt);
     let status = run::<_, _, _, Brand>(
         alloc,
         &words,
@@ -66,10 +57,5 @@ fn main(rt: HostRuntime) -> ExitCode {
         &mut keeper,
         Blank::new(1),
     );
-    // Every commit is in the two files already. This copies the log into the database file, so that this file alone is the
-    // store; a copy that fails loses nothing and changes no status.
-    if status != KEEPER_FAILED {
-        drop(keeper.close());
-    }
     ExitCode::from(status)
 }

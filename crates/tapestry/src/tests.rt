@@ -1,12 +1,9 @@
-//! Sessions in a row over one store, and stores of version 1.
-
-ghost use Rattle.std.specs.Prelude.{◌≡◌, ◌<◌, false, IsTrue, IfOk, IfSome};
+ghost use Rattle.std.specs.Prelude.{◌≡◌, ◌<◌, false, IsTrue, IfSome};
 ghost use Rattle.sqlite_disk.specs.Memory.{memory_is_usable};
 
 use keeper_core::Keeper;
-use keeper_file::{adopted, closed};
 use keeper_sql::SqlKeeper;
-use sqlite::{Connection, Error, Files, MemStore, Options};
+use sqlite::{Connection, FileStore, Files, Options};
 use sqlite_disk::Memory as MemoryFile;
 use std::alloc::Global;
 use std::marker::Brand;
@@ -41,6 +38,31 @@ fn run<P: Keeper, L: Ledger>(
     Ok((status, Text::from_slice(alloc, sink.written())?))
 }
 
+// Opens the files of a store, and adopts the connection.
+fn adopted(alloc: Global, files: Files<MemoryFile>) -> Option<SqlKeeper<FileStore<MemoryFile>>>
+    requires log { IsTrue (memory_is_usable files.log) }
+    requires db { IsTrue (memory_is_usable files.db) }
+    ensures free { IfSome result (λ keeper. (keeper.attached ≡ false) × (keeper.stopped ≡ false)) }
+{
+    match Connection::open_files(alloc, files, Options::new(1)) {
+        Ok(connection) => Some(SqlKeeper::adopt(connection)),
+        Err(_) => None,
+    }
+}
+
+// Hands the connection back, and closes its files.
+fn closed(keeper: SqlKeeper<FileStore<MemoryFile>>) -> Option<Files<MemoryFile>>
+    ensures usable { IfSome result (λ files. IsTrue (memory_is_usable files.log) × IsTrue (memory_is_usable files.db)) }
+{
+    match keeper.into_connection().close_files() {
+        Ok(files) => Some(files),
+        Err((_, store)) => {
+            drop(store.close());
+            None
+        }
+    }
+}
+
 // A session over the files of a store: its status, what it wrote, and the files as it closed them.
 fn session(
     alloc: Global,
@@ -51,7 +73,7 @@ fn session(
     requires db { IsTrue (memory_is_usable files.db) }
     ensures usable { IfSome result (λ left. IsTrue (memory_is_usable left.2.log) × IsTrue (memory_is_usable left.2.db)) }
 {
-    let mut keeper = adopted(alloc, files, Options::new(1))?;
+    let mut keeper = adopted(alloc, files)?;
     let ran = run::<_, Brand>(alloc, Blank::new(1), &mut keeper, script);
     let files = closed(keeper)?;
     let (status, written) = ran.ok()?;
@@ -82,19 +104,12 @@ fn three_sessions(
     ended.then_some((one, two, three))
 }
 
-// The second session over a store that has a query, two documents and two runs.
-const SECOND_SCRIPT: &[u8] =
-    b"as ann\nat 111\nat 120\nmail\nSubject: hi\n\n.\nat 121\nrun q\nbox q\n";
-
-const SECOND_REPLIES: &[u8] =
-    b"ok 0 as ann\nok 0 at 111\nok 0 at 120\nok 0 doc 3\nok 0 at 121\nok 1 run 3 before 121\ndoc 3 first 120\nok 3 box q\ndoc 1 first 100 run 1\ndoc 2 first 110 run 2\ndoc 3 first 120 run 3\n";
-
 #[test]
 fn sessions_go_on_over_files(rt: HostRuntime) -> Result<(), Fail> {
     let written = three_sessions(
         rt.alloc(),
         b"as ann\nat 100\nquery q m.words HAS 'hi'\nmail\nSubject: hi\n\n.\nat 101\nrun q\nat 110\nmail\nSubject: hi\n\n.\nat 111\nrun q\n",
-        SECOND_SCRIPT,
+        b"as ann\nat 111\nat 120\nmail\nSubject: hi\n\n.\nat 121\nrun q\nbox q\n",
         b"as ann\nbox q\n",
     );
     let Some((first, second, third)) = written else {
@@ -104,85 +119,13 @@ fn sessions_go_on_over_files(rt: HostRuntime) -> Result<(), Fail> {
         first.as_slice(),
         b"ok 0 as ann\nok 0 at 100\nok 0 query q\nok 0 doc 1\nok 0 at 101\nok 1 run 1 before 101\ndoc 1 first 100\nok 0 at 110\nok 0 doc 2\nok 0 at 111\nok 1 run 2 before 111\ndoc 2 first 110\n".as_slice()
     );
-    assert_eq!(rt; second.as_slice(), SECOND_REPLIES);
+    assert_eq!(rt;
+        second.as_slice(),
+        b"ok 0 as ann\nok 0 at 111\nok 0 at 120\nok 0 doc 3\nok 0 at 121\nok 1 run 3 before 121\ndoc 3 first 120\nok 3 box q\ndoc 1 first 100 run 1\ndoc 2 first 110 run 2\ndoc 3 first 120 run 3\n".as_slice()
+    );
     assert_eq!(rt;
         third.as_slice(),
         b"ok 0 as ann\nok 3 box q\ndoc 1 first 100 run 1\ndoc 2 first 110 run 2\ndoc 3 first 120 run 3\n".as_slice()
     );
-    Ok(())
-}
-
-// Returns a keeper over the store in memory that these statements make.
-fn store_of(alloc: Global, statements: &str) -> Result<SqlKeeper<MemStore>, Error>
-    ensures free { IfOk result (λ keeper. (keeper.attached ≡ false) × (keeper.stopped ≡ false)) }
-{
-    let mut connection = Connection::open_in_memory(alloc)?;
-    connection.execute_batch(statements)?;
-    if !connection.is_autocommit() {
-        return Err(Error::InvalidQuery);
-    }
-    Ok(SqlKeeper::adopt(connection))
-}
-
-// What a run over such a store gives and writes, and the version of the store then.
-fn stored(
-    alloc: Global,
-    statements: &str,
-    script: &[u8],
-) -> Result<(Result<(u8, Text), Memory>, i64), Error> {
-    let mut keeper = store_of(alloc, statements)?;
-    let ran = run::<_, Brand>(alloc, Blank::new(1), &mut keeper, script);
-    let mut connection = keeper.into_connection();
-    let version = connection
-        .query_row("SELECT version FROM meta", &[])?
-        .get(0)?;
-    Ok((ran, version))
-}
-
-// A store of version 1 whose only document has a number that is too large.
-const DAMAGED: &str =
-    "CREATE TABLE meta (id INTEGER PRIMARY KEY CHECK (id = 1), version INTEGER NOT NULL) STRICT;
-    INSERT INTO meta (id, version) VALUES (1, 1);
-    CREATE TABLE docs (num INTEGER PRIMARY KEY, arrival INTEGER NOT NULL, body BLOB NOT NULL) STRICT;
-    INSERT INTO docs (num, arrival, body) VALUES (4294967296, 100, x'0a')";
-
-// A store of version 1 with the tables of the first session: the query `m.words HAS 'hi'` of `ann` and its two runs.
-const OLD_STORE: &str =
-    "CREATE TABLE meta (id INTEGER PRIMARY KEY CHECK (id = 1), version INTEGER NOT NULL) STRICT;
-    INSERT INTO meta (id, version) VALUES (1, 1);
-    CREATE TABLE docs (num INTEGER PRIMARY KEY, arrival INTEGER NOT NULL, body BLOB NOT NULL) STRICT;
-    INSERT INTO docs (num, arrival, body) VALUES (1, 100, x'5375626a6563743a2068690a0a');
-    INSERT INTO docs (num, arrival, body) VALUES (2, 110, x'5375626a6563743a2068690a0a');
-    CREATE TABLE queries (num INTEGER PRIMARY KEY, owner BLOB NOT NULL, name BLOB NOT NULL, source BLOB NOT NULL,
-        arrival INTEGER NOT NULL) STRICT;
-    INSERT INTO queries (num, owner, name, source, arrival)
-        VALUES (1, x'616e6e', x'71', x'6d2e776f726473204841532027686927', 100);
-    CREATE TABLE runs (num INTEGER PRIMARY KEY, query INTEGER NOT NULL, moment INTEGER NOT NULL) STRICT;
-    INSERT INTO runs (num, query, moment) VALUES (1, 1, 101);
-    INSERT INTO runs (num, query, moment) VALUES (2, 1, 111);
-    CREATE TABLE picks (num INTEGER PRIMARY KEY, query INTEGER NOT NULL, run INTEGER NOT NULL, doc INTEGER NOT NULL,
-        second INTEGER NOT NULL) STRICT;
-    INSERT INTO picks (num, query, run, doc, second) VALUES (1, 1, 1, 1, 100);
-    INSERT INTO picks (num, query, run, doc, second) VALUES (2, 1, 2, 2, 110)";
-
-#[test]
-fn a_number_out_of_range_is_damage(rt: HostRuntime) -> Result<(), Fail> {
-    let (ran, _version) = stored(rt.alloc(), DAMAGED, b"as ann\n")?;
-    let (status, written) = ran?;
-    assert_eq!(rt; status, 6);
-    assert_eq!(rt;
-        written.as_slice(),
-        b"stop 6 damaged docs 1 number\n".as_slice()
-    );
-    Ok(())
-}
-
-#[test]
-fn a_store_of_version_1_goes_on_in_version_2(rt: HostRuntime) -> Result<(), Fail> {
-    let (ran, version) = stored(rt.alloc(), OLD_STORE, SECOND_SCRIPT)?;
-    let (status, written) = ran?;
-    assert_eq!(rt; status, 0);
-    assert_eq!(rt; written.as_slice(), SECOND_REPLIES);
-    assert_eq!(rt; version, 2);
     Ok(())
 }
