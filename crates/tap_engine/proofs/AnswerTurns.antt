@@ -19,6 +19,8 @@ use Rattle.script_lang.specs.declared.refusal.Refusal.TheVariants.{Memory}
 use Rattle.tap_model.specs.Verdicts.{verdict, is_early}
 use Rattle.tap_model.specs.Replies.{answer_of, answer_by, accepted}
 use Rattle.tap_kept.specs.declared.cached_query.CachedQuery.{CachedQuery}
+use Rattle.vote_scores.specs.declared.undo.Undo.{Undo as VoteUndo}
+use Rattle.vote_scores.specs.Tally.{CanUndo, Vote, undone}
 use Rattle.tap_engine.specs.declared.engine.Engine.{Engine}
 use Rattle.tap_engine.specs.declared.undo.Undo.TheVariants.{Docs, Note as OneNote, Query, Filter}
 use Rattle.tap_kept.specs.Keeping.{with_owner}
@@ -59,8 +61,15 @@ some-note : (notes : List Note) (note : Note) → 0 < length (notes ++ note ∷ 
 some-note [] note = omega arith
 some-note (x ∷ notes) note = omega arith
 
-pub undo-note : (e : Engine) (note : Note) (bytes : ℕ) → UndoRestores (OneNote e.bytes) (record e { index = after e.index (RowNote note); bytes = bytes }) e
-undo-note e note bytes = record { there = some-note e.index.notes note; before_is = record { same = ap (λ l. record e { index = record e.index { notes = l } }) (one-back e.index.notes note); room = omega arith } }
+pub undo-note : (e : Engine) (note : Note) (bytes : ℕ) (vote : VoteUndo) (votes : List Vote) → CanUndo vote votes → undone vote votes ≡ e.votes
+    → UndoRestores (OneNote e.bytes vote) (record e { index = after e.index (RowNote note); votes = votes; bytes = bytes }) e
+undo-note e note bytes vote votes can back = record {
+  there = (some-note e.index.notes note, can);
+  before_is = record {
+    same = ap (λ l. record e { index = record e.index { notes = l }; votes = undone vote votes }) (one-back e.index.notes note) ∙ ap (λ votes. record e { votes = votes }) back;
+    room = omega arith;
+  };
+}
 
 -- an owner is removed again
 owner-back : (owners : List (List ℕ)) (owner : List ℕ) → take (length owners) (with_owner owners owner) ≡ owners

@@ -92,7 +92,7 @@ define-refuses e name source refusal by t represents = subst (λ v. RefusedBy v 
 pub named-is : (e : Engine) (t : Tables) (name : List ℕ) → Represents e t → cached_named e name ≡ option_map (cached_query t) (query_named (user_of e.session) name t)
 named-is e t name represents = rw represents.queries (named-kept t (user_of e.session) name t.queries)
 
-missing-map : (t : Tables) (o : Option QueryRow) → missing NoQuery (option_map (cached_query t) o) ≡ missing NoQuery o
+pub missing-map : (t : Tables) (o : Option QueryRow) → missing NoQuery (option_map (cached_query t) o) ≡ missing NoQuery o
 missing-map t None = refl
 missing-map t (Some q) = refl
 

@@ -122,6 +122,7 @@ represents-placed e t h q i m kept represents is-kept has at there is = record {
   users = represents.users;
   owners = represents.owners;
   filters = represents.filters;
+  votes = represents.votes;
   greatest = λ none. absurd (there none);
 }
 

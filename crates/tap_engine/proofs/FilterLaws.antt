@@ -130,6 +130,7 @@ represents-filter e t row represents there = record {
   bytes = more (sum_by (λ doc. length doc.text) t.docs) (sum_by (λ note. length note.text) t.notes) (sum_by (λ query. length query.source) t.queries) (sum_by (λ filter. length filter.source) t.filters) _ _ (length row.source) represents.bytes (sum_by-append (λ filter. length filter.source) t.filters (row ∷ []));
   users = users-more e.owners names [] row.owner (represents.users ∙ ap different (sym none-after)) (represents.owners row.owner ∙ ap (λ texts. holds texts row.owner) (sym none-after)) ∙ ap different (sym all);
   owners = λ user. owners-more e.owners names [] row.owner user (λ w. represents.owners w ∙ ap (λ texts. holds texts w) (sym none-after)) ∙ ap (λ texts. holds texts user) (sym all);
+  votes = represents.votes;
   greatest = λ none. absurd (there none);
 } where
   names : List (List ℕ)

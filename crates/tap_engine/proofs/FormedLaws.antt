@@ -41,8 +41,25 @@ docs-standing place low (doc ∷ docs) from e =
     let rest = docs-standing (place + 1) doc.arrival docs above both.1 in
     ((equal doc.num.0 place here.0, moment.0, record { early = above; late = moment.1 }, rest.0), (at-most (length doc.text) 1048576 this.1, rest.1))
 
-notes-standing : (docs : List Doc) (place : ℕ) (low : ℤ) (notes : List Note) → pos 0 ≤ℤ low → notes_stand docs place low notes ≡ true → AreInOrder note_number note_arrival place low notes
-notes-standing docs place low [] from e = tt
+-- the row of a number is one of so many
+row-within : {A : Type 0} (xs : List A) (i : ℕ) (x : A) → slice_get xs i ≡ Some x → i < length xs
+row-within [] i x e = absurd cc
+row-within (y ∷ xs) zero x e = omega arith
+row-within (y ∷ xs) (suc i) x e = let rest = row-within xs i x e in omega (arith, rest)
+
+some-is : (n : ℕ) → (suc n == 0) ≡ false
+some-is n = grind arith
+
+one-of : {A : Type 0} (test : A → Bool) (num : ℕ) (xs : List A) → is_row test (row_at num xs) ≡ true → IsOneOf num (length xs)
+one-of {A = A} test zero xs e = absurd (false≢true e)
+one-of {A = A} test (suc n) xs e = let some = some-is n in go (slice_get xs (suc n - 1)) refl (rw some at e) where
+  go : (o : Option A) → slice_get xs (suc n - 1) ≡ o → is_row test o ≡ true → IsOneOf (suc n) (length xs)
+  go None at h = absurd (false≢true h)
+  go (Some x) at h = let within = row-within xs (suc n - 1) x at in record { low = omega arith; high = omega (arith, within) }
+
+notes-standing : (docs : List Doc) (place : ℕ) (low : ℤ) (notes : List Note) → pos 0 ≤ℤ low → notes_stand docs place low notes ≡ true
+    → AreInOrder note_number note_arrival place low notes × Each (λ note. IsOneOf note.doc.0 (length docs)) notes
+notes-standing docs place low [] from e = (tt, tt)
 notes-standing docs place low (note ∷ notes) from e =
     let both = and_parts (note_stands docs place low note) (notes_stand docs (place + 1) note.arrival notes) e in
     let kind = and_parts _ _ both.0 in
@@ -51,7 +68,8 @@ notes-standing docs place low (note ∷ notes) from e =
     let here = and_parts _ _ this.0 in
     let moment = follows low note.arrival here.1 in
     let above : pos 0 ≤ℤ note.arrival = omega (arith, ints, moment.0, from) in
-    (equal note.num.0 place here.0, moment.0, record { early = above; late = moment.1 }, notes-standing docs (place + 1) note.arrival notes above both.1)
+    let rest = notes-standing docs (place + 1) note.arrival notes above both.1 in
+    ((equal note.num.0 place here.0, moment.0, record { early = above; late = moment.1 }, rest.0), (one-of (λ doc. int_le doc.arrival note.arrival) note.doc.0 docs this.1, rest.1))
 
 not-below : (low m : ℤ) → pos 0 ≤ℤ low → low ≤ℤ m → pos 0 ≤ℤ m
 not-below low m from le = omega (arith, ints, from, le)
@@ -68,22 +86,6 @@ queries-from earlier place low (query ∷ queries) from e =
     let above = not-below low query.arrival from moment.0 in
     let rest = queries-from (earlier ++ query ∷ []) (place + 1) query.arrival queries above both.1 in
     ((equal query.num.0 place here.0, subst (λ n. QueriesFrom n queries) (next place) rest.0), ((above, moment.1), rest.1))
-
--- the row of a number is one of so many
-row-within : {A : Type 0} (xs : List A) (i : ℕ) (x : A) → slice_get xs i ≡ Some x → i < length xs
-row-within [] i x e = absurd cc
-row-within (y ∷ xs) zero x e = omega arith
-row-within (y ∷ xs) (suc i) x e = let rest = row-within xs i x e in omega (arith, rest)
-
-some-is : (n : ℕ) → (suc n == 0) ≡ false
-some-is n = grind arith
-
-one-of : {A : Type 0} (test : A → Bool) (num : ℕ) (xs : List A) → is_row test (row_at num xs) ≡ true → IsOneOf num (length xs)
-one-of {A = A} test zero xs e = absurd (false≢true e)
-one-of {A = A} test (suc n) xs e = let some = some-is n in go (slice_get xs (suc n - 1)) refl (rw some at e) where
-  go : (o : Option A) → slice_get xs (suc n - 1) ≡ o → is_row test o ≡ true → IsOneOf (suc n) (length xs)
-  go None at h = absurd (false≢true h)
-  go (Some x) at h = let within = row-within xs (suc n - 1) x at in record { low = omega arith; high = omega (arith, within) }
 
 runs-from : (queries : List QueryRow) (place : ℕ) (low : ℤ) (runs : List RunRow) → pos 0 ≤ℤ low → runs_stand queries place low runs ≡ true → RunsFrom place runs × Each (λ run. IsOneOf run.query.0 (length queries)) runs × Each (λ run. IsMoment run.moment) runs
 runs-from queries place low [] from e = (tt, tt, tt)
@@ -144,6 +146,7 @@ picks-once runs docs earlier place before (pick ∷ picks) e =
 pub record Formed (tables : Tables) : Type 0 where
   pub docs : FollowInOrder doc_number doc_arrival [] tables.docs
   pub notes : FollowInOrder note_number note_arrival [] tables.notes
+  pub on : Each (λ note. IsOneOf note.doc.0 (length tables.docs)) tables.notes
   pub short : Each (λ doc. length doc.text ≤ 1048576) tables.docs
   pub queries : QueriesFrom 1 tables.queries
   pub moments : Each (λ query. IsMoment query.arrival) tables.queries
@@ -165,4 +168,4 @@ formed tables holds =
     let notes = notes-standing tables.docs 1 (pos 0) tables.notes zero-first n.1 in
     let queries = queries-from [] 1 (pos 0) tables.queries (omega (arith, ints)) q.1 in
     let runs = runs-from tables.queries 1 (pos 0) tables.runs zero-first r.1 in
-    record { docs = record { low = pos 0; before = tt; stand = docs.0 }; notes = record { low = pos 0; before = tt; stand = notes }; times = runs.2; short = docs.1; queries = queries.0; moments = queries.1; runs = runs.0; owned = runs.1; picked = picks-have tables.runs tables.docs [] 1 None tables.picks runs.0 p.1; once = picks-once tables.runs tables.docs [] 1 None tables.picks p.1 }
+    record { docs = record { low = pos 0; before = tt; stand = docs.0 }; notes = record { low = pos 0; before = tt; stand = notes.0 }; on = notes.1; times = runs.2; short = docs.1; queries = queries.0; moments = queries.1; runs = runs.0; owned = runs.1; picked = picks-have tables.runs tables.docs [] 1 None tables.picks runs.0 p.1; once = picks-once tables.runs tables.docs [] 1 None tables.picks p.1 }

@@ -12,5 +12,6 @@ mod CostLaws
 mod NoteLaws
 mod MboxLaws
 mod FilterLaws
+mod ReadLaws
 pub mod FormedLaws
 pub mod StartedLaws

@@ -124,6 +124,7 @@ represents-docs e t h moment texts represents there = rw (docs-change t (next_do
   users = represents.users;
   owners = represents.owners;
   filters = represents.filters;
+  votes = represents.votes;
   greatest = λ none. absurd (there none);
 }) where
   more : (a b c d a' n k : ℕ) → n ≡ a + b + c + d → a' ≡ a + k → n + k ≡ a' + b + c + d

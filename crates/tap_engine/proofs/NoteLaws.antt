@@ -26,6 +26,8 @@ use Rattle.tap_model.proofs.AnswerLaws.{some-none}
 use Rattle.tap_engine.specs.Answering.{Answers}
 use Rattle.tap_engine.proofs.RowTurns.{docs-are, notes-are}
 use Rattle.tap_engine.proofs.AnswerTurns.{answers-accepted}
+use Rattle.tap_kept.proofs.VoteLaws.{tally-more}
+use Rattle.vote_scores.specs.Tally.{with_vote}
 
 four : (a b c : Option Refusal) (rest : List (Option Refusal)) → option_or a (option_or b (option_or c (first_refusal rest))) ≡ first_refusal (a ∷ b ∷ c ∷ rest)
 four (Some x) b c rest = refl
@@ -62,7 +64,7 @@ answers-note t s doc kind value text n note change s' none count is-note is-chan
     }
 
 -- the engine with one more note
-pub represents-note : (e : Engine) (t : Tables) (note : Note) → Represents e t → (e.session.moment ≡ None → ⊥) → Represents (record e { index = after e.index (OneNote note); bytes = e.bytes + length note.text }) (after t (OneNote note))
+pub represents-note : (e : Engine) (t : Tables) (note : Note) → Represents e t → (e.session.moment ≡ None → ⊥) → Represents (record e { index = after e.index (OneNote note); votes = with_vote note e.votes; bytes = e.bytes + length note.text }) (after t (OneNote note))
 represents-note e t note represents there = record {
   rows = ap (λ rows. after rows (OneNote note)) represents.rows;
   queries = represents.queries;
@@ -72,6 +74,7 @@ represents-note e t note represents there = record {
   users = represents.users;
   owners = represents.owners;
   filters = represents.filters;
+  votes = ap (with_vote note) represents.votes ∙ sym (tally-more t.notes note);
   greatest = λ none. absurd (there none);
 } where
   more : (a b c d b' n k : ℕ) → n ≡ a + b + c + d → b' ≡ b + (0 + k) → n + k ≡ a + b' + c + d

@@ -95,7 +95,7 @@ taken-there undo new old change rows is takes = subst (λ change. OnSome change 
 
 -- the hits have no part in what an engine represents
 represents-hits : (e : Engine) (t : Tables) (h : HitsWithRoom) → Represents e t → Represents (record e { hits = h }) t
-represents-hits e t h represents = record { rows = represents.rows; queries = represents.queries; filters = represents.filters; run_count = represents.run_count; pick_count = represents.pick_count; bytes = represents.bytes; users = represents.users; owners = represents.owners; greatest = represents.greatest }
+represents-hits e t h represents = record { rows = represents.rows; queries = represents.queries; filters = represents.filters; votes = represents.votes; run_count = represents.run_count; pick_count = represents.pick_count; bytes = represents.bytes; users = represents.users; owners = represents.owners; greatest = represents.greatest }
 
 -- what the engine represents if the keeper didn't commit
 pub fault-represents : (fault : CommitFault) (t : Tables) (e back e' : Engine) (c : Command) (result : Result Reply EngineFault) → result ≡ fault_answer fault → e' ≡ fault_engine fault back → IsUnchangedButHits back e → Represents e t

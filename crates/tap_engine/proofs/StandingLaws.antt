@@ -35,6 +35,7 @@ represents-query e t row represents kept num there = record {
   users = users-more e.owners names (map (λ filter. filter.owner) t.filters) row.owner represents.users (represents.owners row.owner) ∙ ap different (sym all);
   owners = λ user. owners-more e.owners names (map (λ filter. filter.owner) t.filters) row.owner user represents.owners ∙ ap (λ texts. holds texts user) (sym all);
   filters = represents.filters;
+  votes = represents.votes;
   greatest = λ none. absurd (there none);
 } where
   names : List (List ℕ)

@@ -18,6 +18,7 @@ use Rattle.tap_rows.specs.Kept.{Each, QueriesFrom}
 use Rattle.tap_rows.proofs.LaterLaws.{each-map}
 use Rattle.tap_model.specs.Limits.{stored_bytes, owners_in, different}
 use Rattle.tap_model.specs.Sessions.{no_session, later_of, greatest_of, greatest_moment}
+use Rattle.vote_scores.specs.Tally.{tally}
 use Rattle.tap_engine.specs.declared.engine.Engine.{Engine}
 use Rattle.tap_kept.specs.Keeping.{cached_query, with_owner}
 use Rattle.tap_engine.specs.Standing.{Represents}
@@ -62,6 +63,7 @@ pub record IsStarted (e : Engine) (t : Tables) : Type 0 where
   pub room : length e.index.docs ≤ e.hits.room
   pub queries : e.queries ≡ map (cached_query (runs_alone t.runs t.picks)) t.queries
   pub filters : e.filters ≡ t.filters
+  pub votes : e.votes ≡ tally t.notes
   pub run_count : e.run_count ≡ length t.runs
   pub pick_count : e.pick_count ≡ length t.picks
   pub bytes : e.bytes ≡ stored_bytes t
@@ -73,6 +75,7 @@ represents-start e t is = record {
   rows = is.rows;
   queries = is.queries;
   filters = is.filters;
+  votes = is.votes;
   run_count = is.run_count;
   pick_count = is.pick_count;
   bytes = is.bytes;

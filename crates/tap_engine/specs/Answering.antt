@@ -16,6 +16,7 @@ use Rattle.tap_model.specs.Replies.{answer_of, tables_after}
 use Rattle.tap_model.specs.Stories.{Refuses}
 use Rattle.tap_kept.specs.declared.cached_query.CachedQuery.{CachedQuery}
 use Rattle.tap_kept.specs.Keeping.{without_run}
+use Rattle.vote_scores.specs.Tally as Tally
 use Rattle.tap_engine.specs.declared.engine.Engine.{Engine}
 use Rattle.tap_engine.specs.declared.fault.EngineFault.{EngineFault}
 use Rattle.tap_engine.specs.declared.fault.EngineFault.TheVariants.{KeeperFailed}
@@ -61,7 +62,7 @@ pub record AddsRows (command : Command) (session : Session) (tables : Tables) : 
 abbrev pub undone : Undo → Engine → Engine
 undone Nothing engine = engine
 undone (Docs len bytes) engine = record engine { index = record engine.index { docs = take len engine.index.docs }; bytes = bytes }
-undone (Note bytes) engine = record engine { index = without_last_note engine.index; bytes = bytes }
+undone (Note bytes vote) engine = record engine { index = without_last_note engine.index; votes = Tally.undone vote engine.votes; bytes = bytes }
 undone (Query len owners bytes) engine = record engine { queries = take len engine.queries; owners = take owners engine.owners; bytes = bytes }
 undone (Filter len owners bytes) engine = record engine { filters = take len engine.filters; owners = take owners engine.owners; bytes = bytes }
 undone (Run place covered runs entries run_count pick_count) engine =
@@ -71,9 +72,9 @@ undone (Run place covered runs entries run_count pick_count) engine =
 abbrev pub undo_run : Engine → ℕ → CachedQuery → Undo
 undo_run engine place kept = Run place kept.covered kept.runs (length kept.entries) engine.run_count engine.pick_count
 
--- the note that is undone, or the query whose run is undone, is there
+-- the note that is undone with its vote, or the query whose run is undone, is there
 abbrev pub CanUndo : Undo → Engine → Type 0
-CanUndo (Note bytes) engine = 0 < length engine.index.notes
+CanUndo (Note bytes vote) engine = (0 < length engine.index.notes) × Tally.CanUndo vote engine.votes
 CanUndo (Run place covered runs entries run_count pick_count) engine = place < length engine.queries
 CanUndo undo engine = ⊤
 

@@ -1,7 +1,8 @@
 -- The tables that an engine represents, and why a command is refused, by what the engine has in memory.
-use Rattle.std.specs.Prelude.{ℕ, ◌≡◌, ◌⊎◌, List, [], ◌∷◌, length, map, Option, Some, None, is_none, false, if◌then◌else◌}
+use Rattle.std.specs.Prelude.{ℕ, ℤ, pos, ◌≡◌, ◌⊎◌, List, [], ◌∷◌, length, map, Option, Some, None, is_none, false, if◌then◌else◌}
 use Rattle.std.specs.Option.{option_or}
 use Rattle.tap_base.specs.Words.{holds}
+use Rattle.tap_base.specs.declared.moments.TheConstants.{LAST_MOMENT}
 use Rattle.tap_rows.specs.declared.tables.Tables.{Tables}
 use Rattle.tap_rows.specs.declared.results.Hit.{Hit}
 use Rattle.tap_rows.specs.declared.results.Entry.{Entry}
@@ -20,17 +21,20 @@ use Rattle.tap_model.specs.Sessions.{moment_or_zero, user_of, greatest_moment}
 use Rattle.tap_model.specs.Limits.{stored_bytes, owners_in, different, limit_refusal}
 use Rattle.tap_model.specs.Sound.{IsSound}
 use Rattle.tap_model.specs.Verdicts.{missing, refuse_unless, first_refusal, no_moment, no_user, bad_name, text_fault, is_early}
-use Rattle.tap_model.specs.Verdicts.{messages_of, long_message, long_block, bytes_of, no_doc, long_note}
+use Rattle.tap_model.specs.Verdicts.{messages_of, long_message, long_block, bytes_of, no_doc, long_note, no_run}
+use Rattle.vote_scores.specs.Tally.{tally}
+use Rattle.wake_plan.specs.Wakes.{next_wake}
 use Rattle.restart_core.specs.Starts.{condition_text, stored_source}
 use Rattle.tap_kept.specs.Keeping.{cached_query, named_in, owned_in, hits_since}
 
--- the engine represents the tables: its index owns their documents and notes; it has their queries and filters, how many
--- runs and picks there are, how many bytes they store, and who owns a query or a filter; before the session has a moment it
--- also has the greatest moment of the tables
+-- the engine represents the tables: its index owns their documents and notes; it has their queries and filters, the tally of
+-- their notes, how many runs and picks there are, how many bytes they store, and who owns a query or a filter; before the
+-- session has a moment it also has the greatest moment of the tables
 pub record Represents (engine : Engine) (tables : Tables) : Type 0 where
   pub rows : engine.index ≡ rows_alone tables.docs tables.notes
   pub queries : engine.queries ≡ map (cached_query tables) tables.queries
   pub filters : engine.filters ≡ tables.filters
+  pub votes : engine.votes ≡ tally tables.notes
   pub run_count : engine.run_count ≡ length tables.runs
   pub pick_count : engine.pick_count ≡ length tables.picks
   pub bytes : engine.bytes ≡ stored_bytes tables
@@ -114,6 +118,24 @@ query_refusal session queries name =
 -- why a search for the user's query of this name is refused
 unfoldable pub look_refusal : Engine → List ℕ → Option Refusal
 look_refusal engine name = query_refusal engine.session engine.queries name
+
+-- why a question for the next worthwhile run is refused
+abbrev pub wake_refusal : Engine → List ℕ → Option Refusal
+wake_refusal engine name = option_or (no_moment engine.session) (look_refusal engine name)
+
+-- when a run of this query is next worthwhile, from the session's moment on
+abbrev pub cached_wake : Engine → Option CachedQuery → Option (Option ℤ)
+cached_wake engine None = None
+cached_wake engine (Some kept) = Some (next_wake (moment_or_zero engine.session) (hits_since kept engine.index (pos LAST_MOMENT)))
+
+-- how many runs a query had
+abbrev pub cached_runs : Option CachedQuery → ℕ
+cached_runs None = 0
+cached_runs (Some kept) = kept.runs
+
+-- why the digest of a run is refused
+abbrev pub digest_refusal : Engine → List ℕ → ℕ → Option Refusal
+digest_refusal engine name ordinal = option_or (look_refusal engine name) (no_run ordinal (cached_runs (cached_named engine name)))
 
 -- what a run of this query delivers
 abbrev pub cached_hits : Engine → Option CachedQuery → List Hit

@@ -9,15 +9,18 @@ use std::alloc::Global;
 use tap_base::{Rows, Texts};
 use tap_kept::{CachedFilter, CachedQueries};
 use tap_model::Session;
+use vote_scores::Scores;
 
 /// An engine: the session, and what is in memory of the tables, so that a command costs what it looks at. The index owns the
-/// documents and the notes; the other rows are in memory so far as commands ask for them. `hits` has room for a run's hits
+/// documents and the notes; the other rows are in memory so far as commands ask for them. `votes` is the tally of the notes, the
+/// last value of each author for a kind and a document. `hits` has room for a run's hits
 /// and means nothing between commands. `greatest` is the greatest moment of the stored rows, which bounds the session's first
 /// moment. The engine is stopped once its keeper has failed.
 #[derive(Drop)]
 pub struct Engine {
     pub session: Session,
     pub(crate) index: RowIndex,
+    pub(crate) votes: Scores,
     pub(crate) hits: Hits,
     pub(crate) queries: CachedQueries,
     pub(crate) filters: Rows<CachedFilter>,
@@ -44,6 +47,7 @@ impl Engine {
         Engine {
             session: Session::new(),
             index: RowIndex::new(alloc),
+            votes: Scores::new(alloc),
             hits: Hits::new(alloc),
             queries: CachedQueries::new(alloc),
             filters: Rows::new(alloc),

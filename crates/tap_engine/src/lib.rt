@@ -4,6 +4,7 @@
 mod ask;
 mod boxes;
 mod define;
+mod digest;
 mod engine;
 mod explain;
 mod fault;
@@ -17,10 +18,12 @@ mod note;
 mod perform;
 mod prepared;
 mod run;
+mod scores;
 mod sessions;
 mod start;
 mod undo;
 mod undoing;
+mod wake;
 
 pub use engine::Engine;
 pub use fault::EngineFault;

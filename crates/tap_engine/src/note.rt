@@ -10,6 +10,7 @@ ghost use Rattle.script_lang.specs.declared.command.Command.{Command};
 ghost use Rattle.script_lang.specs.Replies.{HasShortNames, is_accepted};
 ghost use Rattle.tap_model.specs.Sessions.{moment_or_zero, user_of};
 ghost use Rattle.tap_model.specs.Verdicts.{no_doc, long_note};
+ghost use Rattle.vote_scores.specs.Tally.{CanUndo, undone, with_vote};
 
 use crate::engine::Engine;
 use crate::limits::refuse_more;
@@ -18,8 +19,10 @@ use crate::sessions::refuse_name;
 use crate::undo::Undo;
 use script_lang::{LimitName, Refusal, Reply};
 use tap_base::{Copied, DocNum, Memory, NoteNum, Text};
+use tap_kept::add_vote;
 use tap_model::{NOTE_LIMIT, NOTE_TEXT_LIMIT, STORE_LIMIT};
 use tap_rows::{Change, Note};
+use vote_scores::Undo as VoteUndo;
 
 // Refuses a number that is not that of one of `count` documents.
 #[tactic(auto, unfolding(tap_model::specs::Verdicts::no_doc))]
@@ -98,24 +101,30 @@ impl Engine {
         })
     }
 
-    // Adds a note, and gives its row as a change. At Err nothing has changed.
-    fn add_note(&mut self, note: Note) -> Result<Change, Memory>
+    // Adds a note with its vote, and gives its row as a change, and what undoes the vote. At Err nothing has changed.
+    fn add_note(&mut self, note: Note) -> Result<(Change, VoteUndo), Memory>
         requires number { note.num.0 ≡ length self.old.index.notes + 1 }
         requires moment { IsMoment note.arrival }
         requires after { Each (λ other. other.arrival ≤ℤ note.arrival) self.old.index.notes }
         requires bytes { self.old.bytes + length note.text < 2 ^ 64 }
-        ensures change { IfOk result (λ change. change ≡ RowChange.OneNote note) }
+        ensures change { IfOk result (λ made. made.0 ≡ RowChange.OneNote note) }
         ensures engine { OnOk result (self.new ≡ record self.old {
           index = after self.old.index (RowChange.OneNote note);
+          votes = with_vote note self.old.votes;
           bytes = self.old.bytes + length note.text;
         }) }
+        ensures vote { IfOk result (λ made. CanUndo made.1 self.new.votes × (undone made.1 self.new.votes ≡ self.old.votes)) }
         ensures err { OnErr result (self.new ≡ self.old) }
     {
         let len = note.text.len();
         let row = note.copied()?;
-        self.index.add_note(note)?;
+        let vote = add_vote(&mut self.votes, &note)?;
+        if let Err(fault) = self.index.add_note(note) {
+            self.votes.undo(vote);
+            return Err(fault);
+        }
         self.bytes += len;
-        Ok(Change::OneNote(row))
+        Ok((Change::OneNote(row), vote))
     }
 
     // Adds a note on a document.
@@ -137,14 +146,14 @@ impl Engine {
         ensures short { IfOk result (λ made. HasShortNames made.reply) }
         ensures accepted { IfOk result (λ made. is_accepted made.reply ≡ true) }
     {
-        let undo = Undo::Note { bytes: self.bytes };
+        let bytes = self.bytes;
         let note = self.new_note(doc, kind, value, text)?;
         let num = note.num;
-        let change = self.add_note(note)?;
+        let (change, vote) = self.add_note(note)?;
         Ok(Prepared {
             reply: Reply::OneNote(num),
             change: Some(change),
-            undo,
+            undo: Undo::Note { bytes, vote },
         })
     }
 }

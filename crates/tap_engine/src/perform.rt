@@ -68,10 +68,12 @@ impl Engine {
                 source.as_slice(),
                 steps,
             )?)),
+            Command::Wake(name) => Ok(Prepared::plain(self.show_wake(alloc, name, steps)?)),
+            Command::ScoresOf(kind) => Ok(Prepared::plain(self.show_scores(alloc, kind)?)),
+            Command::DigestOf { name, ordinal } => Ok(Prepared::plain(
+                self.show_digest(alloc, name, ordinal, steps)?,
+            )),
             Command::Bad(refusal) => Err(refusal),
-            Command::Wake(_) | Command::ScoresOf(_) | Command::DigestOf { .. } => {
-                Err(Refusal::NotBuilt)
-            }
         }
     }
 

@@ -7,7 +7,9 @@ ghost use Rattle.tap_kept.specs.Starting.{first_unread};
 use crate::engine::Engine;
 use restart_core::Sound;
 use std::alloc::Global;
-use tap_kept::{StartFault, Sums, cache_delivered, cache_filters, index_rows, owners_of};
+use tap_kept::{
+    StartFault, Sums, cache_delivered, cache_filters, index_rows, owners_of, tally_votes,
+};
 use tap_model::Session;
 use tap_rows::Tables;
 
@@ -40,10 +42,12 @@ impl Engine {
         } = tables;
         let filters = cache_filters(alloc, filters)?;
         let queries = cache_delivered(alloc, queries, conds, runs.as_slice(), picks.as_slice())?;
+        let votes = tally_votes(alloc, notes.as_slice())?;
         let (index, hits) = index_rows(alloc, docs, notes)?;
         Ok(Engine {
             session: Session::new(),
             index,
+            votes,
             hits,
             queries,
             filters,

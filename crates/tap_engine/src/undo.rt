@@ -1,4 +1,5 @@
 //! What undoes the rows of a command.
+use vote_scores::Undo as VoteUndo;
 
 /// What undoes the rows of a command that isn't committed: how many rows there were before it, and how many bytes.
 #[derive(Drop)]
@@ -10,9 +11,10 @@ pub enum Undo {
         len: usize,
         bytes: usize,
     },
-    /// One note.
+    /// One note, with its vote.
     Note {
         bytes: usize,
+        vote: VoteUndo,
     },
     /// One query: how many queries and how many owners there were.
     Query {

@@ -29,8 +29,9 @@ impl Engine {
                 remove_docs(&mut self.index, len);
                 self.bytes = bytes;
             }
-            Undo::Note { bytes } => {
+            Undo::Note { bytes, vote } => {
                 self.index.forget_last_note();
+                self.votes.undo(vote);
                 self.bytes = bytes;
             }
             Undo::Query { len, owners, bytes } => {

@@ -7,3 +7,5 @@ mod VariableLaws
 pub mod TextLaws
 mod FindLaws
 mod SumLaws
+pub mod RunLaws
+pub mod VoteLaws

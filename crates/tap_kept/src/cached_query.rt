@@ -1,9 +1,11 @@
 //! A standing query in memory.
 
-ghost use Rattle.std.specs.Prelude.{◌≡◌, ◌<◌, ◌≤◌, ◌+◌, ◌^◌, false, length, map, OnOk, OnErr};
+ghost use Rattle.std.specs.Prelude.{◌≡◌, ◌<◌, ◌≤◌, ◌+◌, ◌^◌, pos, false, length, map, OnOk, OnErr, IfOk};
 ghost use Rattle.little_box.specs.Boxes.{is_in};
 ghost use Rattle.tap_rows.specs.Results.{entry_at};
+ghost use Rattle.tap_base.specs.declared.moments.TheConstants.{LAST_MOMENT};
 ghost use Rattle.tap_model.specs.Sound.{IsMoment};
+ghost use Rattle.wake_plan.specs.Wakes.{next_wake};
 
 use crate::entries::{add_entry, add_hits};
 use crate::planned_query::PlannedQuery;
@@ -12,9 +14,10 @@ use query_eval::{Hits, run_into};
 use row_index::RowIndex;
 use std::alloc::Global;
 use std::sync::ledger::Ledger;
-use tap_base::{Memory, Steps};
+use tap_base::{LAST_MOMENT, Memory, Steps};
 use tap_rows::{Entry, Hit};
 use time_marks::Window;
+use wake_plan::wake;
 
 /// A standing query in memory: its row with its plan, the second that its runs have covered up to, how many runs it had, and
 /// what they delivered.
@@ -69,6 +72,31 @@ impl CachedQuery {
             high: moment,
         };
         run_into(self.row.plan(), index, &self.entries, window, hits, steps);
+    }
+
+    /// Returns the earliest moment from now on at which a run delivers, if no row is added: the second after the first that
+    /// the window query finds since the last run, without what was delivered, or now if that is later. `None` comes if and
+    /// only if it finds nothing. A step is a row that it looks at.
+    pub fn wake<L: Ledger>(
+        &self,
+        alloc: Global,
+        index: &RowIndex,
+        now: i64,
+        steps: &mut Steps<L>,
+    ) -> Result<Option<i64>, Memory>
+        requires covered { IsMoment self.now.covered }
+        requires now { IsMoment now }
+        ensures { IfOk result (λ moment. moment ≡ next_wake now (hits_since self.now index.now (pos LAST_MOMENT))) }
+    {
+        wake(
+            alloc,
+            self.row.plan(),
+            index,
+            &self.entries,
+            self.covered,
+            now,
+            steps,
+        )
     }
 
     // Adds a run at this moment, of this ordinal, which delivered these. At Err nothing has changed.

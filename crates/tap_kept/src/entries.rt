@@ -3,6 +3,7 @@
 ghost use Rattle.std.specs.Prelude.{◌≡◌, ◌≤◌, ◌++◌, ◌∷◌, [], false, length, take, map, option_to_list, slice_get, OnOk, OnErr, IfOk};
 ghost use Rattle.little_box.specs.Boxes.{is_in};
 ghost use Rattle.tap_rows.specs.Results.{entry_at};
+ghost use Rattle.tap_model.specs.Replies.{entries_in_run};
 ghost use Rattle.tap_kept.specs.Keeping.{AreNew};
 
 use little_box::LittleBox;
@@ -27,6 +28,38 @@ pub fn copy_entries(alloc: Global, entries: &LittleBox) -> Result<Rows<Entry>, M
     let mut copy = Rows::new(alloc);
     for place in 0..entries.len() {
         push_at(&mut copy, entries, place)?;
+    }
+    Ok(copy)
+}
+
+// Appends the entry at this place, if there is one and it is of this run.
+fn push_of_run(
+    copy: &mut Rows<Entry>,
+    entries: &LittleBox,
+    place: u32,
+    run: u32,
+) -> Result<(), Memory>
+    ensures { OnOk result (copy.new ≡ copy.old ++ entries_in_run run (option_to_list (slice_get entries.now place))) }
+{
+    match entries.entry(place) {
+        None => Ok(()),
+        Some(entry) => {
+            if entry.run == run {
+                copy.push(*entry)
+            } else {
+                Ok(())
+            }
+        }
+    }
+}
+
+/// Copies the entries of one run of a box into a list, in order.
+pub fn copy_run(alloc: Global, entries: &LittleBox, run: u32) -> Result<Rows<Entry>, Memory>
+    ensures { IfOk result (λ copy. copy ≡ entries_in_run run entries.now) }
+{
+    let mut copy = Rows::new(alloc);
+    for place in 0..entries.len() {
+        push_of_run(&mut copy, entries, place, run)?;
     }
     Ok(copy)
 }

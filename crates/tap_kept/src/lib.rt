@@ -1,5 +1,5 @@
 //! What an engine has in memory of the stored rows, so that a command costs what it looks at: queries with their plans and
-//! boxes, filters with their rules, the index of documents and notes, and the sums of all rows.
+//! boxes, filters with their rules, the index of documents and notes, the votes of notes, and the sums of all rows.
 #![tactic(auto)]
 
 mod cache;
@@ -13,14 +13,16 @@ mod planned_query;
 mod start_fault;
 mod sums;
 mod text;
+mod votes;
 
 pub use cache::{cache_delivered, cache_filters, owners_of};
 pub use cached_filter::CachedFilter;
 pub use cached_queries::CachedQueries;
 pub use cached_query::CachedQuery;
-pub use entries::copy_entries;
+pub use entries::{copy_entries, copy_run};
 pub use indexing::index_rows;
 pub use planned_query::PlannedQuery;
 pub use start_fault::StartFault;
 pub use sums::Sums;
 pub use text::{read_source, read_text};
+pub use votes::{add_vote, tally_votes};

@@ -18,7 +18,7 @@ use Rattle.tap_model.specs.declared.session.Session.{Session}
 use Rattle.tap_model.specs.Sessions.{or_empty, user_of, last_moment, greatest_moment}
 use Rattle.tap_model.specs.Queries.{query_named}
 use Rattle.tap_model.specs.Limits.{limit_refusal, queries_of, stored_bytes, different, owners_in, new_users}
-use Rattle.tap_model.specs.Verdicts.{first_refusal, verdict, checks, missing, refuse_unless, is_back, taken, no_query, text_of, delivers, messages_of, bytes_of}
+use Rattle.tap_model.specs.Verdicts.{first_refusal, verdict, checks, missing, refuse_unless, is_back, taken, no_query, no_run, runs_found, text_of, delivers, messages_of, bytes_of}
 use Rattle.tap_model.specs.Privacy.{is_shared, is_user, concerns, owned_queries}
 use Rattle.tap_model.proofs.ViewLaws.{Core, core_of, cores, source_in, named-core}
 use Rattle.tap_model.proofs.CoreLaws.{same-text}
@@ -96,6 +96,11 @@ pub found-same : (user name : List ℕ) (t o : Tables) → AreTwins user t o →
 found-same user name t o twins =
     named-core user name t.runs t.queries ∙ ap (find (λ core. bytes_eq core.name name)) twins.queries ∙ sym (named-core user name o.runs o.queries)
 
+-- how many runs the query of a core had
+abbrev core_runs : Option Core → ℕ
+core_runs None = 0
+core_runs (Some core) = length core.runs
+
 missing-core : (refusal : Refusal) (t : Tables) (q : Option QueryRow) → missing refusal (option_map (core_of t.runs) q) ≡ missing refusal q
 missing-core refusal t None = refl
 missing-core refusal t (Some q) = refl
@@ -107,6 +112,14 @@ none-core t (Some q) = refl
 missing-same : (s : Session) (name : List ℕ) (t o : Tables) → AreTwins (user_of s) t o → no_query s name t ≡ no_query s name (twin t o)
 missing-same s name t o twins =
     sym (missing-core NoQuery t (query_named (user_of s) name t)) ∙ ap (missing NoQuery) (found-same (user_of s) name t o twins) ∙ missing-core NoQuery o (query_named (user_of s) name o)
+
+runs-core : (t : Tables) (q : Option QueryRow) → runs_found q t ≡ core_runs (option_map (core_of t.runs) q)
+runs-core t None = refl
+runs-core t (Some q) = refl
+
+runs-same : (user name : List ℕ) (t o : Tables) → AreTwins user t o → runs_found (query_named user name t) t ≡ runs_found (query_named user name o) (twin t o)
+runs-same user name t o twins =
+    runs-core t (query_named user name t) ∙ ap core_runs (found-same user name t o twins) ∙ sym (runs-core (twin t o) (query_named user name o))
 
 taken-same : (s : Session) (name : List ℕ) (t o : Tables) → AreTwins (user_of s) t o → taken s name t ≡ taken s name (twin t o)
 taken-same s name t o twins =
@@ -139,9 +152,11 @@ checks-alike (ListOf name) user s t o m at by twins = (inl refl, (inl refl, (inl
 checks-alike (Filter block) user s t o m at by twins = (inl refl, (inl refl, (inl refl, (inr (users-may (user_of s) t o), (inr (both-may Filters filter_limit (length t.filters) (length o.filters) 1 1 refl), (inr (store-may t o (length (text_of block))), (inl refl, tt)))))))
 checks-alike (Explain name) user s t o m at by twins = (inl refl, (inl refl, (inl (missing-same s name t o (own-twins user s t o by twins)), tt)))
 checks-alike (Ask moment source) user s t o m at by twins = (inl refl, (inl refl, (inl refl, (inl refl, tt))))
-checks-alike (Wake name) user s t o m at by twins = (inl refl, tt)
+checks-alike (Wake name) user s t o m at by twins = (inl refl, (inl refl, (inl refl, (inl (missing-same s name t o (own-twins user s t o by twins)), tt))))
 checks-alike (ScoresOf kind) user s t o m at by twins = (inl refl, tt)
-checks-alike (DigestOf name ordinal) user s t o m at by twins = (inl refl, tt)
+checks-alike (DigestOf name ordinal) user s t o m at by twins =
+    let own = own-twins user s t o by twins in
+    (inl refl, (inl refl, (inl (missing-same s name t o own), (inl (ap (no_run ordinal) (runs-same (user_of s) name t o own)), tt))))
 checks-alike (Bad refusal) user s t o m at by twins = (inl refl, tt)
 
 -- the verdicts are the same, or one of them is shared

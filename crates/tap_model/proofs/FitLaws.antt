@@ -29,7 +29,7 @@ use Rattle.tap_model.specs.declared.session.Session.{Session}
 use Rattle.tap_model.specs.Sessions.{moment_or_zero, or_zero, or_empty, user_of}
 use Rattle.tap_model.specs.Queries.{truth_of, start_of, query_named}
 use Rattle.tap_model.specs.Verdicts.{verdict, checks, first_refusal, missing, refuse_unless, bad_name, too_long, are_short, no_doc, text_of, messages_of}
-use Rattle.tap_model.specs.Replies.{Answer, answer_of, answer_by, accepted, set_moment, docs_from, next_docs, some_docs, next_note, next_query, next_filter, run_query, show_box, show_list, show_lines, ask_at}
+use Rattle.tap_model.specs.Replies.{Answer, answer_of, answer_by, accepted, set_moment, docs_from, next_docs, some_docs, next_note, next_query, next_filter, run_query, show_box, show_list, show_lines, show_wake, show_digest, ask_at}
 use Rattle.tap_model.specs.Sound.{IsSound, IsMoment, IsUser}
 use Rattle.tap_model.proofs.AnswerLaws.{some-none, find-in}
 use Rattle.tap_model.proofs.HeldLaws.{Held, moment_or_zero-by, now-at}
@@ -167,6 +167,14 @@ lines-fit : (query : Option QueryRow) (name : List ℕ) (session : Session) (tab
 lines-fit None name session tables change e = absurd (no-change change e)
 lines-fit (Some q) name session tables change e = absurd (no-change change e)
 
+wake-fit : (query : Option QueryRow) (name : List ℕ) (session : Session) (tables : Tables) → Fit tables (show_wake query name session tables)
+wake-fit None name session tables change e = absurd (no-change change e)
+wake-fit (Some q) name session tables change e = absurd (no-change change e)
+
+digest-fit : (query : Option QueryRow) (name : List ℕ) (ordinal : ℕ) (session : Session) (tables : Tables) → Fit tables (show_digest query name ordinal session tables)
+digest-fit None name ordinal session tables change e = absurd (no-change change e)
+digest-fit (Some q) name ordinal session tables change e = absurd (no-change change e)
+
 ask-fit : (second : Option ℤ) (source : List ℕ) (session : Session) (tables : Tables) → Fit tables (ask_at second source session tables)
 ask-fit None source session tables change e = absurd (no-change change e)
 ask-fit (Some second) source session tables change e = absurd (no-change change e)
@@ -191,9 +199,9 @@ command-fits (Filter block) session tables sound pass change e =
     made tables (OneFilter (next_filter tables session (text_of block))) change (filter-fit (text_of block) session tables sound pass.0 pass.1.0) e
 command-fits (Explain name) session tables sound pass change e = lines-fit (query_named (user_of session) name tables) name session tables change e
 command-fits (Ask moment source) session tables sound pass change e = ask-fit (moment_of moment) source session tables change e
-command-fits (Wake name) session tables sound pass change e = absurd (no-change change e)
+command-fits (Wake name) session tables sound pass change e = wake-fit (query_named (user_of session) name tables) name session tables change e
 command-fits (ScoresOf kind) session tables sound pass change e = absurd (no-change change e)
-command-fits (DigestOf name ordinal) session tables sound pass change e = absurd (no-change change e)
+command-fits (DigestOf name ordinal) session tables sound pass change e = digest-fit (query_named (user_of session) name tables) name ordinal session tables change e
 
 -- the rows that a command adds at a sound point fit
 pub accepted_fits : (tables : Tables) (session : Session) (command : Command) (change : Change) → IsSound tables session → (answer_of command session tables).change ≡ Some change → fits tables change ≡ true

@@ -28,7 +28,7 @@ use Rattle.tap_model.specs.Sessions.{moment_or_zero, or_zero, user_of, later_of,
 use Rattle.tap_model.specs.Queries.{truth_of, start_of, query_named}
 use Rattle.tap_rows.specs.WellFormed.{is_query_of}
 use Rattle.tap_model.specs.Verdicts.{verdict, first_refusal, missing, refuse_unless, is_back, text_of, messages_of}
-use Rattle.tap_model.specs.Replies.{Answer, answer_of, answer_by, accepted, tables_after, set_moment, next_doc, next_note, next_query, next_filter, run_query, show_box, show_list, show_lines, ask_at, docs_from, next_docs, some_docs, add_mbox}
+use Rattle.tap_model.specs.Replies.{Answer, answer_of, answer_by, accepted, tables_after, set_moment, next_doc, next_note, next_query, next_filter, run_query, show_box, show_list, show_lines, show_wake, show_digest, ask_at, docs_from, next_docs, some_docs, add_mbox}
 use Rattle.tap_model.specs.Sound.{IsNow, IsMoment}
 use Rattle.tap_model.proofs.AnswerLaws.{truth-of-second, find-in, second-none}
 
@@ -326,6 +326,14 @@ filter-held block session tables held there =
       );
     }
 
+wake-held : (session : Session) (tables : Tables) (query : Option QueryRow) (name : List ℕ) → Held tables session → Leaves tables (show_wake query name session tables)
+wake-held session tables None name held = held
+wake-held session tables (Some q) name held = held
+
+digest-held : (session : Session) (tables : Tables) (query : Option QueryRow) (name : List ℕ) (ordinal : ℕ) → Held tables session → Leaves tables (show_digest query name ordinal session tables)
+digest-held session tables None name ordinal held = held
+digest-held session tables (Some q) name ordinal held = held
+
 ask-held : (second : Option ℤ) (source : List ℕ) (session : Session) (tables : Tables) → Held tables session → Leaves tables (ask_at second source session tables)
 ask-held None source session tables held = held
 ask-held (Some second) source session tables held = held
@@ -345,9 +353,9 @@ accepted-held (ListOf name) session tables held none = list-held session tables 
 accepted-held (Filter block) session tables held none = filter-held block session tables held (moment_or_zero-by session (first-none (missing NoMoment session.moment) _ none))
 accepted-held (Explain name) session tables held none = lines-held session tables (query_named (user_of session) name tables) name held
 accepted-held (Ask moment source) session tables held none = ask-held (moment_of moment) source session tables held
-accepted-held (Wake name) session tables held none = held
+accepted-held (Wake name) session tables held none = wake-held session tables (query_named (user_of session) name tables) name held
 accepted-held (ScoresOf kind) session tables held none = held
-accepted-held (DigestOf name ordinal) session tables held none = held
+accepted-held (DigestOf name ordinal) session tables held none = digest-held session tables (query_named (user_of session) name tables) name ordinal held
 
 -- so does each command
 pub answer-held : (command : Command) (session : Session) (tables : Tables) → Held tables session → Leaves tables (answer_of command session tables)

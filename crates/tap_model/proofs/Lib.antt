@@ -15,3 +15,4 @@ pub mod StepLaws
 pub mod OtherLaws
 pub mod TaleLaws
 pub mod WindowLaws
+pub mod WakeLaws

@@ -12,7 +12,7 @@ use Rattle.tap_model.specs.declared.session.Session.{Session}
 use Rattle.tap_model.specs.Sessions.{user_of}
 use Rattle.tap_model.specs.Queries.{query_named}
 use Rattle.tap_model.specs.Verdicts.{verdict}
-use Rattle.tap_model.specs.Replies.{Answer, answer_of, answer_by, accepted, tables_after, set_moment, run_query, show_box, show_list, show_lines, ask_at}
+use Rattle.tap_model.specs.Replies.{Answer, answer_of, answer_by, accepted, tables_after, set_moment, run_query, show_box, show_list, show_lines, show_wake, show_digest, ask_at}
 use Rattle.tap_model.specs.Stories.{Step, next_tables}
 
 -- an answer that isn't accepted adds no rows
@@ -42,6 +42,14 @@ lines-stays : (query : Option QueryRow) (name : List ℕ) (session : Session) (t
 lines-stays None name session tables e = refl
 lines-stays (Some query) name session tables e = refl
 
+wake-stays : (query : Option QueryRow) (name : List ℕ) (session : Session) (tables : Tables) → Stays (show_wake query name session tables)
+wake-stays None name session tables e = refl
+wake-stays (Some query) name session tables e = refl
+
+digest-stays : (query : Option QueryRow) (name : List ℕ) (ordinal : ℕ) (session : Session) (tables : Tables) → Stays (show_digest query name ordinal session tables)
+digest-stays None name ordinal session tables e = refl
+digest-stays (Some query) name ordinal session tables e = refl
+
 ask-stays : (second : Option ℤ) (source : List ℕ) (session : Session) (tables : Tables) → Stays (ask_at second source session tables)
 ask-stays None source session tables e = refl
 ask-stays (Some second) source session tables e = refl
@@ -60,9 +68,9 @@ accepted-stays (ListOf name) session tables e = list-stays (query_named (user_of
 accepted-stays (Filter block) session tables e = absurd (not-both e)
 accepted-stays (Explain name) session tables e = lines-stays (query_named (user_of session) name tables) name session tables e
 accepted-stays (Ask moment source) session tables e = ask-stays (moment_of moment) source session tables e
-accepted-stays (Wake name) session tables e = refl
+accepted-stays (Wake name) session tables e = wake-stays (query_named (user_of session) name tables) name session tables e
 accepted-stays (ScoresOf kind) session tables e = refl
-accepted-stays (DigestOf name ordinal) session tables e = refl
+accepted-stays (DigestOf name ordinal) session tables e = digest-stays (query_named (user_of session) name tables) name ordinal session tables e
 
 pub refused-stays : (command : Command) (session : Session) (tables : Tables) → is_accepted (answer_of command session tables).reply ≡ false → (answer_of command session tables).change ≡ None
 refused-stays command session tables = go (verdict command session tables) where

@@ -15,7 +15,7 @@ use Rattle.tap_model.specs.declared.session.Session.{Session}
 use Rattle.tap_model.specs.Sessions.{moment_or_zero, user_of, or_empty}
 use Rattle.tap_model.specs.Queries.{query_named}
 use Rattle.tap_model.specs.Verdicts.{verdict, missing, no_moment, no_user, text_of}
-use Rattle.tap_model.specs.Replies.{Answer, answer_of, answer_by, accepted, tables_after, next_query, next_filter, run_query, show_box, show_list, show_lines, ask_at}
+use Rattle.tap_model.specs.Replies.{Answer, answer_of, answer_by, accepted, tables_after, next_query, next_filter, run_query, show_box, show_list, show_lines, show_wake, show_digest, ask_at}
 use Rattle.tap_model.specs.Stories.{Step}
 use Rattle.tap_model.specs.Sound.{IsSound}
 use Rattle.tap_model.specs.Privacy.{is_user, concerns, view_of, Move}
@@ -63,6 +63,14 @@ lines-other : (user name : List ℕ) (s : Session) (t : Tables) (q : Option Quer
 lines-other user name s t None = refl
 lines-other user name s t (Some q) = refl
 
+wake-other : (user name : List ℕ) (s : Session) (t : Tables) (q : Option QueryRow) → Leaves user s t (show_wake q name s t)
+wake-other user name s t None = refl
+wake-other user name s t (Some q) = refl
+
+digest-other : (user name : List ℕ) (ordinal : ℕ) (s : Session) (t : Tables) (q : Option QueryRow) → Leaves user s t (show_digest q name ordinal s t)
+digest-other user name ordinal s t None = refl
+digest-other user name ordinal s t (Some q) = refl
+
 filter-left : (user source : List ℕ) (s : Session) (t : Tables) → bytes_eq (user_of s) user ≡ false → brief_of user s (record t { filters = t.filters ++ next_filter t s source ∷ [] }) ≡ brief_of user s t
 filter-left user source s t other =
     with-queries user s t (record t { filters = t.filters ++ next_filter t s source ∷ [] }) refl refl refl (ap (option_map (λ filter. filter.source)) (filter-other user t.filters (next_filter t s source) other))
@@ -87,9 +95,9 @@ accepted-other (ListOf name) user s t other sound none = list-other user name s 
 accepted-other (Filter block) user s t other sound none = filter-left user (text_of block) s t (other-user user s.user (second-none (no_moment s) (no_user s) _ none) other)
 accepted-other (Explain name) user s t other sound none = lines-other user name s t (query_named (user_of s) name t)
 accepted-other (Ask moment source) user s t other sound none = ask-other user source s t (moment_of moment)
-accepted-other (Wake name) user s t other sound none = refl
+accepted-other (Wake name) user s t other sound none = wake-other user name s t (query_named (user_of s) name t)
 accepted-other (ScoresOf kind) user s t other sound none = refl
-accepted-other (DigestOf name ordinal) user s t other sound none = refl
+accepted-other (DigestOf name ordinal) user s t other sound none = digest-other user name ordinal s t (query_named (user_of s) name t)
 accepted-other (Bad refusal) user s t other sound none = refl
 
 answer-other : (c : Command) (user : List ℕ) (s : Session) (t : Tables) → concerns user s c ≡ false → IsSound t s → Leaves user s t (answer_of c s t)

@@ -1,6 +1,6 @@
 -- What a command tells its user, and what it leaves of the user's view, is the same at two points that look alike.
 use Rattle.std.proofs.Common.{◌≡◌, ◌∙◌, sym, ap, refl, subst, ℕ, ◌+◌, ℤ, List, [], ◌∷◌, ◌++◌, length, map, true, false, Option, Some, None, inl, inr}
-use Rattle.std.specs.Prelude.{◌⊎◌, filter}
+use Rattle.std.specs.Prelude.{◌⊎◌, filter, suc, pos, nat_lt}
 use Rattle.std.specs.Option.{option_map}
 use Rattle.std.specs.Str.{bytes_eq}
 use Rattle.tap_base.specs.Numbers.{moment_of}
@@ -13,23 +13,27 @@ use Rattle.tap_rows.specs.Tables.{after}
 use Rattle.tap_rows.specs.Results.{Truth, run_moments, is_given}
 use Rattle.tap_rows.specs.Deliveries.{next_run}
 use Rattle.tap_rows.specs.Kept.{IsOfTheSecond}
+use Rattle.tap_rows.proofs.SecondsLaws.{least_second-same}
+use Rattle.tap_base.specs.declared.moments.TheConstants.{LAST_MOMENT}
 use Rattle.tql_core.specs.Holds as Holds
 use Rattle.tql_core.proofs.OfTheSecond.{of-the-second}
 use Rattle.appraiser.specs.Rules.{Rule}
+use Rattle.digest_mail.specs.Digests.{digested, digest_lines}
 use Rattle.appraiser.specs.Listings.{listing_of}
 use Rattle.script_lang.specs.declared.command.Command.{Command}
 use Rattle.script_lang.specs.declared.command.Command.TheVariants.{At, AsUser, Mail, Mbox, AddNote, Define, Run, BoxOf, ListOf, Filter, Explain, Ask, Wake, ScoresOf, DigestOf, Bad}
 use Rattle.script_lang.specs.declared.refusal.Refusal.{Refusal}
 use Rattle.script_lang.specs.declared.reply.Reply.{Reply}
-use Rattle.script_lang.specs.declared.reply.Reply.TheVariants.{Ran, BoxOf as Boxed, ListOf as Listing, Explain as Explained, Asked, No}
+use Rattle.script_lang.specs.declared.reply.Reply.TheVariants.{Ran, BoxOf as Boxed, ListOf as Listing, Explain as Explained, Asked, No, Wake as Woken, DigestOf as Digest}
 use Rattle.restart_core.specs.Starts.{stored_source}
 use Rattle.tap_model.specs.declared.session.Session.{Session}
 use Rattle.tap_model.specs.Sessions.{moment_or_zero, user_of}
 use Rattle.tap_model.specs.Queries.{condition_in, query_named, hits_of, box_in}
 use Rattle.tap_model.specs.Filters.{last_filter, filter_rules, rules_in_text, rules_of_user}
 use Rattle.tap_model.specs.Verdicts.{verdict, text_of, messages_of}
-use Rattle.tap_model.specs.Replies.{Answer, answer_of, answer_by, accepted, tables_after, set_moment, next_query, next_filter, run_query, show_box, show_list, show_lines, some_docs, next_docs, ask_at, add_query, add_filter}
+use Rattle.tap_model.specs.Replies.{Answer, answer_of, answer_by, accepted, tables_after, set_moment, next_query, next_filter, run_query, show_box, show_list, show_lines, show_wake, show_digest, entries_in_run, some_docs, next_docs, ask_at, add_query, add_filter}
 use Rattle.tap_model.specs.Sound.{IsSound}
+use Rattle.tap_model.specs.Wakes.{does_deliver, wake_moment}
 use Rattle.tap_model.specs.Privacy.{concerns}
 use Rattle.tap_model.proofs.ViewLaws.{Core, core_of, cores, source_in, Brief, brief_of, core_hits, core_entries, core_lines, hits-core, box-core, lines-core}
 use Rattle.tap_model.proofs.CoreLaws.{self-text, cores-new, with_run, cores-run, filter-own}
@@ -146,6 +150,31 @@ lines-told user name t o s (Some q) (Some p) twins same =
 lines-told user name t o s (Some q) None twins same = absurd (some-core (core_of t.runs q) same)
 lines-told user name t o s None (Some p) twins same = absurd (core-some (core_of o.runs p) same)
 
+wake-same : (t o : Tables) (q p : QueryRow) (now : ℤ) → core_of t.runs q ≡ core_of o.runs p → wake_moment q t now ≡ wake_moment p (twin t o) now
+unfolding wake_moment
+wake-same t o q p now same =
+    least_second-same (does_deliver q t) (does_deliver p (twin t o)) now (pos (suc LAST_MOMENT))
+    (λ moment low high.
+    ap (λ hits. nat_lt 0 (length hits))
+    (hits-core q t moment ∙ ap (λ c. core_hits t.docs t.notes c moment) same ∙ sym (hits-core p (twin t o) moment)))
+
+wake-told : (user name : List ℕ) (t o : Tables) (s : Session) (q p : Option QueryRow) → AreTwins user t o → option_map (core_of t.runs) q ≡ option_map (core_of o.runs) p
+    → told user t (show_wake q name s t) ≡ told user (twin t o) (show_wake p name s (twin t o))
+wake-told user name t o s None None twins same = answered user t o s _ _ twins refl
+wake-told user name t o s (Some q) (Some p) twins same =
+    answered user t o s _ _ twins (ap (Woken name) (wake-same t o q p (moment_or_zero s) (core-same (core_of t.runs q) (core_of o.runs p) same)))
+wake-told user name t o s (Some q) None twins same = absurd (some-core (core_of t.runs q) same)
+wake-told user name t o s None (Some p) twins same = absurd (core-some (core_of o.runs p) same)
+
+digest-told : (user name : List ℕ) (ordinal : ℕ) (t o : Tables) (s : Session) (q p : Option QueryRow) → AreTwins user t o → option_map (core_of t.runs) q ≡ option_map (core_of o.runs) p
+    → told user t (show_digest q name ordinal s t) ≡ told user (twin t o) (show_digest p name ordinal s (twin t o))
+digest-told user name ordinal t o s None None twins same = answered user t o s _ _ twins refl
+digest-told user name ordinal t o s (Some q) (Some p) twins same =
+    answered user t o s _ _ twins
+    (ap (λ entries. Digest name ordinal (digest_lines name ordinal (digested t.docs (entries_in_run ordinal entries)))) (box-same t o q p (core-same (core_of t.runs q) (core_of o.runs p) same)))
+digest-told user name ordinal t o s (Some q) None twins same = absurd (some-core (core_of t.runs q) same)
+digest-told user name ordinal t o s None (Some p) twins same = absurd (core-some (core_of o.runs p) same)
+
 docs-told : (user : List ℕ) (t o : Tables) (s : Session) (reply : Reply) (docs : List Doc) → AreTwins user t o
     → told user t (record { reply = reply; session = s; change = some_docs docs }) ≡ told user (twin t o) (record { reply = reply; session = s; change = some_docs docs })
 docs-told user t o s reply [] twins = still user t o t s reply twins
@@ -188,9 +217,11 @@ accepted-told (Filter block) user s t o by twins sound sound' = filter-told user
 accepted-told (Explain name) user s t o by twins sound sound' =
     lines-told user name t o s (query_named (user_of s) name t) (query_named (user_of s) name o) twins (found-same (user_of s) name t o (own-twins user s t o by twins))
 accepted-told (Ask moment source) user s t o by twins sound sound' = ask-told user source t o s (moment_of moment) twins
-accepted-told (Wake name) user s t o by twins sound sound' = still user t o t s _ twins
+accepted-told (Wake name) user s t o by twins sound sound' =
+    wake-told user name t o s (query_named (user_of s) name t) (query_named (user_of s) name o) twins (found-same (user_of s) name t o (own-twins user s t o by twins))
 accepted-told (ScoresOf kind) user s t o by twins sound sound' = still user t o t s _ twins
-accepted-told (DigestOf name ordinal) user s t o by twins sound sound' = still user t o t s _ twins
+accepted-told (DigestOf name ordinal) user s t o by twins sound sound' =
+    digest-told user name ordinal t o s (query_named (user_of s) name t) (query_named (user_of s) name o) twins (found-same (user_of s) name t o (own-twins user s t o by twins))
 accepted-told (Bad refusal) user s t o by twins sound sound' = still user t o t s _ twins
 
 -- the answer by a verdict

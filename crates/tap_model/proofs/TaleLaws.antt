@@ -5,14 +5,14 @@ use Rattle.tap_rows.specs.declared.tables.Tables.{Tables}
 use Rattle.tap_rows.specs.declared.rows.QueryRow.{QueryRow}
 use Rattle.tap_rows.specs.Kept.{Each}
 use Rattle.script_lang.specs.declared.command.Command.{Command}
-use Rattle.script_lang.specs.declared.command.Command.TheVariants.{At, Run, BoxOf, ListOf, Ask, Explain}
+use Rattle.script_lang.specs.declared.command.Command.TheVariants.{At, Run, BoxOf, ListOf, Ask, Explain, Wake, DigestOf}
 use Rattle.script_lang.specs.declared.refusal.Refusal.{Refusal}
 use Rattle.script_lang.specs.declared.reply.Reply.{Reply}
 use Rattle.tap_model.specs.declared.session.Session.{Session}
 use Rattle.tap_model.specs.Sessions.{user_of}
 use Rattle.tap_model.specs.Queries.{query_named}
 use Rattle.tap_model.specs.Verdicts.{verdict}
-use Rattle.tap_model.specs.Replies.{answer_by, accepted, set_moment, run_query, show_box, show_list, show_lines, ask_at}
+use Rattle.tap_model.specs.Replies.{answer_by, accepted, set_moment, run_query, show_box, show_list, show_lines, show_wake, show_digest, ask_at}
 use Rattle.tap_model.specs.Stories.{Step, Story}
 use Rattle.tap_model.specs.Sound.{IsSound}
 use Rattle.tap_model.specs.Privacy.{view_of, is_shared_reply, concerns, Deed, deed_of, Act, Move, Tale, acts_along, acts_of, deeds, replies_in}
@@ -42,6 +42,14 @@ lines-stays : (q : Option QueryRow) (name : List ℕ) (s : Session) (t : Tables)
 lines-stays None name s t there = there
 lines-stays (Some q) name s t there = there
 
+wake-stays : (q : Option QueryRow) (name : List ℕ) (s : Session) (t : Tables) → Present s → Present (show_wake q name s t).session
+wake-stays None name s t there = there
+wake-stays (Some q) name s t there = there
+
+digest-stays : (q : Option QueryRow) (name : List ℕ) (ordinal : ℕ) (s : Session) (t : Tables) → Present s → Present (show_digest q name ordinal s t).session
+digest-stays None name ordinal s t there = there
+digest-stays (Some q) name ordinal s t there = there
+
 ask-stays : (second : Option ℤ) (source : List ℕ) (s : Session) (t : Tables) → Present s → Present (ask_at second source s t).session
 ask-stays None source s t there = there
 ask-stays (Some second) source s t there = there
@@ -52,6 +60,8 @@ accepted-stays (Run name) s t there = run-stays (query_named (user_of s) name t)
 accepted-stays (BoxOf name) s t there = box-stays (query_named (user_of s) name t) name s t there
 accepted-stays (ListOf name) s t there = list-stays (query_named (user_of s) name t) name s t there
 accepted-stays (Explain name) s t there = lines-stays (query_named (user_of s) name t) name s t there
+accepted-stays (Wake name) s t there = wake-stays (query_named (user_of s) name t) name s t there
+accepted-stays (DigestOf name ordinal) s t there = digest-stays (query_named (user_of s) name t) name ordinal s t there
 accepted-stays (Ask moment source) s t there = ask-stays (moment_of moment) source s t there
 accepted-stays c s t there = record { m = there.m; is = there.is }
 

@@ -15,7 +15,7 @@ use Rattle.tap_model.specs.declared.session.Session.{Session}
 use Rattle.tap_model.specs.Sessions.{moment_or_zero, user_of}
 use Rattle.tap_model.specs.Queries.{query_named}
 use Rattle.tap_model.specs.Verdicts.{verdict, checks, text_fault, filter_fault, text_of, messages_of}
-use Rattle.tap_model.specs.Replies.{Answer, answer_of, answer_by, accepted, tables_after, set_moment, next_docs, some_docs, next_query, next_filter, run_query, show_box, show_list, show_lines, ask_at}
+use Rattle.tap_model.specs.Replies.{Answer, answer_of, answer_by, accepted, tables_after, set_moment, next_docs, some_docs, next_query, next_filter, run_query, show_box, show_list, show_lines, show_wake, show_digest, ask_at}
 use Rattle.tap_model.specs.Sound.{IsUser}
 use Rattle.tap_model.proofs.FitLaws.{all-none, name-is}
 
@@ -51,6 +51,14 @@ lines-read : (query : Option QueryRow) (name : List ℕ) (session : Session) (ta
 lines-read None name session tables read = read
 lines-read (Some query) name session tables read = read
 
+wake-read : (query : Option QueryRow) (name : List ℕ) (session : Session) (tables : Tables) → Readable tables session → Leaves tables (show_wake query name session tables)
+wake-read None name session tables read = read
+wake-read (Some q) name session tables read = read
+
+digest-read : (query : Option QueryRow) (name : List ℕ) (ordinal : ℕ) (session : Session) (tables : Tables) → Readable tables session → Leaves tables (show_digest query name ordinal session tables)
+digest-read None name ordinal session tables read = read
+digest-read (Some q) name ordinal session tables read = read
+
 ask-read : (second : Option ℤ) (source : List ℕ) (session : Session) (tables : Tables) → Readable tables session → Leaves tables (ask_at second source session tables)
 ask-read None source session tables read = read
 ask-read (Some second) source session tables read = read
@@ -77,9 +85,9 @@ accepted-read (Filter block) session tables read pass = record {
 }
 accepted-read (Explain name) session tables read pass = lines-read (query_named (user_of session) name tables) name session tables read
 accepted-read (Ask moment source) session tables read pass = ask-read (moment_of moment) source session tables read
-accepted-read (Wake name) session tables read pass = read
+accepted-read (Wake name) session tables read pass = wake-read (query_named (user_of session) name tables) name session tables read
 accepted-read (ScoresOf kind) session tables read pass = read
-accepted-read (DigestOf name ordinal) session tables read pass = read
+accepted-read (DigestOf name ordinal) session tables read pass = digest-read (query_named (user_of session) name tables) name ordinal session tables read
 
 pub answer-read : (command : Command) (session : Session) (tables : Tables) → Readable tables session → Leaves tables (answer_of command session tables)
 answer-read command session tables read = go (verdict command session tables) refl where

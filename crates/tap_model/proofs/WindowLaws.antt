@@ -179,7 +179,7 @@ put-any test hit (other ∷ hits) = elim (cases_Bool (is_before hit other)) [
   | inr n ↦ rw n (ap (λ b. test other || b) (put-any test hit hits) ∙ or-swap (test other) (test hit) (list_any test hits))
 ]
 
-order-any : (test : Hit → Bool) (hits : List Hit) → list_any test (in_order hits) ≡ list_any test hits
+pub order-any : (test : Hit → Bool) (hits : List Hit) → list_any test (in_order hits) ≡ list_any test hits
 order-any test [] = refl
 order-any test (hit ∷ hits) = put-any test hit (in_order hits) ∙ ap (λ b. test hit || b) (order-any test hits)
 
@@ -295,11 +295,11 @@ each-in P [] x each has = absurd has
 each-in P (y ∷ ys) x each (inl e) = subst P (sym e) each.0
 each-in P (y ∷ ys) x each (inr has) = each-in P ys x each.1 has
 
-first-part : (a b : Bool) → (a && b) ≡ true → a ≡ true
+pub first-part : (a b : Bool) → (a && b) ≡ true → a ≡ true
 first-part true b e = refl
 first-part false b e = e
 
-second-part : (a b : Bool) → (a && b) ≡ true → b ≡ true
+pub second-part : (a b : Bool) → (a && b) ≡ true → b ≡ true
 second-part true b e = e
 second-part false b e = absurd cc
 

@@ -3,6 +3,7 @@ pub mod Queries
 pub mod Filters
 pub mod Limits
 pub mod Verdicts
+pub mod Wakes
 pub mod Replies
 pub mod Stories
 pub mod Sound

@@ -1,5 +1,5 @@
 -- What a command does: its reply, the session after it, and the rows that it adds.
-use Rattle.std.specs.Prelude.{ℕ, ◌+◌, ℤ, List, [], ◌∷◌, length, map, Option, Some, None}
+use Rattle.std.specs.Prelude.{ℕ, ◌+◌, ℤ, List, [], ◌∷◌, length, map, filter, ◌==◌, Option, Some, None}
 use Rattle.tap_base.specs.Numbers.{moment_of}
 use Rattle.tap_rows.specs.declared.change.Change.{Change}
 use Rattle.tap_rows.specs.declared.change.Change.TheVariants.{Docs, OneNote, OneQuery, OneFilter}
@@ -7,6 +7,7 @@ use Rattle.tap_rows.specs.declared.rows.Doc.{Doc}
 use Rattle.tap_rows.specs.declared.rows.Note.{Note}
 use Rattle.tap_rows.specs.declared.rows.QueryRow.{QueryRow}
 use Rattle.tap_rows.specs.declared.rows.FilterRow.{FilterRow}
+use Rattle.tap_rows.specs.declared.results.Entry.{Entry}
 use Rattle.tap_rows.specs.declared.tables.Tables.{Tables}
 use Rattle.tap_rows.specs.Tables.{after}
 use Rattle.tap_rows.specs.Results.{run_moments, snapshot}
@@ -16,14 +17,18 @@ use Rattle.script_lang.specs.declared.command.Command.{Command}
 use Rattle.script_lang.specs.declared.command.Command.TheVariants.{At, AsUser, Mail, Mbox, AddNote, Define, Run, BoxOf, ListOf, Filter, Explain, Ask, Wake}
 use Rattle.script_lang.specs.declared.command.Command.TheVariants.{ScoresOf, DigestOf, Bad}
 use Rattle.script_lang.specs.declared.refusal.Refusal.{Refusal}
-use Rattle.script_lang.specs.declared.refusal.Refusal.TheVariants.{NotBuilt, BadMoment, NoQuery}
+use Rattle.script_lang.specs.declared.refusal.Refusal.TheVariants.{BadMoment, NoQuery}
 use Rattle.script_lang.specs.declared.reply.Reply.{Reply}
 use Rattle.script_lang.specs.declared.reply.Reply.TheVariants.{At as SetAt, AsUser as SetUser, OneDoc, OneNote as NoteAdded, Defined, Ran, BoxOf as Boxed}
 use Rattle.script_lang.specs.declared.reply.Reply.TheVariants.{ListOf as Listing, Filter as FilterAdded, Explain as Explained, Asked, No, Docs as DocsAdded}
+use Rattle.script_lang.specs.declared.reply.Reply.TheVariants.{Wake as Woken, ScoresOf as Scored, DigestOf as Digest}
 use Rattle.tap_model.specs.declared.session.Session.{Session}
 use Rattle.tap_model.specs.Sessions.{moment_or_zero, user_of}
 use Rattle.tap_model.specs.Queries.{condition_in, truth_of, start_of, query_named, hits_of, box_in, lines_of}
+use Rattle.tap_model.specs.Wakes.{wake_moment}
 use Rattle.appraiser.specs.Listings.{listing_of}
+use Rattle.vote_scores.specs.Votes.{scores_of}
+use Rattle.digest_mail.specs.Digests.{digested, digest_lines}
 use Rattle.tap_model.specs.Filters.{rules_in_text, rules_of_user}
 use Rattle.restart_core.specs.Starts.{stored_source}
 use Rattle.tap_model.specs.Verdicts.{text_of, messages_of, verdict}
@@ -164,6 +169,32 @@ ask_at (Some second) source session tables = record {
   change = None;
 }
 
+-- `wake`: the earliest moment from now on at which a run of this query delivers
+abbrev pub show_wake : Option QueryRow → List ℕ → Session → Tables → Answer
+show_wake None name session tables = refused NoQuery session
+show_wake (Some query) name session tables = record {
+  reply = Woken name (wake_moment query tables (moment_or_zero session));
+  session = session;
+  change = None;
+}
+
+-- `scores`: the votes of this kind, added up for each document
+abbrev pub show_scores : List ℕ → Session → Tables → Answer
+show_scores kind session tables = record { reply = Scored kind (scores_of kind tables); session = session; change = None }
+
+-- the entries of one run of a query, from its box
+abbrev pub entries_in_run : ℕ → List Entry → List Entry
+entries_in_run ordinal entries = filter (λ entry. entry.run == ordinal) entries
+
+-- `digest`: the documents that a run of this query delivered, as the lines of one message
+abbrev pub show_digest : Option QueryRow → List ℕ → ℕ → Session → Tables → Answer
+show_digest None name ordinal session tables = refused NoQuery session
+show_digest (Some query) name ordinal session tables = record {
+  reply = Digest name ordinal (digest_lines name ordinal (digested tables.docs (entries_in_run ordinal (box_in query tables))));
+  session = session;
+  change = None;
+}
+
 -- the answer to a command that is accepted
 abbrev pub accepted : Command → Session → Tables → Answer
 accepted (At text) session tables = set_moment (moment_of text) session
@@ -179,9 +210,9 @@ accepted (ListOf name) session tables = show_list (query_named (user_of session)
 accepted (Filter block) session tables = add_filter (text_of block) session tables
 accepted (Explain name) session tables = show_lines (query_named (user_of session) name tables) name session tables
 accepted (Ask moment source) session tables = ask_at (moment_of moment) source session tables
-accepted (Wake name) session tables = refused NotBuilt session
-accepted (ScoresOf kind) session tables = refused NotBuilt session
-accepted (DigestOf name ordinal) session tables = refused NotBuilt session
+accepted (Wake name) session tables = show_wake (query_named (user_of session) name tables) name session tables
+accepted (ScoresOf kind) session tables = show_scores kind session tables
+accepted (DigestOf name ordinal) session tables = show_digest (query_named (user_of session) name tables) name ordinal session tables
 
 -- the answer to a command with this verdict
 abbrev pub answer_by : Option Refusal → Command → Session → Tables → Answer

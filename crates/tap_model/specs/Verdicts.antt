@@ -8,14 +8,15 @@ use Rattle.tap_base.specs.Names.{is_name}
 use Rattle.tap_rows.specs.declared.tables.Tables.{Tables}
 use Rattle.tap_rows.specs.declared.rows.QueryRow.{QueryRow}
 use Rattle.tap_rows.specs.declared.results.Hit.{Hit}
+use Rattle.tap_rows.specs.Results.{run_moments}
 use Rattle.mail_lines.specs.declared.block.Block.{Block}
 use Rattle.mail_lines.specs.declared.block.Block.TheVariants.{Whole, Long}
 use Rattle.script_lang.specs.declared.command.Command.{Command}
 use Rattle.script_lang.specs.declared.command.Command.TheVariants.{At, AsUser, Mail, Mbox, AddNote, Define, Run, BoxOf, ListOf, Filter, Explain, Ask, Wake}
 use Rattle.script_lang.specs.declared.command.Command.TheVariants.{ScoresOf, DigestOf, Bad}
 use Rattle.script_lang.specs.declared.refusal.Refusal.{Refusal}
-use Rattle.script_lang.specs.declared.refusal.Refusal.TheVariants.{NotBuilt, BadMoment, Backwards, NoMoment, NoUser, BadName, Taken, NoQuery, NoDoc, Lex}
-use Rattle.script_lang.specs.declared.refusal.Refusal.TheVariants.{Parse, Types, NotOver, Limit, Rule, ManyRules}
+use Rattle.script_lang.specs.declared.refusal.Refusal.TheVariants.{BadMoment, Backwards, NoMoment, NoUser, BadName, Taken, NoQuery, NoDoc, Lex}
+use Rattle.script_lang.specs.declared.refusal.Refusal.TheVariants.{Parse, Types, NotOver, Limit, Rule, ManyRules, NoRun}
 use Rattle.script_lang.specs.declared.refusal.LimitName.TheVariants.{Message, Block as BlockLimit, Note, Documents, Notes, Queries, AllQueries, Users}
 use Rattle.script_lang.specs.declared.refusal.LimitName.TheVariants.{Filters, Runs, Picks, Store}
 use Rattle.mail_lines.specs.Mbox.{mbox_messages}
@@ -97,6 +98,15 @@ taken session name tables = refuse_unless (is_none (query_named (user_of session
 -- the user has no query of this name
 abbrev pub no_query : Session → List ℕ → Tables → Option Refusal
 no_query session name tables = missing NoQuery (query_named (user_of session) name tables)
+
+-- how many runs the user's query of this name had
+abbrev pub runs_found : Option QueryRow → Tables → ℕ
+runs_found None tables = 0
+runs_found (Some query) tables = length (run_moments query.num.0 tables.runs)
+
+-- a query with so many runs has none of this ordinal
+unfoldable pub no_run : ℕ → ℕ → Option Refusal
+no_run ordinal runs = refuse_unless (nat_le 1 ordinal && nat_le ordinal runs) (NoRun runs)
 
 -- the message is too long
 abbrev pub too_long : Block → Option Refusal
@@ -227,9 +237,14 @@ checks (Filter block) session tables =
 checks (Explain name) session tables = no_user session ∷ bad_name name ∷ no_query session name tables ∷ []
 checks (Ask moment source) session tables =
     missing BadMoment (moment_of moment) ∷ no_moment session ∷ text_fault source ∷ not_over (moment_of moment) session.moment ∷ []
-checks (Wake name) session tables = Some NotBuilt ∷ []
-checks (ScoresOf kind) session tables = Some NotBuilt ∷ []
-checks (DigestOf name ordinal) session tables = Some NotBuilt ∷ []
+checks (Wake name) session tables = no_moment session ∷ no_user session ∷ bad_name name ∷ no_query session name tables ∷ []
+checks (ScoresOf kind) session tables = bad_name kind ∷ []
+checks (DigestOf name ordinal) session tables =
+    no_user session
+    ∷ bad_name name
+    ∷ no_query session name tables
+    ∷ no_run ordinal (runs_found (query_named (user_of session) name tables) tables)
+    ∷ []
 
 -- why the command is refused, if it is
 abbrev pub verdict : Command → Session → Tables → Option Refusal

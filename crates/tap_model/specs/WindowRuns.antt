@@ -1,6 +1,7 @@
 -- Runs by the window query.
-use Rattle.std.specs.Prelude.{◌≡◌, ℤ, ◌≤ℤ◌, List, Bool, nat_eq}
+use Rattle.std.specs.Prelude.{◌≡◌, ℤ, pos, ◌≤ℤ◌, List, Bool, nat_eq}
 use Rattle.std.specs.List.{list_any}
+use Rattle.tap_base.specs.declared.moments.TheConstants.{LAST_MOMENT}
 use Rattle.tap_rows.specs.declared.tables.Tables.{Tables}
 use Rattle.tap_rows.specs.declared.rows.Doc.{Doc}
 use Rattle.tap_rows.specs.declared.rows.QueryRow.{QueryRow}
@@ -11,9 +12,11 @@ use Rattle.tap_rows.specs.Results.{covered}
 use Rattle.tap_rows.specs.Deliveries.{delivered}
 use Rattle.tap_rows.specs.Kept.{In}
 use Rattle.time_marks.specs.Probes.{meaning_without}
+use Rattle.wake_plan.specs.Wakes.{next_wake}
 use Rattle.tap_model.specs.declared.session.Session.{Session}
 use Rattle.tap_model.specs.Queries.{start_of, probes_in, hits_of}
-use Rattle.tap_model.specs.Sound.{IsSound}
+use Rattle.tap_model.specs.Sound.{IsMoment, IsSound}
+use Rattle.tap_model.specs.Wakes.{wake_moment}
 
 -- is the document among these deliveries?
 abbrev pub is_delivered : List Entry → Doc → Bool
@@ -28,6 +31,13 @@ abbrev pub found_since : QueryRow → Tables → ℤ → List Hit
 found_since query tables moment =
     meaning_without (is_delivered (delivered query.num.0 tables)) (probes_in query) (asked_rows tables)
     (record { low = covered (start_of query) query.num.0 tables.runs; high = moment })
+
+-- the moment that `wake` names is the second after the least mark that the window query finds since the last run, or now if
+-- that is later
+abbrev pub WakesAreWindows : Type 0
+WakesAreWindows =
+    (tables : Tables) (session : Session) (query : QueryRow) (now : ℤ) → IsSound tables session → In query tables.queries → IsMoment now
+    → next_wake now (found_since query tables (pos LAST_MOMENT)) ≡ wake_moment query tables now
 
 -- a run at a moment that is not before the last delivers what the window query finds
 abbrev pub RunsAreWindows : Type 0

@@ -1,6 +1,6 @@
 //! Laws of stories.
 ghost use Rattle.tap_model.specs.Laws.{StepsAreSound, AcceptedChangesFit, SessionsLeaveStores, StepsLeadToNextTables, StoresCanBeRead};
-ghost use Rattle.tap_model.specs.WindowRuns.{RunsAreWindows};
+ghost use Rattle.tap_model.specs.WindowRuns.{RunsAreWindows, WakesAreWindows};
 ghost use Rattle.tap_model.specs.PrivacyLaws.{SameDeedSameReply, OthersLeaveTheView, SameDeedsSameReplies};
 
 /// Shows that each step of a story leads from a sound point to a sound point. Above all, what each query has delivered then
@@ -57,4 +57,11 @@ pub fn equal_deeds_get_equal_replies()
 /// it has delivered already. So a run need not try each second.
 pub fn runs_are_windows()
     ensures { RunsAreWindows }
+{}
+
+/// Shows that the earliest moment at which a run delivers follows from the least second that the query's window query finds
+/// since its last run, without what it has delivered already: the second after that one, or now if now is later. So nobody
+/// need try each moment.
+pub fn wakes_are_windows()
+    ensures { WakesAreWindows }
 {}

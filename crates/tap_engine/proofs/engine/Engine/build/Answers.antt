@@ -8,6 +8,7 @@ use Rattle.tap_kept.specs.Keeping.{cached_query}
 use Rattle.tap_engine.specs.Standing.{Represents}
 use Rattle.tap_kept.specs.Starting.{runs_alone, IsOneOf, PicksAreDistinct}
 use Rattle.tap_engine.proofs.FormedLaws.{Formed, formed}
+use Rattle.vote_scores.specs.Tally.{tally}
 use Rattle.tap_engine.proofs.StartedLaws.{IsStarted, represents-start, ready-start}
 use Rattle.tap_engine.proofs.engine.Engine.build.Goals as goal
 
@@ -58,6 +59,7 @@ returns c =
     let e : Engine = record {
       session = c.new.result;
       index = c.in_ok-index.index;
+      votes = c.in_ok-votes.votes;
       hits = c.in_ok-index.hits;
       queries = c.in_ok-queries.queries;
       filters = c.in_ok-filters.filters;
@@ -74,6 +76,7 @@ returns c =
       room = c.in_ok-index.ensures.room;
       queries = c.in_ok-queries.ensures ∙ ap (λ runs. map (cached_query (runs_alone runs c.as_slice-4.result.now)) t.queries) c.as_slice-3.ensures ∙ ap (λ picks. map (cached_query (runs_alone t.runs picks)) t.queries) c.as_slice-4.ensures;
       filters = search rules;
+      votes = c.in_ok-votes.ensures ∙ ap tally c.as_slice-5.ensures;
       run_count = search rules;
       pick_count = search rules;
       bytes = c.in_ok-sums.ensures.bytes;

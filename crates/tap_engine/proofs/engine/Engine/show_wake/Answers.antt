@@ -1,0 +1,13 @@
+use Rattle.std.proofs.Common.{rules, ◌∙◌, sym, ap, subst}
+use Rattle.tap_engine.specs.Standing.{wake_refusal, cached_named, cached_wake, RefusedBy}
+use Rattle.tap_engine.proofs.ReadLaws.{wake-refuses, answers-wake}
+use Rattle.tap_engine.proofs.engine.Engine.show_wake.Goals as goal
+
+pub returns-in_err-moment-clause-refusal : goal.returns-in_err-moment-clause-refusal
+returns-in_err-moment-clause-refusal g c =
+    let by = wake-refuses c.args.self.now c.args.name c.in_err-moment.field-0.0 (subst (λ n. RefusedBy (wake_refusal c.args.self.now n) c.in_err-moment.field-0.0) c.as_slice.ensures c.in_err-moment.ensures.refusal) in search (rules, by)
+
+pub returns-clause-ok : goal.returns-clause-ok
+returns-clause-ok g c = λ t represents sound. answers-wake c.args.self.now t c.args.name c.in_ok-moment.moment represents sound
+    (sym (ap (wake_refusal c.args.self.now) c.as_slice.ensures) ∙ c.in_ok-moment.ensures.look)
+    (c.in_ok-moment.ensures.moment ∙ ap (λ n. cached_wake c.args.self.now (cached_named c.args.self.now n)) c.as_slice.ensures)
