@@ -10,13 +10,13 @@ use crate::buffer::{
     head_line, head_name, head_number, number_line, push_bytes, push_number, text_line,
 };
 use crate::refusal::{LimitName, Refusal};
-use crate::score::Score;
 use arrayvec::ArrayVec;
 use tap_base::DocNum;
 use tap_rows::{Entry, Hit, Listed};
 use tql_lex::LexFault;
 use tql_parse::ParseFault;
 use tql_types::TypeFault;
+use vote_scores::Score;
 
 /// A row that one line shows.
 pub trait RowLine {

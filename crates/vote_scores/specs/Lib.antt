@@ -1,0 +1,3 @@
+pub mod Votes
+pub mod Tally
+pub mod Entries

@@ -1,0 +1,88 @@
+//! The votes of all notes.
+ghost use Rattle.std.specs.Prelude.{◌≡◌, ◌<◌, ◌≤◌, [], length, slice_get, IfOk, OnOk, OnErr};
+ghost use Rattle.std.specs.List.{position_or_len};
+ghost use Rattle.tap_rows.specs.declared.tables.Tables.{Tables};
+ghost use Rattle.vote_scores.specs.Votes.{scores_of, AreNumbered};
+ghost use Rattle.vote_scores.specs.Tally.{is_by, tally, value_of, with_vote, undone, CanUndo, AreDistinct};
+
+use crate::score::Score;
+use crate::undo::Undo;
+use crate::vote_key::VoteKey;
+use indexmap::IndexMap;
+use std::alloc::Global;
+use std::marker::Model;
+use tap_base::{Memory, Rows};
+use tap_rows::Note;
+
+/// The vote of each author on each document, kind by kind, in order of the first such note. A vote is looked up by its hash.
+#[derive(Drop)]
+pub struct Scores {
+    votes: IndexMap<VoteKey, i64>,
+}
+
+impl Model for Scores {
+    ghost use Rattle.std.specs.Prelude.{◌<◌, ◌^◌, List, length, map};
+    ghost use Rattle.vote_scores.specs.Tally.{Vote};
+    ghost use Rattle.vote_scores.specs.Entries.{vote_at};
+
+    ghost Value = { List Vote };
+
+    ghost view = { λ scores. map vote_at scores.votes.entries };
+
+    ghost invariant = { λ scores. length scores.votes.entries < 2 ^ 32 };
+}
+
+impl Scores {
+    /// Returns no votes.
+    pub fn new(alloc: Global) -> Scores
+        ensures { result ≡ [] }
+    {
+        Scores {
+            votes: IndexMap::new(alloc),
+        }
+    }
+
+    /// Returns how many votes there are. No two are of one kind, document and author.
+    pub fn len(&self) -> u32
+        ensures count { result ≡ length self.now }
+        ensures distinct { AreDistinct self.now }
+    {
+        self.votes.len() as u32
+    }
+
+    /// Sets the value of the vote of the note's kind, document and author, or appends that vote, by one look-up. Fails with
+    /// `Memory` when out of memory, and nothing has changed then.
+    pub fn add(&mut self, note: &Note) -> Result<Undo, Memory>
+        requires room { length self.old < 4294967295 }
+        ensures ok { OnOk result (self.new ≡ with_vote note.now self.old) }
+        ensures place { IfOk result (λ undo. undo.at ≡ position_or_len (is_by note.now) self.old) }
+        ensures old { IfOk result (λ undo. undo.old ≡ value_of note.now self.old) }
+        ensures undo { IfOk result (λ undo. CanUndo undo self.new × (undone undo self.new ≡ self.old)) }
+        ensures err { OnErr result (self.new ≡ self.old) }
+    {
+        Err(Memory)
+    }
+
+    /// Restores the value that the vote had, or removes the vote that was appended. It takes no memory.
+    pub fn undo(&mut self, undo: Undo)
+        requires { CanUndo undo self.old }
+        ensures { self.new ≡ undone undo self.old }
+    {
+        match undo.old {
+            None => self.votes.truncate(undo.at as usize),
+            Some(value) => {
+                if let Some(kept) = self.votes.get_index_mut(undo.at as usize) {
+                    *kept = value;
+                }
+            }
+        }
+    }
+
+    /// Returns the scores of a kind by the votes, from the greatest sum, then in order of documents. Fails with `Memory` when
+    /// out of memory.
+    pub fn of_kind(&self, alloc: Global, kind: &[u8]) -> Result<Rows<Score>, Memory>
+        ensures { IfOk result (λ rows. (tables : Tables) → AreNumbered tables → self.now ≡ tally tables.notes → rows ≡ scores_of kind.now tables) }
+    {
+        Err(Memory)
+    }
+}
