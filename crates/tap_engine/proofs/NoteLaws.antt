@@ -26,7 +26,7 @@ use Rattle.tap_model.proofs.AnswerLaws.{some-none}
 use Rattle.tap_engine.specs.Answering.{Answers}
 use Rattle.tap_engine.proofs.RowTurns.{docs-are, notes-are}
 use Rattle.tap_engine.proofs.AnswerTurns.{answers-accepted}
-use Rattle.tap_kept.proofs.VoteLaws.{tally-more}
+use Rattle.vote_scores.proofs.TallyLaws.{tally-more}
 use Rattle.vote_scores.specs.Tally.{with_vote}
 
 four : (a b c : Option Refusal) (rest : List (Option Refusal)) → option_or a (option_or b (option_or c (first_refusal rest))) ≡ first_refusal (a ∷ b ∷ c ∷ rest)

@@ -8,4 +8,3 @@ pub mod TextLaws
 mod FindLaws
 mod SumLaws
 pub mod RunLaws
-pub mod VoteLaws

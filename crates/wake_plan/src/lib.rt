@@ -1,0 +1,6 @@
+//! When a run is next worthwhile.
+#![tactic(auto)]
+
+mod wake;
+
+pub use wake::wake;
