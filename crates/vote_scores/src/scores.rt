@@ -50,13 +50,6 @@ impl Scores {
         self.votes.len() as u32
     }
 
-    /// Counts the votes.
-    pub fn len(&self) -> u32
-        ensures { result ≡ length self.now }
-    {
-        self.votes.len() as u32
-    }
-
     /// Sets the value of the vote of the note's kind, document and author, or appends that vote, by one look-up. Fails with
     /// `Memory` when out of memory, and nothing has changed then.
     pub fn add(&mut self, note: &Note) -> Result<Undo, Memory>
