@@ -20,7 +20,7 @@ use Rattle.script_lang.specs.declared.refusal.LimitName.{LimitName}
 use Rattle.script_lang.specs.declared.refusal.LimitName.TheVariants.{Line, Message, Block, Note, Documents, Notes, Queries, AllQueries, Users, Filters, Runs}
 use Rattle.script_lang.specs.declared.refusal.LimitName.TheVariants.{Picks, Store}
 use Rattle.script_lang.specs.declared.refusal.Refusal.{Refusal}
-use Rattle.script_lang.specs.declared.refusal.Refusal.TheVariants.{Unknown, Form, Cut, NotBuilt, BadMoment, Backwards, NoMoment, NoUser, BadName, Taken}
+use Rattle.script_lang.specs.declared.refusal.Refusal.TheVariants.{Unknown, Form, Cut, BadMoment, Backwards, NoMoment, NoUser, BadName, Taken}
 use Rattle.script_lang.specs.declared.refusal.Refusal.TheVariants.{NoQuery, NoDoc, Lex, Parse, Types, NotOver, Limit, Rule, ManyRules, Memory, NoRun}
 use Rattle.script_lang.specs.declared.reply.Reply.{Reply}
 use Rattle.script_lang.specs.declared.reply.Reply.TheVariants.{At, AsUser, OneDoc, Docs, OneNote, Defined, Ran, BoxOf, ListOf, Filter, Explain, Asked, Wake}
@@ -106,7 +106,6 @@ abbrev pub refusal_text : Refusal → List ℕ
 refusal_text Unknown = codes "no 1"
 refusal_text Form = codes "no 2"
 refusal_text Cut = codes "no 3"
-refusal_text NotBuilt = codes "no 0"
 refusal_text BadMoment = codes "no 4"
 refusal_text (Backwards last) = codes "no 5 " ++ signed_decimal last
 refusal_text NoMoment = codes "no 6"

@@ -197,7 +197,6 @@ pub fn refusal_line(refusal: Refusal) -> ArrayVec<u8, 512>
         Refusal::Unknown => text_line(b"no 1"),
         Refusal::Form => text_line(b"no 2"),
         Refusal::Cut => text_line(b"no 3"),
-        Refusal::NotBuilt => text_line(b"no 0"),
         Refusal::BadMoment => text_line(b"no 4"),
         Refusal::Backwards { last } => number_line(b"no 5 ", last),
         Refusal::NoMoment => text_line(b"no 6"),

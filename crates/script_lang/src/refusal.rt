@@ -42,8 +42,6 @@ pub enum Refusal {
     Form,
     /// The end of input cuts a block off.
     Cut,
-    /// The command isn't built.
-    NotBuilt,
     /// The text is no moment.
     BadMoment,
     /// The moment is below the last one.

@@ -24,8 +24,7 @@ fn shown(alloc: Global, reply: &Reply, fails: Vec<PutPlan>) -> Result<Text, Memo
 #[test]
 fn refusals_have_their_lines(rt: HostRuntime) -> Result<(), Fail> {
     let alloc = rt.alloc();
-    let rows: [(Refusal, &[u8]); 26] = [
-        (Refusal::NotBuilt, b"no 0\n"),
+    let rows: [(Refusal, &[u8]); 25] = [
         (Refusal::Unknown, b"no 1\n"),
         (Refusal::Form, b"no 2\n"),
         (Refusal::Cut, b"no 3\n"),

@@ -6,7 +6,7 @@ use Rattle.tap_rows.specs.Kept.{In, IsOfTheSecond}
 use Rattle.tql_core.proofs.OfTheSecond.{of-the-second}
 use Rattle.script_lang.specs.declared.refusal.Refusal.{Refusal}
 use Rattle.tap_model.specs.Queries.{condition_by, truth_of}
-use Rattle.tap_model.specs.Verdicts.{first_refusal, verdict}
+use Rattle.tap_model.specs.Verdicts.{first_refusal}
 
 pub some-none : (x : Refusal) → Some x ≡ None → ⊥
 some-none x e = cc

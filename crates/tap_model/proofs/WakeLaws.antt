@@ -1,6 +1,6 @@
 -- The earliest moment at which a run delivers, by the least second that the window query finds.
-use Rattle.std.proofs.Common.{◌≡◌, ◌∙◌, sym, ap, refl, subst, arith, ℕ, suc, ◌+◌, ◌≤◌, ◌<◌, ℤ, pos, Bool, true, false, Option, Some, None, List, [], ◌∷◌, ◌++◌, length, map, if◌then◌else◌}
-use Rattle.std.specs.Prelude.{◌+ℤ◌, ◌≤ℤ◌, ◌<ℤ◌, ◌==◌, ◌||◌, ◌&&◌, int_le, int_lt, nat_lt, filter, not}
+use Rattle.std.proofs.Common.{◌≡◌, ◌∙◌, sym, ap, refl, subst, arith, ℕ, suc, ◌+◌, ℤ, pos, Bool, true, false, Option, Some, None, List, [], ◌∷◌, ◌++◌, length, if◌then◌else◌, inl, inr}
+use Rattle.std.specs.Prelude.{◌+ℤ◌, ◌≤ℤ◌, ◌<ℤ◌, ◌==◌, ◌||◌, ◌&&◌, int_le, int_lt, nat_lt, not}
 use Rattle.std.specs.Option.{option_or}
 use Rattle.std.specs.List.{list_any, filter_map, cons_option}
 use Rattle.std.proofs.lemmas.Bool.{cases_Bool}
@@ -20,11 +20,9 @@ use Rattle.tap_rows.proofs.SecondsLaws.{gap-none, least_second-within, least_sec
 use Rattle.tap_rows.proofs.RunLaws.{Within, fresh-within}
 use Rattle.restart_core.specs.Starts.{is_from_now}
 use Rattle.wake_plan.specs.Wakes.{lesser_of, least_mark, wake_after, next_wake}
-use Rattle.tap_model.specs.declared.session.Session.{Session}
 use Rattle.tap_model.specs.Queries.{truth_of, start_of, hits_of}
-use Rattle.tap_model.specs.Sound.{IsSound}
 use Rattle.tap_model.specs.Wakes.{does_deliver, wake_moment}
-use Rattle.tap_model.specs.WindowRuns.{found_since, WakesAreWindows}
+use Rattle.tap_model.specs.WindowRuns.{WakesAreWindows}
 use Rattle.tap_model.proofs.WindowLaws.{order-any, first-part, second-part, run-of-sound}
 
 -- is the hit's second below the moment?
@@ -45,7 +43,9 @@ hit_passes test doc (Some f) = test (record { doc = doc.num; first = f })
 
 length-any : (hits : List Hit) → nat_lt 0 (length hits) ≡ list_any any_hit hits
 length-any [] = refl
-length-any (hit ∷ hits) = refl
+length-any (hit ∷ hits) = some (length hits) where
+  some : (n : ℕ) → nat_lt 0 (suc n) ≡ true
+  some n = grind arith
 
 one-any : (test : Hit → Bool) (doc : Doc) (o : Option ℤ) (hits : List Hit) → list_any test (cons_option (hit_of doc o) hits) ≡ (hit_passes test doc o || list_any test hits)
 one-any test doc None hits = refl
@@ -140,7 +140,7 @@ least-within : (low high : ℤ) (hits : List Hit) (b : ℤ) → Within low high 
 least-within low high [] b within e = absurd (none-second b e)
 least-within low high (hit ∷ hits) b within e =
     subst (λ x. x <ℤ high) (some-second (lesser_of hit.first (least_mark hits)) b e)
-    (lesser-within hit.first high (least_mark hits) within.1.0 (λ m is. least-within low high hits m within.1.1 is))
+    (lesser-within hit.first high (least_mark hits) within.1 (λ m is. least-within low high hits m within.2 is))
 
 -- the least moment from now on that is above a second
 after-second : (o : Option ℤ) (now : ℤ) (last : ℕ) → now ≤ℤ pos last → ((b : ℤ) → o ≡ Some b → b <ℤ pos last) → wake_after now o ≡ least_second (λ t. second_below t o) now (pos (suc last))

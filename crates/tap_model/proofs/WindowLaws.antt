@@ -14,13 +14,12 @@ use Rattle.tap_base.specs.Names.{is_name}
 use Rattle.tap_rows.specs.Arrivals.{Arrived}
 use Rattle.tap_rows.specs.WellFormed.{may_follow, is_query_of, query_stands, queries_stand, docs_stand, notes_stand, runs_stand, picks_stand, filters_stand, is_well_formed}
 use Rattle.tap_rows.specs.Kept.{Each, In, Rising, IsKeptQuery}
-use Rattle.tap_rows.specs.Results.{Truth, is_given, first_second, hit_of, at_least, hits_by, put_in, is_before, in_order, run_of, entry_at, entries_of, entries_from, last_or, run_moments, covered, union_until, fresh_in, box_of}
-use Rattle.tap_rows.specs.Seconds.{least_second}
+use Rattle.tap_rows.specs.Results.{Truth, is_given, first_second, hit_of, at_least, hits_by, put_in, is_before, in_order, run_of, entry_at, entries_of, entries_from, last_or, run_moments, covered, union_until, fresh_in}
 use Rattle.tap_rows.specs.Deliveries.{delivered}
 use Rattle.tap_rows.proofs.SecondsLaws.{least_second-within, least_second-same}
 use Rattle.tap_rows.proofs.RunLaws.{rising-le, Within, fresh-within}
 use Rattle.tql_core.proofs.OfTheSecond.{of-the-second}
-use Rattle.tql_core.specs.Condition.{Condition, Never}
+use Rattle.tql_core.specs.Condition.{Condition}
 use Rattle.tql_core.specs.Scope.{IsQuery}
 use Rattle.tql_core.specs.Holds as Holds
 use Rattle.tql_types.proofs.ScopeLaws.{typed-is-query}
@@ -32,18 +31,12 @@ use Rattle.tql_lex.specs.Tokens.{lexed}
 use Rattle.tql_tree.specs.Syntax.{Syntax}
 use Rattle.tql_parse.specs.declared.fault.ParseFault.{ParseFault}
 use Rattle.tql_parse.specs.Reading.{query_at}
-use Rattle.tql_text.specs.declared.fault.TextFault.{TextFault}
-use Rattle.tql_text.specs.Texts.{condition_of, of_typing, of_tree, of_tokens}
+use Rattle.tql_text.specs.Texts.{of_typing, of_tree, of_tokens}
 use Rattle.time_marks.specs.declared.window.Window.{Window}
 use Rattle.time_marks.specs.Probes.{Probe, meaning_without, least}
-use Rattle.time_marks.specs.Distinct.{distinct_probes}
-use Rattle.monotone_rewrite.specs.Laws.{FromZero}
-use Rattle.monotone_rewrite.specs.Query.{window}
 use Rattle.monotone_rewrite.proofs.Windows.{distinct_is_union}
 use Rattle.restart_core.specs.Starts.{is_from_now, condition_text}
-use Rattle.tap_model.specs.declared.session.Session.{Session}
 use Rattle.tap_model.specs.Queries.{or_never, condition_in, condition_by, truth_of, start_of, probes_in, hits_of}
-use Rattle.tap_model.specs.Sound.{IsSound}
 use Rattle.tap_model.specs.WindowRuns.{is_delivered, asked_rows, found_since, RunsAreWindows}
 
 -- two tests that pass alike

@@ -1,6 +1,5 @@
 -- Queries, and a user's query of a name.
-use Rattle.std.specs.Prelude.{ℕ, List, Bool, ◌&&◌, Option, ℤ, pos, find, Result, Ok, Err, if◌then◌else◌}
-use Rattle.std.specs.Str.{bytes_eq}
+use Rattle.std.specs.Prelude.{ℕ, List, Option, ℤ, pos, find, Result, Ok, Err, if◌then◌else◌}
 use Rattle.tap_rows.specs.declared.tables.Tables.{Tables}
 use Rattle.tap_rows.specs.declared.rows.QueryRow.{QueryRow}
 use Rattle.tap_rows.specs.declared.results.Hit.{Hit}

@@ -1,5 +1,5 @@
 -- The earliest moment at which a run of a query is worthwhile.
-use Rattle.std.specs.Prelude.{ℕ, suc, ℤ, pos, Bool, length, nat_lt, Option}
+use Rattle.std.specs.Prelude.{suc, ℤ, pos, Bool, length, nat_lt, Option}
 use Rattle.tap_base.specs.declared.moments.TheConstants.{LAST_MOMENT}
 use Rattle.tap_rows.specs.declared.tables.Tables.{Tables}
 use Rattle.tap_rows.specs.declared.rows.QueryRow.{QueryRow}

@@ -1,6 +1,6 @@
 //! When a run is next worthwhile.
 #![tactic(auto)]
 
-mod wake;
+mod waking;
 
-pub use wake::wake;
+pub use waking::wake;
