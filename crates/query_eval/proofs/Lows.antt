@@ -6,7 +6,7 @@ use Rattle.std.proofs.lemmas.Bool.{cases_Bool}
 use Rattle.tap_rows.specs.declared.results.Hit.{Hit}
 use Rattle.tap_rows.specs.Kept.{In}
 use Rattle.query_eval.specs.Lowest.{lower, lowered, lowest}
-use Rattle.query_eval.specs.Found.{AreApart, AreLowest}
+use Rattle.query_eval.specs.HitLists.{AreApart, AreLowest}
 
 nat_is : (n m : ℕ) → nat_eq n m ≡ true → n ≡ m
 nat_is n m h = grind arith

@@ -1,9 +1,9 @@
 -- The least hits of a run are the meaning of its query.
 use Rattle.std.proofs.Common.{◌≡◌, ℕ, suc, ◌+◌, ◌≤◌, ℤ, pos, Bool, true, false, not, List, [], ◌∷◌, Option, Some, None, refl, sym, ap, ◌∙◌, subst, inl, inr, arith}
-use Rattle.std.specs.Prelude.{◌⊎◌, int_le, ◌≤ℤ◌, ◌<ℤ◌}
+use Rattle.std.specs.Prelude.{◌⊎◌, int_le, ◌≤ℤ◌}
 use Rattle.std.specs.List.{filter, filter_map}
 use Rattle.std.proofs.lemmas.Int.{ints}
-use Rattle.std.proofs.lemmas.Bool.{cases_Bool, false≢true, both_ways}
+use Rattle.std.proofs.lemmas.Bool.{cases_Bool}
 use Rattle.tap_base.specs.declared.numbers.DocNum.{DocNum}
 use Rattle.tap_rows.specs.declared.rows.Doc.{Doc}
 use Rattle.tap_rows.specs.declared.tables.Tables.{Tables}
@@ -13,66 +13,18 @@ use Rattle.tap_rows.specs.Kept.{In}
 use Rattle.tap_rows.specs.Results.{hit_of}
 use Rattle.time_marks.specs.declared.window.Window.{Window}
 use Rattle.time_marks.specs.Probes.{Probe, found, least, meaning_without}
-use Rattle.query_eval.specs.Found.{IsFound, AreFound, AreApart, AreLowest, InOrder, HaveSame}
+use Rattle.probe_eval.specs.Found.{IsFound, AreFound}
+use Rattle.query_eval.specs.HitLists.{AreApart, AreLowest, InOrder, HaveSame}
 use Rattle.query_eval.specs.Lowest.{lowest}
 use Rattle.query_eval.proofs.Lows.{kept_all}
 use Rattle.query_eval.specs.Laws.{LowestHitsAreTheMeaning}
-use Rattle.query_eval.proofs.HitOrder.{same_rising, ordered_in, in_ordered, rising_order}
-use Rattle.tap_rows.proofs.SecondsLaws.{least_second-within}
-use Rattle.query_eval.proofs.LeastSeconds.{least_none, least_passes, least_least}
-
-some_same : {A : Type 0} {x y : A} → Some x ≡ Some y → x ≡ y
-some_same e = cc
+use Rattle.query_eval.proofs.HitOrder.{same_rising, rising_order}
+use Rattle.probe_eval.proofs.LeastSeconds.{least_least}
+use Rattle.probe_eval.proofs.Meant.{kept_from, hit_parts, least_is, meaning_in, in_meaning, found_least}
+use Rattle.probe_eval.proofs.Members.{in_filter}
 
 num_same : (a b : DocNum) → a.0 ≡ b.0 → a ≡ b
 num_same a b e = ap (λ n. record { 0 = n }) e
-
--- what filter_map keeps
-module _ {A B : Type 0} where
-  pub kept_from : (f : A → Option B) (xs : List A) (y : B) → In y (filter_map f xs) → (x : A) × In x xs × (f x ≡ Some y)
-  kept_from f [] y i = absurd i
-  kept_from f (x ∷ xs) y i = go (f x) refl i (λ j. kept_from f xs y j)
-    where
-      go : (o : Option B) → f x ≡ o → In y (filter_map f (x ∷ xs)) → (In y (filter_map f xs) → (x : A) × In x xs × (f x ≡ Some y)) → (z : A) × In z (x ∷ xs) × (f z ≡ Some y)
-      go None e i r = let k = r (rw e at i) in (k.0, inr k.1, k.2)
-      go (Some b) e i r = other e (rw e at i) r
-        where
-          other : f x ≡ Some b → (y ≡ b) ⊎ In y (filter_map f xs) → (In y (filter_map f xs) → (x : A) × In x xs × (f x ≡ Some y)) → (z : A) × In z (x ∷ xs) × (f z ≡ Some y)
-          other e (inl q) r = (x, inl refl, e ∙ ap Some (sym q))
-          other e (inr j) r = let k = r j in (k.0, inr k.1, k.2)
-
-  pub from_kept : (f : A → Option B) (xs : List A) (x : A) (y : B) → In x xs → f x ≡ Some y → In y (filter_map f xs)
-  from_kept f [] x y i e = absurd i
-  from_kept f (z ∷ zs) x y (inl q) e =
-      let e' : f z ≡ Some y = sym (ap f q) ∙ e in
-      rw e' (inl refl)
-  from_kept f (z ∷ zs) x y (inr j) e = go (f z) refl (from_kept f zs x y j e)
-    where
-      go : (o : Option B) → f z ≡ o → In y (filter_map f zs) → In y (filter_map f (z ∷ zs))
-      go None q k = rw q k
-      go (Some b) q k = rw q (inr k)
-
-module _ {A : Type 0} where
-  pub in_filter : (p : A → Bool) (xs : List A) (x : A) → In x (filter p xs) → In x xs × (p x ≡ true)
-  in_filter p [] x i = absurd i
-  in_filter p (z ∷ zs) x i =
-      elim (cases_Bool (p z)) [
-        | inl e ↦ here e (rw e at i) (λ j. in_filter p zs x j)
-        | inr e ↦ let k = in_filter p zs x (rw e at i) in (inr k.0, k.1)
-      ]
-    where
-      here : p z ≡ true → (x ≡ z) ⊎ In x (filter p zs) → (In x (filter p zs) → In x zs × (p x ≡ true)) → In x (z ∷ zs) × (p x ≡ true)
-      here e (inl q) r = (inl q, ap p q ∙ e)
-      here e (inr j) r = let k = r j in (inr k.0, k.1)
-
-  pub to_filter : (p : A → Bool) (xs : List A) (x : A) → In x xs → p x ≡ true → In x (filter p xs)
-  to_filter p [] x i e = absurd i
-  to_filter p (z ∷ zs) x (inl q) e =
-      let e' : p z ≡ true = sym (ap p q) ∙ e in
-      rw e' (inl q)
-  to_filter p (z ∷ zs) x (inr j) e =
-      let k = to_filter p zs x j e in
-      elim (cases_Bool (p z)) [ inl q ↦ rw q (inr k) | inr q ↦ rw q k ]
 
 -- the numbers are the places, from n
 abbrev Numbered : ℕ → List Doc → Type 0
@@ -103,15 +55,6 @@ same_doc n (x ∷ xs) d e u (inr i) (inl q) h =
     absurd (omega (arith, k, a, b, h))
 same_doc n (x ∷ xs) d e u (inr i) (inr j) h = same_doc (n + 1) xs d e u.1 i j h
 
-pub hit_parts : (d : Doc) (o : Option ℤ) (h : Hit) → hit_of d o ≡ Some h → (h.doc ≡ d.num) × (o ≡ Some h.first)
-hit_parts d None h e = absurd cc
-hit_parts d (Some s) h e =
-    let q = some_same e in
-    (ap (λ (z : Hit). z.doc) (sym q), ap (λ (z : Hit). Some z.first) q)
-
-pub hit_back : (d : Doc) (o : Option ℤ) (h : Hit) → h.doc ≡ d.num → o ≡ Some h.first → hit_of d o ≡ Some h
-hit_back d o h e q = ap (λ k. hit_of d k) q ∙ ap (λ n. Some (record { doc = n; first = h.first })) (sym e)
-
 le_back : (x y : ℤ) → int_le x y ≡ true → x ≤ℤ y
 le_back x y h = grind (arith, ints)
 
@@ -122,13 +65,6 @@ hit_same : (f h : Hit) → f.doc ≡ h.doc → f.first ≡ h.first → f ≡ h
 hit_same f h d e = ap (λ n. record { doc = n; first = f.first }) d ∙ ap (λ s. record { doc = h.doc; first = s }) e
 
 module _ (seen : Doc → Bool) (X : List Probe) (T : Tables) (w : Window) (numbered : Numbered 1 T.docs) where
-  abbrev unseen_docs : List Doc
-  unseen_docs = filter (λ d. not (seen d)) T.docs
-
-  not_false : (b : Bool) → not b ≡ true → b ≡ false
-  not_false true h = absurd (false≢true h)
-  not_false false h = refl
-
   apart_from : (n : ℕ) (ds : List Doc) → Numbered n ds → AreApart (filter_map (λ d. hit_of d (least X T d w)) (filter (λ d. not (seen d)) ds))
   apart_from n [] u = tt
   apart_from n (x ∷ xs) u = elim (cases_Bool (not (seen x))) [
@@ -149,30 +85,6 @@ module _ (seen : Doc → Bool) (X : List Probe) (T : Tables) (w : Window) (numbe
       go None e r = rw e r
       go (Some s) e r = rw e ((λ y i q. above y i q), r)
 
-  -- the least mark, if one is found
-  least_is : (d : Doc) (b : ℤ) → found X T d b ≡ true → w.low ≤ℤ b → b <ℤ w.high → (least_b : ℤ) × (least X T d w ≡ Some least_b) × (least_b ≤ℤ b)
-  least_is d b f l h = go (least X T d w) refl
-    where
-      go : (o : Option ℤ) → least X T d w ≡ o → (least_b : ℤ) × (least X T d w ≡ Some least_b) × (least_b ≤ℤ b)
-      go None e = absurd (both_ways (found X T d b) (least_none (found X T d) w.low w.high b e l h) f)
-      go (Some s) e = (s, e, least_least (found X T d) w.low w.high s b e l f)
-
-  meaning_in : (h : Hit) → In h (meaning_without seen X T w) → (d : Doc) × In d T.docs × (seen d ≡ false) × (h.doc ≡ d.num) × (least X T d w ≡ Some h.first)
-  meaning_in h i =
-      let k = kept_from (λ d. hit_of d (least X T d w)) unseen_docs h (ordered_in h _ i) in
-      let a = in_filter (λ d. not (seen d)) T.docs k.0 k.1 in
-      let b = hit_parts k.0 (least X T k.0 w) h k.2 in
-      (k.0, a.0, not_false (seen k.0) a.1, b.0, b.1)
-
-  in_meaning : (h : Hit) (d : Doc) → In d T.docs → seen d ≡ false → h.doc ≡ d.num → least X T d w ≡ Some h.first → In h (meaning_without seen X T w)
-  in_meaning h d i u n e =
-      in_ordered h _ (from_kept (λ d. hit_of d (least X T d w)) unseen_docs d h (to_filter (λ d. not (seen d)) T.docs d i (ap not u)) (hit_back d (least X T d w) h n e))
-
-  found_least : (h : Hit) (d : Doc) → In d T.docs → seen d ≡ false → h.doc ≡ d.num → least X T d w ≡ Some h.first → IsFound seen X T w h
-  found_least h d i u n e =
-      let r = least_second-within (found X T d) w.low w.high h.first e in
-      record { doc = d; is_row = i; unseen = u; num = n; at = least_passes (found X T d) w.low w.high h.first e; low = r.0; high = r.1 }
-
   -- the same of a list in order with one hit of each document, the least of those that are found
   pub lowest_meaning : (C zs : List Hit) → AreFound seen X T w C → AreLowest (λ y. In y C) zs → InOrder zs → zs ≡ meaning_without seen X T w
   lowest_meaning C zs all kept rising = same_rising zs (meaning_without seen X T w) rising (rising_order _ (apart_from 1 T.docs numbered)) to back
@@ -180,16 +92,16 @@ module _ (seen : Doc → Bool) (X : List Probe) (T : Tables) (w : Window) (numbe
       to : (h : Hit) → In h zs → In h (meaning_without seen X T w)
       to h i =
           let g = all.sound h (kept.among h i) in
-          let m = least_is g.doc h.first g.at g.low g.high in
+          let m = least_is seen X T w g.doc h.first g.at g.low g.high in
           let other : Hit = record { doc = g.doc.num; first = m.0 } in
-          let o = all.complete other (found_least other g.doc g.is_row g.unseen refl m.1) in
+          let o = all.complete other (found_least seen X T w other g.doc g.is_row g.unseen refl m.1) in
           let e : h.first ≡ m.0 = antisym h.first m.0 (le_back h.first m.0 (kept.least h other i o (sym (ap (λ (z : DocNum). z.0) g.num)))) m.2 in
-          in_meaning h g.doc g.is_row g.unseen g.num (m.1 ∙ ap Some (sym e))
+          in_meaning seen X T w h g.doc g.is_row g.unseen g.num (m.1 ∙ ap Some (sym e))
 
       back : (h : Hit) → In h (meaning_without seen X T w) → In h zs
       back h i =
-          let m = meaning_in h i in
-          let here = all.complete h (found_least h m.0 m.1 m.2 m.3 m.4) in
+          let m = meaning_in seen X T w h i in
+          let here = all.complete h (found_least seen X T w h m.0 m.1 m.2 m.3 m.4) in
           let k = kept.all h here in
           let g = all.sound k.0 (kept.among k.0 k.1) in
           let d : g.doc ≡ m.0 = same_doc 1 T.docs g.doc m.0 numbered g.is_row m.1 (sym (ap (λ (z : DocNum). z.0) g.num) ∙ k.2 ∙ ap (λ (z : DocNum). z.0) m.3) in

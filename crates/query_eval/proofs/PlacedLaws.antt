@@ -6,7 +6,7 @@ use Rattle.std.proofs.lemmas.Bool.{cases_Bool, true≢false, both_ways}
 use Rattle.std.proofs.lemmas.Map.Steps.{length-le_from_distinct_below}
 use Rattle.tap_rows.specs.declared.results.Hit.{Hit}
 use Rattle.tap_rows.specs.Kept.{In}
-use Rattle.query_eval.specs.Found.{AreApart}
+use Rattle.query_eval.specs.HitLists.{AreApart}
 use Rattle.query_eval.specs.Lowest.{lower, lowered}
 use Rattle.query_eval.specs.Placed.{IsPlaced, has_at, is_of}
 

@@ -8,24 +8,19 @@ use Rattle.tap_rows.specs.declared.results.Hit.{Hit}
 use Rattle.tap_rows.specs.declared.results.Entry.{Entry}
 use Rattle.tap_rows.specs.Kept.{In}
 use Rattle.row_index.specs.Orders.{Numbered, doc_number}
-use Rattle.time_marks.specs.declared.ranged.Ranged.{Ranged}
 use Rattle.time_marks.specs.declared.ranged_query.RangedQuery.{RangedQuery}
 use Rattle.time_marks.specs.declared.window.Window.{Window}
 use Rattle.time_marks.specs.Found.{Distinct}
 use Rattle.time_marks.specs.Probes.{Probe}
-use Rattle.time_marks.specs.Seeks.{seek_of}
-use Rattle.time_marks.specs.Views.{probe_in, ranged_probes}
-use Rattle.time_marks.proofs.Lists.{in_map}
-use Rattle.access_plan.proofs.Served.{orders_serve}
+use Rattle.time_marks.specs.Views.{ranged_probes}
 use Rattle.query_eval.specs.Lowest.{lowered, lowest, has_place, with_hit, keeping}
 use Rattle.query_eval.specs.Placed.{IsPlaced}
-use Rattle.query_eval.specs.Work.{total}
-use Rattle.query_eval.specs.Drivers.{seek_var, seek_cost}
-use Rattle.query_eval.specs.Runs.{part_order, part_cost, query_hits, query_cost, HasValidProbes, HasNoMark, PathIsDocument, rows_due}
-use Rattle.query_eval.proofs.Members.{no_more}
-use Rattle.query_eval.proofs.Costs.{total_none, total_map}
-use Rattle.query_eval.proofs.Dues.{quiet_cost, alone_cost}
-use Rattle.query_eval.proofs.Founds.{part_probe, part_bounded, query_found}
+use Rattle.probe_eval.specs.Work.{total}
+use Rattle.probe_eval.specs.Runs.{query_hits, query_cost, HasValidProbes, HasNoMark, PathIsDocument, rows_due}
+use Rattle.probe_eval.proofs.Members.{no_more}
+use Rattle.probe_eval.proofs.Founds.{query_found}
+use Rattle.probe_eval.proofs.QueryCosts.{query_quiet, query_due}
+use Rattle.probe_eval.proofs.Steps.{get_in}
 
 -- hits whose documents all have places are kept as by the lowering alone
 all_placed : (n : ℕ) (ks hs : List Hit) → ((h : Hit) → In h hs → has_place n h.doc.0 ≡ true) → keeping n ks hs ≡ lowest ks hs
@@ -86,14 +81,6 @@ below_distinct : (n : ℕ) → Distinct (below n)
 below_distinct zero = tt
 below_distinct (suc n) = ((λ i. let h = below_is n n i in omega (arith, h)), below_distinct n)
 
-pub get_in : {A : Type 0} (xs : List A) (j : ℕ) (x : A) → slice_get xs j ≡ Some x → In x xs
-get_in [] j x e = absurd cc
-get_in (y ∷ ys) zero x e = inl (same e)
-  where
-    same : Some y ≡ Some x → x ≡ y
-    same e = cc
-get_in (y ∷ ys) (suc j) x e = inr (get_in ys j x e)
-
 get_some : {A : Type 0} (xs : List A) (j : ℕ) → j < length xs → (x : A) × (slice_get xs j ≡ Some x)
 get_some [] j h = absurd (omega (arith, h))
 get_some (y ∷ ys) zero h = (y, refl)
@@ -112,40 +99,10 @@ placed_fit hs ps h =
     there : (k : ℕ) → k < length hs → In k ps
     there k l = let x = get_some hs k l in let e = h k x.0 x.1 in get_in ps (x.0.doc.0 - 1) k e.2
 
-total_less_in : {A : Type 0} (f g : A → ℕ) (xs : List A) → ((x : A) → In x xs → f x ≤ g x) → total f xs ≤ total g xs
-total_less_in f g [] h = omega arith
-total_less_in f g (x ∷ xs) h =
-    let a = h x (inl refl) in
-    let b = total_less_in f g xs (λ y i. h y (inr i)) in
-    omega (arith, a, b)
-
 module _ (q : RangedQuery) (ps : HasValidProbes q) (T : Tables) (w : Window) where
-  probe_of : Ranged → Probe
-  probe_of part = probe_in q.pool part.probe
-
-  quiet_part : (part : Ranged) → In part q.parts → HasNoMark T w (probe_in q.pool part.probe) → part_cost T w q.pool part ≡ 0
-  quiet_part part i h =
-      let p = probe_in q.pool part.probe in
-      ap (λ s. seek_cost T w p (part_order part) s (seek_var s)) part.solved
-      ∙ quiet_cost T w p (part_order part) (part_probe q ps part i) (orders_serve p.path p.at.base) (part_bounded q part i) (seek_var (seek_of p.at)) refl h
-
-  alone_part : (part : Ranged) → In part q.parts → PathIsDocument (probe_in q.pool part.probe) → part_cost T w q.pool part ≤ rows_due T w (probe_in q.pool part.probe)
-  alone_part part i h =
-      let p = probe_in q.pool part.probe in
-      subst (λ s. seek_cost T w p (part_order part) s (seek_var s) ≤ rows_due T w p) (sym part.solved)
-      (alone_cost T w p (part_order part) (part_probe q ps part i) (orders_serve p.path p.at.base) (part_bounded q part i) h (seek_var (seek_of p.at)) refl)
-
-  query_quiet : ((p : Probe) → In p (ranged_probes q) → HasNoMark T w p) → query_cost T w q ≡ 0
-  query_quiet h = total_none (part_cost T w q.pool) q.parts (λ part i. quiet_part part i (h (probe_in q.pool part.probe) (in_map (λ (part : Ranged). probe_in q.pool part.probe) q.parts part i)))
-
-  query_due : ((p : Probe) → In p (ranged_probes q) → PathIsDocument p) → query_cost T w q ≤ total (rows_due T w) (ranged_probes q)
-  query_due h =
-      subst (λ z. query_cost T w q ≤ z) (sym (total_map (rows_due T w) (λ (part : Ranged). probe_in q.pool part.probe) q.parts))
-      (total_less_in (part_cost T w q.pool) (λ (part : Ranged). rows_due T w (probe_in q.pool part.probe)) q.parts (λ part i. alone_part part i (h (probe_in q.pool part.probe) (in_map (λ (part : Ranged). probe_in q.pool part.probe) q.parts part i))))
-
   -- the steps that were taken
   pub taken_quiet : (old now : ℕ) → now ≤ old + query_cost T w q → old ≤ now → ((p : Probe) → In p (ranged_probes q) → HasNoMark T w p) → now ≡ old
-  taken_quiet old now h k quiet = let z = query_quiet quiet in omega (arith, h, k, z)
+  taken_quiet old now h k quiet = let z = query_quiet q ps T w quiet in omega (arith, h, k, z)
 
   pub taken_due : (old now : ℕ) → now ≤ old + query_cost T w q → ((p : Probe) → In p (ranged_probes q) → PathIsDocument p) → now ≤ old + total (rows_due T w) (ranged_probes q)
-  taken_due old now h alone = let z = query_due alone in omega (arith, h, z)
+  taken_due old now h alone = let z = query_due q ps T w alone in omega (arith, h, z)

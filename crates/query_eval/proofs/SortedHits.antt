@@ -12,7 +12,7 @@ use Rattle.std.proofs.lemmas.Bool.{cases_Bool, true≢false}
 use Rattle.tap_rows.specs.declared.results.Hit.{Hit}
 use Rattle.tap_rows.specs.Kept.{In}
 use Rattle.tap_rows.specs.Results.{is_before}
-use Rattle.query_eval.specs.Found.{AreApart, InOrder, HaveSame}
+use Rattle.query_eval.specs.HitLists.{AreApart, InOrder, HaveSame}
 
 -- the order
 

@@ -1,10 +1,8 @@
--- One turn of a loop over rows.
-use Rattle.std.proofs.Common.{◌≡◌, ◌∙◌, ◌+◌, ◌≤◌, ℕ, zero, suc, Some, drop, List, [], ◌∷◌, ◌++◌, refl, sym, ap, subst, arith}
+-- One turn of a loop over rows whose hits are kept.
+use Rattle.std.proofs.Common.{◌≡◌, ◌∙◌, ℕ, List, [], ◌∷◌, ◌++◌, refl, sym, ap}
 use Rattle.std.specs.List.{flat_map}
-use Rattle.std.specs.Prelude.{◌<◌, length, slice_get, slice_index_or}
 use Rattle.tap_rows.specs.declared.results.Hit.{Hit}
 use Rattle.query_eval.specs.Lowest.{with_hit, keeping}
-use Rattle.query_eval.specs.Work.{total}
 
 pub keeping_append : (n : ℕ) (kept xs ys : List Hit) → keeping n kept (xs ++ ys) ≡ keeping n (keeping n kept xs) ys
 keeping_append n kept [] ys = refl
@@ -15,35 +13,3 @@ module _ {A : Type 0} where
   pub hits_step : (f : A → List Hit) (whole : List Hit) (n k : ℕ) (kept now : List Hit) (rows left : List A) (r : A) → whole ≡ keeping n kept (flat_map f rows) → rows ≡ r ∷ left → now ≡ keeping n kept (f r) → k ≡ n → whole ≡ keeping k now (flat_map f left)
   hits_step f whole n k kept now rows left r h e g q =
       h ∙ ap (λ z. keeping n kept (flat_map f z)) e ∙ keeping_append n kept (f r) (flat_map f left) ∙ ap (λ z. keeping n z (flat_map f left)) (sym g) ∙ ap (λ z. keeping z now (flat_map f left)) (sym q)
-
-  -- and its steps are taken
-  pub cost_step : (cost : A → ℕ) (s next now bound : ℕ) (rows left : List A) (r : A) → s + total (λ x. 1 + cost x) rows ≤ bound → rows ≡ r ∷ left → next ≡ s + 1 → now ≤ next + cost r → now + total (λ x. 1 + cost x) left ≤ bound
-  cost_step cost s next now bound rows left r h e n c =
-      let k : s + (1 + cost r + total (λ x. 1 + cost x) left) ≤ bound = subst (λ z. s + total (λ x. 1 + cost x) z ≤ bound) e h in
-      omega (arith, k, n, c)
-
-  -- the same of a loop that takes no step of its own
-  pub part_step : (cost : A → ℕ) (s now bound : ℕ) (rows left : List A) (r : A) → s + total cost rows ≤ bound → rows ≡ r ∷ left → now ≤ s + cost r → now + total cost left ≤ bound
-  part_step cost s now bound rows left r h e c =
-      let k : s + (cost r + total cost left) ≤ bound = subst (λ z. s + total cost z ≤ bound) e h in
-      omega (arith, k, c)
-
-  -- what is left from a place on
-  pub rest_at : (xs : List A) (j : ℕ) (x : A) → slice_get xs j ≡ Some x → drop j xs ≡ x ∷ drop (j + 1) xs
-  rest_at [] j x e = absurd cc
-  rest_at (y ∷ ys) zero x e = ap (λ z. z ∷ ys) (same e)
-    where
-      same : Some y ≡ Some x → y ≡ x
-      same e = cc
-  rest_at (y ∷ ys) (suc j) x e = rest_at ys j x e ∙ ap (λ n. x ∷ drop n (y ∷ ys)) (shift j)
-    where
-      shift : (j : ℕ) → suc (j + 1) ≡ suc j + 1
-      shift j = omega arith
-
-  pub item_at : (xs : List A) (i : ℕ) (x d : A) → i < length xs → x ≡ slice_index_or xs i d → slice_get xs i ≡ Some x
-  item_at [] i x d h e = absurd (omega (arith, h))
-  item_at (y ∷ ys) zero x d h e = ap Some (sym e)
-  item_at (y ∷ ys) (suc i) x d h e = item_at ys i x d (less i (length ys) h) e
-    where
-      less : (i l : ℕ) → suc i < suc l → i < l
-      less i l h = omega (arith, h)

@@ -4,7 +4,7 @@ ghost use Rattle.std.specs.Prelude.{◌≡◌};
 ghost use Rattle.std.specs.Ordering.{is_lt};
 ghost use Rattle.tap_rows.specs.Results.{is_before};
 ghost use Rattle.tap_rows.specs.declared.results.Hit.{Hit};
-ghost use Rattle.query_eval.specs.Found.{AreApart, InOrder, HaveSame};
+ghost use Rattle.query_eval.specs.HitLists.{AreApart, InOrder, HaveSame};
 
 use std::cmp::Ordering;
 use tap_rows::Hit;

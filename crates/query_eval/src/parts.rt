@@ -3,20 +3,19 @@
 ghost use Rattle.std.specs.Prelude.{◌≡◌, ◌+◌, ◌<◌, ◌≤◌, [], length, true, option_to_list};
 ghost use Rattle.std.specs.List.{flat_map};
 ghost use Rattle.tql_core.specs.Values.{bind};
-ghost use Rattle.query_eval.specs.Work.{total};
+ghost use Rattle.probe_eval.specs.Work.{total};
 ghost use Rattle.jiff_core.specs.Calendar.{IsWithin};
 ghost use Rattle.tql_core.specs.Bounds.{is_near};
 ghost use Rattle.time_marks.specs.Seeks.{seek_plus};
 ghost use Rattle.query_eval.specs.Lowest.{keeping};
 ghost use Rattle.query_eval.specs.Placed.{IsReady};
-ghost use Rattle.query_eval.specs.Searches.{searched, HasBody, HasSlots};
-ghost use Rattle.query_eval.specs.Drivers.{seek_var, hits_at, seek_hits, cost_at, seek_cost, driving};
+ghost use Rattle.probe_eval.specs.Searches.{searched, HasBody, HasSlots};
+ghost use Rattle.probe_eval.specs.Drivers.{seek_var, hits_at, seek_hits, cost_at, seek_cost, driving};
 
-use crate::drivers::{mark_in, seek_var, stored_rows, table_in};
 use crate::kept_hits::KeptHits;
-use crate::nested::{Search, collect_hits};
-use crate::row_walk::RowWalk;
+use crate::nested::collect_hits;
 use access_plan::Reach;
+use probe_eval::{Search, driving, mark_in, seek_var};
 use std::sync::ledger::Ledger;
 use tap_base::Steps;
 use time_marks::{Seek, Window};
@@ -44,17 +43,6 @@ fn collect_at<'a, L: Ledger>(
     if let Some(mark) = mark_in(w, value(search.probe.at, env)) {
         collect_hits(search, order, env, mark, into, steps);
     }
-}
-
-// Returns the driving rows of the probe.
-fn driving<'a>(search: &Search<'a>, seek: Seek, var: Var, w: Window) -> RowWalk<'a>
-    requires plus { is_near (seek_plus seek) ≡ true }
-    requires low { IsWithin 500000000000 w.low }
-    requires high { IsWithin 500000000000 w.high }
-    ensures { result ≡ driving search.now.index.now w (searched search.now) seek var }
-{
-    let table = table_in(search.probe.path.as_slice(), var);
-    stored_rows(seek, table, seek.window(w), search.index)
 }
 
 // Stores the hits at the marks of all driving rows.

@@ -4,7 +4,7 @@ ghost use Rattle.std.specs.Prelude.{◌≡◌, ◌<◌, pos, [], ◌∷◌, map,
 ghost use Rattle.jiff_core.specs.Calendar.{IsWithin};
 ghost use Rattle.tql_tree.specs.declared.table.Table.TheVariants.{Docs};
 ghost use Rattle.tql_core.specs.declared.term.Base.TheVariants.{Arrival};
-ghost use Rattle.query_eval.specs.Runs.{HasValidProbes};
+ghost use Rattle.probe_eval.specs.Runs.{HasValidProbes};
 
 use crate::kept_hits::KeptHits;
 use crate::{Hits, run};

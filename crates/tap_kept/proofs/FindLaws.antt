@@ -4,8 +4,8 @@ use Rattle.tap_rows.specs.declared.tables.Tables.{Tables}
 use Rattle.tap_rows.specs.Kept.{In}
 use Rattle.time_marks.specs.declared.window.Window.{Window}
 use Rattle.time_marks.specs.Probes.{Probe}
-use Rattle.query_eval.specs.Runs as runs
-use Rattle.query_eval.specs.Work.{total}
+use Rattle.probe_eval.specs.Runs as runs
+use Rattle.probe_eval.specs.Work.{total}
 use Rattle.tap_model.specs.Queries.{probes_in}
 use Rattle.tap_kept.specs.declared.cached_query.CachedQuery.{CachedQuery}
 use Rattle.tap_kept.specs.Costs.{HasNoMark, AreAlone, rows_due, window_since}

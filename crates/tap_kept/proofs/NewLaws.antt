@@ -16,7 +16,7 @@ use Rattle.tap_rows.specs.Results.{entry_at, hit_of, put_in, in_order, is_before
 use Rattle.little_box.specs.Boxes.{is_in}
 use Rattle.tap_kept.specs.Keeping.{AreNew}
 use Rattle.tap_kept.specs.Starting.{picks_same, PicksAreDistinct}
-use Rattle.query_eval.specs.Nested.{was_seen}
+use Rattle.probe_eval.specs.Nested.{was_seen}
 
 same-no : (m n : ℕ) → (m ≡ n → ⊥) → nat_eq m n ≡ false
 same-no m n no' = grind arith

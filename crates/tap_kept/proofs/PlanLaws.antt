@@ -11,7 +11,7 @@ use Rattle.time_marks.specs.Found.{IsProbe}
 use Rattle.time_marks.specs.Probes.{Probe}
 use Rattle.time_marks.specs.Views.{probes_of, ranged_probes}
 use Rattle.time_marks.proofs.Repeats.{distinct_among}
-use Rattle.query_eval.specs.Runs.{HasValidProbes}
+use Rattle.probe_eval.specs.Runs.{HasValidProbes}
 
 pub probes-kept : (x : WindowQuery) (r q : RangedQuery) → ((p : Probe) → In p (probes_of x) → IsProbe p) → ranged_probes r ≡ distinct_probes (probes_of x) → q ≡ r → HasValidProbes q
 probes-kept x r q s d e = subst HasValidProbes (sym e) (λ p i. s p (distinct_among (probes_of x) p (subst (In p) d i)))

@@ -8,7 +8,7 @@ use Rattle.tap_rows.specs.declared.rows.QueryRow.{QueryRow}
 use Rattle.tap_rows.specs.declared.results.Entry.{Entry}
 use Rattle.tap_rows.specs.declared.results.Hit.{Hit}
 use Rattle.time_marks.specs.Probes.{meaning_without}
-use Rattle.query_eval.specs.Nested.{was_seen}
+use Rattle.probe_eval.specs.Nested.{was_seen}
 use Rattle.tap_rows.specs.Results.{run_moments, covered}
 use Rattle.tap_rows.specs.Deliveries.{delivered}
 use Rattle.tap_rows.specs.Kept.{In}

@@ -7,7 +7,7 @@ ghost use Rattle.tql_core.specs.Scope.{IsQuery};
 ghost use Rattle.time_marks.specs.Distinct.{distinct_probes};
 ghost use Rattle.time_marks.specs.Views.{ranged_probes};
 ghost use Rattle.monotone_rewrite.specs.Query.{window};
-ghost use Rattle.query_eval.specs.Runs.{HasValidProbes};
+ghost use Rattle.probe_eval.specs.Runs.{HasValidProbes};
 ghost use Rattle.tap_rows.specs.declared.rows.QueryRow.{QueryRow};
 ghost use Rattle.tap_model.specs.Queries.{condition_by, start_of, probes_in};
 ghost use Rattle.tap_model.specs.Sound.{IsMoment};

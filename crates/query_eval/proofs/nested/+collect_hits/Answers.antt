@@ -6,11 +6,13 @@ use Rattle.tql_core.specs.Values.{bind, lookup}
 use Rattle.time_marks.specs.Views.{probe_in}
 use Rattle.access_plan.specs.Views.{reach_at}
 use Rattle.query_eval.specs.Lowest.{keeping}
-use Rattle.query_eval.specs.Work.{rows_by}
-use Rattle.query_eval.specs.Rests.{further}
-use Rattle.query_eval.specs.Nested.{new_doc, hit_if, holds_here, hits_over, work_over, cost_here}
-use Rattle.query_eval.proofs.Steps.{hits_step, cost_step}
-use Rattle.query_eval.proofs.HitSteps.{doc_hits, note_hits, doc_cost, first_hits, first_cost}
+use Rattle.probe_eval.specs.Work.{rows_by}
+use Rattle.probe_eval.specs.Rests.{further}
+use Rattle.probe_eval.specs.Nested.{new_doc, hit_if, holds_here, hits_over, work_over, cost_here}
+use Rattle.probe_eval.proofs.Steps.{cost_step}
+use Rattle.query_eval.proofs.Steps.{hits_step}
+use Rattle.probe_eval.proofs.HitSteps.{doc_hits, note_hits, doc_cost, first_cost}
+use Rattle.query_eval.proofs.HitSteps.{first_hits}
 use Rattle.query_eval.proofs.nested.+collect_hits.Goals as goal
 
 pub loop-row-init : goal.loop-row-init

@@ -4,8 +4,8 @@ use Rattle.tql_core.specs.Values.{bind}
 use Rattle.time_marks.specs.Views.{probe_in}
 use Rattle.query_eval.specs.Lowest.{keeping}
 use Rattle.query_eval.specs.Placed.{IsReady}
-use Rattle.query_eval.specs.Work.{total}
-use Rattle.query_eval.specs.Nested.{hits_over, work_over}
+use Rattle.probe_eval.specs.Work.{total}
+use Rattle.probe_eval.specs.Nested.{hits_over, work_over}
 use Rattle.query_eval.proofs.nested.+collect_hits.Given as goal
 
 abbrev pub invariant-loop-row : goal.invariant-loop-row

@@ -1,7 +1,7 @@
 use Rattle.std.proofs.Common.{rules, ◌≡◌, true, false, Some, length}
 use Rattle.time_marks.specs.Views.{probe_in}
 use Rattle.query_eval.specs.Lowest.{with_hit}
-use Rattle.query_eval.specs.Nested.{new_doc, holds_here}
+use Rattle.probe_eval.specs.Nested.{new_doc, holds_here}
 use Rattle.query_eval.proofs.HitSteps.{left_out, not_passed}
 use Rattle.query_eval.proofs.nested.collect_pair.Goals as goal
 use Rattle.query_eval.proofs.nested.collect_pair.Goals.{else-not-has_lower-via-then-not-has_lower+else-holds_here, else-not-has_lower-via-else-not-has_lower}

@@ -3,8 +3,9 @@ use Rattle.tql_core.specs.Bindings.{row_of}
 use Rattle.tql_core.specs.Values.{bind}
 use Rattle.time_marks.specs.Views.{probe_in}
 use Rattle.query_eval.specs.Lowest.{keeping}
-use Rattle.query_eval.specs.Drivers.{hits_at, cost_at}
-use Rattle.query_eval.proofs.Steps.{hits_step, cost_step}
+use Rattle.probe_eval.specs.Drivers.{hits_at, cost_at}
+use Rattle.probe_eval.proofs.Steps.{cost_step}
+use Rattle.query_eval.proofs.Steps.{hits_step}
 use Rattle.query_eval.proofs.parts.collect_driven.Goals as goal
 
 pub loop-row-preserved : goal.loop-row-preserved

@@ -4,11 +4,12 @@ use Rattle.tql_core.specs.Trees.{tree_at}
 use Rattle.time_marks.specs.Found.{nested}
 use Rattle.time_marks.specs.Views.{probe_in}
 use Rattle.query_eval.specs.Lowest.{keeping}
-use Rattle.query_eval.specs.Drivers.{seek_var, seek_hits, seek_cost}
-use Rattle.query_eval.specs.Runs.{part_order, part_hits, part_cost}
-use Rattle.query_eval.proofs.Founds.{part_fits}
-use Rattle.query_eval.proofs.Plans.{get_in}
-use Rattle.query_eval.proofs.Steps.{hits_step, part_step, rest_at, item_at}
+use Rattle.probe_eval.specs.Drivers.{seek_var, seek_hits, seek_cost}
+use Rattle.probe_eval.specs.Runs.{part_order, part_hits, part_cost}
+use Rattle.probe_eval.proofs.Founds.{part_fits}
+use Rattle.probe_eval.proofs.Steps.{get_in}
+use Rattle.probe_eval.proofs.Steps.{part_step, rest_at, item_at}
+use Rattle.query_eval.proofs.Steps.{hits_step}
 use Rattle.query_eval.proofs.runs.collect_parts.Goals as goal
 
 pub collect_part-requires-clause-room : goal.collect_part-requires-clause-room

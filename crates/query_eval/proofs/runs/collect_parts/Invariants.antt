@@ -2,8 +2,8 @@ use Rattle.std.proofs.Common.{◌≡◌, ◌+◌, ◌≤◌, length, drop}
 use Rattle.std.specs.List.{flat_map}
 use Rattle.query_eval.specs.Lowest.{keeping}
 use Rattle.query_eval.specs.Placed.{IsReady}
-use Rattle.query_eval.specs.Work.{total}
-use Rattle.query_eval.specs.Runs.{part_hits, part_cost, query_hits, query_cost}
+use Rattle.probe_eval.specs.Work.{total}
+use Rattle.probe_eval.specs.Runs.{part_hits, part_cost, query_hits, query_cost}
 use Rattle.query_eval.proofs.runs.collect_parts.Given as goal
 
 abbrev pub invariant-loop-place : goal.invariant-loop-place

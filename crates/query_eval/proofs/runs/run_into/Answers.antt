@@ -1,9 +1,9 @@
 use Rattle.std.proofs.Common.{rules, ◌≡◌, ◌≤◌, [], length, arith}
 use Rattle.query_eval.specs.Lowest.{lowest}
-use Rattle.query_eval.specs.Nested.{was_seen}
-use Rattle.query_eval.specs.Runs.{query_hits}
+use Rattle.probe_eval.specs.Nested.{was_seen}
+use Rattle.probe_eval.specs.Runs.{query_hits}
 use Rattle.time_marks.specs.Views.{ranged_probes}
-use Rattle.query_eval.proofs.Founds.{query_found}
+use Rattle.probe_eval.proofs.Founds.{query_found}
 use Rattle.query_eval.proofs.Plans.{hits_kept, placed_fit, taken_quiet, taken_due}
 use Rattle.query_eval.proofs.runs.run_into.Goals as goal
 

@@ -1,7 +1,7 @@
 use Rattle.std.proofs.Common.{◌≡◌, sym, subst}
 use Rattle.std.proofs.lemmas.Result.{IfOk-weaker}
 use Rattle.access_plan.specs.declared.query_plan.Plan.{Plan}
-use Rattle.query_eval.specs.Runs.{HasValidProbes}
+use Rattle.probe_eval.specs.Runs.{HasValidProbes}
 use Rattle.query_eval.proofs.tests.old_plan.Goals as goal
 
 pub returns : goal.returns

@@ -1,6 +1,6 @@
 use Rattle.std.proofs.Common.{rules, ◌≡◌, length, take, drop, ◌++◌, sym, ap, subst, ◌∙◌}
 use Rattle.std.proofs.Math.Seq.{take-append_seam}
-use Rattle.query_eval.specs.Found.{AreApart}
+use Rattle.query_eval.specs.HitLists.{AreApart}
 use Rattle.query_eval.proofs.Meanings.{finished}
 use Rattle.query_eval.proofs.PlacedLaws.{apart_placed}
 use Rattle.query_eval.proofs.kept_hits.KeptHits.finish.Goals as goal

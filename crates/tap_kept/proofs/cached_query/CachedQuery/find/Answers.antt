@@ -2,7 +2,7 @@ use Rattle.std.proofs.Common.{rules, ◌≡◌, ◌∙◌, ap, sym, subst, w64, 
 use Rattle.time_marks.specs.declared.window.Window.{Window}
 use Rattle.time_marks.specs.Probes.{meaning_without, least}
 use Rattle.time_marks.specs.Views.{ranged_probes}
-use Rattle.query_eval.specs.Nested.{was_seen}
+use Rattle.probe_eval.specs.Nested.{was_seen}
 use Rattle.tap_model.specs.Queries.{probes_in}
 use Rattle.tap_kept.specs.Keeping.{AreNew}
 use Rattle.tap_kept.proofs.NewLaws.{found-new}

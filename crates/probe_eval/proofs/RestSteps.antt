@@ -1,0 +1,20 @@
+-- One turn of the search for the rest of a path.
+use Rattle.std.proofs.Common.{◌≡◌, ℤ, true, false, None, List, [], ◌∷◌, refl}
+use Rattle.tap_rows.specs.declared.tables.Tables.{Tables}
+use Rattle.tql_core.specs.Values.{Env}
+use Rattle.time_marks.specs.declared.mark.Step.{Step}
+use Rattle.access_plan.specs.declared.reach.Reach.{Reach}
+use Rattle.access_plan.specs.Nearest.{nearest}
+use Rattle.probe_eval.specs.Open.{may_go}
+use Rattle.probe_eval.specs.Rests.{rest_of}
+
+module _ (T : Tables) (path : List Step) (b : ℤ) where
+  -- rows that may not go on have no rest
+  pub stopped : (order : List Reach) (env : Env) → may_go path b env ≡ false → false ≡ rest_of T path b order env
+  stopped [] env h = rw h refl
+  stopped (x ∷ rs) env h = rw h refl
+
+  -- if each step has its row, there is the rest
+  pub all_there : (order : List Reach) (env : Env) → may_go path b env ≡ true → nearest path env ≡ None → true ≡ rest_of T path b order env
+  all_there [] env h n = rw (h, n) refl
+  all_there (x ∷ rs) env h n = rw (h, n) refl

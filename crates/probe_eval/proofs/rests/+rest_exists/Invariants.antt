@@ -1,0 +1,19 @@
+use Rattle.std.proofs.Common.{◌≡◌, ◌+◌, ◌≤◌, length}
+use Rattle.std.specs.List.{list_any}
+use Rattle.tql_core.specs.Values.{bind}
+use Rattle.probe_eval.specs.Work.{total}
+use Rattle.probe_eval.specs.Rests.{rest_of, rest_cost}
+use Rattle.probe_eval.proofs.rests.+rest_exists.Given as goal
+
+abbrev pub invariant-loop-row : goal.invariant-loop-row
+invariant-loop-row g l = record {
+  same : rest_of l.fn.index l.fn.path l.fn.mark l.fn.order l.fn.env ≡ list_any (λ row. rest_of l.fn.index l.fn.path l.fn.mark l.rest (bind l.reach.var row l.fn.env)) l.rows;
+  steps : l.steps + total (λ row. 1 + rest_cost l.fn.index l.fn.path l.fn.mark l.rest (bind l.reach.var row l.fn.env)) l.rows ≤ l.fn.steps + rest_cost l.fn.index l.fn.path l.fn.mark l.fn.order l.fn.env;
+  more : l.fn.steps ≤ l.steps;
+}
+
+abbrev pub decreases-loop-row : goal.decreases-loop-row
+decreases-loop-row g l = length l.rows
+
+abbrev pub decreases-rest_exists : goal.decreases-rest_exists
+decreases-rest_exists g l = length l.order.now

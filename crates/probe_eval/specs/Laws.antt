@@ -1,0 +1,46 @@
+-- The laws of what probes find, as contracts name them.
+use Rattle.std.specs.Prelude.{◌≡◌, ◌↔◌, ◌≤◌, ℤ, true, Some, List, [], length}
+use Rattle.tap_rows.specs.declared.tables.Tables.{Tables}
+use Rattle.tap_rows.specs.Kept.{In}
+use Rattle.tql_core.specs.declared.term.Var.{Var}
+use Rattle.tql_core.specs.Bounds.{is_bounded}
+use Rattle.tql_core.specs.Row.{Row, rows_of}
+use Rattle.tql_core.specs.Scope.{AtomIn}
+use Rattle.tql_core.specs.Values.{Env, bind, value}
+use Rattle.time_marks.specs.declared.window.Window.{Window}
+use Rattle.time_marks.specs.Seeks.{seek_of, lies_in}
+use Rattle.time_marks.specs.declared.ranged_query.RangedQuery.{RangedQuery}
+use Rattle.time_marks.specs.Probes.{Probe}
+use Rattle.time_marks.specs.Views.{ranged_probes}
+use Rattle.tap_rows.specs.declared.results.Entry.{Entry}
+use Rattle.probe_eval.specs.Found.{AreFound}
+use Rattle.probe_eval.specs.Drivers.{seek_var, driving}
+use Rattle.probe_eval.specs.Tables.{table_in}
+use Rattle.probe_eval.specs.Nested.{was_seen}
+use Rattle.probe_eval.specs.Rests.{Rest, left_of, InTables, rest_of}
+use Rattle.tql_core.specs.declared.atom.Atom.{Atom}
+use Rattle.time_marks.specs.declared.mark.Step.{Step}
+use Rattle.time_marks.specs.Found.{vars_of, Distinct}
+use Rattle.time_marks.specs.Probes.{come_by}
+use Rattle.access_plan.specs.declared.reach.Reach.{Reach}
+use Rattle.probe_eval.specs.Runs.{HasValidProbes, query_hits}
+
+-- a driving row of a probe is a row of its table whose mark lies in the window, and each such row is one
+abbrev pub DrivingRowsAreMarked : Type 0
+DrivingRowsAreMarked =
+    (T : Tables) (w : Window) (p : Probe) (v : Var) (row : Row) → is_bounded p.at ≡ true → seek_var (seek_of p.at) ≡ Some v
+    → (In row (driving T w p (seek_of p.at) v)
+    ↔ (In row (rows_of (table_in p.path v.0) T) × (lies_in w (value p.at (bind v row [])) ≡ true)))
+
+-- walks from each driving row over the rows that accesses give find what the probes find
+abbrev pub WalksFindWhatProbesFind : Type 0
+WalksFindWhatProbesFind =
+    (q : RangedQuery) → HasValidProbes q → (entries : List Entry) (T : Tables) (w : Window)
+    → AreFound (was_seen entries) (ranged_probes q) T w (query_hits entries T w q)
+
+-- the search for the rest of a path finds it if and only if it exists, beside rows of its tables that have arrived by the mark
+abbrev pub RestsAreFound : Type 0
+RestsAreFound =
+    (T : Tables) (path : List Step) (b : ℤ) (order : List Reach) (env : Env) → Distinct (vars_of path)
+    → ((step : Step) → In step path → (a : Atom) → In a step.guards → AtomIn (vars_of path) a)
+    → InTables T path env → come_by b env ≡ true → left_of path env ≤ length order → ((rest_of T path b order env ≡ true) ↔ Rest T path b env)

@@ -1,0 +1,12 @@
+pub mod RowWalks
+pub mod Work
+pub mod Open
+pub mod Tables
+pub mod Rests
+pub mod Nested
+pub mod Searches
+pub mod Drivers
+pub mod Found
+pub mod Runs
+pub mod Pairs
+pub mod Laws

@@ -1,0 +1,101 @@
+//! The rows that drive a probe: those whose mark lies in the window.
+
+ghost use Rattle.std.specs.Prelude.{◌≡◌, true};
+ghost use Rattle.jiff_core.specs.Calendar.{IsWithin};
+ghost use Rattle.tql_core.specs.Bounds.{is_near};
+ghost use Rattle.time_marks.specs.Seeks.{seek_plus};
+ghost use Rattle.probe_eval.specs.Drivers.{seek_var, arrived_rows, dated_rows, stored_rows, driving, mark_in};
+ghost use Rattle.probe_eval.specs.Searches.{searched};
+ghost use Rattle.probe_eval.specs.Tables.{table_in};
+
+use crate::row_walk::RowWalk;
+use crate::search::Search;
+use row_index::RowIndex;
+use time_marks::{Seek, Step, Window};
+use tql_core::Var;
+use tql_tree::Table;
+
+// Returns the table of a variable of the path.
+fn table_in(path: &[Step], var: Var) -> Table
+    ensures { result ≡ table_in path.now var.0 }
+{
+    for step in path {
+        if step.var.0 == var.0 {
+            return step.table;
+        }
+    }
+    Table::Docs
+}
+
+/// Returns the variable of the driving row. `None` comes if and only if the mark is fixed.
+pub fn seek_var(seek: Seek) -> Option<Var>
+    ensures { result ≡ seek_var seek }
+{
+    match seek {
+        Seek::Arrived { var, .. } => Some(var),
+        Seek::Dated { var, .. } => Some(var),
+        Seek::Fixed { .. } => None,
+        Seek::ArrivedDay { var, .. } => Some(var),
+        Seek::DatedDay { var, .. } => Some(var),
+    }
+}
+
+// Returns the rows of a table that arrived in a window.
+fn arrived_rows(table: Table, w: Window, index: &RowIndex) -> RowWalk<'_>
+    ensures { result ≡ arrived_rows table w index.now }
+{
+    match table {
+        Table::Docs => RowWalk::of_docs(index.docs_arrived(w.low, w.high)),
+        Table::Notes => RowWalk::of_notes(index.notes_arrived(w.low, w.high)),
+    }
+}
+
+// Returns the rows of a table whose date lies in a window. Notes have no date.
+fn dated_rows(table: Table, w: Window, index: &RowIndex) -> RowWalk<'_>
+    ensures { result ≡ dated_rows table w index.now }
+{
+    match table {
+        Table::Docs => RowWalk::of_docs(index.docs_dated(w.low, w.high)),
+        Table::Notes => RowWalk::none(),
+    }
+}
+
+// Returns the rows whose stored second lies in a window.
+fn stored_rows(seek: Seek, table: Table, w: Window, index: &RowIndex) -> RowWalk<'_>
+    ensures { result ≡ stored_rows seek table w index.now }
+{
+    match seek {
+        Seek::Arrived { .. } => arrived_rows(table, w, index),
+        Seek::Dated { .. } => dated_rows(table, w, index),
+        Seek::Fixed { .. } => RowWalk::none(),
+        Seek::ArrivedDay { .. } => arrived_rows(table, w, index),
+        Seek::DatedDay { .. } => dated_rows(table, w, index),
+    }
+}
+
+/// Returns the driving rows of the probe, in order of their stored second.
+pub fn driving<'a>(search: &Search<'a>, seek: Seek, var: Var, w: Window) -> RowWalk<'a>
+    requires plus { is_near (seek_plus seek) ≡ true }
+    requires low { IsWithin 500000000000 w.low }
+    requires high { IsWithin 500000000000 w.high }
+    ensures { result ≡ driving search.now.index.now w (searched search.now) seek var }
+{
+    let table = table_in(search.probe.path.as_slice(), var);
+    stored_rows(seek, table, seek.window(w), search.index)
+}
+
+/// Returns the second, if it lies in the window.
+pub fn mark_in(w: Window, second: Option<i128>) -> Option<i64>
+    ensures { result ≡ mark_in w second }
+{
+    match second {
+        None => None,
+        Some(second) => {
+            if i128::from(w.low) <= second && second < i128::from(w.high) {
+                Some(second as i64)
+            } else {
+                None
+            }
+        }
+    }
+}

@@ -1,0 +1,28 @@
+//! Laws of what probes find.
+
+ghost use Rattle.probe_eval.specs.Laws.{DrivingRowsAreMarked, WalksFindWhatProbesFind, RestsAreFound};
+ghost use Rattle.probe_eval.specs.Pairs.{ProbesTestPairs};
+
+/// States that the driving rows of a probe are the rows of its table whose mark lies in the window.
+pub fn driving_rows_are_marked()
+    ensures { DrivingRowsAreMarked }
+{}
+
+/// States that walks from each driving row over the rows that accesses give find the unseen documents and marks that the
+/// probes of a query find, and no others.
+pub fn walks_find_what_probes_find()
+    ensures { WalksFindWhatProbesFind }
+{}
+
+/// States that the search for the rest of a path finds it if and only if it exists, whatever rows are known. The path
+/// names its own variables alone, each of them once.
+pub fn rests_are_found()
+    ensures { RestsAreFound }
+{}
+
+/// States that a probe finds a document with a mark if and only if some driving row has that mark, beside which the rest
+/// of the path exists and the body is true. The body names the document and the driving row alone, so it is evaluated
+/// once for the two.
+pub fn probes_test_pairs()
+    ensures { ProbesTestPairs }
+{}

@@ -1,0 +1,60 @@
+//! Whether the rest of a path exists beside some rows.
+
+ghost use Rattle.std.specs.Prelude.{◌≡◌, ◌+◌, ◌≤◌, length, Option};
+ghost use Rattle.access_plan.specs.Views.{option_reach};
+ghost use Rattle.probe_eval.specs.Rests.{further, rest_of, rest_cost};
+
+use crate::access_rows::rows_by;
+use crate::open::may_go;
+use access_plan::{Reach, ReachRef, nearest};
+use row_index::RowIndex;
+use std::sync::ledger::Ledger;
+use tap_base::Steps;
+use time_marks::Step;
+use tql_core::Env;
+
+/// Returns the step of a path that is looked for next. `None` comes if each has a row or the rows so far are refused.
+pub fn further<'a>(path: &'a [Step], mark: i64, env: &Env<'a>) -> Option<ReachRef<'a>>
+    ensures { option_reach result ≡ further path.now mark env.now }
+{
+    if may_go(path, mark, env) {
+        nearest(path, env)
+    } else {
+        None
+    }
+}
+
+/// Returns whether there are rows for the rest of the path, arrived by the mark, with which all guards are true. It stops at
+/// the first. At most as many steps are left as `order` has.
+pub fn rest_exists<'a, L: Ledger>(
+    path: &'a [Step],
+    order: &'a [Reach],
+    env: &Env<'a>,
+    mark: i64,
+    index: &'a RowIndex,
+    steps: &mut Steps<L>,
+) -> bool
+    requires room { length env.now + length order.now ≤ 16 }
+    ensures exists { result ≡ rest_of index.now path.now mark order.now env.now }
+    ensures steps { steps.new ≤ steps.old + rest_cost index.now path.now mark order.now env.now }
+    ensures more { steps.old ≤ steps.new }
+{
+    if !may_go(path, mark, env) {
+        return false;
+    }
+    match nearest(path, env) {
+        None => true,
+        Some(reach) => match order.split_first() {
+            None => false,
+            Some((_, rest)) => {
+                let mut rows = rows_by(reach.access, mark, env, index);
+                while let Some(row) = rows.next(steps) {
+                    if rest_exists(path, rest, &env.bind(reach.var, row), mark, index, steps) {
+                        return true;
+                    }
+                }
+                false
+            }
+        },
+    }
+}

@@ -1,0 +1,117 @@
+//! Walks over rows of either table.
+
+ghost use Rattle.std.specs.Prelude.{◌≡◌, ◌+◌, [], ◌++◌, None, length, map, nat_eq, option_to_list};
+ghost use Rattle.std.specs.List.{find};
+ghost use Rattle.tql_core.specs.Row.{OfDoc, OfNote};
+ghost use Rattle.probe_eval.specs.RowWalks.{rows_left, row_list};
+
+use row_index::{DocWalk, NoteWalk, RowIndex};
+use std::marker::Model;
+use std::sync::ledger::Ledger;
+use tap_base::{DocNum, Steps};
+use tql_core::RowRef;
+
+// The document of a number.
+#[derive(Drop)]
+struct One<'a> {
+    index: &'a RowIndex,
+    num: DocNum,
+}
+
+// The rows that are left, by where they come from.
+#[derive(Drop)]
+enum Left<'a> {
+    Docs(DocWalk<'a>),
+    Notes(NoteWalk<'a>),
+    One(One<'a>),
+    Nothing,
+}
+
+/// A walk over rows of one table. Its value is the rows that are left.
+#[derive(Drop)]
+pub struct RowWalk<'a> {
+    left: Left<'a>,
+}
+
+impl<'a> Model for RowWalk<'a> {
+    ghost use Rattle.std.specs.Prelude.{List};
+    ghost use Rattle.tql_core.specs.Row.{Row};
+    ghost use Rattle.probe_eval.specs.RowWalks.{rows_left};
+
+    ghost Value = { List Row };
+
+    ghost view = { λ walk. rows_left walk.left };
+}
+
+// Returns the document of a number, with one step if there is one.
+fn doc_of<'a, L: Ledger>(one: &One<'a>, steps: &mut Steps<L>) -> Option<RowRef<'a>>
+    ensures row { row_list result ≡ map OfDoc (option_to_list (find (λ doc. nat_eq doc.num.0 one.now.num.0) one.now.index.now.docs)) }
+    ensures steps { steps.new ≡ steps.old + length (row_list result) }
+{
+    match one.index.doc(one.num, steps) {
+        None => None,
+        Some(doc) => Some(RowRef::OfDoc(doc)),
+    }
+}
+
+impl<'a> RowWalk<'a> {
+    /// Returns a walk over no rows.
+    pub fn none() -> RowWalk<'a>
+        ensures { result ≡ [] }
+    {
+        RowWalk {
+            left: Left::Nothing,
+        }
+    }
+
+    /// Returns a walk over documents.
+    pub fn of_docs(docs: DocWalk<'a>) -> RowWalk<'a>
+        ensures { result ≡ map OfDoc docs.entry }
+    {
+        RowWalk {
+            left: Left::Docs(docs),
+        }
+    }
+
+    /// Returns a walk over notes.
+    pub fn of_notes(notes: NoteWalk<'a>) -> RowWalk<'a>
+        ensures { result ≡ map OfNote notes.entry }
+    {
+        RowWalk {
+            left: Left::Notes(notes),
+        }
+    }
+
+    /// Returns a walk over the document of this number, if there is one.
+    pub fn of_one(index: &'a RowIndex, num: DocNum) -> RowWalk<'a>
+        ensures { result ≡ map OfDoc (option_to_list (find (λ doc. nat_eq doc.num.0 num.0) index.now.docs)) }
+    {
+        RowWalk {
+            left: Left::One(One { index, num }),
+        }
+    }
+
+    /// Removes and returns the next row, with one step. `None` comes if and only if no row is left, and then no step.
+    pub fn next<L: Ledger>(&mut self, steps: &mut Steps<L>) -> Option<RowRef<'a>>
+        ensures rows { self.old ≡ row_list result ++ self.new }
+        ensures end { result ≡ None → self.old ≡ [] }
+        ensures steps { steps.new ≡ steps.old + length (row_list result) }
+    {
+        match &mut self.left {
+            Left::Docs(docs) => match docs.next(steps) {
+                None => None,
+                Some(doc) => Some(RowRef::OfDoc(doc)),
+            },
+            Left::Notes(notes) => match notes.next(steps) {
+                None => None,
+                Some(note) => Some(RowRef::OfNote(note)),
+            },
+            Left::One(one) => {
+                let found = doc_of(one, steps);
+                self.left = Left::Nothing;
+                found
+            }
+            Left::Nothing => None,
+        }
+    }
+}
