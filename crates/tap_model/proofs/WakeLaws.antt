@@ -1,7 +1,7 @@
 -- The earliest moment at which a run delivers, by the least second that the window query finds.
 use Rattle.std.proofs.Common.{◌≡◌, ◌∙◌, sym, ap, refl, subst, arith, ℕ, suc, ◌+◌, ℤ, pos, Bool, true, false, Option, Some, None, List, [], ◌∷◌, ◌++◌, length, if◌then◌else◌, inl, inr}
 use Rattle.std.specs.Prelude.{◌+ℤ◌, ◌≤ℤ◌, ◌<ℤ◌, ◌==◌, ◌||◌, ◌&&◌, int_le, int_lt, nat_lt, not}
-use Rattle.std.specs.Option.{option_or}
+use Rattle.std.specs.Option.{option_or, option_map}
 use Rattle.std.specs.List.{list_any, filter_map, cons_option}
 use Rattle.std.proofs.lemmas.Bool.{cases_Bool}
 use Rattle.std.proofs.lemmas.Int.{ints, by_lt_z}
@@ -19,7 +19,7 @@ use Rattle.tap_rows.specs.Seconds.{first_from, least_second}
 use Rattle.tap_rows.proofs.SecondsLaws.{gap-none, least_second-within, least_second-same, least_second-more, least_second-never, least_second-is}
 use Rattle.tap_rows.proofs.RunLaws.{Within, fresh-within}
 use Rattle.restart_core.specs.Starts.{is_from_now}
-use Rattle.wake_plan.specs.Wakes.{lesser_of, least_mark, wake_after, next_wake}
+use Rattle.wake_plan.specs.Wakes.{lesser, lesser_or, greater, least_mark, after_mark, next_wake}
 use Rattle.tap_model.specs.Queries.{truth_of, start_of, hits_of}
 use Rattle.tap_model.specs.Wakes.{does_deliver, wake_moment}
 use Rattle.tap_model.specs.WindowRuns.{WakesAreWindows}
@@ -70,6 +70,16 @@ below f t lt = grind (arith, ints)
 not-below : (f t : ℤ) → t ≤ℤ f → int_lt f t ≡ false
 not-below f t le = grind (arith, ints)
 
+up-to : (a b : ℤ) → a ≤ℤ b → int_le a b ≡ true
+up-to a b le = grind (arith, ints)
+
+not-up-to : (a b : ℤ) → b <ℤ a → int_le a b ≡ false
+not-up-to a b lt = grind (arith, ints)
+
+-- the greater of two seconds of which the second isn't above the first
+greater-is : (a b : ℤ) → b ≤ℤ a → greater a b ≡ a
+greater-is a b le = grind (arith, ints)
+
 -- a second that isn't below the moment
 late-hit : (doc : Doc) (from t g : ℤ) → t ≤ℤ g → hit_passes (is_below t) doc (at_least from (Some g)) ≡ false
 late-hit doc from t g le = elim (int_le from g) as (λ b. hit_passes (is_below t) doc (if b then Some g else None) ≡ false) [
@@ -114,20 +124,19 @@ deliver-below truth tables start from t last le =
     ∙ sym (by-any (is_below t) (λ doc. at_least from (first_second truth tables doc start last)) tables.docs)
 
 -- some hit is below a moment if and only if the least is
-lesser-below : (a t : ℤ) (o : Option ℤ) → (int_lt a t || second_below t o) ≡ int_lt (lesser_of a o) t
-lesser-below a t None = elim (int_lt a t) as (λ b. (b || false) ≡ b) [ true ↦ refl | false ↦ refl ]
-lesser-below a t (Some b) =
+less-below : (a b t : ℤ) → (int_lt a t || int_lt b t) ≡ int_lt (lesser a b) t
+less-below a b t =
     by_lt_z b a
-    (λ lt. rw (below b a lt) (by_lt_z a t (λ l. rw (below a t l, below b t (omega (arith, ints, lt, l))) refl) (λ l. rw (not-below a t l) refl)))
-    (λ ge. rw (not-below b a ge) (by_lt_z a t (λ l. rw (below a t l) refl) (λ l. rw (not-below a t l, not-below b t (omega (arith, ints, ge, l))) refl)))
+    (λ lt. rw (not-up-to a b lt) (by_lt_z a t (λ l. rw (below a t l, below b t (omega (arith, ints, lt, l))) refl) (λ l. rw (not-below a t l) refl)))
+    (λ ge. rw (up-to a b ge) (by_lt_z a t (λ l. rw (below a t l) refl) (λ l. rw (not-below a t l, not-below b t (omega (arith, ints, ge, l))) refl)))
+
+lesser-below : (a t : ℤ) (o : Option ℤ) → (int_lt a t || second_below t o) ≡ second_below t (lesser_or a o)
+lesser-below a t None = elim (int_lt a t) as (λ b. (b || false) ≡ b) [ true ↦ refl | false ↦ refl ]
+lesser-below a t (Some b) = less-below a b t
 
 least-below : (t : ℤ) (hits : List Hit) → list_any (is_below t) hits ≡ second_below t (least_mark hits)
 least-below t [] = refl
 least-below t (hit ∷ hits) = ap (λ b. int_lt hit.first t || b) (least-below t hits) ∙ lesser-below hit.first t (least_mark hits)
-
-lesser-within : (a high : ℤ) (o : Option ℤ) → a <ℤ high → ((m : ℤ) → o ≡ Some m → m <ℤ high) → lesser_of a o <ℤ high
-lesser-within a high None lt rest = lt
-lesser-within a high (Some m) lt rest = elim (int_lt m a) as (λ b. (if b then m else a) <ℤ high) [ true ↦ rest m refl | false ↦ lt ]
 
 some-second : (a b : ℤ) → Some a ≡ Some b → a ≡ b
 some-second a b e = cc
@@ -135,23 +144,32 @@ some-second a b e = cc
 none-second : (b : ℤ) → None ≡ Some b → ⊥
 none-second b e = cc
 
+lesser-within : (a b high : ℤ) (o : Option ℤ) → a <ℤ high → ((m : ℤ) → o ≡ Some m → m <ℤ high) → lesser_or a o ≡ Some b → b <ℤ high
+lesser-within a b high None lt rest e = subst (λ x. x <ℤ high) (some-second a b e) lt
+lesser-within a b high (Some m) lt rest e =
+    subst (λ x. x <ℤ high) (some-second (lesser a m) b e) (elim (int_le a m) as (λ c. (if c then a else m) <ℤ high) [ true ↦ lt | false ↦ rest m refl ])
+
 -- the least mark lies below the end of the window
 least-within : (low high : ℤ) (hits : List Hit) (b : ℤ) → Within low high hits → least_mark hits ≡ Some b → b <ℤ high
 least-within low high [] b within e = absurd (none-second b e)
-least-within low high (hit ∷ hits) b within e =
-    subst (λ x. x <ℤ high) (some-second (lesser_of hit.first (least_mark hits)) b e)
-    (lesser-within hit.first high (least_mark hits) within.1 (λ m is. least-within low high hits m within.2 is))
+least-within low high (hit ∷ hits) b within e = lesser-within hit.first b high (least_mark hits) within.1 (λ m is. least-within low high hits m within.2 is) e
 
 -- the least moment from now on that is above a second
-after-second : (o : Option ℤ) (now : ℤ) (last : ℕ) → now ≤ℤ pos last → ((b : ℤ) → o ≡ Some b → b <ℤ pos last) → wake_after now o ≡ least_second (λ t. second_below t o) now (pos (suc last))
+after-second : (o : Option ℤ) (now : ℤ) (last : ℕ) → now ≤ℤ pos last → ((b : ℤ) → o ≡ Some b → b <ℤ pos last)
+    → option_map (λ b. greater now (after_mark b)) o ≡ least_second (λ t. second_below t o) now (pos (suc last))
 after-second None now last le within = sym (least_second-never (λ t. false) now (pos (suc last)) (λ x lo hi. refl))
 after-second (Some b) now last le within =
     let high = within b refl in
     sym (by_lt_z b now
-    (λ lt. rw (below b now lt)
-    (least_second-is (λ t. int_lt b t) now (pos (suc last)) now (omega (arith, ints)) (omega (arith, ints, le)) (below b now lt) (λ x lo hi. absurd (omega (arith, ints, lo, hi)))))
-    (λ ge. rw (not-below b now ge)
+    (λ lt. by_lt_z now (b +ℤ pos 1)
+    (λ no. absurd (omega (arith, ints, lt, no)))
+    (λ ge. later now (greater-is now (b +ℤ pos 1) ge)
+    (least_second-is (λ t. int_lt b t) now (pos (suc last)) now (omega (arith, ints)) (omega (arith, ints, le)) (below b now lt) (λ x lo hi. absurd (omega (arith, ints, lo, hi))))))
+    (λ ge. later (b +ℤ pos 1) (ap (λ c. if c then b +ℤ pos 1 else now) (up-to now (b +ℤ pos 1) (omega (arith, ints, ge))))
     (least_second-is (λ t. int_lt b t) now (pos (suc last)) (b +ℤ pos 1) (omega (arith, ints, ge)) (omega (arith, ints, high)) (below b (b +ℤ pos 1) (omega (arith, ints))) (λ x lo hi. not-below b x (omega (arith, ints, hi))))))
+  where
+    later : (s : ℤ) → greater now (b +ℤ pos 1) ≡ s → least_second (λ t. int_lt b t) now (pos (suc last)) ≡ Some s → least_second (λ t. int_lt b t) now (pos (suc last)) ≡ Some (greater now (b +ℤ pos 1))
+    later s is found = found ∙ ap Some (sym is)
 
 follow-last : (low m : ℤ) → may_follow low m ≡ true → m ≤ℤ pos LAST_MOMENT
 follow-last low m e = grind (arith, ints)

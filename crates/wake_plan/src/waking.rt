@@ -1,11 +1,11 @@
 //! When a run is next worthwhile.
-ghost use Rattle.std.specs.Prelude.{◌≡◌, pos, IfOk};
+ghost use Rattle.std.specs.Prelude.{◌≡◌, IfOk};
 ghost use Rattle.row_index.specs.Orders.{IsMoment};
 ghost use Rattle.time_marks.specs.Probes.{meaning_without};
 ghost use Rattle.time_marks.specs.Views.{ranged_probes};
-ghost use Rattle.query_eval.specs.Runs.{HasValidProbes};
-ghost use Rattle.query_eval.specs.Nested.{was_seen};
-ghost use Rattle.wake_plan.specs.Wakes.{next_wake};
+ghost use Rattle.probe_eval.specs.Runs.{HasValidProbes};
+ghost use Rattle.probe_eval.specs.Nested.{was_seen};
+ghost use Rattle.wake_plan.specs.Wakes.{last_moment, next_wake};
 
 use access_plan::Plan;
 use little_box::LittleBox;
@@ -28,7 +28,7 @@ pub fn wake<L: Ledger>(
     requires now { IsMoment now }
     requires probes { HasValidProbes plan.now.query }
     ensures moment { IfOk result (λ moment. moment ≡ next_wake now
-        (meaning_without (was_seen seen.now) (ranged_probes plan.now.query) index.now (record { low = last; high = pos 250000000000 }))) }
+        (meaning_without (was_seen seen.now) (ranged_probes plan.now.query) index.now (record { low = last; high = last_moment }))) }
 {
     Err(Memory)
 }
