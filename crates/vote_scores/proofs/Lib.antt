@@ -1,2 +1,3 @@
+mod AddLaws
 mod EntryLaws
 pub mod TallyLaws
