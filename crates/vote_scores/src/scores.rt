@@ -1,10 +1,12 @@
 //! The votes of all notes.
 ghost use Rattle.std.specs.Prelude.{◌≡◌, ◌<◌, [], length, IfOk, OnOk, OnErr};
 ghost use Rattle.tap_rows.specs.declared.tables.Tables.{Tables};
+ghost use Rattle.vote_scores.specs.Counts.{counted_from};
 ghost use Rattle.vote_scores.specs.Entries.{key_of};
 ghost use Rattle.vote_scores.specs.Votes.{scores_of, AreNumbered};
 ghost use Rattle.vote_scores.specs.Tally.{tally, place_of, value_of, with_vote, undone, CanUndo, AreDistinct};
 
+use crate::counts::Counts;
 use crate::score::Score;
 use crate::undo::Undo;
 use crate::vote_key::VoteKey;
@@ -93,11 +95,25 @@ impl Scores {
         }
     }
 
+    // Counts the votes of a kind.
+    fn counts(&self, alloc: Global, kind: &[u8]) -> Result<Counts, Memory>
+        ensures { IfOk result (λ counts. counts ≡ counted_from kind.now [] self.now) }
+    {
+        let mut counts = Counts::new(alloc);
+        for (key, value) in &self.votes {
+            if key.kind.as_slice() == kind {
+                counts.count(key.doc, *value)?;
+            }
+        }
+        Ok(counts)
+    }
+
     /// Returns the scores of a kind by the votes, from the greatest sum, then in order of documents. Fails with `Memory` when
     /// out of memory.
     pub fn of_kind(&self, alloc: Global, kind: &[u8]) -> Result<Rows<Score>, Memory>
         ensures { IfOk result (λ rows. (tables : Tables) → AreNumbered tables → self.now ≡ tally tables.notes → rows ≡ scores_of kind.now tables) }
     {
-        Err(Memory)
+        let counts = self.counts(alloc, kind)?;
+        counts.into_rows(alloc)
     }
 }
