@@ -53,7 +53,10 @@ fn the_last_vote_of_each_author_counts(rt: HostRuntime) -> Result<(), Memory> {
     vote(rt.alloc(), &mut scores, 2, b"bob", -9)?;
     vote(rt.alloc(), &mut scores, 1, b"ann", 1)?;
     let rows = scores.of_kind(rt.alloc(), b"score")?;
-    assert_eq!(rt; rows.as_slice(), &[score(1, 2, 5), score(2, 2, -4)]);
+    assert_eq!(rt;
+        rows.as_slice(),
+        [score(1, 2, 5), score(2, 2, -4)].as_slice()
+    );
     let rows = scores.of_kind(rt.alloc(), b"like")?;
     assert_eq!(rt; rows.len(), 0);
     Ok(())
@@ -65,7 +68,10 @@ fn sums_have_more_than_64_bits(rt: HostRuntime) -> Result<(), Memory> {
     vote(rt.alloc(), &mut scores, 1, b"ann", i64::MAX)?;
     vote(rt.alloc(), &mut scores, 1, b"bob", i64::MAX)?;
     let rows = scores.of_kind(rt.alloc(), b"score")?;
-    assert_eq!(rt; rows.as_slice(), &[score(1, 2, 18446744073709551614)]);
+    assert_eq!(rt;
+        rows.as_slice(),
+        [score(1, 2, 18446744073709551614)].as_slice()
+    );
     Ok(())
 }
 
@@ -80,10 +86,16 @@ fn an_undone_vote_has_its_old_value(rt: HostRuntime) -> Result<(), Memory> {
     assert_eq!(rt; undo.at, 0);
     assert!(rt; undo.old == Some(3));
     let rows = scores.of_kind(rt.alloc(), b"score")?;
-    assert_eq!(rt; rows.as_slice(), &[score(2, 1, 8), score(1, 1, 4)]);
+    assert_eq!(rt;
+        rows.as_slice(),
+        [score(2, 1, 8), score(1, 1, 4)].as_slice()
+    );
     scores.undo(undo);
     let rows = scores.of_kind(rt.alloc(), b"score")?;
-    assert_eq!(rt; rows.as_slice(), &[score(1, 1, 4), score(2, 1, 3)]);
+    assert_eq!(rt;
+        rows.as_slice(),
+        [score(1, 1, 4), score(2, 1, 3)].as_slice()
+    );
     Ok(())
 }
 
@@ -98,6 +110,6 @@ fn an_undone_new_vote_is_gone(rt: HostRuntime) -> Result<(), Memory> {
     scores.undo(undo);
     assert_eq!(rt; scores.len(), 1);
     let rows = scores.of_kind(rt.alloc(), b"score")?;
-    assert_eq!(rt; rows.as_slice(), &[score(2, 1, 3)]);
+    assert_eq!(rt; rows.as_slice(), [score(2, 1, 3)].as_slice());
     Ok(())
 }
