@@ -1,3 +1,4 @@
 mod AddLaws
+mod CountLaws
 mod EntryLaws
 pub mod TallyLaws
