@@ -1,10 +1,10 @@
 -- A vote that is counted in a map of scores.
-use Rattle.std.proofs.Common.{◌≡◌, ◌∙◌, refl, sym, ap, subst, arith, ℕ, zero, suc, ◌+◌, ◌*◌, ◌<◌, ◌≤◌, Bool, true, false, ℤ, pos, ◌+ℤ◌, ◌≤ℤ◌, FitsSigned, w64, length, List, [], ◌∷◌, Option, Some, None, map, nat_eq, if◌then◌else◌}
+use Rattle.std.proofs.Common.{◌≡◌, ◌∙◌, refl, sym, ap, subst, arith, ℕ, zero, suc, ◌+◌, ◌*◌, ◌<◌, ◌≤◌, Bool, true, false, ℤ, pos, ◌+ℤ◌, ◌≤ℤ◌, FitsSigned, w64, length, List, [], ◌∷◌, Some, None, nat_eq, if◌then◌else◌}
 use Rattle.std.specs.Prelude.{neg_ℤ, slice_index_or}
 use Rattle.std.specs.Int.{w128}
 use Rattle.std.specs.List.{IsAmong}
 use Rattle.std.proofs.lemmas.Int.{ints, fits_signed_from_abs}
-use Rattle.std.specs.Map.{keys_of, values_of, lookup, set_value}
+use Rattle.std.specs.Map.{values_of, lookup, set_value}
 use Rattle.indexmap.specs.IndexMap.{insert_entry}
 use Rattle.tap_rows.specs.Kept.{Each}
 use Rattle.vote_scores.specs.declared.score.Score.{Score}

@@ -37,13 +37,15 @@ module _ (kind : List ℕ) (votes : List Vote) (counts : List Score) (entry : Vo
   one_more = let s = shorter in let l = so_far.1 in omega (arith, s, l)
 
   pub taken : (new : List Score) → bytes_eq entry.0.kind kind ≡ true → FitsSigned w64 entry.1 → new ≡ counted entry.0.doc entry.1 counts → Counting kind votes new rest
-  taken new e fits more =
-      (from_here ∙ ap (λ b. counted_from kind (if b then counted entry.0.doc entry.1 counts else counts) (map vote_at rest)) e ∙ ap (λ scores. counted_from kind scores (map vote_at rest)) (sym more),
-       fewer,
-       subst (λ n. AreSmall n new) one_more (subst (AreSmall ((length votes - length left) + 1)) (sym more) (small_more (length votes - length left) entry.0.doc entry.1 counts fits so_far.2)))
+  taken new e fits more = (
+    from_here ∙ ap (λ b. counted_from kind (if b then counted entry.0.doc entry.1 counts else counts) (map vote_at rest)) e ∙ ap (λ scores. counted_from kind scores (map vote_at rest)) (sym more),
+    fewer,
+    subst (λ n. AreSmall n new) one_more (subst (AreSmall ((length votes - length left) + 1)) (sym more) (small_more (length votes - length left) entry.0.doc entry.1 counts fits so_far.2)),
+  )
 
   pub skipped : bytes_eq entry.0.kind kind ≡ false → Counting kind votes counts rest
-  skipped e =
-      (from_here ∙ ap (λ b. counted_from kind (if b then counted entry.0.doc entry.1 counts else counts) (map vote_at rest)) e,
-       fewer,
-       small_up (length votes - length left) (length votes - length rest) counts (let o = one_more in omega (arith, o)) so_far.2)
+  skipped e = (
+    from_here ∙ ap (λ b. counted_from kind (if b then counted entry.0.doc entry.1 counts else counts) (map vote_at rest)) e,
+    fewer,
+    small_up (length votes - length left) (length votes - length rest) counts (let o = one_more in omega (arith, o)) so_far.2,
+  )

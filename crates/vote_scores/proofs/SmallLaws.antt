@@ -1,5 +1,5 @@
 -- How large counted scores are.
-use Rattle.std.proofs.Common.{◌≡◌, arith, ℕ, ◌+◌, ◌*◌, ◌≤◌, Bool, true, false, ℤ, pos, ◌+ℤ◌, ◌≤ℤ◌, FitsSigned, w64, List, [], ◌∷◌, if◌then◌else◌}
+use Rattle.std.proofs.Common.{arith, ℕ, ◌+◌, ◌*◌, ◌≤◌, Bool, true, false, ℤ, pos, ◌+ℤ◌, ◌≤ℤ◌, FitsSigned, w64, List, [], ◌∷◌, if◌then◌else◌}
 use Rattle.std.specs.Prelude.{neg_ℤ, ◌==◌}
 use Rattle.std.proofs.lemmas.Int.{ints}
 use Rattle.vote_scores.specs.declared.score.Score.{Score}

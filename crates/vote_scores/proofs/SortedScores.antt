@@ -1,5 +1,5 @@
 -- Scores that were sorted.
-use Rattle.std.proofs.Common.{◌≡◌, ℕ, ℤ, suc, ◌+◌, ◌≤◌, ◌<◌, Bool, true, false, List, [], ◌∷◌, length, refl, sym, ap, ◌∙◌, subst, inl, inr, arith, nat_eq}
+use Rattle.std.proofs.Common.{◌≡◌, ℕ, suc, ◌+◌, ◌≤◌, ◌<◌, Bool, true, false, List, [], ◌∷◌, length, refl, sym, ap, ◌∙◌, subst, inl, inr, arith, nat_eq}
 use Rattle.std.specs.Prelude.{◌&&◌, slice_index_or}
 use Rattle.std.specs.List.{list_any, IsDistinct, AllByRecursion}
 use Rattle.std.specs.List.Sorted.{IsPermutation, IsSortedBy}
@@ -128,4 +128,4 @@ pub sorted_is : (xs ys : List Score) → IsPermutation xs ys → AreApart xs →
 sorted_is xs ys p a s =
     let same = λ (score : Score). list_any-IsPermutation (same_score score) xs ys p in
     same_rising ys (in_order xs) (in_order_all ys (apart_moved xs ys p a) s) (rising_order xs a)
-      (λ score i. in_ordered score xs (moved ys xs score (sym (same score)) i)) (λ score i. moved xs ys score (same score) (ordered_in score xs i))
+    (λ score i. in_ordered score xs (moved ys xs score (sym (same score)) i)) (λ score i. moved xs ys score (same score) (ordered_in score xs i))

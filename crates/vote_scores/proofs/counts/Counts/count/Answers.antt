@@ -1,4 +1,4 @@
-use Rattle.std.proofs.Common.{rules, ◌≡◌, ◌∙◌, ap, subst, sym, FitsSigned, w64, ◌+ℤ◌}
+use Rattle.std.proofs.Common.{rules, ◌∙◌, ap, subst, sym, FitsSigned, w64, ◌+ℤ◌}
 use Rattle.std.specs.Int.{w128}
 use Rattle.std.specs.Map.{values_of}
 use Rattle.vote_scores.specs.Counts.{counted, AreSmall}
