@@ -1,3 +1,4 @@
 pub mod Votes
 pub mod Tally
+pub mod Counts
 pub mod Entries

@@ -26,6 +26,11 @@ with_vote note (vote ∷ votes) = if is_by note vote then record vote { value = 
 abbrev pub tally : List Note → List Vote
 tally notes = fold (λ votes note. with_vote note votes) [] notes
 
+-- the place, from 0, of the vote of a note's kind, document and author; the number of votes if there is none
+abbrev pub place_of : Note → List Vote → ℕ
+place_of note [] = 0
+place_of note (vote ∷ votes) = if is_by note vote then 0 else suc (place_of note votes)
+
 -- the value of the vote of a note's kind, document and author, if there is one
 abbrev pub value_of : Note → List Vote → Option ℤ
 value_of note [] = None

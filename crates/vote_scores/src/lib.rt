@@ -1,6 +1,7 @@
 //! Counts votes: notes of one kind, of which each author's last one on a document counts.
 #![tactic(auto)]
 
+mod counts;
 mod score;
 mod scores;
 mod undo;
@@ -9,3 +10,6 @@ mod vote_key;
 pub use score::Score;
 pub use scores::Scores;
 pub use undo::Undo;
+
+#[cfg(test)]
+mod tests;

@@ -1,10 +1,12 @@
 //! The votes of all notes.
-ghost use Rattle.std.specs.Prelude.{◌≡◌, ◌<◌, ◌≤◌, [], length, slice_get, IfOk, OnOk, OnErr};
-ghost use Rattle.std.specs.List.{position_or_len};
+ghost use Rattle.std.specs.Prelude.{◌≡◌, ◌<◌, [], length, IfOk, OnOk, OnErr};
 ghost use Rattle.tap_rows.specs.declared.tables.Tables.{Tables};
+ghost use Rattle.vote_scores.specs.Counts.{counted_from};
+ghost use Rattle.vote_scores.specs.Entries.{key_of};
 ghost use Rattle.vote_scores.specs.Votes.{scores_of, AreNumbered};
-ghost use Rattle.vote_scores.specs.Tally.{is_by, tally, value_of, with_vote, undone, CanUndo, AreDistinct};
+ghost use Rattle.vote_scores.specs.Tally.{tally, place_of, value_of, with_vote, undone, CanUndo, AreDistinct};
 
+use crate::counts::Counts;
 use crate::score::Score;
 use crate::undo::Undo;
 use crate::vote_key::VoteKey;
@@ -32,6 +34,19 @@ impl Model for Scores {
     ghost invariant = { λ scores. length scores.votes.entries < 2 ^ 32 };
 }
 
+// Returns what the vote of a note is looked up by.
+fn key_of(note: &Note) -> Result<VoteKey, Memory>
+    ensures { IfOk result (λ key. key ≡ key_of note.now) }
+{
+    let kind = note.kind.copy()?;
+    let author = note.author.copy()?;
+    Ok(VoteKey {
+        kind,
+        doc: note.doc.0,
+        author,
+    })
+}
+
 impl Scores {
     /// Returns no votes.
     pub fn new(alloc: Global) -> Scores
@@ -55,12 +70,14 @@ impl Scores {
     pub fn add(&mut self, note: &Note) -> Result<Undo, Memory>
         requires room { length self.old < 4294967295 }
         ensures ok { OnOk result (self.new ≡ with_vote note.now self.old) }
-        ensures place { IfOk result (λ undo. undo.at ≡ position_or_len (is_by note.now) self.old) }
+        ensures place { IfOk result (λ undo. undo.at ≡ place_of note.now self.old) }
         ensures old { IfOk result (λ undo. undo.old ≡ value_of note.now self.old) }
         ensures undo { IfOk result (λ undo. CanUndo undo self.new × (undone undo self.new ≡ self.old)) }
         ensures err { OnErr result (self.new ≡ self.old) }
     {
-        Err(Memory)
+        let key = key_of(note)?;
+        let (at, old) = self.votes.insert_full(key, note.value)?;
+        Ok(Undo { at: at as u32, old })
     }
 
     /// Restores the value that the vote had, or removes the vote that was appended. It takes no memory.
@@ -78,11 +95,25 @@ impl Scores {
         }
     }
 
+    // Counts the votes of a kind.
+    fn counts(&self, alloc: Global, kind: &[u8]) -> Result<Counts, Memory>
+        ensures { IfOk result (λ counts. counts ≡ counted_from kind.now [] self.now) }
+    {
+        let mut counts = Counts::new(alloc);
+        for (key, value) in &self.votes {
+            if key.kind.as_slice() == kind {
+                counts.count(key.doc, *value)?;
+            }
+        }
+        Ok(counts)
+    }
+
     /// Returns the scores of a kind by the votes, from the greatest sum, then in order of documents. Fails with `Memory` when
     /// out of memory.
     pub fn of_kind(&self, alloc: Global, kind: &[u8]) -> Result<Rows<Score>, Memory>
         ensures { IfOk result (λ rows. (tables : Tables) → AreNumbered tables → self.now ≡ tally tables.notes → rows ≡ scores_of kind.now tables) }
     {
-        Err(Memory)
+        let counts = self.counts(alloc, kind)?;
+        counts.into_rows(alloc)
     }
 }
