@@ -49,8 +49,8 @@ fn needs_quote(line: &[u8]) -> bool
     ensures { result ≡ is_from_line (drop (quotes line.now) line.now) }
 {
     let mut rest = line;
-    'quotes: while rest.first() == Some(&b'>') {
-        rest = &rest[1..];
+    'quotes: while let Some(after) = rest.strip_prefix(b">".as_slice()) {
+        rest = after;
     }
     rest.starts_with(b"From ".as_slice())
 }

@@ -9,8 +9,8 @@ fn without_returns(line: &[u8]) -> &[u8]
     ensures { result.now ≡ without_returns line.now }
 {
     let mut front = line;
-    'returns: while front.last() == Some(&b'\r') {
-        front = &front[..front.len() - 1];
+    'returns: while let Some(rest) = front.strip_suffix(b"\r".as_slice()) {
+        front = rest;
     }
     front
 }
