@@ -1,8 +1,8 @@
 //! Tests of digests.
-ghost use Rattle.std.specs.Prelude.{◌≡◌, ◌<◌, []};
+ghost use Rattle.std.specs.Prelude.{◌≡◌, ◌<◌, pos, []};
 
+use crate::digest;
 use crate::digests::{header, push_document};
-use crate::{digest, first_lined};
 use mail_lines::cut_mbox;
 use row_index::RowIndex;
 use std::alloc::Global;
@@ -23,7 +23,7 @@ fn entry_of(doc: u32) -> Entry {
 
 // Returns a document without a text.
 fn blank_doc(alloc: Global, num: u32) -> KeptDoc
-    ensures { result ≡ record { num = record { 0 = num }; arrival = 5; text = [] } }
+    ensures { result ≡ record { num = record { 0 = num }; arrival = pos 5; text = [] } }
 {
     let doc = Doc {
         num: DocNum(num),
@@ -54,19 +54,6 @@ fn joined(alloc: Global, lines: &Texts) -> Result<Text, Memory> {
         text.push_slice(b"\n")?;
     }
     Ok(text)
-}
-
-// Returns the lines of a text, each with an LF.
-fn lined_text(alloc: Global, text: &[u8]) -> Result<Text, Memory> {
-    let mut lined = Text::new(alloc);
-    let mut rest = text;
-    while !rest.is_empty() {
-        let first = first_lined(rest);
-        lined.push_slice(first.line)?;
-        lined.push_slice(b"\n")?;
-        rest = first.rest;
-    }
-    Ok(lined)
 }
 
 // Returns the digest of the run 2 of a query, whose documents have these texts.
@@ -150,13 +137,21 @@ fn a_digest_is_cut_as_a_mailbox(rt: HostRuntime) -> Result<(), Fail> {
         b"\xff\x00\n>>From \xfe",
         b"\n",
     ];
+    let lined: [&[u8]; 7] = [
+        b"Subject: one\n\nFrom here\n>From there\n",
+        b"",
+        b"\n\n\n",
+        b"From x\n\nFrom doc 1 first 2\n\n",
+        b"a\n\n>From b\n",
+        b"\xff\x00\n>>From \xfe\n",
+        b"\n",
+    ];
     let text = digest_of(rt.alloc(), &texts)?;
     let messages = cut_mbox(rt.alloc(), text.as_slice())?;
-    assert_eq!(rt; messages.len(), texts.len());
-    for (i, text) in texts.iter().enumerate() {
-        let want = lined_text(rt.alloc(), text)?;
+    assert_eq!(rt; messages.len(), 7);
+    for (i, want) in lined.iter().enumerate() {
         if let Some(message) = messages.get(i) {
-            assert_eq!(rt; message.as_slice(), want.as_slice());
+            assert_eq!(rt; message.as_slice(), *want);
         }
     }
     Ok(())
