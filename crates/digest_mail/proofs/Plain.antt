@@ -1,8 +1,8 @@
 -- Lines without an LF and without a CR at their end: a text of such lines has just these.
 use Rattle.std.proofs.Common.{◌≡◌, ◌≢◌, ◌∙◌, sym, ap, subst, refl, arith, ℕ, zero, suc, ℤ, pos, negsuc, List, [], ◌∷◌, ◌++◌, ◌+◌, ◌-◌, ◌/◌, ◌%◌, ◌≤◌, ◌<◌, take, drop, length, map, get_or, Bool, true, false, append_assoc, inl, inr}
 use Rattle.std.specs.Prelude.{◌==◌, ◌&&◌, ◌⊎◌, not, nat_lt, codes, if◌then◌else◌, reverse}
-use Rattle.std.specs.List.{flat_map, prefix_len, suffix_len, slice_split, onto_first}
-use Rattle.std.specs.Str.Lines.{lines, strip_carriage_return}
+use Rattle.std.specs.List.{flat_map, suffix_len, slice_split, onto_first}
+use Rattle.std.specs.Str.Lines.{lines}
 use Rattle.std.specs.Fmt.{decimal, signed_decimal, digits, digits_onto, digit_glyph}
 use Rattle.std.proofs.lemmas.Bool.{cases_lt}
 use Rattle.std.proofs.lemmas.List.{length-reverse, get_or-reverse, length-take}

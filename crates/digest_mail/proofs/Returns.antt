@@ -1,11 +1,11 @@
 -- The CRs at a line's end, and the lines of a text without them.
-use Rattle.std.proofs.Common.{◌≡◌, ◌∙◌, sym, ap, subst, refl, arith, ℕ, suc, List, [], ◌∷◌, ◌++◌, ◌+◌, ◌-◌, ◌≤◌, ◌<◌, take, drop, length, map, get_or, Bool, true, false}
+use Rattle.std.proofs.Common.{◌≡◌, ◌∙◌, sym, ap, subst, refl, arith, ℕ, List, [], ◌∷◌, ◌++◌, ◌+◌, ◌-◌, ◌<◌, take, drop, length, map, get_or, Bool, true, false}
 use Rattle.std.specs.Prelude.{◌==◌, ◌&&◌, nat_eq, if◌then◌else◌, reverse, slice_index}
 use Rattle.std.specs.Cmp.Lexicographic.{pointwise}
-use Rattle.std.specs.List.{prefix_len, suffix_len, slice_split}
+use Rattle.std.specs.List.{suffix_len, slice_split}
 use Rattle.std.specs.Str.Lines.{lines, lines_of_parts, strip_carriage_return}
 use Rattle.std.proofs.lemmas.List.{reverse-append, length-reverse, get_or-reverse, take_all, take-append-le, take_more, drop_more, drop_all}
-use Rattle.std.proofs.lemmas.List.Sums.{prefix_len-drop_no, prefix_len-le-length}
+use Rattle.std.proofs.lemmas.List.Sums.{prefix_len-drop_no}
 use Rattle.std.proofs.lemmas.Grind.{common_steps}
 use Rattle.mail_lines.specs.Lines.{is_end, without_empty_end}
 use Rattle.digest_mail.specs.Digests.{without_returns, lined}
