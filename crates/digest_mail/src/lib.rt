@@ -2,5 +2,11 @@
 #![tactic(auto)]
 
 mod digests;
+pub mod laws;
+mod lined;
 
 pub use digests::digest;
+pub use lined::first_lined;
+
+#[cfg(test)]
+mod tests;

@@ -1,0 +1,4 @@
+pub mod Returns
+pub mod Quotes
+pub mod Plain
+pub mod Mailboxes
