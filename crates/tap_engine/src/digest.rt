@@ -52,14 +52,7 @@ impl Engine {
         }
         refuse_run(ordinal, kept.runs as u32)?;
         let entries = copy_run(alloc, &kept.entries, ordinal)?;
-        let lines = digest(
-            alloc,
-            name,
-            ordinal,
-            entries.as_slice(),
-            &self.index,
-            steps,
-        )?;
+        let lines = digest(alloc, name, ordinal, entries.as_slice(), &self.index, steps)?;
         Ok(lines)
     }
 

@@ -70,9 +70,9 @@ impl Engine {
             )?)),
             Command::Wake(name) => Ok(Prepared::plain(self.show_wake(alloc, name, steps)?)),
             Command::ScoresOf(kind) => Ok(Prepared::plain(self.show_scores(alloc, kind)?)),
-            Command::DigestOf { name, ordinal } => Ok(Prepared::plain(
-                self.show_digest(alloc, name, ordinal, steps)?,
-            )),
+            Command::DigestOf { name, ordinal } => Ok(Prepared::plain(self.show_digest(
+                alloc, name, ordinal, steps,
+            )?)),
             Command::Bad(refusal) => Err(refusal),
         }
     }
