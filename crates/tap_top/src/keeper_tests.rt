@@ -66,6 +66,22 @@ fn over(alloc: Global, tables: Tables, version: i64, script: &[u8]) -> Result<(u
     session(alloc, &mut keeper, script)
 }
 
+const VOTES: &[u8] = b"as ann\nat 1\nmail\n\n.\nnote 1 like 2 x\nas bob\nnote 1 like 5 x\nas ann\nnote 1 like 3 y\n";
+
+#[test]
+fn votes_are_counted_after_a_restart(rt: HostRuntime) -> Result<(), Fail> {
+    let alloc = rt.alloc();
+    let mut keeper = MemKeeper::new(alloc, Tables::empty(alloc), 2, Vec::new(alloc));
+    let (_status, _written) = session(alloc, &mut keeper, VOTES)?;
+    let (status, written) = over(alloc, keeper.after_crash(), 2, b"scores like\n")?;
+    assert_eq!(rt; status, 0);
+    assert_eq!(rt;
+        written.as_slice(),
+        b"ok 1 scores like\ndoc 1 voters 2 sum 8\n".as_slice()
+    );
+    Ok(())
+}
+
 #[test]
 fn sessions_go_on_over_a_store(rt: HostRuntime) -> Result<(), Fail> {
     let alloc = rt.alloc();

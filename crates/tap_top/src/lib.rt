@@ -19,6 +19,8 @@ mod keeper_tests;
 #[cfg(test)]
 mod long_tests;
 #[cfg(test)]
+mod reading_tests;
+#[cfg(test)]
 mod sample_tests;
 #[cfg(test)]
 mod test_runs;
