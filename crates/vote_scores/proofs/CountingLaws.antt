@@ -1,9 +1,9 @@
 -- The count of votes, vote by vote.
-use Rattle.std.proofs.Common.{◌≡◌, ◌∙◌, refl, sym, ap, subst, arith, ℕ, suc, ◌+◌, ◌-◌, ◌<◌, ◌≤◌, ◌^◌, true, false, ℤ, FitsSigned, w64, List, [], ◌∷◌, length, map, if◌then◌else◌}
+use Rattle.std.proofs.Common.{◌≡◌, ◌∙◌, refl, sym, ap, subst, arith, ℕ, suc, ◌+◌, ◌-◌, ◌<◌, ◌≤◌, ◌^◌, Bool, true, false, ℤ, FitsSigned, w64, List, [], ◌∷◌, length, map, if◌then◌else◌}
 use Rattle.std.specs.Str.{bytes_eq}
 use Rattle.vote_scores.specs.declared.score.Score.{Score}
 use Rattle.vote_scores.specs.declared.vote_key.VoteKey.{VoteKey}
-use Rattle.vote_scores.specs.Counts.{counted, counted_from, AreSmall}
+use Rattle.vote_scores.specs.Counts.{counted, counted_if, counted_from, AreSmall}
 use Rattle.vote_scores.specs.Entries.{vote_at}
 use Rattle.vote_scores.specs.Tally.{Vote}
 use Rattle.vote_scores.proofs.SmallLaws.{small_up, small_more}
@@ -36,16 +36,10 @@ module _ (kind : List ℕ) (votes : List Vote) (counts : List Score) (entry : Vo
   one_more : (length votes - length left) + 1 ≡ length votes - length rest
   one_more = let s = shorter in let l = so_far.1 in omega (arith, s, l)
 
-  pub taken : (new : List Score) → bytes_eq entry.0.kind kind ≡ true → FitsSigned w64 entry.1 → new ≡ counted entry.0.doc entry.1 counts → Counting kind votes new rest
-  taken new e fits more = (
-    from_here ∙ ap (λ b. counted_from kind (if b then counted entry.0.doc entry.1 counts else counts) (map vote_at rest)) e ∙ ap (λ scores. counted_from kind scores (map vote_at rest)) (sym more),
-    fewer,
-    subst (λ n. AreSmall n new) one_more (subst (AreSmall ((length votes - length left) + 1)) (sym more) (small_more (length votes - length left) entry.0.doc entry.1 counts fits so_far.2)),
-  )
+  grown : FitsSigned w64 entry.1 → (b : Bool) → AreSmall (length votes - length rest) (if b then counted entry.0.doc entry.1 counts else counts)
+  grown fits true = subst (λ n. AreSmall n (counted entry.0.doc entry.1 counts)) one_more (small_more (length votes - length left) entry.0.doc entry.1 counts fits so_far.2)
+  grown fits false = small_up (length votes - length left) (length votes - length rest) counts (let o = one_more in omega (arith, o)) so_far.2
 
-  pub skipped : bytes_eq entry.0.kind kind ≡ false → Counting kind votes counts rest
-  skipped e = (
-    from_here ∙ ap (λ b. counted_from kind (if b then counted entry.0.doc entry.1 counts else counts) (map vote_at rest)) e,
-    fewer,
-    small_up (length votes - length left) (length votes - length rest) counts (let o = one_more in omega (arith, o)) so_far.2,
-  )
+  pub one_counted : (new : List Score) → FitsSigned w64 entry.1 → new ≡ counted_if kind (vote_at entry) counts → Counting kind votes new rest
+  one_counted new fits is_new =
+      (from_here ∙ ap (λ scores. counted_from kind scores (map vote_at rest)) (sym is_new), fewer, subst (AreSmall (length votes - length rest)) (sym is_new) (grown fits (bytes_eq entry.0.kind kind)))

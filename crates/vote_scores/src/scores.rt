@@ -1,8 +1,8 @@
 //! The votes of all notes.
 ghost use Rattle.std.specs.Prelude.{◌≡◌, ◌<◌, [], length, IfOk, OnOk, OnErr};
 ghost use Rattle.tap_rows.specs.declared.tables.Tables.{Tables};
-ghost use Rattle.vote_scores.specs.Counts.{counted_from};
-ghost use Rattle.vote_scores.specs.Entries.{key_of};
+ghost use Rattle.vote_scores.specs.Counts.{counted_from, counted_if, AreSmall};
+ghost use Rattle.vote_scores.specs.Entries.{key_of, vote_at};
 ghost use Rattle.vote_scores.specs.Votes.{scores_of, AreNumbered};
 ghost use Rattle.vote_scores.specs.Tally.{tally, place_of, value_of, with_vote, undone, CanUndo, AreDistinct};
 
@@ -45,6 +45,18 @@ fn key_of(note: &Note) -> Result<VoteKey, Memory>
         doc: note.doc.0,
         author,
     })
+}
+
+// Counts a vote, if it is of the kind.
+fn count_if(counts: &mut Counts, kind: &[u8], key: &VoteKey, value: i64) -> Result<(), Memory>
+    requires small { AreSmall 4294967294 counts.old }
+    ensures { OnOk result (counts.new ≡ counted_if kind.now (vote_at (key.now, value)) counts.old) }
+{
+    if key.kind.as_slice() == kind {
+        counts.count(key.doc, value)
+    } else {
+        Ok(())
+    }
 }
 
 impl Scores {
@@ -101,9 +113,7 @@ impl Scores {
     {
         let mut counts = Counts::new(alloc);
         for (key, value) in &self.votes {
-            if key.kind.as_slice() == kind {
-                counts.count(key.doc, *value)?;
-            }
+            count_if(&mut counts, kind, key, *value)?;
         }
         Ok(counts)
     }
