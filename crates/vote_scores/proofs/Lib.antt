@@ -5,6 +5,7 @@ mod CountingLaws
 mod EntryLaws
 mod FoundLaws
 mod KindLaws
+pub mod NumberedLaws
 mod ScoreOrder
 mod SmallLaws
 mod SortedScores
