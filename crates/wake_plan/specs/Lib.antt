@@ -1,0 +1,4 @@
+pub mod Wakes
+pub mod Marked
+pub mod Turns
+pub mod Firsts
