@@ -34,6 +34,7 @@ fn first_delivery<'a, L: Ledger>(
     steps: &mut Steps<L>,
 ) -> Option<i64>
     requires turns { Each (IsTurn w) turns.old.items }
+    requires low { IsWithin 250000000000 w.low }
     requires end { w.high ≡ pos 250000000000 }
     ensures mark { result ≡ least_mark (flat_map (hits_left w) turns.old.items) }
     ensures within { IfSome result (λ b. IsWithin 250000000000 b) }
