@@ -3,4 +3,7 @@ pub mod FirstLaws
 pub mod LeastMarks
 pub mod ListLaws
 pub mod LoopLaws
+pub mod Narrow
+pub mod Sooner
+pub mod StartLaws
 pub mod TurnLaws
