@@ -3,7 +3,10 @@ pub mod FirstLaws
 pub mod LeastMarks
 pub mod ListLaws
 pub mod LoopLaws
+pub mod MarkedLaws
 pub mod Narrow
+pub mod PartLaws
 pub mod Sooner
 pub mod StartLaws
 pub mod TurnLaws
+pub mod WakeLaws

@@ -1,5 +1,5 @@
 -- How many rows are marked in a window.
-use Rattle.std.specs.Prelude.{ℕ, Option, Some, None, [], length, filter, if◌then◌else◌}
+use Rattle.std.specs.Prelude.{ℕ, ◌+◌, List, Option, Some, None, [], length, filter, if◌then◌else◌}
 use Rattle.tap_rows.specs.declared.tables.Tables.{Tables}
 use Rattle.tql_core.specs.declared.term.Var.{Var}
 use Rattle.tql_core.specs.Condition.{Condition, All, Either, Not, Exists}
@@ -9,7 +9,9 @@ use Rattle.time_marks.specs.declared.window.Window.{Window}
 use Rattle.time_marks.specs.Probes.{Probe}
 use Rattle.time_marks.specs.Seeks.{seek_of, lies_in}
 use Rattle.probe_eval.specs.Drivers.{seek_var}
+use Rattle.probe_eval.specs.Runs.{PathIsDocument}
 use Rattle.probe_eval.specs.Tables.{table_in}
+use Rattle.probe_eval.specs.Work.{total}
 
 abbrev pub marked_by : Tables → Window → Probe → Option Var → ℕ
 marked_by T w p None = if lies_in w (value p.at []) then length T.docs else 0
@@ -26,3 +28,11 @@ HasNoExists (Either l r) = HasNoExists l × HasNoExists r
 HasNoExists (Not x) = HasNoExists x
 HasNoExists (Exists v t x) = ⊥
 HasNoExists x = Unit {0}
+
+-- the path is that of the document alone, and no EXISTS stands in the body
+abbrev pub IsPlain : Probe → Type 0
+IsPlain p = PathIsDocument p × HasNoExists p.body
+
+-- one step more than rows are marked, for each probe
+abbrev pub marked_ahead : Tables → Window → List Probe → ℕ
+marked_ahead T w probes = total (λ p. marked T w p + 1) probes

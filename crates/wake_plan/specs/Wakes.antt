@@ -1,8 +1,14 @@
 -- The moment at which a run is next worth while.
 use Rattle.std.specs.Prelude.{◌≡◌, ◌≤ℤ◌, ℤ, pos, ◌+ℤ◌, Option, Some, None, List, [], ◌∷◌, int_le, if◌then◌else◌}
 use Rattle.std.specs.Option.{option_map}
+use Rattle.tap_rows.specs.declared.tables.Tables.{Tables}
 use Rattle.tap_rows.specs.declared.results.Hit.{Hit}
+use Rattle.tap_rows.specs.declared.results.Entry.{Entry}
 use Rattle.time_marks.specs.declared.window.Window.{Window}
+use Rattle.time_marks.specs.declared.ranged_query.RangedQuery.{RangedQuery}
+use Rattle.time_marks.specs.Probes.{meaning_without}
+use Rattle.time_marks.specs.Views.{ranged_probes}
+use Rattle.probe_eval.specs.Nested.{was_seen}
 
 -- the lesser of two seconds
 abbrev pub lesser : ℤ → ℤ → ℤ
@@ -42,6 +48,10 @@ end_after (Some b) = after_mark b
 -- the window up to and with the least mark of the hits; the whole window if there is none
 abbrev pub wake_window : ℤ → List Hit → Window
 wake_window last hits = record { low = last; high = end_after (least_mark hits) }
+
+-- the hits from the last run on, of documents that aren't in the box
+abbrev pub hits_since : List Entry → RangedQuery → Tables → ℤ → List Hit
+hits_since entries q T last = meaning_without (was_seen entries) (ranged_probes q) T (record { low = last; high = last_moment })
 
 -- the second window begins like the first and ends no later
 pub record IsUpTo (w u : Window) : Type 0 where

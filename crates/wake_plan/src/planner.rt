@@ -3,15 +3,16 @@
 ghost use Rattle.std.specs.Prelude.{◌≡◌, ◌+◌, ◌≤◌, length, pos, IfOk, IfSome};
 ghost use Rattle.std.specs.List.{flat_map};
 ghost use Rattle.jiff_core.specs.Calendar.{IsWithin};
-ghost use Rattle.tap_rows.specs.Kept.{Each};
+ghost use Rattle.tap_rows.specs.Kept.{Each, In};
 ghost use Rattle.row_index.specs.Orders.{IsMoment};
-ghost use Rattle.time_marks.specs.Probes.{meaning_without};
+ghost use Rattle.time_marks.specs.Probes.{Probe, meaning_without};
 ghost use Rattle.time_marks.specs.Views.{ranged_probes};
 ghost use Rattle.probe_eval.specs.Nested.{was_seen};
 ghost use Rattle.probe_eval.specs.Runs.{query_cost, HasValidProbes};
 ghost use Rattle.probe_eval.specs.Work.{total};
+ghost use Rattle.wake_plan.specs.Marked.{marked_ahead, IsPlain};
 ghost use Rattle.wake_plan.specs.Turns.{hits_left, cost_left, IsTurn};
-ghost use Rattle.wake_plan.specs.Wakes.{after_mark, greater, least_mark, next_wake, wake_window};
+ghost use Rattle.wake_plan.specs.Wakes.{after_mark, greater, hits_since, least_mark, next_wake, wake_window};
 
 use crate::firsts::first_place;
 use crate::starts::starts;
@@ -64,7 +65,9 @@ fn moment_after(now: i64, mark: i64) -> i64
 /// such mark. Moments are seconds since 1970-01-01T00:00:00Z. `Memory` comes if memory runs out.
 ///
 /// The driving rows of the probes are read side by side in order of their marks, one ahead in each probe, and nothing is
-/// read after the first beside which a document is found.
+/// read after the first beside which a document is found. So the steps are at most those of a run up to the least mark,
+/// and one for each probe. For probes whose path is the document alone and whose body has no EXISTS these are the rows
+/// marked there, and one for each probe.
 pub fn wake<L: Ledger>(
     alloc: Global,
     plan: &Plan,
@@ -79,9 +82,10 @@ pub fn wake<L: Ledger>(
     requires probes { HasValidProbes plan.now.query }
     ensures moment { IfOk result (λ moment. moment ≡ next_wake now
         (meaning_without (was_seen seen.now) (ranged_probes plan.now.query) index.now (record { low = last; high = pos 250000000000 }))) }
-    ensures steps { steps.new ≤ steps.old + (length plan.now.query.parts + query_cost index.now
-        (wake_window last (meaning_without (was_seen seen.now) (ranged_probes plan.now.query) index.now (record { low = last; high = pos 250000000000 })))
-        plan.now.query) }
+    ensures steps { steps.new ≤ steps.old + (length plan.now.query.parts
+        + query_cost index.now (wake_window last (hits_since seen.now plan.now.query index.now last)) plan.now.query) }
+    ensures plain { ((p : Probe) → In p (ranged_probes plan.now.query) → IsPlain p) → steps.new ≤ steps.old
+        + marked_ahead index.now (wake_window last (hits_since seen.now plan.now.query index.now last)) (ranged_probes plan.now.query) }
 {
     let w = Window {
         low: last,
