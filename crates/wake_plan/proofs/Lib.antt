@@ -8,5 +8,6 @@ pub mod Narrow
 pub mod PartLaws
 pub mod Sooner
 pub mod StartLaws
+pub mod TestPlans
 pub mod TurnLaws
 pub mod WakeLaws

@@ -2,3 +2,4 @@ pub mod Wakes
 pub mod Marked
 pub mod Turns
 pub mod Firsts
+pub mod Samples

@@ -3,8 +3,8 @@
 ghost use Rattle.std.specs.Prelude.{◌≡◌, ◌<◌, pos, [], ◌∷◌, map, IfOk};
 ghost use Rattle.row_index.specs.Orders.{IsMoment};
 ghost use Rattle.tql_tree.specs.declared.table.Table.TheVariants.{Docs};
-ghost use Rattle.tql_core.specs.declared.term.Base.TheVariants.{Arrival};
 ghost use Rattle.probe_eval.specs.Runs.{HasValidProbes};
+ghost use Rattle.wake_plan.specs.Samples.{three_codes, three_marks};
 
 use crate::wake;
 use access_plan::{Plan, plan};
@@ -64,14 +64,9 @@ fn second_seen(alloc: Global) -> Result<LittleBox, Memory> {
     Ok(seen)
 }
 
-// Returns the probe that finds a document five seconds after its arrival.
-fn old_probe(alloc: Global, body: NodeId) -> Result<Probe, Memory>
-    ensures { IfOk result (λ probe. probe ≡ record {
-      path = record { var = record { 0 = 0 }; table = Docs; guards = [] }
-          ∷ [];
-      at = record { base = Arrival (record { 0 = 0 }); plus = pos 5 };
-      body = body;
-    }) }
+// Returns the probe that finds a document with this mark.
+fn probe_at(alloc: Global, at: Term, body: NodeId) -> Result<Probe, Memory>
+    ensures { IfOk result (λ probe. probe ≡ record { path = record { var = record { 0 = 0 }; table = Docs; guards = [] } ∷ []; at = at; body = body }) }
 {
     let mut path = Rows::new(alloc);
     path.push(Step {
@@ -79,48 +74,57 @@ fn old_probe(alloc: Global, body: NodeId) -> Result<Probe, Memory>
         table: Table::Docs,
         guards: Rows::new(alloc),
     })?;
-    Ok(Probe {
-        path,
-        at: Term {
-            base: Base::Arrival(Var(0)),
-            plus: 5,
-        },
-        body,
-    })
+    Ok(Probe { path, at, body })
 }
 
-// Returns that probe alone, with its seek.
-fn old_parts(alloc: Global, body: NodeId) -> Result<Rows<Ranged>, Memory>
-    ensures { IfOk result (λ parts. map (λ part. part.probe) parts
-        ≡ record {
-          path = record { var = record { 0 = 0 }; table = Docs; guards = [] }
-              ∷ [];
-          at = record { base = Arrival (record { 0 = 0 }); plus = pos 5 };
-          body = body;
-        } ∷ []) }
+// Returns that probe, with its seek.
+fn part_at(alloc: Global, at: Term, body: NodeId) -> Result<Ranged, Memory>
+    ensures { IfOk result (λ part. part.probe ≡ record { path = record { var = record { 0 = 0 }; table = Docs; guards = [] } ∷ []; at = at; body = body }) }
 {
-    let probe = old_probe(alloc, body)?;
+    let probe = probe_at(alloc, at, body)?;
     let seek = Seek::of(probe.at);
+    Ok(Ranged { probe, seek })
+}
+
+// Returns a probe with a mark five seconds after the arrival, one with a mark a second after the date, and one with the
+// fixed mark 130.
+fn three_parts(alloc: Global, body: NodeId) -> Result<Rows<Ranged>, Memory>
+    ensures { IfOk result (λ parts. map (λ part. part.probe) parts ≡ map (three_codes body.0) three_marks) }
+{
     let mut parts = Rows::new(alloc);
-    parts.push(Ranged { probe, seek })?;
+    let at = Term {
+        base: Base::Arrival(Var(0)),
+        plus: 5,
+    };
+    parts.push(part_at(alloc, at, body)?)?;
+    let at = Term {
+        base: Base::Date(Var(0)),
+        plus: 1,
+    };
+    parts.push(part_at(alloc, at, body)?)?;
+    let at = Term {
+        base: Base::Fixed,
+        plus: 130,
+    };
+    parts.push(part_at(alloc, at, body)?)?;
     Ok(parts)
 }
 
-// Returns the query of that probe.
-fn old_query(alloc: Global) -> Result<RangedQuery, Memory>
+// Returns the query of those probes.
+fn three_query(alloc: Global) -> Result<RangedQuery, Memory>
     ensures { IfOk result HasValidProbes }
 {
     let mut pool = Pool::new(alloc);
     let body = pool.intern(TNode::True)?;
-    let parts = old_parts(alloc, body)?;
+    let parts = three_parts(alloc, body)?;
     Ok(RangedQuery { pool, parts })
 }
 
 // Returns the plan of that query.
-fn old_plan(alloc: Global) -> Result<Plan, Memory>
+fn three_plan(alloc: Global) -> Result<Plan, Memory>
     ensures { IfOk result (λ plan. HasValidProbes plan.query) }
 {
-    plan(alloc, old_query(alloc)?)
+    plan(alloc, three_query(alloc)?)
 }
 
 // Returns the moment for two documents, one of which is in the box.
@@ -136,7 +140,7 @@ fn planned<L: Ledger>(
     requires last { IsMoment last }
     requires now { IsMoment now }
 {
-    let plan = old_plan(alloc)?;
+    let plan = three_plan(alloc)?;
     let index = two_docs(alloc)?;
     let seen = second_seen(alloc)?;
     let mut steps = Steps::<L>::start(blank);
@@ -144,22 +148,31 @@ fn planned<L: Ledger>(
 }
 
 #[test]
-fn the_second_after_the_mark_is_next(rt: HostRuntime) -> Result<(), Memory> {
+fn the_second_after_the_least_mark_is_next(rt: HostRuntime) -> Result<(), Memory> {
     let moment = planned::<Brand>(rt.alloc(), Blank::new(1), 0, 100)?;
+    assert_eq!(rt; moment, Some(106));
+    let moment = planned::<Brand>(rt.alloc(), Blank::new(1), 105, 106)?;
     assert_eq!(rt; moment, Some(106));
     Ok(())
 }
 
 #[test]
 fn no_moment_is_before_now(rt: HostRuntime) -> Result<(), Memory> {
-    let moment = planned::<Brand>(rt.alloc(), Blank::new(1), 0, 200)?;
-    assert_eq!(rt; moment, Some(200));
+    let moment = planned::<Brand>(rt.alloc(), Blank::new(1), 0, 120)?;
+    assert_eq!(rt; moment, Some(120));
+    Ok(())
+}
+
+#[test]
+fn a_fixed_mark_comes_after_those_of_rows(rt: HostRuntime) -> Result<(), Memory> {
+    let moment = planned::<Brand>(rt.alloc(), Blank::new(1), 106, 106)?;
+    assert_eq!(rt; moment, Some(131));
     Ok(())
 }
 
 #[test]
 fn a_mark_before_the_last_run_is_never_met(rt: HostRuntime) -> Result<(), Memory> {
-    let moment = planned::<Brand>(rt.alloc(), Blank::new(1), 106, 200)?;
+    let moment = planned::<Brand>(rt.alloc(), Blank::new(1), 131, 131)?;
     assert_eq!(rt; moment, None);
     Ok(())
 }

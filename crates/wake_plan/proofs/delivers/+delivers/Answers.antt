@@ -26,8 +26,8 @@ loop-row-init g t c =
     let q : c.rows_by-rows.result ≡ rows_by mark r.access c.args.env.now c.args.search.now.index.now = search rules in
     record {
       same = ap has_hit (ap (λ z. hits_over c.args.search.now.seen.now c.args.search.now.index.now p mark z c.args.env.now) o
-      ∙ next_hits c.args.search.now.seen.now c.args.search.now.index.now p mark c.in-Some.field-0-0.now c.in-Some.rest.now c.args.env.now r e f
-      ∙ ap (flat_map (λ row. hits_over c.args.search.now.seen.now c.args.search.now.index.now p mark c.in-Some.rest.now (bind r.var row c.args.env.now))) (sym q));
+          ∙ next_hits c.args.search.now.seen.now c.args.search.now.index.now p mark c.in-Some.field-0-0.now c.in-Some.rest.now c.args.env.now r e f
+          ∙ ap (flat_map (λ row. hits_over c.args.search.now.seen.now c.args.search.now.index.now p mark c.in-Some.rest.now (bind r.var row c.args.env.now))) (sym q));
       steps = first_cost c.args.search.now.index.now p mark c.args.steps.now c.args.order.now c.in-Some.field-0-0.now c.in-Some.rest.now c.args.env.now r c.rows_by-rows.result o e f q;
       more = omega arith;
     }
