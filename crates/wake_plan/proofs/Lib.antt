@@ -1,0 +1,13 @@
+pub mod DeliverLaws
+pub mod FirstLaws
+pub mod LeastMarks
+pub mod ListLaws
+pub mod LoopLaws
+pub mod MarkedLaws
+pub mod Narrow
+pub mod PartLaws
+pub mod Sooner
+pub mod StartLaws
+pub mod TestPlans
+pub mod TurnLaws
+pub mod WakeLaws

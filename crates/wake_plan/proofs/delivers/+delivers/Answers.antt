@@ -1,0 +1,72 @@
+use Rattle.std.proofs.Common.{rules, ◌≡◌, ◌≤◌, ◌+◌, ◌∷◌, ◌∙◌, None, Some, false, arith, length, refl, sym, ap, to_z, of_z, w64}
+use Rattle.std.specs.Prelude.{option_to_list}
+use Rattle.std.specs.List.{flat_map}
+use Rattle.tql_core.specs.Bindings.{row_of}
+use Rattle.tql_core.specs.Row.{OfDoc, OfNote}
+use Rattle.tql_core.specs.Values.{bind, lookup}
+use Rattle.time_marks.specs.Views.{probe_in}
+use Rattle.access_plan.specs.Views.{reach_at}
+use Rattle.probe_eval.specs.Work.{rows_by}
+use Rattle.probe_eval.specs.Rests.{further}
+use Rattle.probe_eval.specs.Nested.{new_doc, hit_if, holds_here, hits_over, work_over, cost_here}
+use Rattle.probe_eval.proofs.Steps.{cost_step}
+use Rattle.probe_eval.proofs.HitSteps.{doc_hits, note_hits, next_hits, doc_cost, first_cost}
+use Rattle.wake_plan.specs.Turns.{has_hit}
+use Rattle.wake_plan.proofs.DeliverLaws.{next_row}
+use Rattle.wake_plan.proofs.delivers.+delivers.Goals as goal
+
+pub loop-row-init : goal.loop-row-init
+loop-row-init g t c =
+    let mark = to_z w64 (of_z w64 c.args.mark) in
+    let p = probe_in c.args.search.now.pool.now c.args.search.now.probe.now in
+    let r = reach_at c.in-Some-further.reach in
+    let o : c.args.order.now ≡ c.in-Some.field-0-0.now ∷ c.in-Some.rest.now = search rules in
+    let e : lookup 0 c.args.env.now ≡ None = search rules in
+    let f : further p.path mark c.args.env.now ≡ Some r = search rules in
+    let q : c.rows_by-rows.result ≡ rows_by mark r.access c.args.env.now c.args.search.now.index.now = search rules in
+    record {
+      same = ap has_hit (ap (λ z. hits_over c.args.search.now.seen.now c.args.search.now.index.now p mark z c.args.env.now) o
+          ∙ next_hits c.args.search.now.seen.now c.args.search.now.index.now p mark c.in-Some.field-0-0.now c.in-Some.rest.now c.args.env.now r e f
+          ∙ ap (flat_map (λ row. hits_over c.args.search.now.seen.now c.args.search.now.index.now p mark c.in-Some.rest.now (bind r.var row c.args.env.now))) (sym q));
+      steps = first_cost c.args.search.now.index.now p mark c.args.steps.now c.args.order.now c.in-Some.field-0-0.now c.in-Some.rest.now c.args.env.now r c.rows_by-rows.result o e f q;
+      more = omega arith;
+    }
+
+pub loop-row-preserved : goal.loop-row-preserved
+loop-row-preserved g t c =
+    let e : c.loop-row.rows ≡ row_of c.in-Some-next.row ∷ c.next.new.self = search rules in
+    let s : c.next.new.steps ≡ c.loop-row.steps + 1 = search rules in
+    let mark = to_z w64 (of_z w64 c.args.mark) in
+    let p = probe_in c.args.search.now.pool.now c.args.search.now.probe.now in
+    let x = bind c.in-Some-further.reach.var (row_of c.in-Some-next.row) c.args.env.now in
+    let h : c.delivers.result ≡ has_hit (hits_over c.args.search.now.seen.now c.args.search.now.index.now p mark c.in-Some.rest.now x) = search rules in
+    let n : c.delivers.result ≡ false = search rules in
+    let k : c.delivers.new.steps ≤ c.next.new.steps + work_over c.args.search.now.index.now p mark c.in-Some.rest.now x = search rules in
+    let i = c.loop-row.invariant.more in
+    let m = c.delivers.ensures.more in
+    record {
+      same = next_row _ _ _ _ (row_of c.in-Some-next.row) _ c.loop-row.invariant.same e h n;
+      steps = cost_step _ _ _ _ _ _ _ (row_of c.in-Some-next.row) c.loop-row.invariant.steps e s k;
+      more = omega (arith, i, s, m);
+    }
+
+pub returns-in-Some-OfDoc-clause-hits : goal.returns-in-Some-OfDoc-clause-hits
+returns-in-Some-OfDoc-clause-hits g t c =
+    let p = probe_in c.args.search.now.pool.now c.args.search.now.probe.now in
+    let e : lookup 0 c.args.env.now ≡ Some (OfDoc c.in-Some-OfDoc.doc.now) = search rules in
+    let h : c.delivers_pair.result ≡ has_hit (option_to_list (hit_if (holds_here c.args.search.now.index.now p c.args.mark c.args.order.now c.args.env.now) c.args.mark (new_doc c.args.search.now.seen.now c.in-Some-OfDoc.doc.now))) = search rules in
+    h ∙ ap has_hit (sym (doc_hits c.args.search.now.seen.now c.args.search.now.index.now p c.args.mark c.args.order.now c.args.env.now c.in-Some-OfDoc.doc.now e))
+
+pub returns-in-Some-OfDoc-clause-steps : goal.returns-in-Some-OfDoc-clause-steps
+returns-in-Some-OfDoc-clause-steps g t c =
+    let p = probe_in c.args.search.now.pool.now c.args.search.now.probe.now in
+    let e : lookup 0 c.args.env.now ≡ Some (OfDoc c.in-Some-OfDoc.doc.now) = search rules in
+    let k : work_over c.args.search.now.index.now p c.args.mark c.args.order.now c.args.env.now ≡ cost_here c.args.search.now.index.now p c.args.mark c.args.order.now c.args.env.now = doc_cost c.args.search.now.index.now p c.args.mark c.args.order.now c.args.env.now c.in-Some-OfDoc.doc.now e in
+    let s : c.delivers_pair.new.steps ≤ c.args.steps.now + cost_here c.args.search.now.index.now p c.args.mark c.args.order.now c.args.env.now = search rules in
+    omega (arith, k, s)
+
+pub returns-in-Some-OfNote-clause-hits : goal.returns-in-Some-OfNote-clause-hits
+returns-in-Some-OfNote-clause-hits g t c =
+    let p = probe_in c.args.search.now.pool.now c.args.search.now.probe.now in
+    let e : lookup 0 c.args.env.now ≡ Some (OfNote c.in-Some-OfNote.field-0-0.now) = search rules in
+    ap has_hit (sym (note_hits c.args.search.now.seen.now c.args.search.now.index.now p c.args.mark c.args.order.now c.args.env.now (OfNote c.in-Some-OfNote.field-0-0.now) e (λ d z. absurd cc)))

@@ -1,0 +1,5 @@
+pub mod Wakes
+pub mod Marked
+pub mod Turns
+pub mod Firsts
+pub mod Samples

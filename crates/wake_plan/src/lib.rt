@@ -1,0 +1,14 @@
+//! The moment at which a run is next worth while.
+#![tactic(auto)]
+
+mod delivers;
+mod due;
+mod firsts;
+mod planner;
+mod starts;
+mod turn;
+
+pub use planner::wake;
+
+#[cfg(test)]
+mod tests;

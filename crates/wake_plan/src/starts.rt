@@ -1,0 +1,144 @@
+//! The turns of a plan's probes before a row has been looked at.
+
+ghost use Rattle.std.specs.Prelude.{◌≡◌, ◌+◌, ◌≤◌, ◌≤ℤ◌, length, Some, None, true, option_to_list, IfOk, OnErr};
+ghost use Rattle.std.specs.List.{flat_map};
+ghost use Rattle.jiff_core.specs.Calendar.{IsWithin};
+ghost use Rattle.tap_rows.specs.Kept.{Each};
+ghost use Rattle.tql_core.specs.Bounds.{is_bounded, is_near};
+ghost use Rattle.time_marks.specs.declared.window.Window.{Window};
+ghost use Rattle.time_marks.specs.Seeks.{seek_of, seek_plus};
+ghost use Rattle.probe_eval.specs.Drivers.{seek_var, seek_hits, seek_cost};
+ghost use Rattle.probe_eval.specs.Runs.{query_hits, query_cost, HasValidProbes};
+ghost use Rattle.probe_eval.specs.Searches.{searched, HasBody, HasSlots};
+ghost use Rattle.probe_eval.specs.Work.{total};
+ghost use Rattle.wake_plan.specs.Turns.{hits_left, cost_left, IsTurn};
+ghost use Rattle.wake_plan.specs.Wakes.{IsUpTo};
+
+use crate::due::{Due, mark_at, read_ahead};
+use crate::turn::Turn;
+use access_plan::{Plan, Reach};
+use little_box::LittleBox;
+use probe_eval::{RowWalk, Search, driving, order_at, seek_var};
+use row_index::RowIndex;
+use std::alloc::Global;
+use std::sync::ledger::Ledger;
+use tap_base::{Memory, Steps};
+use time_marks::{Seek, Window};
+use tql_core::{Env, Var};
+
+// Returns the turn of a probe with a fixed mark.
+fn fixed<'a>(search: Search<'a>, order: &'a [Reach], w: Window) -> Turn<'a>
+    requires node { HasBody search }
+    requires room { HasSlots search (length order.now) }
+    ensures turn { IsTurn w result }
+    ensures hits { hits_left w result ≡ seek_hits search.entry.seen.now search.entry.index.now w (searched search.entry) order.now (seek_of search.entry.probe.now.at) None }
+    ensures cost { (u : Window) → IsUpTo w u → cost_left u result ≤ 1 + seek_cost search.entry.index.now u (searched search.entry) order.now (seek_of search.entry.probe.now.at) None }
+{
+    let env = Env::new();
+    let next = match mark_at(&search, w, &env) {
+        None => None,
+        Some(mark) => Some(Due { env, mark }),
+    };
+    Turn {
+        search,
+        order,
+        var: Var(0),
+        rows: RowWalk::none(),
+        next,
+    }
+}
+
+// Returns the turn of a probe with driving rows, the first of which is read ahead.
+fn driven<'a, L: Ledger>(
+    search: Search<'a>,
+    order: &'a [Reach],
+    seek: Seek,
+    var: Var,
+    w: Window,
+    steps: &mut Steps<L>,
+) -> Turn<'a>
+    requires node { HasBody search }
+    requires bounded { is_bounded search.probe.now.at ≡ true }
+    requires seek { seek ≡ seek_of search.probe.now.at }
+    requires plus { is_near (seek_plus seek) ≡ true }
+    requires low { IsWithin 500000000000 w.low }
+    requires high { IsWithin 500000000000 w.high }
+    requires var { seek_var seek ≡ Some var }
+    requires room { HasSlots search (1 + length order.now) }
+    ensures turn { IsTurn w result }
+    ensures hits { hits_left w result ≡ seek_hits search.entry.seen.now search.entry.index.now w (searched search.entry) order.now seek (Some var) }
+    ensures cost { (u : Window) → IsUpTo w u → steps.new + cost_left u result ≤ steps.old + (1 + seek_cost search.entry.index.now u (searched search.entry) order.now seek (Some var)) }
+    ensures more { steps.old ≤ steps.new }
+{
+    // Brings into scope that arrivals never fall.
+    let _docs = search.index.docs();
+    let _notes = search.index.notes();
+    let mut rows = driving(&search, seek, var, w);
+    let next = read_ahead(&search, w, var, &mut rows, steps);
+    Turn {
+        search,
+        order,
+        var,
+        rows,
+        next,
+    }
+}
+
+// Returns the turn of a probe.
+fn start<'a, L: Ledger>(
+    search: Search<'a>,
+    order: &'a [Reach],
+    seek: Seek,
+    w: Window,
+    steps: &mut Steps<L>,
+) -> Turn<'a>
+    requires node { HasBody search }
+    requires bounded { is_bounded search.probe.now.at ≡ true }
+    requires seek { seek ≡ seek_of search.probe.now.at }
+    requires plus { is_near (seek_plus seek) ≡ true }
+    requires low { IsWithin 500000000000 w.low }
+    requires high { IsWithin 500000000000 w.high }
+    requires room { HasSlots search (length (option_to_list (seek_var seek)) + length order.now) }
+    ensures turn { IsTurn w result }
+    ensures hits { hits_left w result ≡ seek_hits search.entry.seen.now search.entry.index.now w (searched search.entry) order.now seek (seek_var seek) }
+    ensures cost { (u : Window) → IsUpTo w u → steps.new + cost_left u result ≤ steps.old + (1 + seek_cost search.entry.index.now u (searched search.entry) order.now seek (seek_var seek)) }
+    ensures more { steps.old ≤ steps.new }
+{
+    match seek_var(seek) {
+        None => fixed(search, order, w),
+        Some(var) => driven(search, order, seek, var, w, steps),
+    }
+}
+
+/// Returns the turns of all probes of a plan. `Memory` comes if memory runs out, and then no step was taken.
+pub(crate) fn starts<'a, L: Ledger>(
+    alloc: Global,
+    plan: &'a Plan,
+    index: &'a RowIndex,
+    seen: &'a LittleBox,
+    w: Window,
+    steps: &mut Steps<L>,
+) -> Result<Vec<Turn<'a>>, Memory>
+    requires low { IsWithin 500000000000 w.low }
+    requires high { IsWithin 500000000000 w.high }
+    requires probes { HasValidProbes plan.now.query }
+    ensures turns { IfOk result (λ turns. Each (IsTurn w) turns.items) }
+    ensures hits { IfOk result (λ turns. flat_map (hits_left w) turns.items ≡ query_hits seen.now index.now w plan.now.query) }
+    ensures cost { (u : Window) → IsUpTo w u → IfOk result (λ turns. steps.new + total (cost_left u) turns.items
+        ≤ steps.old + (length plan.now.query.parts + query_cost index.now u plan.now.query)) }
+    ensures err { OnErr result (steps.new ≡ steps.old) }
+    ensures more { steps.old ≤ steps.new }
+{
+    let parts = plan.query.parts.as_slice();
+    let mut turns = Vec::with_capacity(alloc, parts.len())?;
+    for (place, part) in parts.iter().enumerate() {
+        let search = Search {
+            pool: &plan.query.pool,
+            probe: &part.probe,
+            index,
+            seen,
+        };
+        let _ = turns.push(start(search, order_at(plan, place), part.seek, w, steps));
+    }
+    Ok(turns)
+}
