@@ -5,7 +5,6 @@ mod CountingLaws
 mod EntryLaws
 mod FoundLaws
 mod KindLaws
-pub mod NumberedLaws
 mod ScoreOrder
 mod SmallLaws
 mod SortedScores

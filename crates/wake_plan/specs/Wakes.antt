@@ -1,4 +1,4 @@
--- The moment at which a run is next worth while.
+-- The moment at which a run is next worthwhile.
 use Rattle.std.specs.Prelude.{◌≡◌, ◌≤ℤ◌, ℤ, pos, ◌+ℤ◌, Option, Some, None, List, [], ◌∷◌, int_le, if◌then◌else◌}
 use Rattle.std.specs.Option.{option_map}
 use Rattle.tap_rows.specs.declared.tables.Tables.{Tables}

@@ -1,4 +1,4 @@
-//! The moment at which a run is next worth while.
+//! The moment at which a run is next worthwhile.
 #![tactic(auto)]
 
 mod delivers;

@@ -60,7 +60,7 @@ fn moment_after(now: i64, mark: i64) -> i64
     if now <= next { next } else { now }
 }
 
-/// Returns the moment from now on at which a run is next worth while: the greater of now and the second after the least
+/// Returns the moment from now on at which a run is next worthwhile: the greater of now and the second after the least
 /// mark, from `last` on, with which a document is found that isn't in the box. `None` comes if and only if there is no
 /// such mark. Moments are seconds since 1970-01-01T00:00:00Z. `Memory` comes if memory runs out.
 ///
