@@ -1,6 +1,6 @@
 -- The commands that read: when a run is next worthwhile, the scores of a kind, the digest of a run.
-use Rattle.std.proofs.Common.{◌≡◌, ◌∙◌, sym, refl, ap, subst, inl, inr, ℕ, ℤ, pos, List, [], ◌∷◌, ◌≤◌, length, Option, Some, None, false}
-use Rattle.std.specs.Prelude.{◌⊎◌}
+use Rattle.std.proofs.Common.{◌≡◌, ◌∙◌, sym, refl, ap, subst, inr, ℕ, ℤ, pos, List, [], ◌∷◌, ◌≤◌, length, Option, Some, None, true, false, if◌then◌else◌}
+use Rattle.std.specs.Prelude.{◌&&◌, nat_le}
 use Rattle.std.specs.Option.{option_map, option_or}
 use Rattle.tap_base.specs.declared.moments.TheConstants.{LAST_MOMENT}
 use Rattle.tap_rows.specs.declared.tables.Tables.{Tables}
@@ -12,10 +12,10 @@ use Rattle.tap_rows.proofs.KeptLaws.{box-is}
 use Rattle.tap_rows.proofs.LaterLaws.{each-map}
 use Rattle.script_lang.specs.declared.command.Command.TheVariants.{Wake, ScoresOf, DigestOf}
 use Rattle.script_lang.specs.declared.refusal.Refusal.{Refusal}
-use Rattle.script_lang.specs.declared.refusal.Refusal.TheVariants.{NoMoment, NoQuery, Memory}
+use Rattle.script_lang.specs.declared.refusal.Refusal.TheVariants.{NoMoment, NoQuery, NoRun, Memory}
 use Rattle.script_lang.specs.declared.reply.Reply.TheVariants.{Wake as Woken, ScoresOf as Scored, DigestOf as Digest}
 use Rattle.vote_scores.specs.declared.score.Score.{Score}
-use Rattle.vote_scores.specs.Tally.{tally, Vote}
+use Rattle.vote_scores.specs.Tally.{tally}
 use Rattle.vote_scores.specs.Votes.{scores_of, AreNumbered}
 use Rattle.digest_mail.specs.Digests.{digested, digest_lines}
 use Rattle.wake_plan.specs.Wakes.{next_wake}
@@ -24,13 +24,12 @@ use Rattle.tap_model.specs.Sessions.{or_zero, moment_or_zero, user_of}
 use Rattle.tap_model.specs.Queries.{truth_of, start_of, query_named, box_in}
 use Rattle.tap_model.specs.Sound.{IsMoment, IsNow, IsSound}
 use Rattle.tap_model.specs.Wakes.{wake_moment}
-use Rattle.tap_model.specs.Verdicts.{first_refusal, verdict, missing, no_moment, no_user, bad_name, no_run, runs_found}
-use Rattle.tap_model.specs.Replies.{show_wake, show_scores, show_digest, entries_in_run}
+use Rattle.tap_model.specs.Verdicts.{first_refusal, verdict, missing, no_moment, no_user, bad_name, no_run, runs_found, is_early}
+use Rattle.tap_model.specs.Replies.{show_wake, show_digest, entries_in_run}
 use Rattle.tap_model.specs.Stories.{Refuses}
 use Rattle.tap_model.proofs.AnswerLaws.{find-in, some-none, truth-of-second}
 use Rattle.tap_model.proofs.WakeLaws.{wakes-are-windows}
 use Rattle.tap_rows.specs.WellFormed.{is_query_of}
-use Rattle.tap_kept.specs.declared.cached_query.CachedQuery.{CachedQuery}
 use Rattle.tap_kept.specs.Keeping.{cached_query, hits_since}
 use Rattle.tap_kept.specs.Starting.{IsOneOf}
 use Rattle.tap_engine.specs.declared.engine.Engine.{Engine}
@@ -39,7 +38,7 @@ use Rattle.tap_engine.specs.Lists.{cached_digest}
 use Rattle.tap_engine.specs.Answering.{Answers}
 use Rattle.tap_engine.proofs.RowTurns.{docs-are}
 use Rattle.tap_engine.proofs.AnswerTurns.{answers-accepted}
-use Rattle.tap_engine.proofs.CheckLaws.{named-is, missing-map, box-verdict}
+use Rattle.tap_engine.proofs.CheckLaws.{named-is, box-verdict}
 use Rattle.tap_engine.proofs.FormedLaws.{formed}
 
 four : (a b c d : Option Refusal) → option_or a (option_or b (option_or c d)) ≡ first_refusal (a ∷ b ∷ c ∷ d ∷ [])
@@ -146,6 +145,15 @@ digest-verdict e t name ordinal represents =
 
 pub digest-refuses : (e : Engine) (name : List ℕ) (ordinal : ℕ) (refusal : Refusal) → RefusedBy (digest_refusal e name ordinal) refusal → (t : Tables) → Represents e t → Refuses refusal (DigestOf name ordinal) e.session t
 digest-refuses e name ordinal refusal by t represents = subst (λ v. RefusedBy v refusal) (digest-verdict e t name ordinal represents) by
+
+late-run : (ordinal runs : ℕ) → is_early (no_run ordinal runs) ≡ false
+unfolding no_run
+late-run ordinal runs = elim (nat_le 1 ordinal && nat_le ordinal runs) as (λ b. is_early (if b then None else Some (NoRun runs)) ≡ false) [ true ↦ refl | false ↦ refl ]
+
+-- out of memory, once the query is found
+pub digest-memory : (e : Engine) (name : List ℕ) (ordinal : ℕ) → look_refusal e name ≡ None → RefusedBy (digest_refusal e name ordinal) Memory
+digest-memory e name ordinal look =
+    inr (refl, ap (λ x. is_early (option_or x (no_run ordinal (cached_runs (cached_named e name))))) look ∙ late-run ordinal (cached_runs (cached_named e name)))
 
 some-lines : (x : List (List ℕ)) → Some x ≡ None → ⊥
 some-lines x e = cc

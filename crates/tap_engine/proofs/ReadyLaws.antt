@@ -14,6 +14,7 @@ use Rattle.tap_rows.specs.Tables.{after}
 use Rattle.row_index.specs.Orders.{doc_arrival, note_arrival}
 use Rattle.row_index.specs.Orders as Index
 use Rattle.query_eval.specs.Hits.{HitsWithRoom}
+use Rattle.vote_scores.specs.Tally.{Vote}
 use Rattle.tap_rows.specs.Kept.{Each}
 use Rattle.script_lang.specs.declared.refusal.Refusal.TheVariants.{Backwards}
 use Rattle.tap_model.specs.Queries.{start_of}
@@ -174,8 +175,9 @@ ready-docs e h texts bytes ready there room = record {
 }
 
 -- the engine with one more note, which arrives then
-pub ready-note : (e : Engine) (note : Note) (bytes : ℕ) → IsReady e → note.arrival ≡ moment_or_zero e.session → (e.session.moment ≡ None → ⊥) → IsReady (record e { index = after e.index (OneNote note); bytes = bytes })
-ready-note e note bytes ready at there = record {
+pub ready-note : (e : Engine) (note : Note) (votes : List Vote) (bytes : ℕ) → IsReady e → note.arrival ≡ moment_or_zero e.session → (e.session.moment ≡ None → ⊥)
+    → IsReady (record e { index = after e.index (OneNote note); votes = votes; bytes = bytes })
+ready-note e note votes bytes ready at there = record {
   docs = ready.docs;
   notes = by-rows note_arrival e (e.index.notes ++ note ∷ []) there (each-both (λ note. note.arrival ≤ℤ moment_or_zero e.session) e.index.notes (note ∷ []) (rows-by note_arrival e e.index.notes ready.notes there) (omega (arith, ints, at), tt));
   queries = ready.queries;

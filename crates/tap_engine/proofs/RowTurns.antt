@@ -1,5 +1,5 @@
 -- What an index owns of the tables, and what is left of it.
-use Rattle.std.proofs.Common.{◌≡◌, ◌∙◌, sym, refl, ap, subst, arith, ℕ, zero, suc, ◌+◌, ◌-◌, ◌<◌, ◌≤◌, List, [], ◌∷◌, ◌++◌, length, take}
+use Rattle.std.proofs.Common.{◌≡◌, ◌∙◌, sym, refl, ap, subst, arith, ℕ, zero, suc, ◌+◌, ◌<◌, ◌≤◌, List, [], ◌∷◌, ◌++◌, length, take}
 use Rattle.std.specs.Prelude.{◌≤ℤ◌, ◌&&◌, true, false, Bool, ℤ, drop, nat_le, slice_index_or}
 use Rattle.std.proofs.lemmas.List.{append_assoc, length-append}
 use Rattle.tap_rows.specs.declared.rows.Doc.{Doc}

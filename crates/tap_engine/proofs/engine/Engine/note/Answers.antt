@@ -1,10 +1,12 @@
 use Rattle.std.specs.Prelude.{◌≤ℤ◌}
-use Rattle.std.proofs.Common.{rules, ◌∙◌, sym, ap, subst, ◌+◌, length, w64}
+use Rattle.std.proofs.Common.{rules, ◌≡◌, ◌∙◌, sym, ap, subst, ◌+◌, length, w64}
 use Rattle.std.proofs.lemmas.Int.{to_z-of_z}
 use Rattle.tap_rows.specs.Kept.{Each}
 use Rattle.row_index.specs.Orders.{note_arrival, IsMoment}
 use Rattle.script_lang.specs.declared.refusal.Refusal.TheVariants.{Memory}
 use Rattle.tap_model.specs.Sessions.{user_of, moment_or_zero}
+use Rattle.vote_scores.specs.Tally.{CanUndo, undone, with_vote}
+use Rattle.tap_engine.specs.declared.engine.Engine.{Engine}
 use Rattle.tap_engine.proofs.RowTurns.{notes-are}
 use Rattle.tap_engine.proofs.AnswerTurns.{for-memory, undo-note}
 use Rattle.tap_engine.proofs.ReadyLaws.{ready-note, rows-by, index-moment}
@@ -30,10 +32,15 @@ returns-clause-represents c = λ t represents sound.
     (represents-note c.args.self.now t c.in_ok-note.note represents (note-moment c.args.self.now c.args.doc c.args.kind c.args.text c.in_ok-note.ensures.checks))
 
 pub returns-clause-undo : goal.returns-clause-undo
-returns-clause-undo c = rw c.in_ok-change.ensures.engine (undo-note c.args.self.now c.in_ok-note.note _)
+returns-clause-undo c =
+    let before = c.args.self.now in
+    let note = c.in_ok-note.note in
+    let vote = c.in_ok-change.vote in
+    let back = subst (λ (e : Engine). CanUndo vote e.votes × (undone vote e.votes ≡ before.votes)) c.in_ok-change.ensures.engine c.in_ok-change.ensures.vote in
+    rw c.in_ok-change.ensures.engine (undo-note before note _ vote (with_vote note before.votes) back.0 back.1)
 
 pub returns-clause-ready : goal.returns-clause-ready
-returns-clause-ready c = rw c.in_ok-change.ensures.engine (ready-note c.args.self.now c.in_ok-note.note (c.args.self.now.bytes + length c.in_ok-note.note.text) c.requires.ready (ap (λ n. n.arrival) c.in_ok-note.ensures.row) (note-moment c.args.self.now c.args.doc c.args.kind c.args.text c.in_ok-note.ensures.checks))
+returns-clause-ready c = rw c.in_ok-change.ensures.engine (ready-note c.args.self.now c.in_ok-note.note (with_vote c.in_ok-note.note c.args.self.now.votes) (c.args.self.now.bytes + length c.in_ok-note.note.text) c.requires.ready (ap (λ n. n.arrival) c.in_ok-note.ensures.row) (note-moment c.args.self.now c.args.doc c.args.kind c.args.text c.in_ok-note.ensures.checks))
 
 pub add_note-requires-clause-moment : goal.add_note-requires-clause-moment
 add_note-requires-clause-moment c = subst IsMoment (sym (ap (λ n. n.arrival) c.in_ok-note.ensures.row)) (index-moment c.args.self.now c.requires.ready (note-moment c.args.self.now c.args.doc c.args.kind c.args.text c.in_ok-note.ensures.checks))
