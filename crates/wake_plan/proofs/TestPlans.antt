@@ -1,6 +1,6 @@
 -- The probes of the plan that the tests use.
 use Rattle.std.proofs.Common.{◌≡◌, ℕ, zero, suc, true, length, ◌<◌, ◌∙◌, List, [], ◌∷◌, Some, refl, sym, ap, subst, inl, inr, arith}
-use Rattle.std.specs.Prelude.{◌⊎◌, ◌&&◌, nat_lt, map, slice_get}
+use Rattle.std.specs.Prelude.{◌&&◌, nat_lt, map, slice_get}
 use Rattle.std.specs.List.{list_all}
 use Rattle.tql_tree.specs.declared.table.Table.TheVariants.{Docs}
 use Rattle.tql_core.specs.declared.term.Term.{Term}
