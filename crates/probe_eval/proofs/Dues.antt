@@ -8,7 +8,7 @@ use Rattle.tql_tree.specs.declared.table.Table.TheVariants.{Docs}
 use Rattle.tql_core.specs.declared.term.Var.{Var}
 use Rattle.tql_core.specs.Bounds.{is_bounded}
 use Rattle.tql_core.specs.Holds.{asked_of}
-use Rattle.tql_core.specs.Row.{Row, OfDoc, OfNote, arrival, date, rows_of}
+use Rattle.tql_core.specs.Row.{Row, OfDoc, OfNote, date, rows_of}
 use Rattle.tap_rows.specs.Kept.{In}
 use Rattle.tql_core.specs.Values.{Env, bind, lookup, value}
 use Rattle.row_index.specs.Orders.{in_window, doc_arrival}

@@ -1,5 +1,5 @@
 -- A probe finds a document if and only if there is a driving row for it.
-use Rattle.std.proofs.Common.{◌≡◌, ◌∙◌, ℕ, ℤ, pos, true, false, Option, Some, None, [], ◌∷◌, refl, sym, ap, subst, inl, inr}
+use Rattle.std.proofs.Common.{◌≡◌, ◌∙◌, ℕ, ℤ, pos, true, Option, Some, None, [], ◌∷◌, refl, sym, ap, subst, inl, inr}
 use Rattle.std.specs.Prelude.{option_to_list}
 use Rattle.std.proofs.lemmas.Bool.{false≢true}
 use Rattle.tap_rows.specs.declared.rows.Doc.{Doc}

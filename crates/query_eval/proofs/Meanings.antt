@@ -1,5 +1,5 @@
 -- The least hits of a run are the meaning of its query.
-use Rattle.std.proofs.Common.{◌≡◌, ℕ, suc, ◌+◌, ◌≤◌, ℤ, pos, Bool, true, false, not, List, [], ◌∷◌, Option, Some, None, refl, sym, ap, ◌∙◌, subst, inl, inr, arith}
+use Rattle.std.proofs.Common.{◌≡◌, ℕ, suc, ◌+◌, ◌≤◌, ℤ, pos, Bool, true, not, List, [], ◌∷◌, Option, Some, None, refl, sym, ap, ◌∙◌, subst, inl, inr, arith}
 use Rattle.std.specs.Prelude.{◌⊎◌, int_le, ◌≤ℤ◌}
 use Rattle.std.specs.List.{filter, filter_map}
 use Rattle.std.proofs.lemmas.Int.{ints}
@@ -13,7 +13,7 @@ use Rattle.tap_rows.specs.Kept.{In}
 use Rattle.tap_rows.specs.Results.{hit_of}
 use Rattle.time_marks.specs.declared.window.Window.{Window}
 use Rattle.time_marks.specs.Probes.{Probe, found, least, meaning_without}
-use Rattle.probe_eval.specs.Found.{IsFound, AreFound}
+use Rattle.probe_eval.specs.Found.{AreFound}
 use Rattle.query_eval.specs.HitLists.{AreApart, AreLowest, InOrder, HaveSame}
 use Rattle.query_eval.specs.Lowest.{lowest}
 use Rattle.query_eval.proofs.Lows.{kept_all}

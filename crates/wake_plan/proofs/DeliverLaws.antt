@@ -1,5 +1,5 @@
 -- One turn of the search for one document beside a driving row.
-use Rattle.std.proofs.Common.{◌≡◌, ◌∙◌, ◌+◌, ◌≤◌, ℕ, Bool, true, false, List, [], ◌∷◌, ◌++◌, sym, ap, refl, arith}
+use Rattle.std.proofs.Common.{◌≡◌, ◌∙◌, Bool, true, false, List, [], ◌∷◌, ◌++◌, sym, ap, refl}
 use Rattle.std.specs.List.{flat_map}
 use Rattle.tap_rows.specs.declared.results.Hit.{Hit}
 use Rattle.wake_plan.specs.Turns.{has_hit}

@@ -1,6 +1,6 @@
 -- Least marks of lists of hits.
 use Rattle.std.proofs.Common.{◌≡◌, ℤ, Bool, true, false, List, [], ◌∷◌, Option, Some, None, refl, sym, ap, ◌∙◌, subst, inl, inr, arith}
-use Rattle.std.specs.Prelude.{◌⊎◌, int_le, ◌≤ℤ◌, if◌then◌else◌}
+use Rattle.std.specs.Prelude.{◌⊎◌, int_le, ◌≤ℤ◌}
 use Rattle.std.proofs.lemmas.Int.{ints}
 use Rattle.std.proofs.lemmas.Bool.{cases_Bool}
 use Rattle.tap_rows.specs.declared.rows.Doc.{Doc}

@@ -5,6 +5,7 @@ pub mod ListLaws
 pub mod LoopLaws
 pub mod MarkedLaws
 pub mod Narrow
+pub mod NextLaws
 pub mod PartLaws
 pub mod Sooner
 pub mod StartLaws

@@ -1,6 +1,6 @@
 -- One turn of the loop over turns.
-use Rattle.std.proofs.Common.{◌≡◌, ℕ, suc, ◌+◌, ◌≤◌, ℤ, pos, Bool, true, false, List, [], ◌∷◌, ◌++◌, Option, Some, None, length, refl, sym, ap, ◌∙◌, subst, inl, inr, arith, slice_set, slice_index_or}
-use Rattle.std.specs.Prelude.{◌⊎◌, ◌&&◌, ◌≤ℤ◌, ◌<ℤ◌, neg_ℤ, int_le, int_lt, slice_get, IfSome}
+use Rattle.std.proofs.Common.{◌≡◌, ℕ, suc, ◌+◌, ◌≤◌, ℤ, pos, true, false, List, [], ◌∷◌, ◌++◌, Option, Some, None, length, refl, sym, ap, ◌∙◌, subst, inl, inr, arith, slice_set}
+use Rattle.std.specs.Prelude.{◌≤ℤ◌, ◌<ℤ◌, neg_ℤ, int_le, int_lt, IfSome}
 use Rattle.jiff_core.specs.Calendar.{IsWithin}
 use Rattle.std.specs.List.{flat_map}
 use Rattle.std.specs.Option.{is_some}

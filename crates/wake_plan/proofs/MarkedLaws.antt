@@ -1,18 +1,16 @@
 -- What is due costs no more than the marked rows, if nothing else is looked at.
-use Rattle.std.proofs.Common.{◌≡◌, ◌∙◌, ℕ, suc, ◌+◌, ◌≤◌, ℤ, Bool, true, false, List, [], ◌∷◌, map, Option, Some, None, length, refl, sym, ap, subst, inl, inr, arith}
+use Rattle.std.proofs.Common.{◌≡◌, ◌∙◌, ℕ, suc, ◌+◌, ◌≤◌, Bool, true, false, List, [], ◌∷◌, map, Option, Some, None, length, refl, sym, ap, subst, inl, inr, arith}
 use Rattle.std.specs.Prelude.{◌⊎◌, filter, option_to_list, if◌then◌else◌}
 use Rattle.std.proofs.lemmas.Bool.{cases_Bool}
-use Rattle.tap_rows.specs.declared.rows.Doc.{Doc}
 use Rattle.tap_rows.specs.declared.tables.Tables.{Tables}
 use Rattle.tap_rows.specs.Kept.{In}
-use Rattle.tql_tree.specs.declared.table.Table.TheVariants.{Docs}
 use Rattle.tql_core.specs.declared.term.Var.{Var}
 use Rattle.tql_core.specs.declared.term.Base.{Base}
 use Rattle.tql_core.specs.declared.term.Base.TheVariants as B
 use Rattle.tql_core.specs.declared.term.Term.{Term}
 use Rattle.tql_core.specs.Condition.{Condition, Always, Never, Plain, NowAtLeast, NowBefore, All, Either, Not, Exists}
 use Rattle.tql_core.specs.Holds.{asked_of}
-use Rattle.tql_core.specs.Row.{Row, OfDoc, rows_of}
+use Rattle.tql_core.specs.Row.{OfDoc, rows_of}
 use Rattle.tql_core.specs.Values.{Env, bind, value}
 use Rattle.time_marks.specs.declared.window.Window.{Window}
 use Rattle.time_marks.specs.declared.ranged_query.RangedQuery.{RangedQuery}
@@ -24,10 +22,9 @@ use Rattle.time_marks.specs.Views.{ranged_probes, probe_in}
 use Rattle.access_plan.specs.Orders.{driven}
 use Rattle.access_plan.specs.Laws.{numbers_of}
 use Rattle.probe_eval.specs.Drivers.{seek_var}
-use Rattle.probe_eval.specs.Runs.{query_cost, rows_due, HasValidProbes, PathIsDocument}
+use Rattle.probe_eval.specs.Runs.{query_cost, rows_due, HasValidProbes}
 use Rattle.probe_eval.specs.Tables.{table_in}
 use Rattle.probe_eval.specs.Work.{total, work}
-use Rattle.probe_eval.proofs.Costs.{total_less_in}
 use Rattle.probe_eval.proofs.Finding.{driven_is, driven_in}
 use Rattle.probe_eval.proofs.Nesting.{asked_table}
 use Rattle.probe_eval.proofs.QueryCosts.{query_due}

@@ -1,9 +1,8 @@
 -- The driving rows of a window are those of a longer one whose mark lies in it.
-use Rattle.std.proofs.Common.{◌≡◌, ◌∙◌, ℕ, ℤ, pos, Bool, true, false, List, [], ◌∷◌, map, Option, Some, None, refl, sym, ap, subst, inl, inr, arith}
+use Rattle.std.proofs.Common.{◌≡◌, ◌∙◌, ℤ, Bool, true, false, List, [], ◌∷◌, map, Some, refl, sym, ap, inl, inr, arith}
 use Rattle.std.specs.Prelude.{◌&&◌, ◌≤ℤ◌, filter, int_le, int_lt}
 use Rattle.std.proofs.lemmas.Int.{ints}
 use Rattle.std.proofs.lemmas.Bool.{cases_Bool, false≢true, and_parts, and_from}
-use Rattle.tap_rows.specs.declared.rows.Doc.{Doc}
 use Rattle.tap_rows.specs.declared.tables.Tables.{Tables}
 use Rattle.tap_rows.specs.Kept.{In}
 use Rattle.tql_tree.specs.declared.table.Table.{Table}

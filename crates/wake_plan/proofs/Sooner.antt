@@ -1,10 +1,9 @@
 -- Driving rows stand in order of their marks.
 use Rattle.std.proofs.Common.{◌≡◌, ◌∙◌, ℕ, ℤ, pos, Bool, true, false, List, [], ◌∷◌, map, Option, Some, None, refl, sym, ap, subst, inl, inr, arith}
-use Rattle.std.specs.Prelude.{◌⊎◌, ◌&&◌, ◌||◌, not, ◌+ℤ◌, ◌*ℤ◌, ◌≤ℤ◌, ◌<ℤ◌, filter, fold, int_le, int_lt, nat_lt, if◌then◌else◌}
-use Rattle.std.specs.List.{list_all}
+use Rattle.std.specs.Prelude.{◌⊎◌, ◌&&◌, ◌||◌, not, ◌+ℤ◌, ◌≤ℤ◌, ◌<ℤ◌, filter, fold, int_le, int_lt, nat_lt}
 use Rattle.std.specs.Option.{unwrap_or}
 use Rattle.std.proofs.lemmas.Int.{ints, by_lt_z}
-use Rattle.std.proofs.lemmas.Bool.{cases_Bool, false≢true}
+use Rattle.std.proofs.lemmas.Bool.{cases_Bool}
 use Rattle.tap_rows.specs.declared.rows.Doc.{Doc}
 use Rattle.tap_rows.specs.declared.tables.Tables.{Tables}
 use Rattle.tap_rows.specs.Kept.{In}
@@ -20,12 +19,11 @@ use Rattle.row_index.specs.Dates.{has_date, stored_date, is_earlier, put_dated, 
 use Rattle.row_index.specs.Texts as texts
 use Rattle.time_marks.specs.declared.window.Window.{Window}
 use Rattle.time_marks.specs.Probes.{Probe}
-use Rattle.time_marks.specs.Seeks.{seek_from, seek_of, lies_in, seek_window}
+use Rattle.time_marks.specs.Seeks.{seek_from, seek_of, lies_in}
 use Rattle.time_marks.proofs.Envs.{bind_same}
 use Rattle.time_marks.proofs.Lists.{all_in, map_in}
 use Rattle.time_marks.proofs.WindowLaws.{IsDay, round_up_to_day-day}
-use Rattle.probe_eval.specs.Drivers.{seek_var, arrived_rows, dated_rows, stored_rows, driving}
-use Rattle.probe_eval.specs.Tables.{table_in}
+use Rattle.probe_eval.specs.Drivers.{seek_var, arrived_rows, dated_rows, stored_rows}
 use Rattle.probe_eval.proofs.Members.{in_filter}
 use Rattle.wake_plan.specs.Turns.{bound_alone, AreRising}
 

@@ -1,10 +1,8 @@
 -- A turn of which the first row was read ahead.
-use Rattle.std.proofs.Common.{◌≡◌, ◌∙◌, ℕ, suc, ◌+◌, ◌≤◌, true, List, [], ◌∷◌, ◌++◌, drop, length, map, Some, refl, sym, ap, subst, inl, inr, arith}
+use Rattle.std.proofs.Common.{◌≡◌, ◌∙◌, ℕ, ◌+◌, ◌≤◌, true, List, [], ◌∷◌, ◌++◌, drop, length, map, Some, refl, sym, ap, subst, arith}
 use Rattle.std.specs.Prelude.{filter}
 use Rattle.std.specs.List.{flat_map}
-use Rattle.tap_rows.specs.declared.results.Hit.{Hit}
 use Rattle.tap_rows.specs.Kept.{In}
-use Rattle.tql_core.specs.declared.term.Var.{Var}
 use Rattle.tql_core.specs.Bounds.{is_bounded}
 use Rattle.tql_core.specs.Row.{Row}
 use Rattle.tql_core.specs.Values.{Env, bind, value}

@@ -1,6 +1,6 @@
 -- What a turn finds, and what it costs to go on.
-use Rattle.std.proofs.Common.{◌≡◌, ℕ, suc, ◌+◌, ◌≤◌, ℤ, Bool, true, false, length, List, [], ◌∷◌, ◌++◌, drop, map, Option, Some, None, refl, sym, ap, ◌∙◌, subst, inl, inr, arith}
-use Rattle.std.specs.Prelude.{◌⊎◌, ◌≤ℤ◌, filter, option_to_list, if◌then◌else◌}
+use Rattle.std.proofs.Common.{◌≡◌, ℕ, suc, ◌+◌, ℤ, Bool, true, false, length, List, [], ◌∷◌, ◌++◌, drop, Option, Some, None, refl, sym, ap, ◌∙◌, subst, inl, inr, arith}
+use Rattle.std.specs.Prelude.{◌⊎◌, ◌≤ℤ◌, filter, option_to_list}
 use Rattle.std.specs.List.{flat_map}
 use Rattle.std.proofs.lemmas.Int.{ints}
 use Rattle.std.proofs.lemmas.Bool.{cases_Bool, false≢true}
@@ -23,7 +23,7 @@ use Rattle.probe_eval.specs.Nested.{hit_if, over_rows, asked_or, hits_over, new_
 use Rattle.probe_eval.specs.Rests.{further}
 use Rattle.probe_eval.specs.Work.{rows_by, total}
 use Rattle.probe_eval.specs.Searches.{searched}
-use Rattle.probe_eval.proofs.Members.{from_flat, to_flat}
+use Rattle.probe_eval.proofs.Members.{from_flat}
 use Rattle.wake_plan.specs.declared.due.Due.{Due}
 use Rattle.wake_plan.specs.declared.turn.Turn.{Turn}
 use Rattle.wake_plan.specs.Firsts.{IsNoLater}

@@ -3,3 +3,4 @@ pub mod Marked
 pub mod Turns
 pub mod Firsts
 pub mod Samples
+pub mod Laws

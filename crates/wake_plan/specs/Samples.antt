@@ -7,9 +7,9 @@ use Rattle.time_marks.specs.declared.probe.Probe.{Probe}
 use Rattle.time_marks.specs.Marks.{document_var}
 
 -- the probe of the document alone with this mark
-abbrev pub three_codes : ℕ → Term → Probe
-three_codes id at = record { path = record { var = document_var; table = Docs; guards = [] } ∷ []; at = at; body = record { 0 = id } }
+abbrev pub sample_probe : ℕ → Term → Probe
+sample_probe id at = record { path = record { var = document_var; table = Docs; guards = [] } ∷ []; at = at; body = record { 0 = id } }
 
 -- five seconds after the arrival, a second after the date, and the second 130
-abbrev pub three_marks : List Term
-three_marks = record { base = Arrival document_var; plus = pos 5 } ∷ record { base = Date document_var; plus = pos 1 } ∷ record { base = Fixed; plus = pos 130 } ∷ []
+abbrev pub sample_marks : List Term
+sample_marks = record { base = Arrival document_var; plus = pos 5 } ∷ record { base = Date document_var; plus = pos 1 } ∷ record { base = Fixed; plus = pos 130 } ∷ []

@@ -4,6 +4,7 @@
 mod delivers;
 mod due;
 mod firsts;
+pub mod laws;
 mod planner;
 mod starts;
 mod turn;

@@ -4,7 +4,7 @@ ghost use Rattle.std.specs.Prelude.{◌≡◌, ◌<◌, pos, [], ◌∷◌, map,
 ghost use Rattle.row_index.specs.Orders.{IsMoment};
 ghost use Rattle.tql_tree.specs.declared.table.Table.TheVariants.{Docs};
 ghost use Rattle.probe_eval.specs.Runs.{HasValidProbes};
-ghost use Rattle.wake_plan.specs.Samples.{three_codes, three_marks};
+ghost use Rattle.wake_plan.specs.Samples.{sample_probe, sample_marks};
 
 use crate::wake;
 use access_plan::{Plan, plan};
@@ -89,7 +89,7 @@ fn part_at(alloc: Global, at: Term, body: NodeId) -> Result<Ranged, Memory>
 // Returns a probe with a mark five seconds after the arrival, one with a mark a second after the date, and one with the
 // fixed mark 130.
 fn three_parts(alloc: Global, body: NodeId) -> Result<Rows<Ranged>, Memory>
-    ensures { IfOk result (λ parts. map (λ part. part.probe) parts ≡ map (three_codes body.0) three_marks) }
+    ensures { IfOk result (λ parts. map (λ part. part.probe) parts ≡ map (sample_probe body.0) sample_marks) }
 {
     let mut parts = Rows::new(alloc);
     let at = Term {

@@ -1,4 +1,4 @@
-use Rattle.std.proofs.Common.{rules, ◌≡◌, ◌<◌, Some, length, slice_index_or}
+use Rattle.std.proofs.Common.{rules, ◌≡◌, ◌<◌, Some, length}
 use Rattle.std.specs.Prelude.{slice_get}
 use Rattle.probe_eval.proofs.Steps.{item_at}
 use Rattle.wake_plan.specs.Firsts.{nearer}

@@ -1,10 +1,7 @@
-use Rattle.std.proofs.Common.{rules, ◌≡◌, ◌∙◌, ◌+◌, ◌≤◌, pos, Bool, true, false, None, Some, sym, ap, IfSome, arith}
-use Rattle.std.specs.List.{flat_map}
+use Rattle.std.proofs.Common.{rules, ◌≡◌, ◌∙◌, true, false, None, Some, sym, ap, arith}
 use Rattle.std.specs.Option.{is_some}
-use Rattle.wake_plan.specs.declared.turn.Turn.{Turn}
-use Rattle.wake_plan.specs.Firsts.{IsFirst, StandsAt, IsBehind}
-use Rattle.wake_plan.specs.Turns.{hits_left, cost_left, due_mark, IsTurn}
-use Rattle.wake_plan.specs.Wakes.{least_mark, wake_window}
+use Rattle.wake_plan.specs.Firsts.{IsFirst}
+use Rattle.wake_plan.specs.Wakes.{least_mark}
 use Rattle.wake_plan.proofs.ListLaws.{item_is}
 use Rattle.wake_plan.proofs.LoopLaws.{all_over, found_least, found_bound, found_steps, next_each, next_hits, next_smaller, next_steps}
 use Rattle.wake_plan.proofs.planner.first_delivery.Goals as goal

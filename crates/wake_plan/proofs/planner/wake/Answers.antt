@@ -1,11 +1,10 @@
-use Rattle.std.proofs.Common.{rules, ◌≡◌, ◌∙◌, ◌+◌, ◌≤◌, ℤ, pos, None, Some, List, length, sym, ap, subst, to_z, of_z, w64}
+use Rattle.std.proofs.Common.{rules, ◌≡◌, ◌∙◌, ◌+◌, ◌≤◌, pos, None, Some, length, to_z, of_z, w64}
 use Rattle.std.specs.List.{flat_map}
-use Rattle.std.specs.Option.{option_map}
 use Rattle.time_marks.specs.declared.window.Window.{Window}
 use Rattle.probe_eval.specs.Runs.{query_hits, query_cost}
 use Rattle.probe_eval.specs.Work.{total}
 use Rattle.wake_plan.specs.Turns.{hits_left, cost_left}
-use Rattle.wake_plan.specs.Wakes.{after_mark, greater, hits_since, least_mark, wake_window, IsUpTo}
+use Rattle.wake_plan.specs.Wakes.{after_mark, greater, least_mark, wake_window, IsUpTo}
 use Rattle.wake_plan.proofs.WakeLaws.{wake_moment, wake_steps, wake_plain}
 use Rattle.wake_plan.proofs.planner.wake.Goals as goal
 

@@ -1,10 +1,8 @@
-use Rattle.std.proofs.Common.{rules, ◌≡◌, Some, drop}
+use Rattle.std.proofs.Common.{rules, ◌≡◌, Some}
 use Rattle.time_marks.specs.Seeks.{seek_of}
-use Rattle.tql_core.specs.Bounds.{is_bounded}
-use Rattle.probe_eval.specs.Drivers.{seek_var, driving, seek_hits, seek_cost}
+use Rattle.probe_eval.specs.Drivers.{seek_var, driving}
 use Rattle.probe_eval.specs.Searches.{searched}
 use Rattle.wake_plan.specs.declared.turn.Turn.{Turn}
-use Rattle.wake_plan.specs.Turns.{first_due}
 use Rattle.wake_plan.proofs.StartLaws.{started_turn, started_hits, started_steps}
 use Rattle.wake_plan.proofs.starts.driven.Goals as goal
 

@@ -1,0 +1,26 @@
+-- The law of the next moment, as a contract names it.
+use Rattle.std.specs.Prelude.{◌≡◌, ◌≤ℤ◌, ◌<ℤ◌, ℤ, Bool, None, List, [], IfSome}
+use Rattle.tap_rows.specs.declared.rows.Doc.{Doc}
+use Rattle.tap_rows.specs.declared.tables.Tables.{Tables}
+use Rattle.tap_rows.specs.declared.results.Hit.{Hit}
+use Rattle.time_marks.specs.Probes.{Probe, meaning_without}
+use Rattle.wake_plan.specs.Wakes.{last_moment, next_wake}
+
+module _ (seen : Doc → Bool) (X : List Probe) (T : Tables) (last : ℤ) where
+  -- what a run at this moment delivers
+  abbrev pub delivered_at : ℤ → List Hit
+  delivered_at t = meaning_without seen X T (record { low = last; high = t })
+
+  -- the least moment from now on, up to the last one, at which a run delivers
+  pub record IsNextWake (now t : ℤ) : Type 0 where
+    pub from : now ≤ℤ t
+    pub to : t ≤ℤ last_moment
+    pub some : delivered_at t ≡ [] → ⊥
+    pub none_before : (s : ℤ) → now ≤ℤ s → s <ℤ t → delivered_at s ≡ []
+
+-- the greater of now and the second after the least mark is the least moment at which a run delivers; without a mark no run delivers
+abbrev pub WakesAreNext : Type 0
+WakesAreNext =
+    (seen : Doc → Bool) (X : List Probe) (T : Tables) (last now : ℤ) → now ≤ℤ last_moment
+    → IfSome (next_wake now (delivered_at seen X T last last_moment)) (IsNextWake seen X T last now)
+    × (next_wake now (delivered_at seen X T last last_moment) ≡ None → (s : ℤ) → s ≤ℤ last_moment → delivered_at seen X T last s ≡ [])
