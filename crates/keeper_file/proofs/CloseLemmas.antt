@@ -1,5 +1,5 @@
 -- What a close leaves is what the keeper told.
-use Rattle.std.proofs.Common.{◌≡◌, Bool, IsTrue, sym, ap, subst, ◌∙◌}
+use Rattle.std.proofs.Common.{Bool, sym, ap, subst, ◌∙◌}
 use Rattle.tap_rows.specs.declared.tables.Tables.{Tables}
 use Rattle.sqlite_disk.specs.declared.Disk.{Ghosts}
 use Rattle.sqlite_disk.specs.declared.Files.{Files}

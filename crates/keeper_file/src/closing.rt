@@ -10,7 +10,6 @@ ghost use Rattle.keeper_sql.specs.Store.{TellsAs};
 ghost use Rattle.keeper_file.specs.Cases.{Tells, has_files};
 ghost use Rattle.keeper_file.specs.Closing.{AreWhole, LeavesOnly};
 
-use crate::file_keeper::FileKeeper;
 use crate::inner::Inner;
 use crate::opener::Opener;
 use keeper_sql::SqlKeeper;
@@ -38,8 +37,8 @@ pub fn closed<D: Disk + Drop>(keeper: SqlKeeper<FileStore<D>>) -> Result<Files<D
     }
 }
 
-// Closes what is open.
-fn close_inner<D: Disk + Drop, O: Opener<FileStore<D>>>(
+/// Closes what is open.
+pub fn close_inner<D: Disk + Drop, O: Opener<FileStore<D>>>(
     inner: Inner<FileStore<D>, O>,
 ) -> Result<Option<Files<D>>, FileStore<D>>
     ensures none { result ≡ Ok None → has_files inner ≡ false }
@@ -54,21 +53,5 @@ fn close_inner<D: Disk + Drop, O: Opener<FileStore<D>>>(
             Err(store) => Err(store),
         },
         _ => Ok(None),
-    }
-}
-
-impl<D: Disk + Drop, O: Opener<FileStore<D>>> FileKeeper<FileStore<D>, O> {
-    /// Ends a session: copies the log into the database file, so that this file alone holds all rows, and returns both
-    /// files, or none if no file is open. If that failed, returns what is left of the store: a crash then leaves all
-    /// committed rows.
-    pub fn close(self) -> Result<Option<Files<D>>, FileStore<D>>
-        ensures none { result ≡ Ok None → has_files self.inner ≡ false }
-        ensures whole { IfOk result (λ files. IfSome files (λ both. AreClean D.Disk both.log both.db
-            → (t : TableRows) → Tells O.Opener.image over_files self.inner t → AreWhole D.Disk both t)) }
-        ensures alone { IfErr result (λ store. IsTrue (view store).is_clean
-            → (t : TableRows) → Tells O.Opener.image over_files self.inner t → LeavesOnly D.Disk store t) }
-    {
-        let FileKeeper { inner } = self;
-        close_inner(inner)
     }
 }
