@@ -1,5 +1,5 @@
 -- What a close leaves is what the keeper told.
-use Rattle.std.proofs.Common.{Bool, sym, ap, subst, ◌∙◌}
+use Rattle.std.proofs.Common.{Bool, [], inl, sym, ap, subst, ◌∙◌}
 use Rattle.tap_rows.specs.declared.tables.Tables.{Tables}
 use Rattle.sqlite_disk.specs.declared.Disk.{Ghosts}
 use Rattle.sqlite_disk.specs.declared.Files.{Files}
@@ -11,9 +11,11 @@ use Rattle.sqlite.specs.Effect.{Database}
 use Rattle.sqlite.specs.Files.{file_state, image_of, IsClosed}
 use Rattle.sqlite.specs.Held.{Held}
 use Rattle.keeper_sql.specs.Store.{TellsAs, tables_of}
-use Rattle.keeper_file.specs.Closing.{HoldsWhole, AreWhole, LeavesOnly}
+use Rattle.keeper_file.specs.Closing.{HoldsWhole, AreWhole, IsCopyOf, LeavesOnly}
+use Rattle.keeper_file.specs.Crashes.{HoldsOne}
+use Rattle.keeper_file.specs.Images.{ImageTells}
 use Rattle.keeper_file.proofs.SameLemmas.{is_told_open, IsSettled}
-use Rattle.keeper_file.proofs.CrashLemmas.{told_trees, ours_told, leaves_commit}
+use Rattle.keeper_file.proofs.CrashLemmas.{told_trees, ours_told, leaves_commit, only_held}
 
 module _ {D : Type 0} {g : Ghosts D} (was : Held (FileStore D g)) (settled : IsSettled (file_state was)) (b : Bool) (t : Tables) (told : TellsAs b (file_state was) t) where
   whole_at : (image : Image) → HoldsAlone image (file_state was).committed.trees → HoldsWhole image t
@@ -33,3 +35,17 @@ module _ {D : Type 0} {g : Ghosts D} (was : Held (FileStore D g)) (settled : IsS
   alone_then last stays closed db may =
       let is_open = is_told_open b (file_state was) t told in
       ap tables_of (leaves_commit was stays is_open (settled is_open) db (closed.quiet.outcomes db may)) ∙ sym (told_trees b (file_state was) t told)
+
+-- ---- and so the next session is told what the earlier one kept
+
+pub whole_tells : (image : Image) (t : Tables) → HoldsOne image → HoldsWhole image t → ImageTells image t
+whole_tells image t once whole =
+    inl (record { db = whole.db; holds = only_held image whole.db.trees once whole.holds.both; ours = whole.ours; tables = whole.tables })
+
+alone_tells : (image : Image) (t : Tables) → HoldsOne (record image { log = [] }) → HoldsWhole image t → ImageTells (record image { log = [] }) t
+alone_tells image t once whole =
+    inl (record { db = whole.db; holds = only_held (record image { log = [] }) whole.db.trees once whole.holds.alone; ours = whole.ours; tables = whole.tables })
+
+pub copy_tells : {D : Type 0} (g : Ghosts D) (files : Files D) (copy : Image) (t : Tables) → IsCopyOf g files copy → HoldsOne copy → AreWhole g files t → ImageTells copy t
+copy_tells g files copy t of once whole =
+    subst (λ i. ImageTells i t) (sym of.is) (alone_tells of.image t (subst HoldsOne of.is once) (whole.crash of.image of.left))

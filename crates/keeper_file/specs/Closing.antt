@@ -1,5 +1,5 @@
 -- What a close leaves of a store.
-use Rattle.std.specs.Prelude.{◌≡◌}
+use Rattle.std.specs.Prelude.{◌≡◌, []}
 use Rattle.sqlite_disk.specs.declared.Disk.{Ghosts}
 use Rattle.sqlite_disk.specs.declared.Files.{Files}
 use Rattle.sqlite_trees.specs.Tree.{Trees}
@@ -26,6 +26,12 @@ module _ {D : Type 0} (g : Ghosts D) where
   pub record AreWhole (files : Files D) (t : Tables) : Type 0 where
     pub now : HoldsWhole (image_of g files) t
     pub crash : (image : Image) → outcomes g files.log files.db image → HoldsWhole image t
+
+  -- the files are the database file alone, as a crash may leave it, and an empty log
+  pub record IsCopyOf (files : Files D) (copy : Image) : Type 0 where
+    pub image : Image
+    pub left : outcomes g files.log files.db image
+    pub is : copy ≡ record image { log = [] }
 
   -- a crash leaves these tables alone
   abbrev pub LeavesOnly : FileStore D g → Tables → Type 0
