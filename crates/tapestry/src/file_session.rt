@@ -72,7 +72,8 @@ pub fn over_files<'a, I: Source, K: Sink, S: Start, L: Ledger>(
     (status, keeper)
 }
 
-/// Runs a session over the files that the words name, and closes them in order unless the keeper failed. Returns the status.
+/// Runs a session over the files that the words name, and closes them in order unless the keeper failed or the store was
+/// refused. Returns the status.
 pub fn session<I: Source, K: Sink, S: Start, L: Ledger>(
     rt: &HostRuntime,
     words: &Texts,
@@ -87,7 +88,7 @@ pub fn session<I: Source, K: Sink, S: Start, L: Ledger>(
     requires texts { All IsUtf8 words.now }
 {
     let (status, keeper) = over_files::<_, _, _, L>(rt, words, source, sink, start, blank);
-    if status == 5 {
+    if status == 5 || status == 6 {
         drop(keeper);
     } else {
         // A close that fails loses no committed row, and changes no status.
