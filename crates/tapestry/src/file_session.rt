@@ -26,7 +26,7 @@ use tap_top::tapestry;
 
 /// Runs the mail filter over the files that the words name, which held what `S` says. Returns the status, and the keeper with
 /// its files open.
-pub fn over_files<'a, I: Source, K: Sink, S: Start, L: Ledger>(
+pub fn run_on_files<'a, I: Source, K: Sink, S: Start, L: Ledger>(
     rt: &'a HostRuntime,
     words: &Texts,
     source: &mut I,
@@ -87,7 +87,7 @@ pub fn session<I: Source, K: Sink, S: Start, L: Ledger>(
     requires some { 0 < blank.parts }
     requires texts { All IsUtf8 words.now }
 {
-    let (status, keeper) = over_files::<_, _, _, L>(rt, words, source, sink, start, blank);
+    let (status, keeper) = run_on_files::<_, _, _, L>(rt, words, source, sink, start, blank);
     if status == 5 || status == 6 {
         drop(keeper);
     } else {

@@ -3,7 +3,7 @@ use Rattle.keeper_file.specs.Cases.{Tells, HasVersion, MayLeave}
 use Rattle.sqlite.specs.Files.{over_files}
 use Rattle.sqlite_wal.specs.Files.{image_at}
 use Rattle.tap_top.specs.Ends.{ScriptEnds, SampleEnds}
-use Rattle.tapestry.proofs.file_session.over_files.Goals as goal
+use Rattle.tapestry.proofs.file_session.run_on_files.Goals as goal
 
 pub returns-clause-script : goal.returns-clause-script
 returns-clause-script g c none t honest told store =
