@@ -9,8 +9,8 @@ pub returns-clause-script : goal.returns-clause-script
 returns-clause-script g c none t honest told store =
     let first = image_at g.S.Start in
     let now = c.tapestry-status.new.keeper.inner in
-    subst (λ inner. ScriptEnds c.tapestry-status.result t (g.I.Source.left c.args.source) (g.I.Source.left c.tapestry-status.new.source)
-    (g.K.Sink.out c.args.sink) (g.K.Sink.out c.tapestry-status.new.sink) (HasVersion first over_files inner)
+    subst (λ inner. ScriptEnds c.tapestry-status.result t (g.I.Source.left c.args.source.now) (g.I.Source.left c.tapestry-status.new.source)
+    (g.K.Sink.out c.args.sink.now) (g.K.Sink.out c.tapestry-status.new.sink) (HasVersion first over_files inner)
     (Tells first over_files now) (MayLeave first over_files now))
     c.new-keeper.ensures.unopened (c.tapestry-status.ensures.script none t honest (c.new-keeper.ensures.told t told) store)
 
@@ -18,7 +18,7 @@ pub returns-clause-sample : goal.returns-clause-sample
 returns-clause-sample g c n some t honest told store =
     let first = image_at g.S.Start in
     let now = c.tapestry-status.new.keeper.inner in
-    subst (λ inner. SampleEnds c.tapestry-status.result t n (g.K.Sink.out c.args.sink) (g.K.Sink.out c.tapestry-status.new.sink)
+    subst (λ inner. SampleEnds c.tapestry-status.result t n (g.K.Sink.out c.args.sink.now) (g.K.Sink.out c.tapestry-status.new.sink)
     (HasVersion first over_files inner) (Tells first over_files now) (MayLeave first over_files now))
     c.new-keeper.ensures.unopened (c.tapestry-status.ensures.sample n some t honest (c.new-keeper.ensures.told t told) store)
 
