@@ -70,6 +70,10 @@ if ! command -v sqlite3 >/dev/null; then
 fi
 look "$store"
 
+# After a session a copy of the file alone is a backup.
+cp "$store" "$scratch/backup.db"
+look "$scratch/backup.db"
+
 # A store with rows in each table, read by sqlite3.
 rm -f "$store" "$store-wal"
 printf '%s\n' 'as ann' 'at 100' "query q m.words HAS 'hi'" mail 'Subject: hi' '' . 'note 1 score 7 x' filter "WHEN TRUE PRIORITY 1 CLASS 'a'" . 'at 101' 'run q' >"$scratch/script"

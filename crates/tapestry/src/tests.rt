@@ -1,9 +1,9 @@
-ghost use Rattle.std.specs.Prelude.{◌≡◌, ◌<◌, false, IsTrue, IfSome};
+ghost use Rattle.std.specs.Prelude.{◌≡◌, ◌<◌, false, IsTrue, IfOk, IfSome};
 ghost use Rattle.sqlite_disk.specs.Memory.{memory_is_usable};
 
 use keeper_core::Keeper;
 use keeper_sql::SqlKeeper;
-use sqlite::{Connection, FileStore, Files, Options};
+use sqlite::{Connection, Error, FileStore, Files, MemStore, Options};
 use sqlite_disk::Memory as MemoryFile;
 use std::alloc::Global;
 use std::marker::Brand;
@@ -126,6 +126,84 @@ fn sessions_go_on_over_files(rt: HostRuntime) -> Result<(), Fail> {
     assert_eq!(rt;
         third.as_slice(),
         b"ok 0 as ann\nok 3 box q\ndoc 1 first 100 run 1\ndoc 2 first 110 run 2\ndoc 3 first 120 run 3\n".as_slice()
+    );
+    Ok(())
+}
+
+// A store that these statements make, adopted.
+fn store_of(alloc: Global, statements: &str) -> Result<SqlKeeper<MemStore>, Error>
+    ensures free { IfOk result (λ keeper. (keeper.attached ≡ false) × (keeper.stopped ≡ false)) }
+{
+    let mut connection = Connection::open_in_memory(alloc)?;
+    connection.execute_batch(statements)?;
+    if !connection.is_autocommit() {
+        return Err(Error::InvalidQuery);
+    }
+    Ok(SqlKeeper::adopt(connection))
+}
+
+// Runs a script over such a store: its status, what it wrote, and the version of the store then.
+fn script_over(
+    alloc: Global,
+    statements: &str,
+    script: &[u8],
+) -> Result<(Result<(u8, Text), Memory>, i64), Error> {
+    let mut keeper = store_of(alloc, statements)?;
+    let ran = run::<_, Brand>(alloc, Blank::new(1), &mut keeper, script);
+    let mut connection = keeper.into_connection();
+    let version = connection
+        .query_row("SELECT version FROM meta", &[])?
+        .get(0)?;
+    Ok((ran, version))
+}
+
+// A store of version 1 with one document, whose number is too large.
+const DAMAGED: &str =
+    "CREATE TABLE meta (id INTEGER PRIMARY KEY CHECK (id = 1), version INTEGER NOT NULL) STRICT;
+    INSERT INTO meta (id, version) VALUES (1, 1);
+    CREATE TABLE docs (num INTEGER PRIMARY KEY, arrival INTEGER NOT NULL, body BLOB NOT NULL) STRICT;
+    INSERT INTO docs (num, arrival, body) VALUES (4294967296, 100, x'0a')";
+
+#[test]
+fn a_number_that_is_too_large_is_damage(rt: HostRuntime) -> Result<(), Fail> {
+    let (ran, _version) = script_over(rt.alloc(), DAMAGED, b"as ann\n")?;
+    let (status, written) = ran?;
+    assert_eq!(rt; status, 6);
+    assert_eq!(rt;
+        written.as_slice(),
+        b"stop 6 damaged docs 1 number\n".as_slice()
+    );
+    Ok(())
+}
+
+// A store of version 1 with the rows of the first of three sessions.
+const FIRST_VERSION: &str =
+    "CREATE TABLE meta (id INTEGER PRIMARY KEY CHECK (id = 1), version INTEGER NOT NULL) STRICT;
+    INSERT INTO meta (id, version) VALUES (1, 1);
+    CREATE TABLE docs (num INTEGER PRIMARY KEY, arrival INTEGER NOT NULL, body BLOB NOT NULL) STRICT;
+    INSERT INTO docs (num, arrival, body) VALUES
+        (1, 100, x'5375626a6563743a2068690a0a'), (2, 110, x'5375626a6563743a2068690a0a');
+    CREATE TABLE queries (num INTEGER PRIMARY KEY, owner BLOB NOT NULL, name BLOB NOT NULL, source BLOB NOT NULL, arrival INTEGER NOT NULL) STRICT;
+    INSERT INTO queries (num, owner, name, source, arrival) VALUES
+        (1, x'616e6e', x'71', x'6d2e776f726473204841532027686927', 100);
+    CREATE TABLE runs (num INTEGER PRIMARY KEY, query INTEGER NOT NULL, moment INTEGER NOT NULL) STRICT;
+    INSERT INTO runs (num, query, moment) VALUES (1, 1, 101), (2, 1, 111);
+    CREATE TABLE picks (num INTEGER PRIMARY KEY, query INTEGER NOT NULL, run INTEGER NOT NULL, doc INTEGER NOT NULL, second INTEGER NOT NULL) STRICT;
+    INSERT INTO picks (num, query, run, doc, second) VALUES (1, 1, 1, 1, 100), (2, 1, 2, 2, 110)";
+
+#[test]
+fn a_store_of_version_1_goes_on(rt: HostRuntime) -> Result<(), Fail> {
+    let (ran, version) = script_over(
+        rt.alloc(),
+        FIRST_VERSION,
+        b"as ann\nat 111\nat 120\nmail\nSubject: hi\n\n.\nat 121\nrun q\nbox q\n",
+    )?;
+    let (status, written) = ran?;
+    assert_eq!(rt; version, 2);
+    assert_eq!(rt; status, 0);
+    assert_eq!(rt;
+        written.as_slice(),
+        b"ok 0 as ann\nok 0 at 111\nok 0 at 120\nok 0 doc 3\nok 0 at 121\nok 1 run 3 before 121\ndoc 3 first 120\nok 3 box q\ndoc 1 first 100 run 1\ndoc 2 first 110 run 2\ndoc 3 first 120 run 3\n".as_slice()
     );
     Ok(())
 }

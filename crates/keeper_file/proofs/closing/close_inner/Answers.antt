@@ -1,0 +1,10 @@
+use Rattle.std.proofs.Common.{subst}
+use Rattle.sqlite.specs.Files.{over_files}
+use Rattle.keeper_file.specs.Cases.{Tells}
+use Rattle.keeper_file.proofs.closing.close_inner.Goals as goal
+
+pub returns-in-Ok-clause-whole : goal.returns-in-Ok-clause-whole
+returns-in-Ok-clause-whole g c clean t told = c.in-Ok.ensures.whole clean t (subst (λ k. Tells g.O.Opener.image over_files k t) c.in-File.is told)
+
+pub returns-in-File-clause-alone : goal.returns-in-File-clause-alone
+returns-in-File-clause-alone g c clean t told = c.in-Err.ensures.alone clean t (subst (λ k. Tells g.O.Opener.image over_files k t) c.in-File.is told)

@@ -1,0 +1,57 @@
+//! The close of a store.
+
+ghost use Rattle.std.specs.Prelude.{◌≡◌, false, IsTrue, None, Ok, IfOk, IfErr, IfSome};
+ghost use Rattle.sqlite.specs.Closing.{IsCopied};
+ghost use Rattle.sqlite.specs.Files.{file_state, over_files};
+ghost use Rattle.sqlite_store.specs.FileStore.{view};
+ghost use Rattle.sqlite_wal.specs.Reads.{AreClean};
+ghost use Rattle.tap_rows.specs.declared.tables.Tables.{Tables as TableRows};
+ghost use Rattle.keeper_sql.specs.Store.{TellsAs};
+ghost use Rattle.keeper_file.specs.Cases.{Tells, has_files};
+ghost use Rattle.keeper_file.specs.Closing.{AreWhole, LeavesOnly};
+
+use crate::inner::Inner;
+use crate::opener::Opener;
+use keeper_sql::SqlKeeper;
+use sqlite::{FileStore, Files};
+use sqlite_disk::Disk;
+
+/// Closes the files of a keeper: copies the log into the database file, and returns both files, or what is left of the
+/// store if that failed.
+pub fn closed<D: Disk + Drop>(keeper: SqlKeeper<FileStore<D>>) -> Result<Files<D>, FileStore<D>>
+    ensures usable { IfOk result (λ files. IsTrue (D.Disk.is_usable files.log) × IsTrue (D.Disk.is_usable files.db)) }
+    ensures settled { IsTrue (file_state keeper.connection).is_open
+        → (file_state keeper.connection).now ≡ (file_state keeper.connection).committed }
+    ensures copied { IfOk result (λ files. AreClean D.Disk files.log files.db → IsCopied keeper.connection files) }
+    ensures whole { IfOk result (λ files. AreClean D.Disk files.log files.db
+        → (t : TableRows) → TellsAs keeper.attached (file_state keeper.connection) t → AreWhole D.Disk files t) }
+    ensures alone { IfErr result (λ store. IsTrue (view store).is_clean
+        → (t : TableRows) → TellsAs keeper.attached (file_state keeper.connection) t → LeavesOnly D.Disk store t) }
+{
+    let connection = keeper.into_connection();
+    // For its clauses.
+    let _settled = connection.is_autocommit();
+    match connection.close_files() {
+        Ok(files) => Ok(files),
+        Err((_, store)) => Err(store),
+    }
+}
+
+/// Closes what is open.
+pub fn close_inner<D: Disk + Drop, O: Opener<FileStore<D>>>(
+    inner: Inner<FileStore<D>, O>,
+) -> Result<Option<Files<D>>, FileStore<D>>
+    ensures none { result ≡ Ok None → has_files inner ≡ false }
+    ensures whole { IfOk result (λ files. IfSome files (λ both. AreClean D.Disk both.log both.db
+        → (t : TableRows) → Tells O.Opener.image over_files inner t → AreWhole D.Disk both t)) }
+    ensures alone { IfErr result (λ store. IsTrue (view store).is_clean
+        → (t : TableRows) → Tells O.Opener.image over_files inner t → LeavesOnly D.Disk store t) }
+{
+    match inner {
+        Inner::File(keeper) => match closed(keeper) {
+            Ok(files) => Ok(Some(files)),
+            Err(store) => Err(store),
+        },
+        _ => Ok(None),
+    }
+}
