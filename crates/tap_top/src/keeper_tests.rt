@@ -66,7 +66,8 @@ fn over(alloc: Global, tables: Tables, version: i64, script: &[u8]) -> Result<(u
     session(alloc, &mut keeper, script)
 }
 
-const VOTES: &[u8] = b"as ann\nat 1\nmail\n\n.\nnote 1 like 2 x\nas bob\nnote 1 like 5 x\nas ann\nnote 1 like 3 y\n";
+const VOTES: &[u8] =
+    b"as ann\nat 1\nmail\n\n.\nnote 1 like 2 x\nas bob\nnote 1 like 5 x\nas ann\nnote 1 like 3 y\n";
 
 #[test]
 fn votes_are_counted_after_a_restart(rt: HostRuntime) -> Result<(), Fail> {
