@@ -6,3 +6,4 @@ mod Crashes
 mod Samples
 mod SampleCrashes
 mod Ends
+mod OpenLaws

@@ -1,0 +1,25 @@
+-- An engine that was started over the tables that a keeper gave.
+use Rattle.std.proofs.Common.{◌≡◌, ◌∙◌, sym, ap, subst, refl, inl, inr, ℤ, pos, true, Option, Some, None, Result, Ok, Err, if◌then◌else◌}
+use Rattle.std.specs.Prelude.{◌⊎◌, IfOk, OnOk}
+use Rattle.keeper_core.specs.Stored.{is_known}
+use Rattle.tap_rows.specs.declared.tables.Tables.{Tables}
+use Rattle.tap_top.specs.declared.store_fault.StoreFault.{StoreFault}
+use Rattle.tap_top.specs.declared.store_fault.StoreFault.TheVariants.{Version}
+use Rattle.tap_top.specs.Refusals.{row_fault, fault_of}
+
+-- what follows of a result's value
+pub if-ok : {T E : Type 0} (r : Result T E) (P Q : T → Type 0) → ((x : T) → P x → Q x) → IfOk r P → IfOk r Q
+if-ok (Ok x) P Q f h = f x h
+if-ok (Err y) P Q f h = tt
+
+pub on-ok : {T E : Type 0} (r : Result T E) (P Q : Type 0) → (P → Q) → OnOk r P → OnOk r Q
+on-ok (Ok x) P Q f h = f h
+on-ok (Err y) P Q f h = tt
+
+known-is : (v : ℤ) → (v ≡ pos 1) ⊎ (v ≡ pos 2) → is_known v ≡ true
+known-is v (inl e) = subst (λ w. is_known w ≡ true) (sym e) refl
+known-is v (inr e) = subst (λ w. is_known w ≡ true) (sym e) refl
+
+-- tables without a damaged row are refused in no known version
+pub no-fault : (t tables : Tables) (v : ℤ) → t ≡ tables → row_fault tables ≡ None → (v ≡ pos 1) ⊎ (v ≡ pos 2) → fault_of v t ≡ None
+no-fault t tables v same none known = ap (λ b. if b then row_fault t else Some (Version v)) (known-is v known) ∙ ap row_fault same ∙ none
