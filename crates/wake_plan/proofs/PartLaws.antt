@@ -1,4 +1,4 @@
--- One more turn stands for one more part.
+-- One more turn is that of one more part.
 use Rattle.std.proofs.Common.{◌≡◌, ◌∙◌, ℕ, zero, suc, ◌+◌, ◌≤◌, List, [], ◌∷◌, ◌++◌, drop, length, refl, sym, ap, subst, arith}
 use Rattle.std.specs.List.{flat_map}
 use Rattle.tap_rows.specs.Kept.{Each}

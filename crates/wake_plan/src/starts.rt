@@ -31,8 +31,10 @@ fn fixed<'a>(search: Search<'a>, order: &'a [Reach], w: Window) -> Turn<'a>
     requires node { HasBody search }
     requires room { HasSlots search (length order.now) }
     ensures turn { IsTurn w result }
-    ensures hits { hits_left w result ≡ seek_hits search.entry.seen.now search.entry.index.now w (searched search.entry) order.now (seek_of search.entry.probe.now.at) None }
-    ensures cost { (u : Window) → IsUpTo w u → cost_left u result ≤ 1 + seek_cost search.entry.index.now u (searched search.entry) order.now (seek_of search.entry.probe.now.at) None }
+    ensures hits { hits_left w result
+        ≡ seek_hits search.entry.seen.now search.entry.index.now w (searched search.entry) order.now (seek_of search.entry.probe.now.at) None }
+    ensures cost { (u : Window) → IsUpTo w u → cost_left u result
+        ≤ 1 + seek_cost search.entry.index.now u (searched search.entry) order.now (seek_of search.entry.probe.now.at) None }
 {
     let env = Env::new();
     let next = match mark_at(&search, w, &env) {
@@ -67,7 +69,8 @@ fn driven<'a, L: Ledger>(
     requires room { HasSlots search (1 + length order.now) }
     ensures turn { IsTurn w result }
     ensures hits { hits_left w result ≡ seek_hits search.entry.seen.now search.entry.index.now w (searched search.entry) order.now seek (Some var) }
-    ensures cost { (u : Window) → IsUpTo w u → steps.new + cost_left u result ≤ steps.old + (1 + seek_cost search.entry.index.now u (searched search.entry) order.now seek (Some var)) }
+    ensures cost { (u : Window) → IsUpTo w u → steps.new + cost_left u result
+        ≤ steps.old + (1 + seek_cost search.entry.index.now u (searched search.entry) order.now seek (Some var)) }
     ensures more { steps.old ≤ steps.new }
 {
     // Brings into scope that arrivals never fall.
@@ -101,7 +104,8 @@ fn start<'a, L: Ledger>(
     requires room { HasSlots search (length (option_to_list (seek_var seek)) + length order.now) }
     ensures turn { IsTurn w result }
     ensures hits { hits_left w result ≡ seek_hits search.entry.seen.now search.entry.index.now w (searched search.entry) order.now seek (seek_var seek) }
-    ensures cost { (u : Window) → IsUpTo w u → steps.new + cost_left u result ≤ steps.old + (1 + seek_cost search.entry.index.now u (searched search.entry) order.now seek (seek_var seek)) }
+    ensures cost { (u : Window) → IsUpTo w u → steps.new + cost_left u result
+        ≤ steps.old + (1 + seek_cost search.entry.index.now u (searched search.entry) order.now seek (seek_var seek)) }
     ensures more { steps.old ≤ steps.new }
 {
     match seek_var(seek) {
