@@ -1,5 +1,5 @@
 -- The part of a posting list that is within a window of arrivals.
-use Rattle.std.proofs.Common.{◌≡◌, ℕ, ◌-◌, ℤ, Bool, true, List, [], ◌∷◌, Some, length, map, filter, refl, sym, ap, ◌∙◌, subst, inl, inr, suc, ◌&&◌}
+use Rattle.std.proofs.Common.{◌≡◌, ℕ, ◌-◌, ℤ, true, List, [], ◌∷◌, Some, length, map, refl, sym, ap, ◌∙◌, subst, inl, inr, suc, ◌&&◌}
 use Rattle.std.specs.Prelude.{int_le, int_lt, slice_get}
 use Rattle.std.specs.List.{list_all}
 use Rattle.std.specs.Str.{bytes_eq}

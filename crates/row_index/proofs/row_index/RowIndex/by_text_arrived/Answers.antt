@@ -1,7 +1,6 @@
 use Rattle.std.proofs.Common.{rules, ◌≡◌, ap, ◌∙◌}
 use Rattle.tap_rows.specs.declared.tables.Tables.{Tables}
-use Rattle.row_index.specs.Orders.{Rising, in_window, doc_number, doc_arrival, place_arrival}
-use Rattle.row_index.specs.Posts.{places_of}
+use Rattle.row_index.specs.Orders.{Rising, in_window, doc_arrival, place_arrival}
 use Rattle.row_index.specs.Texts.{with_text, texts_of}
 use Rattle.row_index.specs.Walks.{HasRows, at_places}
 use Rattle.row_index.proofs.ListWindows.{listed_rise, window_picked, window_has_rows}
