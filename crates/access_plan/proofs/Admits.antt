@@ -9,8 +9,8 @@ use Rattle.tql_core.specs.declared.term.Var.{Var}
 use Rattle.tql_core.specs.declared.atom.NumField.{NumField}
 use Rattle.tql_core.specs.declared.atom.NumField.TheVariants.{Id, DocOf}
 use Rattle.tql_core.specs.declared.atom.TextField.{TextField}
-use Rattle.tql_core.specs.declared.atom.TextField.TheVariants.{From, MsgId, InReplyTo}
-use Rattle.tql_core.specs.declared.atom.ListField.TheVariants.{Words}
+use Rattle.tql_core.specs.declared.atom.TextField.TheVariants.{From, Subject, MsgId, InReplyTo}
+use Rattle.tql_core.specs.declared.atom.ListField.TheVariants.{References, Words}
 use Rattle.tql_core.specs.declared.atom.NumExpr.{NumExpr}
 use Rattle.tql_core.specs.declared.atom.NumExpr.TheVariants.{Literal, Field}
 use Rattle.tql_core.specs.declared.atom.TextExpr.{TextExpr}
@@ -24,10 +24,10 @@ use Rattle.tql_core.specs.Exact.{var_is}
 use Rattle.tql_core.specs.Row.{Row}
 use Rattle.tql_core.specs.Values.{Env, lookup, on_row, field, number, text_field, text, list_field, both, both_texts, has, true_atom}
 use Rattle.access_plan.specs.declared.access.Access.{Access}
-use Rattle.access_plan.specs.declared.access.Access.TheVariants.{ById, ByMsgId, ByParent, BySender, ByWord, NotesOf}
+use Rattle.access_plan.specs.declared.access.Access.TheVariants.{ById, ByMsgId, ByParent, BySender, BySubject, ByReference, ByWord, NotesOf}
 use Rattle.access_plan.specs.declared.kind.Kind.{Kind}
 use Rattle.access_plan.specs.declared.kind.Kind.TheVariants as K
-use Rattle.access_plan.specs.Accesses.{admits, is_known_number, is_known_text, other_number, other_text, number_side, text_side, word_side, guard_access}
+use Rattle.access_plan.specs.Accesses.{admits, is_known_number, is_known_text, other_number, other_text, number_side, text_side, reference_side, word_side, guard_access}
 use Rattle.access_plan.specs.Laws.{AreSame}
 use Rattle.access_plan.proofs.Fields.{number_is, text_is, both_round, texts_round}
 
@@ -91,11 +91,22 @@ module _ (known : ℕ → Bool) (v : Var) (env final : Env) (row : Row) (same : 
       subst (λ z. has (list_field Words row) z ≡ true) right (subst (λ z. has z (text y final) ≡ true) left t)
   by_word _ e h t = absurd (none-some e h)
 
+  by_reference : (a : Atom) (e : TextExpr) → reference_side known v a ≡ Some e → true_atom a final ≡ true → has (list_field References row) (text e env) ≡ true
+  by_reference (Has w References y) e h t =
+      let c = cond_some (var.ghosts.eq w v && is_known_text known y) y e h in
+      let p = and_parts _ _ c.0 in
+      let left : on_row (lookup w.0 final) (list_field References) ≡ list_field References row = ap (λ (z : Var). on_row (lookup z.0 final) (list_field References)) (var_is w v p.0) ∙ ap (λ o. on_row o (list_field References)) here in
+      let right : text y final ≡ text e env = text_stays y p.1 ∙ ap (λ z. text z env) c.1 in
+      subst (λ z. has (list_field References row) z ≡ true) right (subst (λ z. has z (text y final) ≡ true) left t)
+  by_reference _ e h t = absurd (none-some e h)
+
   -- a guard that gives an access admits by it every row of which it is true
   pub guard_admits : (kind : Kind) (a : Atom) (access : Access) → guard_access known v kind a ≡ Some access → true_atom a final ≡ true → admits access env row ≡ true
   guard_admits K.ById a access h t = let m = made_of ById (number_side known v Id a) access h in subst (λ z. admits z env row ≡ true) m.2 (by_number Id a m.0 m.1 t)
   guard_admits K.ByMsgId a access h t = let m = made_of ByMsgId (text_side known v MsgId a) access h in subst (λ z. admits z env row ≡ true) m.2 (by_text MsgId a m.0 m.1 t)
   guard_admits K.ByParent a access h t = let m = made_of ByParent (text_side known v InReplyTo a) access h in subst (λ z. admits z env row ≡ true) m.2 (by_text InReplyTo a m.0 m.1 t)
   guard_admits K.BySender a access h t = let m = made_of BySender (text_side known v From a) access h in subst (λ z. admits z env row ≡ true) m.2 (by_text From a m.0 m.1 t)
+  guard_admits K.BySubject a access h t = let m = made_of BySubject (text_side known v Subject a) access h in subst (λ z. admits z env row ≡ true) m.2 (by_text Subject a m.0 m.1 t)
+  guard_admits K.ByReference a access h t = let m = made_of ByReference (reference_side known v a) access h in subst (λ z. admits z env row ≡ true) m.2 (by_reference a m.0 m.1 t)
   guard_admits K.ByWord a access h t = let m = made_of ByWord (word_side known v a) access h in subst (λ z. admits z env row ≡ true) m.2 (by_word a m.0 m.1 t)
   guard_admits K.NotesOf a access h t = let m = made_of NotesOf (number_side known v DocOf a) access h in subst (λ z. admits z env row ≡ true) m.2 (by_number DocOf a m.0 m.1 t)

@@ -6,14 +6,16 @@ ghost use Rattle.access_plan.specs.Views.{access_at};
 use crate::AccessRef;
 use tql_core::{NumExpr, TextExpr};
 
-/// The access to the rows of a variable: the document of a number, the documents whose Message-ID, In-Reply-To or sender
-/// (RFC 5322 3.6) is a text, those with a word, the notes on the document of a number, or all rows of the table.
+/// The access to the rows of a variable: the document of a number, the documents whose Message-ID, In-Reply-To, sender or
+/// Subject (RFC 5322 3.6) is a text, those with a text among their References or with a word, the notes on the document of a number, or all rows of the table.
 #[derive(PartialEq, Eq, Drop)]
 pub enum Access {
     ById(NumExpr),
     ByMsgId(TextExpr),
     ByParent(TextExpr),
     BySender(TextExpr),
+    BySubject(TextExpr),
+    ByReference(TextExpr),
     ByWord(TextExpr),
     NotesOf(NumExpr),
     AllDocs,
@@ -30,6 +32,8 @@ impl Access {
             Access::ByMsgId(e) => AccessRef::ByMsgId(e),
             Access::ByParent(e) => AccessRef::ByParent(e),
             Access::BySender(e) => AccessRef::BySender(e),
+            Access::BySubject(e) => AccessRef::BySubject(e),
+            Access::ByReference(e) => AccessRef::ByReference(e),
             Access::ByWord(e) => AccessRef::ByWord(e),
             Access::NotesOf(e) => AccessRef::NotesOf(*e),
             Access::AllDocs => AccessRef::AllDocs,

@@ -3,12 +3,12 @@
 ghost use Rattle.std.specs.Prelude.{◌≡◌, ◌<◌, length, Option};
 ghost use Rattle.tql_core.specs.Trees.{tree_at};
 ghost use Rattle.time_marks.specs.Marks.{guards_of};
-ghost use Rattle.access_plan.specs.Accesses.{first_some, is_other, guard_access, index_access, inner_access};
+ghost use Rattle.access_plan.specs.Accesses.{first_some, is_other, guard_access, near_access, inner_access};
 ghost use Rattle.access_plan.specs.Views.{access_at, option_access};
 
 use crate::access_ref::whole;
 use crate::guards::guard_access;
-use crate::kind::kinds;
+use crate::kind::near_kinds;
 use crate::{AccessRef, Kind, Known};
 use node_pool::{NodeId, Pool};
 use tql_core::{TNode, Var, node_at};
@@ -37,9 +37,9 @@ fn inner_index<'a>(
     table: Table,
 ) -> Option<AccessRef<'a>>
     requires { id.0 < length pool.now }
-    ensures { option_access result ≡ index_access (is_other var) var table (guards_of (tree_at pool.now id.0)) }
+    ensures { option_access result ≡ near_access (is_other var) var table (guards_of (tree_at pool.now id.0)) }
 {
-    for kind in kinds(table) {
+    for kind in near_kinds(table) {
         if let Some(access) = first_inner(pool, id, var, *kind) {
             return Some(access);
         }

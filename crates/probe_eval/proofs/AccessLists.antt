@@ -15,12 +15,12 @@ use Rattle.tap_rows.specs.declared.rows.Note.{Note}
 use Rattle.tap_rows.specs.Kept.{Each}
 use Rattle.tql_core.specs.declared.atom.NumField.TheVariants.{Id, DocOf}
 use Rattle.tql_core.specs.declared.atom.TextField.{TextField}
-use Rattle.tql_core.specs.declared.atom.TextField.TheVariants.{From, MsgId, InReplyTo}
-use Rattle.tql_core.specs.declared.atom.ListField.TheVariants.{Words}
+use Rattle.tql_core.specs.declared.atom.TextField.TheVariants.{From, Subject, MsgId, InReplyTo}
+use Rattle.tql_core.specs.declared.atom.ListField.TheVariants.{References, Words}
 use Rattle.tql_core.specs.Row.{Row, OfDoc, OfNote, arrival, fields}
 use Rattle.tql_core.specs.Values.{field, both, both_texts, text_cmp, text_field, list_field, has}
 use Rattle.row_index.specs.Texts as texts
-use Rattle.row_index.specs.Texts.{with_text, msgids, parents, senders, words_in}
+use Rattle.row_index.specs.Texts.{with_text, msgids, parents, senders, subjects, references_in, words_in}
 use Rattle.row_index.specs.Orders.{Numbered, doc_number, IsMoment}
 use Rattle.row_index.specs.Held.{notes_on}
 
@@ -160,6 +160,14 @@ module _ (docs : List Doc) (text : List ℕ) where
   unfolding fields texts.fields
   sender_picked = picked OfDoc (λ doc. list_any (λ other. bytes_eq text other) (senders doc)) _ docs (λ d. text_asked (fields d).from text)
 
+  pub subject_picked : map OfDoc (with_text subjects text docs) ≡ filter (λ row. both_texts Eq (text_field Subject row) (Some text)) (map OfDoc docs)
+  unfolding fields texts.fields
+  subject_picked = picked OfDoc (λ doc. list_any (λ other. bytes_eq text other) (subjects doc)) _ docs (λ d. text_asked (fields d).subject text)
+
+  pub reference_picked : map OfDoc (with_text references_in text docs) ≡ filter (λ row. has (list_field References row) (Some text)) (map OfDoc docs)
+  unfolding fields texts.fields
+  reference_picked = picked OfDoc (λ doc. list_any (λ other. bytes_eq text other) (references_in doc)) _ docs (λ d. word_asked (fields d).references text)
+
   pub word_picked : map OfDoc (with_text words_in text docs) ≡ filter (λ row. has (list_field Words row) (Some text)) (map OfDoc docs)
   unfolding fields texts.fields
   word_picked = picked OfDoc (λ doc. list_any (λ other. bytes_eq text other) (words_in doc)) _ docs (λ d. word_asked (fields d).words text)
@@ -173,6 +181,9 @@ module _ (docs : List Doc) (o : Option (List ℕ)) where
       neither None = refl
       neither (Some x) = refl
 
+  pub no_reference : o ≡ None → [] ≡ filter (λ row. has (list_field References row) o) (map OfDoc docs)
+  no_reference e = subst (λ z. [] ≡ filter (λ row. has (list_field References row) z) (map OfDoc docs)) (sym e) (none_picked OfDoc _ docs (λ d. refl))
+
   pub no_word : o ≡ None → [] ≡ filter (λ row. has (list_field Words row) o) (map OfDoc docs)
   no_word e = subst (λ z. [] ≡ filter (λ row. has (list_field Words row) z) (map OfDoc docs)) (sym e) (none_picked OfDoc _ docs (λ d. refl))
 
@@ -185,6 +196,12 @@ module _ (docs : List Doc) (o : Option (List ℕ)) where
 
     pub sender_found : map OfDoc (with_text senders text docs) ≡ filter (λ row. both_texts Eq (text_field From row) o) (map OfDoc docs)
     sender_found = sender_picked docs text ∙ ap (λ z. filter (λ row. both_texts Eq (text_field From row) z) (map OfDoc docs)) (sym e)
+
+    pub subject_found : map OfDoc (with_text subjects text docs) ≡ filter (λ row. both_texts Eq (text_field Subject row) o) (map OfDoc docs)
+    subject_found = subject_picked docs text ∙ ap (λ z. filter (λ row. both_texts Eq (text_field Subject row) z) (map OfDoc docs)) (sym e)
+
+    pub reference_found : map OfDoc (with_text references_in text docs) ≡ filter (λ row. has (list_field References row) o) (map OfDoc docs)
+    reference_found = reference_picked docs text ∙ ap (λ z. filter (λ row. has (list_field References row) z) (map OfDoc docs)) (sym e)
 
     pub word_found : map OfDoc (with_text words_in text docs) ≡ filter (λ row. has (list_field Words row) o) (map OfDoc docs)
     word_found = word_picked docs text ∙ ap (λ z. filter (λ row. has (list_field Words row) z) (map OfDoc docs)) (sym e)

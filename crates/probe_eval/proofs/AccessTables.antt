@@ -11,13 +11,12 @@ use Rattle.tql_core.specs.declared.term.Var.{Var}
 use Rattle.tql_core.specs.Condition.{Condition}
 use Rattle.tql_core.specs.Row.{OfDoc, OfNote, rows_of}
 use Rattle.tql_core.specs.Values.{Env}
-use Rattle.time_marks.specs.Marks.{guards_of}
 use Rattle.row_index.specs.Orders.{IsMoment, doc_arrival, note_arrival, up_to}
 use Rattle.access_plan.specs.declared.access.Access.{Access}
-use Rattle.access_plan.specs.declared.access.Access.TheVariants.{ById, ByMsgId, ByParent, BySender, ByWord, NotesOf, AllDocs, AllNotes}
-use Rattle.access_plan.specs.Accesses.{admits, is_other, inner_access}
+use Rattle.access_plan.specs.declared.access.Access.TheVariants.{ById, ByMsgId, ByParent, BySender, BySubject, ByReference, ByWord, NotesOf, AllDocs, AllNotes}
+use Rattle.access_plan.specs.Accesses.{admits, inner_access}
 use Rattle.probe_eval.specs.Work.{admits_by, rows_by, reached}
-use Rattle.access_plan.proofs.Enough.{accesses_keep_tables}
+use Rattle.access_plan.proofs.Enough.{inner_accesses_keep_tables}
 use Rattle.probe_eval.proofs.AccessLists.{picked, all_by}
 
 pub docs_by : (last : ℤ) (a : Access) (env : Env) (T : Tables) → a ≡ AllDocs → map OfDoc (up_to doc_arrival last T.docs) ≡ rows_by last a env T
@@ -39,13 +38,15 @@ module _ (last : ℤ) (T : Tables) (late : pos 250000000000 ≤ℤ last) (docs :
   all_admitted (ByMsgId e) env t = refl
   all_admitted (ByParent e) env t = refl
   all_admitted (BySender e) env t = refl
+  all_admitted (BySubject e) env t = refl
+  all_admitted (ByReference e) env t = refl
   all_admitted (ByWord e) env t = refl
   all_admitted (NotesOf e) env t = refl
 
   pub inner_reached : (v : Var) (t : Table) (x : Condition) (env : Env) (a : Access) → a ≡ inner_access v t x → rows_by last a env T ≡ reached T v t x env
   inner_reached v t x env a e =
       ap (λ z. rows_by last z env T) e
-      ∙ ap (λ z. filter (admits_by last (inner_access v t x) env) (rows_of z T)) (accesses_keep_tables (is_other v) v t (guards_of x))
+      ∙ ap (λ z. filter (admits_by last (inner_access v t x) env) (rows_of z T)) (inner_accesses_keep_tables v t x)
       ∙ all_admitted (inner_access v t x) env t
 
 -- a test that only admitted rows pass says the same of those alone

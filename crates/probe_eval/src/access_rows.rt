@@ -3,8 +3,8 @@
 ghost use Rattle.std.specs.Prelude.{◌≡◌, ◌<◌, ◌≤◌, ℕ, pos, false, length, filter, map, option_copied, Option, Some, None, IfSome};
 ghost use Rattle.tap_base.specs.declared.numbers.Op.TheVariants.{Eq};
 ghost use Rattle.tql_core.specs.declared.atom.NumField.TheVariants.{Id, DocOf};
-ghost use Rattle.tql_core.specs.declared.atom.TextField.TheVariants.{From, MsgId, InReplyTo};
-ghost use Rattle.tql_core.specs.declared.atom.ListField.TheVariants.{Words};
+ghost use Rattle.tql_core.specs.declared.atom.TextField.TheVariants.{From, Subject, MsgId, InReplyTo};
+ghost use Rattle.tql_core.specs.declared.atom.ListField.TheVariants.{References, Words};
 ghost use Rattle.tql_core.specs.Row.{OfDoc, OfNote};
 ghost use Rattle.tql_core.specs.Values.{field, both, text_field, both_texts, list_field, has};
 ghost use Rattle.tql_core.specs.Trees.{tree_at};
@@ -72,6 +72,26 @@ fn with_sender<'a>(text: Option<&[u8]>, index: &'a RowIndex) -> RowWalk<'a>
     }
 }
 
+// Returns the documents of this subject.
+fn with_subject<'a>(text: Option<&[u8]>, index: &'a RowIndex) -> RowWalk<'a>
+    ensures { result ≡ filter (λ row. both_texts Eq (text_field Subject row) (option_copied text.entry)) (map OfDoc index.now.docs) }
+{
+    match text {
+        None => RowWalk::none(),
+        Some(text) => RowWalk::of_docs(index.by_subject(text)),
+    }
+}
+
+// Returns the documents that have this text among their references.
+fn with_reference<'a>(text: Option<&[u8]>, index: &'a RowIndex) -> RowWalk<'a>
+    ensures { result ≡ filter (λ row. has (list_field References row) (option_copied text.entry)) (map OfDoc index.now.docs) }
+{
+    match text {
+        None => RowWalk::none(),
+        Some(text) => RowWalk::of_docs(index.by_reference(text)),
+    }
+}
+
 // Returns the documents that have this word.
 fn with_word<'a>(text: Option<&[u8]>, index: &'a RowIndex) -> RowWalk<'a>
     ensures { result ≡ filter (λ row. has (list_field Words row) (option_copied text.entry)) (map OfDoc index.now.docs) }
@@ -108,6 +128,8 @@ pub fn rows_by<'a>(
         AccessRef::ByMsgId(e) => with_msgid(text(e, env), index),
         AccessRef::ByParent(e) => with_parent(text(e, env), index),
         AccessRef::BySender(e) => with_sender(text(e, env), index),
+        AccessRef::BySubject(e) => with_subject(text(e, env), index),
+        AccessRef::ByReference(e) => with_reference(text(e, env), index),
         AccessRef::ByWord(e) => with_word(text(e, env), index),
         AccessRef::NotesOf(e) => with_doc(number(e, env), index),
         AccessRef::AllDocs => RowWalk::of_docs(index.all_docs_to(last)),
