@@ -1,6 +1,6 @@
 -- Rows in order of arrival, and those of a window.
 use Rattle.std.specs.Prelude.{◌≡◌, ℕ, ◌+◌, ◌<◌, ◌^◌, ℤ, pos, ◌≤ℤ◌}
-use Rattle.std.specs.Prelude.{true, ◌&&◌, List, [], ◌∷◌, length, int_le, int_lt, filter}
+use Rattle.std.specs.Prelude.{true, ◌&&◌, Option, Some, None, List, [], ◌∷◌, length, int_le, int_lt, filter, slice_get}
 use Rattle.std.specs.List.{list_all}
 use Rattle.tap_rows.specs.declared.rows.Doc.{Doc}
 use Rattle.tap_rows.specs.declared.rows.Note.{Note}
@@ -49,3 +49,11 @@ note_number note = note.num.0
 
 abbrev pub note_arrival : Note → ℤ
 note_arrival note = note.arrival
+
+-- the arrival of the document at this place, or the first second if there is none
+abbrev pub arrival_of : Option Doc → ℤ
+arrival_of None = pos 0
+arrival_of (Some doc) = doc.arrival
+
+abbrev pub place_arrival : List Doc → ℕ → ℤ
+place_arrival docs place = arrival_of (slice_get docs place)

@@ -6,6 +6,8 @@ use Rattle.tap_rows.specs.declared.rows.Doc.{Doc}
 use Rattle.tap_rows.specs.declared.fields.Fields.{Fields}
 use Rattle.tap_rows.specs.Fields.{fields_of}
 use Rattle.row_index.specs.declared.doc_texts.DocTexts.{DocTexts}
+use Rattle.row_index.specs.declared.text_kind.TextKind.{TextKind}
+use Rattle.row_index.specs.declared.text_kind.TextKind.TheVariants.{MsgId, Parent, Sender, Subject, Reference, Word}
 use Rattle.row_index.specs.Orders.{Numbered, doc_number}
 use Rattle.row_index.specs.Posts.{Posts, posted_all, unposted_all, IsPartlyPosted, with_key}
 
@@ -25,9 +27,26 @@ parents doc = option_to_list (fields doc).inreplyto
 abbrev pub senders : Doc → List (List ℕ)
 senders doc = option_to_list (fields doc).from
 
+-- its subject, or none
+abbrev pub subjects : Doc → List (List ℕ)
+subjects doc = option_to_list (fields doc).subject
+
+-- the message ids among its references
+abbrev pub references_in : Doc → List (List ℕ)
+references_in doc = (fields doc).references
+
 -- its words
 abbrev pub words_in : Doc → List (List ℕ)
 words_in doc = (fields doc).words
+
+-- its texts of this kind
+abbrev pub texts_of : TextKind → Doc → List (List ℕ)
+texts_of MsgId doc = msgids doc
+texts_of Parent doc = parents doc
+texts_of Sender doc = senders doc
+texts_of Subject doc = subjects doc
+texts_of Reference doc = references_in doc
+texts_of Word doc = words_in doc
 
 -- the documents of which one of these texts is the given one
 abbrev pub with_text : (Doc → List (List ℕ)) → List ℕ → List Doc → List Doc
@@ -38,6 +57,8 @@ pub record TextPosts (docs : List Doc) (texts : DocTexts) : Type 0 where
   pub msgid : Posts bytes_eq msgids doc_number docs texts.msgid
   pub parent : Posts bytes_eq parents doc_number docs texts.parent
   pub sender : Posts bytes_eq senders doc_number docs texts.sender
+  pub subject : Posts bytes_eq subjects doc_number docs texts.subject
+  pub reference : Posts bytes_eq references_in doc_number docs texts.reference
   pub word : Posts bytes_eq words_in doc_number docs texts.word
 
 -- the document comes next after these, at this place
@@ -51,6 +72,8 @@ pub record IsPosted (doc : Doc) (place : ℕ) (old new : DocTexts) : Type 0 wher
   pub msgid : new.msgid ≡ posted_all bytes_eq (msgids doc) place old.msgid
   pub parent : new.parent ≡ posted_all bytes_eq (parents doc) place old.parent
   pub sender : new.sender ≡ posted_all bytes_eq (senders doc) place old.sender
+  pub subject : new.subject ≡ posted_all bytes_eq (subjects doc) place old.subject
+  pub reference : new.reference ≡ posted_all bytes_eq (references_in doc) place old.reference
   pub word : new.word ≡ posted_all bytes_eq (words_in doc) place old.word
 
 -- a document was put under some of its texts
@@ -58,6 +81,8 @@ pub record IsPartly (doc : Doc) (place : ℕ) (old new : DocTexts) : Type 0 wher
   pub msgid : IsPartlyPosted (msgids doc) place old.msgid new.msgid
   pub parent : IsPartlyPosted (parents doc) place old.parent new.parent
   pub sender : IsPartlyPosted (senders doc) place old.sender new.sender
+  pub subject : IsPartlyPosted (subjects doc) place old.subject new.subject
+  pub reference : IsPartlyPosted (references_in doc) place old.reference new.reference
   pub word : IsPartlyPosted (words_in doc) place old.word new.word
 
 -- a document was taken away from all its texts
@@ -65,4 +90,6 @@ pub record IsUnposted (doc : Doc) (place : ℕ) (old new : DocTexts) : Type 0 wh
   pub msgid : new.msgid ≡ unposted_all bytes_eq (msgids doc) place old.msgid
   pub parent : new.parent ≡ unposted_all bytes_eq (parents doc) place old.parent
   pub sender : new.sender ≡ unposted_all bytes_eq (senders doc) place old.sender
+  pub subject : new.subject ≡ unposted_all bytes_eq (subjects doc) place old.subject
+  pub reference : new.reference ≡ unposted_all bytes_eq (references_in doc) place old.reference
   pub word : new.word ≡ unposted_all bytes_eq (words_in doc) place old.word

@@ -1,5 +1,5 @@
 -- The rows that are left of a walk.
-use Rattle.std.specs.Prelude.{ℕ, Option, Some, None, List, [], ◌∷◌, map, slice_get}
+use Rattle.std.specs.Prelude.{◌≡◌, ℕ, Option, Some, None, List, [], ◌∷◌, length, map, slice_get}
 use Rattle.row_index.specs.declared.dates.Dated.{Dated}
 use Rattle.row_index.specs.declared.walk.Places.{Places}
 use Rattle.row_index.specs.declared.walk.Places.TheVariants.{Listed, ByDate}
@@ -15,6 +15,10 @@ put_before (Some x) rest = x ∷ rest
 abbrev pub at_places : {A : Type 0} → List A → List ℕ → List A
 at_places xs [] = []
 at_places xs (k ∷ ks) = put_before (slice_get xs k) (at_places xs ks)
+
+-- there is an element at each of the places
+abbrev pub HasRows : {A : Type 0} → List A → List ℕ → Type 0
+HasRows xs places = length (at_places xs places) ≡ length places
 
 -- the places that are left
 abbrev pub places_in : Places → List ℕ

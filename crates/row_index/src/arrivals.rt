@@ -1,7 +1,7 @@
 //! The rows of some seconds, found by halving: arrivals never fall.
 
 ghost use Rattle.std.specs.Prelude.{◌≡◌, not, int_lt, filter};
-ghost use Rattle.row_index.specs.Orders.{Rising, doc_arrival, note_arrival, in_window, up_to};
+ghost use Rattle.row_index.specs.Orders.{Rising, doc_arrival, note_arrival, place_arrival, in_window, up_to};
 
 use tap_rows::{KeptDoc, Note};
 
@@ -67,4 +67,43 @@ pub(crate) fn notes_up_to(notes: &[Note], last: i64) -> &[Note]
     ensures { result.now ≡ up_to note_arrival last notes.now }
 {
     &notes[..notes.partition_point(|note| note.arrival <= last)]
+}
+
+// Returns the arrival of the document at this place, from 0, or 0 if there is none.
+fn arrival_at(docs: &[KeptDoc], place: u32) -> i64
+    ensures { result ≡ place_arrival docs.now place }
+{
+    match docs.get(place as usize) {
+        Some(doc) => doc.doc().arrival,
+        None => 0,
+    }
+}
+
+// Returns the places of documents that arrived before the moment.
+fn places_before<'a>(docs: &[KeptDoc], places: &'a [u32], moment: i64) -> &'a [u32]
+    requires { Rising (place_arrival docs.now) places.now }
+    ensures { result.now ≡ filter (λ place. int_lt (place_arrival docs.now place) moment) places.now }
+{
+    &places[..places.partition_point(|place| arrival_at(docs, *place) < moment)]
+}
+
+// Returns the places of documents that arrived at the moment or later.
+fn places_from<'a>(docs: &[KeptDoc], places: &'a [u32], moment: i64) -> &'a [u32]
+    requires { Rising (place_arrival docs.now) places.now }
+    ensures { result.now ≡ filter (λ place. not (int_lt (place_arrival docs.now place) moment)) places.now }
+{
+    &places[places.partition_point(|place| arrival_at(docs, *place) < moment)..]
+}
+
+// Returns the places of documents that arrived from `low` up to but not at `high`.
+pub(crate) fn places_within<'a>(
+    docs: &[KeptDoc],
+    places: &'a [u32],
+    low: i64,
+    high: i64,
+) -> &'a [u32]
+    requires { Rising (place_arrival docs.now) places.now }
+    ensures { result.now ≡ in_window (place_arrival docs.now) low high places.now }
+{
+    places_from(docs, places_before(docs, places, high), low)
 }

@@ -2,19 +2,25 @@
 
 ghost use Rattle.std.specs.Prelude.{◌≡◌, ◌+◌, List, [], ◌∷◌, ◌++◌, OnOk, OnErr};
 ghost use Rattle.tap_rows.specs.declared.rows.Doc.{Doc};
-ghost use Rattle.row_index.specs.Texts.{fields, IsNext, TextPosts, IsPosted, IsPartly, IsUnposted};
+ghost use Rattle.row_index.specs.Orders.{doc_number};
+ghost use Rattle.row_index.specs.Posts.{places_of};
+ghost use Rattle.row_index.specs.Texts.{fields, IsNext, TextPosts, IsPosted, IsPartly, IsUnposted, with_text, texts_of};
 
 use crate::postings::Postings;
+use crate::text_kind::TextKind;
 use std::alloc::Global;
 use tap_base::Memory;
 use tap_rows::{Fields, KeptDoc};
 
-/// The places of documents by message id, by the message id that they reply to, by sender and by word.
+/// The places of documents by message id, by the message id that they reply to, by sender, by subject, by each of their
+/// references and by word.
 #[derive(Drop)]
 pub(crate) struct DocTexts {
     pub(crate) msgid: Postings,
     pub(crate) parent: Postings,
     pub(crate) sender: Postings,
+    pub(crate) subject: Postings,
+    pub(crate) reference: Postings,
     pub(crate) word: Postings,
 }
 
@@ -35,7 +41,23 @@ impl DocTexts {
             msgid: Postings::new(alloc),
             parent: Postings::new(alloc),
             sender: Postings::new(alloc),
+            subject: Postings::new(alloc),
+            reference: Postings::new(alloc),
             word: Postings::new(alloc),
+        }
+    }
+
+    /// Returns the places of the documents that have the text, by one look-up.
+    pub(crate) fn under(&self, kind: TextKind, text: &[u8]) -> &[u32]
+        ensures { (docs : List Doc) → TextPosts docs self.now → result.now ≡ places_of doc_number (with_text (texts_of kind) text.now docs) }
+    {
+        match kind {
+            TextKind::MsgId => self.msgid.under(text),
+            TextKind::Parent => self.parent.under(text),
+            TextKind::Sender => self.sender.under(text),
+            TextKind::Subject => self.subject.under(text),
+            TextKind::Reference => self.reference.under(text),
+            TextKind::Word => self.word.under(text),
         }
     }
 
@@ -48,6 +70,8 @@ impl DocTexts {
         self.msgid.add_some(&fields.msgid, place)?;
         self.parent.add_some(&fields.inreplyto, place)?;
         self.sender.add_some(&fields.from, place)?;
+        self.subject.add_some(&fields.subject, place)?;
+        self.reference.add_all(fields.references.as_slice(), place)?;
         self.word.add_all(fields.words.as_slice(), place)
     }
 
@@ -59,6 +83,9 @@ impl DocTexts {
         self.msgid.forget_some(&fields.msgid, place);
         self.parent.forget_some(&fields.inreplyto, place);
         self.sender.forget_some(&fields.from, place);
+        self.subject.forget_some(&fields.subject, place);
+        self.reference
+            .forget_all(fields.references.as_slice(), place);
         self.word.forget_all(fields.words.as_slice(), place);
     }
 

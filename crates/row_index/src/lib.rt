@@ -7,11 +7,15 @@ mod doc_places;
 mod doc_texts;
 mod note_places;
 mod places;
+mod posting_list;
 mod postings;
 mod row_index;
+mod text_kind;
 mod walk;
 
+pub use posting_list::PostingList;
 pub use row_index::RowIndex;
+pub use text_kind::TextKind;
 pub use walk::{DocWalk, NoteWalk, Walk};
 
 #[cfg(test)]

@@ -11,14 +11,16 @@ ghost use Rattle.tap_rows.specs.Arrivals.{Arrived};
 ghost use Rattle.tap_rows.specs.Kept.{Each};
 ghost use Rattle.tap_rows.specs.Tables.{no_rows, after};
 ghost use Rattle.row_index.specs.Orders.{InPlace, IsMoment, doc_number, doc_arrival, note_number, note_arrival, in_window, up_to};
-ghost use Rattle.row_index.specs.Texts.{with_text, msgids, parents, senders, words_in};
+ghost use Rattle.row_index.specs.Texts.{with_text, texts_of, msgids, parents, senders, subjects, references_in, words_in};
 ghost use Rattle.row_index.specs.Dates.{dated_in};
 ghost use Rattle.row_index.specs.Held.{notes_on, AreOnDocs};
 ghost use Rattle.row_index.specs.Rows.{without_last_doc, without_last_note};
 
-use crate::arrivals::{docs_up_to, docs_within, notes_up_to, notes_within};
+use crate::arrivals::{docs_up_to, docs_within, notes_up_to, notes_within, places_within};
 use crate::doc_places::DocPlaces;
 use crate::note_places::NotePlaces;
+use crate::posting_list::PostingList;
+use crate::text_kind::TextKind;
 use crate::walk::{DocWalk, NoteWalk, Walk};
 use std::alloc::Global;
 use std::marker::Model;
@@ -121,11 +123,47 @@ impl RowIndex {
         Walk::placed(&self.docs, self.places.texts.sender.under(text))
     }
 
+    /// Returns the documents whose Subject (RFC 5322 3.6.5) is the text, by one look-up.
+    pub fn by_subject(&self, text: &[u8]) -> DocWalk<'_>
+        ensures { result ≡ with_text subjects text.now self.now.docs }
+    {
+        Walk::placed(&self.docs, self.places.texts.subject.under(text))
+    }
+
+    /// Returns the documents that have the text among their References (RFC 5322 3.6.4), by one look-up.
+    pub fn by_reference(&self, text: &[u8]) -> DocWalk<'_>
+        ensures { result ≡ with_text references_in text.now self.now.docs }
+    {
+        Walk::placed(&self.docs, self.places.texts.reference.under(text))
+    }
+
     /// Returns the documents of which the text is a word, by one look-up.
     pub fn by_word(&self, text: &[u8]) -> DocWalk<'_>
         ensures { result ≡ with_text words_in text.now self.now.docs }
     {
         Walk::placed(&self.docs, self.places.texts.word.under(text))
+    }
+
+    /// Returns the documents that have the text, of this kind, by one look-up.
+    pub fn by_text(&self, kind: TextKind, text: &[u8]) -> DocWalk<'_>
+        ensures { result ≡ with_text (texts_of kind) text.now self.now.docs }
+    {
+        Walk::placed(&self.docs, self.places.texts.under(kind, text))
+    }
+
+    /// Returns the documents that have the text, of this kind, and that arrived from `low` up to but not at `high`: by one
+    /// look-up, and two halvings of its posting list.
+    pub fn by_text_arrived(
+        &self,
+        kind: TextKind,
+        text: &[u8],
+        low: i64,
+        high: i64,
+    ) -> PostingList<'_>
+        ensures { result ≡ in_window doc_arrival low high (with_text (texts_of kind) text.now self.now.docs) }
+    {
+        let places = self.places.texts.under(kind, text);
+        PostingList::at(&self.docs, places_within(&self.docs, places, low, high))
     }
 
     /// Returns the notes on this document, by one look-up.
