@@ -54,8 +54,8 @@ abbrev pub driving : Tables → Window → Probe → Seek → Var → List Row
 driving T w p seek v = stored_rows seek (table_in p.path v.0) (seek_window w seek) T
 
 -- the driving rows that are walked: of documents by their arrival those of the shortest posting list that a guard names
-abbrev pub driven : Tables → Window → Probe → Seek → Var → List Row
-driven T w p seek v = narrowed v (chosen T v p.path seek (table_in p.path v.0)) (driving T w p seek v)
+abbrev pub walked : Tables → Window → Probe → Seek → Var → List Row
+walked T w p seek v = narrowed v (chosen T v p.path seek (table_in p.path v.0)) (driving T w p seek v)
 
 -- the second, if it lies in the window
 abbrev pub mark_in : Window → Option ℤ → Option ℤ
@@ -87,4 +87,4 @@ module _ (T : Tables) (w : Window) (p : Probe) (order : List Reach) where
   -- the steps that this may take: the driving rows that are walked, and the work beside each
   abbrev pub seek_cost : Seek → Option Var → ℕ
   seek_cost seek None = cost_at []
-  seek_cost seek (Some v) = total (λ row. 1 + cost_at (bind v row [])) (driven T w p seek v)
+  seek_cost seek (Some v) = total (λ row. 1 + cost_at (bind v row [])) (walked T w p seek v)

@@ -80,7 +80,7 @@ fn list_length(index: &RowIndex, var: Var, guard: &Atom) -> usize
 {
     match literal_kind(var, guard) {
         None => 0,
-        Some(kind) => index.by_text(kind, literal_of(guard)).len(),
+        Some(kind) => index.count_by_text(kind, literal_of(guard)),
     }
 }
 

@@ -8,7 +8,7 @@ use std::marker::Model;
 use tap_rows::KeptDoc;
 
 /// The documents of a posting list, or of a part of it, in order of number. The index lends them, and no row is copied.
-#[derive(Clone, Copy, Drop)]
+#[derive(Drop)]
 pub struct PostingList<'a> {
     docs: &'a [KeptDoc],
     places: &'a [u32],
