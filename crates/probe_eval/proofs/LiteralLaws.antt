@@ -1,6 +1,6 @@
 -- The documents that a posting list has under a guard's literal are those of which the guard is true.
 use Rattle.std.proofs.Common.{◌≡◌, ◌∙◌, ℕ, ℤ, Bool, true, false, List, [], ◌∷◌, Option, Some, None, refl, sym, ap, subst, inl, inr, map}
-use Rattle.std.specs.Prelude.{◌⊎◌, ◌||◌, filter, fold, is_some, nat_eq, nat_lt, option_to_list}
+use Rattle.std.specs.Prelude.{◌⊎◌, ◌&&◌, ◌||◌, filter, fold, is_some, nat_eq, nat_lt, option_to_list}
 use Rattle.std.specs.List.{list_any}
 use Rattle.std.specs.Str.{bytes_eq}
 use Rattle.std.proofs.lemmas.Bool.{cases_Bool}
@@ -33,6 +33,7 @@ use Rattle.time_marks.specs.declared.window.Window.{Window}
 use Rattle.probe_eval.specs.Drivers.{stored_rows}
 use Rattle.probe_eval.specs.Literals.{field_kind, list_field_kind, kind_if, literal_kind, literal_of, list_length, shorter, rarer, rarest, chosen}
 use Rattle.probe_eval.proofs.AccessLists.{picked, text_asked, word_asked}
+use Rattle.probe_eval.proofs.Costs.{filter_same, filter_both}
 
 some_same : {A : Type 0} {x y : A} → Some x ≡ Some y → x ≡ y
 some_same e = cc
@@ -84,13 +85,15 @@ same_truth v (Texts (Literal t) Eq (Field u f)) kind h d = let k = kind_parts v 
 same_truth v (Has u f (Literal t)) kind h d = let k = kind_parts v u (list_field_kind f) kind h in rw k.0 (entry_same d t f kind k.1)
 same_truth v _ kind h d = absurd (none-some kind h)
 
-filter_swap : {A : Type 0} (p q : A → Bool) (xs : List A) → filter p (filter q xs) ≡ filter q (filter p xs)
-filter_swap p q [] = refl
-filter_swap p q (x ∷ xs) =
-    elim (cases_Bool (p x)) [
-      | inl e ↦ elim (cases_Bool (q x)) [ inl k ↦ rw (e, k, e, k) (ap (λ z. x ∷ z) (filter_swap p q xs)) | inr k ↦ rw (e, k, k) (filter_swap p q xs) ]
-      | inr e ↦ elim (cases_Bool (q x)) [ inl k ↦ rw (e, k, e) (filter_swap p q xs) | inr k ↦ rw (e, k) (filter_swap p q xs) ]
-    ]
+and_turned : (a b : Bool) → (a && b) ≡ (b && a)
+and_turned true true = refl
+and_turned true false = refl
+and_turned false true = refl
+and_turned false false = refl
+
+-- two filters may be exchanged
+pub filter_swap : {A : Type 0} (p q : A → Bool) (xs : List A) → filter p (filter q xs) ≡ filter q (filter p xs)
+filter_swap p q xs = filter_both q p xs ∙ filter_same (λ x. q x && p x) (λ x. p x && q x) xs (λ x. and_turned (q x) (p x)) ∙ sym (filter_both p q xs)
 
 -- the documents under the literal that arrived in a window
 pub under_literal : (v : Var) (a : Atom) (kind : TextKind) (low high : ℤ) (docs : List Doc) → literal_kind v a ≡ Some kind

@@ -4,6 +4,7 @@ ghost use Rattle.std.specs.Prelude.{◌≡◌, [], fold, filter, length, map, So
 ghost use Rattle.tql_core.specs.Row.{OfDoc};
 ghost use Rattle.tql_core.specs.Values.{bind, true_atom};
 ghost use Rattle.row_index.specs.Orders.{in_window, doc_arrival};
+ghost use Rattle.row_index.specs.Texts.{texts_of, with_text};
 ghost use Rattle.probe_eval.specs.Literals.{field_kind, list_field_kind, kind_if, literal_kind, literal_of};
 ghost use Rattle.probe_eval.specs.Literals.{list_length, shorter, rarer, rarest, chosen};
 
@@ -74,13 +75,28 @@ fn literal_of(guard: &Atom) -> &[u8]
     }
 }
 
+// Returns how many documents have the text, of this kind.
+fn count_under(kind: TextKind, text: &[u8], index: &RowIndex) -> usize
+    ensures { result ≡ length (with_text (texts_of kind) text.now index.now.docs) }
+{
+    index.count_by_text(kind, text)
+}
+
+// Returns the documents that have the text, of this kind, and that arrived in a window.
+fn docs_under<'a>(kind: TextKind, text: &[u8], w: Window, index: &'a RowIndex) -> RowWalk<'a>
+    ensures { result ≡ map OfDoc (in_window doc_arrival w.low w.high (with_text (texts_of kind) text.now index.now.docs)) }
+{
+    let list = index.by_text_arrived(kind, text, w.low, w.high);
+    RowWalk::of_docs(list.walk())
+}
+
 // Returns how many documents the posting list has under the guard's literal.
 fn list_length(index: &RowIndex, var: Var, guard: &Atom) -> usize
     ensures { result ≡ list_length index.now var guard.now }
 {
     match literal_kind(var, guard) {
         None => 0,
-        Some(kind) => index.count_by_text(kind, literal_of(guard)),
+        Some(kind) => count_under(kind, literal_of(guard), index),
     }
 }
 
@@ -125,12 +141,12 @@ fn rarer<'a>(
 fn rarest_of<'a>(
     index: &RowIndex,
     var: Var,
-    best: Option<&'a Atom>,
+    before: Option<&'a Atom>,
     guards: &'a [Atom],
 ) -> Option<&'a Atom>
-    ensures { option_copied result ≡ fold (rarer index.now var) (option_copied best.entry) guards.now }
+    ensures { option_copied result ≡ fold (rarer index.now var) (option_copied before.entry) guards.now }
 {
-    let mut best = best;
+    let mut best = before;
     for guard in guards {
         best = rarer(index, var, best, guard);
     }
@@ -177,9 +193,6 @@ pub(crate) fn under_literal<'a>(
 {
     match literal_kind(var, guard) {
         None => RowWalk::none(),
-        Some(kind) => {
-            let list = index.by_text_arrived(kind, literal_of(guard), w.low, w.high);
-            RowWalk::of_docs(list.walk())
-        }
+        Some(kind) => docs_under(kind, literal_of(guard), w, index),
     }
 }
