@@ -5,4 +5,5 @@ pub mod PostLaws
 pub mod TextLaws
 pub mod DateLaws
 pub mod PlaceLists
+pub mod ListWindows
 pub mod HeldLaws

@@ -1,5 +1,5 @@
 -- The part of a posting list that is within a window of arrivals.
-use Rattle.std.proofs.Common.{◌≡◌, ℕ, ◌-◌, ℤ, Bool, true, List, [], ◌∷◌, Some, length, map, filter, refl, sym, ap, ◌∙◌, subst, inl, inr, suc, ◌&&◌}
+use Rattle.std.proofs.Common.{◌≡◌, ℕ, ◌-◌, ℤ, true, List, [], ◌∷◌, Some, length, map, refl, sym, ap, ◌∙◌, subst, inl, inr, suc, ◌&&◌}
 use Rattle.std.specs.Prelude.{int_le, int_lt, slice_get}
 use Rattle.std.specs.List.{list_all}
 use Rattle.std.specs.Str.{bytes_eq}
@@ -61,7 +61,7 @@ module _ (texts : Doc → List (List ℕ)) (text : List ℕ) (docs : List Doc) (
       subst (Rising (place_arrival docs)) (sym e) (rising_mapped doc_arrival (place_arrival docs) (λ doc. doc_number doc - 1) (with_text texts text docs) (own_arrivals docs (with_text texts text docs) own_listed) kept)
 
   module _ (low high : ℤ) (places within : List ℕ) (all : places ≡ places_of doc_number (with_text texts text docs)) (cut : within ≡ in_window (place_arrival docs) low high places) where
-    rows : List Doc
+    abbrev rows : List Doc
     rows = in_window doc_arrival low high (with_text texts text docs)
 
     places_cut : within ≡ places_of doc_number rows

@@ -1,7 +1,7 @@
 -- Rows picked by their places.
 use Rattle.std.proofs.Common.{◌≡◌, ℕ, suc, ◌+◌, ◌-◌, List, [], ◌∷◌, Option, Some, None, IfSome, filter, Bool, refl, sym, ap, ◌∙◌, subst, inl, inr, arith}
 use Rattle.std.proofs.lemmas.Bool.{cases_Bool}
-use Rattle.std.specs.Prelude.{slice_get, option_copied}
+use Rattle.std.specs.Prelude.{slice_get, option_copied, length, map}
 use Rattle.std.specs.Borrow.{Bor}
 use Rattle.tap_rows.specs.Kept.{Each}
 use Rattle.row_index.specs.Walks.{at_places, put_before}
@@ -33,7 +33,7 @@ module _ {A : Type 0} where
       let first : slice_get all (number row - 1) ≡ Some row = subst (λ k. slice_get all k ≡ Some row) p (s 0) in
       (first, own_from number (n + 1) all rows h.1 (λ k. let q : n + suc k ≡ n + 1 + k = omega arith in subst (λ m. slice_get all m ≡ slice_get rows k) q (s (suc k))))
 
-  each_kept : (P : A → Type 0) (t : A → Bool) (rows : List A) → Each P rows → Each P (filter t rows)
+  pub each_kept : (P : A → Type 0) (t : A → Bool) (rows : List A) → Each P rows → Each P (filter t rows)
   each_kept P t [] e = tt
   each_kept P t (row ∷ rows) e =
       elim (cases_Bool (t row)) [
@@ -45,7 +45,20 @@ module _ {A : Type 0} where
   pub all_own : (number : A → ℕ) (rows : List A) → Numbered number 1 rows → Each (λ row. slice_get rows (number row - 1) ≡ Some row) rows
   all_own number rows h = own_from number 0 rows rows (subst (λ n. Numbered number n rows) (omega arith) h) (λ k. let z : k ≡ 0 + k = omega arith in subst (λ m. slice_get rows m ≡ slice_get rows k) z refl)
 
+  -- the rows that stand at the places of those that have the key
+  pub found_listed : {K : Type 0} (eq : K → K → Bool) (keys : A → List K) (number : A → ℕ) (rows : List A) (key : K) (places : List ℕ) (left : List A) → Numbered number 1 rows → left ≡ at_places rows places → places ≡ places_of number (with_key eq keys key rows) → left ≡ with_key eq keys key rows
+  found_listed eq keys number rows key places left h l e =
+      l ∙ ap (λ z. at_places rows z) e ∙ own_picked number rows (with_key eq keys key rows) (each_kept (λ row. slice_get rows (number row - 1) ≡ Some row) (λ row. has eq key (keys row)) rows (all_own number rows h))
+
   -- the rows that are found under a key
   pub found_under : {K : Type 0} (eq : K → K → Bool) (keys : A → List K) (number : A → ℕ) (rows : List A) (es : List (K × List ℕ)) (key : K) (places : List ℕ) (left : List A) → Numbered number 1 rows → Posts eq keys number rows es → left ≡ at_places rows places → places ≡ under eq key es → left ≡ with_key eq keys key rows
   found_under eq keys number rows es key places left h posts l e =
-      l ∙ ap (λ z. at_places rows z) (e ∙ posts key) ∙ own_picked number rows (with_key eq keys key rows) (each_kept (λ row. slice_get rows (number row - 1) ≡ Some row) (λ row. has eq key (keys row)) rows (all_own number rows h))
+      found_listed eq keys number rows key places left h l (e ∙ posts key)
+
+  same_length : {B : Type 0} (f : A → B) (rows : List A) → length (map f rows) ≡ length rows
+  same_length f [] = refl
+  same_length f (row ∷ rows) = ap suc (same_length f rows)
+
+  -- as many places as rows
+  pub count_places : (number : A → ℕ) (places : List ℕ) (rows : List A) → places ≡ places_of number rows → length places ≡ length rows
+  count_places number places rows e = ap length e ∙ same_length (λ row. number row - 1) rows

@@ -44,7 +44,7 @@ impl<'a> PostingList<'a> {
 
     /// Returns a walk over the documents.
     pub fn walk(self) -> DocWalk<'a>
-        ensures { result ≡ self }
+        ensures { result ≡ self.entry }
     {
         Walk::placed(self.docs, self.places)
     }
