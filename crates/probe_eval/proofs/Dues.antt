@@ -143,7 +143,7 @@ module _ (T : Tables) (w : Window) (p : Probe) (order : List Reach) (k : IsProbe
     driven_due v e =
         let a = walked_total T w p (seek_of p.at) v (λ row. 1 + cost_at T w p order (bind v row [])) in
         let b : total (λ row. 1 + cost_at T w p order (bind v row [])) (driving T w p (seek_of p.at) v) ≤ rows_due T w p =
-            subst (λ z. total (λ row. 1 + cost_at T w p order (bind z row [])) (driving T w p (seek_of p.at) z) ≤ rows_due T w p) (sym v_is) by_m in
+        subst (λ z. total (λ row. 1 + cost_at T w p order (bind z row [])) (driving T w p (seek_of p.at) z) ≤ rows_due T w p) (sym v_is) by_m in
         omega (arith, a, b)
       where
         v_in : In v.0 (numbers_of (driven p.at.base))

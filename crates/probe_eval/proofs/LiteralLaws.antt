@@ -1,15 +1,16 @@
 -- The documents that a posting list has under a guard's literal are those of which the guard is true.
-use Rattle.std.proofs.Common.{◌≡◌, ◌∙◌, ℕ, ℤ, Bool, true, false, List, [], ◌∷◌, Option, Some, None, refl, sym, ap, subst, inl, inr, map}
-use Rattle.std.specs.Prelude.{◌⊎◌, ◌&&◌, ◌||◌, filter, fold, is_some, nat_eq, nat_lt, option_to_list}
+use Rattle.std.proofs.Common.{◌≡◌, ◌∙◌, ℕ, ℤ, pos, Bool, true, false, List, [], ◌∷◌, Option, Some, None, refl, sym, ap, subst, inl, inr, arith, map}
+use Rattle.std.specs.Prelude.{◌⊎◌, ◌&&◌, ◌||◌, ◌≤ℤ◌, ◌<ℤ◌, int_le, int_lt, filter, fold, is_some, nat_eq, nat_lt, option_to_list}
 use Rattle.std.specs.List.{list_any}
 use Rattle.std.specs.Str.{bytes_eq}
-use Rattle.std.proofs.lemmas.Bool.{cases_Bool}
+use Rattle.std.proofs.lemmas.Bool.{cases_Bool, and_from}
+use Rattle.std.proofs.lemmas.Int.{ints}
 use Rattle.std.proofs.lemmas.Option.{none-some}
 use Rattle.std.proofs.lemmas.Map.Text.{is_eq-slice_cmp}
 use Rattle.tap_base.specs.declared.numbers.Op.TheVariants.{Eq}
 use Rattle.tap_rows.specs.declared.rows.Doc.{Doc}
 use Rattle.tap_rows.specs.declared.tables.Tables.{Tables}
-use Rattle.tap_rows.specs.Kept.{In}
+use Rattle.tap_rows.specs.Kept.{In, Each}
 use Rattle.tql_tree.specs.declared.table.Table.{Table}
 use Rattle.tql_tree.specs.declared.table.Table.TheVariants.{Docs, Notes}
 use Rattle.tql_core.specs.declared.term.Var.{Var}
@@ -23,7 +24,7 @@ use Rattle.tql_core.specs.declared.atom.Atom.TheVariants.{Texts, Has}
 use Rattle.tql_core.specs.Row.{Row, OfDoc, fields}
 use Rattle.tql_core.specs.Values.{bind, text_field, list_field, both_texts, has, true_atom}
 use Rattle.row_index.specs.declared.text_kind.TextKind.{TextKind}
-use Rattle.row_index.specs.Orders.{in_window, doc_arrival}
+use Rattle.row_index.specs.Orders.{in_window, doc_arrival, IsMoment}
 use Rattle.row_index.specs.Texts as texts
 use Rattle.row_index.specs.Texts.{texts_of, with_text}
 use Rattle.time_marks.specs.declared.mark.Step.{Step}
@@ -102,6 +103,24 @@ pub under_literal : (v : Var) (a : Atom) (kind : TextKind) (low high : ℤ) (doc
 under_literal v a kind low high docs h =
     ap (map OfDoc) (filter_swap _ (λ d. list_any (λ other. bytes_eq (literal_of a) other) (texts_of kind d)) docs)
     ∙ picked OfDoc (λ d. list_any (λ other. bytes_eq (literal_of a) other) (texts_of kind d)) (λ row. true_atom a (bind v row [])) (in_window doc_arrival low high docs) (same_truth v a kind h)
+
+-- all documents arrived at moments of the clock
+module _ (P : Doc → Bool) (high : ℤ) (late : pos 250000000000 <ℤ high) where
+  in_clock : (s : ℤ) → IsMoment s → (int_le (pos 0) s && int_lt s high) ≡ true
+  in_clock s m = and_from (int_le (pos 0) s) (int_lt s high) (early s m.early) (before s m.late)
+    where
+      early : (s : ℤ) → pos 0 ≤ℤ s → int_le (pos 0) s ≡ true
+      early s h = grind (arith, ints)
+
+      before : (s : ℤ) → s ≤ℤ pos 250000000000 → int_lt s high ≡ true
+      before s h = grind (arith, ints)
+
+  pub all_in_clock : (docs : List Doc) → Each (λ doc. IsMoment (doc_arrival doc)) docs → in_window doc_arrival (pos 0) high (filter P docs) ≡ filter P docs
+  all_in_clock [] m = refl
+  all_in_clock (d ∷ ds) m = elim (cases_Bool (P d)) [
+    | inl e ↦ rw (e, in_clock (doc_arrival d) m.0) (ap (λ z. d ∷ z) (all_in_clock ds m.1))
+    | inr e ↦ rw e (all_in_clock ds m.1)
+  ]
 
 -- the guard that is chosen is one of the path, and names a posting list
 module _ (T : Tables) (v : Var) (a : Atom) where

@@ -12,7 +12,7 @@ mod row_walk;
 mod search;
 
 pub use access_rows::rows_by;
-pub use drivers::{walked, mark_in, seek_var};
+pub use drivers::{mark_in, seek_var, walked};
 pub use rests::further;
 pub use row_walk::RowWalk;
 pub use search::{Search, holds_here, new_doc, order_at};

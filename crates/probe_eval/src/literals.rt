@@ -79,7 +79,9 @@ fn literal_of(guard: &Atom) -> &[u8]
 fn count_under(kind: TextKind, text: &[u8], index: &RowIndex) -> usize
     ensures { result ≡ length (with_text (texts_of kind) text.now index.now.docs) }
 {
-    index.count_by_text(kind, text)
+    // Brings into scope that all documents arrived at moments of the clock.
+    let _docs = index.docs();
+    index.by_text_arrived(kind, text, 0, i64::MAX).len()
 }
 
 // Returns the documents that have the text, of this kind, and that arrived in a window.

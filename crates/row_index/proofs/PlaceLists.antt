@@ -1,7 +1,7 @@
 -- Rows picked by their places.
 use Rattle.std.proofs.Common.{◌≡◌, ℕ, suc, ◌+◌, ◌-◌, List, [], ◌∷◌, Option, Some, None, IfSome, filter, Bool, refl, sym, ap, ◌∙◌, subst, inl, inr, arith}
 use Rattle.std.proofs.lemmas.Bool.{cases_Bool}
-use Rattle.std.specs.Prelude.{slice_get, option_copied, length, map}
+use Rattle.std.specs.Prelude.{slice_get, option_copied}
 use Rattle.std.specs.Borrow.{Bor}
 use Rattle.tap_rows.specs.Kept.{Each}
 use Rattle.row_index.specs.Walks.{at_places, put_before}
@@ -54,11 +54,3 @@ module _ {A : Type 0} where
   pub found_under : {K : Type 0} (eq : K → K → Bool) (keys : A → List K) (number : A → ℕ) (rows : List A) (es : List (K × List ℕ)) (key : K) (places : List ℕ) (left : List A) → Numbered number 1 rows → Posts eq keys number rows es → left ≡ at_places rows places → places ≡ under eq key es → left ≡ with_key eq keys key rows
   found_under eq keys number rows es key places left h posts l e =
       found_listed eq keys number rows key places left h l (e ∙ posts key)
-
-  same_length : {B : Type 0} (f : A → B) (rows : List A) → length (map f rows) ≡ length rows
-  same_length f [] = refl
-  same_length f (row ∷ rows) = ap suc (same_length f rows)
-
-  -- as many places as rows
-  pub count_places : (number : A → ℕ) (places : List ℕ) (rows : List A) → places ≡ places_of number rows → length places ≡ length rows
-  count_places number places rows e = ap length e ∙ same_length (λ row. number row - 1) rows

@@ -151,13 +151,6 @@ impl RowIndex {
         Walk::placed(&self.docs, self.places.texts.under(kind, text))
     }
 
-    /// Returns how many documents have the text, of this kind, by one look-up.
-    pub fn count_by_text(&self, kind: TextKind, text: &[u8]) -> usize
-        ensures { result ≡ length (with_text (texts_of kind) text.now self.now.docs) }
-    {
-        self.places.texts.under(kind, text).len()
-    }
-
     /// Returns the documents that have the text, of this kind, and that arrived from `low` up to but not at `high`: by one
     /// look-up, and two halvings of its posting list.
     pub fn by_text_arrived(
