@@ -1,5 +1,6 @@
 pub mod AccessLists
 pub mod AccessTables
+pub mod AlikeRows
 pub mod Costs
 pub mod DriverLaws
 pub mod Dues
@@ -11,6 +12,7 @@ pub mod LeastSeconds
 pub mod Meant
 pub mod Members
 pub mod Nesting
+pub mod NextRows
 pub mod OpenLaws
 pub mod Ordered
 pub mod PairLaws
