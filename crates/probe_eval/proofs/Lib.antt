@@ -1,5 +1,6 @@
 pub mod AccessLists
 pub mod AccessTables
+pub mod AlikeRows
 pub mod Costs
 pub mod DriverLaws
 pub mod Dues
@@ -12,6 +13,7 @@ pub mod LiteralLaws
 pub mod Meant
 pub mod Members
 pub mod Nesting
+pub mod NextRows
 pub mod OpenLaws
 pub mod Ordered
 pub mod PairLaws

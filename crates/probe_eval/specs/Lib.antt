@@ -3,6 +3,8 @@ pub mod Work
 pub mod Open
 pub mod Tables
 pub mod Rests
+pub mod Nexts
+pub mod Apart
 pub mod Nested
 pub mod Searches
 pub mod Literals

@@ -6,6 +6,7 @@ mod bodies;
 mod drivers;
 pub mod laws;
 mod literals;
+mod next;
 mod open;
 mod rests;
 mod row_walk;
@@ -13,6 +14,7 @@ mod search;
 
 pub use access_rows::rows_by;
 pub use drivers::{mark_in, seek_var, walked};
-pub use rests::further;
+pub use next::Next;
+pub use rests::{further, further_once};
 pub use row_walk::RowWalk;
-pub use search::{Search, holds_here, new_doc, order_at};
+pub use search::{Search, holds_here, holds_once, new_doc, order_at};
