@@ -1,5 +1,5 @@
 -- The driving rows that are walked lead to the same hits as all driving rows.
-use Rattle.std.proofs.Common.{◌≡◌, ◌∙◌, ℕ, ◌≤◌, ℤ, Bool, true, false, List, [], ◌∷◌, ◌++◌, Option, Some, None, refl, sym, ap, subst, inl, inr, arith}
+use Rattle.std.proofs.Common.{◌≡◌, ◌∙◌, ℕ, ◌≤◌, ℤ, Bool, true, false, List, [], ◌∷◌, ◌++◌, Option, Some, None, refl, sym, ap, subst, inl, inr, arith, map}
 use Rattle.std.specs.Prelude.{◌&&◌, filter, is_some, option_to_list}
 use Rattle.std.specs.List.{flat_map, list_all}
 use Rattle.std.proofs.lemmas.Bool.{cases_Bool, false≢true}
@@ -17,9 +17,11 @@ use Rattle.tql_core.specs.declared.atom.Atom.TheVariants.{Texts, Has}
 use Rattle.tql_core.specs.Row.{Row, OfDoc, OfNote}
 use Rattle.tql_core.specs.Values.{Env, bind, lookup, value, true_atom}
 use Rattle.row_index.specs.declared.text_kind.TextKind.{TextKind}
+use Rattle.row_index.specs.Orders.{in_window, doc_arrival}
 use Rattle.time_marks.specs.declared.mark.Step.{Step}
 use Rattle.time_marks.specs.declared.seek.Seek.{Seek}
 use Rattle.time_marks.specs.declared.window.Window.{Window}
+use Rattle.time_marks.specs.Seeks.{seek_window}
 use Rattle.time_marks.specs.Probes.{Probe, come_by}
 use Rattle.time_marks.proofs.Lists.{all_in}
 use Rattle.access_plan.specs.declared.reach.Reach.{Reach}
@@ -31,7 +33,7 @@ use Rattle.probe_eval.specs.Rests.{further, rest_of}
 use Rattle.probe_eval.specs.Tables.{table_in}
 use Rattle.probe_eval.specs.Work.{total}
 use Rattle.probe_eval.proofs.Costs.{total_filter}
-use Rattle.probe_eval.proofs.LiteralLaws.{kind_parts, chosen_is}
+use Rattle.probe_eval.proofs.LiteralLaws.{kind_parts, chosen_is, chosen_rows}
 use Rattle.probe_eval.proofs.Members.{in_filter}
 use Rattle.probe_eval.proofs.RestSteps.{stopped}
 
@@ -131,3 +133,10 @@ module _ (T : Tables) (w : Window) (p : Probe) (seek : Seek) (v : Var) where
       go : (o : Option Atom) → total f (narrowed v o (driving T w p seek v)) ≤ total f (driving T w p seek v)
       go None = omega arith
       go (Some a) = total_filter f (λ row. true_atom a (bind v row [])) (driving T w p seek v)
+
+  -- with a chosen guard they are the documents of the window of which it is true
+  pub walked_is : (a : Atom) → chosen T v p.path seek (table_in p.path v.0) ≡ Some a
+      → filter (λ row. true_atom a (bind v row [])) (map OfDoc (in_window doc_arrival (seek_window w seek).low (seek_window w seek).high T.docs)) ≡ walked T w p seek v
+  walked_is a e =
+      ap (filter (λ row. true_atom a (bind v row []))) (sym (chosen_rows T v a p.path seek (table_in p.path v.0) (seek_window w seek) e))
+      ∙ ap (λ o. narrowed v o (driving T w p seek v)) (sym e)
