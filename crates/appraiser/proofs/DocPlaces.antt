@@ -1,6 +1,6 @@
 -- The document of a number is the one at its place.
-use Rattle.std.proofs.Common.{◌≡◌, ℕ, zero, suc, ◌+◌, ◌-◌, ◌<◌, true, false, List, [], ◌∷◌, None, refl, subst, arith, nat_eq}
-use Rattle.std.specs.Prelude.{◌==◌, slice_get}
+use Rattle.std.proofs.Common.{◌≡◌, ℕ, zero, suc, ◌+◌, ◌-◌, ◌<◌, ◌≤◌, true, false, List, [], ◌∷◌, length, Option, Some, None, refl, subst, arith, nat_eq}
+use Rattle.std.specs.Prelude.{◌==◌, slice_get, option_to_list}
 use Rattle.std.specs.List.{find}
 use Rattle.tap_rows.specs.declared.rows.Doc.{Doc}
 use Rattle.tap_rows.specs.WellFormed.{row_at}
@@ -38,3 +38,7 @@ doc-placed (suc k) docs numbered =
 
       one-more : (n : ℕ) → 1 + (suc n - 1) ≡ suc n
       one-more n = omega arith
+
+pub one-at-most : {A : Type 0} (o : Option A) → length (option_to_list o) ≤ 1
+one-at-most None = omega arith
+one-at-most (Some x) = omega arith

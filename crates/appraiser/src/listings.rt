@@ -1,5 +1,5 @@
 //! Lists a box in the order of its ratings.
-ghost use Rattle.std.specs.Prelude.{◌≡◌, ◌++◌, ◌∷◌, [], map, IfOk, OnOk};
+ghost use Rattle.std.specs.Prelude.{◌≡◌, ◌≤◌, ◌+◌, ◌++◌, ◌∷◌, [], map, length, IfOk, OnOk};
 ghost use Rattle.std.specs.Option.{option_copied};
 ghost use Rattle.tap_rows.specs.WellFormed.{row_at};
 ghost use Rattle.appraiser.specs.Rules.{rules_in};
@@ -33,13 +33,14 @@ fn rank_of(row: &Listed) -> Rank
     }
 }
 
-// Returns the document of a number, at the cost of a step.
+// Returns the document of a number, at the cost of a step if there is one.
 fn doc_of<'a, L: Ledger>(
     index: &'a RowIndex,
     num: DocNum,
     steps: &mut Steps<L>,
 ) -> Option<&'a KeptDoc>
-    ensures { option_copied result ≡ row_at num.0 index.now.docs }
+    ensures doc { option_copied result ≡ row_at num.0 index.now.docs }
+    ensures steps { steps.new ≤ steps.old + 1 }
 {
     // The call gives the clause that the index's documents are those of its tables; its value is not needed.
     let _docs = index.docs();
@@ -80,7 +81,8 @@ fn rate_entries<'a, L: Ledger>(
     index: &'a RowIndex,
     steps: &mut Steps<L>,
 ) -> Result<Vec<Listed>, Memory>
-    ensures { IfOk result (λ rows. rows.items ≡ map (rated_entry (rules_in rules.now) index.now.docs) entries.now) }
+    ensures rows { IfOk result (λ rows. rows.items ≡ map (rated_entry (rules_in rules.now) index.now.docs) entries.now) }
+    ensures steps { steps.new ≤ steps.old + length entries.now }
 {
     let mut rows = Vec::new(alloc);
     for entry in entries {
@@ -99,7 +101,7 @@ fn sort_rows(rows: &mut Vec<Listed>) -> Result<(), Memory>
 }
 
 /// Returns the entries of a box, each with the rating of its document, sorted by priority from the greatest, then by first
-/// second, then by document number. Each entry costs one step, for the look-up of its document. An entry without a
+/// second, then by document number. Each entry costs at most one step, for the look-up of its document. An entry without a
 /// document in the index is rated as no rules rate it. `Memory` means out of memory.
 pub fn listing<'a, L: Ledger>(
     alloc: Global,
@@ -108,7 +110,8 @@ pub fn listing<'a, L: Ledger>(
     index: &'a RowIndex,
     steps: &mut Steps<L>,
 ) -> Result<Rows<Listed>, Memory>
-    ensures { IfOk result (λ rows. rows ≡ listing_of (rules_in rules.now) index.now.docs entries.now) }
+    ensures rows { IfOk result (λ rows. rows ≡ listing_of (rules_in rules.now) index.now.docs entries.now) }
+    ensures steps { steps.new ≤ steps.old + length entries.now }
 {
     let mut rows = rate_entries(alloc, rules, entries, index, steps)?;
     sort_rows(&mut rows)?;

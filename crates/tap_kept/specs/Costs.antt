@@ -1,14 +1,21 @@
--- What a run of a query costs. A step is a row that the index hands out.
-use Rattle.std.specs.Prelude.{ℕ, ℤ}
+-- What a run of a query costs, and what looking for its next moment costs. A step is a row that the index hands out.
+use Rattle.std.specs.Prelude.{ℕ, ◌+◌, ℤ, pos, length}
+use Rattle.tap_base.specs.declared.moments.TheConstants.{LAST_MOMENT}
 use Rattle.tap_rows.specs.declared.tables.Tables.{Tables}
 use Rattle.tap_rows.specs.declared.rows.QueryRow.{QueryRow}
 use Rattle.tap_rows.specs.Kept.{In}
 use Rattle.time_marks.specs.declared.window.Window.{Window}
 use Rattle.time_marks.specs.Probes.{Probe}
+use Rattle.time_marks.specs.Seeks.{seek_of}
+use Rattle.access_plan.specs.Orders.{order_of}
+use Rattle.probe_eval.specs.Drivers.{seek_var, seek_cost}
 use Rattle.probe_eval.specs.Runs as runs
 use Rattle.probe_eval.specs.Work.{total}
+use Rattle.wake_plan.specs.Marked.{IsPlain, marked_ahead}
+use Rattle.wake_plan.specs.Wakes.{wake_window}
 use Rattle.tap_model.specs.Queries.{probes_in}
 use Rattle.tap_kept.specs.declared.cached_query.CachedQuery.{CachedQuery}
+use Rattle.tap_kept.specs.Keeping.{hits_since}
 
 -- no probe of the query has a mark in the window
 abbrev pub HasNoMark : Tables → Window → QueryRow → Type 0
@@ -25,3 +32,27 @@ rows_due rows w query = total (runs.rows_due rows w) (probes_in query)
 -- the window of a query's next run, by what is in memory: from the second that it has covered up to a moment
 abbrev pub window_since : CachedQuery → ℤ → Window
 window_since kept moment = record { low = kept.covered; high = moment }
+
+-- the steps that a probe may take in a window: its driving rows there, and what is looked at beside each
+abbrev pub probe_work : Tables → Window → Probe → ℕ
+probe_work rows w p = seek_cost rows w p (order_of p.path p.at.base) (seek_of p.at) (seek_var (seek_of p.at))
+
+-- the steps that the probes of the query may take in a window
+abbrev pub query_work : Tables → Window → QueryRow → ℕ
+query_work rows w query = total (probe_work rows w) (probes_in query)
+
+-- from the second that the query has covered up to and with the least mark at which a run would deliver
+abbrev pub window_ahead : CachedQuery → Tables → Window
+window_ahead kept rows = wake_window kept.covered (hits_since kept rows (pos LAST_MOMENT))
+
+-- the steps up to that mark, and one for each probe
+abbrev pub work_ahead : CachedQuery → Tables → ℕ
+work_ahead kept rows = length (probes_in kept.row) + query_work rows (window_ahead kept rows) kept.row
+
+-- the path of each probe of the query is the document alone, and no EXISTS stands in its body
+abbrev pub ArePlain : QueryRow → Type 0
+ArePlain query = (p : Probe) → In p (probes_in query) → IsPlain p
+
+-- the rows marked up to that mark, and one for each probe
+abbrev pub marks_ahead : CachedQuery → Tables → ℕ
+marks_ahead kept rows = marked_ahead rows (window_ahead kept rows) (probes_in kept.row)

@@ -32,7 +32,7 @@ pub struct CachedQuery {
 impl CachedQuery {
     ghost use Rattle.tap_kept.specs.Keeping.{never_run, after_run, before_run, hits_since, AreNew};
     ghost use Rattle.tap_kept.specs.Starting.{with_entry};
-    ghost use Rattle.tap_kept.specs.Costs.{HasNoMark, AreAlone, rows_due, window_since};
+    ghost use Rattle.tap_kept.specs.Costs.{HasNoMark, AreAlone, ArePlain, rows_due, query_work, work_ahead, marks_ahead, window_since};
 
     /// Makes a query that was never run: it has covered the seconds up to its start.
     pub fn new(alloc: Global, row: PlannedQuery) -> CachedQuery
@@ -62,6 +62,7 @@ impl CachedQuery {
         ensures hits { hits.new.hits ≡ hits_since self.now index.now moment }
         ensures new { AreNew self.now.entries hits.new.hits }
         ensures room { hits.new.room ≡ hits.old.room }
+        ensures steps { steps.new ≤ steps.old + query_work index.now (window_since self.now moment) self.now.row }
         ensures quiet { HasNoMark index.now (window_since self.now moment) self.now.row → steps.new ≡ steps.old }
         ensures due { AreAlone self.now.row → steps.new ≤ steps.old + rows_due index.now (window_since self.now moment) self.now.row }
     {
@@ -76,7 +77,8 @@ impl CachedQuery {
 
     /// Returns the earliest moment from now on at which a run delivers, if no row is added: the second after the first that
     /// the window query finds since the last run, without what was delivered, or now if that is later. `None` comes if and
-    /// only if it finds nothing. A step is a row that it looks at.
+    /// only if it finds nothing. A step is a row that it looks at: they are at most those of a run up to the first second
+    /// that is found, and one for each probe.
     pub fn wake<L: Ledger>(
         &self,
         alloc: Global,
@@ -86,7 +88,9 @@ impl CachedQuery {
     ) -> Result<Option<i64>, Memory>
         requires covered { IsMoment self.now.covered }
         requires now { IsMoment now }
-        ensures { IfOk result (λ moment. moment ≡ next_wake now (hits_since self.now index.now (pos LAST_MOMENT))) }
+        ensures moment { IfOk result (λ moment. moment ≡ next_wake now (hits_since self.now index.now (pos LAST_MOMENT))) }
+        ensures steps { steps.new ≤ steps.old + work_ahead self.now index.now }
+        ensures plain { ArePlain self.now.row → steps.new ≤ steps.old + marks_ahead self.now index.now }
     {
         wake(
             alloc,

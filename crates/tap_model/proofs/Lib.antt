@@ -6,6 +6,9 @@ pub mod FitLaws
 pub mod TextLaws
 pub mod SoundLaws
 pub mod NextLaws
+pub mod FormedRows
+pub mod FaultLaws
+pub mod MemoryLaws
 pub mod StoreLaws
 pub mod ViewLaws
 pub mod CoreLaws

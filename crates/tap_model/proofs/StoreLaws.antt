@@ -1,8 +1,12 @@
 -- What a session may begin with: rows that stand in order, and texts that can be read.
-use Rattle.std.proofs.Common.{◌≡◌, refl, ℕ, List, [], ◌∷◌, Bool, true, false, None, if◌then◌else◌}
-use Rattle.std.specs.Prelude.{Result, Ok, Err, IsOk, nat_le, length}
+use Rattle.std.proofs.Common.{◌≡◌, refl, arith, ℕ, ◌≤◌, pos, List, [], ◌∷◌, Bool, true, false, None, inl, inr, if◌then◌else◌}
+use Rattle.std.specs.Prelude.{Result, Ok, Err, IsOk, nat_le, ◌≤ℤ◌, length}
+use Rattle.std.proofs.lemmas.Bool.{false≢true}
+use Rattle.std.proofs.lemmas.Int.{ints}
 use Rattle.tap_rows.specs.declared.tables.Tables.{Tables}
-use Rattle.tap_rows.specs.Kept.{Each}
+use Rattle.tap_rows.specs.declared.rows.QueryRow.{QueryRow}
+use Rattle.tap_rows.specs.Deliveries.{delivered}
+use Rattle.tap_rows.specs.Kept.{Each, In, IsKeptQuery}
 use Rattle.tap_rows.proofs.LaterLaws.{each-map}
 use Rattle.tql_lex.specs.declared.fault.LexFault.{LexFault}
 use Rattle.tql_lex.specs.declared.token.Token.{Token}
@@ -13,6 +17,7 @@ use Rattle.tql_parse.specs.Reading.{query_at}
 use Rattle.tql_core.specs.Condition.{Condition}
 use Rattle.tql_types.specs.declared.fault.TypeFault.{TypeFault}
 use Rattle.tql_types.specs.Core.{typed}
+use Rattle.tql_text.specs.declared.fault.TextFault.{TextFault}
 use Rattle.tql_text.specs.Texts.{condition_of, of_typing, of_tree, of_tokens}
 use Rattle.appraiser.specs.declared.fault.RuleFault.{RuleFault}
 use Rattle.appraiser.specs.declared.fault.RuleFault.TheVariants.{ManyRules}
@@ -20,10 +25,13 @@ use Rattle.appraiser.specs.Rules.{Rule}
 use Rattle.appraiser.specs.RuleLines.{rule_of}
 use Rattle.appraiser.specs.RuleTexts.{rules_of, rules_at, rule_lines, with_rule}
 use Rattle.script_lang.specs.declared.refusal.Refusal.TheVariants as refusal
-use Rattle.restart_core.specs.Starts.{condition_text}
+use Rattle.restart_core.specs.Starts.{is_from_now, condition_text}
 use Rattle.tap_model.specs.Verdicts.{text_fault, reading_refusal, filter_fault, rules_refusal}
-use Rattle.tap_model.specs.Sound.{IsStore}
+use Rattle.tap_model.specs.Queries.{truth_of, start_of, box_in}
+use Rattle.tap_model.specs.Sound.{IsMoment, IsStore}
+use Rattle.tap_model.specs.Laws.{AreBoxed}
 use Rattle.tap_model.proofs.AnswerLaws.{some-none}
+use Rattle.tap_model.proofs.FormedRows.{Placed, placed}
 
 typing-read : (r : Result Condition TypeFault) → reading_refusal (of_typing r) ≡ None → IsOk (of_typing r)
 typing-read (Ok condition) none = refl
@@ -63,3 +71,59 @@ sources-read tables store = each-map (λ query. text_fault (condition_text query
 
 pub filters-read : (tables : Tables) → IsStore tables → Each (λ filter. IsOk (rules_of filter.source)) tables.filters
 filters-read tables store = each-map (λ filter. filter_fault filter.source ≡ None) (λ filter. IsOk (rules_of filter.source)) tables.filters (λ filter none. rules-read filter.source none) store.rules
+
+-- a text that has a condition has no fault
+text-none : (text : List ℕ) → IsOk (condition_of text) → text_fault text ≡ None
+unfolding text_fault
+text-none text ok = go (condition_of text) ok where
+  go : (r : Result Condition TextFault) → IsOk r → reading_refusal r ≡ None
+  go (Ok condition) ok = refl
+  go (Err fault) ok = absurd (false≢true ok)
+
+rules-none : (source : List ℕ) → IsOk (rules_of source) → filter_fault source ≡ None
+unfolding filter_fault
+rules-none source ok = go (rules_of source) ok where
+  go : (r : Result (List Rule) RuleFault) → IsOk r → rules_refusal r ≡ None
+  go (Ok rules) ok = refl
+  go (Err fault) ok = absurd (false≢true ok)
+
+pub store-boxed : (tables : Tables) → IsStore tables → AreBoxed tables
+store-boxed tables store = record {
+  rows = store.formed;
+  queries = sources-read tables store;
+  filters = filters-read tables store;
+  boxes = each-map (IsKeptQuery truth_of start_of tables) (λ query. delivered query.num.0 tables ≡ box_in query tables) tables.queries (λ query kept. kept.box) store.kept.each;
+}
+
+-- a query's start isn't after its arrival
+start-by : (query : QueryRow) → pos 0 ≤ℤ query.arrival → start_of query ≤ℤ query.arrival
+unfolding start_of
+start-by query from = elim (is_from_now query.source) as (λ b. (if b then query.arrival else pos 0) ≤ℤ query.arrival) [ true ↦ omega (arith, ints) | false ↦ from ]
+
+module _ (tables : Tables) (rows : Placed tables) where
+  kept-each : (queries : List QueryRow) → ((query : QueryRow) → In query queries → In query tables.queries) → Each (λ query. IsMoment query.arrival) queries
+      → Each (λ query. delivered query.num.0 tables ≡ box_in query tables) queries → Each (IsKeptQuery truth_of start_of tables) queries
+  kept-each [] has moments boxes = tt
+  kept-each (query ∷ queries) has moments boxes = (
+    record { rising = rows.rising query (start_of query) (has query (inl refl)) (start-by query moments.0.0); box = boxes.0 },
+    kept-each queries (λ other there. has other (inr there)) moments.1 boxes.1,
+  )
+
+pub boxed-store : (tables : Tables) → AreBoxed tables → IsStore tables
+boxed-store tables are =
+    let rows = placed tables are.rows in
+    record {
+      kept = record {
+        docs = rows.docs;
+        queries = rows.queries;
+        runs = rows.runs;
+        owned = each-map (λ run. (1 ≤ run.query.0) × (run.query.0 ≤ length tables.queries)) (λ run. run.query.0 ≤ length tables.queries) tables.runs (λ run owned. owned.1) rows.owned;
+        picks = rows.picks;
+        each = kept-each tables rows tables.queries (λ query has. has) rows.arrivals are.boxes;
+      };
+      now = tt;
+      formed = are.rows;
+      sources = each-map (λ query. IsOk (condition_of (condition_text query.source))) (λ query. text_fault (condition_text query.source) ≡ None) tables.queries (λ query ok. text-none (condition_text query.source) ok) are.queries;
+      rules = each-map (λ filter. IsOk (rules_of filter.source)) (λ filter. filter_fault filter.source ≡ None) tables.filters (λ filter ok. rules-none filter.source ok) are.filters;
+      user = tt;
+    }

@@ -1,8 +1,9 @@
 -- Laws of stories.
-use Rattle.std.specs.Prelude.{◌≡◌, true, Some, IsOk}
+use Rattle.std.specs.Prelude.{◌≡◌, ◌↔◌, true, codes, Some, IsOk}
 use Rattle.tap_rows.specs.declared.tables.Tables.{Tables}
 use Rattle.tap_rows.specs.declared.change.Change.{Change}
 use Rattle.tap_rows.specs.Tables.{no_rows}
+use Rattle.tap_rows.specs.Deliveries.{delivered}
 use Rattle.tap_rows.specs.Fits.{fits}
 use Rattle.tap_rows.specs.Kept.{Each}
 use Rattle.tap_rows.specs.WellFormed.{is_well_formed}
@@ -11,8 +12,11 @@ use Rattle.appraiser.specs.RuleTexts.{rules_of}
 use Rattle.restart_core.specs.Starts.{condition_text}
 use Rattle.script_lang.specs.declared.command.Command.{Command}
 use Rattle.script_lang.specs.declared.reply.Reply.{Reply}
+use Rattle.script_lang.specs.Proper.{is_proper}
+use Rattle.script_lang.specs.Replies.{first_text}
 use Rattle.tap_model.specs.declared.session.Session.{Session}
 use Rattle.tap_model.specs.Sessions.{no_session}
+use Rattle.tap_model.specs.Queries.{box_in}
 use Rattle.tap_model.specs.Replies.{answer_of}
 use Rattle.tap_model.specs.Stories.{Step, next_tables}
 use Rattle.tap_model.specs.Sound.{IsSound, IsStore}
@@ -40,8 +44,19 @@ StepsLeadToNextTables =
     (tables : Tables) (session : Session) (command : Command) (reply : Reply) (tables' : Tables) (session' : Session)
     → Step tables session command reply tables' session' → tables' ≡ next_tables command reply session tables
 
--- the tables that a session may begin with stand in order, and the texts of their queries and filters can be read
-pub record StoresCanBeRead : Type 0 where
-  pub rows : (tables : Tables) → IsStore tables → is_well_formed tables ≡ true
-  pub queries : (tables : Tables) → IsStore tables → Each (λ query. IsOk (condition_of (condition_text query.source))) tables.queries
-  pub filters : (tables : Tables) → IsStore tables → Each (λ filter. IsOk (rules_of filter.source)) tables.filters
+-- rows that stand in order, texts of queries and filters that can be read, and what each query has delivered is its box
+pub record AreBoxed (tables : Tables) : Type 0 where
+  pub rows : is_well_formed tables ≡ true
+  pub queries : Each (λ query. IsOk (condition_of (condition_text query.source))) tables.queries
+  pub filters : Each (λ filter. IsOk (rules_of filter.source)) tables.filters
+  pub boxes : Each (λ query. delivered query.num.0 tables ≡ box_in query tables) tables.queries
+
+-- a session may begin with tables if and only if they are so
+abbrev pub StoresAreBoxed : Type 0
+StoresAreBoxed = (tables : Tables) → IsStore tables ↔ AreBoxed tables
+
+-- no command of a script has the answer `no 18`: this reply comes only out of memory, in place of the answer
+abbrev pub AnswersAreNotMemory : Type 0
+AnswersAreNotMemory =
+    (tables : Tables) (session : Session) (command : Command) → is_proper command ≡ true
+    → first_text (answer_of command session tables).reply ≡ codes "no 18" → ⊥

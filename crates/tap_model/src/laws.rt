@@ -1,5 +1,5 @@
 //! Laws of stories.
-ghost use Rattle.tap_model.specs.Laws.{StepsAreSound, AcceptedChangesFit, SessionsLeaveStores, StepsLeadToNextTables, StoresCanBeRead};
+ghost use Rattle.tap_model.specs.Laws.{StepsAreSound, AcceptedChangesFit, SessionsLeaveStores, StepsLeadToNextTables, StoresAreBoxed, AnswersAreNotMemory};
 ghost use Rattle.tap_model.specs.WindowRuns.{RunsAreWindows, WakesAreWindows};
 ghost use Rattle.tap_model.specs.PrivacyLaws.{SameDeedSameReply, OthersLeaveTheView, SameDeedsSameReplies};
 
@@ -27,10 +27,16 @@ pub fn steps_lead_to_next_tables()
     ensures { StepsLeadToNextTables }
 {}
 
-/// Shows that in tables that a session may begin with the rows stand in order, each query's text can be read as a condition,
-/// and each filter's text as rules.
-pub fn stores_can_be_read()
-    ensures { StoresCanBeRead }
+/// Shows that a session may begin with tables if and only if their rows stand in order, each query's text can be read as a
+/// condition and each filter's text as rules, and what each query has delivered is its box.
+pub fn stores_are_boxed()
+    ensures { StoresAreBoxed }
+{}
+
+/// Shows that no command of a script has the answer `no 18`. So this reply always says that the program was out of memory, and
+/// the replies of a story are read from their bytes in one way.
+pub fn answers_are_not_memory()
+    ensures { AnswersAreNotMemory }
 {}
 
 /// Shows that a user's replies depend on what the user sees alone. At two sound points that look alike to the user and have

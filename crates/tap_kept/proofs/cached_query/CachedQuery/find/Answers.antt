@@ -6,7 +6,7 @@ use Rattle.probe_eval.specs.Nested.{was_seen}
 use Rattle.tap_model.specs.Queries.{probes_in}
 use Rattle.tap_kept.specs.Keeping.{AreNew}
 use Rattle.tap_kept.proofs.NewLaws.{found-new}
-use Rattle.tap_kept.proofs.FindLaws.{quiet-since, due-since}
+use Rattle.tap_kept.proofs.FindLaws.{quiet-since, due-since, work-since}
 use Rattle.tap_kept.proofs.cached_query.CachedQuery.find.Goals as goal
 
 pub returns-clause-hits : goal.returns-clause-hits
@@ -23,6 +23,13 @@ pub returns-clause-new : goal.returns-clause-new
 returns-clause-new g c =
     let w : Window = record { low = to_z w64 (of_z w64 c.args.self.now.covered); high = to_z w64 (of_z w64 c.args.moment) } in
     subst (AreNew c.args.self.now.entries) (sym c.run_into.ensures.hits) (found-new c.args.self.now.entries (λ d. least (ranged_probes c.plan.result.now.query) c.args.index.now d w) c.args.index.now.docs c.docs-docs.ensures.arrived)
+
+pub returns-clause-steps : goal.returns-clause-steps
+returns-clause-steps g c =
+    let kept = c.args.self.now in
+    let low : to_z w64 (of_z w64 kept.covered) ≡ kept.covered = search rules in
+    let high : to_z w64 (of_z w64 c.args.moment) ≡ c.args.moment = search rules in
+    work-since c.plan.result.now.query c.args.index.now kept (to_z w64 (of_z w64 kept.covered)) (to_z w64 (of_z w64 c.args.moment)) c.args.moment _ _ c.plan.ensures.query low high c.run_into.ensures.steps
 
 pub returns-clause-quiet : goal.returns-clause-quiet
 returns-clause-quiet g c =
