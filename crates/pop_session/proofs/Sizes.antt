@@ -98,3 +98,7 @@ total-next letters i letter lt is =
     ap total_size (drop-cons letters i letter lt)
     ∙ ap (λ l. size_of l.text + total_size (drop (suc i) letters)) (sym is)
     ∙ ap (λ k. size_of letter.text + total_size (drop k letters)) one
+
+-- nothing so far
+pub from-zero : (n : ℕ) → n ≡ 0 + n
+from-zero n = omega arith

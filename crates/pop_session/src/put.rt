@@ -1,5 +1,5 @@
 //! Puts replies into a sink.
-ghost use Rattle.std.specs.Prelude.{◌≡◌, ◌≤◌, ◌+◌, ◌++◌, List, [], ◌∷◌, ℕ, Option, None, Some, length, codes, OnOk, IfOk, IfErr, option_copied};
+ghost use Rattle.std.specs.Prelude.{◌≡◌, ◌≤◌, ◌+◌, ◌++◌, List, [], ◌∷◌, ℕ, Option, None, Some, ◌==◌, slice_index, length, codes, OnOk, IfOk, IfErr, option_copied};
 ghost use Rattle.std.specs.Io.KnownBytes.{Appends};
 ghost use Rattle.tap_edges.specs.Edges.{HasCause};
 ghost use Rattle.pop_session.specs.Letters.{line, stuffed, sent_lines, letter_at, row_text, rows_from};
@@ -48,6 +48,13 @@ fn put_line<K: Sink>(sink: &mut K, start: usize, text: &[u8]) -> Result<usize, P
     }
 }
 
+// Returns whether a line begins with a dot.
+fn has_dot(text: &[u8]) -> bool
+    ensures { result ≡ (slice_index text.now 0 == 46) }
+{
+    text.first() == Some(&b'.')
+}
+
 // Puts a line of a letter, with one more dot before one that begins with a dot (RFC 1939 3).
 fn put_stuffed<K: Sink>(sink: &mut K, start: usize, text: &[u8]) -> Result<usize, PutFailed>
     ensures count { IfOk result (λ done. done ≡ counted (start + length (line (stuffed text.now)))) }
@@ -55,7 +62,7 @@ fn put_stuffed<K: Sink>(sink: &mut K, start: usize, text: &[u8]) -> Result<usize
     ensures err { IfErr result (λ failed. TookSome start (K.out sink.old) (K.out sink.new) (line (stuffed text.now)) failed) }
     ensures cause { HasCause (K.faults sink.old) (K.faults sink.new) result }
 {
-    if text.first() != Some(&b'.') {
+    if !has_dot(text) {
         return put_line(sink, start, text);
     }
     match put_next(sink, start, b".") {

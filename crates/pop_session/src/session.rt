@@ -7,6 +7,7 @@ ghost use Rattle.tap_edges.specs.Edges.{HasCause};
 ghost use Rattle.pop_session.specs.Puts.{counted, TookSome};
 ghost use Rattle.pop_session.specs.Replies.{greeting, reply_bytes};
 ghost use Rattle.pop_session.specs.Sessions.{Session, new_session, greeted, replies_from, quits_from, IsReady, is_ended, grown, AreBounded};
+ghost use Rattle.pop_session.specs.Sessions.{held, open_reply, answered};
 
 use crate::buffer::greeting_line;
 use crate::letter::Letter;
@@ -133,6 +134,35 @@ impl<'a> PopSession<'a> {
         }
     }
 
+    // Holds more bytes of the open request.
+    fn hold(&mut self, bytes: &[u8])
+        requires { NoEnd bytes.now }
+        ensures { self.new ≡ held self.old bytes.now }
+    {
+        grow(&mut self.front, bytes);
+    }
+
+    // Puts the reply to the open request, and begins a new one. `start` bytes are put before.
+    fn answer<K: Sink>(&mut self, start: usize, sink: &mut K) -> Result<usize, PutFailed>
+        ensures count { IfOk result (λ done. done ≡ counted (start + length (open_reply self.old))) }
+        ensures ok { OnOk result (Appends (K.out sink.old) (K.out sink.new) (open_reply self.old)) }
+        ensures next { OnOk result (self.new ≡ answered self.old) }
+        ensures err { IfErr result (λ failed. TookSome start (K.out sink.old) (K.out sink.new) (open_reply self.old) failed) }
+        ensures cause { HasCause (K.faults sink.old) (K.faults sink.new) result }
+        ensures failed { OnErr result (self.new.failed ≡ true) }
+    {
+        let outcome = outcome_of(self.user, self.secret, self.phase, self.front.as_slice());
+        self.front.clear();
+        self.phase = outcome.phase;
+        match put_reply(sink, start, self.letters, outcome.reply) {
+            Ok(done) => Ok(done),
+            Err(failed) => {
+                self.failed = true;
+                Err(failed)
+            }
+        }
+    }
+
     // Takes the bytes of a piece up to the end of the next request, and puts the reply to it. `start` bytes are put before.
     fn take_one<K: Sink>(
         &mut self,
@@ -156,25 +186,19 @@ impl<'a> PopSession<'a> {
         ensures failed { OnErr result (self.new.failed ≡ true) }
     {
         let len = end_of_request(piece);
-        grow(&mut self.front, &piece[..len]);
+        self.hold(&piece[..len]);
         if len == piece.len() {
             return Ok(Step {
                 used: len,
                 done: start,
             });
         }
-        let outcome = outcome_of(self.user, self.secret, self.phase, self.front.as_slice());
-        self.front.clear();
-        self.phase = outcome.phase;
-        match put_reply(sink, start, self.letters, outcome.reply) {
+        match self.answer(start, sink) {
             Ok(done) => Ok(Step {
                 used: len + 1,
                 done,
             }),
-            Err(failed) => {
-                self.failed = true;
-                Err(failed)
-            }
+            Err(failed) => Err(failed),
         }
     }
 
