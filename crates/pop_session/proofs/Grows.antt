@@ -21,9 +21,10 @@ without_end-append (x ∷ x2 ∷ xs) y ys = ap (λ zs. x ∷ zs) (without_end-ap
 requests-more : (a b : List ℕ) → (more : List (List ℕ)) × (requests (a ++ b) ≡ requests a ++ more)
 unfolding glue
 requests-more a b =
-    let h = has_first b in
-    (without_end ((last_part (parts a) ++ h.part) ∷ h.more),
-     ap without_end (parts-more a b) ∙ rw h.is (without_end-append (without_end (parts a)) (last_part (parts a) ++ h.part) h.more))
+    let h = has_first b in (
+      without_end ((last_part (parts a) ++ h.part) ∷ h.more),
+      ap without_end (parts-more a b) ∙ rw h.is (without_end-append (without_end (parts a)) (last_part (parts a) ++ h.part) h.more),
+    )
 
 -- the replies to some requests stay
 replies-more : (user secret : List ℕ) (letters : List Letter) (phase : Phase) (rs ss : List (List ℕ)) → (more : List ℕ) × (replies_to user secret letters phase (rs ++ ss) ≡ replies_to user secret letters phase rs ++ more)

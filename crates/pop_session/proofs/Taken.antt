@@ -1,5 +1,5 @@
 -- What a session has taken of a piece.
-use Rattle.std.proofs.Common.{◌≡◌, ◌∙◌, sym, ap, subst, refl, ℕ, List, [], ◌∷◌, ◌++◌, ◌+◌, take, drop, length, Option, Bool, true, false, ◌<◌, inl, inr}
+use Rattle.std.proofs.Common.{◌≡◌, ◌∙◌, sym, ap, subst, refl, arith, ℕ, List, [], ◌∷◌, ◌++◌, ◌+◌, ◌^◌, take, drop, length, Option, Bool, true, false, ◌<◌, inl, inr}
 use Rattle.std.specs.Prelude.{◌⊎◌}
 use Rattle.std.specs.Io.KnownBytes.{Appends}
 use Rattle.std.proofs.lemmas.List.{append_assoc, append-nil, take-append-drop}
@@ -9,7 +9,7 @@ use Rattle.mail_lines.specs.Lines.{NoEnd, is_end}
 use Rattle.mail_lines.proofs.Ends.{NoEnd-append}
 use Rattle.pop_session.specs.Requests.{requests}
 use Rattle.pop_session.specs.Puts.{counted, TookSome}
-use Rattle.pop_session.specs.Sessions.{Session, replies_from, quits_from, replies_to, phase_after, is_ended, held, open_reply, answered}
+use Rattle.pop_session.specs.Sessions.{Session, replies_from, quits_from, replies_to, phase_after, is_ended, held, open_reply, answered, IsOver}
 use Rattle.pop_session.proofs.Puts.{Puts, Puts-cut, Puts-more, Appends-none, first-cut-of}
 use Rattle.pop_session.proofs.Pieces.{requests-none, ended-replies, ended-phases, grown-replies, grown-phases, cut-replies, cut-phases, cut-reply}
 
@@ -22,6 +22,15 @@ held-quits s bytes rest nf nb = ap is_ended (grown-phases s.user s.secret s.phas
 
 pub held-none : (s : Session) (bytes : List ℕ) → NoEnd s.front → NoEnd bytes → replies_from s bytes ≡ []
 held-none s bytes nf nb = ap (replies_to s.user s.secret s.letters s.phase) (requests-none (s.front ++ bytes) (NoEnd-append s.front bytes nf nb))
+
+-- no reply is put
+pub open-count : (start : ℕ) (bytes : List ℕ) → start < 2 ^ 64 → bytes ≡ [] → start ≡ counted (start + length bytes)
+open-count start bytes small none = at start small ∙ ap (λ xs. counted (start + length xs)) (sym none) where
+  at : (start : ℕ) → start < 2 ^ 64 → start ≡ counted (start + 0)
+  at start small = grind arith
+
+pub open-put : (out : Option (List ℕ)) (bytes : List ℕ) → bytes ≡ [] → Appends out out bytes
+open-put out bytes none = subst (λ xs. Appends out out xs) (sym none) (Appends-none out)
 
 -- a piece up to its first LF
 pub cut-next : (s : Session) (piece rest : List ℕ) (n : ℕ) → NoEnd s.front → n ≡ position_or_len is_end piece → n < length piece → is_ended s.phase ≡ false → replies_from s (take (n + 1) piece ++ rest) ≡ open_reply (held s (take n piece)) ++ replies_from (answered (held s (take n piece))) rest
@@ -80,18 +89,17 @@ Taken-more old now new piece rest left used done done' before mid after taken is
       (record { front = puts.front; split = ap (λ xs. xs ++ replies_from now (take used rest)) (puts.split ∙ append-nil puts.front); count = puts.count; written = puts.written })
       (sym (append-nil (replies_from now (take used rest)))) count one
 
--- nothing more is looked at: the piece is at its end, or the session is
-abbrev pub IsOver : Session → List ℕ → Type 0
-IsOver now rest = (rest ≡ []) ⊎ (is_ended now.phase ≡ true)
-
+-- nothing more is looked at
 over-replies : (now : Session) (rest more : List ℕ) → IsOver now rest → replies_from now (rest ++ more) ≡ replies_from now more
-over-replies now rest more (inl e) = ap (λ xs. replies_from now (xs ++ more)) e
+over-replies now [] more (inl e) = refl
+over-replies now (x ∷ xs) more (inl e) = absurd (omega arith)
 over-replies now rest more (inr e) =
     ended-replies now.user now.secret now.letters now.phase (requests (now.front ++ (rest ++ more))) e
     ∙ sym (ended-replies now.user now.secret now.letters now.phase (requests (now.front ++ more)) e)
 
 over-quits : (now : Session) (rest more : List ℕ) → IsOver now rest → quits_from now (rest ++ more) ≡ quits_from now more
-over-quits now rest more (inl e) = ap (λ xs. quits_from now (xs ++ more)) e
+over-quits now [] more (inl e) = refl
+over-quits now (x ∷ xs) more (inl e) = absurd (omega arith)
 over-quits now rest more (inr e) =
     ap is_ended (ended-phases now.user now.secret now.phase (requests (now.front ++ (rest ++ more))) e)
     ∙ sym (ap is_ended (ended-phases now.user now.secret now.phase (requests (now.front ++ more)) e))

@@ -1,5 +1,5 @@
 -- What a session replies to all of its bytes.
-use Rattle.std.specs.Prelude.{ℕ, ◌≡◌, ◌≤◌, ◌<◌, ◌-◌, List, [], ◌∷◌, ◌++◌, length, take, Bool, true, false, if◌then◌else◌}
+use Rattle.std.specs.Prelude.{ℕ, ◌≡◌, ◌≤◌, ◌<◌, ◌-◌, ◌⊎◌, List, [], ◌∷◌, ◌++◌, length, take, Bool, true, false, if◌then◌else◌}
 use Rattle.std.specs.List.{All}
 use Rattle.pop_session.specs.declared.letter.Letter.{Letter}
 use Rattle.pop_session.specs.declared.outcome.Phase.{Phase}
@@ -69,6 +69,10 @@ pub record IsReady (s : Session) : Type 0 where
   pub greeted : s.greeted ≡ true
   pub not_ended : is_ended s.phase ≡ false
   pub not_failed : s.failed ≡ false
+
+-- is nothing more looked at? The piece is at its end, or the session is
+abbrev pub IsOver : Session → List ℕ → Type 0
+IsOver s rest = (length rest ≡ 0) ⊎ (is_ended s.phase ≡ true)
 
 -- the open request with some more bytes; of one that is too long a front is enough
 abbrev pub grown : List ℕ → List ℕ → List ℕ

@@ -13,3 +13,6 @@ mod session;
 
 pub use letter::Letter;
 pub use session::PopSession;
+
+#[cfg(test)]
+mod tests;

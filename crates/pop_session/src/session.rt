@@ -1,5 +1,5 @@
 //! A session: the client's bytes in pieces, and the replies to them.
-ghost use Rattle.std.specs.Prelude.{◌≡◌, ◌≤◌, ◌<◌, ◌+◌, ◌-◌, ◌++◌, List, [], ℕ, Bool, true, false, length, take, OnOk, OnErr, IfOk, IfErr};
+ghost use Rattle.std.specs.Prelude.{◌≡◌, ◌≤◌, ◌<◌, ◌+◌, ◌-◌, ◌++◌, List, [], ℕ, Bool, true, false, length, take, drop, OnOk, OnErr, IfOk, IfErr};
 ghost use Rattle.std.specs.List.{position_or_len};
 ghost use Rattle.std.specs.Io.KnownBytes.{Appends};
 ghost use Rattle.mail_lines.specs.Lines.{is_end, NoEnd};
@@ -7,7 +7,7 @@ ghost use Rattle.tap_edges.specs.Edges.{HasCause};
 ghost use Rattle.pop_session.specs.Puts.{counted, TookSome};
 ghost use Rattle.pop_session.specs.Replies.{greeting, reply_bytes};
 ghost use Rattle.pop_session.specs.Sessions.{Session, new_session, greeted, replies_from, quits_from, IsReady, is_ended, grown, AreBounded};
-ghost use Rattle.pop_session.specs.Sessions.{held, open_reply, answered};
+ghost use Rattle.pop_session.specs.Sessions.{held, open_reply, answered, IsOver};
 
 use crate::buffer::greeting_line;
 use crate::letter::Letter;
@@ -86,6 +86,14 @@ fn is_ended(phase: Phase) -> bool
     }
 }
 
+// Returns the bytes after the first `n`.
+fn rest_from(bytes: &[u8], n: usize) -> &[u8]
+    requires { n ≤ length bytes.now }
+    ensures { result.now ≡ drop n bytes.now }
+{
+    &bytes[n..]
+}
+
 // How many bytes of a piece a request took, and how many bytes of the replies to the piece are put then.
 #[derive(Clone, Copy)]
 struct Step {
@@ -134,10 +142,21 @@ impl<'a> PopSession<'a> {
         }
     }
 
+    // Returns whether nothing more of a piece is looked at: it is at its end, or the session is.
+    fn is_over(&self, rest: &[u8]) -> bool
+        ensures over { result ≡ true → IsOver self.now rest.now }
+        ensures more { result ≡ false → (0 < length rest.now) × (is_ended self.now.phase ≡ false) }
+        ensures front { NoEnd self.now.front }
+    {
+        let ended = is_ended(self.phase);
+        rest.is_empty() || ended
+    }
+
     // Holds more bytes of the open request.
     fn hold(&mut self, bytes: &[u8])
         requires { NoEnd bytes.now }
-        ensures { self.new ≡ held self.old bytes.now }
+        ensures next { self.new ≡ held self.old bytes.now }
+        ensures front { NoEnd self.old.front }
     {
         grow(&mut self.front, bytes);
     }
@@ -222,11 +241,11 @@ impl<'a> PopSession<'a> {
     {
         let mut done = 0usize;
         let mut rest = piece;
-        'requests: while !rest.is_empty() && !is_ended(self.phase) {
+        'requests: while !self.is_over(rest) {
             match self.take_one(rest, done, sink) {
                 Ok(step) => {
                     done = step.done;
-                    rest = &rest[step.used..];
+                    rest = rest_from(rest, step.used);
                 }
                 Err(failed) => return Err(failed),
             }
