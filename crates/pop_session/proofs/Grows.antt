@@ -2,14 +2,14 @@
 use Rattle.std.proofs.Common.{◌≡◌, ◌∙◌, sym, ap, refl, ℕ, List, [], ◌∷◌, ◌++◌, Bool, true, false, if◌then◌else◌}
 use Rattle.std.proofs.lemmas.List.{append_assoc}
 use Rattle.mail_lines.specs.Lines.{parts, without_end}
-use Rattle.mail_lines.proofs.Ends.{glue, has_first, HasFirst}
+use Rattle.mail_lines.proofs.Ends.{glue, has_first}
 use Rattle.mail_lines.proofs.Grows.{last_part, parts-more}
 use Rattle.pop_session.specs.declared.letter.Letter.{Letter}
 use Rattle.pop_session.specs.declared.outcome.Phase.{Phase}
 use Rattle.pop_session.specs.declared.outcome.Phase.TheVariants.{Authorization}
 use Rattle.pop_session.specs.Requests.{requests, outcome_of}
 use Rattle.pop_session.specs.Replies.{greeting, reply_bytes}
-use Rattle.pop_session.specs.Sessions.{replies_to, is_ended, pop_replies}
+use Rattle.pop_session.specs.Sessions.{replies_to, is_ended}
 use Rattle.pop_session.specs.Laws.{RepliesGrow}
 
 without_end-append : (xs : List (List ℕ)) (y : List ℕ) (ys : List (List ℕ)) → without_end (xs ++ y ∷ ys) ≡ xs ++ without_end (y ∷ ys)

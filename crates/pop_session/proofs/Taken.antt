@@ -1,6 +1,5 @@
 -- What a session has taken of a piece.
 use Rattle.std.proofs.Common.{◌≡◌, ◌∙◌, sym, ap, subst, refl, arith, ℕ, List, [], ◌∷◌, ◌++◌, ◌+◌, ◌^◌, take, drop, length, Option, Bool, true, false, ◌<◌, inl, inr}
-use Rattle.std.specs.Prelude.{◌⊎◌}
 use Rattle.std.specs.Io.KnownBytes.{Appends}
 use Rattle.std.proofs.lemmas.List.{append_assoc, append-nil, take-append-drop}
 use Rattle.tap_edges.specs.declared.edges.PutFailed.{PutFailed}

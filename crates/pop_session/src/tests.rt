@@ -86,8 +86,10 @@ fn shown(alloc: Global, bytes: &[u8], size: usize) -> Result<Text, Memory>
 
 #[test]
 fn a_session_is_served(rt: HostRuntime) -> Result<(), Fail> {
-    let bytes: &[u8] = b"USER ann\r\nPASS no\r\nSTAT\r\nuser ann\r\nPASS pw\r\nSTAT\r\nLIST 2\r\nUIDL\r\nRETR 2\r\nDELE 1\r\nRETR 3\r\nTOP 1 0\r\nQUIT\r\nSTAT\r\n";
-    let want: &[u8] = b"+OK tapestry\r\n+OK\r\n-ERR denied\r\n-ERR state\r\n+OK\r\n+OK\r\n+OK 2 36\r\n+OK 2 21\r\n+OK\r\n1 d1\r\n2 d20\r\n.\r\n+OK 21\r\nSubject: dots\r\n\r\n..a\r\n.\r\n-ERR kept\r\n-ERR message\r\n-ERR unknown\r\n+OK\r\nquit";
+    let bytes: &[u8] =
+        b"USER ann\r\nPASS no\r\nSTAT\r\nuser ann\r\nPASS pw\r\nSTAT\r\nLIST 2\r\nUIDL\r\nRETR 2\r\nDELE 1\r\nRETR 3\r\nTOP 1 0\r\nQUIT\r\nSTAT\r\n";
+    let want: &[u8] =
+        b"+OK tapestry\r\n+OK\r\n-ERR denied\r\n-ERR state\r\n+OK\r\n+OK\r\n+OK 2 36\r\n+OK 2 21\r\n+OK\r\n1 d1\r\n2 d20\r\n.\r\n+OK 21\r\nSubject: dots\r\n\r\n..a\r\n.\r\n-ERR kept\r\n-ERR message\r\n-ERR unknown\r\n+OK\r\nquit";
     let sizes: [usize; 4] = [1, 2, 7, 4096];
     for size in sizes {
         if size > 0 {
@@ -106,20 +108,50 @@ fn requests_are_checked_in_order(rt: HostRuntime) -> Result<(), Fail> {
         (b"QUIT", b""),
         (b"QUIT\n", b"+OK\r\nquit"),
         // no keyword, an unknown one, one that isn't allowed, a wrong form
-        (b"\r\n \nHELO\n", b"-ERR unknown\r\n-ERR unknown\r\n-ERR unknown\r\n"),
-        (b"PASS pw\nRETR\nNOOP 1\n", b"-ERR state\r\n-ERR state\r\n-ERR state\r\n"),
-        (b"USER\nUSER a b\nQUIT now\n", b"-ERR form\r\n-ERR form\r\n-ERR form\r\n"),
+        (
+            b"\r\n \nHELO\n",
+            b"-ERR unknown\r\n-ERR unknown\r\n-ERR unknown\r\n",
+        ),
+        (
+            b"PASS pw\nRETR\nNOOP 1\n",
+            b"-ERR state\r\n-ERR state\r\n-ERR state\r\n",
+        ),
+        (
+            b"USER\nUSER a b\nQUIT now\n",
+            b"-ERR form\r\n-ERR form\r\n-ERR form\r\n",
+        ),
         // PASS comes directly after an accepted USER
-        (b"USER ann\nUSER a b\nPASS pw\n", b"+OK\r\n-ERR form\r\n-ERR state\r\n"),
-        (b"USER bob\nPASS pw\nPASS pw\n", b"+OK\r\n-ERR denied\r\n-ERR state\r\n"),
+        (
+            b"USER ann\nUSER a b\nPASS pw\n",
+            b"+OK\r\n-ERR form\r\n-ERR state\r\n",
+        ),
+        (
+            b"USER bob\nPASS pw\nPASS pw\n",
+            b"+OK\r\n-ERR denied\r\n-ERR state\r\n",
+        ),
         // the secret is all bytes after one blank
-        (b"USER ann\nPASS  pw\nUSER ann\nPASS pw \n", b"+OK\r\n-ERR denied\r\n+OK\r\n-ERR denied\r\n"),
+        (
+            b"USER ann\nPASS  pw\nUSER ann\nPASS pw \n",
+            b"+OK\r\n-ERR denied\r\n+OK\r\n-ERR denied\r\n",
+        ),
         (b"USER ann\nPASS \n", b"+OK\r\n-ERR form\r\n"),
-        (b" \tUSER\tann \nPASS\tpw\nUSER ann\n", b"+OK\r\n+OK\r\n-ERR state\r\n"),
+        (
+            b" \tUSER\tann \nPASS\tpw\nUSER ann\n",
+            b"+OK\r\n+OK\r\n-ERR state\r\n",
+        ),
         // numbers have 1 to 10 digits; no letter is deleted
-        (b"USER ann\nPASS pw\nRETR 9999999999\nLIST 00000000001\nDELE 0\nDELE x\n", b"+OK\r\n+OK\r\n-ERR message\r\n-ERR form\r\n-ERR kept\r\n-ERR form\r\n"),
-        (b"USER ann\nPASS pw\nlist\nLIST 1 2\nuidl 2\nUIDL 0\n", b"+OK\r\n+OK\r\n+OK 2\r\n1 15\r\n2 21\r\n.\r\n-ERR form\r\n+OK 2 d20\r\n-ERR message\r\n"),
-        (b"USER ann\nPASS pw\nRSET\nnoop\nSTAT 1\n", b"+OK\r\n+OK\r\n+OK\r\n+OK\r\n-ERR form\r\n"),
+        (
+            b"USER ann\nPASS pw\nRETR 9999999999\nLIST 00000000001\nDELE 0\nDELE x\n",
+            b"+OK\r\n+OK\r\n-ERR message\r\n-ERR form\r\n-ERR kept\r\n-ERR form\r\n",
+        ),
+        (
+            b"USER ann\nPASS pw\nlist\nLIST 1 2\nuidl 2\nUIDL 0\n",
+            b"+OK\r\n+OK\r\n+OK 2\r\n1 15\r\n2 21\r\n.\r\n-ERR form\r\n+OK 2 d20\r\n-ERR message\r\n",
+        ),
+        (
+            b"USER ann\nPASS pw\nRSET\nnoop\nSTAT 1\n",
+            b"+OK\r\n+OK\r\n+OK\r\n+OK\r\n-ERR form\r\n",
+        ),
     ];
     for (bytes, want) in rows {
         let text = shown(rt.alloc(), bytes, 3)?;
@@ -147,7 +179,11 @@ fn a_request_has_at_most_512_bytes(rt: HostRuntime) -> Result<(), Fail> {
         (511, b"\r\n", b"+OK tapestry\r\n+OK\r\nquit"),
         (512, b"\r\n", b"+OK tapestry\r\n-ERR long\r\n"),
         (513, b"\n", b"+OK tapestry\r\n-ERR long\r\n"),
-        (2000, b"\nQUIT\n", b"+OK tapestry\r\n-ERR long\r\n+OK\r\nquit"),
+        (
+            2000,
+            b"\nQUIT\n",
+            b"+OK tapestry\r\n-ERR long\r\n+OK\r\nquit",
+        ),
     ];
     for (len, end, want) in rows {
         let text = of_length(rt.alloc(), len, end)?;
@@ -170,7 +206,10 @@ fn a_failed_put_ends_the_session(rt: HostRuntime) -> Result<(), Fail> {
         (0, b"no greeting"),
         (1, b"+OK tapestry\r\n+Ofailed"),
         (4, b"+OK tapestry\r\n+OK\r\n+OK\r\n+OK\r\n1 failed"),
-        (50, b"+OK tapestry\r\n+OK\r\n+OK\r\n+OK\r\n1 d1\r\n2 d20\r\n.\r\n"),
+        (
+            50,
+            b"+OK tapestry\r\n+OK\r\n+OK\r\n+OK\r\n1 d1\r\n2 d20\r\n.\r\n",
+        ),
     ];
     for (call, want) in rows {
         let text = shown_until(rt.alloc(), call)?;
