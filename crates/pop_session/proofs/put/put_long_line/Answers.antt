@@ -2,7 +2,7 @@ use Rattle.std.proofs.Common.{◌∙◌, sym, [], ◌∷◌}
 use Rattle.pop_session.specs.Letters.{line}
 use Rattle.pop_session.proofs.Puts.{on-cut-of, first-cut-of}
 use Rattle.pop_session.proofs.Rows.{dotted}
-use Rattle.pop_session.proofs.put.put_stuffed.Goals as goal
+use Rattle.pop_session.proofs.put.put_long_line.Goals as goal
 
 pub returns-in-Ok-clause-err : goal.returns-in-Ok-clause-err
 returns-in-Ok-clause-err g c =
