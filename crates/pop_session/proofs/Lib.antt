@@ -1,0 +1,6 @@
+pub mod Puts
+pub mod Sizes
+pub mod Rows
+pub mod Pieces
+pub mod Taken
+pub mod Grows
