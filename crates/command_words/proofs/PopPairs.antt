@@ -1,13 +1,12 @@
 -- The walk of `clap` over pairs of an option and a value.
-use Rattle.std.proofs.Common.{◌≡◌, ◌∙◌, sym, ap, subst, arith, ℕ, Bool, List, [], ◌∷◌, ◌++◌, ◌≤◌, length, inl, inr, codes, true, false, refl, map, find, Option, Some, None, if◌then◌else◌}
+use Rattle.std.proofs.Common.{◌≡◌, ◌∙◌, sym, ap, subst, arith, ℕ, Bool, List, [], ◌∷◌, ◌++◌, ◌≤◌, length, inl, inr, codes, true, false, refl, map, Option, Some, None, if◌then◌else◌}
 use Rattle.std.specs.Prelude.{fold, ◌||◌}
-use Rattle.std.specs.List.{list_any}
 use Rattle.std.specs.Str.{bytes_eq}
 use Rattle.std.proofs.lemmas.Bool.{cases_Bool}
 use Rattle.std.proofs.lemmas.List.{append_assoc, append-nil, length-append}
-use Rattle.clap.specs.Words.{Row, Rule, Text, App, takes, is_simple, is_simple_and_free, built, reading_of}
+use Rattle.clap.specs.Words.{Row, Rule, Text, is_simple, is_simple_and_free, built, reading_of}
 use Rattle.clap.specs.Simple.{names_of}
-use Rattle.clap.specs.Walk.{Held, Walk, Names, settled_rows, walked, idle, at_row, has_row, more_values}
+use Rattle.clap.specs.Walk.{Walk, settled_rows, walked, idle, at_row, has_row, more_values}
 use Rattle.clap.specs.Takes.{settle_passes, walk_passes}
 use Rattle.clap.specs.declared.builder.value_parser.ValueParser.TheVariants as vp
 use Rattle.clap.specs.declared.parser.matches.ValueSource.TheVariants.{CommandLine}

@@ -1,12 +1,12 @@
 -- Well worded words of a POP3 session are taken, and ask for what they name.
-use Rattle.std.proofs.Common.{◌≡◌, ◌∙◌, sym, ap, ap₂, subst, refl, arith, ℕ, suc, List, [], ◌∷◌, ◌++◌, ◌≤◌, length, drop, map, find, codes, Bool, true, false, inl, inr, Option, Some, None, if◌then◌else◌}
-use Rattle.std.specs.Prelude.{fold, ◌||◌, ◌&&◌, is_some, unwrap_or, slice_get}
+use Rattle.std.proofs.Common.{◌≡◌, ◌∙◌, sym, ap, ap₂, refl, arith, ℕ, suc, List, [], ◌∷◌, ◌++◌, ◌≤◌, length, drop, map, codes, Bool, true, false, inl, inr, Option, Some, None, if◌then◌else◌}
+use Rattle.std.specs.Prelude.{fold, ◌||◌, ◌&&◌, is_some, unwrap_or}
 use Rattle.std.specs.List.{All, list_all}
-use Rattle.std.specs.Option.{option_to_list, option_and_then}
+use Rattle.std.specs.Option.{option_to_list}
 use Rattle.std.specs.Str.{bytes_eq}
 use Rattle.std.proofs.lemmas.Bool.{cases_Bool}
 use Rattle.std.proofs.lemmas.List.{append-nil}
-use Rattle.clap.specs.Words.{Row, Rule, takes, built, matches_of, first_of, reading_of}
+use Rattle.clap.specs.Words.{Row, takes, built, matches_of, first_of, reading_of}
 use Rattle.clap.specs.Simple.{names_of, entered}
 use Rattle.clap.specs.Walk.{Walk, walked, has_row, finished, with_default, settled_rows, more_values, at_row}
 use Rattle.clap.specs.Takes.{settle_passes, walk_passes, entered_passes, default_passes, is_valid, is_given}
@@ -18,7 +18,7 @@ use Rattle.command_words.specs.WellWorded.{is_path, place_of}
 use Rattle.command_words.specs.PopOptions.{pop_app}
 use Rattle.command_words.specs.PopWords.{PopOption, Store, User, Box, Pass, option_name, is_option, Pair, words_of_pairs, values_given, pop_place_in, user_in, box_in, secret_in, IsPopWorded}
 use Rattle.command_words.proofs.Worded.{plain_path}
-use Rattle.command_words.proofs.PopPairs.{pop_rules, between, row_of_pair, same-name, no-row, or-false, at-absent, AreApart, ArePlain, IsWalked, walk-pairs}
+use Rattle.command_words.proofs.PopPairs.{pop_rules, between, row_of_pair, same-name, no-row, or-false, at-absent, ArePlain, walk-pairs}
 
 -- the words are taken, and ask for the place of this path, for this user, this box and this secret
 pub record IsPopAsked (words : List (List ℕ)) (path : Option (List ℕ)) (user name secret : List ℕ) : Type 0 where

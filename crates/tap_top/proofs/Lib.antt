@@ -1,6 +1,6 @@
 mod Stories
 mod Steps
-mod Runs
+pub mod Runs
 mod Refusals
 mod Crashes
 mod Samples

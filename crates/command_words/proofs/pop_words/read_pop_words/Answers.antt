@@ -1,4 +1,4 @@
-use Rattle.std.proofs.Common.{rules, ◌≡◌, ◌≢◌, ◌∙◌, ap, [], true, IfErr}
+use Rattle.std.proofs.Common.{rules, ◌≡◌, ◌∙◌, ap, true, IfErr}
 use Rattle.clap.specs.Words.{takes, fault_of}
 use Rattle.command_words.specs.declared.option_fault.OptionFault.TheVariants as fault
 use Rattle.command_words.specs.PopOptions.{pop_app}

@@ -1,0 +1,13 @@
+//! One session of the post office protocol, version 3 (RFC 1939), over the box of a store.
+#![tactic(auto)]
+
+mod letters;
+mod no_box;
+mod pieces;
+mod serve;
+
+pub use pieces::{PIECE, SESSION_LIMIT};
+pub use serve::serve;
+
+#[cfg(test)]
+mod tests;
