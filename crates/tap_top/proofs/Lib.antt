@@ -1,6 +1,6 @@
 mod Stories
 mod Steps
-pub mod Runs
+mod Runs
 mod Refusals
 mod Crashes
 mod Samples

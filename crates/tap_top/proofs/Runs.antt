@@ -29,7 +29,7 @@ pub record Running (left left' : Option (List ℕ)) (taken : ℕ) (now : Reading
   pub taking : Taking left left' taken
   pub answered_piece : PieceAnswered (take SCRIPT_LIMIT taking.bytes) new_reading now t no_session out out' Ends s' ok
 
-pub Consumes-more : (a b c : Option (List ℕ)) (xs ys : List ℕ) → Consumes a b xs → Consumes b c ys → Consumes a c (xs ++ ys)
+Consumes-more : (a b c : Option (List ℕ)) (xs ys : List ℕ) → Consumes a b xs → Consumes b c ys → Consumes a c (xs ++ ys)
 Consumes-more None b c xs ys one two = tt
 Consumes-more (Some us) (Some vs) (Some ws) xs ys one two = one ∙ ap (λ zs. xs ++ zs) two ∙ sym (append_assoc xs ys ws)
 Consumes-more (Some us) None c xs ys one two = absurd one
@@ -39,13 +39,13 @@ pub Consumes-none : (a : Option (List ℕ)) → Consumes a a []
 Consumes-none None = tt
 Consumes-none (Some xs) = refl
 
-pub Consumes-keeps : (a b c : Option (List ℕ)) (xs : List ℕ) → Consumes a b xs → Keeps b c → Consumes a c xs
+Consumes-keeps : (a b c : Option (List ℕ)) (xs : List ℕ) → Consumes a b xs → Keeps b c → Consumes a c xs
 Consumes-keeps None b c xs one same = tt
 Consumes-keeps (Some us) (Some vs) (Some ws) xs one same = one ∙ ap (λ zs. xs ++ zs) (sym same)
 Consumes-keeps (Some us) None c xs one same = absurd one
 Consumes-keeps (Some us) (Some vs) None xs one same = absurd same
 
-pub take-none : (n : ℕ) → ◌≡◌ {A = List ℕ} (take n []) []
+take-none : (n : ℕ) → ◌≡◌ {A = List ℕ} (take n []) []
 take-none n = grind (arith, common_steps)
 
 pub Taking-start : (left : Option (List ℕ)) → Taking left left 0
@@ -60,7 +60,7 @@ Running-start left t s out Ends new sound ends = record {
 }
 
 -- the bytes that a script may have, of those taken so far and the next piece
-pub fits : (limit : ℕ) (bytes piece : List ℕ) (n room : ℕ) → length bytes ≤ limit → room ≡ min n (limit - length bytes) → take limit (bytes ++ take n piece) ≡ bytes ++ take room piece
+fits : (limit : ℕ) (bytes piece : List ℕ) (n room : ℕ) → length bytes ≤ limit → room ≡ min n (limit - length bytes) → take limit (bytes ++ take n piece) ≡ bytes ++ take room piece
 fits limit bytes piece n room le is =
     ap (λ k. take k (bytes ++ take n piece)) (whole (length bytes) le) ∙ take-append-add bytes (take n piece) (limit - length bytes) ∙ ap (λ xs. bytes ++ xs) (two (limit - length bytes) n piece ∙ ap (λ k. take k piece) (sym is)) where
       whole : (m : ℕ) → m ≤ limit → limit ≡ m + (limit - m)
