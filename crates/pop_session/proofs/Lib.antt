@@ -1,0 +1,4 @@
+pub mod Puts
+pub mod Sizes
+pub mod Rows
+pub mod Pieces

@@ -1,0 +1,15 @@
+-- The rows of letters, from one on.
+use Rattle.std.proofs.Common.{◌≡◌, ◌∙◌, sym, ap, arith, ℕ, suc, List, ◌++◌, ◌+◌, ◌<◌, drop, length, get_or}
+use Rattle.std.proofs.Math.Seq.{drop-cons}
+use Rattle.pop_session.specs.declared.letter.Letter.{Letter}
+use Rattle.pop_session.specs.declared.reply.Listing.{Listing}
+use Rattle.pop_session.specs.Letters.{line, row_text, rows_from}
+
+-- the row of the next letter, and those of the letters after it
+pub rows-next : (listing : Listing) (letters : List Letter) (i : ℕ) (letter : Letter) (bytes : List ℕ) → i < length letters → letter ≡ get_or letters i letter → bytes ≡ line (row_text listing (i + 1) letter) → rows_from listing (i + 1) (drop i letters) ≡ bytes ++ rows_from listing (i + 1 + 1) (drop (i + 1) letters)
+rows-next listing letters i letter bytes lt is row =
+    let one : suc i ≡ i + 1 = omega arith in
+    ap (rows_from listing (i + 1)) (drop-cons letters i letter lt)
+    ∙ ap (λ l. line (row_text listing (i + 1) l) ++ rows_from listing (i + 1 + 1) (drop (suc i) letters)) (sym is)
+    ∙ ap (λ xs. xs ++ rows_from listing (i + 1 + 1) (drop (suc i) letters)) (sym row)
+    ∙ ap (λ k. bytes ++ rows_from listing (i + 1 + 1) (drop k letters)) one

@@ -1,0 +1,6 @@
+pub mod Letters
+pub mod Requests
+pub mod Replies
+pub mod Sessions
+pub mod Puts
+pub mod Laws

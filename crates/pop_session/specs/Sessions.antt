@@ -1,0 +1,79 @@
+-- What a session replies to all of its bytes.
+use Rattle.std.specs.Prelude.{ℕ, ◌≡◌, ◌≤◌, ◌<◌, ◌-◌, List, [], ◌∷◌, ◌++◌, length, take, Bool, true, false, if◌then◌else◌}
+use Rattle.std.specs.List.{All}
+use Rattle.pop_session.specs.declared.letter.Letter.{Letter}
+use Rattle.pop_session.specs.declared.outcome.Phase.{Phase}
+use Rattle.pop_session.specs.declared.outcome.Phase.TheVariants.{Authorization, Named, Transaction, Ended}
+use Rattle.pop_session.specs.Requests.{requests, outcome_of}
+use Rattle.pop_session.specs.Replies.{greeting, reply_bytes}
+
+-- has an accepted QUIT ended the session?
+abbrev pub is_ended : Phase → Bool
+is_ended Ended = true
+is_ended Authorization = false
+is_ended (Named right) = false
+is_ended Transaction = false
+
+-- the replies, in order, to some requests, up to an accepted QUIT
+abbrev pub replies_to : List ℕ → List ℕ → List Letter → Phase → List (List ℕ) → List ℕ
+replies_to user secret letters phase [] = []
+replies_to user secret letters phase (request ∷ requests) =
+    if is_ended phase then []
+    else reply_bytes letters (outcome_of user secret phase request).reply ++ replies_to user secret letters (outcome_of user secret phase request).phase requests
+
+-- the phase after some requests
+abbrev pub phase_after : List ℕ → List ℕ → Phase → List (List ℕ) → Phase
+phase_after user secret phase [] = phase
+phase_after user secret phase (request ∷ requests) =
+    if is_ended phase then phase else phase_after user secret (outcome_of user secret phase request).phase requests
+
+-- the greeting, and the replies to the requests of these bytes, up to an accepted QUIT
+abbrev pub pop_replies : List ℕ → List ℕ → List ℕ → List Letter → List ℕ
+pop_replies bytes user secret letters = greeting ++ replies_to user secret letters Authorization (requests bytes)
+
+-- is an accepted QUIT among the requests of these bytes?
+abbrev pub has_quit : List ℕ → List ℕ → List ℕ → Bool
+has_quit bytes user secret = is_ended (phase_after user secret Authorization (requests bytes))
+
+-- a session: its user, secret and letters, the bytes of the open request or a front of them that is too long, its phase,
+-- whether it has greeted, and whether a put has failed
+pub record Session : Type 0 where
+  pub user : List ℕ
+  pub secret : List ℕ
+  pub letters : List Letter
+  pub front : List ℕ
+  pub phase : Phase
+  pub greeted : Bool
+  pub failed : Bool
+
+-- a session before its greeting
+abbrev pub new_session : List ℕ → List ℕ → List Letter → Session
+new_session user secret letters =
+    record { user = user; secret = secret; letters = letters; front = []; phase = Authorization; greeted = false; failed = false }
+
+-- a session after its greeting
+abbrev pub greeted : Session → Session
+greeted s = record { user = s.user; secret = s.secret; letters = s.letters; front = s.front; phase = s.phase; greeted = true; failed = s.failed }
+
+-- the replies to the bytes that follow
+abbrev pub replies_from : Session → List ℕ → List ℕ
+replies_from s rest = replies_to s.user s.secret s.letters s.phase (requests (s.front ++ rest))
+
+-- is an accepted QUIT among the requests so far and those of the bytes that follow?
+abbrev pub quits_from : Session → List ℕ → Bool
+quits_from s rest = is_ended (phase_after s.user s.secret s.phase (requests (s.front ++ rest)))
+
+-- may the session take bytes? It has greeted, and neither ended nor failed
+pub record IsReady (s : Session) : Type 0 where
+  pub greeted : s.greeted ≡ true
+  pub not_ended : is_ended s.phase ≡ false
+  pub not_failed : s.failed ≡ false
+
+-- the open request with some more bytes; of one that is too long a front is enough
+abbrev pub grown : List ℕ → List ℕ → List ℕ
+grown front bytes = front ++ take (513 - length front) bytes
+
+-- the letters are fewer than 4,294,967,296, each with a text of at most 1,048,576 bytes
+pub record AreBounded (letters : List Letter) : Type 0 where
+  pub few : length letters < 4294967296
+  pub short : All (λ letter. length letter.text ≤ 1048576) letters

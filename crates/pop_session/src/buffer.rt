@@ -1,0 +1,163 @@
+//! Lines of replies in a buffer of fixed size, made without memory.
+ghost use Rattle.std.specs.Prelude.{◌≡◌, ◌≤◌, ◌+◌, ◌++◌, List, ℕ, length, codes};
+ghost use Rattle.std.specs.Fmt.{decimal};
+ghost use Rattle.arrayvec.specs.ArrayVec.{array_vec_len};
+ghost use Rattle.pop_session.specs.Letters.{line, size_of, row_text};
+ghost use Rattle.pop_session.specs.Replies.{rows_head, refusal_text};
+ghost use Rattle.pop_session.specs.declared.reply.Listing.TheVariants.{Sizes, Ids};
+
+use crate::letter::{Letter, size_of};
+use crate::reply::{Listing, Refusal};
+use arrayvec::ArrayVec;
+use itoa::{Buffer, Integer};
+
+// Appends bytes, for which there is room. A buffer of 128 bytes holds any line of a reply that is no letter's.
+fn push_bytes(buffer: &mut ArrayVec<u8, 128>, bytes: &[u8])
+    requires { array_vec_len buffer.old + length bytes.now ≤ 128 }
+    ensures { buffer.new.items ≡ buffer.old.items ++ bytes.now }
+{
+    let _pushed = buffer.try_extend_from_slice(bytes);
+}
+
+// Appends the digits of a number. No integer has more than 40 bytes in decimal.
+fn push_number<I: Integer>(buffer: &mut ArrayVec<u8, 128>, n: I)
+    requires { array_vec_len buffer.old + 40 ≤ 128 }
+    ensures bytes { buffer.new.items ≡ buffer.old.items ++ I.text n }
+    ensures short { array_vec_len buffer.new ≤ array_vec_len buffer.old + 40 }
+{
+    let mut digits = Buffer::new();
+    push_bytes(buffer, digits.format(n).as_bytes());
+}
+
+// Returns a line of a text.
+fn text_line(text: &[u8]) -> ArrayVec<u8, 128>
+    requires { length text.now ≤ 20 }
+    ensures { result.items ≡ line text.now }
+{
+    let mut buffer = ArrayVec::new();
+    push_bytes(&mut buffer, text);
+    push_bytes(&mut buffer, b"\r\n");
+    buffer
+}
+
+/// Returns the greeting.
+pub(crate) fn greeting_line() -> ArrayVec<u8, 128>
+    ensures { result.items ≡ line (codes "+OK tapestry") }
+{
+    text_line(b"+OK tapestry")
+}
+
+/// Returns the reply to a request that is accepted.
+pub(crate) fn accepted_line() -> ArrayVec<u8, 128>
+    ensures { result.items ≡ line (codes "+OK") }
+{
+    text_line(b"+OK")
+}
+
+/// Returns the line of a refusal.
+pub(crate) fn refusal_line(refusal: Refusal) -> ArrayVec<u8, 128>
+    ensures { result.items ≡ line (refusal_text refusal) }
+{
+    match refusal {
+        Refusal::Long => text_line(b"-ERR long"),
+        Refusal::Unknown => text_line(b"-ERR unknown"),
+        Refusal::State => text_line(b"-ERR state"),
+        Refusal::Form => text_line(b"-ERR form"),
+        Refusal::Denied => text_line(b"-ERR denied"),
+        Refusal::Kept => text_line(b"-ERR kept"),
+        Refusal::NoMessage => text_line(b"-ERR message"),
+    }
+}
+
+/// Returns the reply of one number.
+pub(crate) fn number_line(n: u64) -> ArrayVec<u8, 128>
+    ensures { result.items ≡ line (codes "+OK " ++ decimal n) }
+{
+    let mut buffer = ArrayVec::new();
+    push_bytes(&mut buffer, b"+OK ");
+    push_number(&mut buffer, n);
+    push_bytes(&mut buffer, b"\r\n");
+    buffer
+}
+
+/// Returns the reply to STAT: the number of letters and their size.
+pub(crate) fn totals_line(count: usize, size: u64) -> ArrayVec<u8, 128>
+    ensures { result.items ≡ line (codes "+OK " ++ decimal count ++ codes " " ++ decimal size) }
+{
+    let mut buffer = ArrayVec::new();
+    push_bytes(&mut buffer, b"+OK ");
+    push_number(&mut buffer, count);
+    push_bytes(&mut buffer, b" ");
+    push_number(&mut buffer, size);
+    push_bytes(&mut buffer, b"\r\n");
+    buffer
+}
+
+/// Returns the line before the rows of all letters.
+pub(crate) fn head_line(listing: Listing, count: usize) -> ArrayVec<u8, 128>
+    ensures { result.items ≡ line (rows_head listing count) }
+{
+    match listing {
+        Listing::Sizes => number_line(count as u64),
+        Listing::Ids => accepted_line(),
+    }
+}
+
+// Appends the row of a letter: its number, and its size.
+fn push_size(buffer: &mut ArrayVec<u8, 128>, number: u64, letter: &Letter)
+    requires room { array_vec_len buffer.old ≤ 4 }
+    requires short { length letter.now.text ≤ 1048576 }
+    ensures row { buffer.new.items ≡ buffer.old.items ++ row_text Sizes number letter.now }
+    ensures short { array_vec_len buffer.new ≤ array_vec_len buffer.old + 81 }
+{
+    push_number(buffer, number);
+    push_bytes(buffer, b" ");
+    push_number(buffer, size_of(letter.text.as_slice()));
+}
+
+// Appends the row of a letter: its number, and its document's number.
+fn push_id(buffer: &mut ArrayVec<u8, 128>, number: u64, letter: &Letter)
+    requires room { array_vec_len buffer.old ≤ 4 }
+    ensures row { buffer.new.items ≡ buffer.old.items ++ row_text Ids number letter.now }
+    ensures short { array_vec_len buffer.new ≤ array_vec_len buffer.old + 82 }
+{
+    push_number(buffer, number);
+    push_bytes(buffer, b" d");
+    push_number(buffer, letter.doc.0);
+}
+
+// Appends the row of a letter.
+fn push_row(buffer: &mut ArrayVec<u8, 128>, listing: Listing, number: u64, letter: &Letter)
+    requires room { array_vec_len buffer.old ≤ 4 }
+    requires short { length letter.now.text ≤ 1048576 }
+    ensures row { buffer.new.items ≡ buffer.old.items ++ row_text listing number letter.now }
+    ensures short { array_vec_len buffer.new ≤ array_vec_len buffer.old + 82 }
+{
+    match listing {
+        Listing::Sizes => push_size(buffer, number, letter),
+        Listing::Ids => push_id(buffer, number, letter),
+    }
+}
+
+/// Returns the row of a letter in a list.
+pub(crate) fn row_line(listing: Listing, number: u64, letter: &Letter) -> ArrayVec<u8, 128>
+    requires { length letter.now.text ≤ 1048576 }
+    ensures { result.items ≡ line (row_text listing number letter.now) }
+{
+    let mut buffer = ArrayVec::new();
+    push_row(&mut buffer, listing, number, letter);
+    push_bytes(&mut buffer, b"\r\n");
+    buffer
+}
+
+/// Returns the reply that is the row of a letter.
+pub(crate) fn one_row_line(listing: Listing, number: u64, letter: &Letter) -> ArrayVec<u8, 128>
+    requires { length letter.now.text ≤ 1048576 }
+    ensures { result.items ≡ line (codes "+OK " ++ row_text listing number letter.now) }
+{
+    let mut buffer = ArrayVec::new();
+    push_bytes(&mut buffer, b"+OK ");
+    push_row(&mut buffer, listing, number, letter);
+    push_bytes(&mut buffer, b"\r\n");
+    buffer
+}

@@ -1,0 +1,15 @@
+//! One session of the post office protocol, version 3 (RFC 1939), over a list of letters, without memory.
+#![tactic(auto)]
+
+mod buffer;
+mod keyword;
+pub mod laws;
+mod letter;
+mod outcome;
+mod put;
+mod reply;
+mod request;
+mod session;
+
+pub use letter::Letter;
+pub use session::PopSession;

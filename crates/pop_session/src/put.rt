@@ -1,0 +1,251 @@
+//! Puts replies into a sink.
+ghost use Rattle.std.specs.Prelude.{◌≡◌, ◌≤◌, ◌+◌, ◌++◌, List, [], ◌∷◌, ℕ, Option, None, Some, length, codes, OnOk, IfOk, IfErr, option_copied};
+ghost use Rattle.std.specs.Io.KnownBytes.{Appends};
+ghost use Rattle.tap_edges.specs.Edges.{HasCause};
+ghost use Rattle.pop_session.specs.Letters.{line, stuffed, sent_lines, letter_at, row_text, rows_from};
+ghost use Rattle.pop_session.specs.Puts.{counted, TookSome};
+ghost use Rattle.pop_session.specs.Replies.{refusal_text, rows_head, row_reply, text_reply, reply_bytes};
+ghost use Rattle.pop_session.specs.declared.reply.Reply.TheVariants.{Rows};
+ghost use Rattle.pop_session.specs.Sessions.{AreBounded};
+
+use crate::buffer::{
+    accepted_line, head_line, number_line, one_row_line, refusal_line, row_line, totals_line,
+};
+use crate::letter::{Letter, letter_at, size_of, total_size};
+use crate::reply::{Listing, Refusal, Reply};
+use digest_mail::first_lined;
+use tap_edges::{PutFailed, Sink};
+
+/// Puts bytes behind the first `start` bytes of a reply, and returns how many bytes of the reply are put then.
+pub(crate) fn put_next<K: Sink>(
+    sink: &mut K,
+    start: usize,
+    bytes: &[u8],
+) -> Result<usize, PutFailed>
+    ensures count { IfOk result (λ done. done ≡ counted (start + length bytes.now)) }
+    ensures ok { OnOk result (Appends (K.out sink.old) (K.out sink.new) bytes.now) }
+    ensures err { IfErr result (λ failed. TookSome start (K.out sink.old) (K.out sink.new) bytes.now failed) }
+    ensures cause { HasCause (K.faults sink.old) (K.faults sink.new) result }
+{
+    match sink.put(bytes) {
+        Ok(()) => Ok(start.saturating_add(bytes.len())),
+        Err(failed) => Err(PutFailed {
+            out: start.saturating_add(failed.out),
+        }),
+    }
+}
+
+// Puts a line of a letter: the bytes and the CRLF each by a call, so that no copy is made.
+fn put_line<K: Sink>(sink: &mut K, start: usize, text: &[u8]) -> Result<usize, PutFailed>
+    ensures count { IfOk result (λ done. done ≡ counted (start + length (line text.now))) }
+    ensures ok { OnOk result (Appends (K.out sink.old) (K.out sink.new) (line text.now)) }
+    ensures err { IfErr result (λ failed. TookSome start (K.out sink.old) (K.out sink.new) (line text.now) failed) }
+    ensures cause { HasCause (K.faults sink.old) (K.faults sink.new) result }
+{
+    match put_next(sink, start, text) {
+        Ok(done) => put_next(sink, done, b"\r\n"),
+        Err(failed) => Err(failed),
+    }
+}
+
+// Puts a line of a letter, with one more dot before one that begins with a dot (RFC 1939 3).
+fn put_stuffed<K: Sink>(sink: &mut K, start: usize, text: &[u8]) -> Result<usize, PutFailed>
+    ensures count { IfOk result (λ done. done ≡ counted (start + length (line (stuffed text.now)))) }
+    ensures ok { OnOk result (Appends (K.out sink.old) (K.out sink.new) (line (stuffed text.now))) }
+    ensures err { IfErr result (λ failed. TookSome start (K.out sink.old) (K.out sink.new) (line (stuffed text.now)) failed) }
+    ensures cause { HasCause (K.faults sink.old) (K.faults sink.new) result }
+{
+    if text.first() != Some(&b'.') {
+        return put_line(sink, start, text);
+    }
+    match put_next(sink, start, b".") {
+        Ok(done) => put_line(sink, done, text),
+        Err(failed) => Err(failed),
+    }
+}
+
+// Puts the lines of a text.
+fn put_lines<K: Sink>(sink: &mut K, start: usize, text: &[u8]) -> Result<usize, PutFailed>
+    ensures count { IfOk result (λ done. done ≡ counted (start + length (sent_lines text.now))) }
+    ensures ok { OnOk result (Appends (K.out sink.old) (K.out sink.new) (sent_lines text.now)) }
+    ensures err { IfErr result (λ failed. TookSome start (K.out sink.old) (K.out sink.new) (sent_lines text.now) failed) }
+    ensures cause { HasCause (K.faults sink.old) (K.faults sink.new) result }
+{
+    let mut done = start;
+    let mut rest = text;
+    'lines: while !rest.is_empty() {
+        let first = first_lined(rest);
+        done = match put_stuffed(sink, done, first.line) {
+            Ok(done) => done,
+            Err(failed) => return Err(failed),
+        };
+        rest = first.rest;
+    }
+    Ok(done)
+}
+
+// Puts the row of each letter.
+fn put_rows<K: Sink>(
+    sink: &mut K,
+    start: usize,
+    listing: Listing,
+    letters: &[Letter],
+) -> Result<usize, PutFailed>
+    requires { AreBounded letters.now }
+    ensures count { IfOk result (λ done. done ≡ counted (start + length (rows_from listing 1 letters.now))) }
+    ensures ok { OnOk result (Appends (K.out sink.old) (K.out sink.new) (rows_from listing 1 letters.now)) }
+    ensures err { IfErr result (λ failed. TookSome start (K.out sink.old) (K.out sink.new) (rows_from listing 1 letters.now) failed) }
+    ensures cause { HasCause (K.faults sink.old) (K.faults sink.new) result }
+{
+    let mut done = start;
+    for (i, letter) in letters.iter().enumerate() {
+        done = match put_next(
+            sink,
+            done,
+            row_line(listing, i as u64 + 1, letter).as_slice(),
+        ) {
+            Ok(done) => done,
+            Err(failed) => return Err(failed),
+        };
+    }
+    Ok(done)
+}
+
+// Puts the rows of all letters, and a line of one dot.
+fn put_all_rows<K: Sink>(
+    sink: &mut K,
+    start: usize,
+    listing: Listing,
+    letters: &[Letter],
+) -> Result<usize, PutFailed>
+    requires { AreBounded letters.now }
+    ensures count { IfOk result (λ done. done ≡ counted (start + length (rows_from listing 1 letters.now ++ line (codes ".")))) }
+    ensures ok { OnOk result (Appends (K.out sink.old) (K.out sink.new) (rows_from listing 1 letters.now ++ line (codes "."))) }
+    ensures err { IfErr result (λ failed.
+        TookSome start (K.out sink.old) (K.out sink.new) (rows_from listing 1 letters.now ++ line (codes ".")) failed) }
+    ensures cause { HasCause (K.faults sink.old) (K.faults sink.new) result }
+{
+    match put_rows(sink, start, listing, letters) {
+        Ok(done) => put_line(sink, done, b"."),
+        Err(failed) => Err(failed),
+    }
+}
+
+// Puts the lines of a text, and a line of one dot.
+fn put_all_lines<K: Sink>(sink: &mut K, start: usize, text: &[u8]) -> Result<usize, PutFailed>
+    ensures count { IfOk result (λ done. done ≡ counted (start + length (sent_lines text.now ++ line (codes ".")))) }
+    ensures ok { OnOk result (Appends (K.out sink.old) (K.out sink.new) (sent_lines text.now ++ line (codes "."))) }
+    ensures err { IfErr result (λ failed.
+        TookSome start (K.out sink.old) (K.out sink.new) (sent_lines text.now ++ line (codes ".")) failed) }
+    ensures cause { HasCause (K.faults sink.old) (K.faults sink.new) result }
+{
+    match put_lines(sink, start, text) {
+        Ok(done) => put_line(sink, done, b"."),
+        Err(failed) => Err(failed),
+    }
+}
+
+// Puts the reply that is the row of a letter.
+fn put_row<K: Sink>(
+    sink: &mut K,
+    start: usize,
+    listing: Listing,
+    number: u64,
+    letters: &[Letter],
+) -> Result<usize, PutFailed>
+    requires { AreBounded letters.now }
+    ensures count { IfOk result (λ done. done ≡ counted (start + length (row_reply listing number (letter_at letters.now number)))) }
+    ensures ok { OnOk result (Appends (K.out sink.old) (K.out sink.new) (row_reply listing number (letter_at letters.now number))) }
+    ensures err { IfErr result (λ failed.
+        TookSome start (K.out sink.old) (K.out sink.new) (row_reply listing number (letter_at letters.now number)) failed) }
+    ensures cause { HasCause (K.faults sink.old) (K.faults sink.new) result }
+{
+    match letter_at(letters, number) {
+        None => put_next(sink, start, refusal_line(Refusal::NoMessage).as_slice()),
+        Some(letter) => put_next(
+            sink,
+            start,
+            one_row_line(listing, number, letter).as_slice(),
+        ),
+    }
+}
+
+// Puts the text of a letter: its size, its lines, and a line of one dot.
+fn put_letter<K: Sink>(sink: &mut K, start: usize, letter: &Letter) -> Result<usize, PutFailed>
+    requires { length letter.now.text ≤ 1048576 }
+    ensures count { IfOk result (λ done. done ≡ counted (start + length (text_reply (Some letter.now)))) }
+    ensures ok { OnOk result (Appends (K.out sink.old) (K.out sink.new) (text_reply (Some letter.now))) }
+    ensures err { IfErr result (λ failed. TookSome start (K.out sink.old) (K.out sink.new) (text_reply (Some letter.now)) failed) }
+    ensures cause { HasCause (K.faults sink.old) (K.faults sink.new) result }
+{
+    let text = letter.text.as_slice();
+    match put_next(sink, start, number_line(size_of(text)).as_slice()) {
+        Ok(done) => put_all_lines(sink, done, text),
+        Err(failed) => Err(failed),
+    }
+}
+
+// Puts the reply that is the text of a letter.
+fn put_text<K: Sink>(
+    sink: &mut K,
+    start: usize,
+    number: u64,
+    letters: &[Letter],
+) -> Result<usize, PutFailed>
+    requires { AreBounded letters.now }
+    ensures count { IfOk result (λ done. done ≡ counted (start + length (text_reply (letter_at letters.now number)))) }
+    ensures ok { OnOk result (Appends (K.out sink.old) (K.out sink.new) (text_reply (letter_at letters.now number))) }
+    ensures err { IfErr result (λ failed. TookSome start (K.out sink.old) (K.out sink.new) (text_reply (letter_at letters.now number)) failed) }
+    ensures cause { HasCause (K.faults sink.old) (K.faults sink.new) result }
+{
+    match letter_at(letters, number) {
+        None => put_next(sink, start, refusal_line(Refusal::NoMessage).as_slice()),
+        Some(letter) => put_letter(sink, start, letter),
+    }
+}
+
+// Puts the head and the rows of all letters.
+fn put_list<K: Sink>(
+    sink: &mut K,
+    start: usize,
+    listing: Listing,
+    letters: &[Letter],
+) -> Result<usize, PutFailed>
+    requires { AreBounded letters.now }
+    ensures count { IfOk result (λ done. done ≡ counted (start + length (reply_bytes letters.now (Rows listing)))) }
+    ensures ok { OnOk result (Appends (K.out sink.old) (K.out sink.new) (reply_bytes letters.now (Rows listing))) }
+    ensures err { IfErr result (λ failed. TookSome start (K.out sink.old) (K.out sink.new) (reply_bytes letters.now (Rows listing)) failed) }
+    ensures cause { HasCause (K.faults sink.old) (K.faults sink.new) result }
+{
+    match put_next(sink, start, head_line(listing, letters.len()).as_slice()) {
+        Ok(done) => put_all_rows(sink, done, listing, letters),
+        Err(failed) => Err(failed),
+    }
+}
+
+/// Puts a reply behind `start` bytes, and returns how many bytes are put then. An error gives how many bytes were put, with
+/// these `start`. It takes no memory.
+pub(crate) fn put_reply<K: Sink>(
+    sink: &mut K,
+    start: usize,
+    letters: &[Letter],
+    reply: Reply,
+) -> Result<usize, PutFailed>
+    requires { AreBounded letters.now }
+    ensures count { IfOk result (λ done. done ≡ counted (start + length (reply_bytes letters.now reply))) }
+    ensures ok { OnOk result (Appends (K.out sink.old) (K.out sink.new) (reply_bytes letters.now reply)) }
+    ensures err { IfErr result (λ failed. TookSome start (K.out sink.old) (K.out sink.new) (reply_bytes letters.now reply) failed) }
+    ensures cause { HasCause (K.faults sink.old) (K.faults sink.new) result }
+{
+    match reply {
+        Reply::Accepted => put_next(sink, start, accepted_line().as_slice()),
+        Reply::Refused(refusal) => put_next(sink, start, refusal_line(refusal).as_slice()),
+        Reply::Totals => {
+            let size = total_size(letters);
+            put_next(sink, start, totals_line(letters.len(), size).as_slice())
+        }
+        Reply::Rows(listing) => put_list(sink, start, listing, letters),
+        Reply::Row(listing, number) => put_row(sink, start, listing, number, letters),
+        Reply::Text(number) => put_text(sink, start, number, letters),
+    }
+}

@@ -1,0 +1,253 @@
+//! Reads a request and checks it.
+ghost use Rattle.std.specs.Prelude.{◌≡◌, ◌≤◌, ◌+◌, ◌==◌, ◌&&◌, Bool, true, false, Option, Some, None, length, drop, if◌then◌else◌, nat_le};
+ghost use Rattle.std.specs.List.{position_or_len};
+ghost use Rattle.std.specs.Str.{bytes_eq};
+ghost use Rattle.std.specs.Str.Lines.{strip_carriage_return};
+ghost use Rattle.tap_base.specs.LineWords.{word, has_words, after_blanks};
+ghost use Rattle.tap_base.specs.Numbers.{number_of};
+ghost use Rattle.pop_session.specs.Requests.{keyword_of, is_allowed, unnamed, replied, refused, after_keyword, number_in, bare, lettered, listed, is_right};
+ghost use Rattle.pop_session.specs.Requests.{user_outcome, pass_outcome, allowed_outcome, keyword_outcome, text_outcome, outcome_of};
+ghost use Rattle.pop_session.specs.declared.reply.Reply.{Reply};
+ghost use Rattle.pop_session.specs.declared.reply.Reply.TheVariants.{Row, Text, Refused};
+ghost use Rattle.pop_session.specs.declared.reply.Refusal.TheVariants.{Kept};
+ghost use Rattle.pop_session.specs.declared.reply.Reply.TheVariants.{Accepted};
+ghost use Rattle.pop_session.specs.declared.outcome.Phase.TheVariants.{Ended};
+
+use crate::keyword::{Keyword, keyword_of};
+use crate::outcome::{Outcome, Phase};
+use crate::reply::{Listing, Refusal, Reply};
+use tap_base::{after_byte, blank_place, has_words, nth_word, read_number, skip_blanks};
+
+// The most bytes of a request, without its LF.
+const REQUEST_LIMIT: usize = 512;
+
+// The most digits of a number.
+const DIGIT_LIMIT: usize = 10;
+
+// The greatest number of so many digits.
+const LARGEST_NUMBER: u64 = 9999999999;
+
+// Returns whether a keyword is allowed in a phase.
+fn is_allowed(keyword: Keyword, phase: Phase) -> bool
+    ensures { result ≡ is_allowed keyword phase }
+{
+    match keyword {
+        Keyword::Quit => true,
+        Keyword::User => match phase {
+            Phase::Authorization | Phase::Named(_) => true,
+            Phase::Transaction | Phase::Ended => false,
+        },
+        Keyword::Pass => match phase {
+            Phase::Named(_) => true,
+            _ => false,
+        },
+        _ => match phase {
+            Phase::Transaction => true,
+            _ => false,
+        },
+    }
+}
+
+// Returns the phase after a request that isn't an accepted USER, PASS or QUIT.
+fn unnamed(phase: Phase) -> Phase
+    ensures { result ≡ unnamed phase }
+{
+    match phase {
+        Phase::Named(_) => Phase::Authorization,
+        phase => phase,
+    }
+}
+
+// Returns the outcome of a reply that ends no phase.
+fn replied(phase: Phase, reply: Reply) -> Outcome
+    ensures { result ≡ replied phase reply }
+{
+    Outcome {
+        reply,
+        phase: unnamed(phase),
+    }
+}
+
+// Returns the outcome of a request that is refused.
+fn refused(phase: Phase, refusal: Refusal) -> Outcome
+    ensures { result ≡ refused phase refusal }
+{
+    replied(phase, Reply::Refused(refusal))
+}
+
+// Returns the bytes after the one blank that follows the keyword.
+fn after_keyword(text: &[u8]) -> &[u8]
+    ensures { result.now ≡ after_keyword text.now }
+{
+    let request = skip_blanks(text);
+    after_byte(request, blank_place(request))
+}
+
+// Returns the number that the argument of a request is.
+fn number_in(text: &[u8]) -> Option<u64>
+    ensures { result ≡ number_in text.now }
+{
+    if has_words(text, 2) {
+        read_number(nth_word(text, 1), DIGIT_LIMIT, LARGEST_NUMBER)
+    } else {
+        None
+    }
+}
+
+// Returns the outcome of a request that has no argument.
+fn bare(text: &[u8], phase: Phase, outcome: Outcome) -> Outcome
+    ensures { result ≡ bare text.now phase outcome }
+{
+    if has_words(text, 1) {
+        outcome
+    } else {
+        refused(phase, Refusal::Form)
+    }
+}
+
+// Returns the outcome of LIST or UIDL.
+fn listed(text: &[u8], phase: Phase, listing: Listing) -> Outcome
+    ensures { result ≡ listed text.now phase listing }
+{
+    if has_words(text, 1) {
+        return replied(phase, Reply::Rows(listing));
+    }
+    match number_in(text) {
+        Some(number) => replied(phase, Reply::Row(listing, number)),
+        None => refused(phase, Refusal::Form),
+    }
+}
+
+// Returns the outcome of RETR.
+fn retrieved(text: &[u8], phase: Phase) -> Outcome
+    ensures { result ≡ lettered phase (number_in text.now) Text }
+{
+    match number_in(text) {
+        Some(number) => replied(phase, Reply::Text(number)),
+        None => refused(phase, Refusal::Form),
+    }
+}
+
+// Returns the outcome of DELE: no letter is deleted.
+fn kept(text: &[u8], phase: Phase) -> Outcome
+    ensures { result ≡ lettered phase (number_in text.now) (λ n. Refused Kept) }
+{
+    match number_in(text) {
+        Some(_) => refused(phase, Refusal::Kept),
+        None => refused(phase, Refusal::Form),
+    }
+}
+
+// Returns the outcome of USER (RFC 1939 7).
+fn user_outcome(user: &[u8], phase: Phase, text: &[u8]) -> Outcome
+    ensures { result ≡ user_outcome user.now phase text.now }
+{
+    if has_words(text, 2) {
+        Outcome {
+            reply: Reply::Accepted,
+            phase: Phase::Named(nth_word(text, 1) == user),
+        }
+    } else {
+        refused(phase, Refusal::Form)
+    }
+}
+
+// Returns whether the right name was given.
+fn is_right(phase: Phase) -> bool
+    ensures { result ≡ is_right phase }
+{
+    match phase {
+        Phase::Named(right) => right,
+        _ => false,
+    }
+}
+
+// Returns the outcome of PASS (RFC 1939 7).
+fn pass_outcome(secret: &[u8], phase: Phase, text: &[u8]) -> Outcome
+    ensures { result ≡ pass_outcome secret.now phase text.now }
+{
+    let given = after_keyword(text);
+    if given.is_empty() {
+        refused(phase, Refusal::Form)
+    } else if is_right(phase) && given == secret {
+        Outcome {
+            reply: Reply::Accepted,
+            phase: Phase::Transaction,
+        }
+    } else {
+        refused(phase, Refusal::Denied)
+    }
+}
+
+// Returns the outcome of QUIT (RFC 1939 6).
+fn quit_outcome(phase: Phase, text: &[u8]) -> Outcome
+    ensures { result ≡ bare text.now phase (record { reply = Accepted; phase = Ended }) }
+{
+    let ended = Outcome {
+        reply: Reply::Accepted,
+        phase: Phase::Ended,
+    };
+    bare(text, phase, ended)
+}
+
+// Returns the outcome of a request whose keyword is allowed.
+fn allowed_outcome(
+    user: &[u8],
+    secret: &[u8],
+    phase: Phase,
+    keyword: Keyword,
+    text: &[u8],
+) -> Outcome
+    ensures { result ≡ allowed_outcome user.now secret.now phase keyword text.now }
+{
+    match keyword {
+        Keyword::User => user_outcome(user, phase, text),
+        Keyword::Pass => pass_outcome(secret, phase, text),
+        Keyword::Quit => quit_outcome(phase, text),
+        Keyword::Stat => bare(text, phase, replied(phase, Reply::Totals)),
+        Keyword::List => listed(text, phase, Listing::Sizes),
+        Keyword::Uidl => listed(text, phase, Listing::Ids),
+        Keyword::Retr => retrieved(text, phase),
+        Keyword::Dele => kept(text, phase),
+        Keyword::Noop => bare(text, phase, replied(phase, Reply::Accepted)),
+        Keyword::Rset => bare(text, phase, replied(phase, Reply::Accepted)),
+    }
+}
+
+// Returns the outcome of a request's text.
+fn text_outcome(user: &[u8], secret: &[u8], phase: Phase, text: &[u8]) -> Outcome
+    ensures { result ≡ text_outcome user.now secret.now phase text.now }
+{
+    match keyword_of(nth_word(text, 0)) {
+        None => refused(phase, Refusal::Unknown),
+        Some(keyword) => {
+            if is_allowed(keyword, phase) {
+                allowed_outcome(user, secret, phase, keyword, text)
+            } else {
+                refused(phase, Refusal::State)
+            }
+        }
+    }
+}
+
+// Returns a request without one CR at its end.
+fn without_return(request: &[u8]) -> &[u8]
+    ensures { result.now ≡ strip_carriage_return request.now }
+{
+    if request.last() == Some(&b'\r') {
+        &request[..request.len() - 1]
+    } else {
+        request
+    }
+}
+
+/// Returns the outcome of a request, which is given without its LF: the first check that applies refuses it.
+pub(crate) fn outcome_of(user: &[u8], secret: &[u8], phase: Phase, request: &[u8]) -> Outcome
+    ensures { result ≡ outcome_of user.now secret.now phase request.now }
+{
+    if request.len() <= REQUEST_LIMIT {
+        text_outcome(user, secret, phase, without_return(request))
+    } else {
+        refused(phase, Refusal::Long)
+    }
+}
