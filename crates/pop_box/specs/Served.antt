@@ -5,14 +5,7 @@ use Rattle.tap_rows.specs.declared.tables.Tables.{Tables}
 use Rattle.tap_top.specs.Premises.{IfKnown}
 use Rattle.pop_session.specs.declared.letter.Letter.{Letter}
 use Rattle.pop_session.specs.Letters.{line}
-use Rattle.pop_session.specs.Replies.{greeting}
-use Rattle.pop_session.specs.Sessions.{pop_replies, has_quit}
-use Rattle.pop_box.specs.Ends.{SessionEnds}
-
--- how a session of this user over these letters ended, from its greeting on
-abbrev pub LettersEnd : ℕ → List ℕ → List ℕ → List Letter → Option (List ℕ) → Option (List ℕ) → Option (List ℕ) → Option (List ℕ) → Type 0
-LettersEnd status user secret letters left left' out out' =
-    SessionEnds (λ bytes. pop_replies bytes user secret letters) (λ bytes. has_quit bytes user secret) left left' out out' status greeting
+use Rattle.pop_session.specs.Ends.{IsSession, LettersEnd}
 
 -- the line that says that there is no such box
 abbrev pub box_line : List ℕ
@@ -29,10 +22,6 @@ pub record NoBox (status : ℕ) (left left' out out' : Option (List ℕ)) : Type
   pub statuses : (status ≡ 9) ⊎ (status ≡ 4)
   pub unread : left' ≡ left
   pub line : BoxLine status out out'
-
--- the status of a session that began
-abbrev pub IsSession : ℕ → Type 0
-IsSession status = (status ≤ 1) ⊎ ((status ≡ 3) ⊎ ((status ≡ 4) ⊎ (status ≡ 8)))
 
 -- the box was found, and a session over its letters was held; or there is none, and the line says so
 abbrev pub BoxServed : ℕ → Option (List Letter) → List ℕ → List ℕ → Option (List ℕ) → Option (List ℕ) → Option (List ℕ) → Option (List ℕ) → Type 0

@@ -3,10 +3,8 @@
 
 mod letters;
 mod no_box;
-mod pieces;
 mod serve;
 
-pub use pieces::{PIECE, SESSION_LIMIT};
 pub use serve::serve;
 
 #[cfg(test)]

@@ -13,14 +13,14 @@ ghost use Rattle.tap_top.specs.declared.store_fault.StoreFault.{StoreFault as St
 ghost use Rattle.tap_top.specs.Premises.{FromStore, FromVersion, IfKnown, IsCalm};
 ghost use Rattle.tap_top.specs.Refusals.{fault_of, Refused};
 ghost use Rattle.pop_box.specs.Letters.{letters_in};
-ghost use Rattle.pop_box.specs.Ends.{TookMany};
+ghost use Rattle.pop_session.specs.Ends.{TookMany};
 ghost use Rattle.pop_box.specs.Served.{Served, Unchanged, IsUndisturbed};
 
 use crate::letters::letters_from;
 use crate::no_box::refuse_box;
-use crate::pieces::hold_session;
 use command_words::{OptionFault, PopWords, read_pop_words};
 use keeper_core::Keeper;
+use pop_session::hold_session;
 use std::alloc::Global;
 use std::sync::ledger::Ledger;
 use tap_base::{Memory, Steps, Text, Texts};

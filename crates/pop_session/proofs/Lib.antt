@@ -2,3 +2,4 @@ pub mod Puts
 pub mod Sizes
 pub mod Rows
 pub mod Pieces
+pub mod PieceRuns

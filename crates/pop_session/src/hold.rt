@@ -1,12 +1,12 @@
 //! A session over a source and a sink: the client's bytes in pieces, and the replies to them.
 ghost use Rattle.std.specs.Prelude.{◌≡◌, ◌≤◌, [], min};
 ghost use Rattle.tap_base.specs.Counts.{Rose};
-ghost use Rattle.pop_session.specs.Replies.{greeting};
+ghost use Rattle.pop_session.specs.declared.outcome.Phase.{Phase};
 ghost use Rattle.pop_session.specs.Sessions.{AreBounded, IsReady, replies_from, quits_from};
-ghost use Rattle.pop_box.specs.Ends.{SessionEnds, TookMany};
-ghost use Rattle.pop_box.specs.Served.{IsSession, LettersEnd};
+ghost use Rattle.pop_session.specs.Ends.{SessionEnds, TookMany, IsSession, LettersEnd};
 
-use pop_session::{Letter, PopSession};
+use crate::laws::replies_grow;
+use crate::{Letter, PopSession};
 use tap_edges::{Sink, Source};
 
 /// The most bytes that a session looks at: 256 MiB.
@@ -29,6 +29,8 @@ fn answer_pieces<S: Source, K: Sink>(
     sink: &mut K,
 ) -> u8
     requires ready { IsReady session.old }
+    requires unread { session.old.front ≡ [] }
+    requires first { session.old.phase ≡ Phase.Authorization }
     ensures ends { SessionEnds (replies_from session.old) (quits_from session.old) (S.left source.old) (S.left source.new)
         (K.out sink.old) (K.out sink.new) result [] }
     ensures statuses { IsSession result }
@@ -37,6 +39,7 @@ fn answer_pieces<S: Source, K: Sink>(
     ensures many { result ≡ 8 → TookMany (S.left source.old) (S.left source.new) }
     ensures later { K.faults sink.old ≤ K.faults sink.new }
 {
+    replies_grow();
     let mut piece = [0u8; PIECE];
     let mut taken = 0;
     'pieces: while taken <= SESSION_LIMIT {

@@ -1,7 +1,10 @@
 -- How a session over a source and a sink ended, by its status.
-use Rattle.std.specs.Prelude.{ℕ, ◌≡◌, ◌≤◌, ◌<◌, ◌+◌, ◌-◌, List, [], ◌++◌, length, take, Bool, true, false, Option}
+use Rattle.std.specs.Prelude.{ℕ, ◌≡◌, ◌≤◌, ◌<◌, ◌⊎◌, ◌+◌, ◌-◌, List, [], ◌++◌, length, take, Bool, true, false, Option}
 use Rattle.std.specs.Io.KnownBytes.{Consumes, Appends, IsAtEnd}
-use Rattle.pop_box.specs.declared.pieces.TheConstants.{SESSION_LIMIT, PIECE}
+use Rattle.pop_session.specs.declared.letter.Letter.{Letter}
+use Rattle.pop_session.specs.Replies.{greeting}
+use Rattle.pop_session.specs.Sessions.{pop_replies, has_quit}
+use Rattle.pop_session.specs.declared.hold.TheConstants.{SESSION_LIMIT, PIECE}
 
 -- the bytes are the first of these
 pub record IsFront (front bytes : List ℕ) : Type 0 where
@@ -30,13 +33,13 @@ module _ (replies : List ℕ → List ℕ) (quits : List ℕ → Bool) (left lef
   pub record OpenEnd : Type 0 where
     pub taken : Taken left left'
     pub fits : length taken.bytes ≤ SESSION_LIMIT
-    pub open : quits taken.bytes ≡ false
+    pub no_quit : quits taken.bytes ≡ false
     pub written : Appends out out' (replies taken.bytes)
 
   -- status 8: no QUIT was accepted among the bytes that a session looks at, and the replies to these were put
   pub record LongEnd : Type 0 where
     pub long : TookMany left left'
-    pub open : quits (take SESSION_LIMIT long.taken.bytes) ≡ false
+    pub no_quit : quits (take SESSION_LIMIT long.taken.bytes) ≡ false
     pub written : Appends out out' (replies (take SESSION_LIMIT long.taken.bytes))
 
   -- status 4: a front of the replies to the bytes taken was put. If the greeting isn't whole in it, no byte was taken; if it is,
@@ -56,3 +59,12 @@ module _ (replies : List ℕ → List ℕ) (quits : List ℕ → Bool) (left lef
     pub read : status ≡ 3 → OpenEnd
     pub put : status ≡ 4 → PutEnd greeting
     pub long : status ≡ 8 → LongEnd
+
+-- the status of a session that began
+abbrev pub IsSession : ℕ → Type 0
+IsSession status = (status ≤ 1) ⊎ ((status ≡ 3) ⊎ ((status ≡ 4) ⊎ (status ≡ 8)))
+
+-- how a session of this user over these letters ended, from its greeting on
+abbrev pub LettersEnd : ℕ → List ℕ → List ℕ → List Letter → Option (List ℕ) → Option (List ℕ) → Option (List ℕ) → Option (List ℕ) → Type 0
+LettersEnd status user secret letters left left' out out' =
+    SessionEnds (λ bytes. pop_replies bytes user secret letters) (λ bytes. has_quit bytes user secret) left left' out out' status greeting
