@@ -1,1 +1,1 @@
-mod Serves
+pub mod Served

@@ -11,7 +11,8 @@ use Rattle.pop_session.proofs.Puts.{Appends-more, Appends-none}
 use Rattle.pop_session.specs.declared.hold.TheConstants.{SESSION_LIMIT, PIECE}
 use Rattle.pop_session.specs.declared.letter.Letter.{Letter}
 use Rattle.pop_session.specs.Replies.{greeting}
-use Rattle.pop_session.specs.Sessions.{Session, replies_from}
+use Rattle.pop_session.specs.Requests.{requests}
+use Rattle.pop_session.specs.Sessions.{Session, replies_from, quits_from, replies_to, phase_after, is_ended}
 use Rattle.pop_session.specs.Laws.{RepliesGrow}
 use Rattle.pop_session.specs.declared.outcome.Phase.TheVariants.{Authorization}
 use Rattle.pop_session.specs.Ends.{IsFront, Taken, TookMany, QuitEnd, OpenEnd, LongEnd, PutEnd, SessionEnds}
@@ -126,25 +127,25 @@ room-le n k room is = grind (arith, is)
 -- the piece was answered
 pub Answering-more : (left mid new : Option (List ℕ)) (taken n room : ℕ) (piece : List ℕ) (f g h : List ℕ → List ℕ) (q p r : List ℕ → Bool) (out out1 out2 : Option (List ℕ)) → Answering left mid taken f g q p out out1 → taken ≤ SESSION_LIMIT → n ≤ length piece
     → Consumes mid new (take n piece) → room ≡ min n (SESSION_LIMIT - taken) → Appends out1 out2 (g (take room piece)) → ((rest : List ℕ) → g (take room piece ++ rest) ≡ g (take room piece) ++ h rest)
-    → ((rest : List ℕ) → p (take room piece ++ rest) ≡ r rest) → false ≡ p (take room piece) → Answering left new (taken + n) f h q r out out2
+    → ((rest : List ℕ) → p (take room piece ++ rest) ≡ r rest) → (b : Bool) → b ≡ false → b ≡ p (take room piece) → Answering left new (taken + n) f h q r out out2
 unfolding Taking-more
-Answering-more left mid new taken n room piece f g h q p r out out1 out2 before le within took is put next quits no_quit =
+Answering-more left mid new taken n room piece f g h q p r out out1 out2 before le within took is put next quits b none no_quit =
     let s = seen-now left mid taken f g q p out out1 before le in
     let bytes = before.taking.bytes in
     answering left new (taken + n) f h q r out out2 (Taking-more left mid new taken n piece before.taking within took) (bytes ++ take room piece) (looked left mid taken n room piece before.taking le is)
     (record {
       replied = joined f g h bytes (take room piece) s.replied next;
       quits = λ rest. ap q (append_assoc bytes (take room piece) rest) ∙ s.quits (take room piece ++ rest) ∙ quits rest;
-      no_quit = s.quits (take room piece) ∙ sym no_quit;
+      no_quit = s.quits (take room piece) ∙ sym no_quit ∙ none;
       written = subst (Appends out out2) (sym (s.replied (take room piece))) (Appends-more out out1 out2 (f bytes) (g (take room piece)) s.written put);
     })
 
 -- status 0
 pub Answering-quit : (left mid new : Option (List ℕ)) (taken n room : ℕ) (piece : List ℕ) (f g h : List ℕ → List ℕ) (q p : List ℕ → Bool) (out out1 out2 : Option (List ℕ)) → Answering left mid taken f g q p out out1 → taken ≤ SESSION_LIMIT → n ≤ length piece
     → n ≤ PIECE → Consumes mid new (take n piece) → room ≡ min n (SESSION_LIMIT - taken) → Appends out1 out2 (g (take room piece)) → ((rest : List ℕ) → g (take room piece ++ rest) ≡ g (take room piece) ++ h rest)
-    → ((rest : List ℕ) → h rest ≡ []) → true ≡ p (take room piece) → QuitEnd f q left new out out2
-unfolding Taking-more
-Answering-quit left mid new taken n room piece f g h q p out out1 out2 before le within few took is put next over quit =
+    → ((rest : List ℕ) → h rest ≡ []) → (b : Bool) → b ≡ true → b ≡ p (take room piece) → QuitEnd f q left new out out2
+unfolding Taking-more taken-of
+Answering-quit left mid new taken n room piece f g h q p out out1 out2 before le within few took is put next over b one quit =
     let s = seen-now left mid taken f g q p out out1 before le in
     let bytes = before.taking.bytes in
     let beyond = drop room (take n piece) in
@@ -154,7 +155,7 @@ Answering-quit left mid new taken n room piece f g h q p out out1 out2 before le
     joined f g h bytes (take room piece) s.replied next beyond ∙ ap (λ xs. f (bytes ++ take room piece) ++ xs) (over beyond) ∙ append-nil (f (bytes ++ take room piece)) ∙ s.replied (take room piece) in
     record {
       taken = taken-of left new (taken + n) (Taking-more left mid new taken n piece before.taking within took) (few-taken taken n le few);
-      quit = ap q (looked left mid taken n room piece before.taking le is) ∙ s.quits (take room piece) ∙ sym quit;
+      quit = ap q (looked left mid taken n room piece before.taking le is) ∙ s.quits (take room piece) ∙ sym quit ∙ one;
       written = subst (Appends out out2) (sym (ap f all ∙ none)) (Appends-more out out1 out2 (f bytes) (g (take room piece)) s.written put);
     }
 
@@ -188,11 +189,12 @@ none-taken a b n piece e took = subst (λ k. Consumes a b (take k piece)) e took
 
 -- more bytes were taken than a session looks at
 pub many-taken : (left mid : Option (List ℕ)) (taken : ℕ) → Taking left mid taken → SESSION_LIMIT < taken → taken ≤ SESSION_LIMIT + PIECE → TookMany left mid
+unfolding taken-of
 many-taken left mid taken t many few = record { taken = taken-of left mid taken t few; many = subst (λ n. SESSION_LIMIT < n) t.count many }
 
 -- status 8
 pub Answering-long : (left mid : Option (List ℕ)) (taken : ℕ) (f g : List ℕ → List ℕ) (q p : List ℕ → Bool) (out out1 : Option (List ℕ)) → Answering left mid taken f g q p out out1 → SESSION_LIMIT < taken → taken ≤ SESSION_LIMIT + PIECE → LongEnd f q left mid out out1
-unfolding many-taken
+unfolding many-taken taken-of
 Answering-long left mid taken f g q p out out1 before many few = record {
   long = many-taken left mid taken before.taking many few;
   no_quit = before.no_quit;
@@ -205,17 +207,17 @@ Grows f = (a b : List ℕ) → (more : List ℕ) × (f (a ++ b) ≡ f a ++ more)
 
 -- the bytes without the last piece are the first of those before the last read
 front-before : (bytes last : List ℕ) → length last ≤ PIECE → bytes ≡ take (length (bytes ++ last) - PIECE) (bytes ++ last) ++ drop (length (bytes ++ last) - PIECE) bytes
-front-before bytes last few = sym (take-append-drop (length (bytes ++ last) - PIECE) bytes) ∙ ap (λ xs. xs ++ drop (length (bytes ++ last) - PIECE) bytes) (sym (same (length (bytes ++ last) - PIECE) (le bytes last (length-append bytes last)))) where
+front-before bytes last few = sym (take-append-drop (length (bytes ++ last) - PIECE) bytes) ∙ ap (λ xs. xs ++ drop (length (bytes ++ last) - PIECE) bytes) (sym (same (length (bytes ++ last) - PIECE) (le bytes last few (length-append bytes last)))) where
   same : (k : ℕ) → k ≤ length bytes → take k (bytes ++ last) ≡ take k bytes
   same k le = grind (arith, common_steps)
 
-  le : (bytes last : List ℕ) → length (bytes ++ last) ≡ length bytes + length last → length (bytes ++ last) - PIECE ≤ length bytes
-  le bytes last e = omega (arith, e, few)
+  le : (bytes last : List ℕ) → length last ≤ PIECE → length (bytes ++ last) ≡ length bytes + length last → length (bytes ++ last) - PIECE ≤ length bytes
+  le bytes last few e = omega (arith, e, few)
 
 -- status 4
 pub Answering-cut : (left mid new : Option (List ℕ)) (taken n room : ℕ) (piece : List ℕ) (f g : List ℕ → List ℕ) (q p : List ℕ → Bool) (out out1 out2 : Option (List ℕ)) (failed : PutFailed) → Grows f → Answering left mid taken f g q p out out1 → taken ≤ SESSION_LIMIT
     → n ≤ length piece → n ≤ PIECE → Consumes mid new (take n piece) → room ≡ min n (SESSION_LIMIT - taken) → TookSome 0 out1 out2 (g (take room piece)) failed → PutEnd f q left new out out2 []
-unfolding Taking-more
+unfolding Taking-more taken-of
 Answering-cut left mid new taken n room piece f g q p out out1 out2 failed grows before le within few took is cut =
     let s = seen-now left mid taken f g q p out out1 before le in
     let bytes = before.taking.bytes in
@@ -247,6 +249,63 @@ Answering-cut left mid new taken n room piece f g q p out out1 out2 failed grows
       short : (n : ℕ) (xs : List ℕ) → n ≤ PIECE → length (take n xs) ≤ PIECE
       short n xs le = grind (arith, common_steps)
 
+-- how a session ended with each status
+pub quit-ends : (f : List ℕ → List ℕ) (q : List ℕ → Bool) (left new out out' : Option (List ℕ)) (first : List ℕ) → QuitEnd f q left new out out' → SessionEnds f q left new out out' 0 first
+quit-ends f q left new out out' first end = record { quit = λ _. end; ended = λ e. absurd (cc); read = λ e. absurd (cc); put = λ e. absurd (cc); long = λ e. absurd (cc) }
+
+pub end-ends : (f : List ℕ → List ℕ) (q : List ℕ → Bool) (left new out out' : Option (List ℕ)) (first : List ℕ) → OpenEnd f q left new out out' → IsAtEnd new → SessionEnds f q left new out out' 1 first
+end-ends f q left new out out' first end at = record { quit = λ e. absurd (cc); ended = λ _. (end, at); read = λ e. absurd (cc); put = λ e. absurd (cc); long = λ e. absurd (cc) }
+
+pub read-ends : (f : List ℕ → List ℕ) (q : List ℕ → Bool) (left new out out' : Option (List ℕ)) (first : List ℕ) → OpenEnd f q left new out out' → SessionEnds f q left new out out' 3 first
+read-ends f q left new out out' first end = record { quit = λ e. absurd (cc); ended = λ e. absurd (cc); read = λ _. end; put = λ e. absurd (cc); long = λ e. absurd (cc) }
+
+pub put-ends : (f : List ℕ → List ℕ) (q : List ℕ → Bool) (left new out out' : Option (List ℕ)) (first : List ℕ) → PutEnd f q left new out out' first → SessionEnds f q left new out out' 4 first
+put-ends f q left new out out' first end = record { quit = λ e. absurd (cc); ended = λ e. absurd (cc); read = λ e. absurd (cc); put = λ _. end; long = λ e. absurd (cc) }
+
+pub long-ends : (f : List ℕ → List ℕ) (q : List ℕ → Bool) (left new out out' : Option (List ℕ)) (first : List ℕ) → LongEnd f q left new out out' → SessionEnds f q left new out out' 8 first
+long-ends f q left new out out' first end = record { quit = λ e. absurd (cc); ended = λ e. absurd (cc); read = λ e. absurd (cc); put = λ e. absurd (cc); long = λ _. end }
+
+-- a session with the bytes that were put before it
+pub greeted-ends : (f h : List ℕ → List ℕ) (q r : List ℕ → Bool) (left new out out1 out2 : Option (List ℕ)) (first : List ℕ) (status : ℕ) → ((bytes : List ℕ) → h bytes ≡ first ++ f bytes) → ((bytes : List ℕ) → r bytes ≡ q bytes)
+    → Appends out out1 first → SessionEnds f q left new out1 out2 status [] → SessionEnds h r left new out out2 status first
+greeted-ends f h q r left new out out1 out2 first status replies quits before ends = record {
+  quit = λ is. let end = ends.quit is in record { taken = end.taken; quit = quits (take SESSION_LIMIT end.taken.bytes) ∙ end.quit; written = put end.taken.bytes end.written };
+  ended = λ is. (opened (ends.ended is).0, (ends.ended is).1);
+  read = λ is. opened (ends.read is);
+  put = λ is. cut (ends.put is);
+  long = λ is. let end = ends.long is in record { long = end.long; no_quit = quits (take SESSION_LIMIT end.long.taken.bytes) ∙ end.no_quit; written = put (take SESSION_LIMIT end.long.taken.bytes) end.written };
+} where
+  put : (bytes : List ℕ) → Appends out1 out2 (f bytes) → Appends out out2 (h bytes)
+  put bytes after = subst (Appends out out2) (sym (replies bytes)) (Appends-more out out1 out2 first (f bytes) before after)
+
+  opened : OpenEnd f q left new out1 out2 → OpenEnd h r left new out out2
+  opened end = record { taken = end.taken; fits = end.fits; no_quit = quits end.taken.bytes ∙ end.no_quit; written = subst (Appends out out2) (sym (replies end.taken.bytes)) (Appends-more out out1 out2 first (f end.taken.bytes) before end.written) }
+
+  cut : PutEnd f q left new out1 out2 [] → PutEnd h r left new out out2 first
+  cut end =
+      let early = end.prompt (record { rest = end.put; is = refl }) in record {
+        taken = end.taken;
+        put = first ++ end.put;
+        written = Appends-more out out1 out2 first end.put before end.written;
+        front = record { rest = end.front.rest; is = replies end.taken.bytes ∙ ap (λ xs. first ++ xs) end.front.is ∙ sym (append_assoc first end.put end.front.rest) };
+        unread = λ no. absurd (no (record { rest = end.put; is = refl }));
+        prompt = λ _. record {
+          rest = early.rest;
+          is = ap (λ xs. first ++ xs) early.is ∙ sym (append_assoc first (f (take (length end.taken.bytes - PIECE) end.taken.bytes)) early.rest) ∙ ap (λ xs. xs ++ early.rest) (sym (replies (take (length end.taken.bytes - PIECE) end.taken.bytes)));
+        };
+      }
+
+-- the greeting was cut off
+pub greeting-cut : (h : List ℕ → List ℕ) (r : List ℕ → Bool) (left out out' : Option (List ℕ)) (first : List ℕ) (failed : PutFailed) → h [] ≡ first → TookSome 0 out out' first failed → PutEnd h r left left out out' first
+greeting-cut h r left out out' first failed none cut = record {
+  taken = record { bytes = []; taken = Consumes-none left; few = omega arith };
+  put = take cut.n first;
+  written = cut.written;
+  front = record { rest = drop cut.n first; is = none ∙ sym (take-append-drop cut.n first) };
+  unread = λ _. refl;
+  prompt = λ whole. record { rest = whole.rest; is = whole.is ∙ ap (λ xs. xs ++ whole.rest) (sym (ap h (take-none (0 - PIECE)) ∙ none)) };
+}
+
 -- the same bytes after the same front
 cancel : (xs ys zs : List ℕ) → xs ++ ys ≡ xs ++ zs → ys ≡ zs
 cancel [] ys zs e = e
@@ -254,8 +313,21 @@ cancel (x ∷ xs) ys zs e = cancel xs ys zs (tail e) where
   tail : x ∷ (xs ++ ys) ≡ x ∷ (xs ++ zs) → xs ++ ys ≡ xs ++ zs
   tail e = cc
 
+-- the replies of a session that begins, and whether it ends
+begun-replies : (s : Session) → s.front ≡ [] → s.phase ≡ Authorization → (rest : List ℕ) → replies_from s rest ≡ replies_to s.user s.secret s.letters Authorization (requests rest)
+begun-replies s front phase rest =
+    ap (λ xs. replies_to s.user s.secret s.letters s.phase (requests (xs ++ rest))) front ∙ ap (λ p. replies_to s.user s.secret s.letters p (requests rest)) phase
+
+pub begun-none : (s : Session) → s.front ≡ [] → s.phase ≡ Authorization → replies_from s [] ≡ []
+begun-none s front phase = begun-replies s front phase []
+
+pub begun-open : (s : Session) → s.front ≡ [] → s.phase ≡ Authorization → quits_from s [] ≡ false
+begun-open s front phase =
+    ap (λ xs. is_ended (phase_after s.user s.secret s.phase (requests (xs ++ [])))) front ∙ ap (λ p. is_ended (phase_after s.user s.secret p (requests []))) phase
+
 -- the replies of a session that begins grow with the bytes
 pub begun-grows : (s : Session) → s.front ≡ [] → s.phase ≡ Authorization → RepliesGrow → Grows (replies_from s)
 begun-grows s front phase law a b =
     let grown = law a b s.user s.secret s.letters in
-    (grown.0, rw (front, phase) (cancel greeting _ _ (grown.1 ∙ append_assoc greeting _ grown.0)))
+    let from : List ℕ → List ℕ = λ bytes. replies_to s.user s.secret s.letters Authorization (requests bytes) in
+    (grown.0, begun-replies s front phase (a ++ b) ∙ cancel greeting (from (a ++ b)) (from a ++ grown.0) (grown.1 ∙ append_assoc greeting (from a) grown.0) ∙ ap (λ xs. xs ++ grown.0) (sym (begun-replies s front phase a)))
