@@ -8,6 +8,7 @@ use Rattle.tap_rows.specs.declared.tables.Tables.{Tables}
 use Rattle.tap_top.specs.Premises.{IfKnown, IsCalm}
 use Rattle.pop_session.specs.declared.letter.Letter.{Letter}
 use Rattle.pop_session.specs.Ends.{IsSession, LettersEnd}
+use Rattle.pop_box.specs.Letters.{letters_in}
 use Rattle.pop_box.specs.Served.{BoxLine, NoBox, BoxServed, IsUnserved, IsUndisturbed, Served, Unchanged}
 
 -- nothing was served, and nothing written
@@ -66,3 +67,11 @@ pub none-served : (status : ℕ) (found : Option (List Letter)) (user secret : L
 none-served status found user secret left left' out out' versions is statuses unread line =
     subst (λ f. Served status f user secret left left' out out' versions) is
     (box-served status None user secret left left' out out' versions (line-serves status statuses) (record { statuses = statuses; unread = unread; line = line }))
+
+-- the words' own user, box and secret
+pub served-words : (status : ℕ) (t : Tables) (user user' name name' secret secret' : List ℕ) (left left' out out' : Option (List ℕ)) (versions : ℤ → Type 0) → user ≡ user' → name ≡ name' → secret ≡ secret'
+    → Served status (letters_in user name t) user secret left left' out out' versions → Served status (letters_in user' name' t) user' secret' left left' out out' versions
+served-words status t user user' name name' secret secret' left left' out out' versions u n s served =
+    subst (λ x. Served status (letters_in user' name' t) user' x left left' out out' versions) s
+    (subst (λ x. Served status (letters_in user' x t) user' secret left left' out out' versions) n
+    (subst (λ x. Served status (letters_in x name t) x secret left left' out out' versions) u served))
