@@ -1,4 +1,6 @@
 pub mod Taken
-pub mod Values
 pub mod Numbers
 pub mod Worded
+pub mod Values
+pub mod PopPairs
+pub mod PopWorded

@@ -16,7 +16,7 @@ pub record IsAsked (words : List (List ℕ)) (path : Option (List ℕ)) (number 
   pub place : place_in words ≡ place_of path
   pub sample : sample_in words ≡ number
 
-plain_path : (p : List ℕ) → is_path p ≡ true → IsPlainWord p
+pub plain_path : (p : List ℕ) → is_path p ≡ true → IsPlainWord p
 plain_path [] q = absurd (cc)
 plain_path (b ∷ p) q = plain_from_head b p (not-true _ q)
 

@@ -24,8 +24,8 @@ pub struct CommandWords {
     pub sample: Option<u32>,
 }
 
-// Returns the text of a place, `:memory:` if there is none.
-fn place_text(alloc: Global, place: Option<&str>) -> Result<Text, Memory>
+/// Returns the text of a place, `:memory:` if there is none.
+pub(crate) fn place_text(alloc: Global, place: Option<&str>) -> Result<Text, Memory>
     ensures value { IfOk result (λ text. text ≡ unwrap_or (option_copied place.entry) default_place) }
     ensures text { IfOk result (λ text. IsUtf8 text) }
 {

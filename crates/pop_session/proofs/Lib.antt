@@ -4,3 +4,4 @@ pub mod Rows
 pub mod Pieces
 pub mod Taken
 pub mod Grows
+pub mod PieceRuns

@@ -4,3 +4,4 @@ pub mod Replies
 pub mod Sessions
 pub mod Puts
 pub mod Laws
+pub mod Ends

@@ -2,6 +2,7 @@
 #![tactic(auto)]
 
 mod buffer;
+mod hold;
 mod keyword;
 pub mod laws;
 mod letter;
@@ -11,6 +12,7 @@ mod reply;
 mod request;
 mod session;
 
+pub use hold::{PIECE, SESSION_LIMIT, hold_session};
 pub use letter::Letter;
 pub use session::PopSession;
 

@@ -13,5 +13,6 @@ mod NoteLaws
 mod MboxLaws
 mod FilterLaws
 mod ReadLaws
+mod LetterLaws
 pub mod FormedLaws
 pub mod StartedLaws

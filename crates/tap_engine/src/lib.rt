@@ -9,6 +9,7 @@ mod engine;
 mod explain;
 mod fault;
 mod filter;
+mod letters;
 mod limits;
 mod lists;
 mod look;

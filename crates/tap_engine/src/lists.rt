@@ -21,7 +21,7 @@ use tap_kept::{CachedFilter, copy_entries};
 use tap_rows::{Entry, Listed};
 
 // Finds the last of the user's filters.
-fn last_filter<'a>(filters: &'a [CachedFilter], user: &[u8]) -> Option<&'a CachedFilter>
+pub(crate) fn last_filter<'a>(filters: &'a [CachedFilter], user: &[u8]) -> Option<&'a CachedFilter>
     ensures { option_copied result ≡ last_filter user.now filters.now }
 {
     let mut end = filters.len();
@@ -35,7 +35,7 @@ fn last_filter<'a>(filters: &'a [CachedFilter], user: &[u8]) -> Option<&'a Cache
 }
 
 // Rates the entries of a box by a filter, or by no rules if there is no filter.
-fn rate<'a, L: Ledger>(
+pub(crate) fn rate<'a, L: Ledger>(
     alloc: Global,
     filter: Option<&'a CachedFilter>,
     entries: &'a [Entry],

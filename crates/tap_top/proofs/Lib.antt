@@ -1,7 +1,7 @@
 mod Stories
 mod Steps
 mod Runs
-mod Refusals
+pub mod Refusals
 mod Crashes
 mod Samples
 mod SampleCrashes

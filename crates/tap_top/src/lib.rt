@@ -9,6 +9,8 @@ mod store_fault;
 mod tally;
 mod top;
 
+pub use opening::{OpenFault, open_store};
+pub use refusing::refuse;
 pub use store_fault::StoreFault;
 pub use top::{PIECE, SCRIPT_LIMIT, tapestry};
 

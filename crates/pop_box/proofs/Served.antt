@@ -1,0 +1,77 @@
+-- How a box was served, by what each call says.
+use Rattle.std.proofs.Common.{◌≡◌, ◌≢◌, ◌∙◌, sym, ap, refl, subst, arith, ℕ, ℤ, List, length, Option, Some, None, inl, inr, ◌≤◌}
+use Rattle.std.specs.Prelude.{◌⊎◌}
+use Rattle.std.specs.Io.KnownBytes.{Appends}
+use Rattle.std.proofs.Math.Seq.{take-length}
+use Rattle.tap_base.specs.Counts.{Rose}
+use Rattle.tap_rows.specs.declared.tables.Tables.{Tables}
+use Rattle.tap_top.specs.Premises.{IfKnown, IsCalm}
+use Rattle.pop_session.specs.declared.letter.Letter.{Letter}
+use Rattle.pop_session.specs.Ends.{IsSession, LettersEnd}
+use Rattle.pop_box.specs.Letters.{letters_in}
+use Rattle.pop_box.specs.Served.{BoxLine, NoBox, BoxServed, IsUnserved, IsUndisturbed, Served, Unchanged}
+
+-- nothing was served, and nothing written
+pub unserved : (status : ℕ) (found : Option (List Letter)) (user secret : List ℕ) (left left' out out' : Option (List ℕ)) (versions : ℤ → Type 0) → IsUnserved status → (status ≡ 4 → ⊥) → left' ≡ left → out' ≡ out → Served status found user secret left left' out out' versions
+unserved status found user secret left left' out out' versions is four unread silent = record {
+  unread = λ _. unread;
+  silent = λ _. silent;
+  served = λ _. inl is;
+  put = λ e. absurd (four e);
+}
+
+-- the store was refused
+pub refused : (status : ℕ) (found : Option (List Letter)) (user secret : List ℕ) (left left' out out' : Option (List ℕ)) (versions : ℤ → Type 0) → (status ≡ 6) ⊎ (status ≡ 4) → left' ≡ left → IfKnown versions ⊥ → Served status found user secret left left' out out' versions
+refused status found user secret left left' out out' versions is unread never = record {
+  unread = λ _. unread;
+  silent = λ quiet. absurd (loud is quiet);
+  served = λ four. inl (six is four);
+  put = λ _ v version known. absurd (never v version known);
+} where
+  loud : (status ≡ 6) ⊎ (status ≡ 4) → (status ≡ 2) ⊎ ((status ≡ 5) ⊎ (status ≡ 7)) → ⊥
+  loud is quiet = grind (arith, is, quiet)
+
+  six : (status ≡ 6) ⊎ (status ≡ 4) → status ≢ 4 → IsUnserved status
+  six (inl e) four = inr (inr (inl e))
+  six (inr e) four = absurd (four e)
+
+-- the box was served
+pub box-served : (status : ℕ) (found : Option (List Letter)) (user secret : List ℕ) (left left' out out' : Option (List ℕ)) (versions : ℤ → Type 0) → (IsUnserved status → ⊥) → BoxServed status found user secret left left' out out' → Served status found user secret left left' out out' versions
+box-served status found user secret left left' out out' versions not box = record {
+  unread = λ is. absurd (not is);
+  silent = λ is. absurd (not (quiet is));
+  served = λ _. inr box;
+  put = λ _ v version known. box;
+} where
+  quiet : (status ≡ 2) ⊎ ((status ≡ 5) ⊎ (status ≡ 7)) → IsUnserved status
+  quiet (inl e) = inl e
+  quiet (inr (inl e)) = inr (inl e)
+  quiet (inr (inr e)) = inr (inr (inr e))
+
+pub session-serves : (status : ℕ) → IsSession status → IsUnserved status → ⊥
+session-serves status session is = grind (arith, session, is)
+
+pub line-serves : (status : ℕ) → (status ≡ 9) ⊎ (status ≡ 4) → IsUnserved status → ⊥
+line-serves status line is = grind (arith, line, is)
+
+-- over the letters of the box
+pub letters-served : (status : ℕ) (letters : List Letter) (found : Option (List Letter)) (user secret : List ℕ) (left left' out out' : Option (List ℕ)) (versions : ℤ → Type 0) → Some letters ≡ found → IsSession status → LettersEnd status user secret letters left left' out out'
+    → Served status found user secret left left' out out' versions
+letters-served status letters found user secret left left' out out' versions is session ends =
+    subst (λ f. Served status f user secret left left' out out' versions) is
+    (box-served status (Some letters) user secret left left' out out' versions (session-serves status session) (session, ends))
+
+-- without such a box
+pub none-served : (status : ℕ) (found : Option (List Letter)) (user secret : List ℕ) (left left' out out' : Option (List ℕ)) (versions : ℤ → Type 0) → None ≡ found → (status ≡ 9) ⊎ (status ≡ 4) → left' ≡ left → BoxLine status out out'
+    → Served status found user secret left left' out out' versions
+none-served status found user secret left left' out out' versions is statuses unread line =
+    subst (λ f. Served status f user secret left left' out out' versions) is
+    (box-served status None user secret left left' out out' versions (line-serves status statuses) (record { statuses = statuses; unread = unread; line = line }))
+
+-- the words' own user, box and secret
+pub served-words : (status : ℕ) (t : Tables) (user user' name name' secret secret' : List ℕ) (left left' out out' : Option (List ℕ)) (versions : ℤ → Type 0) → user ≡ user' → name ≡ name' → secret ≡ secret'
+    → Served status (letters_in user name t) user secret left left' out out' versions → Served status (letters_in user' name' t) user' secret' left left' out out' versions
+served-words status t user user' name name' secret secret' left left' out out' versions u n s served =
+    subst (λ x. Served status (letters_in user' name' t) user' x left left' out out' versions) s
+    (subst (λ x. Served status (letters_in user' x t) user' secret left left' out out' versions) n
+    (subst (λ x. Served status (letters_in x name t) x secret left left' out out' versions) u served))

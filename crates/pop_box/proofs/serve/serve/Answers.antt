@@ -1,0 +1,45 @@
+use Rattle.std.proofs.Common.{◌≡◌, ◌∙◌, refl, sym, subst, inl, inr, ℕ, List, Option}
+use Rattle.command_words.specs.declared.option_fault.OptionFault.{OptionFault}
+use Rattle.command_words.specs.declared.option_fault.OptionFault.TheVariants.{Refused as RefusedWords, Memory}
+use Rattle.command_words.proofs.PopWorded.{worded-pop}
+use Rattle.tap_top.proofs.Refusals.{Refused-none}
+use Rattle.pop_box.proofs.Served.{unserved, served-words}
+use Rattle.pop_box.proofs.serve.serve.Goals as goal
+
+not-both : (x : OptionFault) → x ≡ RefusedWords → x ≡ Memory → ⊥
+not-both x one two = cc
+
+pub returns-in-Err-Refused-clause-exact : goal.returns-in-Err-Refused-clause-exact
+returns-in-Err-Refused-clause-exact g c = λ _. c.in-Err-Refused.ensures.refused c.in-Err-Refused.field-0-is
+
+pub returns-in-Err-Refused-clause-session : goal.returns-in-Err-Refused-clause-session
+returns-in-Err-Refused-clause-session g c = λ t honest holds store. unserved 2 _ _ _ _ _ _ _ _ (inl refl) (λ e. cc) refl refl
+
+pub returns-in-Err-Refused-clause-unchanged : goal.returns-in-Err-Refused-clause-unchanged
+returns-in-Err-Refused-clause-unchanged g c = λ t honest holds. record { alone = holds.alone; told = λ _. holds.told }
+
+pub returns-in-Err-Refused-clause-refused : goal.returns-in-Err-Refused-clause-refused
+returns-in-Err-Refused-clause-refused g c = λ t honest holds v version fault is. Refused-none 2 fault _ _ _ _ _ _ t (inl refl) (λ e. cc) refl refl (λ _. holds.told) holds.alone
+
+pub returns-in-Err-Refused-clause-complete : goal.returns-in-Err-Refused-clause-complete
+returns-in-Err-Refused-clause-complete g c = λ path user name secret worded reads puts keeps. absurd (not-both c.in-Err-Refused.field-0 c.in-Err-Refused.field-0-is (c.in-Err-Refused.ensures.fine path user name secret worded))
+
+pub returns-in-Err-Memory-clause-named : goal.returns-in-Err-Memory-clause-named
+returns-in-Err-Memory-clause-named g c = λ path user name secret worded.
+    let asked = worded-pop c.args.words.now path user name secret worded in (asked.place, (asked.user_is, (asked.name_is, asked.secret_is)))
+
+pub returns-in-Err-Memory-clause-session : goal.returns-in-Err-Memory-clause-session
+returns-in-Err-Memory-clause-session g c = λ t honest holds store. unserved 7 _ _ _ _ _ _ _ _ (inr (inr (inr refl))) (λ e. cc) refl refl
+
+pub returns-in-Err-Memory-clause-unchanged : goal.returns-in-Err-Memory-clause-unchanged
+returns-in-Err-Memory-clause-unchanged g c = λ t honest holds. record { alone = holds.alone; told = λ _. holds.told }
+
+pub returns-in-Err-Memory-clause-refused : goal.returns-in-Err-Memory-clause-refused
+returns-in-Err-Memory-clause-refused g c = λ t honest holds v version fault is. Refused-none 7 fault _ _ _ _ _ _ t (inr (inr (inr (inr refl)))) (λ e. cc) refl refl (λ _. holds.told) holds.alone
+
+pub returns-clause-session : goal.returns-clause-session
+returns-clause-session g c = λ t honest holds store.
+    served-words c.serve_box.result t _ _ _ _ _ _ _ _ _ _ _ c.in-Ok.ensures.user c.in-Ok.ensures.name c.in-Ok.ensures.secret (c.serve_box.ensures.session t honest holds store)
+
+pub returns-clause-complete : goal.returns-clause-complete
+returns-clause-complete g c = λ path user name secret worded reads puts keeps. c.serve_box.ensures.complete reads puts keeps

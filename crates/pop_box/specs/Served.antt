@@ -1,0 +1,51 @@
+-- How a box was served, by the status.
+use Rattle.std.specs.Prelude.{ℕ, ℤ, ⊤, ◌≡◌, ◌≢◌, ◌≤◌, ◌⊎◌, List, Bool, length, take, codes, Option, Some, None}
+use Rattle.std.specs.Io.KnownBytes.{Appends}
+use Rattle.tap_rows.specs.declared.tables.Tables.{Tables}
+use Rattle.tap_top.specs.Premises.{IfKnown}
+use Rattle.pop_session.specs.declared.letter.Letter.{Letter}
+use Rattle.pop_session.specs.Letters.{line}
+use Rattle.pop_session.specs.Ends.{IsSession, LettersEnd}
+
+-- the line that says that there is no such box
+abbrev pub box_line : List ℕ
+box_line = line (codes "-ERR box")
+
+-- of the line the first n bytes were put, all of them with status 9
+pub record BoxLine (status : ℕ) (out out' : Option (List ℕ)) : Type 0 where
+  pub n : ℕ
+  pub written : Appends out out' (take n box_line)
+  pub whole : status ≡ 9 → take n box_line ≡ box_line
+
+-- the line that says that there is no such box was put, or a front of it; nothing was read
+pub record NoBox (status : ℕ) (left left' out out' : Option (List ℕ)) : Type 0 where
+  pub statuses : (status ≡ 9) ⊎ (status ≡ 4)
+  pub unread : left' ≡ left
+  pub line : BoxLine status out out'
+
+-- the box was found, and a session over its letters was held; or there is none, and the line says so
+abbrev pub BoxServed : ℕ → Option (List Letter) → List ℕ → List ℕ → Option (List ℕ) → Option (List ℕ) → Option (List ℕ) → Option (List ℕ) → Type 0
+BoxServed status None user secret left left' out out' = NoBox status left left' out out'
+BoxServed status (Some letters) user secret left left' out out' = IsSession status × LettersEnd status user secret letters left left' out out'
+
+-- the status says that nothing was served: the words were refused, the keeper failed, the store was refused, or memory ran out
+abbrev pub IsUnserved : ℕ → Type 0
+IsUnserved status = (status ≡ 2) ⊎ ((status ≡ 5) ⊎ ((status ≡ 6) ⊎ (status ≡ 7)))
+
+-- the status of a run that no fault cut off
+abbrev pub IsUndisturbed : ℕ → Type 0
+IsUndisturbed status = (status ≤ 1) ⊎ ((status ≡ 6) ⊎ ((status ≡ 7) ⊎ ((status ≡ 8) ⊎ (status ≡ 9))))
+
+-- over the store of tables in which the letters of the box are these: with a status that says that nothing was served,
+-- nothing was read, and nothing was written unless the store was refused; else the box was served. Status 4 also comes if
+-- the line of a refused store can't be put, which no store of a known version is
+pub record Served (status : ℕ) (found : Option (List Letter)) (user secret : List ℕ) (left left' out out' : Option (List ℕ)) (versions : ℤ → Type 0) : Type 0 where
+  pub unread : IsUnserved status → left' ≡ left
+  pub silent : (status ≡ 2) ⊎ ((status ≡ 5) ⊎ (status ≡ 7)) → out' ≡ out
+  pub served : status ≢ 4 → IsUnserved status ⊎ BoxServed status found user secret left left' out out'
+  pub put : status ≡ 4 → IfKnown versions (BoxServed status found user secret left left' out out')
+
+-- the tables are unchanged: a crash leaves them alone, and unless the keeper failed it tells them
+pub record Unchanged (status : ℕ) (tables : Tables) (tells leaves : Tables → Type 0) : Type 0 where
+  pub alone : (x : Tables) → leaves x → x ≡ tables
+  pub told : status ≢ 5 → tells tables

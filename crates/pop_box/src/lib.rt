@@ -1,0 +1,11 @@
+//! One session of the post office protocol, version 3 (RFC 1939), over the box of a store.
+#![tactic(auto)]
+
+mod letters;
+mod no_box;
+mod serve;
+
+pub use serve::serve;
+
+#[cfg(test)]
+mod tests;

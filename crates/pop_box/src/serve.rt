@@ -1,0 +1,167 @@
+//! The top call: reads the words, opens the store, and holds a session over the letters of a box.
+ghost use Rattle.std.specs.Prelude.{◌≡◌, ◌≢◌, ◌≤◌, ◌⊎◌, ◌↔◌, ℕ, List, [], Option, Some, None, true, false};
+ghost use Rattle.std.specs.List.{All};
+ghost use Rattle.std.specs.Str.{IsUtf8};
+ghost use Rattle.clap.specs.Words.{takes, fault_of as faults_of};
+ghost use Rattle.command_words.specs.PopOptions.{pop_app};
+ghost use Rattle.command_words.specs.PopWords.{pop_place_in, user_in, box_in, secret_in, IsPopWorded};
+ghost use Rattle.command_words.specs.WellWorded.{place_of};
+ghost use Rattle.keeper_core.specs.Keeping.{IsDurable};
+ghost use Rattle.tap_base.specs.Counts.{Rose};
+ghost use Rattle.tap_rows.specs.declared.tables.Tables.{Tables};
+ghost use Rattle.tap_top.specs.declared.store_fault.StoreFault.{StoreFault as StoreFaultOf};
+ghost use Rattle.tap_top.specs.Premises.{FromStore, FromVersion, IfKnown, IsCalm};
+ghost use Rattle.tap_top.specs.Refusals.{fault_of, Refused};
+ghost use Rattle.pop_box.specs.Letters.{letters_in};
+ghost use Rattle.pop_session.specs.Ends.{TookMany};
+ghost use Rattle.pop_box.specs.Served.{Served, Unchanged, IsUndisturbed};
+
+use crate::letters::letters_from;
+use crate::no_box::refuse_box;
+use command_words::{OptionFault, PopWords, read_pop_words};
+use keeper_core::Keeper;
+use pop_session::hold_session;
+use std::alloc::Global;
+use std::sync::ledger::Ledger;
+use tap_base::{Memory, Steps, Text, Texts};
+use tap_edges::{Sink, Source};
+use tap_top::{OpenFault, open_store, refuse};
+
+// Returns a text that is UTF-8 as a `str`.
+fn as_str(text: &Text) -> &str
+    requires { IsUtf8 text.now }
+    ensures { result.now ≡ text.now }
+{
+    std::str::from_utf8(text.as_slice()).unwrap_or("")
+}
+
+// Opens the store at the place that the words name, and holds a session over the letters of the box; returns the status.
+fn serve_box<S: Source, K: Sink, P: Keeper, L: Ledger>(
+    alloc: Global,
+    asked: &PopWords,
+    source: &mut S,
+    sink: &mut K,
+    keeper: &mut P,
+    steps: &mut Steps<L>,
+) -> u8
+    requires free { P.attached keeper.old ≡ false }
+    requires running { P.stopped keeper.old ≡ false }
+    requires text { IsUtf8 asked.now.place }
+    ensures session { FromStore (P.honest keeper.new) (P.tells keeper.old) (P.may_leave keeper.old) (λ t.
+        Served result (letters_in asked.now.user asked.now.name t) asked.now.user asked.now.secret
+        (S.left source.old) (S.left source.new) (K.out sink.old) (K.out sink.new) (P.has_version keeper.old)) }
+    ensures unchanged { (t : Tables) → P.honest keeper.new → IsDurable (P.tells keeper.old) (P.may_leave keeper.old) t →
+        Unchanged result t (P.tells keeper.new) (P.may_leave keeper.new) }
+    ensures refused { FromVersion (P.honest keeper.new) (P.tells keeper.old) (P.may_leave keeper.old) (P.has_version keeper.old) (λ t v.
+        (fault : StoreFaultOf) → fault_of v t ≡ Some fault →
+        Refused result fault (S.left source.old) (S.left source.new) (K.out sink.old) (K.out sink.new)
+        (P.tells keeper.new) (P.may_leave keeper.new) t) }
+    ensures fine { FromVersion (P.honest keeper.new) (P.tells keeper.old) (P.may_leave keeper.old) (P.has_version keeper.old) (λ t v.
+        fault_of v t ≡ None → result ≢ 6) }
+    ensures known { FromStore (P.honest keeper.new) (P.tells keeper.old) (P.may_leave keeper.old) (λ t.
+        IfKnown (P.has_version keeper.old) (result ≢ 6)) }
+    ensures read_cause { result ≡ 3 → Rose (S.faults source.old) (S.faults source.new) }
+    ensures put_cause { result ≡ 4 → Rose (K.faults sink.old) (K.faults sink.new) }
+    ensures stopped { (P.stopped keeper.new ≡ true) ↔ (result ≡ 5) }
+    ensures keeper_cause { result ≡ 5 → Rose (P.faults keeper.old) (P.faults keeper.new) }
+    ensures many { result ≡ 8 → TookMany (S.left source.old) (S.left source.new) }
+    ensures complete { IsCalm (S.faults source.old) (S.faults source.new) →
+        IsCalm (K.faults sink.old) (K.faults sink.new) →
+        IsCalm (P.faults keeper.old) (P.faults keeper.new) →
+        IsUndisturbed result }
+    ensures statuses { (result ≤ 9) × (result ≢ 2) }
+    ensures place { (result ≡ 7) ⊎ (P.place keeper.new ≡ asked.now.place) }
+{
+    let engine = match open_store(alloc, as_str(&asked.place), keeper) {
+        Ok(engine) => engine,
+        Err(OpenFault::Refused(fault)) => return refuse(fault, sink),
+        Err(OpenFault::Keeper) => return 5,
+        Err(OpenFault::Memory) => return 7,
+    };
+    let user = asked.user.as_slice();
+    match letters_from(alloc, engine, user, asked.name.as_slice(), steps) {
+        Ok(Some(letters)) => hold_session(user, asked.secret.as_slice(), letters.as_slice(), source, sink),
+        Ok(None) => refuse_box(sink),
+        Err(Memory) => 7,
+    }
+}
+
+/// Serves the box of a store by one session of the post office protocol, version 3 (RFC 1939): reads the words of the command
+/// line, attaches the keeper at the place that they name, checks its tables, copies the letters of the box, greets, and
+/// answers the requests of the source, up to an accepted QUIT. The letters are the documents of the user's box, in the order
+/// in which `list` shows them. It reads pieces of at most 65,536 bytes, and puts the reply to each request before it looks at
+/// the next one. After the greeting it takes no memory. It changes nothing in the store.
+///
+/// Returns the status:
+/// - 0: QUIT was accepted, and all replies were put;
+/// - 1: the input ended before that, and all replies were put;
+/// - 2: the words are refused; nothing was attached, read or written;
+/// - 3: a read failed;
+/// - 4: a put failed;
+/// - 5: the keeper failed; nothing was read or written;
+/// - 6: the store is refused; one line says why, and nothing was read;
+/// - 7: out of memory; nothing was read or written;
+/// - 8: no QUIT was accepted among the first 268,435,456 bytes, and more were taken;
+/// - 9: there is no such box, and the line `-ERR box` says so; nothing was read.
+pub fn serve<S: Source, K: Sink, P: Keeper, L: Ledger>(
+    alloc: Global,
+    words: &Texts,
+    source: &mut S,
+    sink: &mut K,
+    keeper: &mut P,
+    steps: &mut Steps<L>,
+) -> u8
+    requires free { P.attached keeper.old ≡ false }
+    requires running { P.stopped keeper.old ≡ false }
+    requires texts { All IsUtf8 words.now }
+
+    // The words of the command line.
+    ensures words { result ≡ 2 → takes pop_app words.now ≡ false }
+    ensures exact { result ≡ 2 → faults_of pop_app words.now ≢ [] }
+    ensures worded { (path : Option (List ℕ)) (user name secret : List ℕ) → IsPopWorded words.now path user name secret → result ≢ 2 }
+    ensures faulty { (result ≡ 2) ⊎ ((result ≡ 7) ⊎ (faults_of pop_app words.now ≡ [])) }
+    ensures nothing { result ≡ 2 →
+        (keeper.new ≡ keeper.old) × ((K.out sink.new ≡ K.out sink.old) × (S.left source.new ≡ S.left source.old)) }
+    ensures place { (result ≡ 2) ⊎ ((result ≡ 7) ⊎ (P.place keeper.new ≡ pop_place_in words.now)) }
+    ensures named { (path : Option (List ℕ)) (user name secret : List ℕ) → IsPopWorded words.now path user name secret →
+        (pop_place_in words.now ≡ place_of path) × ((user_in words.now ≡ user) × ((box_in words.now ≡ name) × (secret_in words.now ≡ secret))) }
+
+    // A box of a store that a session left: how it was served, by the status.
+    ensures session { FromStore (P.honest keeper.new) (P.tells keeper.old) (P.may_leave keeper.old) (λ t.
+        Served result (letters_in (user_in words.now) (box_in words.now) t) (user_in words.now) (secret_in words.now)
+        (S.left source.old) (S.left source.new) (K.out sink.old) (K.out sink.new) (P.has_version keeper.old)) }
+
+    // Whatever the store holds, it is unchanged.
+    ensures unchanged { (t : Tables) → P.honest keeper.new → IsDurable (P.tells keeper.old) (P.may_leave keeper.old) t →
+        Unchanged result t (P.tells keeper.new) (P.may_leave keeper.new) }
+
+    // A store is refused if and only if its version isn't known or one of its rows is damaged.
+    ensures refused { FromVersion (P.honest keeper.new) (P.tells keeper.old) (P.may_leave keeper.old) (P.has_version keeper.old) (λ t v.
+        (fault : StoreFaultOf) → fault_of v t ≡ Some fault →
+        Refused result fault (S.left source.old) (S.left source.new) (K.out sink.old) (K.out sink.new)
+        (P.tells keeper.new) (P.may_leave keeper.new) t) }
+    ensures fine { FromVersion (P.honest keeper.new) (P.tells keeper.old) (P.may_leave keeper.old) (P.has_version keeper.old) (λ t v.
+        fault_of v t ≡ None → result ≢ 6) }
+    ensures known { FromStore (P.honest keeper.new) (P.tells keeper.old) (P.may_leave keeper.old) (λ t.
+        IfKnown (P.has_version keeper.old) (result ≢ 6)) }
+
+    // When each status comes.
+    ensures read_cause { result ≡ 3 → Rose (S.faults source.old) (S.faults source.new) }
+    ensures put_cause { result ≡ 4 → Rose (K.faults sink.old) (K.faults sink.new) }
+    ensures stopped { (P.stopped keeper.new ≡ true) ↔ (result ≡ 5) }
+    ensures keeper_cause { result ≡ 5 → Rose (P.faults keeper.old) (P.faults keeper.new) }
+    ensures many { result ≡ 8 → TookMany (S.left source.old) (S.left source.new) }
+    ensures complete { (path : Option (List ℕ)) (user name secret : List ℕ) → IsPopWorded words.now path user name secret →
+        IsCalm (S.faults source.old) (S.faults source.new) →
+        IsCalm (K.faults sink.old) (K.faults sink.new) →
+        IsCalm (P.faults keeper.old) (P.faults keeper.new) →
+        IsUndisturbed result }
+    ensures statuses { result ≤ 9 }
+{
+    let asked = match read_pop_words(alloc, words) {
+        Ok(asked) => asked,
+        Err(OptionFault::Refused) => return 2,
+        Err(OptionFault::Memory) => return 7,
+    };
+    serve_box(alloc, &asked, source, sink, keeper, steps)
+}

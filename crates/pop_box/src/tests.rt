@@ -1,0 +1,132 @@
+//! Sessions over a store in memory: the worked session, in pieces of each size, and each way in which none begins.
+ghost use Rattle.std.specs.Prelude.{◌≡◌, ◌<◌, false, IfOk};
+ghost use Rattle.std.specs.List.{All};
+ghost use Rattle.std.specs.Str.{IsUtf8};
+
+use crate::serve;
+use keeper_core::MemKeeper;
+use std::alloc::Global;
+use std::marker::Brand;
+use std::sync::ledger::{Blank, Ledger};
+use std::test::Fail;
+use tap_base::{Memory, Steps, Text, Texts};
+use tap_edges::{MemSink, MemSource};
+use tap_rows::Tables;
+use tap_top::tapestry;
+
+// The commands that leave the store of the worked session: two letters, of which the second has a line that begins with a dot.
+const STORE: &[u8] =
+    b"as ann\nat 100\nquery all TRUE\nmail\nSubject: hi\n\n.\nat 101\nmail\nSubject: dots\n\n..a\n.\nat 200\nrun all\n";
+
+const REQUESTS: &[u8] =
+    b"USER ann\r\nPASS no\r\nSTAT\r\nuser ann\r\nPASS pw\r\nSTAT\r\nLIST 2\r\nUIDL\r\nRETR 2\r\nDELE 1\r\nRETR 3\r\nTOP 1 0\r\nQUIT\r\n";
+
+const REPLIES: &[u8] =
+    b"+OK tapestry\r\n+OK\r\n-ERR denied\r\n-ERR state\r\n+OK\r\n+OK\r\n+OK 2 36\r\n+OK 2 21\r\n+OK\r\n1 d1\r\n2 d2\r\n.\r\n+OK 21\r\nSubject: dots\r\n\r\n..a\r\n.\r\n-ERR kept\r\n-ERR message\r\n-ERR unknown\r\n+OK\r\n";
+
+// Returns the words of a line, one blank between them.
+fn words_in(alloc: Global, line: &str) -> Result<Texts, Memory>
+    ensures { IfOk result (λ words. All IsUtf8 words) }
+{
+    let mut words = Texts::new(alloc);
+    for word in line.split(' ') {
+        words.push(Text::from_slice(alloc, word.as_bytes())?)?;
+    }
+    Ok(words)
+}
+
+// Returns 1 for 0, and other numbers unchanged.
+fn at_least_one(size: usize) -> usize
+    ensures { 0 < result }
+{
+    if size == 0 { 1 } else { size }
+}
+
+// Returns a source of bytes in pieces of `size` bytes.
+fn source_of(alloc: Global, bytes: &[u8], size: usize) -> Result<MemSource, Memory> {
+    let sizes = vec![in alloc; at_least_one(size)]?;
+    Ok(MemSource::new(Text::from_slice(alloc, bytes)?, sizes, Vec::new(alloc)))
+}
+
+// Performs the commands that leave the store, with the counter of a blank.
+fn fill<L: Ledger>(alloc: Global, blank: Blank, keeper: &mut MemKeeper) -> Result<u8, Memory>
+    requires name { blank.name ≡ L.name }
+    requires parts { blank.parts ≡ L.parts }
+    requires some { 0 < blank.parts }
+    requires free { keeper.old.attached ≡ false }
+    requires running { keeper.old.stopped ≡ false }
+{
+    let mut steps = Steps::<L>::start(blank);
+    let mut source = source_of(alloc, STORE, 4096)?;
+    let mut sink = MemSink::new(alloc, 4096, Vec::new(alloc))?;
+    let words = Texts::new(alloc);
+    Ok(tapestry(alloc, &words, &mut source, &mut sink, keeper, &mut steps))
+}
+
+// Returns the tables of the store.
+fn store(alloc: Global) -> Result<Tables, Memory> {
+    let mut keeper = MemKeeper::new(alloc, Tables::empty(alloc), 2, Vec::new(alloc));
+    let _status = fill::<Brand>(alloc, Blank::new(1), &mut keeper)?;
+    Ok(keeper.after_crash())
+}
+
+// Serves over these tables, with the counter of a blank; returns the status and what was written.
+fn serve_over<L: Ledger>(
+    alloc: Global,
+    blank: Blank,
+    tables: Tables,
+    words: &Texts,
+    source: &mut MemSource,
+) -> Result<(u8, Text), Memory>
+    requires name { blank.name ≡ L.name }
+    requires parts { blank.parts ≡ L.parts }
+    requires some { 0 < blank.parts }
+    requires texts { All IsUtf8 words.now }
+{
+    let mut steps = Steps::<L>::start(blank);
+    let mut keeper = MemKeeper::new(alloc, tables, 2, Vec::new(alloc));
+    let mut sink = MemSink::new(alloc, 4096, Vec::new(alloc))?;
+    let status = serve(alloc, words, source, &mut sink, &mut keeper, &mut steps);
+    Ok((status, Text::from_slice(alloc, sink.written())?))
+}
+
+// Serves the requests in pieces of `size` bytes over the store; returns the status and what was written.
+fn served(alloc: Global, line: &str, requests: &[u8], size: usize) -> Result<(u8, Text), Memory> {
+    let tables = store(alloc)?;
+    let words = words_in(alloc, line)?;
+    let mut source = source_of(alloc, requests, size)?;
+    serve_over::<Brand>(alloc, Blank::new(1), tables, &words, &mut source)
+}
+
+#[test]
+fn a_session_is_answered_in_pieces_of_any_size(rt: HostRuntime) -> Result<(), Fail> {
+    let sizes: [usize; 3] = [4096, 1, 7];
+    for size in sizes {
+        let (status, written) = served(
+            rt.alloc(),
+            "--user ann --box all --pass pw",
+            REQUESTS,
+            size,
+        )?;
+        assert_eq!(rt; status, 0);
+        assert_eq!(rt; written.as_slice(), REPLIES);
+    }
+    Ok(())
+}
+
+#[test]
+fn each_end_has_its_status(rt: HostRuntime) -> Result<(), Fail> {
+    let rows: [(&str, u8, &[u8]); 5] = [
+        ("--user ann --box all --pass pw", 1, b"+OK tapestry\r\n"),
+        ("--pass pw --box none --user ann", 9, b"-ERR box\r\n"),
+        ("--user Ann --box all --pass pw", 9, b"-ERR box\r\n"),
+        ("--user ann --box all", 2, b""),
+        ("--user ann --box all --pass pw --user bob", 2, b""),
+    ];
+    for (line, status, written) in rows {
+        let ended = served(rt.alloc(), line, b"", 4096)?;
+        assert_eq!(rt; ended.0, status);
+        assert_eq!(rt; ended.1.as_slice(), written);
+    }
+    Ok(())
+}

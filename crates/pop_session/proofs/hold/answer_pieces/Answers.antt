@@ -1,0 +1,55 @@
+use Rattle.std.proofs.Common.{arith, ◌≤◌, ◌<◌, length}
+use Rattle.pop_session.specs.declared.hold.TheConstants.{SESSION_LIMIT, PIECE}
+use Rattle.pop_session.proofs.PieceRuns.{Answering-start, Answering-more, Answering-quit, Answering-read, Answering-end, Answering-long, Answering-cut, none-taken, many-taken, few-taken, begun-none, begun-open, begun-grows, quit-ends, end-ends, read-ends, put-ends, long-ends}
+use Rattle.pop_session.proofs.hold.answer_pieces.Goals as goal
+
+pub pieces-init : goal.pieces-init
+pieces-init g c = record {
+  answering = Answering-start _ _ _ _ (begun-none c.args.session.now c.requires.unread c.requires.first) (begun-open c.args.session.now c.requires.unread c.requires.first);
+  few = omega arith;
+  ready = c.requires.ready;
+  reads = omega arith;
+  puts = omega arith;
+}
+
+pub pieces-preserved : goal.pieces-preserved
+pieces-preserved g c =
+    let within : c.in-Ok.n ≤ PIECE = grind (arith, c.in-Ok.ensures.bound) in record {
+      answering = Answering-more _ _ _ _ c.in-Ok.n c.least-room.result c.piece.new.into _ _ _ _ _ _ _ _ _ c.pieces.invariant.answering c.pieces-test.true c.in-Ok.ensures.bound.0 c.in-Ok.ensures.bytes.0 c.least-room.ensures
+          c.in-Ok-false.ensures.ok c.in-Ok-false.ensures.next c.in-Ok-false.ensures.quits _ c.in-Ok-false.field-0-test c.in-Ok-false.ensures.quit;
+      few = few-taken _ c.in-Ok.n c.pieces-test.true within;
+      ready = c.in-Ok-false.ensures.ready c.in-Ok-false.field-0-test;
+      reads = (let a = c.pieces.invariant.reads in let b = c.in-Ok.ensures.cause.later in omega arith);
+      puts = (let a = c.pieces.invariant.puts in let b = c.in-Ok-false.ensures.cause.later in omega arith);
+    }
+
+pub returns-in-Err-clause-ends : goal.returns-in-Err-clause-ends
+returns-in-Err-clause-ends g c = read-ends _ _ _ _ _ _ _ (Answering-read _ _ _ _ _ _ _ _ _ _ c.pieces.invariant.answering c.pieces-test.true c.in-Err.ensures.bytes)
+
+pub returns-then-n-eq0-clause-ends : goal.returns-then-n-eq0-clause-ends
+returns-then-n-eq0-clause-ends g c =
+    let some : 0 < length c.piece.new.into = grind arith in
+    end-ends _ _ _ _ _ _ _ (Answering-end _ _ _ _ _ _ _ _ _ _ c.pieces.invariant.answering c.pieces-test.true (none-taken _ _ c.in-Ok.n c.piece.new.into c.if-n-eq0.true c.in-Ok.ensures.bytes.0)) (c.in-Ok.ensures.bytes.1 c.if-n-eq0.true some)
+
+pub returns-in-Ok-true-clause-ends : goal.returns-in-Ok-true-clause-ends
+returns-in-Ok-true-clause-ends g c =
+    let within : c.in-Ok.n ≤ PIECE = grind (arith, c.in-Ok.ensures.bound) in
+    quit-ends _ _ _ _ _ _ _
+    (Answering-quit _ _ _ _ c.in-Ok.n c.least-room.result c.piece.new.into _ _ _ _ _ _ _ _ c.pieces.invariant.answering c.pieces-test.true c.in-Ok.ensures.bound.0 within c.in-Ok.ensures.bytes.0 c.least-room.ensures
+    c.in-Ok-true.ensures.ok c.in-Ok-true.ensures.next (c.in-Ok-true.ensures.over c.in-Ok-true.field-0-test) _ c.in-Ok-true.field-0-test c.in-Ok-true.ensures.quit)
+
+pub returns-in-Err-take-clause-ends : goal.returns-in-Err-take-clause-ends
+returns-in-Err-take-clause-ends g c =
+    let within : c.in-Ok.n ≤ PIECE = grind (arith, c.in-Ok.ensures.bound) in
+    put-ends _ _ _ _ _ _ _
+    (Answering-cut _ _ _ _ c.in-Ok.n c.least-room.result c.piece.new.into _ _ _ _ _ _ _ c.in-Err-take.field-0 (begun-grows c.args.session.now c.requires.unread c.requires.first c.replies_grow.ensures) c.pieces.invariant.answering c.pieces-test.true c.in-Ok.ensures.bound.0 within c.in-Ok.ensures.bytes.0 c.least-room.ensures c.in-Err-take.ensures.err)
+
+pub returns-clause-ends : goal.returns-clause-ends
+returns-clause-ends g c =
+    let many : SESSION_LIMIT < c.pieces.taken = (let e = c.pieces-test.false in omega arith) in
+    long-ends _ _ _ _ _ _ _ (Answering-long _ _ _ _ _ _ _ _ _ c.pieces.invariant.answering many c.pieces.invariant.few)
+
+pub returns-clause-many : goal.returns-clause-many
+returns-clause-many g c = λ _.
+    let many : SESSION_LIMIT < c.pieces.taken = (let e = c.pieces-test.false in omega arith) in
+    many-taken _ _ _ c.pieces.invariant.answering.taking many c.pieces.invariant.few

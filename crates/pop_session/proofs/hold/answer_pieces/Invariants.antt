@@ -1,0 +1,18 @@
+use Rattle.std.proofs.Common.{◌≡◌, ◌≤◌, ◌-◌, ◌+◌}
+use Rattle.pop_session.specs.declared.hold.TheConstants.{SESSION_LIMIT, PIECE}
+use Rattle.pop_session.specs.Sessions.{IsReady, replies_from, quits_from}
+use Rattle.pop_session.proofs.PieceRuns.{Answering}
+use Rattle.pop_session.proofs.hold.answer_pieces.Given as goal
+
+-- the replies to the bytes taken so far were put
+abbrev pub invariant-pieces : goal.invariant-pieces
+invariant-pieces g l = record {
+  answering : Answering (g.S.Source.left l.fn.source) (g.S.Source.left l.source) l.taken (replies_from l.fn.session) (replies_from l.session) (quits_from l.fn.session) (quits_from l.session) (g.K.Sink.out l.fn.sink) (g.K.Sink.out l.sink);
+  few : l.taken ≤ SESSION_LIMIT + PIECE;
+  ready : IsReady l.session;
+  reads : g.S.Source.faults l.fn.source ≤ g.S.Source.faults l.source;
+  puts : g.K.Sink.faults l.fn.sink ≤ g.K.Sink.faults l.sink;
+}
+
+abbrev pub decreases-pieces : goal.decreases-pieces
+decreases-pieces g l = SESSION_LIMIT + 1 - l.taken

@@ -1,0 +1,90 @@
+//! A session over the files of a store.
+
+ghost use Rattle.std.specs.Prelude.{◌≡◌, ◌≢◌, ◌<◌, ◌↔◌, true, Some, None};
+ghost use Rattle.std.specs.List.{All};
+ghost use Rattle.std.specs.Str.{IsUtf8};
+ghost use Rattle.command_words.specs.PopWords.{user_in, box_in, secret_in};
+ghost use Rattle.keeper_file.specs.Cases.{Tells, IsHonest, MayLeave, is_stopped};
+ghost use Rattle.keeper_file.specs.Images.{ImageHasVersion};
+ghost use Rattle.sqlite.specs.Files.{over_files};
+ghost use Rattle.sqlite_wal.specs.Files.{image_at};
+ghost use Rattle.tap_top.specs.declared.store_fault.StoreFault.{StoreFault as StoreFaultOf};
+ghost use Rattle.tap_top.specs.Premises.{IfKnown};
+ghost use Rattle.tap_top.specs.Refusals.{fault_of, Refused};
+ghost use Rattle.pop_box.specs.Letters.{letters_in};
+ghost use Rattle.pop_box.specs.Served.{Served, Unchanged};
+ghost use Rattle.tapestry_pop.specs.Sessions.{FromFiles, FromFilesOf, FromTables};
+
+use keeper_core::Keeper;
+use keeper_file::{FileKeeper, PathOpener};
+use pop_box::serve;
+use sqlite::{FileFrom, FileStore, Start};
+use std::sync::ledger::{Blank, Ledger};
+use tap_base::{Steps, Texts};
+use tap_edges::{Sink, Source};
+
+/// Serves the box that the words name, over the files that they name, which held what `S` says. Returns the status, and the
+/// keeper with its files open.
+pub fn run_on_files<'a, I: Source, K: Sink, S: Start, L: Ledger>(
+    rt: &'a HostRuntime,
+    words: &Texts,
+    source: &mut I,
+    sink: &mut K,
+    start: S,
+    blank: Blank,
+) -> (u8, FileKeeper<FileStore<FileFrom<S>>, PathOpener<'a, S>>)
+    requires name { blank.name ≡ L.name }
+    requires parts { blank.parts ≡ L.parts }
+    requires some { 0 < blank.parts }
+    requires texts { All IsUtf8 words.now }
+
+    // A box of a store that a session left in the files: how it was served, by the status.
+    ensures session { FromFiles (image_at S.Start) (IsHonest (image_at S.Start) over_files result.1.inner) (λ t.
+        Served result.0 (letters_in (user_in words.now) (box_in words.now) t) (user_in words.now) (secret_in words.now)
+        (I.left source.old) (I.left source.new) (K.out sink.old) (K.out sink.new) (ImageHasVersion (image_at S.Start))) }
+
+    // Whatever the files hold, it is unchanged.
+    ensures unchanged { FromTables (image_at S.Start) (IsHonest (image_at S.Start) over_files result.1.inner) (λ t.
+        Unchanged result.0 t (Tells (image_at S.Start) over_files result.1.inner) (MayLeave (image_at S.Start) over_files result.1.inner)) }
+
+    // The store of the files is refused if and only if its version isn't known or one of its rows is damaged.
+    ensures refused { FromFilesOf (image_at S.Start) (IsHonest (image_at S.Start) over_files result.1.inner) (λ t v.
+        (fault : StoreFaultOf) → fault_of v t ≡ Some fault →
+        Refused result.0 fault (I.left source.old) (I.left source.new) (K.out sink.old) (K.out sink.new)
+        (Tells (image_at S.Start) over_files result.1.inner) (MayLeave (image_at S.Start) over_files result.1.inner) t) }
+    ensures fine { FromFilesOf (image_at S.Start) (IsHonest (image_at S.Start) over_files result.1.inner) (λ t v.
+        fault_of v t ≡ None → result.0 ≢ 6) }
+    ensures known { FromFiles (image_at S.Start) (IsHonest (image_at S.Start) over_files result.1.inner) (λ t.
+        IfKnown (ImageHasVersion (image_at S.Start)) (result.0 ≢ 6)) }
+    ensures stopped { (is_stopped result.1.inner ≡ true) ↔ (result.0 ≡ 5) }
+{
+    let mut steps = Steps::<L>::start(blank);
+    let mut keeper = FileKeeper::new(PathOpener::new(rt, start));
+    let status = serve(rt.alloc(), words, source, sink, &mut keeper, &mut steps);
+    (status, keeper)
+}
+
+/// Serves a box over the files that the words name, and closes them in order unless the keeper failed or the store was
+/// refused. Returns the status.
+pub fn session<I: Source, K: Sink, S: Start, L: Ledger>(
+    rt: &HostRuntime,
+    words: &Texts,
+    source: &mut I,
+    sink: &mut K,
+    start: S,
+    blank: Blank,
+) -> u8
+    requires name { blank.name ≡ L.name }
+    requires parts { blank.parts ≡ L.parts }
+    requires some { 0 < blank.parts }
+    requires texts { All IsUtf8 words.now }
+{
+    let (status, keeper) = run_on_files::<_, _, _, L>(rt, words, source, sink, start, blank);
+    if status == 5 || status == 6 {
+        drop(keeper);
+    } else {
+        // A close that fails loses no committed row, and changes no status.
+        drop(keeper.close());
+    }
+    status
+}

@@ -1,0 +1,32 @@
+//! One session of the post office protocol, version 3 (RFC 1939), over a box of a store: standard input has the client's
+//! bytes, and standard output takes the replies, as under a superserver.
+#![tactic(auto)]
+
+mod file_session;
+
+use command_words::{WordsFault, words_of_line};
+use file_session::session;
+use sqlite::Unknown;
+use std::marker::Brand;
+use std::process::ExitCode;
+use std::sync::ledger::Blank;
+use tap_edges::{StdSink, StdSource};
+
+fn main(rt: HostRuntime) -> ExitCode {
+    let words = match words_of_line(&rt, rt.alloc()) {
+        Ok(words) => words,
+        Err(WordsFault::NotText) => return ExitCode::from(2),
+        Err(WordsFault::Memory) => return ExitCode::from(7),
+    };
+    let mut source = StdSource::new(rt.stdin());
+    let mut sink = StdSink::new(rt.stdout());
+    let status = session::<_, _, _, Brand>(
+        &rt,
+        &words,
+        &mut source,
+        &mut sink,
+        Unknown,
+        Blank::new(1),
+    );
+    ExitCode::from(status)
+}
