@@ -6,7 +6,8 @@
 LIBRARY is bench/fail_alloc.c as a shared library. With FILE each run has a new store on disk, and what is stored is compared too.
 A run must end with status 7 and write the beginning of the replies, or answer `no 18` to one command and then all others as if that
 command weren't there. MOST is the most runs of a script (400): above that every so many-th allocation fails, and the stride is said.
-The status is 1 if a run did anything else.
+What the program allocates for an empty script too, as it opens and closes its store, is swept once. The status is 1 if a run did
+anything else.
 """
 
 import os
@@ -53,6 +54,8 @@ class Sweep:
     def __init__(self, program, library, has_file, folder):
         self.program, self.library, self.has_file, self.folder = program, library, has_file, folder
         self.store, self.count = f"{folder}/store", f"{folder}/count"
+        # How many allocations an empty script has.
+        self.base = 0
 
     def run(self, script, fails):
         """The status, the replies, the rows and the number of allocations."""
@@ -80,9 +83,9 @@ class Sweep:
     def sweep(self, name, script):
         commands = commands_of(script)
         status, whole, rows, allocations = self.run(script, 0)
-        stride = -(-allocations // MOST)
+        stride = max(1, -(-(allocations - self.base) // MOST))
         without, kinds, wrong = {}, {"status 7": 0, "no 18": 0, "the same": 0}, []
-        for fails in range(1, allocations + 1, stride):
+        for fails in range(self.base + 1, allocations + 1, stride):
             got, out, kept, _ = self.run(script, fails)
             if got == 7 and whole.startswith(out):
                 kinds["status 7"] += 1
@@ -100,7 +103,7 @@ class Sweep:
                     wrong.append(fails)
             else:
                 wrong.append(fails)
-        said = f"{name}: {allocations} allocations, stride {stride}; " + ", ".join(f"{it} {n}" for it, n in kinds.items())
+        said = f"{name}: {allocations - self.base} allocations, stride {stride}; " + ", ".join(f"{it} {n}" for it, n in kinds.items())
         print(said + (f"; WRONG at {wrong[:10]}" if wrong else ""), flush=True)
         return not wrong
 
@@ -109,7 +112,8 @@ def main(words):
     program, library, where, *scripts = words
     with tempfile.TemporaryDirectory() as folder:
         sweep = Sweep(program, library, where == "FILE", folder)
-        right = True
+        right = sweep.sweep("an empty script", b"")
+        sweep.base = sweep.run(b"", 0)[3]
         for path in scripts:
             with open(path, "rb") as it:
                 right = sweep.sweep(os.path.basename(path), it.read()) and right
