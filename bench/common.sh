@@ -9,20 +9,19 @@ scratch="$(mktemp -d)"
 trap 'rm -rf "$scratch"' EXIT
 [ -n "${PROGRAM:-}" ] || "$top/tools/prove.py" --program "$name" </dev/null
 
-# Runs the program, with the words that follow, on a script and prints a line with its name, size, seconds and memory.
+# Runs the program, with the words that follow, on a script and prints a line with its name, size, seconds, processor seconds and
+# memory. Sets `seconds`, and `cpu`, which other work on the machine changes less.
 measure() {
-  local title="$1" script="$2" bytes start end memory
+  local title="$1" script="$2" bytes memory times
   shift 2
   bytes=$(wc -c <"$script")
   if [ -x /usr/bin/time ]; then
-    /usr/bin/time -f '%e %M' -o "$scratch/time" "$program" "$@" <"$script" >"$scratch/replies" || true
-    read -r seconds memory < <(tail -n 1 "$scratch/time")
+    /usr/bin/time -f '%e %U %S %M' -o "$scratch/time" "$program" "$@" <"$script" >"$scratch/replies" || true
   else
-    start=$(date +%s.%N)
-    "$program" "$@" <"$script" >"$scratch/replies" || true
-    end=$(date +%s.%N)
-    seconds=$(awk "BEGIN { printf \"%.2f\", $end - $start }")
-    memory='?'
+    times=$({ TIMEFORMAT='%R %U %S'; time "$program" "$@" <"$script" >"$scratch/replies" 2>/dev/null || true; } 2>&1)
+    echo "$times ?" >"$scratch/time"
   fi
-  printf '%-36s %12s bytes %8s s %10s KB  last reply: %s\n' "$title" "$bytes" "$seconds" "$memory" "$(tail -n 1 "$scratch/replies")"
+  read -r seconds cpu memory < <(tail -n 1 "$scratch/time" | awk '{ print $1, $2 + $3, $4 }')
+  printf '%-36s %12s bytes %8s s %8s s of the processor %10s KB  last reply: %s\n' \
+    "$title" "$bytes" "$seconds" "$cpu" "$memory" "$(tail -n 1 "$scratch/replies")"
 }

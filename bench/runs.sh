@@ -1,6 +1,6 @@
 #!/usr/bin/env bash
 # What runs cost beside the documents that are stored: the same runs over few and over many documents, timed as the
-# difference between a script with the runs and the same script without them.
+# difference between a script with the runs and the same script without them, in seconds of the processor.
 . "$(dirname "$0")/common.sh"
 
 # So many short mails, a second apart, under one query; then `turns` more turns of the awk statement, each for one k.
@@ -18,10 +18,10 @@ turns() {
   local title="$1" n="$2" count="$3" query="$4" turn="$5" without
   script "$n" 0 "$query" "$turn"
   measure "$n documents, $title: before" "$scratch/script"
-  without=$seconds
+  without=$cpu
   script "$n" "$count" "$query" "$turn"
   measure "$n documents, $title: with" "$scratch/script"
-  awk -v a="$without" -v b="$seconds" -v c="$count" 'BEGIN { printf "  microseconds each: %.1f\n", (b - a) * 1000000 / c }'
+  awk -v a="$without" -v b="$cpu" -v c="$count" 'BEGIN { printf "  microseconds each: %.1f\n", (b - a) * 1000000 / c }'
 }
 
 quiet='print "at " now + k; print "run q"'

@@ -1,0 +1,204 @@
+#!/usr/bin/env python3
+"""Measures what queries of each shape cost, by the processor time of the program between two places of a script.
+
+  bench/shapes.py PROGRAM [PEER]
+
+One process a line: so many mails, a query, its first run, rounds of one event each, a run, and as many rounds of one event and one
+run. A round is the difference of the last two by the number of rounds; of three such differences the middle one counts. PEER is the program of bench/peer.c: it gets the same script,
+with the query in its own form, and its replies to the runs have to be the same.
+
+Mail i comes a second after mail i - 1. It has the message id <i@example.org>, one of 10 senders, one of 100 subjects and three
+words. Each fourth replies to the mail before it and has it in its references; each fifth has a note. SIZES are the numbers of mails,
+CROSS those of the two cross products, ROUNDS the rounds, LIMIT the most seconds of one line, SHAPES a text that the names of the
+shapes have.
+"""
+
+import os
+import statistics
+import subprocess
+import sys
+import time
+
+LIMIT = float(os.environ.get("LIMIT", "120"))
+ROUNDS = int(os.environ.get("ROUNDS", "200"))
+SIZES = [int(it) for it in os.environ.get("SIZES", "1000 10000 100000").split()]
+CROSS = [int(it) for it in os.environ.get("CROSS", "20 80 320").split()]
+SHAPES = os.environ.get("SHAPES", "")
+TURNS = 3
+TEN_DAYS = 10 * 86400
+
+
+def mail(i):
+    reply = f"In-Reply-To: <{i - 1}@example.org>\nReferences: <{i - 1}@example.org>\n" if i % 4 == 0 else ""
+    return (
+        f"mail\nFrom: sender{i % 10}@example.org\nMessage-ID: <{i}@example.org>\nSubject: subject{i % 100}\n"
+        f"Date: Thu, 01 Jan 1970 01:00:00 +0000\n{reply}\nword{i % 50} rare{i} lunch\n.\n"
+    )
+
+
+def new_mail(size, k):
+    return mail(size + k)
+
+
+def new_reply(size, k):
+    """A reply to a mail that has none, as long as there are such mails."""
+    to = 4 * k % size + (1 if 4 * k < size else 2)
+    return f"mail\nMessage-ID: <reply{k}@example.org>\nIn-Reply-To: <{to}@example.org>\nReferences: <{to}@example.org>\n\nyes\n.\n"
+
+
+def new_note(size, k):
+    return f"note {k % size + 1} score 3 fine\n"
+
+
+# Name, query, event, query of the peer.
+ROWS = [
+    ("a word", "m.words HAS 'lunch'", new_mail, "word lunch"),
+    ("a rare word", "m.words HAS 'rare7'", new_mail, "word rare7"),
+    ("a sender", "m.from = 'sender3@example.org'", new_mail, "sender sender3@example.org"),
+    ("no reply within ten days", "NOW >= m.ts + 10 DAYS AND NOT EXISTS (r: DOC WHERE r.inreplyto = m.msgid)", new_mail, f"silence {TEN_DAYS}"),
+    ("has a reply", "EXISTS (r: DOC WHERE r.inreplyto = m.msgid)", new_reply, None),
+    ("has a note of a kind", "EXISTS (a: NOTE WHERE a.doc = m.id AND a.kind = 'score')", new_note, None),
+    ("no note yet", "NOT EXISTS (a: NOTE WHERE a.doc = m.id)", new_mail, None),
+    ("a reply that has a note", "EXISTS (r: DOC WHERE r.inreplyto = m.msgid AND EXISTS (a: NOTE WHERE a.doc = r.id))", new_note, None),
+    ("the day after", "TODAY > m.ts", new_mail, None),
+    ("three days after the date", "NOW >= m.date + 3 DAYS", new_mail, None),
+    ("one of four words", "m.words HAS 'word1' OR m.words HAS 'word2' OR m.words HAS 'word3' OR m.words HAS 'word4'", new_mail, None),
+    ("another of its subject", "EXISTS (r: DOC WHERE r.subject = m.subject AND r.id > m.id)", new_mail, None),
+    ("a thread by references", "EXISTS (r: DOC WHERE r.references HAS m.msgid)", new_reply, None),
+]
+CROSS_ROWS = [
+    ("a cross product", "EXISTS (a: DOC WHERE EXISTS (b: DOC WHERE a.size = 1))"),
+    ("a cross product with marks", "EXISTS (x: DOC WHERE EXISTS (g: DOC WHERE NOW = g.ts - 7 SECONDS) AND x.id > m.id)"),
+]
+
+
+class TooLong(Exception):
+    """The program took more than LIMIT seconds."""
+
+
+class Session:
+    """A running program that is fed in parts. Each part ends with a line that is no command, and so with the reply `no 1`."""
+
+    def __init__(self, program):
+        self.process = subprocess.Popen([program], stdin=subprocess.PIPE, stdout=subprocess.PIPE)
+        os.set_blocking(self.process.stdin.fileno(), False)
+        os.set_blocking(self.process.stdout.fileno(), False)
+        self.seconds = 0.0
+
+    def clock(self):
+        with open(f"/proc/{self.process.pid}/schedstat", encoding="ascii") as it:
+            return int(it.read().split()[0]) / 1e9
+
+    def part(self, text):
+        """The processor seconds of these commands, and the replies to them."""
+        start = self.clock()
+        left = memoryview((text + "part\n").encode())
+        pieces, end = [], b""
+        reader, writer = self.process.stdout.fileno(), self.process.stdin.fileno()
+        while not (b"\n" + end).endswith(b"\nno 1\n"):
+            moved = False
+            if left:
+                try:
+                    left = left[os.write(writer, left[:65536]) :]
+                    moved = True
+                except BlockingIOError:
+                    pass
+            try:
+                piece = os.read(reader, 1 << 20)
+                if not piece:
+                    raise SystemExit(f"shapes: the program ended with status {self.process.wait()}")
+                pieces.append(piece)
+                end = (end + piece)[-16:]
+                moved = True
+            except BlockingIOError:
+                pass
+            if not moved:
+                if self.clock() - start > LIMIT:
+                    raise TooLong
+                time.sleep(0.0005)
+        return self.clock() - start, b"".join(pieces)
+
+    def end(self):
+        self.process.kill()
+        self.process.wait()
+
+
+def measure(program, size, query, event, rounds):
+    """Seconds of the first run and of one round, and the replies to all runs."""
+    session = Session(program)
+    try:
+        text = ["at 1000\nas ann\n"]
+        for i in range(1, size + 1):
+            text.append(f"at {1000 + i}\n{mail(i)}" + (f"note {i} score 3 fine\n" if i % 5 == 0 else ""))
+        session.part("".join(text))
+        # Ten days later, so that an absence of that length has something to deliver.
+        now = 2000 + size + TEN_DAYS
+        _, said = session.part(f"at {now}\nquery q {query}\n")
+        if b"ok 0 query q" not in said:
+            raise SystemExit(f"shapes: {query}: {said.decode()}")
+        first, replies = session.part("run q\n")
+        if not rounds:
+            return first, None, replies
+
+        def events(begin, runs):
+            return "".join(f"at {now + k * 3600}\n{event(size, k)}at {now + k * 3600 + 1}\n" + "run q\n" * runs for k in range(begin, begin + rounds))
+
+        differences = []
+        for turn in range(TURNS):
+            without, _ = session.part(events(2 * turn * rounds + 1, 0))
+            _, said = session.part("run q\n")
+            replies += said
+            with_runs, said = session.part(events((2 * turn + 1) * rounds + 1, 1))
+            replies += b"".join(it for it in said.splitlines(True) if it.startswith((b"doc ", b"no ")) or b" run " in it)
+            differences.append(with_runs - without)
+        return first, max(0.0, statistics.median(differences)) / rounds, replies
+    finally:
+        session.end()
+
+
+def figure(seconds, unit, scale):
+    return "-" if seconds is None else f"{seconds * scale:.{2 if seconds * scale < 10 else 0}f} {unit}"
+
+
+def line(program, peer, name, size, query, event, peer_query, rounds):
+    try:
+        first, each, replies = measure(program, size, query, event, rounds)
+    except TooLong:
+        print(f"| {name} | {size:,} | more than {LIMIT:.0f} s | - | - | - |", flush=True)
+        return None
+    delivered = replies.count(b"\ndoc ")
+    refused = sum(it.startswith(b"no ") and it != b"no 1" for it in replies.splitlines())
+    beside = "-"
+    if peer and peer_query:
+        peer_first, peer_each, peer_replies = measure(peer, size, peer_query, event, rounds)
+        ratio = f"{first / peer_first:.1f}, {each / peer_each:.1f}" if peer_first and peer_each else "-"
+        beside = f"{figure(peer_first, 'ms', 1e3)}, {figure(peer_each, 'us', 1e6)}; times {ratio}"
+        if peer_replies != replies:
+            beside += "; OTHER REPLIES"
+    if refused:
+        beside += f"; {refused} REFUSED"
+    print(f"| {name} | {size:,} | {figure(first, 'ms', 1e3)} | {figure(each, 'us', 1e6)} | {delivered:,} | {beside} |", flush=True)
+    return first, each
+
+
+def main(words):
+    program, peer = words[0], words[1] if len(words) > 1 else None
+    print("| Shape | Mails | First run | A round | Delivered | In C: first run, round |\n|---|---|---|---|---|---|", flush=True)
+    slow = set()
+    for size in SIZES:
+        for name, query, event, peer_query in ROWS:
+            # What took long is not tried with ten times as many mails.
+            if SHAPES in name and name not in slow:
+                found = line(program, peer, name, size, query, event, peer_query, ROUNDS)
+                if not found or found[0] + (found[1] or 0) * ROUNDS > LIMIT / 20:
+                    slow.add(name)
+    for size in CROSS:
+        for name, query in CROSS_ROWS:
+            if SHAPES in name and name not in slow and not line(program, None, name, size, query, new_mail, None, 0):
+                slow.add(name)
+
+
+if __name__ == "__main__":
+    if not 2 <= len(sys.argv) <= 3:
+        sys.exit(__doc__)
+    main(sys.argv[1:])
