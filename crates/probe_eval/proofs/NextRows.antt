@@ -30,7 +30,7 @@ unfolding nearest_known near_known
 is_known_nearest path env = refl
 
 -- the nearest step is the same beside rows of the same variables
-pub nearest_held : (path : List Step) (env other : Env) → is_held env ≡ is_held other → nearest path env ≡ nearest path other
+nearest_held : (path : List Step) (env other : Env) → is_held env ≡ is_held other → nearest path env ≡ nearest path other
 nearest_held path env other h = is_known_nearest path env ∙ (ap (nearest_known path) h ∙ sym (is_known_nearest path other))
 
 held_at : (v : Var) (row other : Row) (env : Env) (k : ℕ) → is_held (bind v row env) k ≡ is_held (bind v other env) k

@@ -4,7 +4,6 @@ pub mod Open
 pub mod Tables
 pub mod Rests
 pub mod Nexts
-pub mod Apart
 pub mod Nested
 pub mod Searches
 pub mod Literals
