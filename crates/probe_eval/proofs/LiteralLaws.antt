@@ -1,5 +1,5 @@
 -- The documents that a posting list has under a guard's literal are those of which the guard is true.
-use Rattle.std.proofs.Common.{◌≡◌, ◌∙◌, ℕ, ℤ, pos, Bool, true, false, List, [], ◌∷◌, Option, Some, None, refl, sym, ap, subst, inl, inr, arith, map}
+use Rattle.std.proofs.Common.{◌≡◌, ◌∙◌, ℕ, ℤ, pos, Bool, true, false, List, [], ◌∷◌, Option, Some, None, refl, sym, ap, inl, inr, arith, map}
 use Rattle.std.specs.Prelude.{◌⊎◌, ◌&&◌, ◌||◌, ◌≤ℤ◌, ◌<ℤ◌, int_le, int_lt, filter, fold, is_some, nat_eq, nat_lt, option_to_list}
 use Rattle.std.specs.List.{list_any}
 use Rattle.std.specs.Str.{bytes_eq}
@@ -12,7 +12,7 @@ use Rattle.tap_rows.specs.declared.rows.Doc.{Doc}
 use Rattle.tap_rows.specs.declared.tables.Tables.{Tables}
 use Rattle.tap_rows.specs.Kept.{In, Each}
 use Rattle.tql_tree.specs.declared.table.Table.{Table}
-use Rattle.tql_tree.specs.declared.table.Table.TheVariants.{Docs, Notes}
+use Rattle.tql_tree.specs.declared.table.Table.TheVariants.{Docs}
 use Rattle.tql_core.specs.declared.term.Var.{Var}
 use Rattle.tql_core.specs.declared.atom.TextField.{TextField}
 use Rattle.tql_core.specs.declared.atom.TextField.TheVariants.{From, Subject, MsgId, InReplyTo}
@@ -21,7 +21,7 @@ use Rattle.tql_core.specs.declared.atom.ListField.TheVariants.{References, Words
 use Rattle.tql_core.specs.declared.atom.TextExpr.TheVariants.{Literal, Field}
 use Rattle.tql_core.specs.declared.atom.Atom.{Atom}
 use Rattle.tql_core.specs.declared.atom.Atom.TheVariants.{Texts, Has}
-use Rattle.tql_core.specs.Row.{Row, OfDoc, fields}
+use Rattle.tql_core.specs.Row.{OfDoc, fields}
 use Rattle.tql_core.specs.Values.{bind, text_field, list_field, both_texts, has, true_atom}
 use Rattle.row_index.specs.declared.text_kind.TextKind.{TextKind}
 use Rattle.row_index.specs.Orders.{in_window, doc_arrival, IsMoment}
@@ -29,7 +29,7 @@ use Rattle.row_index.specs.Texts as texts
 use Rattle.row_index.specs.Texts.{texts_of, with_text}
 use Rattle.time_marks.specs.declared.mark.Step.{Step}
 use Rattle.time_marks.specs.declared.seek.Seek.{Seek}
-use Rattle.time_marks.specs.declared.seek.Seek.TheVariants.{Arrived, Dated, Fixed, ArrivedDay, DatedDay}
+use Rattle.time_marks.specs.declared.seek.Seek.TheVariants.{Arrived, ArrivedDay}
 use Rattle.time_marks.specs.declared.window.Window.{Window}
 use Rattle.probe_eval.specs.Drivers.{stored_rows}
 use Rattle.probe_eval.specs.Literals.{field_kind, list_field_kind, kind_if, literal_kind, literal_of, list_length, shorter, rarer, rarest, chosen}

@@ -1,5 +1,5 @@
 -- The driving rows that are walked lead to the same hits as all driving rows.
-use Rattle.std.proofs.Common.{◌≡◌, ◌∙◌, ℕ, ◌≤◌, ℤ, Bool, true, false, List, [], ◌∷◌, ◌++◌, Option, Some, None, refl, sym, ap, subst, inl, inr, arith, map}
+use Rattle.std.proofs.Common.{◌≡◌, ◌∙◌, ℕ, ◌≤◌, ℤ, Bool, true, false, List, [], ◌∷◌, ◌++◌, Option, Some, None, refl, sym, ap, inl, inr, arith, map}
 use Rattle.std.specs.Prelude.{◌&&◌, filter, is_some, option_to_list}
 use Rattle.std.specs.List.{flat_map, list_all}
 use Rattle.std.proofs.lemmas.Bool.{cases_Bool, false≢true}
@@ -7,7 +7,6 @@ use Rattle.std.proofs.lemmas.Option.{none-some}
 use Rattle.tap_base.specs.declared.numbers.DocNum.{DocNum}
 use Rattle.tap_base.specs.declared.numbers.Op.TheVariants.{Eq}
 use Rattle.tap_rows.specs.declared.tables.Tables.{Tables}
-use Rattle.tap_rows.specs.declared.results.Hit.{Hit}
 use Rattle.tap_rows.specs.declared.results.Entry.{Entry}
 use Rattle.tap_rows.specs.Kept.{In}
 use Rattle.tql_core.specs.declared.term.Var.{Var}
@@ -29,7 +28,7 @@ use Rattle.probe_eval.specs.Drivers.{driving, walked, mark_in, marked_hits, hits
 use Rattle.probe_eval.specs.Literals.{field_kind, list_field_kind, literal_kind, chosen, narrowed}
 use Rattle.probe_eval.specs.Nested.{hit_if, new_doc, over_rows, holds_here, asked_or, hits_over}
 use Rattle.probe_eval.specs.Open.{atom_held, is_open, are_open, path_open, may_go}
-use Rattle.probe_eval.specs.Rests.{further, rest_of}
+use Rattle.probe_eval.specs.Rests.{further}
 use Rattle.probe_eval.specs.Tables.{table_in}
 use Rattle.probe_eval.specs.Work.{total}
 use Rattle.probe_eval.proofs.Costs.{total_filter}

@@ -1,5 +1,5 @@
 -- Guards that compare a text of a driving document with a literal: the index has a posting list under it.
-use Rattle.std.specs.Prelude.{ℕ, Option, Some, None, is_some, List, [], length, map, filter, fold, nat_eq, nat_lt, if◌then◌else◌}
+use Rattle.std.specs.Prelude.{ℕ, Option, Some, None, is_some, List, [], length, filter, fold, nat_eq, nat_lt, if◌then◌else◌}
 use Rattle.tap_base.specs.declared.numbers.Op.TheVariants.{Eq}
 use Rattle.tap_rows.specs.declared.tables.Tables.{Tables}
 use Rattle.tql_tree.specs.declared.table.Table.{Table}
