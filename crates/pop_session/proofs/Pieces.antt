@@ -1,13 +1,13 @@
 -- The requests of bytes that come in pieces.
-use Rattle.std.proofs.Common.{◌≡◌, ◌∙◌, sym, ap, subst, refl, arith, ℕ, List, [], ◌∷◌, ◌++◌, ◌+◌, ◌-◌, get_or, take, drop, length, Bool, true, false, if◌then◌else◌, ◌≤◌, ◌<◌, inl, inr}
-use Rattle.std.specs.Prelude.{◌==◌, nat_le, ◌⊎◌}
+use Rattle.std.proofs.Common.{◌≡◌, ◌∙◌, sym, ap, subst, refl, arith, ℕ, List, [], ◌∷◌, ◌++◌, ◌+◌, ◌-◌, get_or, take, length, true, false, if◌then◌else◌, ◌≤◌, ◌<◌, inl, inr}
+use Rattle.std.specs.Prelude.{nat_le, ◌⊎◌}
 use Rattle.std.specs.List.{position_or_len}
 use Rattle.std.proofs.lemmas.Bool.{cases_lt}
-use Rattle.std.proofs.lemmas.List.{append_assoc, append-nil, take_more, take_all, take-append-drop}
+use Rattle.std.proofs.lemmas.List.{append_assoc, append-nil, take_more, take_all}
 use Rattle.std.proofs.lemmas.Grind.{common_steps}
 use Rattle.std.proofs.lemmas.List.Sums.{passes_at_first}
-use Rattle.mail_lines.specs.Lines.{is_end, parts, without_end, NoEnd}
-use Rattle.mail_lines.proofs.Ends.{glue, has_first, HasFirst, parts-front, parts-line, NoEnd-append, NoEnd-take, NoEnd-front}
+use Rattle.mail_lines.specs.Lines.{is_end, without_end, NoEnd}
+use Rattle.mail_lines.proofs.Ends.{glue, has_first, parts-front, parts-line, NoEnd-append, NoEnd-take, NoEnd-front}
 use Rattle.pop_session.specs.declared.letter.Letter.{Letter}
 use Rattle.pop_session.specs.declared.outcome.Phase.{Phase}
 use Rattle.pop_session.specs.declared.reply.Refusal.TheVariants.{Long}

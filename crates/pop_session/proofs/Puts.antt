@@ -96,3 +96,11 @@ rows-put f rows i row bytes lt is b = rows-next f rows i row lt ∙ ap (λ xs. x
 pub on-cut : {T : Type 0} (r : Result T PutFailed) (start done : ℕ) (old mid new : Option (List ℕ)) (bytes more : List ℕ) → done ≡ counted (start + length bytes) → Appends old mid bytes → IfErr r (λ failed. TookSome done mid new more failed) → IfErr r (λ failed. TookSome start old new (bytes ++ more) failed)
 on-cut (Ok x) start done old mid new bytes more count one cut = tt
 on-cut (Err failed) start done old mid new bytes more count one cut = TookSome-then start done old mid new bytes more failed count one cut
+
+-- the same of bytes that are those of two puts
+pub on-cut-of : {T : Type 0} (r : Result T PutFailed) (start done : ℕ) (old mid new : Option (List ℕ)) (whole bytes more : List ℕ) → whole ≡ bytes ++ more → done ≡ counted (start + length bytes) → Appends old mid bytes → IfErr r (λ failed. TookSome done mid new more failed) → IfErr r (λ failed. TookSome start old new whole failed)
+on-cut-of (Ok x) start done old mid new whole bytes more is count one cut = tt
+on-cut-of (Err failed) start done old mid new whole bytes more is count one cut = subst (λ xs. TookSome start old new xs failed) (sym is) (TookSome-then start done old mid new bytes more failed count one cut)
+
+pub first-cut-of : (start : ℕ) (old new : Option (List ℕ)) (whole bytes more : List ℕ) (failed : PutFailed) → whole ≡ bytes ++ more → TookSome start old new bytes failed → TookSome start old new whole failed
+first-cut-of start old new whole bytes more failed is cut = subst (λ xs. TookSome start old new xs failed) (sym is) (TookSome-first start old new bytes more failed cut)

@@ -1,9 +1,12 @@
 -- The rows of letters, from one on.
-use Rattle.std.proofs.Common.{◌≡◌, ◌∙◌, sym, ap, arith, ℕ, suc, List, ◌++◌, ◌+◌, ◌<◌, drop, length, get_or}
+use Rattle.std.proofs.Common.{◌≡◌, ◌∙◌, sym, ap, arith, ℕ, suc, List, [], ◌∷◌, ◌++◌, ◌+◌, ◌<◌, drop, length, get_or, true}
+use Rattle.std.specs.Prelude.{◌==◌, slice_index, if◌then◌else◌}
+use Rattle.std.specs.List.{flat_map}
+use Rattle.digest_mail.specs.Digests.{lined}
 use Rattle.std.proofs.Math.Seq.{drop-cons}
 use Rattle.pop_session.specs.declared.letter.Letter.{Letter}
 use Rattle.pop_session.specs.declared.reply.Listing.{Listing}
-use Rattle.pop_session.specs.Letters.{line, row_text, rows_from}
+use Rattle.pop_session.specs.Letters.{line, stuffed, sent_lines, row_text, rows_from}
 
 -- the row of the next letter, and those of the letters after it
 pub rows-next : (listing : Listing) (letters : List Letter) (i : ℕ) (letter : Letter) (bytes : List ℕ) → i < length letters → letter ≡ get_or letters i letter → bytes ≡ line (row_text listing (i + 1) letter) → rows_from listing (i + 1) (drop i letters) ≡ bytes ++ rows_from listing (i + 1 + 1) (drop (i + 1) letters)
@@ -13,3 +16,11 @@ rows-next listing letters i letter bytes lt is row =
     ∙ ap (λ l. line (row_text listing (i + 1) l) ++ rows_from listing (i + 1 + 1) (drop (suc i) letters)) (sym is)
     ∙ ap (λ xs. xs ++ rows_from listing (i + 1 + 1) (drop (suc i) letters)) (sym row)
     ∙ ap (λ k. bytes ++ rows_from listing (i + 1 + 1) (drop k letters)) one
+
+-- a line that begins with a dot
+pub dotted : (text : List ℕ) → (slice_index text 0 == 46) ≡ true → line (stuffed text) ≡ (46 ∷ []) ++ line text
+dotted text e = ap (λ b. line (if b then 46 ∷ text else text)) e
+
+-- the lines of a text are the first and those of the rest
+pub lines-next : (text first rest : List ℕ) → lined text ≡ first ∷ lined rest → sent_lines text ≡ line (stuffed first) ++ sent_lines rest
+lines-next text first rest e = ap (flat_map (λ t. line (stuffed t))) e

@@ -1,6 +1,6 @@
 -- How large the lines of a text can be.
-use Rattle.std.proofs.Common.{◌≡◌, ◌∙◌, sym, ap, subst, refl, arith, ℕ, zero, suc, List, [], ◌∷◌, ◌++◌, ◌+◌, ◌-◌, ◌*◌, ◌≤◌, ◌<◌, take, drop, length, map, get_or, Bool, true, false}
-use Rattle.std.specs.Prelude.{◌==◌, if◌then◌else◌, min}
+use Rattle.std.proofs.Common.{◌≡◌, ◌∙◌, sym, ap, subst, refl, arith, ℕ, suc, List, [], ◌∷◌, ◌++◌, ◌+◌, ◌-◌, ◌*◌, ◌≤◌, ◌<◌, drop, length, map, get_or, Bool, true, false}
+use Rattle.std.specs.Prelude.{◌==◌, if◌then◌else◌}
 use Rattle.std.specs.List.{flat_map, onto_first, suffix_len, All}
 use Rattle.std.proofs.lemmas.List.{length-append, length-take}
 use Rattle.std.proofs.Math.Seq.{drop-cons}
@@ -98,3 +98,7 @@ total-next letters i letter lt is =
     ap total_size (drop-cons letters i letter lt)
     ∙ ap (λ l. size_of l.text + total_size (drop (suc i) letters)) (sym is)
     ∙ ap (λ k. size_of letter.text + total_size (drop k letters)) one
+
+-- nothing so far
+pub from-zero : (n : ℕ) → n ≡ 0 + n
+from-zero n = omega arith

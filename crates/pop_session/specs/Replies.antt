@@ -1,5 +1,5 @@
 -- The bytes of each reply.
-use Rattle.std.specs.Prelude.{ℕ, List, [], ◌∷◌, ◌++◌, length, Option, Some, None, codes}
+use Rattle.std.specs.Prelude.{ℕ, List, ◌++◌, length, Option, Some, None, codes}
 use Rattle.std.specs.Fmt.{decimal}
 use Rattle.pop_session.specs.declared.letter.Letter.{Letter}
 use Rattle.pop_session.specs.declared.reply.Listing.{Listing}
@@ -37,13 +37,13 @@ row_reply listing n (Some letter) = line (codes "+OK " ++ row_text listing n let
 -- the reply that is the text of a letter: its size, its lines, and a line of one dot
 abbrev pub text_reply : Option Letter → List ℕ
 text_reply None = line (refusal_text NoMessage)
-text_reply (Some letter) = line (codes "+OK " ++ decimal (size_of letter.text)) ++ sent_lines letter.text ++ line (codes ".")
+text_reply (Some letter) = line (codes "+OK " ++ decimal (size_of letter.text)) ++ (sent_lines letter.text ++ line (codes "."))
 
 -- the bytes of a reply
 abbrev pub reply_bytes : List Letter → Reply → List ℕ
 reply_bytes letters Accepted = line (codes "+OK")
 reply_bytes letters (Refused refusal) = line (refusal_text refusal)
 reply_bytes letters Totals = line (codes "+OK " ++ decimal (length letters) ++ codes " " ++ decimal (total_size letters))
-reply_bytes letters (Rows listing) = line (rows_head listing (length letters)) ++ rows_from listing 1 letters ++ line (codes ".")
+reply_bytes letters (Rows listing) = line (rows_head listing (length letters)) ++ (rows_from listing 1 letters ++ line (codes "."))
 reply_bytes letters (Row listing n) = row_reply listing n (letter_at letters n)
 reply_bytes letters (Text n) = text_reply (letter_at letters n)

@@ -1,9 +1,10 @@
 -- What a session replies to all of its bytes.
-use Rattle.std.specs.Prelude.{ℕ, ◌≡◌, ◌≤◌, ◌<◌, ◌-◌, List, [], ◌∷◌, ◌++◌, length, take, Bool, true, false, if◌then◌else◌}
+use Rattle.std.specs.Prelude.{ℕ, ◌≡◌, ◌≤◌, ◌<◌, ◌-◌, ◌⊎◌, List, [], ◌∷◌, ◌++◌, length, take, Bool, true, false, if◌then◌else◌}
 use Rattle.std.specs.List.{All}
 use Rattle.pop_session.specs.declared.letter.Letter.{Letter}
 use Rattle.pop_session.specs.declared.outcome.Phase.{Phase}
 use Rattle.pop_session.specs.declared.outcome.Phase.TheVariants.{Authorization, Named, Transaction, Ended}
+use Rattle.pop_session.specs.declared.outcome.Outcome.{Outcome}
 use Rattle.pop_session.specs.Requests.{requests, outcome_of}
 use Rattle.pop_session.specs.Replies.{greeting, reply_bytes}
 
@@ -69,6 +70,10 @@ pub record IsReady (s : Session) : Type 0 where
   pub not_ended : is_ended s.phase ≡ false
   pub not_failed : s.failed ≡ false
 
+-- is nothing more looked at? The piece is at its end, or the session is
+abbrev pub IsOver : Session → List ℕ → Type 0
+IsOver s rest = (length rest ≡ 0) ⊎ (is_ended s.phase ≡ true)
+
 -- the open request with some more bytes; of one that is too long a front is enough
 abbrev pub grown : List ℕ → List ℕ → List ℕ
 grown front bytes = front ++ take (513 - length front) bytes
@@ -77,3 +82,21 @@ grown front bytes = front ++ take (513 - length front) bytes
 pub record AreBounded (letters : List Letter) : Type 0 where
   pub few : length letters < 4294967296
   pub short : All (λ letter. length letter.text ≤ 1048576) letters
+
+-- a session that holds more bytes of its open request
+abbrev pub held : Session → List ℕ → Session
+held s bytes =
+    record { user = s.user; secret = s.secret; letters = s.letters; front = grown s.front bytes; phase = s.phase; greeted = s.greeted; failed = s.failed }
+
+-- the outcome of the open request, if an LF ends it here
+abbrev pub open_outcome : Session → Outcome
+open_outcome s = outcome_of s.user s.secret s.phase s.front
+
+-- the reply to the open request
+abbrev pub open_reply : Session → List ℕ
+open_reply s = reply_bytes s.letters (open_outcome s).reply
+
+-- a session after the reply to its open request
+abbrev pub answered : Session → Session
+answered s =
+    record { user = s.user; secret = s.secret; letters = s.letters; front = []; phase = (open_outcome s).phase; greeted = s.greeted; failed = s.failed }

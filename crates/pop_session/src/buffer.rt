@@ -1,8 +1,8 @@
 //! Lines of replies in a buffer of fixed size, made without memory.
-ghost use Rattle.std.specs.Prelude.{◌≡◌, ◌≤◌, ◌+◌, ◌++◌, List, ℕ, length, codes};
+ghost use Rattle.std.specs.Prelude.{◌≡◌, ◌≤◌, ◌+◌, ◌++◌, List, ℕ, ◌==◌, slice_index, length, codes};
 ghost use Rattle.std.specs.Fmt.{decimal};
 ghost use Rattle.arrayvec.specs.ArrayVec.{array_vec_len};
-ghost use Rattle.pop_session.specs.Letters.{line, size_of, row_text};
+ghost use Rattle.pop_session.specs.Letters.{line, stuffed, size_of, row_text};
 ghost use Rattle.pop_session.specs.Replies.{rows_head, refusal_text};
 ghost use Rattle.pop_session.specs.declared.reply.Listing.TheVariants.{Sizes, Ids};
 
@@ -160,4 +160,36 @@ pub(crate) fn one_row_line(listing: Listing, number: u64, letter: &Letter) -> Ar
     push_row(&mut buffer, listing, number, letter);
     push_bytes(&mut buffer, b"\r\n");
     buffer
+}
+
+// Returns a line of a letter, after what comes before it.
+fn line_after(front: &[u8], text: &[u8]) -> ArrayVec<u8, 1024>
+    requires front { length front.now ≤ 1 }
+    requires text { length text.now ≤ 1000 }
+    ensures { result.items ≡ front.now ++ line text.now }
+{
+    let mut buffer = ArrayVec::new();
+    let _front = buffer.try_extend_from_slice(front);
+    let _text = buffer.try_extend_from_slice(text);
+    let _end = buffer.try_extend_from_slice(b"\r\n");
+    buffer
+}
+
+/// Returns whether a line begins with a dot.
+pub(crate) fn has_dot(text: &[u8]) -> bool
+    ensures { result ≡ (slice_index text.now 0 == 46) }
+{
+    text.first() == Some(&b'.')
+}
+
+/// Returns a line of a letter as it is sent: with one more dot before one that begins with a dot (RFC 1939 3).
+pub(crate) fn sent_line(text: &[u8]) -> ArrayVec<u8, 1024>
+    requires { length text.now ≤ 1000 }
+    ensures { result.items ≡ line (stuffed text.now) }
+{
+    if has_dot(text) {
+        line_after(b".", text)
+    } else {
+        line_after(b"", text)
+    }
 }

@@ -9,7 +9,8 @@ ghost use Rattle.pop_session.specs.declared.reply.Reply.TheVariants.{Rows};
 ghost use Rattle.pop_session.specs.Sessions.{AreBounded};
 
 use crate::buffer::{
-    accepted_line, head_line, number_line, one_row_line, refusal_line, row_line, totals_line,
+    accepted_line, has_dot, head_line, number_line, one_row_line, refusal_line, row_line,
+    sent_line, totals_line,
 };
 use crate::letter::{Letter, letter_at, size_of, total_size};
 use crate::reply::{Listing, Refusal, Reply};
@@ -48,19 +49,33 @@ fn put_line<K: Sink>(sink: &mut K, start: usize, text: &[u8]) -> Result<usize, P
     }
 }
 
-// Puts a line of a letter, with one more dot before one that begins with a dot (RFC 1939 3).
+// Puts a long line of a letter as it is sent, without a copy.
+fn put_long_line<K: Sink>(sink: &mut K, start: usize, text: &[u8]) -> Result<usize, PutFailed>
+    ensures count { IfOk result (λ done. done ≡ counted (start + length (line (stuffed text.now)))) }
+    ensures ok { OnOk result (Appends (K.out sink.old) (K.out sink.new) (line (stuffed text.now))) }
+    ensures err { IfErr result (λ failed. TookSome start (K.out sink.old) (K.out sink.new) (line (stuffed text.now)) failed) }
+    ensures cause { HasCause (K.faults sink.old) (K.faults sink.new) result }
+{
+    if !has_dot(text) {
+        return put_line(sink, start, text);
+    }
+    match put_next(sink, start, b".") {
+        Ok(done) => put_line(sink, done, text),
+        Err(failed) => Err(failed),
+    }
+}
+
+// Puts a line of a letter as it is sent: a line that isn't long by one call.
 fn put_stuffed<K: Sink>(sink: &mut K, start: usize, text: &[u8]) -> Result<usize, PutFailed>
     ensures count { IfOk result (λ done. done ≡ counted (start + length (line (stuffed text.now)))) }
     ensures ok { OnOk result (Appends (K.out sink.old) (K.out sink.new) (line (stuffed text.now))) }
     ensures err { IfErr result (λ failed. TookSome start (K.out sink.old) (K.out sink.new) (line (stuffed text.now)) failed) }
     ensures cause { HasCause (K.faults sink.old) (K.faults sink.new) result }
 {
-    if text.first() != Some(&b'.') {
-        return put_line(sink, start, text);
-    }
-    match put_next(sink, start, b".") {
-        Ok(done) => put_line(sink, done, text),
-        Err(failed) => Err(failed),
+    if text.len() <= 1000 {
+        put_next(sink, start, sent_line(text).as_slice())
+    } else {
+        put_long_line(sink, start, text)
     }
 }
 

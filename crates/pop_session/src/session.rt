@@ -1,5 +1,5 @@
 //! A session: the client's bytes in pieces, and the replies to them.
-ghost use Rattle.std.specs.Prelude.{◌≡◌, ◌≤◌, ◌<◌, ◌+◌, ◌-◌, ◌++◌, List, [], ℕ, Bool, true, false, length, take, OnOk, OnErr, IfOk, IfErr};
+ghost use Rattle.std.specs.Prelude.{◌≡◌, ◌≤◌, ◌<◌, ◌+◌, ◌-◌, ◌++◌, List, [], ℕ, Bool, true, false, length, take, drop, OnOk, OnErr, IfOk, IfErr};
 ghost use Rattle.std.specs.List.{position_or_len};
 ghost use Rattle.std.specs.Io.KnownBytes.{Appends};
 ghost use Rattle.mail_lines.specs.Lines.{is_end, NoEnd};
@@ -7,6 +7,7 @@ ghost use Rattle.tap_edges.specs.Edges.{HasCause};
 ghost use Rattle.pop_session.specs.Puts.{counted, TookSome};
 ghost use Rattle.pop_session.specs.Replies.{greeting, reply_bytes};
 ghost use Rattle.pop_session.specs.Sessions.{Session, new_session, greeted, replies_from, quits_from, IsReady, is_ended, grown, AreBounded};
+ghost use Rattle.pop_session.specs.Sessions.{held, open_reply, answered, IsOver};
 
 use crate::buffer::greeting_line;
 use crate::letter::Letter;
@@ -85,6 +86,14 @@ fn is_ended(phase: Phase) -> bool
     }
 }
 
+// Returns the bytes after the first `n`.
+fn rest_from(bytes: &[u8], n: usize) -> &[u8]
+    requires { n ≤ length bytes.now }
+    ensures { result.now ≡ drop n bytes.now }
+{
+    &bytes[n..]
+}
+
 // How many bytes of a piece a request took, and how many bytes of the replies to the piece are put then.
 #[derive(Clone, Copy)]
 struct Step {
@@ -133,6 +142,46 @@ impl<'a> PopSession<'a> {
         }
     }
 
+    // Returns whether nothing more of a piece is looked at: it is at its end, or the session is.
+    fn is_over(&self, rest: &[u8]) -> bool
+        ensures over { result ≡ true → IsOver self.now rest.now }
+        ensures more { result ≡ false → (0 < length rest.now) × (is_ended self.now.phase ≡ false) }
+        ensures front { NoEnd self.now.front }
+    {
+        let ended = is_ended(self.phase);
+        rest.is_empty() || ended
+    }
+
+    // Holds more bytes of the open request.
+    fn hold(&mut self, bytes: &[u8])
+        requires { NoEnd bytes.now }
+        ensures next { self.new ≡ held self.old bytes.now }
+        ensures front { NoEnd self.old.front }
+    {
+        grow(&mut self.front, bytes);
+    }
+
+    // Puts the reply to the open request, and begins a new one. `start` bytes are put before.
+    fn answer<K: Sink>(&mut self, start: usize, sink: &mut K) -> Result<usize, PutFailed>
+        ensures count { IfOk result (λ done. done ≡ counted (start + length (open_reply self.old))) }
+        ensures ok { OnOk result (Appends (K.out sink.old) (K.out sink.new) (open_reply self.old)) }
+        ensures next { OnOk result (self.new ≡ answered self.old) }
+        ensures err { IfErr result (λ failed. TookSome start (K.out sink.old) (K.out sink.new) (open_reply self.old) failed) }
+        ensures cause { HasCause (K.faults sink.old) (K.faults sink.new) result }
+        ensures failed { OnErr result (self.new.failed ≡ true) }
+    {
+        let outcome = outcome_of(self.user, self.secret, self.phase, self.front.as_slice());
+        self.front.clear();
+        self.phase = outcome.phase;
+        match put_reply(sink, start, self.letters, outcome.reply) {
+            Ok(done) => Ok(done),
+            Err(failed) => {
+                self.failed = true;
+                Err(failed)
+            }
+        }
+    }
+
     // Takes the bytes of a piece up to the end of the next request, and puts the reply to it. `start` bytes are put before.
     fn take_one<K: Sink>(
         &mut self,
@@ -156,25 +205,19 @@ impl<'a> PopSession<'a> {
         ensures failed { OnErr result (self.new.failed ≡ true) }
     {
         let len = end_of_request(piece);
-        grow(&mut self.front, &piece[..len]);
+        self.hold(&piece[..len]);
         if len == piece.len() {
             return Ok(Step {
                 used: len,
                 done: start,
             });
         }
-        let outcome = outcome_of(self.user, self.secret, self.phase, self.front.as_slice());
-        self.front.clear();
-        self.phase = outcome.phase;
-        match put_reply(sink, start, self.letters, outcome.reply) {
+        match self.answer(start, sink) {
             Ok(done) => Ok(Step {
                 used: len + 1,
                 done,
             }),
-            Err(failed) => {
-                self.failed = true;
-                Err(failed)
-            }
+            Err(failed) => Err(failed),
         }
     }
 
@@ -198,11 +241,11 @@ impl<'a> PopSession<'a> {
     {
         let mut done = 0usize;
         let mut rest = piece;
-        'requests: while !rest.is_empty() && !is_ended(self.phase) {
+        'requests: while !self.is_over(rest) {
             match self.take_one(rest, done, sink) {
                 Ok(step) => {
                     done = step.done;
-                    rest = &rest[step.used..];
+                    rest = rest_from(rest, step.used);
                 }
                 Err(failed) => return Err(failed),
             }
