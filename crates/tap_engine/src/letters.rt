@@ -38,7 +38,8 @@ impl Engine {
     {
         let filter = last_filter(self.filters.as_slice(), user);
         let entries = copy_entries(alloc, &kept.entries)?;
-        rate(alloc, filter, entries.as_slice(), &self.index, steps)
+        let rows = rate(alloc, filter, entries.as_slice(), &self.index, steps)?;
+        Ok(rows)
     }
 
     /// Lists the user's box of this name in the order of the ratings by the user's last filter, as the command `list` does

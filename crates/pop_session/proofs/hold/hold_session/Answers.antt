@@ -1,4 +1,4 @@
-use Rattle.std.proofs.Common.{◌≡◌, ◌∙◌, sym, ap, subst, refl}
+use Rattle.std.proofs.Common.{◌≡◌, ◌∙◌, ap, subst, refl, []}
 use Rattle.pop_session.specs.Replies.{greeting}
 use Rattle.pop_session.specs.Sessions.{Session, new_session, greeted, replies_from, quits_from, pop_replies, has_quit}
 use Rattle.pop_session.specs.Ends.{SessionEnds}
