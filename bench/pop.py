@@ -5,7 +5,6 @@
   bench/pop.py wanted N FOLDER       writes these messages into a folder, as digest.py makes them
   bench/pop.py same N FOLDER         says whether a folder has these messages, whatever the names and line ends
   bench/pop.py fetch PORT FOLDER     fetches all messages by the module poplib
-  bench/pop.py deliver FOLDER        puts one message from standard input into a folder
   bench/pop.py password|hangup|long|two PORT    one trial; the status is 0 if all went as it should
   bench/pop.py title TRIAL           what the trial is
 """
@@ -16,7 +15,6 @@ import poplib
 import re
 import socket
 import sys
-import tempfile
 import time
 
 from digest import lined, messages, pieces
@@ -81,13 +79,6 @@ def fetch(port, folder):
     if total != size or len(set(ids)) != count:
         print(f"STAT said {size} bytes, {total} were sent", file=sys.stderr)
         return 1
-    return 0
-
-
-def deliver(folder):
-    handle, _ = tempfile.mkstemp(dir=folder)
-    with os.fdopen(handle, "wb") as it:
-        it.write(sys.stdin.buffer.read())
     return 0
 
 
@@ -162,8 +153,6 @@ def main(words):
             return same(int(count), folder)
         case ["fetch", port, folder]:
             return fetch(int(port), folder)
-        case ["deliver", folder]:
-            return deliver(folder)
         case ["title", trial]:
             print(TITLES[trial])
             return 0

@@ -64,8 +64,11 @@ set no bouncemail
 set idfile $scratch/fetchids
 poll 127.0.0.1 service $port protocol pop3 uidl timeout 30
   user ann password secret no sslcertck sslproto '' keep no rewrite nodropdelivered noforcecr invisible
-  mda "$check deliver $scratch/fetchmail"
+  mda "$scratch/deliver"
 RC
+  # One file a message.
+  printf '#!/bin/sh\nexec cat >"$(mktemp "%s/XXXXXX")"\n' "$scratch/fetchmail" >"$scratch/deliver"
+  chmod +x "$scratch/deliver"
   chmod 600 "$scratch/fetchmailrc"
   mkdir "$scratch/fetchmail"
   start=$(now); good=yes
