@@ -11,6 +11,7 @@ pub mod LeastSeconds
 pub mod Meant
 pub mod Members
 pub mod Nesting
+pub mod NextRows
 pub mod OpenLaws
 pub mod Ordered
 pub mod PairLaws

@@ -1,5 +1,6 @@
 -- One turn of the search for the rest of a path.
-use Rattle.std.proofs.Common.{◌≡◌, ℤ, true, false, None, List, [], ◌∷◌, refl}
+use Rattle.std.proofs.Common.{◌≡◌, ◌∙◌, ◌||◌, ℤ, Bool, true, false, None, List, [], ◌∷◌, refl, ap}
+use Rattle.std.specs.List.{list_any}
 use Rattle.tap_rows.specs.declared.tables.Tables.{Tables}
 use Rattle.tql_core.specs.Values.{Env}
 use Rattle.time_marks.specs.declared.mark.Step.{Step}
@@ -18,3 +19,7 @@ module _ (T : Tables) (path : List Step) (b : ℤ) where
   pub all_there : (order : List Reach) (env : Env) → may_go path b env ≡ true → nearest path env ≡ None → true ≡ rest_of T path b order env
   all_there [] env h n = rw (h, n) refl
   all_there (x ∷ rs) env h n = rw (h, n) refl
+
+-- the row that was handed out has no rest
+pub any_step : {A : Type 0} (f : A → Bool) (whole : Bool) (rows left : List A) (r : A) → whole ≡ list_any f rows → rows ≡ r ∷ left → f r ≡ false → whole ≡ list_any f left
+any_step f whole rows left r h e d = h ∙ (ap (list_any f) e ∙ ap (λ b. b || list_any f left) d)

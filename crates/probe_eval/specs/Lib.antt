@@ -3,6 +3,7 @@ pub mod Work
 pub mod Open
 pub mod Tables
 pub mod Rests
+pub mod Nexts
 pub mod Nested
 pub mod Searches
 pub mod Drivers

@@ -2,8 +2,10 @@
 
 ghost use Rattle.std.specs.Prelude.{◌≡◌, ◌+◌, ◌≤◌, length, Option};
 ghost use Rattle.access_plan.specs.Views.{option_reach};
+ghost use Rattle.probe_eval.specs.Nexts.{IsNext};
 ghost use Rattle.probe_eval.specs.Rests.{further, rest_of, rest_cost};
 
+use crate::Next;
 use crate::access_rows::rows_by;
 use crate::open::may_go;
 use access_plan::{Reach, ReachRef, nearest};
@@ -24,32 +26,55 @@ pub fn further<'a>(path: &'a [Step], mark: i64, env: &Env<'a>) -> Option<ReachRe
     }
 }
 
+/// Returns what `further` does. The nearest step is found once for all rows of a level.
+pub fn further_once<'a>(
+    path: &'a [Step],
+    next: &mut Next<'a>,
+    mark: i64,
+    env: &Env<'a>,
+) -> Option<ReachRef<'a>>
+    requires { IsNext path.now env.now next.old }
+    ensures reach { option_reach result ≡ further path.now mark env.now }
+    ensures next { IsNext path.now env.now next.new }
+{
+    if may_go(path, mark, env) {
+        next.get(path, env)
+    } else {
+        None
+    }
+}
+
 /// Returns whether there are rows for the rest of the path, arrived by the mark, with which all guards are true. It stops at
-/// the first. At most as many steps are left as `order` has.
-pub fn rest_exists<'a, L: Ledger>(
+/// the first. At most as many steps are left as `order` has. The nearest step is found once for all rows of a level.
+pub(crate) fn rest_exists<'a, L: Ledger>(
     path: &'a [Step],
     order: &'a [Reach],
+    next: &mut Next<'a>,
     env: &Env<'a>,
     mark: i64,
     index: &'a RowIndex,
     steps: &mut Steps<L>,
 ) -> bool
     requires room { length env.now + length order.now ≤ 16 }
+    requires next { IsNext path.now env.now next.old }
     ensures exists { result ≡ rest_of index.now path.now mark order.now env.now }
+    ensures next { IsNext path.now env.now next.new }
     ensures steps { steps.new ≤ steps.old + rest_cost index.now path.now mark order.now env.now }
     ensures more { steps.old ≤ steps.new }
 {
     if !may_go(path, mark, env) {
         return false;
     }
-    match nearest(path, env) {
+    match next.get(path, env) {
         None => true,
         Some(reach) => match order.split_first() {
             None => false,
             Some((_, rest)) => {
                 let mut rows = rows_by(reach.access, mark, env, index);
+                let mut below = Next::Unknown;
                 while let Some(row) = rows.next(steps) {
-                    if rest_exists(path, rest, &env.bind(reach.var, row), mark, index, steps) {
+                    let more = env.bind(reach.var, row);
+                    if rest_exists(path, rest, &mut below, &more, mark, index, steps) {
                         return true;
                     }
                 }

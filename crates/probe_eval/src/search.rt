@@ -4,8 +4,10 @@ ghost use Rattle.std.specs.Prelude.{◌≡◌, ◌+◌, ◌≤◌, length, slice
 ghost use Rattle.time_marks.specs.declared.ranged.Ranged.{Ranged};
 ghost use Rattle.probe_eval.specs.Runs.{part_order};
 ghost use Rattle.probe_eval.specs.Searches.{searched, HasBody, HasSlots};
+ghost use Rattle.probe_eval.specs.Nexts.{IsNext};
 ghost use Rattle.probe_eval.specs.Nested.{new_doc, holds_here, cost_here};
 
+use crate::Next;
 use crate::bodies::body_holds;
 use crate::rests::rest_exists;
 use access_plan::{Plan, Reach};
@@ -35,6 +37,35 @@ pub fn new_doc(seen: &LittleBox, doc: &KeptDoc) -> Option<DocNum>
     if seen.has(num) { None } else { Some(num) }
 }
 
+/// Returns whether the rest of the path exists beside these rows and the body is true of them. The nearest step is found
+/// once for all rows of a level.
+pub fn holds_once<'a, L: Ledger>(
+    search: &Search<'a>,
+    order: &'a [Reach],
+    next: &mut Next<'a>,
+    env: &Env<'a>,
+    mark: i64,
+    steps: &mut Steps<L>,
+) -> bool
+    requires node { HasBody search.now }
+    requires room { HasSlots search.now (length env.now + length order.now) }
+    requires next { IsNext search.now.probe.now.path env.now next.old }
+    ensures holds { result ≡ holds_here search.now.index.now (searched search.now) mark order.now env.now }
+    ensures next { IsNext search.now.probe.now.path env.now next.new }
+    ensures steps { steps.new ≤ steps.old + cost_here search.now.index.now (searched search.now) mark order.now env.now }
+    ensures more { steps.old ≤ steps.new }
+{
+    rest_exists(
+        search.probe.path.as_slice(),
+        order,
+        next,
+        env,
+        mark,
+        search.index,
+        steps,
+    ) && body_holds(search.pool, search.probe.body, env, search.index, steps)
+}
+
 /// Returns whether the rest of the path exists beside these rows and the body is true of them.
 pub fn holds_here<'a, L: Ledger>(
     search: &Search<'a>,
@@ -49,14 +80,7 @@ pub fn holds_here<'a, L: Ledger>(
     ensures steps { steps.new ≤ steps.old + cost_here search.now.index.now (searched search.now) mark order.now env.now }
     ensures more { steps.old ≤ steps.new }
 {
-    rest_exists(
-        search.probe.path.as_slice(),
-        order,
-        env,
-        mark,
-        search.index,
-        steps,
-    ) && body_holds(search.pool, search.probe.body, env, search.index, steps)
+    holds_once(search, order, &mut Next::Unknown, env, mark, steps)
 }
 
 /// Returns the order in which the part at this place of the query binds its variables.

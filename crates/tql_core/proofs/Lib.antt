@@ -1,3 +1,4 @@
 pub mod OfTheSecond
 pub mod Growth
 pub mod Equal
+pub mod Slots

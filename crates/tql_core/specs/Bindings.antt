@@ -3,6 +3,7 @@ use Rattle.std.specs.Prelude.{ℕ, Option, Some, None, List, [], ◌∷◌}
 use Rattle.tql_core.specs.declared.row_ref.RowRef.{RowRef}
 use Rattle.tql_core.specs.declared.row_ref.RowRef.TheVariants as R
 use Rattle.tql_core.specs.declared.env.Slot.{Slot}
+use Rattle.tql_core.specs.declared.env.Slot.TheVariants as S
 use Rattle.tql_core.specs.Values.{Env}
 use Rattle.tql_core.specs.Row.{Row, OfDoc, OfNote}
 
@@ -16,12 +17,14 @@ abbrev pub option_row : Option RowRef → Option Row
 option_row None = None
 option_row (Some r) = Some (row_of r)
 
--- a variable and its row put before the others, if there is a row
-abbrev pub bound_before : Option Row → ℕ → Env → Env
-bound_before None v env = env
-bound_before (Some r) v env = record { var = v; row = r } ∷ env
+-- the slot of a variable and its row
+abbrev pub slot_of : ℕ → RowRef → Slot
+slot_of v (R.OfDoc d) = S.OfDoc v d
+slot_of v (R.OfNote n) = S.OfNote v n
 
 -- the variables that the slots bind
 abbrev pub bounds_of : List Slot → Env
 bounds_of [] = []
-bounds_of (s ∷ rest) = bound_before (option_row s.row) s.var (bounds_of rest)
+bounds_of (S.Free ∷ rest) = bounds_of rest
+bounds_of (S.OfDoc v d ∷ rest) = record { var = v; row = OfDoc d.now } ∷ bounds_of rest
+bounds_of (S.OfNote v n ∷ rest) = record { var = v; row = OfNote n.now } ∷ bounds_of rest

@@ -123,12 +123,30 @@ fn answers(op: Op, order: Ordering) -> bool
     }
 }
 
+// Returns whether the texts are equal.
+fn is_same(x: &[u8], y: &[u8]) -> bool
+    ensures { result ≡ is_eq (text_cmp x.now y.now) }
+{
+    x == y
+}
+
+// Returns whether the comparison of two texts by bytes holds. Equal texts are found without an order.
+fn compares_texts(op: Op, x: &[u8], y: &[u8]) -> bool
+    ensures { result ≡ answers op (text_cmp x.now y.now) }
+{
+    match op {
+        Op::Eq => is_same(x, y),
+        Op::Ne => !is_same(x, y),
+        _ => answers(op, x.cmp(y)),
+    }
+}
+
 // Returns whether the comparison of two texts by bytes holds, which it doesn't if a side is absent.
 fn both_texts(op: Op, x: Option<&[u8]>, y: Option<&[u8]>) -> bool
     ensures { result ≡ both_texts op (option_copied x.entry) (option_copied y.entry) }
 {
     match (x, y) {
-        (Some(x), Some(y)) => answers(op, x.cmp(y)),
+        (Some(x), Some(y)) => compares_texts(op, x, y),
         _ => false,
     }
 }
@@ -154,7 +172,7 @@ fn holds_text(texts: &[Text], text: &[u8]) -> bool
     ensures { result ≡ list_any (λ x. is_eq (text_cmp x text.now)) texts.now }
 {
     for held in texts {
-        if held.as_slice().cmp(text).is_eq() {
+        if is_same(held.as_slice(), text) {
             return true;
         }
     }

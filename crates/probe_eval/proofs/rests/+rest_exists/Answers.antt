@@ -1,7 +1,13 @@
-use Rattle.std.proofs.Common.{rules, ◌≡◌, true, false, None}
+use Rattle.std.proofs.Common.{rules, ◌≡◌, ◌≤◌, ◌+◌, ◌∷◌, true, false, None, arith, to_z, of_z, w64}
+use Rattle.tql_core.specs.Bindings.{row_of}
+use Rattle.tql_core.specs.Values.{bind}
 use Rattle.access_plan.specs.Nearest.{nearest}
 use Rattle.probe_eval.specs.Open.{may_go}
-use Rattle.probe_eval.proofs.RestSteps.{stopped, all_there}
+use Rattle.probe_eval.specs.Nexts.{IsNext}
+use Rattle.probe_eval.specs.Rests.{rest_of, rest_cost}
+use Rattle.probe_eval.proofs.NextRows.{next_alike}
+use Rattle.probe_eval.proofs.Steps.{cost_step}
+use Rattle.probe_eval.proofs.RestSteps.{stopped, all_there, any_step}
 use Rattle.probe_eval.proofs.rests.+rest_exists.Goals as goal
 
 pub returns-then-not-may_go-clause-exists : goal.returns-then-not-may_go-clause-exists
@@ -14,3 +20,26 @@ returns-in-None-clause-exists g t c =
     let m : may_go c.args.path.now c.args.mark c.args.env.now ≡ true = search rules in
     let n : nearest c.args.path.now c.args.env.now ≡ None = search rules in
     all_there c.args.index.now c.args.path.now c.args.mark c.args.order.now c.args.env.now m n
+
+pub rest_exists-requires : goal.rest_exists-requires
+rest_exists-requires g t c κs within =
+    let by = c.loop-row.invariant.next (row_of c.in-Some-next.row) in
+    search (rules, by)
+
+pub loop-row-preserved : goal.loop-row-preserved
+loop-row-preserved g t c =
+    let e : c.loop-row.rows ≡ row_of c.in-Some-next.row ∷ c.next.new.self = search rules in
+    let s : c.next.new.steps ≡ c.loop-row.steps + 1 = search rules in
+    let mark = to_z w64 (of_z w64 c.args.mark) in
+    let x = bind c.in-Some.reach.var (row_of c.in-Some-next.row) c.args.env.now in
+    let d : rest_of c.args.index.now c.args.path.now mark c.in-Some-split_first.rest.now x ≡ false = search rules in
+    let k : c.rest_exists.new.steps ≤ c.next.new.steps + rest_cost c.args.index.now c.args.path.now mark c.in-Some-split_first.rest.now x = search rules in
+    let n : IsNext c.args.path.now x c.rest_exists.new.next = search rules in
+    let i = c.loop-row.invariant.more in
+    let m = c.rest_exists.ensures.more in
+    record {
+      same = any_step (λ row. rest_of c.args.index.now c.args.path.now mark c.in-Some-split_first.rest.now (bind c.in-Some.reach.var row c.args.env.now)) _ _ _ (row_of c.in-Some-next.row) c.loop-row.invariant.same e d;
+      steps = cost_step _ _ _ _ _ _ _ (row_of c.in-Some-next.row) c.loop-row.invariant.steps e s k;
+      more = omega (arith, i, s, m);
+      next = λ row. next_alike c.args.path.now c.in-Some.reach.var (row_of c.in-Some-next.row) row c.args.env.now c.rest_exists.new.next n;
+    }

@@ -1,12 +1,14 @@
 use Rattle.std.proofs.Common.{◌≡◌, ◌+◌, ◌≤◌, length}
 use Rattle.std.specs.List.{flat_map}
+use Rattle.tql_core.specs.Row.{Row}
 use Rattle.tql_core.specs.Values.{bind}
+use Rattle.probe_eval.specs.Nexts.{IsNext}
 use Rattle.time_marks.specs.Views.{probe_in}
 use Rattle.query_eval.specs.Lowest.{keeping}
 use Rattle.query_eval.specs.Placed.{IsReady}
 use Rattle.probe_eval.specs.Work.{total}
 use Rattle.probe_eval.specs.Nested.{hits_over, work_over}
-use Rattle.query_eval.proofs.nested.+collect_hits.Given as goal
+use Rattle.query_eval.proofs.nested.+collect_once.Given as goal
 
 abbrev pub invariant-loop-row : goal.invariant-loop-row
 invariant-loop-row g l = record {
@@ -15,10 +17,11 @@ invariant-loop-row g l = record {
   places : length l.into.places.items ≡ length l.fn.into.places.items;
   steps : l.steps + total (λ row. 1 + work_over l.fn.search.index.now (probe_in l.fn.search.pool.now l.fn.search.probe.now) l.fn.mark l.rest (bind l.reach.var row l.fn.env)) l.rows ≤ l.fn.steps + work_over l.fn.search.index.now (probe_in l.fn.search.pool.now l.fn.search.probe.now) l.fn.mark l.fn.order l.fn.env;
   more : l.fn.steps ≤ l.steps;
+  next : (row : Row) → IsNext l.fn.search.probe.now.path (bind l.reach.var row l.fn.env) l.below;
 }
 
 abbrev pub decreases-loop-row : goal.decreases-loop-row
 decreases-loop-row g l = length l.rows
 
-abbrev pub decreases-collect_hits : goal.decreases-collect_hits
-decreases-collect_hits g l = length l.order.now
+abbrev pub decreases-collect_once : goal.decreases-collect_once
+decreases-collect_once g l = length l.order.now

@@ -8,18 +8,20 @@ use Rattle.access_plan.specs.Views.{reach_at}
 use Rattle.query_eval.specs.Lowest.{keeping}
 use Rattle.probe_eval.specs.Work.{rows_by}
 use Rattle.probe_eval.specs.Rests.{further}
+use Rattle.probe_eval.specs.Nexts.{IsNext}
 use Rattle.probe_eval.specs.Nested.{new_doc, hit_if, holds_here, hits_over, work_over, cost_here}
 use Rattle.probe_eval.proofs.Steps.{cost_step}
+use Rattle.probe_eval.proofs.NextRows.{next_alike}
 use Rattle.query_eval.proofs.Steps.{hits_step}
 use Rattle.probe_eval.proofs.HitSteps.{doc_hits, note_hits, doc_cost, first_cost}
 use Rattle.query_eval.proofs.HitSteps.{first_hits}
-use Rattle.query_eval.proofs.nested.+collect_hits.Goals as goal
+use Rattle.query_eval.proofs.nested.+collect_once.Goals as goal
 
 pub loop-row-init : goal.loop-row-init
 loop-row-init g t c =
     let mark = to_z w64 (of_z w64 c.args.mark) in
     let p = probe_in c.args.search.now.pool.now c.args.search.now.probe.now in
-    let r = reach_at c.in-Some-further.reach in
+    let r = reach_at c.in-Some-further_once.reach in
     let o : c.args.order.now ≡ c.in-Some.field-0-0.now ∷ c.in-Some.rest.now = search rules in
     let e : lookup 0 c.args.env.now ≡ None = search rules in
     let f : further p.path mark c.args.env.now ≡ Some r = search rules in
@@ -30,6 +32,7 @@ loop-row-init g t c =
       places = refl;
       steps = first_cost c.args.search.now.index.now p mark c.args.steps.now c.args.order.now c.in-Some.field-0-0.now c.in-Some.rest.now c.args.env.now r c.rows_by-rows.result o e f q;
       more = omega arith;
+      next = λ row. tt;
     }
 
 pub loop-row-preserved : goal.loop-row-preserved
@@ -38,17 +41,19 @@ loop-row-preserved g t c =
     let s : c.next.new.steps ≡ c.loop-row.steps + 1 = search rules in
     let mark = to_z w64 (of_z w64 c.args.mark) in
     let p = probe_in c.args.search.now.pool.now c.args.search.now.probe.now in
-    let x = bind c.in-Some-further.reach.var (row_of c.in-Some-next.row) c.args.env.now in
-    let h : c.collect_hits.new.into.hits.items ≡ keeping (length c.loop-row.into.places.items) c.loop-row.into.hits.items (hits_over c.args.search.now.seen.now c.args.search.now.index.now p mark c.in-Some.rest.now x) = search rules in
-    let k : c.collect_hits.new.steps ≤ c.next.new.steps + work_over c.args.search.now.index.now p mark c.in-Some.rest.now x = search rules in
+    let x = bind c.in-Some-further_once.reach.var (row_of c.in-Some-next.row) c.args.env.now in
+    let h : c.collect_once.new.into.hits.items ≡ keeping (length c.loop-row.into.places.items) c.loop-row.into.hits.items (hits_over c.args.search.now.seen.now c.args.search.now.index.now p mark c.in-Some.rest.now x) = search rules in
+    let k : c.collect_once.new.steps ≤ c.next.new.steps + work_over c.args.search.now.index.now p mark c.in-Some.rest.now x = search rules in
     let i = c.loop-row.invariant.more in
-    let m = c.collect_hits.ensures.more in
+    let m = c.collect_once.ensures.more in
+    let n : IsNext c.args.search.now.probe.now.path x c.collect_once.new.next = search rules in
     record {
-      hits = hits_step _ _ _ _ _ _ _ _ (row_of c.in-Some-next.row) c.loop-row.invariant.hits e h c.collect_hits.ensures.places;
-      ready = c.collect_hits.ensures.ready;
-      places = c.collect_hits.ensures.places ∙ c.loop-row.invariant.places;
+      hits = hits_step _ _ _ _ _ _ _ _ (row_of c.in-Some-next.row) c.loop-row.invariant.hits e h c.collect_once.ensures.places;
+      ready = c.collect_once.ensures.ready;
+      places = c.collect_once.ensures.places ∙ c.loop-row.invariant.places;
       steps = cost_step _ _ _ _ _ _ _ (row_of c.in-Some-next.row) c.loop-row.invariant.steps e s k;
       more = omega (arith, i, s, m);
+      next = λ row. next_alike c.args.search.now.probe.now.path c.in-Some-further_once.reach.var (row_of c.in-Some-next.row) row c.args.env.now c.collect_once.new.next n;
     }
 
 pub returns-in-Some-OfDoc-clause-hits : goal.returns-in-Some-OfDoc-clause-hits
@@ -71,3 +76,8 @@ returns-in-Some-OfNote-clause-hits g t c =
     let p = probe_in c.args.search.now.pool.now c.args.search.now.probe.now in
     let e : lookup 0 c.args.env.now ≡ Some (OfNote c.in-Some-OfNote.field-0-0.now) = search rules in
     ap (keeping (length c.args.into.now.places.items) c.args.into.now.hits.items) (sym (note_hits c.args.search.now.seen.now c.args.search.now.index.now p c.args.mark c.args.order.now c.args.env.now (OfNote c.in-Some-OfNote.field-0-0.now) e (λ d z. absurd cc)))
+
+pub collect_once-requires : goal.collect_once-requires
+collect_once-requires g t c κs within =
+    let by = c.loop-row.invariant.next (row_of c.in-Some-next.row) in
+    search (rules, by)
