@@ -8,7 +8,7 @@ use Rattle.tql_core.specs.Values.{Env, bind, lookup}
 use Rattle.time_marks.specs.declared.mark.Step.{Step}
 use Rattle.access_plan.specs.declared.access.Access.{Access}
 use Rattle.access_plan.specs.declared.reach.Reach.{Reach}
-use Rattle.access_plan.specs.Accesses.{first_some, is_held, guard_access, kinds, whole}
+use Rattle.access_plan.specs.Accesses.{first_some, is_held, guard_access, near_kinds, whole}
 use Rattle.access_plan.specs.Orders.{reach_of}
 use Rattle.access_plan.specs.Nearest.{from_row, nearest}
 use Rattle.probe_eval.specs.declared.next.Next.{Next}
@@ -17,7 +17,7 @@ use Rattle.probe_eval.specs.Nexts.{IsNext}
 
 module _ (path : List Step) (known : ℕ → Bool) where
   near_known : Step → Option Access
-  near_known step = first_some (λ kind. first_some (λ (s : Step). first_some (guard_access known step.var kind) s.guards) path) (kinds step.table)
+  near_known step = first_some (λ kind. first_some (λ (s : Step). first_some (guard_access known step.var kind) s.guards) path) (near_kinds step.table)
 
   nearest_known : Option Reach
   nearest_known =
