@@ -63,7 +63,7 @@ fn collect_driven<'a, L: Ledger>(
     requires ready { IsReady into.old }
     ensures hits { into.new.hits.items ≡ keeping (length into.old.places.items) into.old.hits.items
         (flat_map (λ row. hits_at search.now.seen.now search.now.index.now w (searched search.now) order.now (bind var row []))
-        (driving search.now.index.now w (searched search.now) seek var)) }
+        (walked search.now.index.now w (searched search.now) seek var)) }
     ensures ready { IsReady into.new }
     ensures places { length into.new.places.items ≡ length into.old.places.items }
     ensures steps { steps.new ≤ steps.old + total (λ row. 1 + cost_at search.now.index.now w (searched search.now) order.now (bind var row []))
