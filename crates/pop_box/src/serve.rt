@@ -1,5 +1,5 @@
 //! The top call: reads the words, opens the store, and holds a session over the letters of a box.
-ghost use Rattle.std.specs.Prelude.{◌≡◌, ◌≢◌, ◌≤◌, ◌⊎◌, ◌↔◌, ℕ, List, [], Option, Some, None, true, false};
+ghost use Rattle.std.specs.Prelude.{◌≡◌, ◌≢◌, ◌≤◌, ◌⊎◌, ◌↔◌, ℕ, ℤ, List, [], Option, Some, None, true, false};
 ghost use Rattle.std.specs.List.{All};
 ghost use Rattle.std.specs.Str.{IsUtf8};
 ghost use Rattle.clap.specs.Words.{takes, fault_of as faults_of};
@@ -13,7 +13,8 @@ ghost use Rattle.tap_top.specs.declared.store_fault.StoreFault.{StoreFault as St
 ghost use Rattle.tap_top.specs.Premises.{FromStore, FromVersion, IfKnown, IsCalm};
 ghost use Rattle.tap_top.specs.Refusals.{fault_of, Refused};
 ghost use Rattle.pop_box.specs.Letters.{letters_in};
-ghost use Rattle.pop_session.specs.Ends.{TookMany};
+ghost use Rattle.tap_engine.specs.Standing.{OverSound};
+ghost use Rattle.pop_session.specs.Ends.{IsSession, TookMany};
 ghost use Rattle.pop_box.specs.Served.{Served, Unchanged, IsUndisturbed};
 
 use crate::letters::letters_from;
@@ -25,6 +26,7 @@ use std::alloc::Global;
 use std::sync::ledger::Ledger;
 use tap_base::{Memory, Steps, Text, Texts};
 use tap_edges::{Sink, Source};
+use tap_engine::Engine;
 use tap_top::{OpenFault, open_store, refuse};
 
 // Returns a text that is UTF-8 as a `str`.
@@ -33,6 +35,37 @@ fn as_str(text: &Text) -> &str
     ensures { result.now ≡ text.now }
 {
     std::str::from_utf8(text.as_slice()).unwrap_or("")
+}
+
+// Holds a session over the letters of the box, which are copied out of the engine; returns the status.
+fn serve_with<S: Source, K: Sink, L: Ledger>(
+    alloc: Global,
+    asked: &PopWords,
+    source: &mut S,
+    sink: &mut K,
+    engine: Engine,
+    steps: &mut Steps<L>,
+) -> u8
+    ensures session { OverSound engine (λ t. (versions : ℤ → Type 0) →
+        Served result (letters_in asked.now.user asked.now.name t) asked.now.user asked.now.secret
+        (S.left source.old) (S.left source.new) (K.out sink.old) (K.out sink.new) versions) }
+    ensures statuses { IsSession result ⊎ ((result ≡ 7) ⊎ (result ≡ 9)) }
+    ensures read_cause { result ≡ 3 → Rose (S.faults source.old) (S.faults source.new) }
+    ensures put_cause { result ≡ 4 → Rose (K.faults sink.old) (K.faults sink.new) }
+    ensures many { result ≡ 8 → TookMany (S.left source.old) (S.left source.new) }
+{
+    let user = asked.user.as_slice();
+    match letters_from(alloc, engine, user, asked.name.as_slice(), steps) {
+        Ok(Some(letters)) => hold_session(
+            user,
+            asked.secret.as_slice(),
+            letters.as_slice(),
+            source,
+            sink,
+        ),
+        Ok(None) => refuse_box(sink),
+        Err(Memory) => 7,
+    }
 }
 
 // Opens the store at the place that the words name, and holds a session over the letters of the box; returns the status.
@@ -72,17 +105,11 @@ fn serve_box<S: Source, K: Sink, P: Keeper, L: Ledger>(
     ensures statuses { (result ≤ 9) × (result ≢ 2) }
     ensures place { (result ≡ 7) ⊎ (P.place keeper.new ≡ asked.now.place) }
 {
-    let engine = match open_store(alloc, as_str(&asked.place), keeper) {
-        Ok(engine) => engine,
-        Err(OpenFault::Refused(fault)) => return refuse(fault, sink),
-        Err(OpenFault::Keeper) => return 5,
-        Err(OpenFault::Memory) => return 7,
-    };
-    let user = asked.user.as_slice();
-    match letters_from(alloc, engine, user, asked.name.as_slice(), steps) {
-        Ok(Some(letters)) => hold_session(user, asked.secret.as_slice(), letters.as_slice(), source, sink),
-        Ok(None) => refuse_box(sink),
-        Err(Memory) => 7,
+    match open_store(alloc, as_str(&asked.place), keeper) {
+        Ok(engine) => serve_with(alloc, asked, source, sink, engine, steps),
+        Err(OpenFault::Refused(fault)) => refuse(fault, sink),
+        Err(OpenFault::Keeper) => 5,
+        Err(OpenFault::Memory) => 7,
     }
 }
 
