@@ -2,6 +2,7 @@
 # What the measurements share: the program, and a clock. `name` is the program, tapestry_mem if it isn't set. It is proved and
 # built first; PROGRAM is the path of another build, which is taken as it is.
 set -eu
+export PYTHONDONTWRITEBYTECODE=1
 top="$(cd "$(dirname "$0")/.." && pwd)"
 name="${name:-tapestry_mem}"
 program="${PROGRAM:-$top/crates/$name/out/$name}"

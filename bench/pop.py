@@ -3,7 +3,7 @@
 
   bench/pop.py script N              a script with N messages and a run that delivers all of them
   bench/pop.py wanted N FOLDER       writes these messages into a folder, as digest.py makes them
-  bench/pop.py same N FOLDER         says whether a folder has these messages, whatever the names and line ends
+  bench/pop.py same N FOLDER [no-cr]  says whether a folder has these messages, whatever the names and line ends, or any CR
   bench/pop.py fetch PORT FOLDER     fetches all messages by the module poplib
   bench/pop.py password|hangup|long|two PORT    one trial; the status is 0 if all went as it should
   bench/pop.py title TRIAL           what the trial is
@@ -46,12 +46,13 @@ def plain(text):
     return lined(text).rstrip(b"\n")
 
 
-def same(count, folder):
-    wanted = collections.Counter(plain(it) for it in letters(count))
+def same(count, folder, without=b""):
+    wanted = collections.Counter(plain(it).replace(without, b"") if without else plain(it) for it in letters(count))
     found = collections.Counter()
     for name in os.listdir(folder):
         with open(os.path.join(folder, name), "rb") as it:
-            found[plain(it.read())] += 1
+            text = plain(it.read())
+        found[text.replace(without, b"") if without else text] += 1
     differ = sum((wanted - found).values()) + sum((found - wanted).values())
     print(f"{sum(found.values())} of {count} messages, {differ} differ")
     return 1 if differ else 0
@@ -151,6 +152,8 @@ def main(words):
             return 0
         case ["same", count, folder]:
             return same(int(count), folder)
+        case ["same", count, folder, "no-cr"]:
+            return same(int(count), folder, b"\r")
         case ["fetch", port, folder]:
             return fetch(int(port), folder)
         case ["title", trial]:

@@ -26,18 +26,18 @@ python3 "$check" wanted "$messages" "$scratch/wanted"
 cp "$store" "$scratch/before.db"
 
 echo secret >"$scratch/secret"
-TAPESTRY_POP="$program" socat "TCP-LISTEN:$port,bind=127.0.0.1,reuseaddr,fork" "EXEC:$top/examples/pop-session.sh $store ann all $scratch/secret" 2>"$scratch/socat.log" &
+WAIT=2 TAPESTRY_POP="$program" socat "TCP-LISTEN:$port,bind=127.0.0.1,reuseaddr,fork" "EXEC:$top/examples/pop-session.sh $store ann all $scratch/secret" 2>"$scratch/socat.log" &
 server=$!
 trap 'kill "$server" 2>/dev/null || true; rm -rf "$scratch"' EXIT
 for _ in $(seq 100); do (exec 3<>"/dev/tcp/127.0.0.1/$port") 2>/dev/null && break; sleep 0.05; done
 
 # Prints the line of a trial; what FOLDER has must be what is wanted, if it is named.
 trial() {
-  local title="$1" since="$2" good="$3" folder="${4:-}" note="${5:-}"
+  local title="$1" since="$2" good="$3" folder="${4:-}" note="${5:-}" form="${6:-}"
   local seconds
   seconds=$(awk "BEGIN { printf \"%.2f\", $(date +%s.%N) - $since }")
   if [ "$good" = yes ] && [ -n "$folder" ]; then
-    note=$(python3 "$check" same "$messages" "$folder") || good=no
+    note=$(python3 "$check" same "$messages" "$folder" ${form:+"$form"}) || good=no
   fi
   [ "$good" = yes ] || wrong=1
   printf '%-44s %8s s  %s  %s\n' "$title" "$seconds" "$([ "$good" = yes ] && echo right || echo WRONG)" "$note"
@@ -61,9 +61,10 @@ fi
 if command -v fetchmail >/dev/null; then
   cat >"$scratch/fetchmailrc" <<RC
 set no bouncemail
+set invisible
 set idfile $scratch/fetchids
 poll 127.0.0.1 service $port protocol pop3 uidl timeout 30
-  user ann password secret no sslcertck sslproto '' keep no rewrite nodropdelivered noforcecr invisible
+  user ann password secret no sslcertck sslproto '' keep no rewrite nodropdelivered noforcecr
   mda "$scratch/deliver"
 RC
   # One file a message.
@@ -72,11 +73,13 @@ RC
   chmod 600 "$scratch/fetchmailrc"
   mkdir "$scratch/fetchmail"
   start=$(now); good=yes
-  FETCHMAILHOME="$scratch" fetchmail -s --nosyslog -f "$scratch/fetchmailrc" 2>"$scratch/fetchmail.log" || good=no
-  trial 'fetchmail' "$start" "$good" "$scratch/fetchmail"
+  # There is no TOP here, which fetchmail else uses for messages that are to be kept.
+  FETCHMAIL_POP3_FORCE_RETR=1 FETCHMAILHOME="$scratch" fetchmail -s --nosyslog -f "$scratch/fetchmailrc" >"$scratch/fetchmail.log" 2>&1 || good=no
+  # It drops CRs within lines.
+  trial 'fetchmail' "$start" "$good" "$scratch/fetchmail" '' no-cr
   start=$(now)
   status=0
-  FETCHMAILHOME="$scratch" fetchmail -s --nosyslog -f "$scratch/fetchmailrc" 2>>"$scratch/fetchmail.log" || status=$?
+  FETCHMAIL_POP3_FORCE_RETR=1 FETCHMAILHOME="$scratch" fetchmail -s --nosyslog -f "$scratch/fetchmailrc" >>"$scratch/fetchmail.log" 2>&1 || status=$?
   # 1: there was no mail to fetch.
   count=$(find "$scratch/fetchmail" -type f | wc -l)
   trial 'fetchmail once more' "$start" "$([ "$status" = 1 ] && [ "$count" = "$messages" ] && echo yes || echo no)" '' "status $status, $count messages"

@@ -10,6 +10,7 @@ are named and left out. All arrive at the moment AT of the environment, now if i
 """
 
 import email
+import email.errors
 import email.header
 import email.policy
 import html.parser
@@ -48,7 +49,7 @@ def decoded_field(value):
     """One line, with its encoded words decoded; a word that can't be decoded stays as it is."""
     try:
         value = str(email.header.make_header(email.header.decode_header(value)))
-    except (ValueError, LookupError):
+    except (ValueError, LookupError, email.errors.MessageError):
         pass
     return " ".join(value.split())
 
@@ -84,10 +85,9 @@ def decoded(raw):
     message = email.message_from_bytes(raw, policy=email.policy.compat32)
     lines = [f"{name}: {decoded_field(str(value))}" for name in FIELDS for value in message.get_all(name, [])]
     lines += ["", *body_of(message).replace("\r", "").split("\n")]
-    while lines[-1] == "":
+    while lines and lines[-1] == "":
         lines.pop()
-    whole = "\n".join(lines) + "\n"
-    return whole.encode("utf-8", "replace")
+    return "".join(f"{it}\n" for it in lines).encode("utf-8", "replace")
 
 
 def messages_of(path):

@@ -18,8 +18,7 @@ status=0
 "$here/mail-queue.sh" load "$queue" "$store" >/dev/null || status=$?
 [ "$status" -le 1 ] || exit "$status"
 
-mkdir -p "$queue"
-exec 9>"$queue/lock"
+exec 9>"$store.lock"
 flock 9
 now="$(date +%s)"
 

@@ -4,7 +4,7 @@
 #   examples/mail-queue.sh put QUEUE < MESSAGE      puts a message into the queue; for procmail, sieve, fetchmail or a mail server
 #   examples/mail-queue.sh load QUEUE STORE         adds all messages of the queue to the store, and writes the replies
 #
-# QUEUE is a folder. A message is a file there once it is complete. `load` waits for another `load` of the same queue. A file is
+# QUEUE is a folder. A message is a file there once it is complete. `load` waits for the lock STORE.lock, as all scripts here do. A file is
 # removed when its reply has been written, so that it is stored; one that is refused is moved to QUEUE/refused. If a load was
 # stopped, some messages may be added twice by the next one, and none is lost. DECODE is a command that gets each message and
 # writes it decoded, as examples/decode-mail.py does. TAPESTRY names another program than ./run. The status of `load` is that of
@@ -25,7 +25,7 @@ case "$1" in
     ;;
   load)
     [ $# -eq 3 ] || { echo 'mail-queue: name the store' >&2; exit 2; }
-    exec 9>"$queue/lock"
+    exec 9>"$3.lock"
     flock 9
     scratch="$(mktemp -d)"
     trap 'rm -rf "$scratch"' EXIT
