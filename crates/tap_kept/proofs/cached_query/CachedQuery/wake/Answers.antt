@@ -1,5 +1,4 @@
-use Rattle.std.proofs.Common.{rules, ◌≡◌, ◌∙◌, refl, ap, pos}
-use Rattle.tap_base.specs.declared.moments.TheConstants.{LAST_MOMENT}
+use Rattle.std.proofs.Common.{rules}
 use Rattle.tap_kept.proofs.FindLaws.{work-next, plain-next}
 use Rattle.tap_kept.proofs.cached_query.CachedQuery.wake.Goals as goal
 
