@@ -55,7 +55,7 @@ module _ {A : Type 0} where
   filter_all p (x ∷ xs) h = rw (h x (inl refl)) (ap (λ z. x ∷ z) (filter_all p xs (λ y i. h y (inr i))))
 
   -- a filter of a filter
-  filter_both : (p q : A → Bool) (xs : List A) → filter q (filter p xs) ≡ filter (λ x. p x && q x) xs
+  pub filter_both : (p q : A → Bool) (xs : List A) → filter q (filter p xs) ≡ filter (λ x. p x && q x) xs
   filter_both p q [] = refl
   filter_both p q (x ∷ xs) =
       elim (cases_Bool (p x)) [

@@ -31,7 +31,7 @@ use Rattle.access_plan.specs.Orders.{driven}
 use Rattle.access_plan.specs.Laws.{order_vars, numbers_of, IsServed, IsOrder}
 use Rattle.probe_eval.specs.Work.{admits_by, rows_by, total, work}
 use Rattle.probe_eval.specs.Nested.{asked_cost, work_over}
-use Rattle.probe_eval.specs.Drivers.{seek_var, stored_rows, driving, mark_in, marked_cost, cost_at, seek_cost}
+use Rattle.probe_eval.specs.Drivers.{seek_var, stored_rows, driving, walked, mark_in, marked_cost, cost_at, seek_cost}
 use Rattle.probe_eval.specs.Tables.{table_in}
 use Rattle.probe_eval.specs.Runs.{starts_of, HasNoMark, PathIsDocument, rows_due}
 use Rattle.probe_eval.proofs.Costs.{total_same, total_less, total_none, total_filter, filter_same, filter_all, total_map, dated_total}
@@ -40,6 +40,7 @@ use Rattle.probe_eval.proofs.Finding.{driven_is, driven_in, base_driven, apart_l
 use Rattle.probe_eval.proofs.Founds.{ordered}
 use Rattle.probe_eval.proofs.RestLaws.{reach_rows}
 use Rattle.probe_eval.proofs.Nesting.{asked_table, further_is}
+use Rattle.probe_eval.proofs.WalkedLaws.{walked_in, walked_total}
 use Rattle.access_plan.specs.Nearest.{IsNearest}
 use Rattle.access_plan.proofs.Nearests.{nearest_serves}
 use Rattle.probe_eval.specs.Rests.{further, cost_of, rest_of}
@@ -90,8 +91,8 @@ module _ (T : Tables) (w : Window) (p : Probe) (order : List Reach) (k : IsProbe
   quiet_cost None e q =
       let l : lies_in w (value p.at []) ≡ false = q [] (subst (λ z. In [] (starts_of T p z)) (sym e) (inl refl)) in
       ap (marked_cost T w p order []) (no_mark w (value p.at []) l)
-  quiet_cost (Some v) e q = total_none (λ row. 1 + cost_at T w p order (bind v row [])) (driving T w p (seek_of p.at) v) (λ row i.
-      let r = driven_are T w p v bounded e row i in
+  quiet_cost (Some v) e q = total_none (λ row. 1 + cost_at T w p order (bind v row [])) (walked T w p (seek_of p.at) v) (λ row i.
+      let r = driven_are T w p v bounded e row (walked_in T w p (seek_of p.at) v row i) in
       let l : lies_in w (value p.at (bind v row [])) ≡ false = q (bind v row []) (subst (λ z. In (bind v row []) (starts_of T p z)) (sym e) (in_map (λ row. bind v row []) (rows_of (table_in p.path v.0) T) row r.0)) in
       absurd (false≢true (sym l ∙ r.1)))
 
@@ -139,7 +140,11 @@ module _ (T : Tables) (w : Window) (p : Probe) (order : List Reach) (k : IsProbe
     due d = 1 + work T p.body (asked_of d)
 
     driven_due : (v : Var) → seek_var (seek_of p.at) ≡ Some v → seek_cost T w p order (seek_of p.at) (Some v) ≤ rows_due T w p
-    driven_due v e = subst (λ z. total (λ row. 1 + cost_at T w p order (bind z row [])) (driving T w p (seek_of p.at) z) ≤ rows_due T w p) (sym v_is) by_m
+    driven_due v e =
+        let a = walked_total T w p (seek_of p.at) v (λ row. 1 + cost_at T w p order (bind v row [])) in
+        let b : total (λ row. 1 + cost_at T w p order (bind v row [])) (driving T w p (seek_of p.at) v) ≤ rows_due T w p =
+        subst (λ z. total (λ row. 1 + cost_at T w p order (bind z row [])) (driving T w p (seek_of p.at) z) ≤ rows_due T w p) (sym v_is) by_m in
+        omega (arith, a, b)
       where
         v_in : In v.0 (numbers_of (driven p.at.base))
         v_in = subst (λ vs. In v.0 (numbers_of vs)) (sym (driven_is p.at ∙ ap option_to_list e)) (inl refl)

@@ -8,6 +8,7 @@ pub mod Founds
 pub mod HitSteps
 pub mod Inner
 pub mod LeastSeconds
+pub mod LiteralLaws
 pub mod Meant
 pub mod Members
 pub mod Nesting
@@ -19,3 +20,4 @@ pub mod RestLaws
 pub mod RestSteps
 pub mod Steps
 pub mod Tables
+pub mod WalkedLaws

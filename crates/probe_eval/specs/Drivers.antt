@@ -18,6 +18,7 @@ use Rattle.time_marks.specs.Windows.{is_within}
 use Rattle.time_marks.specs.Seeks.{seek_window}
 use Rattle.time_marks.specs.Probes.{Probe}
 use Rattle.access_plan.specs.declared.reach.Reach.{Reach}
+use Rattle.probe_eval.specs.Literals.{chosen, narrowed}
 use Rattle.probe_eval.specs.Tables.{table_in}
 use Rattle.probe_eval.specs.Work.{total}
 use Rattle.probe_eval.specs.Nested.{hits_over, work_over}
@@ -52,6 +53,10 @@ stored_rows (DatedDay v n) t w T = dated_rows t w T
 abbrev pub driving : Tables → Window → Probe → Seek → Var → List Row
 driving T w p seek v = stored_rows seek (table_in p.path v.0) (seek_window w seek) T
 
+-- the driving rows that are walked: of documents by their arrival those of the shortest posting list that a guard names
+abbrev pub walked : Tables → Window → Probe → Seek → Var → List Row
+walked T w p seek v = narrowed v (chosen T v p.path seek (table_in p.path v.0)) (driving T w p seek v)
+
 -- the second, if it lies in the window
 abbrev pub mark_in : Window → Option ℤ → Option ℤ
 mark_in w None = None
@@ -79,7 +84,7 @@ module _ (T : Tables) (w : Window) (p : Probe) (order : List Reach) where
   abbrev pub cost_at : Env → ℕ
   cost_at env = marked_cost env (mark_in w (value p.at env))
 
-  -- the steps that this may take
+  -- the steps that this may take: the driving rows that are walked, and the work beside each
   abbrev pub seek_cost : Seek → Option Var → ℕ
   seek_cost seek None = cost_at []
-  seek_cost seek (Some v) = total (λ row. 1 + cost_at (bind v row [])) (driving T w p seek v)
+  seek_cost seek (Some v) = total (λ row. 1 + cost_at (bind v row [])) (walked T w p seek v)

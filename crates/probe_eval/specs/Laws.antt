@@ -1,5 +1,6 @@
 -- The laws of what probes find, as contracts name them.
 use Rattle.std.specs.Prelude.{◌≡◌, ◌↔◌, ◌≤◌, ℤ, true, Some, List, [], length}
+use Rattle.std.specs.List.{flat_map}
 use Rattle.tap_rows.specs.declared.tables.Tables.{Tables}
 use Rattle.tap_rows.specs.Kept.{In}
 use Rattle.tql_core.specs.declared.term.Var.{Var}
@@ -9,12 +10,13 @@ use Rattle.tql_core.specs.Scope.{AtomIn}
 use Rattle.tql_core.specs.Values.{Env, bind, value}
 use Rattle.time_marks.specs.declared.window.Window.{Window}
 use Rattle.time_marks.specs.Seeks.{seek_of, lies_in}
+use Rattle.time_marks.specs.declared.seek.Seek.{Seek}
 use Rattle.time_marks.specs.declared.ranged_query.RangedQuery.{RangedQuery}
 use Rattle.time_marks.specs.Probes.{Probe}
 use Rattle.time_marks.specs.Views.{ranged_probes}
 use Rattle.tap_rows.specs.declared.results.Entry.{Entry}
 use Rattle.probe_eval.specs.Found.{AreFound}
-use Rattle.probe_eval.specs.Drivers.{seek_var, driving}
+use Rattle.probe_eval.specs.Drivers.{seek_var, driving, walked, hits_at, seek_hits}
 use Rattle.probe_eval.specs.Tables.{table_in}
 use Rattle.probe_eval.specs.Nested.{was_seen}
 use Rattle.probe_eval.specs.Rests.{Rest, left_of, InTables, rest_of}
@@ -31,6 +33,12 @@ DrivingRowsAreMarked =
     (T : Tables) (w : Window) (p : Probe) (v : Var) (row : Row) → is_bounded p.at ≡ true → seek_var (seek_of p.at) ≡ Some v
     → (In row (driving T w p (seek_of p.at) v)
     ↔ (In row (rows_of (table_in p.path v.0) T) × (lies_in w (value p.at (bind v row [])) ≡ true)))
+
+-- the driving rows that are walked lead to the hits of all driving rows
+abbrev pub WalkedRowsAreEnough : Type 0
+WalkedRowsAreEnough =
+    (entries : List Entry) (T : Tables) (w : Window) (p : Probe) (order : List Reach) (seek : Seek) (v : Var)
+    → flat_map (λ row. hits_at entries T w p order (bind v row [])) (walked T w p seek v) ≡ seek_hits entries T w p order seek (Some v)
 
 -- walks from each driving row over the rows that accesses give find what the probes find
 abbrev pub WalksFindWhatProbesFind : Type 0

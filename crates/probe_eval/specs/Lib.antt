@@ -5,6 +5,7 @@ pub mod Tables
 pub mod Rests
 pub mod Nested
 pub mod Searches
+pub mod Literals
 pub mod Drivers
 pub mod Found
 pub mod Runs

@@ -1,13 +1,14 @@
-//! The rows that drive a probe: those whose mark lies in the window.
+//! The rows that drive a probe: those whose mark lies in the window, and which of them are walked.
 
 ghost use Rattle.std.specs.Prelude.{◌≡◌, true};
 ghost use Rattle.jiff_core.specs.Calendar.{IsWithin};
 ghost use Rattle.tql_core.specs.Bounds.{is_near};
 ghost use Rattle.time_marks.specs.Seeks.{seek_plus};
-ghost use Rattle.probe_eval.specs.Drivers.{seek_var, arrived_rows, dated_rows, stored_rows, driving, mark_in};
+ghost use Rattle.probe_eval.specs.Drivers.{seek_var, arrived_rows, dated_rows, stored_rows, walked, mark_in};
 ghost use Rattle.probe_eval.specs.Searches.{searched};
 ghost use Rattle.probe_eval.specs.Tables.{table_in};
 
+use crate::literals::{chosen, under_literal};
 use crate::row_walk::RowWalk;
 use crate::search::Search;
 use row_index::RowIndex;
@@ -73,15 +74,22 @@ fn stored_rows(seek: Seek, table: Table, w: Window, index: &RowIndex) -> RowWalk
     }
 }
 
-/// Returns the driving rows of the probe, in order of their stored second.
-pub fn driving<'a>(search: &Search<'a>, seek: Seek, var: Var, w: Window) -> RowWalk<'a>
+/// Returns the driving rows of the probe that are walked, in order of their stored second. If documents drive it by their
+/// arrival, and a guard of its path compares a text of them with a literal by which the index finds documents, these are the
+/// documents of its posting list: of several such guards of the one with the shortest list.
+pub fn walked<'a>(search: &Search<'a>, seek: Seek, var: Var, w: Window) -> RowWalk<'a>
     requires plus { is_near (seek_plus seek) ≡ true }
     requires low { IsWithin 500000000000 w.low }
     requires high { IsWithin 500000000000 w.high }
-    ensures { result ≡ driving search.now.index.now w (searched search.now) seek var }
+    ensures { result ≡ walked search.now.index.now w (searched search.now) seek var }
 {
-    let table = table_in(search.probe.path.as_slice(), var);
-    stored_rows(seek, table, seek.window(w), search.index)
+    let path = search.probe.path.as_slice();
+    let table = table_in(path, var);
+    let stored = seek.window(w);
+    match chosen(search.index, var, path, seek, table) {
+        None => stored_rows(seek, table, stored, search.index),
+        Some(guard) => under_literal(guard, var, stored, search.index),
+    }
 }
 
 /// Returns the second, if it lies in the window.

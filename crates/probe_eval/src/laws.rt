@@ -1,11 +1,18 @@
 //! Laws of what probes find.
 
-ghost use Rattle.probe_eval.specs.Laws.{DrivingRowsAreMarked, WalksFindWhatProbesFind, RestsAreFound};
+ghost use Rattle.probe_eval.specs.Laws.{DrivingRowsAreMarked, WalkedRowsAreEnough};
+ghost use Rattle.probe_eval.specs.Laws.{WalksFindWhatProbesFind, RestsAreFound};
 ghost use Rattle.probe_eval.specs.Pairs.{ProbesTestPairs};
 
 /// States that the driving rows of a probe are the rows of its table whose mark lies in the window.
 pub fn driving_rows_are_marked()
     ensures { DrivingRowsAreMarked }
+{}
+
+/// States that the driving rows that are walked lead to the same hits as all driving rows, in the same order: a row that is
+/// left out has a guard of the path that is false.
+pub fn walked_rows_are_enough()
+    ensures { WalkedRowsAreEnough }
 {}
 
 /// States that walks from each driving row over the rows that accesses give find the unseen documents and marks that the

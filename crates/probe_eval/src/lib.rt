@@ -5,13 +5,14 @@ mod access_rows;
 mod bodies;
 mod drivers;
 pub mod laws;
+mod literals;
 mod open;
 mod rests;
 mod row_walk;
 mod search;
 
 pub use access_rows::rows_by;
-pub use drivers::{driving, mark_in, seek_var};
+pub use drivers::{mark_in, seek_var, walked};
 pub use rests::further;
 pub use row_walk::RowWalk;
 pub use search::{Search, holds_here, new_doc, order_at};

@@ -10,12 +10,12 @@ ghost use Rattle.time_marks.specs.Seeks.{seek_plus};
 ghost use Rattle.query_eval.specs.Lowest.{keeping};
 ghost use Rattle.query_eval.specs.Placed.{IsReady};
 ghost use Rattle.probe_eval.specs.Searches.{searched, HasBody, HasSlots};
-ghost use Rattle.probe_eval.specs.Drivers.{seek_var, hits_at, seek_hits, cost_at, seek_cost, driving};
+ghost use Rattle.probe_eval.specs.Drivers.{seek_var, hits_at, seek_hits, cost_at, seek_cost, walked};
 
 use crate::kept_hits::KeptHits;
 use crate::nested::collect_hits;
 use access_plan::Reach;
-use probe_eval::{Search, driving, mark_in, seek_var};
+use probe_eval::{Search, mark_in, seek_var, walked};
 use std::sync::ledger::Ledger;
 use tap_base::Steps;
 use time_marks::{Seek, Window};
@@ -45,7 +45,7 @@ fn collect_at<'a, L: Ledger>(
     }
 }
 
-// Stores the hits at the marks of all driving rows.
+// Stores the hits at the marks of the driving rows that are walked.
 fn collect_driven<'a, L: Ledger>(
     search: &Search<'a>,
     order: &'a [Reach],
@@ -63,14 +63,14 @@ fn collect_driven<'a, L: Ledger>(
     requires ready { IsReady into.old }
     ensures hits { into.new.hits.items ≡ keeping (length into.old.places.items) into.old.hits.items
         (flat_map (λ row. hits_at search.now.seen.now search.now.index.now w (searched search.now) order.now (bind var row []))
-        (driving search.now.index.now w (searched search.now) seek var)) }
+        (walked search.now.index.now w (searched search.now) seek var)) }
     ensures ready { IsReady into.new }
     ensures places { length into.new.places.items ≡ length into.old.places.items }
     ensures steps { steps.new ≤ steps.old + total (λ row. 1 + cost_at search.now.index.now w (searched search.now) order.now (bind var row []))
-        (driving search.now.index.now w (searched search.now) seek var) }
+        (walked search.now.index.now w (searched search.now) seek var) }
     ensures more { steps.old ≤ steps.new }
 {
-    let mut rows = driving(search, seek, var, w);
+    let mut rows = walked(search, seek, var, w);
     while let Some(row) = rows.next(steps) {
         collect_at(search, order, w, &Env::new().bind(var, row), into, steps);
     }

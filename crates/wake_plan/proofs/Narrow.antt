@@ -1,5 +1,5 @@
 -- The driving rows of a window are those of a longer one whose mark lies in it.
-use Rattle.std.proofs.Common.{◌≡◌, ◌∙◌, ℤ, Bool, true, false, List, [], ◌∷◌, map, Some, refl, sym, ap, inl, inr, arith}
+use Rattle.std.proofs.Common.{◌≡◌, ◌∙◌, ℤ, Bool, true, false, List, [], ◌∷◌, map, Option, Some, None, refl, sym, ap, inl, inr, arith}
 use Rattle.std.specs.Prelude.{◌&&◌, ◌≤ℤ◌, filter, int_le, int_lt}
 use Rattle.std.proofs.lemmas.Int.{ints}
 use Rattle.std.proofs.lemmas.Bool.{cases_Bool, false≢true, and_parts, and_from}
@@ -10,7 +10,8 @@ use Rattle.tql_tree.specs.declared.table.Table.TheVariants.{Docs, Notes}
 use Rattle.tql_core.specs.declared.term.Var.{Var}
 use Rattle.tql_core.specs.Bounds.{is_bounded}
 use Rattle.tql_core.specs.Row.{Row, OfDoc, OfNote, arrival, date}
-use Rattle.tql_core.specs.Values.{bind, value}
+use Rattle.tql_core.specs.declared.atom.Atom.{Atom}
+use Rattle.tql_core.specs.Values.{bind, value, true_atom}
 use Rattle.row_index.specs.Orders.{doc_arrival, note_arrival}
 use Rattle.row_index.specs.Dates.{has_date, stored_date, in_date_order}
 use Rattle.time_marks.specs.declared.seek.Seek.{Seek}
@@ -21,9 +22,11 @@ use Rattle.time_marks.specs.Probes.{Probe}
 use Rattle.time_marks.specs.Seeks.{seek_of, seek_window, stored, marked_at, lies_in}
 use Rattle.time_marks.proofs.Lists.{in_map}
 use Rattle.time_marks.proofs.SeekLaws.{seek_within, solved}
-use Rattle.probe_eval.specs.Drivers.{seek_var, arrived_rows, dated_rows, stored_rows, driving}
+use Rattle.probe_eval.specs.Drivers.{seek_var, arrived_rows, dated_rows, stored_rows, driving, walked}
+use Rattle.probe_eval.specs.Literals.{chosen, narrowed}
 use Rattle.probe_eval.specs.Tables.{table_in}
 use Rattle.probe_eval.proofs.DriverLaws.{date_lies, stored_are}
+use Rattle.probe_eval.proofs.LiteralLaws.{filter_swap}
 use Rattle.wake_plan.specs.Turns.{bound_alone}
 use Rattle.wake_plan.specs.Wakes.{IsUpTo}
 use Rattle.wake_plan.proofs.Sooner.{bound_row}
@@ -93,8 +96,19 @@ up_to_within w u y k h =
 seek_narrow : (s : Seek) (w u : Window) → IsUpTo w u → (y : ℤ) → is_within (seek_window u s) y ≡ true → is_within (seek_window w s) y ≡ true
 seek_narrow s w u k y h = seek_within s w y ∙ up_to_within w u (marked_at s y) k (sym (seek_within s u y) ∙ h)
 
-pub driving_narrow : (T : Tables) (w u : Window) (p : Probe) (v : Var) → IsUpTo w u → is_bounded p.at ≡ true → seek_var (seek_of p.at) ≡ Some v
-    → filter (λ env. lies_in u (value p.at env)) (bound_alone v (driving T w p (seek_of p.at) v)) ≡ bound_alone v (driving T u p (seek_of p.at) v)
-driving_narrow T w u p v k b e =
-    filter_map (λ env. lies_in u (value p.at env)) (λ row. bind v row []) (driving T w p (seek_of p.at) v)
-    ∙ ap (bound_alone v) (stored_narrow T (seek_window w (seek_of p.at)) (seek_window u (seek_of p.at)) (seek_narrow (seek_of p.at) w u k) (λ row. lies_in u (value p.at (bind v row []))) v (seek_of p.at) e (λ row. solved p.at u (bind v row []) b) (table_in p.path v.0))
+module _ (T : Tables) (w u : Window) (p : Probe) (v : Var) (k : IsUpTo w u) (b : is_bounded p.at ≡ true) (e : seek_var (seek_of p.at) ≡ Some v) where
+  driving_narrow : filter (λ row. lies_in u (value p.at (bind v row []))) (driving T w p (seek_of p.at) v) ≡ driving T u p (seek_of p.at) v
+  driving_narrow =
+      stored_narrow T (seek_window w (seek_of p.at)) (seek_window u (seek_of p.at)) (seek_narrow (seek_of p.at) w u k) (λ row. lies_in u (value p.at (bind v row []))) v (seek_of p.at) e (λ row. solved p.at u (bind v row []) b) (table_in p.path v.0)
+
+  -- the guard whose posting list is walked is the same for each window
+  pub walked_narrow : filter (λ env. lies_in u (value p.at env)) (bound_alone v (walked T w p (seek_of p.at) v)) ≡ bound_alone v (walked T u p (seek_of p.at) v)
+  walked_narrow =
+      filter_map (λ env. lies_in u (value p.at env)) (λ row. bind v row []) (walked T w p (seek_of p.at) v)
+      ∙ ap (bound_alone v) (go (chosen T v p.path (seek_of p.at) (table_in p.path v.0)))
+    where
+      go : (o : Option Atom) → filter (λ row. lies_in u (value p.at (bind v row []))) (narrowed v o (driving T w p (seek_of p.at) v)) ≡ narrowed v o (driving T u p (seek_of p.at) v)
+      go None = driving_narrow
+      go (Some a) =
+          filter_swap (λ row. lies_in u (value p.at (bind v row []))) (λ row. true_atom a (bind v row [])) (driving T w p (seek_of p.at) v)
+          ∙ ap (filter (λ row. true_atom a (bind v row []))) driving_narrow

@@ -13,17 +13,21 @@ use Rattle.tql_core.specs.declared.term.Var.{Var}
 use Rattle.tql_core.specs.declared.term.Base.{Base}
 use Rattle.tql_core.specs.declared.term.Base.TheVariants as B
 use Rattle.tql_core.specs.Row.{Row, OfDoc, OfNote, arrival, date, fields}
-use Rattle.tql_core.specs.Values.{Env, bind, lookup, on_row, round_up_to_day, day_of, plus_to, base_value, value}
+use Rattle.tql_core.specs.declared.atom.Atom.{Atom}
+use Rattle.tql_core.specs.Values.{Env, bind, lookup, on_row, round_up_to_day, day_of, plus_to, base_value, value, true_atom}
 use Rattle.row_index.specs.Orders.{Rising, in_window, doc_arrival, note_arrival}
 use Rattle.row_index.specs.Dates.{has_date, stored_date, is_earlier, put_dated, in_date_order, dated_in}
 use Rattle.row_index.specs.Texts as texts
 use Rattle.time_marks.specs.declared.window.Window.{Window}
 use Rattle.time_marks.specs.Probes.{Probe}
+use Rattle.time_marks.specs.declared.seek.Seek.{Seek}
 use Rattle.time_marks.specs.Seeks.{seek_from, seek_of, lies_in}
 use Rattle.time_marks.proofs.Envs.{bind_same}
 use Rattle.time_marks.proofs.Lists.{all_in, map_in}
 use Rattle.time_marks.proofs.WindowLaws.{IsDay, round_up_to_day-day}
-use Rattle.probe_eval.specs.Drivers.{seek_var, arrived_rows, dated_rows, stored_rows}
+use Rattle.probe_eval.specs.Drivers.{seek_var, arrived_rows, dated_rows, stored_rows, driving, walked}
+use Rattle.probe_eval.specs.Literals.{chosen, narrowed}
+use Rattle.probe_eval.specs.Tables.{table_in}
 use Rattle.probe_eval.proofs.Members.{in_filter}
 use Rattle.wake_plan.specs.Turns.{bound_alone, AreRising}
 
@@ -213,3 +217,20 @@ module _ (T : Tables) (W : Window) (docs : Rising doc_arrival T.docs) (notes : R
   stored_sooner B.Fixed plus t = tt
   stored_sooner (B.ArrivalDay u n) plus t = by_arrival (B.ArrivalDay u n) (λ r s h. h) t
   stored_sooner (B.DateDay u n) plus t = by_date (B.DateDay u n) (λ r s h. h) t
+
+-- some rows of a list stand in its order
+sooner_filter : (base : Base) (q : Row → Bool) (rows : List Row) → AreSooner base rows → AreSooner base (filter q rows)
+sooner_filter base q [] h = tt
+sooner_filter base q (r ∷ rows) h =
+    elim (cases_Bool (q r)) [
+      | inl e ↦ rw e ((λ s i. h.0 s (in_filter q rows s i).0), sooner_filter base q rows h.1)
+      | inr e ↦ rw e (sooner_filter base q rows h.1)
+    ]
+
+-- so do the driving rows that are walked
+pub walked_sooner : (base : Base) (T : Tables) (w : Window) (p : Probe) (seek : Seek) (v : Var) → AreSooner base (driving T w p seek v) → AreSooner base (walked T w p seek v)
+walked_sooner base T w p seek v h = go (chosen T v p.path seek (table_in p.path v.0))
+  where
+    go : (o : Option Atom) → AreSooner base (narrowed v o (driving T w p seek v))
+    go None = h
+    go (Some a) = sooner_filter base (λ row. true_atom a (bind v row [])) (driving T w p seek v) h

@@ -66,8 +66,8 @@ fn moment_after(now: i64, mark: i64) -> i64
 ///
 /// The driving rows of the probes are read side by side in order of their marks, one ahead in each probe, and nothing is
 /// read after the first beside which a document is found. So the steps are at most those of a run up to the least mark,
-/// and one for each probe. For probes whose path is the document alone and whose body has no EXISTS these are the rows
-/// marked there, and one for each probe.
+/// and one for each probe. For probes whose path is the document alone and whose body has no EXISTS these are at most the
+/// rows marked there, and one for each probe.
 pub fn wake<L: Ledger>(
     alloc: Global,
     plan: &Plan,

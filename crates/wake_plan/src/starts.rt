@@ -18,7 +18,7 @@ use crate::due::{Due, mark_at, read_ahead};
 use crate::turn::Turn;
 use access_plan::{Plan, Reach};
 use little_box::LittleBox;
-use probe_eval::{RowWalk, Search, driving, order_at, seek_var};
+use probe_eval::{RowWalk, Search, order_at, seek_var, walked};
 use row_index::RowIndex;
 use std::alloc::Global;
 use std::sync::ledger::Ledger;
@@ -50,7 +50,7 @@ fn fixed<'a>(search: Search<'a>, order: &'a [Reach], w: Window) -> Turn<'a>
     }
 }
 
-// Returns the turn of a probe with driving rows, the first of which is read ahead.
+// Returns the turn of a probe with driving rows, of those that are walked the first one read ahead.
 fn driven<'a, L: Ledger>(
     search: Search<'a>,
     order: &'a [Reach],
@@ -76,7 +76,7 @@ fn driven<'a, L: Ledger>(
     // Brings into scope that arrivals never fall.
     let _docs = search.index.docs();
     let _notes = search.index.notes();
-    let mut rows = driving(&search, seek, var, w);
+    let mut rows = walked(&search, seek, var, w);
     let next = read_ahead(&search, w, var, &mut rows, steps);
     Turn {
         search,

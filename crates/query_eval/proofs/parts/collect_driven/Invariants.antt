@@ -5,15 +5,15 @@ use Rattle.time_marks.specs.Views.{probe_in}
 use Rattle.query_eval.specs.Lowest.{keeping}
 use Rattle.query_eval.specs.Placed.{IsReady}
 use Rattle.probe_eval.specs.Work.{total}
-use Rattle.probe_eval.specs.Drivers.{hits_at, cost_at, driving}
+use Rattle.probe_eval.specs.Drivers.{hits_at, cost_at, walked}
 use Rattle.query_eval.proofs.parts.collect_driven.Given as goal
 
 abbrev pub invariant-loop-row : goal.invariant-loop-row
 invariant-loop-row g l = record {
-  hits : keeping (length l.fn.into.places.items) l.fn.into.hits.items (flat_map (λ row. hits_at l.fn.search.seen.now l.fn.search.index.now l.fn.w (probe_in l.fn.search.pool.now l.fn.search.probe.now) l.fn.order (bind l.fn.var row [])) (driving l.fn.search.index.now l.fn.w (probe_in l.fn.search.pool.now l.fn.search.probe.now) l.fn.seek l.fn.var)) ≡ keeping (length l.into.places.items) l.into.hits.items (flat_map (λ row. hits_at l.fn.search.seen.now l.fn.search.index.now l.fn.w (probe_in l.fn.search.pool.now l.fn.search.probe.now) l.fn.order (bind l.fn.var row [])) l.rows);
+  hits : keeping (length l.fn.into.places.items) l.fn.into.hits.items (flat_map (λ row. hits_at l.fn.search.seen.now l.fn.search.index.now l.fn.w (probe_in l.fn.search.pool.now l.fn.search.probe.now) l.fn.order (bind l.fn.var row [])) (walked l.fn.search.index.now l.fn.w (probe_in l.fn.search.pool.now l.fn.search.probe.now) l.fn.seek l.fn.var)) ≡ keeping (length l.into.places.items) l.into.hits.items (flat_map (λ row. hits_at l.fn.search.seen.now l.fn.search.index.now l.fn.w (probe_in l.fn.search.pool.now l.fn.search.probe.now) l.fn.order (bind l.fn.var row [])) l.rows);
   ready : IsReady l.into;
   places : length l.into.places.items ≡ length l.fn.into.places.items;
-  steps : l.steps + total (λ row. 1 + cost_at l.fn.search.index.now l.fn.w (probe_in l.fn.search.pool.now l.fn.search.probe.now) l.fn.order (bind l.fn.var row [])) l.rows ≤ l.fn.steps + total (λ row. 1 + cost_at l.fn.search.index.now l.fn.w (probe_in l.fn.search.pool.now l.fn.search.probe.now) l.fn.order (bind l.fn.var row [])) (driving l.fn.search.index.now l.fn.w (probe_in l.fn.search.pool.now l.fn.search.probe.now) l.fn.seek l.fn.var);
+  steps : l.steps + total (λ row. 1 + cost_at l.fn.search.index.now l.fn.w (probe_in l.fn.search.pool.now l.fn.search.probe.now) l.fn.order (bind l.fn.var row [])) l.rows ≤ l.fn.steps + total (λ row. 1 + cost_at l.fn.search.index.now l.fn.w (probe_in l.fn.search.pool.now l.fn.search.probe.now) l.fn.order (bind l.fn.var row [])) (walked l.fn.search.index.now l.fn.w (probe_in l.fn.search.pool.now l.fn.search.probe.now) l.fn.seek l.fn.var);
   more : l.fn.steps ≤ l.steps;
 }
 
