@@ -3,9 +3,9 @@
 
 mod letters;
 mod no_box;
-mod serve;
+mod serving;
 
-pub use serve::serve;
+pub use serving::serve;
 
 #[cfg(test)]
 mod tests;

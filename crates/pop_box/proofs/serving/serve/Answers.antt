@@ -4,7 +4,7 @@ use Rattle.command_words.specs.declared.option_fault.OptionFault.TheVariants.{Re
 use Rattle.command_words.proofs.PopWorded.{worded-pop}
 use Rattle.tap_top.proofs.Refusals.{Refused-none}
 use Rattle.pop_box.proofs.Served.{unserved, served-words}
-use Rattle.pop_box.proofs.serve.serve.Goals as goal
+use Rattle.pop_box.proofs.serving.serve.Goals as goal
 
 not-both : (x : OptionFault) → x ≡ RefusedWords → x ≡ Memory → ⊥
 not-both x one two = cc
