@@ -20,7 +20,8 @@ abbrev pub replies_to : List ℕ → List ℕ → List Letter → Phase → List
 replies_to user secret letters phase [] = []
 replies_to user secret letters phase (request ∷ requests) =
     if is_ended phase then []
-    else reply_bytes letters (outcome_of user secret phase request).reply ++ replies_to user secret letters (outcome_of user secret phase request).phase requests
+    else reply_bytes letters (outcome_of user secret phase request).reply
+    ++ replies_to user secret letters (outcome_of user secret phase request).phase requests
 
 -- the phase after some requests
 abbrev pub phase_after : List ℕ → List ℕ → Phase → List (List ℕ) → Phase
