@@ -29,7 +29,7 @@ fn refuse_run(ordinal: u32, runs: u32) -> Result<(), Refusal>
 
 impl Engine {
     ghost use Rattle.tap_engine.specs.Answering.{ReadsAsModel, RefusesAsModel};
-    ghost use Rattle.tap_engine.specs.Standing.{digest_refusal, cached_named, RefusedBy};
+    ghost use Rattle.tap_engine.specs.Standing.{look_refusal, digest_refusal, cached_named, RefusedAfter};
     ghost use Rattle.tap_engine.specs.Lists.{cached_digest};
     ghost use Rattle.tap_engine.specs.Costs.{TakesAtMost, cached_digest_work};
 
@@ -44,7 +44,7 @@ impl Engine {
     ) -> Result<Texts, Refusal>
         ensures look { OnOk result (digest_refusal self.now name.now ordinal ≡ None) }
         ensures lines { IfOk result (λ lines. Some lines ≡ cached_digest self.now name.now ordinal (cached_named self.now name.now)) }
-        ensures refusal { IfErr result (λ refusal. RefusedBy (digest_refusal self.now name.now ordinal) refusal) }
+        ensures refusal { IfErr result (λ refusal. RefusedAfter (look_refusal self.now name.now) (digest_refusal self.now name.now ordinal) refusal) }
         ensures name { OnOk result (is_name name.now ≡ true) }
         ensures steps { steps.new ≤ steps.old + cached_digest_work ordinal (cached_named self.now name.now) }
     {

@@ -93,9 +93,9 @@ impl Engine {
 
     /// Performs a command and returns the reply to it. It takes all memory first, then commits once if the command adds
     /// rows, and takes no memory after that. If the command is refused or out of memory, the engine and the keeper's tables
-    /// are unchanged. It is never out of memory for a command that is refused for its form, its moment, its user or its
-    /// name, nor for `at` with digits alone. It fails only if the keeper fails, and the engine is stopped then. A step is a
-    /// row that the index hands out.
+    /// are unchanged. It is never out of memory for `at`, nor for a command that is refused by a check before the text of a
+    /// query or a filter is read, a mailbox file is cut, or the runs of a digest are counted. It fails only if the keeper
+    /// fails, and the engine is stopped then. A step is a row that the index hands out.
     pub fn perform<P: Keeper, L: Ledger>(
         &mut self,
         alloc: Global,
