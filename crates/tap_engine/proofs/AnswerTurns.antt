@@ -1,8 +1,8 @@
 -- What isn't refused is answered, and its rows can be undone.
-use Rattle.std.proofs.Common.{◌≡◌, ◌∙◌, sym, refl, ap, inr, arith, ℕ, ◌+◌, ◌-◌, ◌<◌, ◌≤◌, List, [], ◌∷◌, ◌++◌, length, take, true, false, Option, Some, None, if◌then◌else◌}
+use Rattle.std.proofs.Common.{◌≡◌, ◌∙◌, sym, refl, ap, inl, inr, arith, ℕ, ◌+◌, ◌-◌, ◌<◌, ◌≤◌, List, [], ◌∷◌, ◌++◌, length, take, true, false, Option, Some, None, if◌then◌else◌}
 use Rattle.std.proofs.Math.Seq.{take-append_seam}
 use Rattle.std.proofs.lemmas.List.{append-nil, length-append}
-use Rattle.std.specs.Prelude.{OnSome}
+use Rattle.std.specs.Prelude.{◌⊎◌, is_some, OnSome}
 use Rattle.tap_rows.specs.declared.tables.Tables.{Tables}
 use Rattle.tap_rows.specs.declared.change.Change.{Change}
 use Rattle.tap_rows.specs.declared.change.Change.TheVariants.{Docs as RowDocs, OneNote as RowNote}
@@ -16,7 +16,7 @@ use Rattle.script_lang.specs.declared.command.Command.{Command}
 use Rattle.tap_model.specs.declared.session.Session.{Session}
 use Rattle.script_lang.specs.declared.refusal.Refusal.{Refusal}
 use Rattle.script_lang.specs.declared.refusal.Refusal.TheVariants.{Memory}
-use Rattle.tap_model.specs.Verdicts.{verdict, is_early}
+use Rattle.tap_model.specs.Verdicts.{verdict}
 use Rattle.tap_model.specs.Replies.{answer_of, answer_by, accepted}
 use Rattle.tap_kept.specs.declared.cached_query.CachedQuery.{CachedQuery}
 use Rattle.vote_scores.specs.declared.undo.Undo.{Undo as VoteUndo}
@@ -24,7 +24,7 @@ use Rattle.vote_scores.specs.Tally.{CanUndo, Vote, undone}
 use Rattle.tap_engine.specs.declared.engine.Engine.{Engine}
 use Rattle.tap_engine.specs.declared.undo.Undo.TheVariants.{Docs, Note as OneNote, Query, Filter}
 use Rattle.tap_kept.specs.Keeping.{with_owner}
-use Rattle.tap_engine.specs.Standing.{RefusedBy}
+use Rattle.tap_engine.specs.Standing.{RefusedAfter, RefusedBy}
 use Rattle.tap_engine.specs.Answering.{Answers, UndoRestores}
 
 -- what isn't refused is accepted
@@ -45,7 +45,16 @@ some-undo (Some change) p = p
 
 -- out of memory, if the command isn't refused
 pub for-memory : (v : Option Refusal) → v ≡ None → RefusedBy v Memory
-for-memory v none = inr (refl, ap is_early none)
+for-memory v none = inr (refl, none)
+
+-- the same, if no check before memory is asked for refuses it
+pub after-memory : (early v : Option Refusal) → early ≡ None → RefusedAfter early v Memory
+after-memory early v none = inr (refl, none)
+
+-- a command that is out of memory isn't one of those that need none
+pub refused-after : (early v : Option Refusal) (refusal : Refusal) → RefusedAfter early v refusal → (v ≡ Some refusal) ⊎ ((refusal ≡ Memory) × (is_some early ≡ false))
+refused-after early v refusal (inl is) = inl is
+refused-after early v refusal (inr memory) = inr (memory.0, ap is_some memory.1)
 
 -- documents are undone
 pub undo-docs : (e : Engine) (docs : List Doc) (h : HitsWithRoom) (bytes n : ℕ) → n ≡ length e.index.docs → e.hits.room ≤ h.room → UndoRestores (Docs n e.bytes) (record e { index = after e.index (RowDocs docs); hits = h; bytes = bytes }) e

@@ -1,6 +1,6 @@
 -- Questions: why one is refused, and what it gives.
 use Rattle.std.proofs.Common.{◌≡◌, ◌∙◌, sym, refl, ap, ℕ, ℤ, List, [], ◌∷◌, map, Bool, Option, Some, None, inl, inr}
-use Rattle.std.specs.Prelude.{◌⊎◌, ◌&&◌, int_le, int_lt, filter, Ok}
+use Rattle.std.specs.Prelude.{◌⊎◌, ◌&&◌, is_some, int_le, int_lt, filter, Ok}
 use Rattle.tap_base.specs.declared.numbers.DocNum.{DocNum}
 use Rattle.tap_base.specs.Numbers.{moment_of}
 use Rattle.tap_rows.specs.declared.tables.Tables.{Tables}
@@ -39,7 +39,8 @@ module _ (s : Session) (moment source : List ℕ) (m now : ℤ) (is-m : moment_o
   -- the text has a fault, or reading it is out of memory
   pub ask-text : (refusal : Refusal) → (text_fault source ≡ Some refusal) ⊎ (refusal ≡ Memory) → Refuses refusal (Ask moment source) s t
   ask-text refusal (inl e) = inl (left ∙ ap (λ o. first_refusal (o ∷ refuse_unless (int_lt m now) (NotOver now) ∷ [])) e)
-  ask-text refusal (inr e) = inr (e, refl)
+  ask-text refusal (inr e) =
+      inr (e, ap (λ o. is_some (first_refusal (missing BadMoment o ∷ no_moment s ∷ []))) is-m ∙ ap (λ o. is_some (first_refusal (None ∷ missing NoMoment o ∷ []))) is-now)
 
   fine : (c : Condition) → condition_of source ≡ Ok c → verdict (Ask moment source) s t ≡ refuse_unless (int_lt m now) (NotOver now)
   fine c e = left ∙ ap (λ o. first_refusal (o ∷ refuse_unless (int_lt m now) (NotOver now) ∷ [])) (read-fine source c e).1 ∙ one (refuse_unless (int_lt m now) (NotOver now))

@@ -33,13 +33,13 @@ use Rattle.tap_rows.specs.WellFormed.{is_query_of}
 use Rattle.tap_rows.specs.Results.{covered}
 use Rattle.restart_core.specs.Starts.{condition_text, stored_source}
 use Rattle.tap_model.specs.Limits.{limit_refusal}
-use Rattle.tap_model.specs.Verdicts.{first_refusal, verdict, missing, refuse_unless, no_moment, no_user, bad_name, reading_refusal, text_fault, is_early, hits_found}
+use Rattle.tap_model.specs.Verdicts.{first_refusal, verdict, missing, refuse_unless, no_moment, no_user, bad_name, text_fault, taken, hits_found}
 use Rattle.tap_kept.specs.Keeping.{cached_query, named_in, owned_in, hits_since}
-use Rattle.tap_engine.specs.Standing.{Represents, name_refusal, query_limits, define_refusal, query_refusal, look_refusal, run_refusal, cached_named, cached_hits, cached_entries, RefusedBy}
+use Rattle.tap_engine.specs.Standing.{Represents, name_refusal, query_limits, early_define, define_refusal, query_refusal, look_refusal, run_refusal, cached_named, cached_hits, cached_entries, RefusedAfter, RefusedBy}
 use Rattle.tap_model.specs.Sound.{IsSound, IsNow}
 use Rattle.tap_model.specs.Stories.{Refuses}
 use Rattle.tap_engine.specs.Answering.{Answers}
-use Rattle.tap_engine.proofs.AnswerTurns.{answers-accepted}
+use Rattle.tap_engine.proofs.AnswerTurns.{answers-accepted, refused-after}
 use Rattle.tap_model.specs.Replies.{next_query, show_box}
 use Rattle.tap_rows.specs.Deliveries.{delivered}
 use Rattle.tap_rows.specs.declared.results.Entry.{Entry}
@@ -84,9 +84,24 @@ define-verdict e t name source represents =
     limits-last (no_moment e.session) (no_user e.session) (bad_name name) (refuse_unless (is_none (named_in (user_of e.session) name e.queries)) Taken) (text_fault (condition_text source)) (query_limits e (user_of e.session) (length (stored_source source)))
     ∙ rw (represents.queries, named-kept t (user_of e.session) name t.queries, none-map t (find (is_query_of (user_of e.session) name) t.queries), owned-kept t (user_of e.session) t.queries, length-map t.queries (cached_query t), represents.users, represents.owners (user_of e.session), represents.bytes) refl
 
+names-last : (a b c d : Option Refusal) → option_or a (option_or b (option_or c d)) ≡ first_refusal (a ∷ b ∷ c ∷ d ∷ [])
+names-last (Some x) b c d = refl
+names-last None (Some x) c d = refl
+names-last None None (Some x) d = refl
+names-last None None None (Some x) = refl
+names-last None None None None = refl
+
+-- the checks of a new query before its text is read
+early-define : (e : Engine) (t : Tables) (name : List ℕ) → Represents e t → early_define e name ≡ first_refusal (no_moment e.session ∷ no_user e.session ∷ bad_name name ∷ taken e.session name t ∷ [])
+unfolding name_refusal
+early-define e t name represents =
+    names-last (no_moment e.session) (no_user e.session) (bad_name name) (refuse_unless (is_none (named_in (user_of e.session) name e.queries)) Taken)
+    ∙ rw (represents.queries, named-kept t (user_of e.session) name t.queries, none-map t (find (is_query_of (user_of e.session) name) t.queries)) refl
+
 -- a command that is refused by its verdict, or is out of memory
-pub define-refuses : (e : Engine) (name source : List ℕ) (refusal : Refusal) → RefusedBy (define_refusal e name source) refusal → (t : Tables) → Represents e t → Refuses refusal (Define name source) e.session t
-define-refuses e name source refusal by t represents = subst (λ v. RefusedBy v refusal) (define-verdict e t name source represents) by
+pub define-refuses : (e : Engine) (name source : List ℕ) (refusal : Refusal) → RefusedAfter (early_define e name) (define_refusal e name source) refusal → (t : Tables) → Represents e t → Refuses refusal (Define name source) e.session t
+define-refuses e name source refusal by t represents =
+    refused-after _ _ refusal (subst (λ x. RefusedAfter x (verdict (Define name source) e.session t) refusal) (early-define e t name represents) (subst (λ v. RefusedAfter (early_define e name) v refusal) (define-verdict e t name source represents) by))
 
 -- the user's query of this name in memory
 pub named-is : (e : Engine) (t : Tables) (name : List ℕ) → Represents e t → cached_named e name ≡ option_map (cached_query t) (query_named (user_of e.session) name t)
@@ -126,7 +141,7 @@ box-verdict e t name represents =
     ∙ three (no_user e.session) (bad_name name) (missing NoQuery (query_named (user_of e.session) name t))
 
 pub box-refuses : (e : Engine) (name : List ℕ) (refusal : Refusal) → RefusedBy (look_refusal e name) refusal → (t : Tables) → Represents e t → Refuses refusal (BoxOf name) e.session t
-box-refuses e name refusal by t represents = subst (λ v. RefusedBy v refusal) (box-verdict e t name represents) by
+box-refuses e name refusal by t represents = refused-after _ _ refusal (subst (λ v. RefusedBy v refusal) (box-verdict e t name represents) by)
 
 each-in : {A : Type 0} (P : A → Type 0) (xs : List A) (x : A) → Each P xs → In x xs → P x
 each-in P [] x each has = absurd has
@@ -191,7 +206,7 @@ run-left e name kept m hits is-m look runs named is-hits =
     ∙ sym (ap picks is-hits)
 
 pub run-refuses : (e : Engine) (name : List ℕ) (refusal : Refusal) → RefusedBy (run_refusal e name) refusal → (t : Tables) → Represents e t → IsSound t e.session → Refuses refusal (Run name) e.session t
-run-refuses e name refusal by t represents sound = subst (λ v. RefusedBy v refusal) (run-verdict e t name represents sound) by
+run-refuses e name refusal by t represents sound = refused-after _ _ refusal (subst (λ v. RefusedBy v refusal) (run-verdict e t name represents sound) by)
 
 -- a query isn't defined without a moment
 pub define-moment : (e : Engine) (name source : List ℕ) → define_refusal e name source ≡ None → e.session.moment ≡ None → ⊥
@@ -211,44 +226,19 @@ answers-define t s name source shown n row change s' none count is-row is-shown 
       session_is = is-s ∙ accepted.session_is;
     }
 
-text-late : (source : List ℕ) (rest : List (Option Refusal)) → is_early (first_refusal rest) ≡ false → is_early (option_or (text_fault source) (first_refusal rest)) ≡ false
-unfolding text_fault
-text-late source rest late = go (condition_of source) where
-  go : (r : Result Condition TextFault) → is_early (option_or (reading_refusal r) (first_refusal rest)) ≡ false
-  go (Err (T.Lex fault)) = refl
-  go (Err (T.Parse fault)) = refl
-  go (Err (T.Types fault)) = refl
-  go (Err T.Memory) = late
-  go (Ok c) = late
-
-pub limit_refusal-late : (name : LimitName) (limit count more : ℕ) → is_early (limit_refusal name limit count more) ≡ false
-limit_refusal-late name limit count more = elim ((more == 0) || nat_le (count + more) limit) as (λ b. is_early (if b then None else Some (Limit name)) ≡ false) [ true ↦ refl | false ↦ refl ]
-
-pub late-first : (x : Option Refusal) (rest : List (Option Refusal)) → is_early x ≡ false → is_early (first_refusal rest) ≡ false → is_early (first_refusal (x ∷ rest)) ≡ false
-late-first None rest x-late rest-late = rest-late
-late-first (Some x) rest x-late rest-late = x-late
-
-limits-late : (engine : Engine) (user : List ℕ) (len : ℕ) → is_early (first_refusal (query_limits engine user len)) ≡ false
-unfolding query_limits
-limits-late engine user len =
-    late-first _ _ (limit_refusal-late Queries user_query_limit (owned_in user engine.queries) 1)
-    (late-first _ _ (limit_refusal-late AllQueries query_limit (length engine.queries) 1)
-    (late-first _ _ (limit_refusal-late Users user_limit (length engine.owners) (if holds engine.owners user then 0 else 1))
-    (late-first _ [] (limit_refusal-late Store store_limit engine.bytes len) refl)))
-
 -- a query is refused for its text, or is out of memory, once it isn't refused for its moment, its user or its name
 pub text-refused : (e : Engine) (name source : List ℕ) (refusal : Refusal) → no_moment e.session ≡ None → no_user e.session ≡ None → None ≡ name_refusal e (user_of e.session) name
-    → (text_fault (condition_text source) ≡ Some refusal) ⊎ (refusal ≡ Memory) → RefusedBy (define_refusal e name source) refusal
+    → (text_fault (condition_text source) ≡ Some refusal) ⊎ (refusal ≡ Memory) → RefusedAfter (early_define e name) (define_refusal e name source) refusal
 text-refused e name source refusal moment user named by =
     let user-is = user_of e.session in
-    let rest = option_or (text_fault (condition_text source)) (first_refusal (query_limits e user-is (length (stored_source source)))) in
-    let is : define_refusal e name source ≡ rest =
+    let limits = first_refusal (query_limits e user-is (length (stored_source source))) in
+    let left : (rest : Option Refusal) → option_or (no_moment e.session) (option_or (no_user e.session) (option_or (name_refusal e user-is name) rest)) ≡ rest = λ rest.
     ap (λ x. option_or x (option_or (no_user e.session) (option_or (name_refusal e user-is name) rest))) moment
     ∙ ap (λ x. option_or x (option_or (name_refusal e user-is name) rest)) user
     ∙ ap (λ x. option_or x rest) (sym named) in
     elim by [
-      | inl refused ↦ inl (is ∙ ap (λ x. option_or x (first_refusal (query_limits e user-is (length (stored_source source))))) refused)
-      | inr memory ↦ inr (memory, ap is_early is ∙ text-late (condition_text source) (query_limits e user-is (length (stored_source source))) (limits-late e user-is (length (stored_source source))))
+      | inl refused ↦ inl (left (option_or (text_fault (condition_text source)) limits) ∙ ap (λ x. option_or x limits) refused)
+      | inr memory ↦ inr (memory, ap (λ x. option_or x (option_or (no_user e.session) (name_refusal e user-is name))) moment ∙ ap (λ x. option_or x (name_refusal e user-is name)) user ∙ sym named)
     ]
 
 -- a box that isn't refused is of a query that there is

@@ -1,6 +1,6 @@
 -- Filters, lists and explanations: why one is refused, and what the engine represents after one.
 use Rattle.std.proofs.Common.{◌≡◌, ◌∙◌, sym, refl, ap, subst, arith, ℕ, List, [], ◌∷◌, ◌++◌, ◌+◌, length, map, ◌≤◌, Option, Some, None, true, false, inl, inr, if◌then◌else◌}
-use Rattle.std.specs.Prelude.{◌⊎◌, sum_by, Result, Ok, Err}
+use Rattle.std.specs.Prelude.{◌⊎◌, take, sum_by, Result, Ok, Err}
 use Rattle.std.specs.Option.{option_or, option_map}
 use Rattle.std.proofs.lemmas.List.{map-append, append_assoc, append-nil}
 use Rattle.std.specs.List.{All}
@@ -39,19 +39,19 @@ use Rattle.tap_model.specs.Sessions.{user_of, moment_or_zero}
 use Rattle.tap_model.specs.Filters.{or_none, rules_in_text, last_filter, filter_rules, rules_of_user}
 use Rattle.tap_model.specs.Queries.{query_named, truth_of, start_of, box_in, lines_of}
 use Rattle.tap_rows.specs.WellFormed.{is_query_of}
-use Rattle.tap_model.specs.Verdicts.{first_refusal, verdict, missing, no_moment, no_user, long_filter, rules_refusal, filter_fault, text_of, is_early}
+use Rattle.tap_model.specs.Verdicts.{first_refusal, checks, verdict, missing, no_moment, no_user, long_filter, filter_fault, text_of}
 use Rattle.tap_model.specs.Replies.{next_filter, show_list, show_lines}
 use Rattle.tap_model.specs.Sound.{IsSound}
 use Rattle.tap_model.specs.Stories.{Refuses}
 use Rattle.tap_model.proofs.AnswerLaws.{some-none, find-in, truth-of-second}
 use Rattle.tap_engine.specs.declared.engine.Engine.{Engine}
 use Rattle.tap_kept.specs.Keeping.{cached_query, with_owner}
-use Rattle.tap_engine.specs.Standing.{Represents, RefusedBy, look_refusal, cached_named}
-use Rattle.tap_engine.specs.FilterChecks.{filter_limits, filter_refusal}
+use Rattle.tap_engine.specs.Standing.{Represents, RefusedAfter, RefusedBy, look_refusal, cached_named}
+use Rattle.tap_engine.specs.FilterChecks.{filter_limits, early_filter, filter_refusal}
 use Rattle.tap_engine.specs.Lists.{cached_rows, cached_lines}
 use Rattle.tap_engine.specs.Answering.{Answers}
 use Rattle.tap_engine.proofs.RowTurns.{docs-are}
-use Rattle.tap_engine.proofs.AnswerTurns.{answers-accepted}
+use Rattle.tap_engine.proofs.AnswerTurns.{answers-accepted, refused-after}
 use Rattle.tap_engine.proofs.OwnerLaws.{users-more, owners-more}
 use Rattle.tap_engine.proofs.CheckLaws.{named-is, box-verdict}
 
@@ -72,25 +72,30 @@ filter-verdict e t block represents =
     seven (no_moment e.session) (no_user e.session) (long_filter block) (limit_refusal Users user_limit (length e.owners) (if holds e.owners (user_of e.session) then 0 else 1)) (limit_refusal Filters filter_limit (length e.filters) 1) (limit_refusal Store store_limit e.bytes (length (text_of block))) (filter_fault (text_of block))
     ∙ rw (represents.filters, represents.users, represents.owners (user_of e.session), represents.bytes) refl
 
-pub filter-refuses : (e : Engine) (block : Block) (refusal : Refusal) → RefusedBy (filter_refusal e block) refusal → (t : Tables) → Represents e t → Refuses refusal (Filter block) e.session t
-filter-refuses e block refusal by t represents = subst (λ v. RefusedBy v refusal) (filter-verdict e t block represents) by
+six : (a b c x y z : Option Refusal) → option_or a (option_or b (option_or c (first_refusal (x ∷ y ∷ z ∷ [])))) ≡ first_refusal (a ∷ b ∷ c ∷ x ∷ y ∷ z ∷ [])
+six (Some r) b c x y z = refl
+six None (Some r) c x y z = refl
+six None None (Some r) x y z = refl
+six None None None x y z = refl
+
+-- the checks of a filter before its text is read
+early-filter : (e : Engine) (t : Tables) (block : Block) → Represents e t → early_filter e block ≡ first_refusal (take 6 (checks (Filter block) e.session t))
+unfolding filter_limits
+early-filter e t block represents =
+    six (no_moment e.session) (no_user e.session) (long_filter block) (limit_refusal Users user_limit (length e.owners) (if holds e.owners (user_of e.session) then 0 else 1)) (limit_refusal Filters filter_limit (length e.filters) 1) (limit_refusal Store store_limit e.bytes (length (text_of block)))
+    ∙ rw (represents.filters, represents.users, represents.owners (user_of e.session), represents.bytes) refl
+
+pub filter-refuses : (e : Engine) (block : Block) (refusal : Refusal) → RefusedAfter (early_filter e block) (filter_refusal e block) refusal → (t : Tables) → Represents e t → Refuses refusal (Filter block) e.session t
+filter-refuses e block refusal by t represents =
+    refused-after _ _ refusal (subst (λ x. RefusedAfter x (verdict (Filter block) e.session t) refusal) (early-filter e t block represents) (subst (λ v. RefusedAfter (early_filter e block) v refusal) (filter-verdict e t block represents) by))
 
 -- a filter isn't added without a moment
 pub filter-moment : (e : Engine) (block : Block) → filter_refusal e block ≡ None → e.session.moment ≡ None → ⊥
 filter-moment e block none no_m = some-none NoMoment (sym (ap (λ m. option_or (missing NoMoment m) (option_or (no_user e.session) (option_or (long_filter block) (option_or (first_refusal (filter_limits e (user_of e.session) (length (text_of block)))) (filter_fault (text_of block)))))) no_m) ∙ none)
 
-fault-late : (source : List ℕ) → is_early (filter_fault source) ≡ false
-unfolding filter_fault
-fault-late source = go (rules_of source) where
-  go : (r : Result (List Rule) RuleFault) → is_early (rules_refusal r) ≡ false
-  go (Ok rules) = refl
-  go (Err (R.Line number place)) = refl
-  go (Err R.ManyRules) = refl
-  go (Err R.Memory) = refl
-
 -- a filter is refused for its text, or is out of memory, once it isn't refused before
 pub text-refused : (e : Engine) (block : Block) (refusal : Refusal) → no_moment e.session ≡ None → no_user e.session ≡ None → long_filter block ≡ None → first_refusal (filter_limits e (user_of e.session) (length (text_of block))) ≡ None
-    → (filter_fault (text_of block) ≡ Some refusal) ⊎ (refusal ≡ Memory) → RefusedBy (filter_refusal e block) refusal
+    → (filter_fault (text_of block) ≡ Some refusal) ⊎ (refusal ≡ Memory) → RefusedAfter (early_filter e block) (filter_refusal e block) refusal
 text-refused e block refusal moment user long limits by =
     let fault = filter_fault (text_of block) in
     let bound = first_refusal (filter_limits e (user_of e.session) (length (text_of block))) in
@@ -99,9 +104,14 @@ text-refused e block refusal moment user long limits by =
     ∙ ap (λ x. option_or x (option_or (long_filter block) (option_or bound fault))) user
     ∙ ap (λ x. option_or x (option_or bound fault)) long
     ∙ ap (λ x. option_or x fault) limits in
+    let early : early_filter e block ≡ None =
+    ap (λ x. option_or x (option_or (no_user e.session) (option_or (long_filter block) bound))) moment
+    ∙ ap (λ x. option_or x (option_or (long_filter block) bound)) user
+    ∙ ap (λ x. option_or x bound) long
+    ∙ limits in
     elim by [
       | inl refused ↦ inl (is ∙ refused)
-      | inr memory ↦ inr (memory, ap is_early is ∙ fault-late (text_of block))
+      | inr memory ↦ inr (memory, early)
     ]
 
 -- a filter is added
@@ -166,7 +176,7 @@ listing_short o docs entries rows is =
 
 -- a list is refused as a box is
 pub list-refuses : (e : Engine) (name : List ℕ) (refusal : Refusal) → RefusedBy (look_refusal e name) refusal → (t : Tables) → Represents e t → Refuses refusal (ListOf name) e.session t
-list-refuses e name refusal by t represents = subst (λ v. RefusedBy v refusal) (box-verdict e t name represents) by
+list-refuses e name refusal by t represents = refused-after _ _ refusal (subst (λ v. RefusedBy v refusal) (box-verdict e t name represents) by)
 
 some-rows : (xs : List Listed) → Some xs ≡ None → ⊥
 some-rows xs e = cc
@@ -204,7 +214,7 @@ answers-list e t name rows represents sound none is = go (query_named (user_of e
 
 -- an explanation is refused as a box is
 pub lines-refuses : (e : Engine) (name : List ℕ) (refusal : Refusal) → RefusedBy (look_refusal e name) refusal → (t : Tables) → Represents e t → Refuses refusal (Explain name) e.session t
-lines-refuses e name refusal by t represents = subst (λ v. RefusedBy v refusal) (box-verdict e t name represents) by
+lines-refuses e name refusal by t represents = refused-after _ _ refusal (subst (λ v. RefusedBy v refusal) (box-verdict e t name represents) by)
 
 some-lines : (xs : List (List ℕ)) → Some xs ≡ None → ⊥
 some-lines xs e = cc

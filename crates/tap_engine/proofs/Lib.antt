@@ -7,6 +7,7 @@ mod CheckLaws
 mod StandingLaws
 mod AskLaws
 mod DueLaws
+mod MemoryTurns
 mod PerformLaws
 mod CostLaws
 mod NoteLaws

@@ -20,17 +20,16 @@ use Rattle.tap_model.specs.Limits.{document_limit, store_limit}
 use Rattle.tap_model.specs.declared.session.Session.{Session}
 use Rattle.tap_model.specs.Sessions.{moment_or_zero}
 use Rattle.tap_model.specs.Limits.{limit_refusal}
-use Rattle.tap_model.specs.Verdicts.{first_refusal, verdict, missing, refuse_unless, no_moment, messages_of, are_short, long_message, long_block, bytes_of, is_early}
+use Rattle.tap_model.specs.Verdicts.{first_refusal, verdict, missing, refuse_unless, no_moment, messages_of, are_short, long_message, long_block, bytes_of}
 use Rattle.tap_model.specs.Replies.{docs_from, next_docs, some_docs, tables_after}
 use Rattle.tap_model.specs.Stories.{Refuses}
 use Rattle.tap_model.proofs.AnswerLaws.{some-none}
 use Rattle.tap_engine.specs.Answering.{Answers}
 use Rattle.tap_engine.proofs.RowTurns.{docs-are}
-use Rattle.tap_engine.proofs.AnswerTurns.{answers-accepted}
+use Rattle.tap_engine.proofs.AnswerTurns.{answers-accepted, refused-after}
 use Rattle.query_eval.specs.Hits.{HitsWithRoom}
 use Rattle.tap_engine.specs.declared.engine.Engine.{Engine}
-use Rattle.tap_engine.specs.Standing.{Represents, mbox_bounds, mbox_refusal, RefusedBy}
-use Rattle.tap_engine.proofs.CheckLaws.{late-first, limit_refusal-late}
+use Rattle.tap_engine.specs.Standing.{Represents, mbox_bounds, mbox_refusal, RefusedAfter}
 
 first-or : (a : Option Refusal) (rest : List (Option Refusal)) → option_or a (first_refusal rest) ≡ first_refusal (a ∷ rest)
 first-or None rest = refl
@@ -43,31 +42,17 @@ mbox-verdict e t block represents =
     first-or (no_moment e.session) (long_message (messages_of block) ∷ long_block block ∷ limit_refusal Documents document_limit (length e.index.docs) (length (messages_of block)) ∷ limit_refusal Store store_limit e.bytes (bytes_of (messages_of block)) ∷ [])
     ∙ rw (docs-are represents, represents.bytes) refl
 
-pub mbox-refuses : (e : Engine) (block : Block) (refusal : Refusal) → RefusedBy (mbox_refusal e block) refusal → (t : Tables) → Represents e t → Refuses refusal (Mbox block) e.session t
-mbox-refuses e block refusal by t represents = subst (λ v. RefusedBy v refusal) (mbox-verdict e t block represents) by
+alone : (x : Option Refusal) → x ≡ first_refusal (x ∷ [])
+alone None = refl
+alone (Some x) = refl
+
+pub mbox-refuses : (e : Engine) (block : Block) (refusal : Refusal) → RefusedAfter (no_moment e.session) (mbox_refusal e block) refusal → (t : Tables) → Represents e t → Refuses refusal (Mbox block) e.session t
+mbox-refuses e block refusal by t represents =
+    refused-after _ _ refusal (subst (λ x. RefusedAfter x (verdict (Mbox block) e.session t) refusal) (alone (no_moment e.session)) (subst (λ v. RefusedAfter (no_moment e.session) v refusal) (mbox-verdict e t block represents) by))
 
 -- none is added without a moment
 pub mbox-moment : (e : Engine) (block : Block) → mbox_refusal e block ≡ None → e.session.moment ≡ None → ⊥
 mbox-moment e block none no_m = some-none NoMoment (sym (ap (λ m. option_or (missing NoMoment m) (mbox_bounds e block (messages_of block))) no_m) ∙ none)
-
-message-late : (short : Bool) → is_early (refuse_unless short (Limit Message)) ≡ false
-message-late true = refl
-message-late false = refl
-
-block-late : (block : Block) → is_early (long_block block) ≡ false
-block-late Long = refl
-block-late (Whole text) = refl
-
--- once there is a moment, it may be out of memory
-pub mbox-memory : (e : Engine) (block : Block) → no_moment e.session ≡ None → RefusedBy (mbox_refusal e block) Memory
-unfolding mbox_bounds
-mbox-memory e block moment = inr (refl, ap (λ x. is_early (option_or x (mbox_bounds e block (messages_of block)))) moment ∙ late) where
-  late : is_early (mbox_bounds e block (messages_of block)) ≡ false
-  late =
-      late-first _ _ (message-late (are_short (messages_of block)))
-      (late-first _ _ (block-late block)
-      (late-first _ _ (limit_refusal-late Documents document_limit (length e.index.docs) (length (messages_of block)))
-      (late-first _ [] (limit_refusal-late Store store_limit e.bytes (bytes_of (messages_of block))) refl)))
 
 both-true : (a b : Bool) → (a && b) ≡ true → (a ≡ true) × (b ≡ true)
 both-true true true e = (refl, refl)

@@ -25,7 +25,7 @@ use Rattle.tap_model.specs.Stories.{Refuses}
 use Rattle.tap_model.proofs.AnswerLaws.{some-none}
 use Rattle.tap_engine.specs.Answering.{Answers}
 use Rattle.tap_engine.proofs.RowTurns.{docs-are, notes-are}
-use Rattle.tap_engine.proofs.AnswerTurns.{answers-accepted}
+use Rattle.tap_engine.proofs.AnswerTurns.{answers-accepted, refused-after}
 use Rattle.vote_scores.proofs.TallyLaws.{tally-more}
 use Rattle.vote_scores.specs.Tally.{with_vote}
 
@@ -43,7 +43,7 @@ note-verdict e t doc kind value text represents =
     ∙ rw (docs-are represents, notes-are represents, represents.bytes) refl
 
 pub note-refuses : (e : Engine) (doc : ℕ) (kind : List ℕ) (value : ℤ) (text : List ℕ) (refusal : Refusal) → RefusedBy (note_refusal e doc kind text) refusal → (t : Tables) → Represents e t → Refuses refusal (AddNote doc kind value text) e.session t
-note-refuses e doc kind value text refusal by t represents = subst (λ v. RefusedBy v refusal) (note-verdict e t doc kind value text represents) by
+note-refuses e doc kind value text refusal by t represents = refused-after _ _ refusal (subst (λ v. RefusedBy v refusal) (note-verdict e t doc kind value text represents) by)
 
 -- a note isn't added without a moment
 pub note-moment : (e : Engine) (doc : ℕ) (kind text : List ℕ) → note_refusal e doc kind text ≡ None → e.session.moment ≡ None → ⊥

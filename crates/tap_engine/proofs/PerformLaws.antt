@@ -1,6 +1,6 @@
 -- What a command does once its rows are committed, or aren't.
 use Rattle.std.proofs.Common.{◌≡◌, ◌∙◌, sym, refl, ap, subst, true, false, ℤ, Option, Some, None, inl, inr}
-use Rattle.std.specs.Prelude.{◌⊎◌, Result, Ok, Err, IfOk, OnErr, OnSome}
+use Rattle.std.specs.Prelude.{◌⊎◌, is_some, Result, Ok, Err, IfOk, OnErr, OnSome}
 use Rattle.keeper_core.specs.declared.fault.CommitFault.{CommitFault}
 use Rattle.keeper_core.specs.declared.fault.CommitFault.TheVariants as C
 use Rattle.tap_base.specs.Numbers.{moment_of}
@@ -14,7 +14,7 @@ use Rattle.script_lang.specs.declared.refusal.Refusal.TheVariants.{Memory}
 use Rattle.script_lang.specs.declared.reply.Reply.{Reply}
 use Rattle.script_lang.specs.declared.reply.Reply.TheVariants.{No}
 use Rattle.tap_model.specs.declared.session.Session.{Session}
-use Rattle.tap_model.specs.Verdicts.{verdict, is_early, is_spared}
+use Rattle.tap_model.specs.Verdicts.{checks, verdict, is_spared}
 use Rattle.tap_model.specs.Replies.{answer_of, answer_by, tables_after, set_moment}
 use Rattle.tap_model.specs.Stories.{Step, next_tables}
 use Rattle.tap_model.specs.Sound.{IsSound}
@@ -22,6 +22,7 @@ use Rattle.tap_model.proofs.AnswerLaws.{some-none}
 use Rattle.tap_model.proofs.FitLaws.{accepted_fits}
 use Rattle.tap_model.proofs.NextLaws.{next-is}
 use Rattle.query_eval.specs.Hits.{HitsWithRoom}
+use Rattle.tap_engine.proofs.MemoryTurns.{first-none}
 use Rattle.tap_engine.specs.Standing.{Represents}
 use Rattle.tap_engine.specs.declared.engine.Engine.{Engine}
 use Rattle.tap_engine.specs.declared.fault.EngineFault.{EngineFault}
@@ -39,20 +40,20 @@ moment-alone (Some second) s = refl
 unspared : (c : Command) (s : Session) (t : Tables) (change : Change) → verdict c s t ≡ None → (answer_of c s t).change ≡ Some change → is_spared c s t ≡ false
 unspared (At text) s t change none is = absurd (no-change change (sym (moment-alone (moment_of text) s) ∙ sym (ap (λ v. (answer_by v (At text) s t).change) none) ∙ is))
 unspared (Bad refusal) s t change none is = absurd (some-none refusal none)
-unspared (Ask moment source) s t change none is = refl
-unspared (AsUser name) s t change none is = ap is_early none
-unspared (Mail block) s t change none is = ap is_early none
-unspared (Mbox block) s t change none is = ap is_early none
-unspared (AddNote doc kind value text) s t change none is = ap is_early none
-unspared (Define name source) s t change none is = ap is_early none
-unspared (Run name) s t change none is = ap is_early none
-unspared (BoxOf name) s t change none is = ap is_early none
-unspared (ListOf name) s t change none is = ap is_early none
-unspared (Filter block) s t change none is = ap is_early none
-unspared (Explain name) s t change none is = ap is_early none
-unspared (Wake name) s t change none is = ap is_early none
-unspared (ScoresOf kind) s t change none is = ap is_early none
-unspared (DigestOf name ordinal) s t change none is = ap is_early none
+unspared (Ask moment source) s t change none is = ap is_some (first-none 2 (checks (Ask moment source) s t) none)
+unspared (AsUser name) s t change none is = ap is_some none
+unspared (Mail block) s t change none is = ap is_some none
+unspared (Mbox block) s t change none is = ap is_some (first-none 1 (checks (Mbox block) s t) none)
+unspared (AddNote doc kind value text) s t change none is = ap is_some none
+unspared (Define name source) s t change none is = ap is_some (first-none 4 (checks (Define name source) s t) none)
+unspared (Run name) s t change none is = ap is_some none
+unspared (BoxOf name) s t change none is = ap is_some none
+unspared (ListOf name) s t change none is = ap is_some none
+unspared (Filter block) s t change none is = ap is_some (first-none 6 (checks (Filter block) s t) none)
+unspared (Explain name) s t change none is = ap is_some none
+unspared (Wake name) s t change none is = ap is_some none
+unspared (ScoresOf kind) s t change none is = ap is_some none
+unspared (DigestOf name ordinal) s t change none is = ap is_some (first-none 3 (checks (DigestOf name ordinal) s t) none)
 
 -- a command at whose rows the keeper is out of memory
 pub memory-step : (t : Tables) (s : Session) (c : Command) (reply : Reply) (change : Change) (s' : Session) → Answers t s c reply (Some change) s' → Step t s c (No Memory) t s

@@ -24,7 +24,7 @@ use Rattle.tap_model.specs.Sessions.{or_zero, moment_or_zero, user_of}
 use Rattle.tap_model.specs.Queries.{truth_of, start_of, query_named, box_in}
 use Rattle.tap_model.specs.Sound.{IsMoment, IsNow, IsSound}
 use Rattle.tap_model.specs.Wakes.{wake_moment}
-use Rattle.tap_model.specs.Verdicts.{first_refusal, verdict, missing, no_moment, no_user, bad_name, no_run, runs_found, is_early}
+use Rattle.tap_model.specs.Verdicts.{first_refusal, verdict, missing, no_moment, no_user, bad_name, no_run, runs_found}
 use Rattle.tap_model.specs.Replies.{show_wake, show_digest, entries_in_run}
 use Rattle.tap_model.specs.Stories.{Refuses}
 use Rattle.tap_model.proofs.AnswerLaws.{find-in, some-none, truth-of-second}
@@ -33,11 +33,11 @@ use Rattle.tap_rows.specs.WellFormed.{is_query_of}
 use Rattle.tap_kept.specs.Keeping.{cached_query, hits_since}
 use Rattle.tap_kept.specs.Starting.{IsOneOf}
 use Rattle.tap_engine.specs.declared.engine.Engine.{Engine}
-use Rattle.tap_engine.specs.Standing.{Represents, RefusedBy, look_refusal, wake_refusal, digest_refusal, cached_named, cached_runs, cached_wake}
+use Rattle.tap_engine.specs.Standing.{Represents, RefusedAfter, RefusedBy, look_refusal, wake_refusal, digest_refusal, cached_named, cached_runs, cached_wake}
 use Rattle.tap_engine.specs.Lists.{cached_digest}
 use Rattle.tap_engine.specs.Answering.{Answers}
 use Rattle.tap_engine.proofs.RowTurns.{docs-are}
-use Rattle.tap_engine.proofs.AnswerTurns.{answers-accepted}
+use Rattle.tap_engine.proofs.AnswerTurns.{answers-accepted, refused-after}
 use Rattle.tap_engine.proofs.CheckLaws.{named-is, box-verdict}
 use Rattle.tap_engine.proofs.FormedLaws.{formed}
 
@@ -70,7 +70,7 @@ wake-verdict e t name represents =
     go None b c d = refl
 
 pub wake-refuses : (e : Engine) (name : List ℕ) (refusal : Refusal) → RefusedBy (wake_refusal e name) refusal → (t : Tables) → Represents e t → Refuses refusal (Wake name) e.session t
-wake-refuses e name refusal by t represents = subst (λ v. RefusedBy v refusal) (wake-verdict e t name represents) by
+wake-refuses e name refusal by t represents = refused-after _ _ refusal (subst (λ v. RefusedBy v refusal) (wake-verdict e t name represents) by)
 
 some-moment : (x : Option ℤ) → Some x ≡ None → ⊥
 some-moment x e = cc
@@ -111,7 +111,7 @@ answers-wake e t name moment represents sound none is = go (query_named (user_of
 
 -- the scores of a kind are refused for the kind alone
 pub scores-refuses : (e : Engine) (kind : List ℕ) (refusal : Refusal) → RefusedBy (bad_name kind) refusal → (t : Tables) → Refuses refusal (ScoresOf kind) e.session t
-scores-refuses e kind refusal by t = subst (λ v. RefusedBy v refusal) (sym (one (bad_name kind))) by
+scores-refuses e kind refusal by t = refused-after _ _ refusal (subst (λ v. RefusedBy v refusal) (sym (one (bad_name kind))) by)
 
 -- the documents of sound tables have their places as numbers, and each note is on one of them
 pub numbered-sound : (t : Tables) (s : Session) → IsSound t s → AreNumbered t
@@ -143,17 +143,9 @@ digest-verdict e t name ordinal represents =
     ∙ ap (λ runs. option_or (first_refusal (no_user e.session ∷ bad_name name ∷ missing NoQuery o ∷ [])) (no_run ordinal runs)) (ap cached_runs (named-is e t name represents) ∙ runs-same t o)
     ∙ three-one (no_user e.session) (bad_name name) (missing NoQuery o) (no_run ordinal (runs_found o t))
 
-pub digest-refuses : (e : Engine) (name : List ℕ) (ordinal : ℕ) (refusal : Refusal) → RefusedBy (digest_refusal e name ordinal) refusal → (t : Tables) → Represents e t → Refuses refusal (DigestOf name ordinal) e.session t
-digest-refuses e name ordinal refusal by t represents = subst (λ v. RefusedBy v refusal) (digest-verdict e t name ordinal represents) by
-
-late-run : (ordinal runs : ℕ) → is_early (no_run ordinal runs) ≡ false
-unfolding no_run
-late-run ordinal runs = elim (nat_le 1 ordinal && nat_le ordinal runs) as (λ b. is_early (if b then None else Some (NoRun runs)) ≡ false) [ true ↦ refl | false ↦ refl ]
-
--- out of memory, once the query is found
-pub digest-memory : (e : Engine) (name : List ℕ) (ordinal : ℕ) → look_refusal e name ≡ None → RefusedBy (digest_refusal e name ordinal) Memory
-digest-memory e name ordinal look =
-    inr (refl, ap (λ x. is_early (option_or x (no_run ordinal (cached_runs (cached_named e name))))) look ∙ late-run ordinal (cached_runs (cached_named e name)))
+pub digest-refuses : (e : Engine) (name : List ℕ) (ordinal : ℕ) (refusal : Refusal) → RefusedAfter (look_refusal e name) (digest_refusal e name ordinal) refusal → (t : Tables) → Represents e t → Refuses refusal (DigestOf name ordinal) e.session t
+digest-refuses e name ordinal refusal by t represents =
+    refused-after _ _ refusal (subst (λ x. RefusedAfter x (verdict (DigestOf name ordinal) e.session t) refusal) (box-verdict e t name represents) (subst (λ v. RefusedAfter (look_refusal e name) v refusal) (digest-verdict e t name ordinal represents) by))
 
 some-lines : (x : List (List ℕ)) → Some x ≡ None → ⊥
 some-lines x e = cc

@@ -1,15 +1,21 @@
--- What a run of a query costs. A step is a row that the index hands out.
-use Rattle.std.specs.Prelude.{⊤, ℕ, ℤ, ◌≡◌, ◌≤◌, ◌+◌, Option, Some, None}
+-- What a command costs. A step is a row that the index hands out.
+use Rattle.std.specs.Prelude.{⊤, ℕ, ℤ, pos, ◌≡◌, ◌≤◌, ◌+◌, length, Option, Some, None}
+use Rattle.tap_base.specs.declared.moments.TheConstants.{LAST_MOMENT}
 use Rattle.tap_rows.specs.declared.tables.Tables.{Tables}
 use Rattle.tap_rows.specs.declared.rows.QueryRow.{QueryRow}
 use Rattle.tap_rows.specs.Results.{covered}
+use Rattle.tap_rows.specs.Deliveries.{delivered}
 use Rattle.time_marks.specs.declared.window.Window.{Window}
 use Rattle.script_lang.specs.declared.command.Command.{Command}
-use Rattle.script_lang.specs.declared.command.Command.TheVariants.{Run}
+use Rattle.script_lang.specs.declared.command.Command.TheVariants.{Run, ListOf, Ask, Wake, ScoresOf, DigestOf}
 use Rattle.tap_model.specs.declared.session.Session.{Session}
 use Rattle.tap_model.specs.Sessions.{moment_or_zero, user_of}
-use Rattle.tap_model.specs.Queries.{start_of, query_named}
-use Rattle.tap_kept.specs.Costs.{HasNoMark, AreAlone, rows_due}
+use Rattle.tap_model.specs.Queries.{start_of, query_named, probes_in}
+use Rattle.tap_model.specs.Replies.{entries_in_run}
+use Rattle.tap_model.specs.WindowRuns.{asked_rows, found_since}
+use Rattle.wake_plan.specs.Wakes.{wake_window}
+use Rattle.tap_kept.specs.declared.cached_query.CachedQuery.{CachedQuery}
+use Rattle.tap_kept.specs.Costs.{HasNoMark, AreAlone, rows_due, query_work, window_since, work_ahead}
 use Rattle.tap_engine.specs.declared.engine.Engine.{Engine}
 use Rattle.tap_engine.specs.Standing.{OverTables}
 
@@ -32,10 +38,11 @@ abbrev pub query_due : Option QueryRow → Session → Tables → ℕ
 query_due None session tables = 0
 query_due (Some query) session tables = rows_due tables (next_window tables query (moment_or_zero session)) query
 
--- the command runs a query of which no probe has a mark in the window of this run
-abbrev pub IsQuietRun : Command → Session → Tables → Type 0
-IsQuietRun (Run name) session tables = IsQuietQuery (query_named (user_of session) name tables) session tables
-IsQuietRun other session tables = ⊥
+-- the command looks at no row: it asks for scores, or runs a query of which no probe has a mark in the window of this run
+abbrev pub IsQuiet : Command → Session → Tables → Type 0
+IsQuiet (Run name) session tables = IsQuietQuery (query_named (user_of session) name tables) session tables
+IsQuiet (ScoresOf kind) session tables = ⊤
+IsQuiet other session tables = ⊥
 
 -- the command runs a query of which the path of each probe is the document alone
 abbrev pub IsShortRun : Command → Session → Tables → Type 0
@@ -47,11 +54,65 @@ abbrev pub run_due : Command → Session → Tables → ℕ
 run_due (Run name) session tables = query_due (query_named (user_of session) name tables) session tables
 run_due other session tables = 0
 
--- a run without a mark in its window takes no step; the second number of steps is that after the command
+-- scores, and a run without a mark in its window, take no step; the second number of steps is that after the command
 abbrev pub TakesNoStep : Engine → Command → ℕ → ℕ → Type 0
-TakesNoStep engine command before steps = OverTables engine (λ t. IsQuietRun command engine.session t → steps ≡ before)
+TakesNoStep engine command before steps = OverTables engine (λ t. IsQuiet command engine.session t → steps ≡ before)
 
 -- a run whose paths are documents alone takes no more steps than rows are due
 abbrev pub TakesRowsDue : Engine → Command → ℕ → ℕ → Type 0
 TakesRowsDue engine command before steps =
     OverTables engine (λ t. IsShortRun command engine.session t → steps ≤ before + run_due command engine.session t)
+
+-- the steps that a run of this query may take
+abbrev pub run_work : Option QueryRow → Session → Tables → ℕ
+run_work None session tables = 0
+run_work (Some query) session tables = query_work (asked_rows tables) (next_window tables query (moment_or_zero session)) query
+
+-- from the second that the query has covered up to and with the least mark at which a run would deliver
+abbrev pub wake_window_of : Tables → QueryRow → Window
+wake_window_of tables query = wake_window (covered (start_of query) query.num.0 tables.runs) (found_since query tables (pos LAST_MOMENT))
+
+-- the steps that looking for the next moment of this query may take: those up to that mark, and one for each probe
+abbrev pub wake_work : Option QueryRow → Tables → ℕ
+wake_work None tables = 0
+wake_work (Some query) tables = length (probes_in query) + query_work (asked_rows tables) (wake_window_of tables query) query
+
+-- a step for each entry of this query's box
+abbrev pub list_work : Option QueryRow → Tables → ℕ
+list_work None tables = 0
+list_work (Some query) tables = length (delivered query.num.0 tables)
+
+-- a step for each entry of one run of this query
+abbrev pub digest_work : Option QueryRow → ℕ → Tables → ℕ
+digest_work None ordinal tables = 0
+digest_work (Some query) ordinal tables = length (entries_in_run ordinal (delivered query.num.0 tables))
+
+-- the most steps that a command may take
+abbrev pub most_steps : Command → Session → Tables → ℕ
+most_steps (Run name) session tables = run_work (query_named (user_of session) name tables) session tables
+most_steps (Wake name) session tables = wake_work (query_named (user_of session) name tables) tables
+most_steps (ListOf name) session tables = list_work (query_named (user_of session) name tables) tables
+most_steps (DigestOf name ordinal) session tables = digest_work (query_named (user_of session) name tables) ordinal tables
+most_steps (Ask moment source) session tables = length tables.docs + length tables.notes
+most_steps other session tables = 0
+
+-- the command takes no more steps than these
+abbrev pub TakesAtMost : Engine → Command → ℕ → ℕ → Type 0
+TakesAtMost engine command before steps = OverTables engine (λ t. steps ≤ before + most_steps command engine.session t)
+
+-- the same, by what is cached of the query that a command names
+abbrev pub cached_run_work : Engine → Option CachedQuery → ℕ
+cached_run_work engine None = 0
+cached_run_work engine (Some kept) = query_work engine.index (window_since kept (moment_or_zero engine.session)) kept.row
+
+abbrev pub cached_wake_work : Engine → Option CachedQuery → ℕ
+cached_wake_work engine None = 0
+cached_wake_work engine (Some kept) = work_ahead kept engine.index
+
+abbrev pub cached_list_work : Option CachedQuery → ℕ
+cached_list_work None = 0
+cached_list_work (Some kept) = length kept.entries
+
+abbrev pub cached_digest_work : ℕ → Option CachedQuery → ℕ
+cached_digest_work ordinal None = 0
+cached_digest_work ordinal (Some kept) = length (entries_in_run ordinal kept.entries)

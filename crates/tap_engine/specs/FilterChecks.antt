@@ -19,6 +19,14 @@ filter_limits engine user len =
     ∷ limit_refusal Store store_limit engine.bytes len
     ∷ []
 
+-- why a filter is refused before its text is read
+abbrev pub early_filter : Engine → Block → Option Refusal
+early_filter engine block =
+    option_or (no_moment engine.session)
+    (option_or (no_user engine.session)
+    (option_or (long_filter block)
+    (first_refusal (filter_limits engine (user_of engine.session) (length (text_of block))))))
+
 -- why a filter is refused
 abbrev pub filter_refusal : Engine → Block → Option Refusal
 filter_refusal engine block =

@@ -1,5 +1,5 @@
 -- The tables that an engine represents, and why a command is refused, by what the engine has in memory.
-use Rattle.std.specs.Prelude.{ℕ, ℤ, pos, ◌≡◌, ◌⊎◌, List, [], ◌∷◌, length, map, Option, Some, None, is_none, false, if◌then◌else◌}
+use Rattle.std.specs.Prelude.{ℕ, ℤ, pos, ◌≡◌, ◌⊎◌, List, [], ◌∷◌, length, map, Option, Some, None, is_none, if◌then◌else◌}
 use Rattle.std.specs.Option.{option_or}
 use Rattle.tap_base.specs.Words.{holds}
 use Rattle.tap_base.specs.declared.moments.TheConstants.{LAST_MOMENT}
@@ -20,7 +20,7 @@ use Rattle.tap_model.specs.declared.session.Session.{Session}
 use Rattle.tap_model.specs.Sessions.{moment_or_zero, user_of, greatest_moment}
 use Rattle.tap_model.specs.Limits.{stored_bytes, owners_in, different, limit_refusal}
 use Rattle.tap_model.specs.Sound.{IsSound}
-use Rattle.tap_model.specs.Verdicts.{missing, refuse_unless, first_refusal, no_moment, no_user, bad_name, text_fault, is_early}
+use Rattle.tap_model.specs.Verdicts.{missing, refuse_unless, first_refusal, no_moment, no_user, bad_name, text_fault}
 use Rattle.tap_model.specs.Verdicts.{messages_of, long_message, long_block, bytes_of, no_doc, long_note, no_run}
 use Rattle.vote_scores.specs.Tally.{tally}
 use Rattle.wake_plan.specs.Wakes.{next_wake}
@@ -66,6 +66,10 @@ query_limits engine user len =
     ∷ limit_refusal Users user_limit (length engine.owners) (if holds engine.owners user then 0 else 1)
     ∷ limit_refusal Store store_limit engine.bytes len
     ∷ []
+
+-- why a new query is refused before its text is read
+abbrev pub early_define : Engine → List ℕ → Option Refusal
+early_define engine name = option_or (no_moment engine.session) (option_or (no_user engine.session) (name_refusal engine (user_of engine.session) name))
 
 -- why a new query is refused
 abbrev pub define_refusal : Engine → List ℕ → List ℕ → Option Refusal
@@ -165,6 +169,10 @@ run_refusal engine name =
     (option_or (limit_refusal Runs run_limit engine.run_count 1)
     (limit_refusal Picks pick_limit engine.pick_count (length (cached_hits engine (cached_named engine name))))))
 
--- the refusal is this one; or it is out of memory, and the command isn't refused early for its moment, its user or its name
+-- the refusal is that of a verdict; or it is out of memory, and the checks before memory is asked for refuse nothing
+abbrev pub RefusedAfter : Option Refusal → Option Refusal → Refusal → Type 0
+RefusedAfter early verdict refusal = (verdict ≡ Some refusal) ⊎ ((refusal ≡ Memory) × (early ≡ None))
+
+-- the refusal is that of a verdict; or it is out of memory, and there is no verdict
 abbrev pub RefusedBy : Option Refusal → Refusal → Type 0
-RefusedBy verdict refusal = (verdict ≡ Some refusal) ⊎ ((refusal ≡ Memory) × (is_early verdict ≡ false))
+RefusedBy verdict refusal = RefusedAfter verdict verdict refusal

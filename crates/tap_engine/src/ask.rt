@@ -29,6 +29,7 @@ fn refuse_open(second: i64, now: i64) -> Result<(), Refusal>
 
 impl Engine {
     ghost use Rattle.tap_engine.specs.Answering.{ReadsAsModel, RefusesAsModel};
+    ghost use Rattle.tap_engine.specs.Costs.{TakesAtMost};
 
     // Lists the documents that a condition gives at a second that is over.
     pub(crate) fn ask<L: Ledger>(
@@ -42,6 +43,7 @@ impl Engine {
         ensures refusal { IfErr result (RefusesAsModel self.now (Command.Ask moment.now source.now)) }
         ensures short { IfOk result (λ reply. HasShortNames reply) }
         ensures accepted { IfOk result (λ reply. is_accepted reply ≡ true) }
+        ensures most { TakesAtMost self.now (Command.Ask moment.now source.now) steps.old steps.new }
     {
         let Some(second) = second_of(moment) else {
             return Err(Refusal::BadMoment);

@@ -66,7 +66,7 @@ fn push_query(
 
 impl Engine {
     ghost use Rattle.tap_engine.specs.Answering.{AnswersAsModel, RepresentsNext, RefusesAsModel, IsUndoable};
-    ghost use Rattle.tap_engine.specs.Standing.{name_refusal, query_limits, define_refusal, RefusedBy};
+    ghost use Rattle.tap_engine.specs.Standing.{name_refusal, query_limits, early_define, define_refusal, RefusedAfter};
     ghost use Rattle.tap_engine.specs.Ready.{IsReady};
 
     // Adds a query that was never run, and gives its row as a change. At Err nothing has changed.
@@ -162,7 +162,7 @@ impl Engine {
         ensures cond { IfOk result (λ made. condition made.1 ≡ condition_by made.0) }
         ensures scoped { IfOk result (λ made. IsQuery (condition made.1)) }
         ensures bounded { IfOk result (λ made. are_bounded (condition made.1) ≡ true) }
-        ensures refusal { IfErr result (λ refusal. RefusedBy (define_refusal self.now name source) refusal) }
+        ensures refusal { IfErr result (λ refusal. RefusedAfter (early_define self.now name) (define_refusal self.now name source) refusal) }
         ensures bytes { IfOk result (λ made. self.now.bytes + length made.0.source < 2 ^ 64) }
         ensures name { OnOk result (is_name name ≡ true) }
     {

@@ -1,6 +1,6 @@
 //! The documents of one run as one message.
 
-ghost use Rattle.std.specs.Prelude.{◌≡◌, None, Some, true, OnOk, IfOk, IfErr};
+ghost use Rattle.std.specs.Prelude.{◌≡◌, ◌≤◌, ◌+◌, None, Some, true, OnOk, IfOk, IfErr};
 ghost use Rattle.std.specs.Result.{result_err};
 ghost use Rattle.script_lang.specs.declared.command.Command.{Command};
 ghost use Rattle.script_lang.specs.Replies.{HasShortNames, is_accepted};
@@ -29,8 +29,9 @@ fn refuse_run(ordinal: u32, runs: u32) -> Result<(), Refusal>
 
 impl Engine {
     ghost use Rattle.tap_engine.specs.Answering.{ReadsAsModel, RefusesAsModel};
-    ghost use Rattle.tap_engine.specs.Standing.{digest_refusal, cached_named, RefusedBy};
+    ghost use Rattle.tap_engine.specs.Standing.{look_refusal, digest_refusal, cached_named, RefusedAfter};
     ghost use Rattle.tap_engine.specs.Lists.{cached_digest};
+    ghost use Rattle.tap_engine.specs.Costs.{TakesAtMost, cached_digest_work};
 
     // Makes the lines of the digest of one run of the user's query of this name. A query with more runs than a `u32` counts
     // is refused as out of memory: no store has so many.
@@ -43,8 +44,9 @@ impl Engine {
     ) -> Result<Texts, Refusal>
         ensures look { OnOk result (digest_refusal self.now name.now ordinal ≡ None) }
         ensures lines { IfOk result (λ lines. Some lines ≡ cached_digest self.now name.now ordinal (cached_named self.now name.now)) }
-        ensures refusal { IfErr result (λ refusal. RefusedBy (digest_refusal self.now name.now ordinal) refusal) }
+        ensures refusal { IfErr result (λ refusal. RefusedAfter (look_refusal self.now name.now) (digest_refusal self.now name.now ordinal) refusal) }
         ensures name { OnOk result (is_name name.now ≡ true) }
+        ensures steps { steps.new ≤ steps.old + cached_digest_work ordinal (cached_named self.now name.now) }
     {
         let kept = self.look(name)?;
         if kept.runs > u32::MAX as usize {
@@ -68,6 +70,7 @@ impl Engine {
         ensures refusal { IfErr result (RefusesAsModel self.now (Command.DigestOf name ordinal)) }
         ensures short { IfOk result (λ reply. HasShortNames reply) }
         ensures accepted { IfOk result (λ reply. is_accepted reply ≡ true) }
+        ensures most { TakesAtMost self.now (Command.DigestOf name ordinal) steps.old steps.new }
     {
         let lines = self.digest_named(alloc, name.as_slice(), ordinal, steps)?;
         Ok(Reply::DigestOf {

@@ -92,9 +92,9 @@ fn push_filter(
 
 impl Engine {
     ghost use Rattle.tap_engine.specs.Answering.{AnswersAsModel, RepresentsNext, RefusesAsModel, IsUndoable};
-    ghost use Rattle.tap_engine.specs.Standing.{RefusedBy};
+    ghost use Rattle.tap_engine.specs.Standing.{RefusedAfter};
     ghost use Rattle.tap_engine.specs.Ready.{IsReady};
-    ghost use Rattle.tap_engine.specs.FilterChecks.{filter_limits, filter_refusal};
+    ghost use Rattle.tap_engine.specs.FilterChecks.{filter_limits, early_filter, filter_refusal};
 
     // Refuses a filter of this user and length that would pass a limit.
     #[tactic(auto, unfolding(crate::specs::FilterChecks::filter_limits))]
@@ -124,7 +124,7 @@ impl Engine {
         }) }
         ensures rules { IfOk result (λ made. rules_in made.1 ≡ rules_in_text (text_of block)) }
         ensures few { IfOk result (λ made. length (rules_in made.1) ≤ RULE_LIMIT) }
-        ensures refusal { IfErr result (λ refusal. RefusedBy (filter_refusal self.now block) refusal) }
+        ensures refusal { IfErr result (λ refusal. RefusedAfter (early_filter self.now block) (filter_refusal self.now block) refusal) }
         ensures bytes { OnOk result (self.now.bytes + length (text_of block) < 2 ^ 64) }
     {
         let Some(moment) = self.session.moment else {

@@ -1,6 +1,6 @@
 //! What a query has delivered, rated by the user's last filter.
 
-ghost use Rattle.std.specs.Prelude.{◌≡◌, ◌≤◌, Some, None, true, length, IfOk, IfErr, OnOk};
+ghost use Rattle.std.specs.Prelude.{◌≡◌, ◌≤◌, ◌+◌, Some, None, true, length, IfOk, IfErr, OnOk};
 ghost use Rattle.std.specs.List.{All};
 ghost use Rattle.std.specs.Option.{option_copied};
 ghost use Rattle.tap_base.specs.Names.{is_name};
@@ -42,7 +42,8 @@ pub(crate) fn rate<'a, L: Ledger>(
     index: &'a RowIndex,
     steps: &mut Steps<L>,
 ) -> Result<Rows<Listed>, Memory>
-    ensures { IfOk result (λ rows. rows ≡ listing_of (filter_rules (option_copied filter.entry)) index.now.docs entries.now) }
+    ensures rows { IfOk result (λ rows. rows ≡ listing_of (filter_rules (option_copied filter.entry)) index.now.docs entries.now) }
+    ensures steps { steps.new ≤ steps.old + length entries.now }
 {
     match filter {
         Some(kept) => listing(alloc, kept.rules(), entries, index, steps),
@@ -54,6 +55,7 @@ impl Engine {
     ghost use Rattle.tap_engine.specs.Answering.{ReadsAsModel, RefusesAsModel};
     ghost use Rattle.tap_engine.specs.Standing.{look_refusal, cached_named, RefusedBy};
     ghost use Rattle.tap_engine.specs.Lists.{cached_rows};
+    ghost use Rattle.tap_engine.specs.Costs.{TakesAtMost, cached_list_work};
 
     // Gives the session's user, or an empty text if it has none.
     fn user_name(&self) -> &[u8]
@@ -77,6 +79,7 @@ impl Engine {
         ensures short { IfOk result (λ rows. All (λ row. length row.class ≤ 32) rows) }
         ensures refusal { IfErr result (λ refusal. RefusedBy (look_refusal self.now name.now) refusal) }
         ensures name { OnOk result (is_name name.now ≡ true) }
+        ensures steps { steps.new ≤ steps.old + cached_list_work (cached_named self.now name.now) }
     {
         let kept = self.look(name)?;
         let filter = last_filter(self.filters.as_slice(), self.user_name());
@@ -96,6 +99,7 @@ impl Engine {
         ensures refusal { IfErr result (RefusesAsModel self.now (Command.ListOf name)) }
         ensures short { IfOk result (λ reply. HasShortNames reply) }
         ensures accepted { IfOk result (λ reply. is_accepted reply ≡ true) }
+        ensures most { TakesAtMost self.now (Command.ListOf name) steps.old steps.new }
     {
         let rows = self.rows_named(alloc, name.as_slice(), steps)?;
         Ok(Reply::ListOf { name, rows })

@@ -10,7 +10,7 @@ ghost use Rattle.row_index.specs.Orders.{IsMoment};
 ghost use Rattle.script_lang.specs.declared.command.Command.{Command};
 ghost use Rattle.script_lang.specs.Replies.{HasShortNames, is_accepted};
 ghost use Rattle.tap_model.specs.Sessions.{moment_or_zero};
-ghost use Rattle.tap_model.specs.Verdicts.{messages_of, are_short, long_message, long_block, bytes_of};
+ghost use Rattle.tap_model.specs.Verdicts.{no_moment, messages_of, are_short, long_message, long_block, bytes_of};
 ghost use Rattle.tap_model.specs.Replies.{docs_from, some_docs};
 
 use crate::engine::Engine;
@@ -153,7 +153,7 @@ fn add_all(alloc: Global, index: &mut RowIndex, moment: i64, texts: &[Text]) -> 
 }
 
 impl Engine {
-    ghost use Rattle.tap_engine.specs.Standing.{mbox_bounds, mbox_refusal, RefusedBy};
+    ghost use Rattle.tap_engine.specs.Standing.{mbox_bounds, mbox_refusal, RefusedAfter};
     ghost use Rattle.tap_engine.specs.Ready.{IsReady};
     ghost use Rattle.tap_engine.specs.Answering.{IsUnchangedButHits, AnswersAsModel, RepresentsNext, RefusesAsModel, IsUndoable};
 
@@ -181,7 +181,7 @@ impl Engine {
         ensures checks { OnOk result (mbox_refusal self.now block.now ≡ None) }
         ensures moment { IfOk result (λ made. made.0 ≡ moment_or_zero self.now.session) }
         ensures texts { IfOk result (λ made. made.1 ≡ messages_of block.now) }
-        ensures refusal { IfErr result (λ refusal. RefusedBy (mbox_refusal self.now block.now) refusal) }
+        ensures refusal { IfErr result (λ refusal. RefusedAfter (no_moment self.now.session) (mbox_refusal self.now block.now) refusal) }
         ensures short { IfOk result (λ made. are_short made.1 ≡ true) }
         ensures few { IfOk result (λ made. length self.now.index.docs + length made.1 ≤ max (length self.now.index.docs) DOCUMENT_LIMIT) }
         ensures bytes { IfOk result (λ made. self.now.bytes + bytes_of made.1 < 2 ^ 64) }

@@ -23,7 +23,7 @@ impl Engine {
     ghost use Rattle.tap_engine.specs.Ready.{IsReady};
     ghost use Rattle.tap_engine.specs.Answering.{AnswersAsModel, RepresentsNext, RefusesSoundly, IsUndoable, AddsRows};
     ghost use Rattle.tap_engine.specs.Answering.{IsUnchangedButHits, fault_answer, fault_engine};
-    ghost use Rattle.tap_engine.specs.Costs.{TakesNoStep, TakesRowsDue};
+    ghost use Rattle.tap_engine.specs.Costs.{TakesNoStep, TakesRowsDue, TakesAtMost};
 
     // Takes all memory that a command needs, and adds its rows to the engine, unless the command is refused.
     fn prepare<L: Ledger>(
@@ -44,6 +44,7 @@ impl Engine {
         ensures accepted { IfOk result (λ made. is_accepted made.reply ≡ true) }
         ensures quiet { TakesNoStep self.old command steps.old steps.new }
         ensures due { TakesRowsDue self.old command steps.old steps.new }
+        ensures most { TakesAtMost self.old command steps.old steps.new }
     {
         match command {
             Command::At(text) => self.at(text.as_slice()),
@@ -92,9 +93,9 @@ impl Engine {
 
     /// Performs a command and returns the reply to it. It takes all memory first, then commits once if the command adds
     /// rows, and takes no memory after that. If the command is refused or out of memory, the engine and the keeper's tables
-    /// are unchanged. It is never out of memory for a command that is refused for its form, its moment, its user or its
-    /// name, nor for `at` with digits alone. It fails only if the keeper fails, and the engine is stopped then. A step is a
-    /// row that the index hands out.
+    /// are unchanged. It is never out of memory for `at`, nor for a command that is refused by a check before the text of a
+    /// query or a filter is read, a mailbox file is cut, or the runs of a digest are counted. It fails only if the keeper
+    /// fails, and the engine is stopped then. A step is a row that the index hands out.
     pub fn perform<P: Keeper, L: Ledger>(
         &mut self,
         alloc: Global,
@@ -115,9 +116,10 @@ impl Engine {
         ensures short { IfOk result (λ reply. HasShortNames reply) }
         ensures ready { OnOk result (IsReady self.new) }
 
-        // The rows that a run takes from the index, whatever the answer is.
+        // The rows that it takes from the index, whatever the answer is.
         ensures quiet { TakesNoStep self.old command steps.old steps.new }
         ensures due { TakesRowsDue self.old command steps.old steps.new }
+        ensures most { TakesAtMost self.old command steps.old steps.new }
 
         // What the keeper's store has, and what a crash leaves, if the keeper is honest.
         ensures kept { OverSound self.old (λ t. P.honest keeper.new → IsDurable (P.tells keeper.old) (P.may_leave keeper.old) t →

@@ -65,7 +65,7 @@ fn copy_hits(alloc: Global, hits: &[Hit]) -> Result<Rows<Hit>, Memory>
 }
 
 impl Engine {
-    ghost use Rattle.tap_engine.specs.Costs.{TakesNoStep, TakesRowsDue};
+    ghost use Rattle.tap_engine.specs.Costs.{TakesNoStep, TakesRowsDue, TakesAtMost, cached_run_work};
     ghost use Rattle.tap_engine.specs.Standing.{run_refusal, cached_named, due_of, RefusedBy};
     ghost use Rattle.tap_engine.specs.Ready.{IsReady};
     ghost use Rattle.tap_engine.specs.Answering.{IsUnchangedButHits, undo_run, AnswersAsModel, RepresentsNext, RefusesSoundly, IsUndoable};
@@ -89,6 +89,7 @@ impl Engine {
         ensures still { IsUnchangedButHits self.new self.old }
         ensures quiet { TakesNoStep self.old (Command.Run name.now) steps.old steps.new }
         ensures rows { TakesRowsDue self.old (Command.Run name.now) steps.old steps.new }
+        ensures most { steps.new ≤ steps.old + cached_run_work self.old (cached_named self.old name.now) }
     {
         let Some(moment) = self.session.moment else {
             return Err(Refusal::NoMoment);
@@ -180,6 +181,7 @@ impl Engine {
         ensures accepted { IfOk result (λ made. is_accepted made.reply ≡ true) }
         ensures quiet { TakesNoStep self.old (Command.Run name.now) steps.old steps.new }
         ensures due { TakesRowsDue self.old (Command.Run name.now) steps.old steps.new }
+        ensures most { TakesAtMost self.old (Command.Run name.now) steps.old steps.new }
     {
         let due = self.due_run(alloc, name, steps)?;
         let ordinal = due.runs as u32 + 1;

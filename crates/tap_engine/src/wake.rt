@@ -1,6 +1,6 @@
 //! When a run is next worthwhile.
 
-ghost use Rattle.std.specs.Prelude.{◌≡◌, None, Some, true, OnOk, IfOk, IfErr};
+ghost use Rattle.std.specs.Prelude.{◌≡◌, ◌≤◌, ◌+◌, None, Some, true, OnOk, IfOk, IfErr};
 ghost use Rattle.script_lang.specs.declared.command.Command.{Command};
 ghost use Rattle.script_lang.specs.Replies.{HasShortNames, is_accepted};
 ghost use Rattle.tap_base.specs.Names.{is_name};
@@ -14,6 +14,7 @@ use tap_base::{Steps, Text};
 impl Engine {
     ghost use Rattle.tap_engine.specs.Answering.{ReadsAsModel, RefusesAsModel};
     ghost use Rattle.tap_engine.specs.Ready.{IsReady};
+    ghost use Rattle.tap_engine.specs.Costs.{TakesAtMost, cached_wake_work};
     ghost use Rattle.tap_engine.specs.Standing.{wake_refusal, cached_named, cached_wake, RefusedBy};
 
     // Finds the earliest moment from the session's on at which a run of the user's query of this name delivers, if there is
@@ -29,6 +30,7 @@ impl Engine {
         ensures moment { IfOk result (λ moment. Some moment ≡ cached_wake self.now (cached_named self.now name.now)) }
         ensures refusal { IfErr result (λ refusal. RefusedBy (wake_refusal self.now name.now) refusal) }
         ensures name { OnOk result (is_name name.now ≡ true) }
+        ensures steps { steps.new ≤ steps.old + cached_wake_work self.now (cached_named self.now name.now) }
     {
         let Some(now) = self.session.moment else {
             return Err(Refusal::NoMoment);
@@ -50,6 +52,7 @@ impl Engine {
         ensures refusal { IfErr result (RefusesAsModel self.now (Command.Wake name)) }
         ensures short { IfOk result (λ reply. HasShortNames reply) }
         ensures accepted { IfOk result (λ reply. is_accepted reply ≡ true) }
+        ensures most { TakesAtMost self.now (Command.Wake name) steps.old steps.new }
     {
         let moment = self.wake_named(alloc, name.as_slice(), steps)?;
         Ok(Reply::Wake { name, moment })

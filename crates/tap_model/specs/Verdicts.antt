@@ -1,7 +1,6 @@
 -- Why a command is refused: the first of its checks that refuses it.
-use Rattle.std.specs.Prelude.{ℕ, ℤ, List, [], ◌∷◌, length, sum_by, Bool, true, false, ◌&&◌, ◌||◌, nat_le, int_le, int_lt, Option, Some}
-use Rattle.std.specs.Prelude.{None, is_none, Result, Ok, Err, if◌then◌else◌}
-use Rattle.std.specs.Str.{all_ascii_digits}
+use Rattle.std.specs.Prelude.{ℕ, ℤ, List, [], ◌∷◌, length, take, sum_by, Bool, true, ◌&&◌, nat_le, int_le, int_lt, Option, Some}
+use Rattle.std.specs.Prelude.{None, is_none, is_some, Result, Ok, Err, if◌then◌else◌}
 use Rattle.std.specs.List.{list_all}
 use Rattle.tap_base.specs.Numbers.{moment_of}
 use Rattle.tap_base.specs.Names.{is_name}
@@ -250,16 +249,17 @@ checks (DigestOf name ordinal) session tables =
 abbrev pub verdict : Command → Session → Tables → Option Refusal
 verdict command session tables = first_refusal (checks command session tables)
 
--- is it refused since a moment, a user or a name is missing? These checks come first and need no memory
-abbrev pub is_early : Option Refusal → Bool
-is_early (Some NoMoment) = true
-is_early (Some NoUser) = true
-is_early (Some BadName) = true
-is_early refusal = false
+-- the checks that a command makes before it asks for memory: those before a text is read, a mailbox file cut, or runs counted
+abbrev pub early_checks : Command → Session → Tables → List (Option Refusal)
+early_checks (Define name source) session tables = take 4 (checks (Define name source) session tables)
+early_checks (Mbox block) session tables = take 1 (checks (Mbox block) session tables)
+early_checks (Filter block) session tables = take 6 (checks (Filter block) session tables)
+early_checks (Ask moment source) session tables = take 2 (checks (Ask moment source) session tables)
+early_checks (DigestOf name ordinal) session tables = take 3 (checks (DigestOf name ordinal) session tables)
+early_checks command session tables = checks command session tables
 
--- does the command need no memory?
+-- does the command need no memory? One of these checks refuses it, or it sets the moment
 abbrev pub is_spared : Command → Session → Tables → Bool
 is_spared (Bad refusal) session tables = true
-is_spared (At text) session tables = all_ascii_digits text || is_early (verdict (At text) session tables)
-is_spared (Ask moment source) session tables = false
-is_spared command session tables = is_early (verdict command session tables)
+is_spared (At text) session tables = true
+is_spared command session tables = is_some (first_refusal (early_checks command session tables))

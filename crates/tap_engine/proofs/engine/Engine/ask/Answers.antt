@@ -1,12 +1,14 @@
-use Rattle.std.proofs.Common.{rules, ◌≡◌, ◌∙◌, Some}
+use Rattle.std.proofs.Common.{rules, ◌≡◌, ◌∙◌, refl, inr, Some}
 use Rattle.tap_base.specs.Numbers.{moment_of}
 use Rattle.tap_rows.specs.declared.tables.Tables.{Tables}
 use Rattle.script_lang.specs.declared.command.Command.TheVariants.{Ask}
+use Rattle.script_lang.specs.declared.refusal.Refusal.TheVariants.{Memory}
 use Rattle.tap_model.specs.Stories.{Refuses}
 use Rattle.tap_engine.specs.Standing.{Represents}
 use Rattle.tql_core.specs.Condition.{condition}
 use Rattle.tap_engine.proofs.RowTurns.{docs-are, notes-are}
 use Rattle.tap_engine.proofs.AskLaws.{ask-text, ask-open, answers-ask}
+use Rattle.tap_engine.proofs.CostLaws.{most-ask}
 use Rattle.tap_engine.proofs.engine.Engine.ask.Goals as goal
 
 pub returns-in_err-cond-clause-refusal : goal.returns-in_err-cond-clause-refusal
@@ -26,3 +28,15 @@ returns-clause-ok g c = λ t represents sound.
     let is : moment_of c.args.moment.now ≡ Some c.in-Some.second = search rules in
     let there : c.args.self.now.session.moment ≡ Some c.in-Some-moment.now = search rules in
     let answers = answers-ask c.args.self.now.session c.args.moment.now c.args.source.now c.in-Some.second c.in-Some-moment.now is there t (condition c.in_ok-cond.cond) c.every_doc.result.now c.every_note.result.now c.in_ok-docs.docs c.in_ok-cond.ensures.cond (search rules) (c.every_doc.ensures.docs ∙ docs-are represents) (c.every_note.ensures.notes ∙ notes-are represents) (search rules) in search (rules, answers)
+
+pub returns-in_err-docs-clause-most : goal.returns-in_err-docs-clause-most
+returns-in_err-docs-clause-most g c = most-ask c.args.self.now c.args.moment.now c.args.source.now c.args.steps.now c.every_doc.new.steps c.every_note.new.steps c.every_doc.ensures.steps c.every_note.ensures.steps
+
+pub returns-clause-most : goal.returns-clause-most
+returns-clause-most g c = most-ask c.args.self.now c.args.moment.now c.args.source.now c.args.steps.now c.every_doc.new.steps c.every_note.new.steps c.every_doc.ensures.steps c.every_note.ensures.steps
+
+pub returns-in_err-docs-clause-refusal : goal.returns-in_err-docs-clause-refusal
+returns-in_err-docs-clause-refusal g c =
+    let is : moment_of c.args.moment.now ≡ Some c.in-Some.second = search rules in
+    let there : c.args.self.now.session.moment ≡ Some c.in-Some-moment.now = search rules in
+    let by : (t : Tables) → Refuses Memory (Ask c.args.moment.now c.args.source.now) c.args.self.now.session t = λ t. ask-text c.args.self.now.session c.args.moment.now c.args.source.now c.in-Some.second c.in-Some-moment.now is there t Memory (inr refl) in search (rules, by)

@@ -1,8 +1,8 @@
 use Rattle.std.proofs.Common.{rules, arith, ◌≡◌, ◌∙◌, sym, ap, subst, length, ◌+◌, ◌∷◌, []}
 use Rattle.std.proofs.lemmas.List.{length-map}
 use Rattle.tap_kept.specs.Keeping.{cached_query, never_run}
-use Rattle.script_lang.specs.declared.refusal.Refusal.TheVariants.{Memory}
-use Rattle.tap_engine.proofs.AnswerTurns.{for-memory, undo-query}
+use Rattle.tap_engine.proofs.AnswerTurns.{undo-query}
+use Rattle.tap_engine.proofs.MemoryTurns.{define-memory}
 use Rattle.tap_model.specs.Sound.{IsMoment}
 use Rattle.tap_model.proofs.SoundLaws.{start-moment}
 use Rattle.tap_engine.proofs.ReadyLaws.{kept-more, moment_or_zero-moment}
@@ -14,10 +14,10 @@ pub returns-in_err-row-clause-refusal : goal.returns-in_err-row-clause-refusal
 returns-in_err-row-clause-refusal c = let by = define-refuses c.args.self.now c.args.name c.args.source _ c.in_err-row.ensures.refusal in search (rules, by)
 
 pub returns-in_err-shown-clause-refusal : goal.returns-in_err-shown-clause-refusal
-returns-in_err-shown-clause-refusal c = let by = define-refuses c.args.self.now c.args.name c.args.source Memory (for-memory _ c.in_ok-row.ensures.checks) in search (rules, by)
+returns-in_err-shown-clause-refusal c = let by = define-memory c.args.self.now c.args.name c.args.source c.in_ok-row.ensures.checks in search (rules, by)
 
 pub returns-in_err-change-clause-refusal : goal.returns-in_err-change-clause-refusal
-returns-in_err-change-clause-refusal c = let by = define-refuses c.args.self.now c.args.name c.args.source Memory (for-memory _ c.in_ok-row.ensures.checks) in search (rules, by)
+returns-in_err-change-clause-refusal c = let by = define-memory c.args.self.now c.args.name c.args.source c.in_ok-row.ensures.checks in search (rules, by)
 
 pub returns-clause-ok : goal.returns-clause-ok
 returns-clause-ok c = λ t represents sound.

@@ -4,9 +4,11 @@ use Rattle.tap_model.specs.Limits.{run_limit, pick_limit}
 use Rattle.tap_model.specs.Limits.{limit_refusal}
 use Rattle.tap_kept.specs.Keeping.{hits_since}
 use Rattle.tap_engine.specs.Standing.{query_refusal, run_refusal, RefusedBy}
-use Rattle.tap_kept.specs.Costs.{HasNoMark, AreAlone, rows_due, window_since}
+use Rattle.tap_kept.specs.Costs.{HasNoMark, AreAlone, rows_due, query_work, window_since}
+use Rattle.script_lang.specs.declared.refusal.Refusal.TheVariants.{Memory}
+use Rattle.tap_engine.proofs.AnswerTurns.{for-memory}
 use Rattle.tap_engine.proofs.CheckLaws.{run-left}
-use Rattle.tap_engine.proofs.CostLaws.{quiet-named, due-named}
+use Rattle.tap_engine.proofs.CostLaws.{quiet-named, due-named, most-since}
 use Rattle.tap_model.specs.Sessions.{user_of}
 use Rattle.tap_engine.proofs.ReadyLaws.{named-at}
 use Rattle.tap_engine.proofs.engine.Engine.due_run.Goals as goal
@@ -83,3 +85,38 @@ returns-clause-rows g c =
     let is-m : e.session.moment ≡ Some c.in-Some.moment = search rules in
     let same : to_z w64 (of_z w64 c.in-Some.moment) ≡ c.in-Some.moment = search rules in
     due-named e c.args.name.now kept c.in-Some.moment c.find.new.steps c.args.steps.now is-m c.in_ok-kept.ensures.ok (subst (λ m. AreAlone kept.row → c.find.new.steps ≤ c.args.steps.now + rows_due e.index (window_since kept m) kept.row) same c.find.ensures.due)
+
+pub returns-in_err-refuse_more-2-clause-most : goal.returns-in_err-refuse_more-2-clause-most
+returns-in_err-refuse_more-2-clause-most g c =
+    let e = c.args.self.now in
+    let kept = c.in_ok-kept.kept.now in
+    let is-m : e.session.moment ≡ Some c.in-Some.moment = search rules in
+    let same : to_z w64 (of_z w64 c.in-Some.moment) ≡ c.in-Some.moment = search rules in
+    most-since e c.args.name.now kept c.in-Some.moment c.find.new.steps c.args.steps.now is-m c.in_ok-kept.ensures.ok (subst (λ m. c.find.new.steps ≤ c.args.steps.now + query_work e.index (window_since kept m) kept.row) same c.find.ensures.steps)
+
+pub returns-in_err-copy_hits-clause-most : goal.returns-in_err-copy_hits-clause-most
+returns-in_err-copy_hits-clause-most g c =
+    let e = c.args.self.now in
+    let kept = c.in_ok-kept.kept.now in
+    let is-m : e.session.moment ≡ Some c.in-Some.moment = search rules in
+    let same : to_z w64 (of_z w64 c.in-Some.moment) ≡ c.in-Some.moment = search rules in
+    most-since e c.args.name.now kept c.in-Some.moment c.find.new.steps c.args.steps.now is-m c.in_ok-kept.ensures.ok (subst (λ m. c.find.new.steps ≤ c.args.steps.now + query_work e.index (window_since kept m) kept.row) same c.find.ensures.steps)
+
+pub returns-clause-most : goal.returns-clause-most
+returns-clause-most g c =
+    let e = c.args.self.now in
+    let kept = c.in_ok-kept.kept.now in
+    let is-m : e.session.moment ≡ Some c.in-Some.moment = search rules in
+    let same : to_z w64 (of_z w64 c.in-Some.moment) ≡ c.in-Some.moment = search rules in
+    most-since e c.args.name.now kept c.in-Some.moment c.find.new.steps c.args.steps.now is-m c.in_ok-kept.ensures.ok (subst (λ m. c.find.new.steps ≤ c.args.steps.now + query_work e.index (window_since kept m) kept.row) same c.find.ensures.steps)
+
+pub returns-in_err-copy_hits-clause-refusal : goal.returns-in_err-copy_hits-clause-refusal
+returns-in_err-copy_hits-clause-refusal g c =
+    let e = c.args.self.now in
+    let is-m : e.session.moment ≡ Some c.in-Some.moment = search rules in
+    let look : query_refusal e.session e.queries c.args.name.now ≡ None = search rules in
+    let runs : limit_refusal Runs run_limit e.run_count 1 ≡ None = search rules in
+    let same : to_z w64 (of_z w64 c.in-Some.moment) ≡ c.in-Some.moment = search rules in
+    let hits : c.find.new.hits.hits ≡ hits_since c.in_ok-kept.kept.now e.index c.in-Some.moment = c.find.ensures.hits ∙ ap (hits_since c.in_ok-kept.kept.now e.index) same in
+    let fine : limit_refusal Picks pick_limit e.pick_count (length c.find.new.hits.hits) ≡ None = search rules in
+    let by : RefusedBy (run_refusal e c.args.name.now) Memory = for-memory _ (run-left e c.args.name.now c.in_ok-kept.kept.now c.in-Some.moment c.find.new.hits.hits is-m look runs c.in_ok-kept.ensures.ok hits ∙ fine) in search (rules, by)

@@ -1,6 +1,6 @@
 use Rattle.std.proofs.Common.{rules, ◌∙◌, sym, ap, length, ◌∷◌, []}
-use Rattle.script_lang.specs.declared.refusal.Refusal.TheVariants.{Memory}
-use Rattle.tap_engine.proofs.AnswerTurns.{for-memory, undo-filter}
+use Rattle.tap_engine.proofs.AnswerTurns.{undo-filter}
+use Rattle.tap_engine.proofs.MemoryTurns.{filter-memory}
 use Rattle.tap_engine.proofs.FilterLaws.{filter-verdict, filter-refuses, filter-moment, answers-filter, represents-filter}
 use Rattle.tap_engine.proofs.engine.Engine.filter.Goals as goal
 
@@ -8,7 +8,7 @@ pub returns-in_err-row-clause-refusal : goal.returns-in_err-row-clause-refusal
 returns-in_err-row-clause-refusal c = let by = filter-refuses c.args.self.now c.args.block _ c.in_err-row.ensures.refusal in search (rules, by)
 
 pub returns-in_err-change-clause-refusal : goal.returns-in_err-change-clause-refusal
-returns-in_err-change-clause-refusal c = let by = filter-refuses c.args.self.now c.args.block Memory (for-memory _ c.in_ok-row.ensures.checks) in search (rules, by)
+returns-in_err-change-clause-refusal c = let by = filter-memory c.args.self.now c.args.block c.in_ok-row.ensures.checks in search (rules, by)
 
 pub returns-clause-ok : goal.returns-clause-ok
 returns-clause-ok c = λ t represents sound.

@@ -11,8 +11,8 @@ use Rattle.tap_engine.specs.Answering.{UndoRestores}
 use Rattle.tap_engine.specs.Standing.{Represents}
 use Rattle.tap_engine.specs.Ready.{IsReady}
 use Rattle.tap_engine.proofs.RowTurns.{docs-are}
-use Rattle.script_lang.specs.declared.refusal.Refusal.TheVariants.{Memory}
-use Rattle.tap_engine.proofs.AnswerTurns.{for-memory, undo-docs, some-undo}
+use Rattle.tap_engine.proofs.AnswerTurns.{undo-docs, some-undo}
+use Rattle.tap_engine.proofs.MemoryTurns.{mbox-memory}
 use Rattle.tap_engine.proofs.ReadyLaws.{ready-docs, rows-by, index-moment}
 use Rattle.tap_engine.proofs.MboxLaws.{mbox-verdict, mbox-refuses, mbox-moment, answers-mbox, represents-more}
 use Rattle.tap_engine.proofs.engine.Engine.mbox.Goals as goal
@@ -21,7 +21,7 @@ pub returns-in_err-moment-clause-refusal : goal.returns-in_err-moment-clause-ref
 returns-in_err-moment-clause-refusal c = let by = mbox-refuses c.args.self.now c.args.block c.in_err-moment.field-0.0 c.in_err-moment.ensures.refusal in search (rules, by)
 
 pub returns-in_err-change-clause-refusal : goal.returns-in_err-change-clause-refusal
-returns-in_err-change-clause-refusal c = let by = mbox-refuses c.args.self.now c.args.block Memory (for-memory _ c.in_ok-moment.ensures.checks) in search (rules, by)
+returns-in_err-change-clause-refusal c = let by = mbox-memory c.args.self.now c.args.block c.in_ok-moment.ensures.checks in search (rules, by)
 
 pub returns-clause-ok : goal.returns-clause-ok
 returns-clause-ok c = λ t represents sound.

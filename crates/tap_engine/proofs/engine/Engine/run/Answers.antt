@@ -14,6 +14,7 @@ use Rattle.tap_engine.proofs.AnswerTurns.{for-memory}
 use Rattle.tap_engine.proofs.CheckLaws.{run-verdict, run-refuses, run-moment}
 use Rattle.tap_engine.proofs.ReadyLaws.{due-at, kept-run, undo-run, moment_or_zero-moment, ready-still}
 use Rattle.tap_engine.proofs.DueLaws.{due-is, represents-run, answers-run, run_rows}
+use Rattle.tap_engine.proofs.CostLaws.{most-run}
 use Rattle.tap_engine.proofs.engine.Engine.run.Goals as goal
 
 pub returns-in_err-due-clause-refusal : goal.returns-in_err-due-clause-refusal
@@ -124,3 +125,12 @@ pub returns-clause-running : goal.returns-clause-running
 returns-clause-running g c =
     let d = due-at c.args.self.now c.args.name.now c.in_ok-due.due c.requires.ready c.in_ok-due.ensures.due in
     ap (λ e. e.stopped) (c.in_ok-change.ensures.engine d.kept) ∙ ap (λ e. e.stopped) c.due_run.ensures.still.same
+
+pub returns-in_err-due-clause-most : goal.returns-in_err-due-clause-most
+returns-in_err-due-clause-most g c = most-run c.args.self.now c.args.name.now c.due_run.new.steps c.args.steps.now c.due_run.ensures.most
+
+pub returns-in_err-change-clause-most : goal.returns-in_err-change-clause-most
+returns-in_err-change-clause-most g c = most-run c.args.self.now c.args.name.now c.due_run.new.steps c.args.steps.now c.due_run.ensures.most
+
+pub returns-clause-most : goal.returns-clause-most
+returns-clause-most g c = most-run c.args.self.now c.args.name.now c.due_run.new.steps c.args.steps.now c.due_run.ensures.most
