@@ -9,7 +9,7 @@ use Rattle.tap_top.specs.Premises.{IfKnown, IsCalm}
 use Rattle.pop_session.specs.declared.letter.Letter.{Letter}
 use Rattle.pop_session.specs.Ends.{IsSession, LettersEnd}
 use Rattle.pop_box.specs.Letters.{letters_in}
-use Rattle.pop_box.specs.Served.{BoxLine, NoBox, BoxServed, IsUnserved, IsUndisturbed, Served, Unchanged}
+use Rattle.pop_box.specs.Served.{BoxLine, NoBox, BoxServed, LettersServed, IsUnserved, IsUndisturbed, Served, Unchanged}
 
 -- nothing was served, and nothing written
 pub unserved : (status : ℕ) (found : Option (List Letter)) (user secret : List ℕ) (left left' out out' : Option (List ℕ)) (versions : ℤ → Type 0) → IsUnserved status → (status ≡ 4 → ⊥) → left' ≡ left → out' ≡ out → Served status found user secret left left' out out' versions
@@ -55,18 +55,28 @@ pub line-serves : (status : ℕ) → (status ≡ 9) ⊎ (status ≡ 4) → IsUns
 line-serves status line is = grind (arith, line, is)
 
 -- over the letters of the box
-pub letters-served : (status : ℕ) (letters : List Letter) (found : Option (List Letter)) (user secret : List ℕ) (left left' out out' : Option (List ℕ)) (versions : ℤ → Type 0) → Some letters ≡ found → IsSession status → LettersEnd status user secret letters left left' out out'
-    → Served status found user secret left left' out out' versions
-letters-served status letters found user secret left left' out out' versions is session ends =
-    subst (λ f. Served status f user secret left left' out out' versions) is
-    (box-served status (Some letters) user secret left left' out out' versions (session-serves status session) (session, ends))
+pub letters-served : (status : ℕ) (letters : List Letter) (found : Option (List Letter)) (user secret : List ℕ) (left left' out out' : Option (List ℕ)) → Some letters ≡ found → IsSession status → LettersEnd status user secret letters left left' out out'
+    → LettersServed status found user secret left left' out out'
+letters-served status letters found user secret left left' out out' is session ends = subst (λ f. LettersServed status f user secret left left' out out') is (inr (session, ends))
 
 -- without such a box
-pub none-served : (status : ℕ) (found : Option (List Letter)) (user secret : List ℕ) (left left' out out' : Option (List ℕ)) (versions : ℤ → Type 0) → None ≡ found → (status ≡ 9) ⊎ (status ≡ 4) → left' ≡ left → BoxLine status out out'
+pub none-served : (status : ℕ) (found : Option (List Letter)) (user secret : List ℕ) (left left' out out' : Option (List ℕ)) → None ≡ found → (status ≡ 9) ⊎ (status ≡ 4) → left' ≡ left → BoxLine status out out'
+    → LettersServed status found user secret left left' out out'
+none-served status found user secret left left' out out' is statuses unread line = subst (λ f. LettersServed status f user secret left left' out out') is (inr (record { statuses = statuses; unread = unread; line = line }))
+
+box-serves : (status : ℕ) (found : Option (List Letter)) (user secret : List ℕ) (left left' out out' : Option (List ℕ)) → BoxServed status found user secret left left' out out' → IsUnserved status → ⊥
+box-serves status None user secret left left' out out' box is = line-serves status box.statuses is
+box-serves status (Some letters) user secret left left' out out' box is = session-serves status box.0 is
+
+-- the box was served, or memory ran out
+pub served : (status : ℕ) (found : Option (List Letter)) (user secret : List ℕ) (left left' out out' : Option (List ℕ)) (versions : ℤ → Type 0) → LettersServed status found user secret left left' out out'
     → Served status found user secret left left' out out' versions
-none-served status found user secret left left' out out' versions is statuses unread line =
-    subst (λ f. Served status f user secret left left' out out' versions) is
-    (box-served status None user secret left left' out out' versions (line-serves status statuses) (record { statuses = statuses; unread = unread; line = line }))
+served status found user secret left left' out out' versions (inl (e, same)) =
+    unserved status found user secret left left' out out' versions (inr (inr (inr e))) (λ four. not e four) same.0 same.1 where
+      not : status ≡ 7 → status ≡ 4 → ⊥
+      not a b = omega (arith, a, b)
+served status found user secret left left' out out' versions (inr box) =
+    box-served status found user secret left left' out out' versions (box-serves status found user secret left left' out out' box) box
 
 -- the words' own user, box and secret
 pub served-words : (status : ℕ) (t : Tables) (user user' name name' secret secret' : List ℕ) (left left' out out' : Option (List ℕ)) (versions : ℤ → Type 0) → user ≡ user' → name ≡ name' → secret ≡ secret'

@@ -28,6 +28,11 @@ abbrev pub BoxServed : ℕ → Option (List Letter) → List ℕ → List ℕ �
 BoxServed status None user secret left left' out out' = NoBox status left left' out out'
 BoxServed status (Some letters) user secret left left' out out' = IsSession status × LettersEnd status user secret letters left left' out out'
 
+-- the box was served; or memory ran out before, and nothing was read or written
+abbrev pub LettersServed : ℕ → Option (List Letter) → List ℕ → List ℕ → Option (List ℕ) → Option (List ℕ) → Option (List ℕ) → Option (List ℕ) → Type 0
+LettersServed status found user secret left left' out out' =
+    ((status ≡ 7) × ((left' ≡ left) × (out' ≡ out))) ⊎ BoxServed status found user secret left left' out out'
+
 -- the status says that nothing was served: the words were refused, the keeper failed, the store was refused, or memory ran out
 abbrev pub IsUnserved : ℕ → Type 0
 IsUnserved status = (status ≡ 2) ⊎ ((status ≡ 5) ⊎ ((status ≡ 6) ⊎ (status ≡ 7)))

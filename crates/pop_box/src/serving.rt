@@ -1,5 +1,5 @@
 //! The top call: reads the words, opens the store, and holds a session over the letters of a box.
-ghost use Rattle.std.specs.Prelude.{◌≡◌, ◌≢◌, ◌≤◌, ◌⊎◌, ◌↔◌, ℕ, ℤ, List, [], Option, Some, None, true, false};
+ghost use Rattle.std.specs.Prelude.{◌≡◌, ◌≢◌, ◌≤◌, ◌⊎◌, ◌↔◌, ℕ, List, [], Option, Some, None, true, false};
 ghost use Rattle.std.specs.List.{All};
 ghost use Rattle.std.specs.Str.{IsUtf8};
 ghost use Rattle.clap.specs.Words.{takes, fault_of as faults_of};
@@ -15,7 +15,7 @@ ghost use Rattle.tap_top.specs.Refusals.{fault_of, Refused};
 ghost use Rattle.pop_box.specs.Letters.{letters_in};
 ghost use Rattle.tap_engine.specs.Standing.{OverSound};
 ghost use Rattle.pop_session.specs.Ends.{IsSession, TookMany};
-ghost use Rattle.pop_box.specs.Served.{Served, Unchanged, IsUndisturbed};
+ghost use Rattle.pop_box.specs.Served.{LettersServed, Served, Unchanged, IsUndisturbed};
 
 use crate::letters::letters_from;
 use crate::no_box::refuse_box;
@@ -46,9 +46,9 @@ fn serve_with<S: Source, K: Sink, L: Ledger>(
     engine: Engine,
     steps: &mut Steps<L>,
 ) -> u8
-    ensures session { OverSound engine (λ t. (versions : ℤ → Type 0) →
-        Served result (letters_in asked.now.user asked.now.name t) asked.now.user asked.now.secret
-        (S.left source.old) (S.left source.new) (K.out sink.old) (K.out sink.new) versions) }
+    ensures session { OverSound engine (λ t.
+        LettersServed result (letters_in asked.now.user asked.now.name t) asked.now.user asked.now.secret
+        (S.left source.old) (S.left source.new) (K.out sink.old) (K.out sink.new)) }
     ensures statuses { IsSession result ⊎ ((result ≡ 7) ⊎ (result ≡ 9)) }
     ensures read_cause { result ≡ 3 → Rose (S.faults source.old) (S.faults source.new) }
     ensures put_cause { result ≡ 4 → Rose (K.faults sink.old) (K.faults sink.new) }
