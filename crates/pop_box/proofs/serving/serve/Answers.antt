@@ -2,7 +2,9 @@ use Rattle.std.proofs.Common.{◌≡◌, ◌∙◌, refl, sym, subst, inl, inr, 
 use Rattle.command_words.specs.declared.option_fault.OptionFault.{OptionFault}
 use Rattle.command_words.specs.declared.option_fault.OptionFault.TheVariants.{Refused as RefusedWords, Memory}
 use Rattle.command_words.proofs.PopWorded.{worded-pop}
-use Rattle.tap_top.proofs.Refusals.{Refused-none}
+use Rattle.clap.specs.Words.{takes}
+use Rattle.command_words.specs.PopOptions.{pop_app}
+use Rattle.tap_top.proofs.Refusals.{Refused-none, not-stopped}
 use Rattle.pop_box.proofs.Served.{unserved, served-words}
 use Rattle.pop_box.proofs.serving.serve.Goals as goal
 
@@ -43,3 +45,17 @@ returns-clause-session g c = λ t honest holds store.
 
 pub returns-clause-complete : goal.returns-clause-complete
 returns-clause-complete g c = λ path user name secret worded reads puts keeps. c.serve_box.ensures.complete reads puts keeps
+
+pub returns-in-Err-Refused-clause-words : goal.returns-in-Err-Refused-clause-words
+returns-in-Err-Refused-clause-words g c = λ _. not-stopped (takes pop_app c.args.words.now) c.in-Err-Refused.ensures.taken (not-both c.in-Err-Refused.field-0 c.in-Err-Refused.field-0-is)
+
+pub returns-in-Err-Refused-clause-worded : goal.returns-in-Err-Refused-clause-worded
+returns-in-Err-Refused-clause-worded g c = λ path user name secret worded _. not-both c.in-Err-Refused.field-0 c.in-Err-Refused.field-0-is (c.in-Err-Refused.ensures.fine path user name secret worded)
+
+pub returns-in-Err-Refused-clause-named : goal.returns-in-Err-Refused-clause-named
+returns-in-Err-Refused-clause-named g c = λ path user name secret worded.
+    let asked = worded-pop c.args.words.now path user name secret worded in (asked.place, (asked.user_is, (asked.name_is, asked.secret_is)))
+
+pub returns-clause-named : goal.returns-clause-named
+returns-clause-named g c = λ path user name secret worded.
+    let asked = worded-pop c.args.words.now path user name secret worded in (asked.place, (asked.user_is, (asked.name_is, asked.secret_is)))
