@@ -7,6 +7,6 @@ use Rattle.tap_engine.proofs.engine.Engine.rated.Goals as goal
 
 pub returns : goal.returns
 returns g c =
-    c.in_ok-rows.ensures
+    c.in_ok-rows.ensures.rows
     ∙ ap₂ (λ (o : Option FilterRow) (es : List Entry). listing_of (filter_rules o) c.args.self.now.index.docs es)
     (c.last_filter-filter.ensures ∙ ap (last_filter c.args.user.now) c.as_slice.ensures) (c.as_slice-2.ensures ∙ c.in_ok-entries.ensures)
