@@ -48,8 +48,14 @@ fn source_of(alloc: Global, bytes: &[u8], size: usize) -> Result<MemSource, Memo
     Ok(MemSource::new(Text::from_slice(alloc, bytes)?, sizes, Vec::new(alloc)))
 }
 
-// Performs the commands that leave the store, with the counter of a blank.
-fn fill<L: Ledger>(alloc: Global, blank: Blank, keeper: &mut MemKeeper) -> Result<u8, Memory>
+// Performs the commands of a source, with the counter of a blank; returns the status.
+fn fill_with<L: Ledger>(
+    alloc: Global,
+    blank: Blank,
+    source: &mut MemSource,
+    sink: &mut MemSink,
+    keeper: &mut MemKeeper,
+) -> u8
     requires name { blank.name ≡ L.name }
     requires parts { blank.parts ≡ L.parts }
     requires some { 0 < blank.parts }
@@ -57,59 +63,120 @@ fn fill<L: Ledger>(alloc: Global, blank: Blank, keeper: &mut MemKeeper) -> Resul
     requires running { keeper.old.stopped ≡ false }
 {
     let mut steps = Steps::<L>::start(blank);
+    let words = Texts::new(alloc);
+    tapestry(alloc, &words, source, sink, keeper, &mut steps)
+}
+
+// Performs the commands of a source; returns the status.
+fn fill(alloc: Global, source: &mut MemSource, sink: &mut MemSink, keeper: &mut MemKeeper) -> u8
+    requires free { keeper.old.attached ≡ false }
+    requires running { keeper.old.stopped ≡ false }
+{
+    fill_with::<Brand>(alloc, Blank::new(1), source, sink, keeper)
+}
+
+// Performs the commands that leave the store over a keeper.
+fn fill_store(alloc: Global, keeper: &mut MemKeeper) -> Result<u8, Memory>
+    requires free { keeper.old.attached ≡ false }
+    requires running { keeper.old.stopped ≡ false }
+{
     let mut source = source_of(alloc, STORE, 4096)?;
     let mut sink = MemSink::new(alloc, 4096, Vec::new(alloc))?;
-    let words = Texts::new(alloc);
-    Ok(tapestry(alloc, &words, &mut source, &mut sink, keeper, &mut steps))
+    Ok(fill(alloc, &mut source, &mut sink, keeper))
 }
 
 // Returns the tables of the store.
 fn store(alloc: Global) -> Result<Tables, Memory> {
     let mut keeper = MemKeeper::new(alloc, Tables::empty(alloc), 2, Vec::new(alloc));
-    let _status = fill::<Brand>(alloc, Blank::new(1), &mut keeper)?;
+    let _status = fill_store(alloc, &mut keeper)?;
     Ok(keeper.after_crash())
 }
 
-// Serves over these tables, with the counter of a blank; returns the status and what was written.
-fn serve_over<L: Ledger>(
+// Serves with the counter of a blank; returns the status.
+fn serve_with<L: Ledger>(
     alloc: Global,
     blank: Blank,
-    tables: Tables,
     words: &Texts,
     source: &mut MemSource,
-) -> Result<(u8, Text), Memory>
+    sink: &mut MemSink,
+    keeper: &mut MemKeeper,
+) -> u8
     requires name { blank.name ≡ L.name }
     requires parts { blank.parts ≡ L.parts }
     requires some { 0 < blank.parts }
     requires texts { All IsUtf8 words.now }
+    requires free { keeper.old.attached ≡ false }
+    requires running { keeper.old.stopped ≡ false }
 {
     let mut steps = Steps::<L>::start(blank);
-    let mut keeper = MemKeeper::new(alloc, tables, 2, Vec::new(alloc));
-    let mut sink = MemSink::new(alloc, 4096, Vec::new(alloc))?;
-    let status = serve(alloc, words, source, &mut sink, &mut keeper, &mut steps);
+    serve(alloc, words, source, sink, keeper, &mut steps)
+}
+
+// Serves over a keeper; returns the status and what was written.
+fn serve_over(
+    alloc: Global,
+    words: &Texts,
+    mut source: MemSource,
+    mut sink: MemSink,
+    keeper: &mut MemKeeper,
+) -> Result<(u8, Text), Memory>
+    requires texts { All IsUtf8 words.now }
+    requires free { keeper.old.attached ≡ false }
+    requires running { keeper.old.stopped ≡ false }
+{
+    let status = serve_with::<Brand>(alloc, Blank::new(1), words, &mut source, &mut sink, keeper);
     Ok((status, Text::from_slice(alloc, sink.written())?))
+}
+
+// Serves the requests in pieces of `size` bytes over a keeper; returns the status and what was written.
+fn serve_line(
+    alloc: Global,
+    line: &str,
+    requests: &[u8],
+    size: usize,
+    keeper: &mut MemKeeper,
+) -> Result<(u8, Text), Memory>
+    requires free { keeper.old.attached ≡ false }
+    requires running { keeper.old.stopped ≡ false }
+{
+    let words = words_in(alloc, line)?;
+    let source = source_of(alloc, requests, size)?;
+    let sink = MemSink::new(alloc, 4096, Vec::new(alloc))?;
+    serve_over(alloc, &words, source, sink, keeper)
 }
 
 // Serves the requests in pieces of `size` bytes over the store; returns the status and what was written.
 fn served(alloc: Global, line: &str, requests: &[u8], size: usize) -> Result<(u8, Text), Memory> {
-    let tables = store(alloc)?;
-    let words = words_in(alloc, line)?;
-    let mut source = source_of(alloc, requests, size)?;
-    serve_over::<Brand>(alloc, Blank::new(1), tables, &words, &mut source)
+    let mut keeper = MemKeeper::new(alloc, store(alloc)?, 2, Vec::new(alloc));
+    serve_line(alloc, line, requests, size, &mut keeper)
+}
+
+// Checks whether the requests in pieces of `size` bytes end with this status and write these bytes.
+fn ends(
+    alloc: Global,
+    line: &str,
+    requests: &[u8],
+    size: usize,
+    status: u8,
+    written: &[u8],
+) -> Result<bool, Memory> {
+    let ended = served(alloc, line, requests, size)?;
+    Ok(ended.0 == status && ended.1.as_slice() == written)
 }
 
 #[test]
 fn a_session_is_answered_in_pieces_of_any_size(rt: HostRuntime) -> Result<(), Fail> {
     let sizes: [usize; 3] = [4096, 1, 7];
     for size in sizes {
-        let (status, written) = served(
+        let right = ends(
             rt.alloc(),
             "--user ann --box all --pass pw",
             REQUESTS,
             size,
+            0,
+            REPLIES,
         )?;
-        assert_eq!(rt; status, 0);
-        assert_eq!(rt; written.as_slice(), REPLIES);
+        assert!(rt; right);
     }
     Ok(())
 }
@@ -124,9 +191,8 @@ fn each_end_has_its_status(rt: HostRuntime) -> Result<(), Fail> {
         ("--user ann --box all --pass pw --user bob", 2, b""),
     ];
     for (line, status, written) in rows {
-        let ended = served(rt.alloc(), line, b"", 4096)?;
-        assert_eq!(rt; ended.0, status);
-        assert_eq!(rt; ended.1.as_slice(), written);
+        let right = ends(rt.alloc(), line, b"", 4096, status, written)?;
+        assert!(rt; right);
     }
     Ok(())
 }
