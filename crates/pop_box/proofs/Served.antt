@@ -64,6 +64,23 @@ pub none-served : (status : ℕ) (found : Option (List Letter)) (user secret : L
     → LettersServed status found user secret left left' out out'
 none-served status found user secret left left' out out' is statuses unread line = subst (λ f. LettersServed status f user secret left left' out out') is (inr (record { statuses = statuses; unread = unread; line = line }))
 
+-- over the letters of the box of this user and name
+pub letters-served-as : (status : ℕ) (letters letters' : List Letter) (t : Tables) (user user' name name' secret secret' : List ℕ) (left left' out out' : Option (List ℕ)) → user ≡ user' → name ≡ name' → secret ≡ secret' → letters' ≡ letters
+    → Some letters ≡ letters_in user name t → IsSession status → LettersEnd status user secret letters' left left' out out' → LettersServed status (letters_in user' name' t) user' secret' left left' out out'
+letters-served-as status letters letters' t user user' name name' secret secret' left left' out out' u n s same is session ends =
+    subst (λ x. LettersServed status (letters_in user' name' t) user' x left left' out out') s
+    (subst (λ x. LettersServed status (letters_in user' x t) user' secret left left' out out') n
+    (subst (λ x. LettersServed status (letters_in x name t) x secret left left' out out') u
+    (letters-served status letters (letters_in user name t) user secret left left' out out' is session (subst (λ x. LettersEnd status user secret x left left' out out') same ends))))
+
+-- without a box of this user and name
+pub none-served-as : (status : ℕ) (t : Tables) (user user' name name' secret : List ℕ) (left out out' : Option (List ℕ)) → user ≡ user' → name ≡ name'
+    → None ≡ letters_in user name t → (status ≡ 9) ⊎ (status ≡ 4) → BoxLine status out out' → LettersServed status (letters_in user' name' t) user' secret left left out out'
+none-served-as status t user user' name name' secret left out out' u n is statuses line =
+    subst (λ x. LettersServed status (letters_in user' x t) user' secret left left out out') n
+    (subst (λ x. LettersServed status (letters_in x name t) x secret left left out out') u
+    (none-served status (letters_in user name t) user secret left left out out' is statuses refl line))
+
 box-serves : (status : ℕ) (found : Option (List Letter)) (user secret : List ℕ) (left left' out out' : Option (List ℕ)) → BoxServed status found user secret left left' out out' → IsUnserved status → ⊥
 box-serves status None user secret left left' out out' box is = line-serves status box.statuses is
 box-serves status (Some letters) user secret left left' out out' box is = session-serves status box.0 is
