@@ -6,6 +6,3 @@ mod pool;
 
 pub use node::{NodeId, PoolNode};
 pub use pool::{NODE_LIMIT, Pool};
-
-#[cfg(test)]
-mod tests;

@@ -31,6 +31,3 @@ pub use text::Text;
 pub use texts::Texts;
 pub use word_set::WordSet;
 pub use words::{after_byte, lower, words_of};
-
-#[cfg(test)]
-mod word_tests;

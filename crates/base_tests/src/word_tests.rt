@@ -1,5 +1,5 @@
 //! Tests of words and of copied rows.
-use crate::{Memory, Rows, Text, Texts, lower, words_of};
+use tap_base::{Memory, Rows, Text, Texts, lower, words_of};
 
 #[test]
 fn words_come_once_after_those_that_are_held(rt: HostRuntime) -> Result<(), Memory> {

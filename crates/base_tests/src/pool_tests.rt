@@ -2,7 +2,7 @@
 ghost use Rattle.std.specs.Prelude.{◌≡◌, true, [], IfOk, OnOk, ◌≤◌, ◌+◌, length};
 ghost use Rattle.node_pool.specs.Pools.{are_below};
 
-use crate::{NodeId, Pool, PoolNode};
+use node_pool::{NodeId, Pool, PoolNode};
 use tap_base::Memory;
 
 // A leaf, or the opposite of another node.
@@ -14,7 +14,7 @@ enum Part {
 
 impl PoolNode for Part {
     ghost use Rattle.std.specs.Prelude.{[], ◌∷◌};
-    ghost use Rattle.node_pool.specs.declared.tests.Part.TheVariants.{Leaf, Not};
+    ghost use Rattle.base_tests.specs.declared.pool_tests.Part.TheVariants.{Leaf, Not};
     ghost use Rattle.std.proofs.Common.{ap};
     ghost use Rattle.std.proofs.lemmas.Bool.{false≢true, eqb-true};
 

@@ -1,11 +1,11 @@
 //! Tests of the adapters over readers and writers that fail, take nothing, are interrupted, or take one byte a call, and of a
 //! source in memory.
 
-use crate::{PutFailed, ReadFailed, Sink, Source, StdSink, StdSource, SureSource};
 use std::io;
 use std::io::ErrorKind;
 use std::test::Fail;
 use tap_base::{Memory, Text};
+use tap_edges::{PutFailed, ReadFailed, Sink, Source, StdSink, StdSource, SureSource};
 
 // What a call of the fake reader or writer does.
 #[derive(Clone, Copy, Debug, PartialEq, Eq)]
