@@ -1,7 +1,7 @@
 //! Tests of lines and of mailbox files.
 ghost use Rattle.std.specs.Prelude.{◌≡◌};
 
-use crate::{LineAt, cut_mbox, next_line};
+use mail_lines::{LineAt, cut_mbox, next_line};
 use std::alloc::Global;
 use tap_base::{Memory, Text};
 
