@@ -4,6 +4,3 @@
 mod snapshot;
 
 pub use snapshot::{gives, holds_at, is_doc_given};
-
-#[cfg(test)]
-mod tests;

@@ -21,6 +21,3 @@ pub use term::{Base, Term, Var};
 pub use tnode::TNode;
 pub use tnode_pool::node_at;
 pub use values::value;
-
-#[cfg(test)]
-mod tests;

@@ -10,6 +10,3 @@ mod parser;
 pub use fault::ParseFault;
 pub use key::Key;
 pub use parser::parse;
-
-#[cfg(test)]
-mod tests;

@@ -6,6 +6,3 @@ mod fault;
 
 pub use condition::{read_condition, read_tokens};
 pub use fault::TextFault;
-
-#[cfg(test)]
-mod tests;

@@ -1,5 +1,5 @@
 //! What a condition gives over no rows.
-use crate::gives;
+use snapshot_meaning::gives;
 use tap_base::{Memory, Rows};
 use tql_core::Cond;
 

@@ -1,9 +1,8 @@
 //! Worked texts: their faults, their canonical texts, their limits and their copies.
-use crate::key::key_of;
-use crate::{ParseFault, parse};
 use std::alloc::Global;
 use std::test::*;
-use tql_lex::{LexFault, Token, lex};
+use tql_lex::{Kind, LexFault, Token, lex};
+use tql_parse::{ParseFault, parse};
 use tql_tree::{Tree, print};
 
 // Says what reading a text comes to.
@@ -74,12 +73,23 @@ fn canonical_copy(alloc: Global, text: &[u8], wanted: &[u8]) -> bool {
     }
 }
 
+// Returns whether these are the same kinds of token.
+fn are_same(one: &Kind, two: &Kind) -> bool {
+    match (one, two) {
+        (Kind::Word(a), Kind::Word(b)) => a == b,
+        (Kind::Number(a), Kind::Number(b)) => a == b,
+        (Kind::Str(a), Kind::Str(b)) => a == b,
+        (Kind::Mark(a), Kind::Mark(b)) => a == b,
+        _ => false,
+    }
+}
+
 // Returns whether a copy of the text's first token equals it.
 fn copied_token(alloc: Global, text: &[u8]) -> bool {
     match lex(alloc, text) {
         Ok(tokens) => match tokens.first() {
             Some(token) => match token.copy() {
-                Ok(copy) => key_of(&copy) == key_of(token) && copy.end == token.end,
+                Ok(copy) => are_same(&copy.kind, &token.kind) && copy.end == token.end,
                 Err(_) => false,
             },
             None => false,

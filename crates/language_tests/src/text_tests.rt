@@ -1,9 +1,9 @@
 //! Worked texts: their faults and their limits.
-use crate::{TextFault, read_condition};
 use std::alloc::Global;
 use std::test::Fail;
 use tql_lex::LexFault;
 use tql_parse::ParseFault;
+use tql_text::{TextFault, read_condition};
 use tql_types::TypeFault;
 
 // Returns whether the text has this fault.

@@ -1,7 +1,7 @@
 //! Copies of atoms, and nodes of a pool.
-use crate::{Atom, ListField, TNode, TextExpr, Var};
 use node_pool::{Pool, PoolNode};
 use tap_base::{Copied, Memory, Text};
+use tql_core::{Atom, ListField, TNode, TextExpr, Var};
 
 #[test]
 fn an_atom_is_copied(rt: HostRuntime) -> Result<(), Memory> {
