@@ -8,6 +8,3 @@ mod texts;
 
 pub use explain::render;
 pub use ranges::incremental;
-
-#[cfg(test)]
-mod tests;

@@ -83,6 +83,3 @@ impl LittleBox {
         self.entries.truncate(n as usize);
     }
 }
-
-#[cfg(test)]
-mod tests;

@@ -7,6 +7,3 @@ mod shared;
 mod window_query;
 
 pub use window_query::{monotone, monotone_from};
-
-#[cfg(test)]
-mod tests;

@@ -17,6 +17,3 @@ pub use posting_list::PostingList;
 pub use row_index::RowIndex;
 pub use text_kind::TextKind;
 pub use walk::{DocWalk, NoteWalk, Walk};
-
-#[cfg(test)]
-mod tests;

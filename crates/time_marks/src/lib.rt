@@ -20,6 +20,3 @@ pub use rising_marks::{rising, rising_from};
 pub use seek::Seek;
 pub use window::Window;
 pub use window_query::WindowQuery;
-
-#[cfg(test)]
-mod tests;

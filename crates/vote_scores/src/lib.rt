@@ -10,6 +10,3 @@ mod vote_key;
 pub use score::Score;
 pub use scores::Scores;
 pub use undo::Undo;
-
-#[cfg(test)]
-mod tests;

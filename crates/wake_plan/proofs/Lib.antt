@@ -9,6 +9,5 @@ pub mod NextLaws
 pub mod PartLaws
 pub mod Sooner
 pub mod StartLaws
-pub mod TestPlans
 pub mod TurnLaws
 pub mod WakeLaws

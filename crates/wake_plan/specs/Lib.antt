@@ -2,5 +2,4 @@ pub mod Wakes
 pub mod Marked
 pub mod Turns
 pub mod Firsts
-pub mod Samples
 pub mod Laws

@@ -10,6 +10,3 @@ mod starts;
 mod turn;
 
 pub use planner::wake;
-
-#[cfg(test)]
-mod tests;

@@ -1,0 +1,2 @@
+mod RunPlans
+mod WakePlans

@@ -1,0 +1,150 @@
+//! Tests of the lines of window queries.
+
+ghost use Rattle.std.specs.Prelude.{◌≡◌, ◌≤ℤ◌, IfOk, pos, true, codes};
+ghost use Rattle.tap_base.specs.declared.numbers.Op.TheVariants.{Eq};
+ghost use Rattle.tql_tree.specs.declared.table.Table.TheVariants.{Notes};
+ghost use Rattle.tql_core.specs.declared.term.Base.TheVariants as B;
+ghost use Rattle.tql_core.specs.declared.atom.NumField.TheVariants.{Id, DocOf};
+ghost use Rattle.tql_core.specs.declared.atom.NumExpr.TheVariants.{Field};
+ghost use Rattle.tql_core.specs.declared.atom.ListField.TheVariants.{Words};
+ghost use Rattle.tql_core.specs.declared.atom.TextExpr.TheVariants as X;
+ghost use Rattle.tql_core.specs.declared.atom.Atom.TheVariants.{Numbers, Has};
+ghost use Rattle.tql_core.specs.Bounds.{are_bounded};
+ghost use Rattle.tql_core.specs.Condition.{condition, Plain, All, Not, Exists, NowAtLeast, NowBefore};
+ghost use Rattle.tql_core.specs.Scope.{IsQuery};
+
+use incremental_rewrite::{incremental, render};
+use monotone_rewrite::monotone_from;
+use std::alloc::Global;
+use tap_base::{Memory, Op, Text, Texts};
+use tql_core::{Atom, Base, Cond, ListField, NumExpr, NumField, Term, TextExpr, Var};
+use tql_tree::Table;
+
+// Returns the arrival of a variable's row, some seconds later.
+fn arrival(var: u8, plus: i64) -> Term
+    ensures { result ≡ record { base = B.Arrival (record { 0 = var }); plus = plus } }
+{
+    Term {
+        base: Base::Arrival(Var(var)),
+        plus,
+    }
+}
+
+// Returns the lines of a condition for the seconds from the start on.
+fn explained(alloc: Global, cond: &Cond, start: i64) -> Result<Texts, Memory>
+    requires scoped { IsQuery (condition cond.now) }
+    requires bounded { are_bounded (condition cond.now) ≡ true }
+    requires from_zero { pos 0 ≤ℤ start }
+    requires start { start ≤ℤ pos 250000000000 }
+{
+    let query = monotone_from(alloc, cond, start)?;
+    let ranged = incremental(alloc, query)?;
+    render(alloc, &ranged)
+}
+
+// Returns the condition that the message came at least 3 and less than 6 seconds ago.
+fn between(alloc: Global) -> Result<Cond, Memory>
+    ensures { IfOk result (λ cond. condition cond ≡ All (NowAtLeast (record { base = B.Arrival (record { 0 = 0 }); plus = pos 3 }))
+        (NowBefore (record { base = B.Arrival (record { 0 = 0 }); plus = pos 6 }))) }
+{
+    let since = Box::new(alloc, Cond::NowAtLeast(arrival(0, 3)))?;
+    let until = Box::new(alloc, Cond::NowBefore(arrival(0, 6)))?;
+    Ok(Cond::All(since, until))
+}
+
+// Returns the condition that no note on the message came less than 5 seconds ago.
+fn unnoted(alloc: Global) -> Result<Cond, Memory>
+    ensures { IfOk result (λ cond. condition cond ≡ Not
+        (Exists (record { 0 = 1 }) Notes (All (Plain (Numbers (Field (record { 0 = 1 }) DocOf) Eq (Field (record { 0 = 0 }) Id)))
+        (NowBefore (record { base = B.Arrival (record { 0 = 1 }); plus = pos 5 }))))) }
+{
+    let on = Cond::Plain(Atom::Numbers(
+        NumExpr::Field(Var(1), NumField::DocOf),
+        Op::Eq,
+        NumExpr::Field(Var(0), NumField::Id),
+    ));
+    let on = Box::new(alloc, on)?;
+    let young = Box::new(alloc, Cond::NowBefore(arrival(1, 5)))?;
+    let both = Box::new(alloc, Cond::All(on, young))?;
+    let noted = Box::new(alloc, Cond::Exists(Var(1), Table::Notes, both))?;
+    Ok(Cond::Not(noted))
+}
+
+// Returns the condition that the day of now began after the message came.
+fn next_day() -> Cond
+    ensures { condition result ≡ NowAtLeast (record { base = B.ArrivalDay (record { 0 = 0 }) (pos 1); plus = pos 0 }) }
+{
+    Cond::NowAtLeast(Term {
+        base: Base::ArrivalDay(Var(0), 1),
+        plus: 0,
+    })
+}
+
+// Returns the condition that hi is a word of the message.
+fn says_hi(alloc: Global) -> Result<Cond, Memory>
+    ensures { IfOk result (λ cond. condition cond ≡ Plain (Has (record { 0 = 0 }) Words (X.Literal (codes "hi")))) }
+{
+    let word = Text::from_slice(alloc, b"hi")?;
+    Ok(Cond::Plain(Atom::Has(Var(0), ListField::Words, TextExpr::Literal(word))))
+}
+
+#[test]
+fn a_window_of_seconds_has_one_line(rt: HostRuntime) -> Result<(), Memory> {
+    let alloc = rt.alloc();
+    let cond = between(alloc)?;
+    let lines = explained(alloc, &cond, 0)?;
+    assert_eq!(rt; lines.len(), 1);
+    assert!(rt; lines.holds(b"OVER m: DOC AT m.ts + 3 WHERE TRUE"));
+    Ok(())
+}
+
+#[test]
+fn a_row_that_is_missing_has_its_own_line(rt: HostRuntime) -> Result<(), Memory> {
+    let alloc = rt.alloc();
+    let cond = unnoted(alloc)?;
+    let lines = explained(alloc, &cond, 0)?;
+    assert_eq!(rt; lines.len(), 2);
+    assert_eq!(rt;
+        lines.as_slice()[0].as_slice(),
+        b"OVER m: DOC AT m.ts WHERE NOT EXISTS (v1: NOTE WHERE v1.ts <= m.ts AND (v1.doc = m.id AND m.ts < v1.ts + 5))".as_slice()
+    );
+    assert_eq!(rt;
+        lines.as_slice()[1].as_slice(),
+        b"OVER m: DOC, p1: NOTE [p1.doc = m.id] AT p1.ts + 5 WHERE NOT EXISTS (v1: NOTE WHERE v1.ts <= p1.ts + 5 AND (v1.doc = m.id AND p1.ts + 5 < v1.ts + 5))".as_slice()
+    );
+    Ok(())
+}
+
+#[test]
+fn days_have_their_lines(rt: HostRuntime) -> Result<(), Memory> {
+    let alloc = rt.alloc();
+    let cond = next_day();
+    let lines = explained(alloc, &cond, 0)?;
+    assert_eq!(rt; lines.len(), 2);
+    assert_eq!(rt;
+        lines.as_slice()[0].as_slice(),
+        b"OVER m: DOC AT m.ts WHERE m.ts >= DAY(m.ts + 1)".as_slice()
+    );
+    assert_eq!(rt;
+        lines.as_slice()[1].as_slice(),
+        b"OVER m: DOC AT DAY(m.ts + 1) WHERE TRUE".as_slice()
+    );
+    Ok(())
+}
+
+#[test]
+fn a_start_has_its_line(rt: HostRuntime) -> Result<(), Memory> {
+    let alloc = rt.alloc();
+    let cond = says_hi(alloc)?;
+    let lines = explained(alloc, &cond, 110)?;
+    assert_eq!(rt; lines.len(), 2);
+    assert_eq!(rt;
+        lines.as_slice()[0].as_slice(),
+        b"OVER m: DOC [m.words HAS 'hi'] AT m.ts WHERE m.words HAS 'hi'".as_slice()
+    );
+    assert_eq!(rt;
+        lines.as_slice()[1].as_slice(),
+        b"OVER m: DOC [m.words HAS 'hi'] AT TIME 110 WHERE m.words HAS 'hi'".as_slice()
+    );
+    Ok(())
+}

@@ -1,0 +1,132 @@
+//! Tests of moments over two documents.
+
+ghost use Rattle.std.specs.Prelude.{◌≡◌, ◌<◌, pos, [], ◌∷◌, map, IfOk};
+ghost use Rattle.row_index.specs.Orders.{IsMoment};
+ghost use Rattle.tql_tree.specs.declared.table.Table.TheVariants.{Docs};
+ghost use Rattle.probe_eval.specs.Runs.{HasValidProbes};
+ghost use Rattle.query_tests.specs.Samples.{sample_probe, sample_marks};
+
+use crate::documents::{second_seen, two_docs};
+use access_plan::{Plan, plan};
+use node_pool::{NodeId, Pool};
+use std::alloc::Global;
+use std::marker::Brand;
+use std::sync::ledger::{Blank, Ledger};
+use tap_base::{Memory, Rows, Steps};
+use time_marks::{Probe, Ranged, RangedQuery, Seek, Step};
+use tql_core::{Base, TNode, Term, Var};
+use tql_tree::Table;
+use wake_plan::wake;
+
+// Returns the probe that finds a document with this mark.
+fn probe_at(alloc: Global, at: Term, body: NodeId) -> Result<Probe, Memory>
+    ensures { IfOk result (λ probe. probe ≡ record { path = record { var = record { 0 = 0 }; table = Docs; guards = [] } ∷ []; at = at; body = body }) }
+{
+    let mut path = Rows::new(alloc);
+    path.push(Step {
+        var: Var(0),
+        table: Table::Docs,
+        guards: Rows::new(alloc),
+    })?;
+    Ok(Probe { path, at, body })
+}
+
+// Returns that probe, with its seek.
+fn part_at(alloc: Global, at: Term, body: NodeId) -> Result<Ranged, Memory>
+    ensures { IfOk result (λ part. part.probe ≡ record { path = record { var = record { 0 = 0 }; table = Docs; guards = [] } ∷ []; at = at; body = body }) }
+{
+    let probe = probe_at(alloc, at, body)?;
+    let seek = Seek::of(probe.at);
+    Ok(Ranged { probe, seek })
+}
+
+// Returns a probe with a mark five seconds after the arrival, one with a mark a second after the date, and one with the
+// fixed mark 130.
+fn three_parts(alloc: Global, body: NodeId) -> Result<Rows<Ranged>, Memory>
+    ensures { IfOk result (λ parts. map (λ part. part.probe) parts ≡ map (sample_probe body.0) sample_marks) }
+{
+    let mut parts = Rows::new(alloc);
+    let at = Term {
+        base: Base::Arrival(Var(0)),
+        plus: 5,
+    };
+    parts.push(part_at(alloc, at, body)?)?;
+    let at = Term {
+        base: Base::Date(Var(0)),
+        plus: 1,
+    };
+    parts.push(part_at(alloc, at, body)?)?;
+    let at = Term {
+        base: Base::Fixed,
+        plus: 130,
+    };
+    parts.push(part_at(alloc, at, body)?)?;
+    Ok(parts)
+}
+
+// Returns the query of those probes.
+fn three_query(alloc: Global) -> Result<RangedQuery, Memory>
+    ensures { IfOk result HasValidProbes }
+{
+    let mut pool = Pool::new(alloc);
+    let body = pool.intern(TNode::True)?;
+    let parts = three_parts(alloc, body)?;
+    Ok(RangedQuery { pool, parts })
+}
+
+// Returns the plan of that query.
+fn three_plan(alloc: Global) -> Result<Plan, Memory>
+    ensures { IfOk result (λ plan. HasValidProbes plan.query) }
+{
+    plan(alloc, three_query(alloc)?)
+}
+
+// Returns the moment for two documents, one of which is in the box.
+fn planned<L: Ledger>(
+    alloc: Global,
+    blank: Blank,
+    last: i64,
+    now: i64,
+) -> Result<Option<i64>, Memory>
+    requires name { blank.name ≡ L.name }
+    requires parts { blank.parts ≡ L.parts }
+    requires some { 0 < blank.parts }
+    requires last { IsMoment last }
+    requires now { IsMoment now }
+{
+    let plan = three_plan(alloc)?;
+    let index = two_docs(alloc)?;
+    let seen = second_seen(alloc)?;
+    let mut steps = Steps::<L>::start(blank);
+    wake(alloc, &plan, &index, &seen, last, now, &mut steps)
+}
+
+#[test]
+fn the_second_after_the_least_mark_is_next(rt: HostRuntime) -> Result<(), Memory> {
+    let moment = planned::<Brand>(rt.alloc(), Blank::new(1), 0, 100)?;
+    assert_eq!(rt; moment, Some(106));
+    let moment = planned::<Brand>(rt.alloc(), Blank::new(1), 105, 106)?;
+    assert_eq!(rt; moment, Some(106));
+    Ok(())
+}
+
+#[test]
+fn no_moment_is_before_now(rt: HostRuntime) -> Result<(), Memory> {
+    let moment = planned::<Brand>(rt.alloc(), Blank::new(1), 0, 120)?;
+    assert_eq!(rt; moment, Some(120));
+    Ok(())
+}
+
+#[test]
+fn a_fixed_mark_comes_after_those_of_rows(rt: HostRuntime) -> Result<(), Memory> {
+    let moment = planned::<Brand>(rt.alloc(), Blank::new(1), 106, 106)?;
+    assert_eq!(rt; moment, Some(131));
+    Ok(())
+}
+
+#[test]
+fn a_mark_before_the_last_run_is_never_met(rt: HostRuntime) -> Result<(), Memory> {
+    let moment = planned::<Brand>(rt.alloc(), Blank::new(1), 131, 131)?;
+    assert_eq!(rt; moment, None);
+    Ok(())
+}

@@ -1,5 +1,0 @@
-use Rattle.row_index.proofs.tests.rows_are_added_walked_and_forgotten.Given as goal
-
--- the counter is that of the blank
-abbrev pub ghosts-counts : goal.ghosts-counts
-ghosts-counts g a = record { name = a.blank.name; parts = a.blank.parts }
