@@ -10,6 +10,3 @@ pub use fault::{AttachFault, CommitFault};
 pub use keeper::Keeper;
 pub use mem_keeper::{KeepPlan, MemKeeper};
 pub use sure_keeper::SureKeeper;
-
-#[cfg(test)]
-mod tests;

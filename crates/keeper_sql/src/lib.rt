@@ -17,6 +17,3 @@ mod sql_keeper;
 mod version;
 
 pub use sql_keeper::SqlKeeper;
-
-#[cfg(test)]
-mod tests;

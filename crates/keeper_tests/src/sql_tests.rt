@@ -2,8 +2,8 @@
 
 ghost use Rattle.std.specs.Prelude.{◌≡◌, false};
 
-use crate::SqlKeeper;
 use keeper_core::Keeper;
+use keeper_sql::SqlKeeper;
 use sqlite::Connection;
 use std::alloc::Global;
 use std::test::Fail;

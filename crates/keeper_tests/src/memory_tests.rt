@@ -8,7 +8,7 @@ ghost use Rattle.tap_rows.specs.declared.tables.Tables.{Tables as TableRows};
 ghost use Rattle.keeper_core.specs.Keeping.{IsDurable};
 ghost use Rattle.tap_base.specs.Counts.{Rose};
 
-use crate::{AttachFault, CommitFault, KeepPlan, Keeper, MemKeeper, SureKeeper};
+use keeper_core::{AttachFault, CommitFault, KeepPlan, Keeper, MemKeeper, SureKeeper};
 use std::alloc::Global;
 use std::test::Fail;
 use tap_base::{DocNum, Memory, Rows, Text};
