@@ -16,6 +16,3 @@ pub use command_words::{CommandWords, read_words};
 pub use option_fault::OptionFault;
 pub use pop_words::{PopWords, read_pop_words};
 pub use words_fault::WordsFault;
-
-#[cfg(test)]
-mod tests;

@@ -1,8 +1,8 @@
 ghost use Rattle.std.specs.Prelude.{◌≡◌, ◌≤◌, ◌<◌, length};
 ghost use Rattle.script_lang.specs.Replies.{HasShortNames};
 
-use crate::{Command, LimitName, Refusal, Reply, ScriptReader, put_reply};
 use mail_lines::Block;
+use script_lang::{Command, LimitName, Refusal, Reply, ScriptReader, put_reply};
 use std::alloc::Global;
 use std::test::Fail;
 use tap_base::{DocNum, Memory, Rows, Text, Texts, put_decimal};

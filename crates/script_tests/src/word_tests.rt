@@ -2,7 +2,7 @@ ghost use Rattle.std.specs.Prelude.{IfOk};
 ghost use Rattle.std.specs.List.{All};
 ghost use Rattle.std.specs.Str.{IsUtf8};
 
-use crate::{OptionFault, read_words};
+use command_words::{OptionFault, read_words};
 use std::alloc::Global;
 use std::test::Fail;
 use tap_base::{Memory, Text, Texts, put_decimal};
