@@ -17,6 +17,3 @@ pub use rating::{Rating, appraise};
 pub use read::{RULE_LIMIT, read_rules};
 pub use rule::KeptRule;
 pub use rules::Rules;
-
-#[cfg(test)]
-mod tests;

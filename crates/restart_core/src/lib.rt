@@ -18,6 +18,3 @@ mod start;
 pub use fault::{RestartFault, TableName, Why};
 pub use sound::{Sound, check_tables};
 pub use start::{Start, cut_start};
-
-#[cfg(test)]
-mod tests;

@@ -1,4 +1,4 @@
-use crate::{RestartFault, TableName, Why, check_tables, cut_start};
+use restart_core::{RestartFault, TableName, Why, check_tables, cut_start};
 use std::alloc::Global;
 use std::test::Fail;
 use tap_base::{DocNum, Memory, NoteNum, QueryNum, Text};

@@ -1,6 +1,6 @@
 ghost use Rattle.std.specs.Prelude.{◌≡◌, ◌<◌, pos, []};
 
-use crate::{RuleFault, listing, read_rules};
+use appraiser::{RuleFault, listing, read_rules};
 use row_index::RowIndex;
 use std::alloc::Global;
 use std::marker::Brand;
