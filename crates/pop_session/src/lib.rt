@@ -15,6 +15,3 @@ mod session;
 pub use hold::{PIECE, SESSION_LIMIT, hold_session};
 pub use letter::Letter;
 pub use session::PopSession;
-
-#[cfg(test)]
-mod tests;

@@ -2,7 +2,7 @@
 ghost use Rattle.std.specs.Prelude.{◌≡◌, ◌<◌, ◌≤◌, length, IfOk};
 ghost use Rattle.pop_session.specs.Sessions.{AreBounded, IsReady};
 
-use crate::{Letter, PopSession};
+use pop_session::{Letter, PopSession};
 use std::alloc::Global;
 use std::test::Fail;
 use tap_base::{DocNum, Memory, Text};

@@ -1,6 +1,6 @@
 use Rattle.std.proofs.Common.{length}
 use Rattle.pop_session.specs.Sessions.{IsReady}
-use Rattle.pop_session.proofs.tests.give.Given as goal
+use Rattle.box_tests.proofs.session_tests.give.Given as goal
 
 -- the session may take bytes
 abbrev pub invariant-pieces : goal.invariant-pieces
