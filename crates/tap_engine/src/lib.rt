@@ -34,5 +34,3 @@ pub use undo::Undo;
 
 #[cfg(test)]
 mod start_tests;
-#[cfg(test)]
-mod tests;

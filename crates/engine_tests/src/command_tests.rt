@@ -3,7 +3,6 @@
 ghost use Rattle.std.specs.Prelude.{◌≡◌, ◌<◌, true, false, OnOk, IfOk};
 ghost use Rattle.tap_engine.specs.Ready.{IsReady};
 
-use crate::{Engine, EngineFault};
 use keeper_core::{KeepPlan, Keeper, MemKeeper};
 use script_lang::{Command, Got, Reply, ScriptReader};
 use std::alloc::Global;
@@ -11,6 +10,7 @@ use std::marker::Brand;
 use std::sync::ledger::{Blank, Ledger};
 use std::test::Fail;
 use tap_base::{Memory, Rows, Steps};
+use tap_engine::{Engine, EngineFault};
 use tap_rows::Tables;
 
 // A script of each command that is built. `mail`, `note`, `query`, `filter` and `run` add rows; the mailbox file has no message,

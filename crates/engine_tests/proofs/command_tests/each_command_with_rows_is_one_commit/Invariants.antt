@@ -1,4 +1,4 @@
-use Rattle.tap_engine.proofs.tests.each_command_with_rows_is_one_commit.Given as goal
+use Rattle.engine_tests.proofs.command_tests.each_command_with_rows_is_one_commit.Given as goal
 
 -- the counter is that of the blank
 abbrev pub ghosts-session : goal.ghosts-session

@@ -1,7 +1,7 @@
 use Rattle.std.proofs.Common.{◌≡◌, length, true, false}
 use Rattle.std.specs.Vec.Iter.{into_iter_items, into_iter_len}
 use Rattle.tap_engine.specs.Ready.{IsReady}
-use Rattle.tap_engine.proofs.tests.perform_all.Given as goal
+use Rattle.engine_tests.proofs.command_tests.perform_all.Given as goal
 
 -- the engine can perform the next command
 abbrev pub invariant-loop-command : goal.invariant-loop-command

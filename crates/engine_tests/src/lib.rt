@@ -1,0 +1,5 @@
+//! Tests of the engine over a keeper in memory.
+#![tactic(auto)]
+
+#[cfg(test)]
+mod command_tests;
