@@ -6,6 +6,3 @@ mod no_box;
 mod serving;
 
 pub use serving::serve;
-
-#[cfg(test)]
-mod tests;

@@ -13,18 +13,3 @@ pub use opening::{OpenFault, open_store};
 pub use refusing::refuse;
 pub use store_fault::StoreFault;
 pub use top::{PIECE, SCRIPT_LIMIT, tapestry};
-
-#[cfg(test)]
-mod first_tests;
-#[cfg(test)]
-mod keeper_tests;
-#[cfg(test)]
-mod long_tests;
-#[cfg(test)]
-mod reading_tests;
-#[cfg(test)]
-mod sample_tests;
-#[cfg(test)]
-mod test_runs;
-#[cfg(test)]
-mod tests;

@@ -1,34 +1,10 @@
 //! Samples, by the words of the command line.
-ghost use Rattle.std.specs.Prelude.{◌≡◌, IfOk, OnOk};
-ghost use Rattle.std.specs.List.{All};
-ghost use Rattle.std.specs.Str.{IsUtf8};
-
-use crate::test_runs::{sink_of, source_of, status_of};
+use crate::test_runs::{sink_of, source_of, status_of, words_in};
 use keeper_core::MemKeeper;
 use std::alloc::Global;
 use std::test::Fail;
-use tap_base::{Memory, Text, Texts};
+use tap_base::{Memory, Text};
 use tap_rows::Tables;
-
-// Appends a word.
-fn push_word(alloc: Global, words: &mut Texts, word: &str) -> Result<(), Memory>
-    requires { All IsUtf8 words.old }
-    ensures { OnOk result (All IsUtf8 words.new) }
-{
-    words.push(Text::from_slice(alloc, word.as_bytes())?)?;
-    Ok(())
-}
-
-// The words of a line, one blank between them.
-fn words_in(alloc: Global, line: &str) -> Result<Texts, Memory>
-    ensures { IfOk result (λ words. All IsUtf8 words) }
-{
-    let mut words = Texts::new(alloc);
-    for word in line.split(' ') {
-        push_word(alloc, &mut words, word)?;
-    }
-    Ok(words)
-}
 
 // A run of the words of a line over an empty store, with a script of one command: the status, and what was written.
 fn followed(alloc: Global, line: &str) -> Result<(u8, Text), Memory> {

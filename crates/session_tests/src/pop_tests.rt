@@ -1,10 +1,11 @@
 //! Sessions over a store in memory: the worked session, in pieces of each size, and each way in which none begins.
-ghost use Rattle.std.specs.Prelude.{◌≡◌, ◌<◌, false, IfOk};
+ghost use Rattle.std.specs.Prelude.{◌≡◌, ◌<◌, false};
 ghost use Rattle.std.specs.List.{All};
 ghost use Rattle.std.specs.Str.{IsUtf8};
 
-use crate::serve;
+use crate::test_runs::{sink_of, source_of, words_in, written_over};
 use keeper_core::MemKeeper;
+use pop_box::serve;
 use std::alloc::Global;
 use std::marker::Brand;
 use std::sync::ledger::{Blank, Ledger};
@@ -12,7 +13,6 @@ use std::test::Fail;
 use tap_base::{Memory, Steps, Text, Texts};
 use tap_edges::{MemSink, MemSource};
 use tap_rows::Tables;
-use tap_top::tapestry;
 
 // The commands that leave the store of the worked session: two letters, of which the second has a line that begins with a dot.
 const STORE: &[u8] =
@@ -24,71 +24,12 @@ const REQUESTS: &[u8] =
 const REPLIES: &[u8] =
     b"+OK tapestry\r\n+OK\r\n-ERR denied\r\n-ERR state\r\n+OK\r\n+OK\r\n+OK 2 36\r\n+OK 2 21\r\n+OK\r\n1 d1\r\n2 d2\r\n.\r\n+OK 21\r\nSubject: dots\r\n\r\n..a\r\n.\r\n-ERR kept\r\n-ERR message\r\n-ERR unknown\r\n+OK\r\n";
 
-// Returns the words of a line, one blank between them.
-fn words_in(alloc: Global, line: &str) -> Result<Texts, Memory>
-    ensures { IfOk result (λ words. All IsUtf8 words) }
-{
-    let mut words = Texts::new(alloc);
-    for word in line.split(' ') {
-        words.push(Text::from_slice(alloc, word.as_bytes())?)?;
-    }
-    Ok(words)
-}
-
-// Returns 1 for 0, and other numbers unchanged.
-fn at_least_one(size: usize) -> usize
-    ensures { 0 < result }
-{
-    if size == 0 { 1 } else { size }
-}
-
-// Returns a source of bytes in pieces of `size` bytes.
-fn source_of(alloc: Global, bytes: &[u8], size: usize) -> Result<MemSource, Memory> {
-    let sizes = vec![in alloc; at_least_one(size)]?;
-    Ok(MemSource::new(Text::from_slice(alloc, bytes)?, sizes, Vec::new(alloc)))
-}
-
-// Performs the commands of a source, with the counter of a blank; returns the status.
-fn fill_with<L: Ledger>(
-    alloc: Global,
-    blank: Blank,
-    source: &mut MemSource,
-    sink: &mut MemSink,
-    keeper: &mut MemKeeper,
-) -> u8
-    requires name { blank.name ≡ L.name }
-    requires parts { blank.parts ≡ L.parts }
-    requires some { 0 < blank.parts }
-    requires free { keeper.old.attached ≡ false }
-    requires running { keeper.old.stopped ≡ false }
-{
-    let mut steps = Steps::<L>::start(blank);
-    let words = Texts::new(alloc);
-    tapestry(alloc, &words, source, sink, keeper, &mut steps)
-}
-
-// Performs the commands of a source; returns the status.
-fn fill(alloc: Global, source: &mut MemSource, sink: &mut MemSink, keeper: &mut MemKeeper) -> u8
-    requires free { keeper.old.attached ≡ false }
-    requires running { keeper.old.stopped ≡ false }
-{
-    fill_with::<Brand>(alloc, Blank::new(1), source, sink, keeper)
-}
-
-// Performs the commands that leave the store over a keeper.
-fn fill_store(alloc: Global, keeper: &mut MemKeeper) -> Result<u8, Memory>
-    requires free { keeper.old.attached ≡ false }
-    requires running { keeper.old.stopped ≡ false }
-{
-    let mut source = source_of(alloc, STORE, 4096)?;
-    let mut sink = MemSink::new(alloc, 4096, Vec::new(alloc))?;
-    Ok(fill(alloc, &mut source, &mut sink, keeper))
-}
-
 // Returns the tables of the store.
 fn store(alloc: Global) -> Result<Tables, Memory> {
     let mut keeper = MemKeeper::new(alloc, Tables::empty(alloc), 2, Vec::new(alloc));
-    let _status = fill_store(alloc, &mut keeper)?;
+    let source = source_of(alloc, STORE, 4096, Vec::new(alloc))?;
+    let sink = sink_of(alloc, 4096, Vec::new(alloc))?;
+    let (_status, _written) = written_over(alloc, &mut keeper, source, sink)?;
     Ok(keeper.after_crash())
 }
 
@@ -140,8 +81,8 @@ fn serve_line(
     requires running { keeper.old.stopped ≡ false }
 {
     let words = words_in(alloc, line)?;
-    let source = source_of(alloc, requests, size)?;
-    let sink = MemSink::new(alloc, 4096, Vec::new(alloc))?;
+    let source = source_of(alloc, requests, size, Vec::new(alloc))?;
+    let sink = sink_of(alloc, 4096, Vec::new(alloc))?;
     serve_over(alloc, &words, source, sink, keeper)
 }
 

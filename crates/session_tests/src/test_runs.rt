@@ -1,9 +1,8 @@
 //! What the tests share: runs over sources, sinks and keepers in memory.
-ghost use Rattle.std.specs.Prelude.{◌≡◌, ◌<◌, false};
+ghost use Rattle.std.specs.Prelude.{◌≡◌, ◌<◌, false, IfOk};
 ghost use Rattle.std.specs.List.{All};
 ghost use Rattle.std.specs.Str.{IsUtf8};
 
-use crate::tapestry;
 use itoa::Buffer;
 use keeper_core::MemKeeper;
 use std::alloc::Global;
@@ -12,6 +11,7 @@ use std::sync::ledger::{Blank, Ledger};
 use tap_base::{Memory, Steps, Text, Texts};
 use tap_edges::{MemSink, MemSource, PutPlan};
 use tap_rows::Tables;
+use tap_top::tapestry;
 
 // Runs with the counter of a blank; returns the status.
 fn run<L: Ledger>(
@@ -69,6 +69,17 @@ pub fn source_of(
 /// Returns a sink with so much room, of which these puts fail.
 pub fn sink_of(alloc: Global, room: usize, fails: Vec<PutPlan>) -> Result<MemSink, Memory> {
     MemSink::new(alloc, room, fails)
+}
+
+/// Returns the words of a line, one blank between them.
+pub fn words_in(alloc: Global, line: &str) -> Result<Texts, Memory>
+    ensures { IfOk result (λ words. All IsUtf8 words) }
+{
+    let mut words = Texts::new(alloc);
+    for word in line.split(' ') {
+        words.push(Text::from_slice(alloc, word.as_bytes())?)?;
+    }
+    Ok(words)
 }
 
 /// Runs over a keeper, without words; returns the status and what was written.
