@@ -2,8 +2,6 @@
 #![tactic(auto)]
 
 mod file_session;
-#[cfg(test)]
-mod tests;
 
 use command_words::{WordsFault, words_of_line};
 use file_session::session;

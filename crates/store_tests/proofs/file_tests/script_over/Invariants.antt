@@ -1,4 +1,4 @@
-use Rattle.tapestry.proofs.tests.script_over.Given as goal
+use Rattle.store_tests.proofs.file_tests.script_over.Given as goal
 
 -- the counter is that of the blank
 abbrev pub ghosts-run : goal.ghosts-run

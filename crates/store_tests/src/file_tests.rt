@@ -1,3 +1,4 @@
+//! Sessions over files in memory, and over stores that statements make.
 ghost use Rattle.std.specs.Prelude.{◌≡◌, ◌<◌, false, IsTrue, IfOk, IfSome};
 ghost use Rattle.sqlite_disk.specs.Memory.{memory_is_usable};
 

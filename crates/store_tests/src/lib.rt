@@ -1,0 +1,5 @@
+//! Tests of sessions over stores: over the same files, and over stores of an earlier version or with damage.
+#![tactic(auto)]
+
+#[cfg(test)]
+mod file_tests;
