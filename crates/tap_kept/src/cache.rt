@@ -19,7 +19,7 @@ use crate::planned_query::PlannedQuery;
 use crate::start_fault::StartFault;
 use appraiser::{RuleFault, read_rules};
 use std::alloc::Global;
-use tap_base::{Memory, Rows, Texts, WordSet};
+use tap_base::{HashKey, Memory, Rows, Texts, WordSet};
 use tap_rows::{FilterRow, Pick, QueryRow, RunRow};
 use tql_core::Cond;
 
@@ -133,5 +133,5 @@ pub fn owners_of(
     let mut owners = Texts::new(alloc);
     push_query_owners(&mut owners, queries)?;
     push_filter_owners(&mut owners, filters)?;
-    WordSet::of(alloc, &owners)?.into_texts()
+    WordSet::of(alloc, HashKey::fixed(), &owners)?.into_texts()
 }

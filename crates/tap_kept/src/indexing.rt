@@ -22,7 +22,7 @@ fn add_docs(alloc: Global, index: &mut RowIndex, docs: Rows<Doc>) -> Result<(), 
     ensures { OnOk result (index.new ≡ after index.old (Change.Docs docs)) }
 {
     for doc in docs.into_vec() {
-        index.add_doc(keep(alloc, doc)?)?;
+        index.add_doc(keep(alloc, index.key(), doc)?)?;
     }
     Ok(())
 }
