@@ -24,7 +24,7 @@ use keeper_core::Keeper;
 use pop_session::hold_session;
 use std::alloc::Global;
 use std::sync::ledger::Ledger;
-use tap_base::{Memory, Steps, Text, Texts};
+use tap_base::{HashKey, Memory, Steps, Text, Texts};
 use tap_edges::{Sink, Source};
 use tap_engine::Engine;
 use tap_top::{OpenFault, open_store, refuse};
@@ -71,6 +71,7 @@ fn serve_with<S: Source, K: Sink, L: Ledger>(
 // Opens the store at the place that the words name, and holds a session over the letters of the box; returns the status.
 fn serve_box<S: Source, K: Sink, P: Keeper, L: Ledger>(
     alloc: Global,
+    key: HashKey,
     asked: &PopWords,
     source: &mut S,
     sink: &mut K,
@@ -105,7 +106,7 @@ fn serve_box<S: Source, K: Sink, P: Keeper, L: Ledger>(
     ensures statuses { (result ≤ 9) × (result ≢ 2) }
     ensures place { (result ≡ 7) ⊎ (P.place keeper.new ≡ asked.now.place) }
 {
-    match open_store(alloc, as_str(&asked.place), keeper) {
+    match open_store(alloc, key, as_str(&asked.place), keeper) {
         Ok(engine) => serve_with(alloc, asked, source, sink, engine, steps),
         Err(OpenFault::Refused(fault)) => refuse(fault, sink),
         Err(OpenFault::Keeper) => 5,
@@ -132,6 +133,7 @@ fn serve_box<S: Source, K: Sink, P: Keeper, L: Ledger>(
 /// - 9: there is no such box, and the line `-ERR box` says so; nothing was read.
 pub fn serve<S: Source, K: Sink, P: Keeper, L: Ledger>(
     alloc: Global,
+    key: HashKey,
     words: &Texts,
     source: &mut S,
     sink: &mut K,
@@ -190,5 +192,5 @@ pub fn serve<S: Source, K: Sink, P: Keeper, L: Ledger>(
         Err(OptionFault::Refused) => return 2,
         Err(OptionFault::Memory) => return 7,
     };
-    serve_box(alloc, &asked, source, sink, keeper, steps)
+    serve_box(alloc, key, &asked, source, sink, keeper, steps)
 }

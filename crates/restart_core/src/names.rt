@@ -8,7 +8,7 @@ ghost use Rattle.restart_core.specs.Earlier.{named_of};
 use indexmap::IndexSet;
 use std::alloc::Global;
 use std::marker::Model;
-use tap_base::{Memory, Text};
+use tap_base::{HashKey, Memory, Text};
 use tap_rows::QueryRow;
 
 /// The key of a query: its owner and its name.
@@ -21,7 +21,7 @@ pub(crate) struct Named {
 /// The distinct keys of some queries, in order, as a set: one look-up finds whether a key is new.
 #[derive(Drop)]
 pub(crate) struct Names {
-    set: IndexSet<Named>,
+    set: IndexSet<Named, HashKey>,
 }
 
 impl Model for Names {
@@ -34,12 +34,12 @@ impl Model for Names {
 }
 
 impl Names {
-    // Returns no keys.
-    pub(crate) fn new(alloc: Global) -> Names
+    // Returns no keys, to be hashed under this key.
+    pub(crate) fn new(alloc: Global, key: HashKey) -> Names
         ensures { result ≡ [] }
     {
         Names {
-            set: IndexSet::new(alloc),
+            set: IndexSet::with_hasher(alloc, key),
         }
     }
 

@@ -13,7 +13,7 @@ use crate::names::Names;
 use crate::rows::{damaged, follows};
 use crate::{RestartFault, TableName, Why, cut_start};
 use std::alloc::Global;
-use tap_base::{Rows, is_name};
+use tap_base::{HashKey, Rows, is_name};
 use tap_rows::QueryRow;
 use tql_core::Cond;
 use tql_text::{TextFault, read_condition};
@@ -72,12 +72,16 @@ fn read_query(
 }
 
 // Reads the conditions of the queries. An error gives the first damaged query, or means out of memory.
-pub(crate) fn read_queries(alloc: Global, queries: &[QueryRow]) -> Result<Vec<Cond>, RestartFault>
+pub(crate) fn read_queries(
+    alloc: Global,
+    key: HashKey,
+    queries: &[QueryRow],
+) -> Result<Vec<Cond>, RestartFault>
     ensures sound { OnOk result (queries_damage [] 1 (pos 0) queries.now ≡ None) }
     ensures conds { IfOk result (λ conds. readings_of queries.now ≡ as_read conds.items) }
     ensures fault { IfErr result (λ fault. (fault ≡ RestartFault.Memory) ⊎ (queries_damage [] 1 (pos 0) queries.now ≡ Some fault)) }
 {
-    let mut names = Names::new(alloc);
+    let mut names = Names::new(alloc, key);
     let mut conds = Rows::new(alloc);
     let mut low = 0;
     for (i, query) in queries.iter().enumerate() {

@@ -14,6 +14,7 @@ use crate::queries::read_queries;
 use crate::runs::runs_damage;
 use std::alloc::Global;
 use std::marker::Model;
+use tap_base::HashKey;
 use tap_rows::Tables;
 use tql_core::Cond;
 
@@ -50,16 +51,16 @@ fn refuse(damage: Option<RestartFault>) -> Result<(), RestartFault>
 
 /// Checks all rows of stored tables, in the order documents, notes, queries, runs, picks, filters, and returns the tables if
 /// none is damaged. `Damaged` gives the first damaged row and its first reason, `Memory` means out of memory. The texts of
-/// queries are read, those of filters are not. Each query and each pick takes one look-up.
+/// queries are read, those of filters are not. Each query and each pick takes one look-up, the queries' under this key.
 #[tactic(auto, unfolding(crate::specs::Damages::damage_of))]
-pub fn check_tables(alloc: Global, tables: Tables) -> Result<Sound, RestartFault>
+pub fn check_tables(alloc: Global, key: HashKey, tables: Tables) -> Result<Sound, RestartFault>
     ensures tables { IfOk result (λ sound. sound ≡ tables) }
     ensures sound { OnOk result (damage_of tables ≡ None) }
     ensures fault { IfErr result (λ fault. (fault ≡ RestartFault.Memory) ⊎ (damage_of tables ≡ Some fault)) }
 {
     refuse(docs_damage(tables.docs.as_slice()))?;
     refuse(notes_damage(tables.docs.as_slice(), tables.notes.as_slice()))?;
-    let conds = read_queries(alloc, tables.queries.as_slice())?;
+    let conds = read_queries(alloc, key, tables.queries.as_slice())?;
     refuse(runs_damage(tables.queries.as_slice(), tables.runs.as_slice()))?;
     refuse(picks_damage(
         alloc,

@@ -1,7 +1,7 @@
 use restart_core::{RestartFault, TableName, Why, check_tables, cut_start};
 use std::alloc::Global;
 use std::test::Fail;
-use tap_base::{DocNum, Memory, NoteNum, QueryNum, Text};
+use tap_base::{DocNum, HashKey, Memory, NoteNum, QueryNum, Text};
 use tap_rows::{Doc, FilterRow, Note, Pick, QueryRow, RunRow, Tables};
 
 #[test]
@@ -158,7 +158,7 @@ fn tables_of(alloc: Global, stored: &Stored) -> Result<Tables, Memory> {
 // Are the tables sound, or what is their fault?
 fn fault_of(alloc: Global, stored: &Stored) -> Result<Option<RestartFault>, Memory> {
     let tables = tables_of(alloc, stored)?;
-    match check_tables(alloc, tables) {
+    match check_tables(alloc, HashKey::fixed(), tables) {
         Ok(_) => Ok(None),
         Err(fault) => Ok(Some(fault)),
     }
@@ -272,7 +272,7 @@ fn has_damage(
 fn sound_tables_give_their_rows_and_conditions(rt: HostRuntime) -> Result<(), Memory> {
     let alloc = rt.alloc();
     let tables = tables_of(alloc, &SOUND)?;
-    match check_tables(alloc, tables) {
+    match check_tables(alloc, HashKey::fixed(), tables) {
         Ok(sound) => {
             let (tables, conds) = sound.into_parts();
             assert_eq!(rt; tables.picks.len(), 1);

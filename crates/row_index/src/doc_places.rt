@@ -8,7 +8,7 @@ ghost use Rattle.row_index.specs.Held.{DocPosts};
 use crate::dates::Dates;
 use crate::doc_texts::DocTexts;
 use std::alloc::Global;
-use tap_base::Memory;
+use tap_base::{HashKey, Memory};
 use tap_rows::KeptDoc;
 
 /// The indexes of documents, by text and by date.
@@ -19,12 +19,12 @@ pub(crate) struct DocPlaces {
 }
 
 impl DocPlaces {
-    /// Returns indexes of no documents.
-    pub(crate) fn new(alloc: Global) -> DocPlaces
+    /// Returns indexes of no documents, which hash texts under this key.
+    pub(crate) fn new(alloc: Global, key: HashKey) -> DocPlaces
         ensures { DocPosts [] result }
     {
         DocPlaces {
-            texts: DocTexts::new(alloc),
+            texts: DocTexts::new(alloc, key),
             dates: Dates::new(alloc),
         }
     }

@@ -9,7 +9,7 @@ ghost use Rattle.row_index.specs.Texts.{fields, IsNext, TextPosts, IsPosted, IsP
 use crate::postings::Postings;
 use crate::text_kind::TextKind;
 use std::alloc::Global;
-use tap_base::Memory;
+use tap_base::{HashKey, Memory};
 use tap_rows::{Fields, KeptDoc};
 
 /// The places of documents by message id, by the message id that they reply to, by sender, by subject, by each of their
@@ -33,17 +33,17 @@ pub(crate) fn fields_in(doc: &KeptDoc) -> &Fields
 }
 
 impl DocTexts {
-    /// Returns an index of no texts.
-    pub(crate) fn new(alloc: Global) -> DocTexts
+    /// Returns an index of no texts, which hashes them under this key.
+    pub(crate) fn new(alloc: Global, key: HashKey) -> DocTexts
         ensures { TextPosts [] result }
     {
         DocTexts {
-            msgid: Postings::new(alloc),
-            parent: Postings::new(alloc),
-            sender: Postings::new(alloc),
-            subject: Postings::new(alloc),
-            reference: Postings::new(alloc),
-            word: Postings::new(alloc),
+            msgid: Postings::new(alloc, key),
+            parent: Postings::new(alloc, key),
+            sender: Postings::new(alloc, key),
+            subject: Postings::new(alloc, key),
+            reference: Postings::new(alloc, key),
+            word: Postings::new(alloc, key),
         }
     }
 

@@ -9,12 +9,12 @@ use crate::places::{drop_place, put_place};
 use indexmap::IndexMap;
 use std::alloc::Global;
 use std::marker::Model;
-use tap_base::{Memory, Text};
+use tap_base::{HashKey, Memory, Text, TextBytes};
 
 /// The places under each text, in order.
 #[derive(Drop)]
 pub(crate) struct Postings {
-    places: IndexMap<Vec<u8>, Vec<u32>>,
+    places: IndexMap<Text, Vec<u32>, HashKey>,
     alloc: Global,
 }
 
@@ -23,16 +23,16 @@ impl Model for Postings {
 
     ghost Value = { List (List ℕ × List ℕ) };
 
-    ghost view = { λ p. map (λ e. (e.0.items, e.1.items)) p.places.entries };
+    ghost view = { λ p. map (λ e. (e.0, e.1.items)) p.places.entries };
 }
 
 impl Postings {
-    /// Returns an index of no texts.
-    pub(crate) fn new(alloc: Global) -> Postings
+    /// Returns an index of no texts, which hashes them under this key.
+    pub(crate) fn new(alloc: Global, key: HashKey) -> Postings
         ensures { result ≡ [] }
     {
         Postings {
-            places: IndexMap::new(alloc),
+            places: IndexMap::with_hasher(alloc, key),
             alloc,
         }
     }
@@ -41,7 +41,7 @@ impl Postings {
     pub(crate) fn under(&self, key: &[u8]) -> &[u32]
         ensures { result.now ≡ under bytes_eq key.now self.now }
     {
-        match self.places.get(key) {
+        match self.places.get(TextBytes(key)) {
             Some(places) => places.as_slice(),
             None => &[],
         }
@@ -56,7 +56,7 @@ impl Postings {
         let mut places = Vec::new(self.alloc);
         places.push(place)?;
         self.places
-            .insert(Vec::from_slice(self.alloc, key)?, places)?;
+            .insert(Text::from_slice(self.alloc, key)?, places)?;
         Ok(())
     }
 
@@ -65,7 +65,7 @@ impl Postings {
         ensures ok { OnOk result (self.new ≡ posted bytes_eq key.now place self.old) }
         ensures err { OnErr result (self.new ≡ self.old) }
     {
-        match self.places.get_mut(key) {
+        match self.places.get_mut(TextBytes(key)) {
             Some(places) => put_place(places, place),
             None => self.begin(key, place),
         }
@@ -75,7 +75,7 @@ impl Postings {
     pub(crate) fn forget(&mut self, key: &[u8], place: u32)
         ensures { self.new ≡ unposted bytes_eq key.now place self.old }
     {
-        if let Some(places) = self.places.get_mut(key) {
+        if let Some(places) = self.places.get_mut(TextBytes(key)) {
             drop_place(places, place);
         }
     }

@@ -25,7 +25,7 @@ use crate::walk::{DocWalk, NoteWalk, Walk};
 use std::alloc::Global;
 use std::marker::Model;
 use std::sync::ledger::Ledger;
-use tap_base::{DocNum, Memory, Steps};
+use tap_base::{DocNum, HashKey, Memory, Steps};
 use tap_rows::{KeptDoc, Note};
 
 /// All documents and notes, with their indexes. Its value is the tables with these rows and no others.
@@ -35,6 +35,7 @@ pub struct RowIndex {
     places: DocPlaces,
     notes: Vec<Note>,
     on_doc: NotePlaces,
+    key: HashKey,
 }
 
 impl Model for RowIndex {
@@ -50,16 +51,29 @@ impl Model for RowIndex {
 }
 
 impl RowIndex {
-    /// Returns an index of no rows.
+    /// Returns an index of no rows, which hashes texts under the fixed key.
     pub fn new(alloc: Global) -> RowIndex
+        ensures { result ≡ no_rows }
+    {
+        RowIndex::with_key(alloc, HashKey::fixed())
+    }
+
+    /// Returns an index of no rows, which hashes texts under this key.
+    pub fn with_key(alloc: Global, key: HashKey) -> RowIndex
         ensures { result ≡ no_rows }
     {
         RowIndex {
             docs: Vec::new(alloc),
-            places: DocPlaces::new(alloc),
+            places: DocPlaces::new(alloc, key),
             notes: Vec::new(alloc),
             on_doc: NotePlaces::new(alloc),
+            key,
         }
+    }
+
+    /// Returns the key under which texts are hashed.
+    pub fn key(&self) -> HashKey {
+        self.key
     }
 
     /// Returns how many documents there are. Their numbers are their places, from 1, and their arrivals never fall.

@@ -10,7 +10,7 @@ use std::alloc::Global;
 use std::marker::Brand;
 use std::sync::ledger::{Blank, Ledger};
 use std::test::Fail;
-use tap_base::{Memory, Steps, Text, Texts};
+use tap_base::{HashKey, Memory, Steps, Text, Texts};
 use tap_edges::{MemSink, MemSource};
 use tap_rows::Tables;
 
@@ -50,7 +50,15 @@ fn serve_with<L: Ledger>(
     requires running { keeper.old.stopped ≡ false }
 {
     let mut steps = Steps::<L>::start(blank);
-    serve(alloc, words, source, sink, keeper, &mut steps)
+    serve(
+        alloc,
+        HashKey::fixed(),
+        words,
+        source,
+        sink,
+        keeper,
+        &mut steps,
+    )
 }
 
 // Serves over a keeper; returns the status and what was written.

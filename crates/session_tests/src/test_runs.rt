@@ -8,7 +8,7 @@ use keeper_core::MemKeeper;
 use std::alloc::Global;
 use std::marker::Brand;
 use std::sync::ledger::{Blank, Ledger};
-use tap_base::{Memory, Steps, Text, Texts};
+use tap_base::{HashKey, Memory, Steps, Text, Texts};
 use tap_edges::{MemSink, MemSource, PutPlan};
 use tap_rows::Tables;
 use tap_top::tapestry;
@@ -30,7 +30,15 @@ fn run<L: Ledger>(
     requires running { keeper.old.stopped ≡ false }
 {
     let mut steps = Steps::<L>::start(blank);
-    tapestry(alloc, words, source, sink, keeper, &mut steps)
+    tapestry(
+        alloc,
+        HashKey::fixed(),
+        words,
+        source,
+        sink,
+        keeper,
+        &mut steps,
+    )
 }
 
 /// Runs with a counter of its own; returns the status.

@@ -10,7 +10,7 @@ use std::alloc::Global;
 use std::marker::Brand;
 use std::sync::ledger::{Blank, Ledger};
 use std::test::Fail;
-use tap_base::{Memory, Steps, Text, Texts};
+use tap_base::{HashKey, Memory, Steps, Text, Texts};
 use tap_edges::{MemSink, MemSource};
 use tap_top::tapestry;
 
@@ -35,7 +35,15 @@ fn run<P: Keeper, L: Ledger>(
     );
     let mut sink = MemSink::new(alloc, 4096, Vec::new(alloc))?;
     let words = Texts::new(alloc);
-    let status = tapestry(alloc, &words, &mut source, &mut sink, keeper, &mut steps);
+    let status = tapestry(
+        alloc,
+        HashKey::fixed(),
+        &words,
+        &mut source,
+        &mut sink,
+        keeper,
+        &mut steps,
+    );
     Ok((status, Text::from_slice(alloc, sink.written())?))
 }
 

@@ -3,6 +3,7 @@
 
 mod copied;
 mod decimal;
+mod hash_key;
 pub mod laws;
 mod line_words;
 mod memory;
@@ -12,12 +13,14 @@ mod numbers;
 mod rows;
 mod steps;
 mod text;
+mod text_bytes;
 mod texts;
 mod word_set;
 mod words;
 
 pub use copied::Copied;
 pub use decimal::put_decimal;
+pub use hash_key::HashKey;
 pub use line_words::{
     blank_place, has_words, is_blank_byte, is_blank_or_comment, nth_word, skip_blanks, skip_words,
 };
@@ -28,6 +31,7 @@ pub use numbers::{DocNum, MomentFault, NoteNum, Op, QueryNum};
 pub use rows::Rows;
 pub use steps::Steps;
 pub use text::Text;
+pub use text_bytes::TextBytes;
 pub use texts::Texts;
 pub use word_set::WordSet;
 pub use words::{after_byte, lower, words_of};

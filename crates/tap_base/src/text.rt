@@ -42,15 +42,18 @@ impl Eq for Text {
 }
 
 impl Hash for Text {
-    ghost use Rattle.std.specs.Hash.{slice, u8, same_Alike};
+    ghost use Rattle.std.specs.Hash.{same_Alike};
     ghost use Rattle.std.specs.Cmp.Lexicographic.{bytes_decides};
+    ghost use Rattle.tap_base.specs.Bytes.{text_writes};
 
-    ghost hash_input = { slice u8 };
+    ghost hash_input = { text_writes };
 
-    ghost respects_eq = { (same_Alike (slice u8) bytes_decides).fed };
+    ghost respects_eq = { (same_Alike text_writes bytes_decides).fed };
 
+    // The bytes are given as one run: the hash of a slice takes each byte by itself.
     fn hash<H: Hasher>(&self, state: &mut H) {
-        self.as_slice().hash(state);
+        state.write_usize(self.len());
+        state.write(self.as_slice());
     }
 }
 

@@ -117,7 +117,7 @@ pub(crate) fn push_doc(
         arrival: moment,
         text: text.copy()?,
     };
-    index.add_doc(keep(alloc, doc)?)
+    index.add_doc(keep(alloc, index.key(), doc)?)
 }
 
 // Adds documents with these texts after the others. At Err the first of them may have been added.

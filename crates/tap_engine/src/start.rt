@@ -7,6 +7,7 @@ ghost use Rattle.tap_kept.specs.Starting.{first_unread};
 use crate::engine::Engine;
 use restart_core::Sound;
 use std::alloc::Global;
+use tap_base::HashKey;
 use tap_kept::{
     StartFault, Sums, cache_delivered, cache_filters, index_rows, owners_of, tally_votes,
 };
@@ -20,8 +21,9 @@ impl Engine {
     ghost use Rattle.tap_engine.specs.Standing.{Represents};
     ghost use Rattle.tap_engine.specs.Ready.{IsReady};
 
-    // Builds the engine from the parts of the tables. It looks at each row a fixed number of times.
-    fn build(alloc: Global, sound: Sound) -> Result<Engine, StartFault>
+    // Builds the engine from the parts of the tables. It looks at each row a fixed number of times, and hashes texts under this
+    // key.
+    fn build(alloc: Global, key: HashKey, sound: Sound) -> Result<Engine, StartFault>
         ensures represents { IfOk result (λ engine. Represents engine sound) }
         ensures session { IfOk result (λ engine. engine.session ≡ no_session) }
         ensures running { IfOk result (λ engine. engine.stopped ≡ false) }
@@ -31,7 +33,12 @@ impl Engine {
     {
         let (tables, conds) = sound.into_parts();
         let sums = Sums::of(&tables)?;
-        let owners = owners_of(alloc, tables.queries.as_slice(), tables.filters.as_slice())?;
+        let owners = owners_of(
+            alloc,
+            key,
+            tables.queries.as_slice(),
+            tables.filters.as_slice(),
+        )?;
         let Tables {
             docs,
             notes,
@@ -42,8 +49,8 @@ impl Engine {
         } = tables;
         let filters = cache_filters(alloc, filters)?;
         let queries = cache_delivered(alloc, queries, conds, runs.as_slice(), picks.as_slice())?;
-        let votes = tally_votes(alloc, notes.as_slice())?;
-        let (index, hits) = index_rows(alloc, docs, notes)?;
+        let votes = tally_votes(alloc, key, notes.as_slice())?;
+        let (index, hits) = index_rows(alloc, key, docs, notes)?;
         Ok(Engine {
             session: Session::new(),
             index,
@@ -60,10 +67,10 @@ impl Engine {
         })
     }
 
-    /// Makes an engine with a new session that represents sound tables. It looks at each row a fixed number of times. It
-    /// reports `Rules` with the first filter whose text has a fault if there is one, which is never over tables that a session
-    /// left; otherwise it fails only if it is out of memory.
-    pub fn start(alloc: Global, sound: Sound) -> Result<Engine, StartFault>
+    /// Makes an engine with a new session that represents sound tables. It looks at each row a fixed number of times, and hashes
+    /// texts under this key. It reports `Rules` with the first filter whose text has a fault if there is one, which is never over
+    /// tables that a session left; otherwise it fails only if it is out of memory.
+    pub fn start(alloc: Global, key: HashKey, sound: Sound) -> Result<Engine, StartFault>
         ensures represents { IfOk result (λ engine. Represents engine sound) }
         ensures session { IfOk result (λ engine. engine.session ≡ no_session) }
         ensures running { IfOk result (λ engine. engine.stopped ≡ false) }
@@ -72,6 +79,6 @@ impl Engine {
         ensures fault { IfErr result (λ fault. (fault ≡ Fault.Memory) ⊎ (option_map Fault.Rules (first_unread sound.filters) ≡ Some fault)) }
         ensures kept { IsStore sound → IfErr result (λ fault. fault ≡ Fault.Memory) }
     {
-        Engine::build(alloc, sound)
+        Engine::build(alloc, key, sound)
     }
 }

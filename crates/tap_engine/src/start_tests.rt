@@ -3,7 +3,7 @@
 use crate::Engine;
 use restart_core::check_tables;
 use std::alloc::Global;
-use tap_base::{DocNum, Memory, NoteNum, QueryNum, Text};
+use tap_base::{DocNum, HashKey, Memory, NoteNum, QueryNum, Text};
 use tap_kept::StartFault;
 use tap_rows::{Doc, FilterRow, Note, Pick, QueryRow, RunRow, Tables};
 
@@ -81,10 +81,10 @@ fn stored(alloc: Global, source: &[u8]) -> Result<Tables, Memory> {
 // if a row is damaged.
 fn started(alloc: Global, source: &[u8]) -> Result<Option<Result<(u32, u32), u32>>, Memory> {
     let tables = stored(alloc, source)?;
-    let Ok(sound) = check_tables(alloc, tables) else {
+    let Ok(sound) = check_tables(alloc, HashKey::fixed(), tables) else {
         return Ok(None);
     };
-    match Engine::start(alloc, sound) {
+    match Engine::start(alloc, HashKey::fixed(), sound) {
         Ok(engine) => Ok(Some(Ok((engine.docs(), engine.notes())))),
         Err(StartFault::Rules { num }) => Ok(Some(Err(num))),
         Err(StartFault::Memory) => Err(Memory),

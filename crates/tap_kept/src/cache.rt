@@ -19,7 +19,7 @@ use crate::planned_query::PlannedQuery;
 use crate::start_fault::StartFault;
 use appraiser::{RuleFault, read_rules};
 use std::alloc::Global;
-use tap_base::{Memory, Rows, Texts, WordSet};
+use tap_base::{HashKey, Memory, Rows, Texts, WordSet};
 use tap_rows::{FilterRow, Pick, QueryRow, RunRow};
 use tql_core::Cond;
 
@@ -122,9 +122,10 @@ fn push_filter_owners(owners: &mut Texts, filters: &[FilterRow]) -> Result<(), M
     Ok(())
 }
 
-/// Lists the different owners of queries and filters, each once.
+/// Lists the different owners of queries and filters, each once, looked up by their hashes under this key.
 pub fn owners_of(
     alloc: Global,
+    key: HashKey,
     queries: &[QueryRow],
     filters: &[FilterRow],
 ) -> Result<Texts, Memory>
@@ -133,5 +134,5 @@ pub fn owners_of(
     let mut owners = Texts::new(alloc);
     push_query_owners(&mut owners, queries)?;
     push_filter_owners(&mut owners, filters)?;
-    WordSet::of(alloc, &owners)?.into_texts()
+    WordSet::of(alloc, key, &owners)?.into_texts()
 }

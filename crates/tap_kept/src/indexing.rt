@@ -12,7 +12,7 @@ use mail_fields::keep;
 use query_eval::Hits;
 use row_index::RowIndex;
 use std::alloc::Global;
-use tap_base::{Memory, Rows};
+use tap_base::{HashKey, Memory, Rows};
 use tap_rows::{Doc, Note};
 
 // Adds documents after the others, with the values of their fields.
@@ -22,7 +22,7 @@ fn add_docs(alloc: Global, index: &mut RowIndex, docs: Rows<Doc>) -> Result<(), 
     ensures { OnOk result (index.new ≡ after index.old (Change.Docs docs)) }
 {
     for doc in docs.into_vec() {
-        index.add_doc(keep(alloc, doc)?)?;
+        index.add_doc(keep(alloc, index.key(), doc)?)?;
     }
     Ok(())
 }
@@ -38,10 +38,11 @@ fn add_notes(index: &mut RowIndex, notes: Rows<Note>) -> Result<(), Memory>
     Ok(())
 }
 
-/// Builds an index that owns these documents and notes, and room for a hit of each document, so that no run asks for memory
-/// to search.
+/// Builds an index that owns these documents and notes and hashes texts under this key, and room for a hit of each document, so
+/// that no run asks for memory to search.
 pub fn index_rows(
     alloc: Global,
+    key: HashKey,
     docs: Rows<Doc>,
     notes: Rows<Note>,
 ) -> Result<(RowIndex, Hits), Memory>
@@ -51,7 +52,7 @@ pub fn index_rows(
     ensures index { IfOk result (λ made. made.0 ≡ rows_alone docs notes) }
     ensures room { IfOk result (λ made. length made.0.docs ≤ made.1.room) }
 {
-    let mut index = RowIndex::new(alloc);
+    let mut index = RowIndex::with_key(alloc, key);
     add_docs(alloc, &mut index, docs)?;
     add_notes(&mut index, notes)?;
     let hits = Hits::with_room(alloc, index.docs())?;

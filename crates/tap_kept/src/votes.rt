@@ -4,7 +4,7 @@ ghost use Rattle.std.specs.Prelude.{◌≡◌, OnOk, OnErr, IfOk};
 ghost use Rattle.vote_scores.specs.Tally.{CanUndo, tally, undone, with_vote};
 
 use std::alloc::Global;
-use tap_base::Memory;
+use tap_base::{HashKey, Memory};
 use tap_rows::Note;
 use vote_scores::{Scores, Undo};
 
@@ -21,11 +21,11 @@ pub fn add_vote(votes: &mut Scores, note: &Note) -> Result<Undo, Memory>
     }
 }
 
-/// Adds up the votes of all notes.
-pub fn tally_votes(alloc: Global, notes: &[Note]) -> Result<Scores, Memory>
+/// Adds up the votes of all notes, hashed under this key.
+pub fn tally_votes(alloc: Global, key: HashKey, notes: &[Note]) -> Result<Scores, Memory>
     ensures { IfOk result (λ votes. votes ≡ tally notes.now) }
 {
-    let mut votes = Scores::new(alloc);
+    let mut votes = Scores::with_key(alloc, key);
     for note in notes {
         add_vote(&mut votes, note)?;
     }

@@ -15,6 +15,7 @@ use crate::StoreFault;
 use keeper_core::{AttachFault, Keeper};
 use restart_core::{RestartFault, TableName, Why, check_tables};
 use std::alloc::Global;
+use tap_base::HashKey;
 use tap_engine::{Engine, StartFault};
 use tap_rows::Tables;
 
@@ -30,7 +31,7 @@ pub enum OpenFault {
 }
 
 // Checks the tables of a store, and starts an engine over them.
-fn start(alloc: Global, tables: Tables) -> Result<Engine, OpenFault>
+fn start(alloc: Global, key: HashKey, tables: Tables) -> Result<Engine, OpenFault>
     ensures can { IfOk result (λ engine. CanPerform engine true false) }
     ensures session { IfOk result (λ engine. engine.session ≡ no_session) }
     ensures represents { IfOk result (λ engine. Represents engine tables) }
@@ -38,14 +39,14 @@ fn start(alloc: Global, tables: Tables) -> Result<Engine, OpenFault>
     ensures refused { IfRefused result (λ fault. row_fault tables ≡ Some fault) }
     ensures asked { IsErrOf result OpenFault.Keeper → ⊥ }
 {
-    let sound = match check_tables(alloc, tables) {
+    let sound = match check_tables(alloc, key, tables) {
         Ok(sound) => sound,
         Err(RestartFault::Damaged { table, num, why }) => {
             return Err(OpenFault::Refused(StoreFault::Damaged { table, num, why }));
         }
         Err(RestartFault::Memory) => return Err(OpenFault::Memory),
     };
-    match Engine::start(alloc, sound) {
+    match Engine::start(alloc, key, sound) {
         Ok(engine) => Ok(engine),
         Err(StartFault::Rules { num }) => Err(OpenFault::Refused(StoreFault::Damaged {
             table: TableName::Filters,
@@ -56,9 +57,10 @@ fn start(alloc: Global, tables: Tables) -> Result<Engine, OpenFault>
     }
 }
 
-/// Attaches the store at a place, checks its tables, and starts an engine over them.
+/// Attaches the store at a place, checks its tables, and starts an engine over them, which hashes texts under this key.
 pub fn open_store<P: Keeper>(
     alloc: Global,
+    key: HashKey,
     place: &str,
     keeper: &mut P,
 ) -> Result<Engine, OpenFault>
@@ -81,7 +83,7 @@ pub fn open_store<P: Keeper>(
     ensures honest { P.honest keeper.new → P.honest keeper.old }
 {
     match keeper.attach(alloc, place) {
-        Ok(tables) => start(alloc, tables),
+        Ok(tables) => start(alloc, key, tables),
         Err(AttachFault::Alien { version }) => {
             Err(OpenFault::Refused(StoreFault::Version { version }))
         }

@@ -24,7 +24,7 @@ use sample_gen::{Summary, sample};
 use script_lang::{Command, Refusal, Reply};
 use std::alloc::Global;
 use std::sync::ledger::Ledger;
-use tap_base::{Rows, Steps};
+use tap_base::{HashKey, Rows, Steps};
 use tap_edges::Sink;
 use tap_engine::{Engine, EngineFault};
 
@@ -221,6 +221,7 @@ fn sample_with<K: Sink, P: Keeper, L: Ledger>(
 /// summary; returns the status of the run. No replies are put.
 pub fn sample_store<K: Sink, P: Keeper, L: Ledger>(
     alloc: Global,
+    key: HashKey,
     place: &str,
     n: u32,
     sink: &mut K,
@@ -254,7 +255,7 @@ pub fn sample_store<K: Sink, P: Keeper, L: Ledger>(
     ensures statuses { result ≤ 1 ⊎ (result ≡ 4 ⊎ (result ≡ 5 ⊎ (result ≡ 6 ⊎ result ≡ 7))) }
     ensures place { (result ≡ 7) ⊎ (P.place keeper.new ≡ place.now) }
 {
-    match open_store(alloc, place, keeper) {
+    match open_store(alloc, key, place, keeper) {
         Ok(engine) => sample_with(alloc, n, sink, engine, keeper, steps),
         Err(OpenFault::Refused(fault)) => refuse(fault, sink),
         Err(OpenFault::Keeper) => 5,

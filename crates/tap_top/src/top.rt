@@ -31,7 +31,7 @@ use keeper_core::Keeper;
 use script_lang::ScriptReader;
 use std::alloc::Global;
 use std::sync::ledger::Ledger;
-use tap_base::{Steps, Text, Texts};
+use tap_base::{HashKey, Steps, Text, Texts};
 use tap_edges::{Sink, Source};
 use tap_engine::Engine;
 
@@ -181,6 +181,7 @@ fn run_with<S: Source, K: Sink, P: Keeper, L: Ledger>(
 // Attaches the keeper at a place, checks its tables, and performs the commands of the source; returns the status of the run.
 fn run_store<S: Source, K: Sink, P: Keeper, L: Ledger>(
     alloc: Global,
+    key: HashKey,
     place: &str,
     source: &mut S,
     sink: &mut K,
@@ -221,7 +222,7 @@ fn run_store<S: Source, K: Sink, P: Keeper, L: Ledger>(
     ensures statuses { (result ≤ 8) × (result ≢ 2) }
     ensures place { (result ≡ 7) ⊎ (P.place keeper.new ≡ place.now) }
 {
-    match open_store(alloc, place, keeper) {
+    match open_store(alloc, key, place, keeper) {
         Ok(engine) => run_with(alloc, source, sink, engine, keeper, steps),
         Err(OpenFault::Refused(fault)) => refuse(fault, sink),
         Err(OpenFault::Keeper) => 5,
@@ -240,7 +241,8 @@ fn as_str(text: &Text) -> &str
 /// Runs the mail filter: reads the words of the command line, attaches the keeper at the place that they name, checks its
 /// tables, and performs the commands of the source. It reads pieces of at most 65,536 bytes, performs each command when its
 /// last line is read, and puts its reply before the next command. If the words ask for a sample, its commands are performed
-/// in place of the source's, no reply is put, and the lines of its summary are put at the end.
+/// in place of the source's, no reply is put, and the lines of its summary are put at the end. No reply depends on the key,
+/// under which texts are hashed.
 ///
 /// Returns the status:
 /// - 0: all commands were performed, and every reply begins `ok`;
@@ -254,6 +256,7 @@ fn as_str(text: &Text) -> &str
 /// - 8: the script has more than 268,435,456 bytes.
 pub fn tapestry<S: Source, K: Sink, P: Keeper, L: Ledger>(
     alloc: Global,
+    key: HashKey,
     words: &Texts,
     source: &mut S,
     sink: &mut K,
@@ -329,7 +332,7 @@ pub fn tapestry<S: Source, K: Sink, P: Keeper, L: Ledger>(
     };
     let place = as_str(&asked.place);
     match asked.sample {
-        Some(n) => sample_store(alloc, place, n, sink, keeper, steps),
-        None => run_store(alloc, place, source, sink, keeper, steps),
+        Some(n) => sample_store(alloc, key, place, n, sink, keeper, steps),
+        None => run_store(alloc, key, place, source, sink, keeper, steps),
     }
 }

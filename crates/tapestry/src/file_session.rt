@@ -20,7 +20,7 @@ use keeper_core::Keeper;
 use keeper_file::{FileKeeper, PathOpener};
 use sqlite::{FileFrom, FileStore, Start};
 use std::sync::ledger::{Blank, Ledger};
-use tap_base::{Steps, Texts};
+use tap_base::{HashKey, Steps, Texts};
 use tap_edges::{Sink, Source};
 use tap_top::tapestry;
 
@@ -68,7 +68,9 @@ pub fn run_on_files<'a, I: Source, K: Sink, S: Start, L: Ledger>(
 {
     let mut steps = Steps::<L>::start(blank);
     let mut keeper = FileKeeper::new(PathOpener::new(rt, start));
-    let status = tapestry(rt.alloc(), words, source, sink, &mut keeper, &mut steps);
+    let alloc = rt.alloc();
+    let key = HashKey::draw(rt);
+    let status = tapestry(alloc, key, words, source, sink, &mut keeper, &mut steps);
     (status, keeper)
 }
 

@@ -20,7 +20,7 @@ use keeper_file::{FileKeeper, PathOpener};
 use pop_box::serve;
 use sqlite::{FileFrom, FileStore, Start};
 use std::sync::ledger::{Blank, Ledger};
-use tap_base::{Steps, Texts};
+use tap_base::{HashKey, Steps, Texts};
 use tap_edges::{Sink, Source};
 
 /// Serves the box that the words name, over the files that they name, which held what `S` says. Returns the status, and the
@@ -60,7 +60,9 @@ pub fn run_on_files<'a, I: Source, K: Sink, S: Start, L: Ledger>(
 {
     let mut steps = Steps::<L>::start(blank);
     let mut keeper = FileKeeper::new(PathOpener::new(rt, start));
-    let status = serve(rt.alloc(), words, source, sink, &mut keeper, &mut steps);
+    let alloc = rt.alloc();
+    let key = HashKey::draw(rt);
+    let status = serve(alloc, key, words, source, sink, &mut keeper, &mut steps);
     (status, keeper)
 }
 

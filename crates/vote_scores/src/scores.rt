@@ -13,13 +13,13 @@ use crate::vote_key::VoteKey;
 use indexmap::IndexMap;
 use std::alloc::Global;
 use std::marker::Model;
-use tap_base::{Memory, Rows};
+use tap_base::{HashKey, Memory, Rows};
 use tap_rows::Note;
 
 /// The vote of each author on each document, kind by kind, in order of the first such note. A vote is looked up by its hash.
 #[derive(Drop)]
 pub struct Scores {
-    votes: IndexMap<VoteKey, i64>,
+    votes: IndexMap<VoteKey, i64, HashKey>,
 }
 
 impl Model for Scores {
@@ -60,12 +60,19 @@ fn count_if(counts: &mut Counts, kind: &[u8], key: &VoteKey, value: i64) -> Resu
 }
 
 impl Scores {
-    /// Returns no votes.
+    /// Returns no votes, to be hashed under the fixed key.
     pub fn new(alloc: Global) -> Scores
         ensures { result ≡ [] }
     {
+        Scores::with_key(alloc, HashKey::fixed())
+    }
+
+    /// Returns no votes, to be hashed under this key.
+    pub fn with_key(alloc: Global, key: HashKey) -> Scores
+        ensures { result ≡ [] }
+    {
         Scores {
-            votes: IndexMap::new(alloc),
+            votes: IndexMap::with_hasher(alloc, key),
         }
     }
 
