@@ -96,7 +96,7 @@ enum Ended {
 }
 
 // Stops the second session of a store after so many calls of each file.
-fn ended(alloc: Global, log: u64, db: u64) -> Result<Ended, Memory> {
+fn outcome(alloc: Global, log: u64, db: u64) -> Result<Ended, Memory> {
     let first = first_changes(alloc)?;
     let second = second_changes(alloc)?;
     let Some((_none, files)) = session(alloc, new_files(alloc), &first) else {
@@ -121,15 +121,15 @@ fn ended(alloc: Global, log: u64, db: u64) -> Result<Ended, Memory> {
 // Returns the number of calls at which the session was stopped, until it ended without a stop; 0 if something is wrong.
 fn right_stops(alloc: Global, in_log: bool) -> Result<u64, Memory> {
     for calls in 0..1000u64 {
-        let ended = if in_log {
-            ended(alloc, calls, u64::MAX)?
+        let got = if in_log {
+            outcome(alloc, calls, u64::MAX)?
         } else {
-            ended(alloc, u64::MAX, calls)?
+            outcome(alloc, u64::MAX, calls)?
         };
-        if ended == Ended::Whole {
+        if got == Ended::Whole {
             return Ok(calls);
         }
-        if ended == Ended::Wrong {
+        if got == Ended::Wrong {
             return Ok(0);
         }
     }

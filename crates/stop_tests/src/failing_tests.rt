@@ -71,7 +71,7 @@ impl Case {
         for n in 0..self.prefixes.written.len() {
             is_right = is_right || self.prefixes.is_after(n, n, &left.written, &left.probe);
         }
-        Ok(ended(left.status == 3 && is_right))
+        Ok(outcome(left.status == 3 && is_right))
     }
 
     // Returns how a run ends whose put of this number fails after so many bytes.
@@ -82,7 +82,7 @@ impl Case {
         if left.status < 2 {
             return Ok(Ended::NoCall);
         }
-        Ok(ended(left.status == 4 && self.prefixes.is_within(&left.written, &left.probe)))
+        Ok(outcome(left.status == 4 && self.prefixes.is_within(&left.written, &left.probe)))
     }
 
     // Returns how a run ends whose call of the keeper of this number fails: the command that made it is not answered, and
@@ -101,12 +101,12 @@ impl Case {
             let then = n.saturating_add(more);
             is_right = is_right || self.prefixes.is_after(n, then, &left.written, &left.probe);
         }
-        Ok(ended(left.status == 5 && is_right))
+        Ok(outcome(left.status == 5 && is_right))
     }
 }
 
 // Returns how a run ended whose call failed.
-fn ended(is_right: bool) -> Ended {
+fn outcome(is_right: bool) -> Ended {
     if is_right { Ended::Right } else { Ended::Wrong }
 }
 
@@ -122,15 +122,15 @@ enum Calls {
 fn right_ends(alloc: Global, number: u8, calls: Calls) -> Result<u64, Memory> {
     let case = case(alloc, number)?;
     for call in 0..100u64 {
-        let ended = match calls {
+        let got = match calls {
             Calls::Reads => case.read_fails(alloc, call)?,
             Calls::Puts(out) => case.put_fails(alloc, call, out)?,
             Calls::Keeps(kept) => case.keep_fails(alloc, call, kept)?,
         };
-        if ended == Ended::NoCall {
+        if got == Ended::NoCall {
             return Ok(call);
         }
-        if ended == Ended::Wrong {
+        if got == Ended::Wrong {
             return Ok(0);
         }
     }
