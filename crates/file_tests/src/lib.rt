@@ -2,6 +2,8 @@
 #![tactic(auto)]
 
 #[cfg(test)]
+mod fuse_tests;
+#[cfg(test)]
 mod place_tests;
 #[cfg(test)]
 mod session_tests;

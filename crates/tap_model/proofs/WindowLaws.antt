@@ -37,7 +37,7 @@ use Rattle.time_marks.specs.Probes.{Probe, meaning_without, least}
 use Rattle.monotone_rewrite.proofs.Windows.{distinct_is_union}
 use Rattle.restart_core.specs.Starts.{is_from_now, condition_text}
 use Rattle.tap_model.specs.Queries.{or_never, condition_in, condition_by, truth_of, start_of, probes_in, hits_of}
-use Rattle.tap_model.specs.WindowRuns.{is_delivered, asked_rows, found_since, RunsAreWindows}
+use Rattle.tap_model.specs.WindowRuns.{is_delivered, asked_rows, found_since, was_given, IsFreshUnseen, UnseenIsFresh, RunsAreWindows}
 
 -- two tests that pass alike
 both-same : (a b : Bool) → (a ≡ true → b ≡ true) → (b ≡ true → a ≡ true) → a ≡ b
@@ -309,6 +309,30 @@ not-early low x earlier place stands le =
 start-positive : (query : QueryRow) → pos 0 ≤ℤ query.arrival → pos 0 ≤ℤ start_of query
 unfolding start_of
 start-positive query le = elim (is_from_now query.source) as (λ b. pos 0 ≤ℤ (if b then query.arrival else pos 0)) [ true ↦ le | false ↦ omega (arith, ints) ]
+
+-- no document was given before the start
+none-before : (query : QueryRow) (tables : Tables) (d : Doc) → false ≡ was_given query tables (start_of query) d
+none-before query tables d = go (first_second (truth_of query) tables d (start_of query) (start_of query)) refl where
+  go : (o : Option ℤ) → first_second (truth_of query) tables d (start_of query) (start_of query) ≡ o → false ≡ is_some o
+  go None e = refl
+  go (Some f) e =
+      let at = least_second-within (is_given (truth_of query) tables d) (start_of query) (start_of query) f e in
+      absurd (omega (arith, ints, at.0, at.1))
+
+pub unseen-is-fresh : UnseenIsFresh
+unseen-is-fresh query tables positive zero =
+    let union = distinct_is_union (condition_by query) (start_of query) (is-query (condition_text query.source)) positive in
+    let unseen : (seen : Doc → Bool) (from until : ℤ) → start_of query ≤ℤ from → from ≤ℤ until
+          → ((doc : Doc) → In doc tables.docs → seen doc ≡ was_given query tables from doc)
+          → meaning_without seen (probes_in query) tables (record { low = from; high = until })
+            ≡ fresh_in (truth_of query) tables (start_of query) from until
+        = λ seen from until late le same.
+          same-without seen (was_given query tables from) (probes_in query) tables (record { low = from; high = until }) same
+          ∙ union.since tables from until zero late le in
+    record {
+      unseen = unseen;
+      first = λ until le. unseen (λ _. false) (start_of query) until (omega (arith, ints)) le (λ d has. none-before query tables d);
+    }
 
 pub run-is-window : (tables : Tables) (query : QueryRow) (moment : ℤ) → IsKeptQuery truth_of start_of tables query → Arrived 1 (pos 0) tables.docs → pos 0 ≤ℤ start_of query
     → covered (start_of query) query.num.0 tables.runs ≤ℤ moment → found_since query tables moment ≡ hits_of query tables moment

@@ -1,8 +1,11 @@
 -- The limits, how much is stored, and which limit a command would pass.
-use Rattle.std.specs.Prelude.{ℕ, ◌+◌, List, [], ◌∷◌, ◌++◌, length, map, filter, ◌==◌, ◌||◌, nat_le, Option, Some, None, sum_by}
+use Rattle.std.specs.Prelude.{◌≡◌, ℕ, ◌+◌, List, [], ◌∷◌, ◌++◌, length, map, filter, ◌==◌, ◌||◌, nat_le, Option, Some, None, sum_by}
 use Rattle.std.specs.Prelude.{if◌then◌else◌}
 use Rattle.std.specs.Str.{bytes_eq}
 use Rattle.tap_base.specs.Words.{holds}
+use Rattle.tap_base.specs.declared.moments.TheConstants.{LAST_MOMENT}
+use Rattle.tap_rows.specs.declared.tables.TheConstants.{MESSAGE_LIMIT}
+use Rattle.mail_lines.specs.declared.line.TheConstants.{LINE_LIMIT}
 use Rattle.tap_rows.specs.declared.tables.Tables.{Tables}
 use Rattle.script_lang.specs.declared.refusal.Refusal.{Refusal}
 use Rattle.script_lang.specs.declared.refusal.Refusal.TheVariants.{Limit}
@@ -74,3 +77,9 @@ new_users user tables = if holds (owners_in tables) user then 0 else 1
 -- the limit, if so many more would pass it; none more pass no limit
 abbrev pub limit_refusal : LimitName → ℕ → ℕ → ℕ → Option Refusal
 limit_refusal name limit count more = if (more == 0) || nat_le (count + more) limit then None else Some (Limit name)
+
+-- the limits that definitions name by a constant, as numbers: the last moment, and the most bytes of a stored text and of a line
+pub record ConstantLimits : Type 0 where
+  pub moment : LAST_MOMENT ≡ 250000000000
+  pub message : MESSAGE_LIMIT ≡ message_limit
+  pub line : LINE_LIMIT ≡ 1048576

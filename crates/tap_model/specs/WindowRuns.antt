@@ -1,5 +1,5 @@
 -- Runs by the window query.
-use Rattle.std.specs.Prelude.{◌≡◌, ℤ, pos, ◌≤ℤ◌, List, Bool, nat_eq}
+use Rattle.std.specs.Prelude.{◌≡◌, ℤ, pos, ◌≤ℤ◌, List, Bool, false, is_some, nat_eq}
 use Rattle.std.specs.List.{list_any}
 use Rattle.tap_base.specs.declared.moments.TheConstants.{LAST_MOMENT}
 use Rattle.tap_rows.specs.declared.tables.Tables.{Tables}
@@ -8,13 +8,14 @@ use Rattle.tap_rows.specs.declared.rows.QueryRow.{QueryRow}
 use Rattle.tap_rows.specs.declared.results.Entry.{Entry}
 use Rattle.tap_rows.specs.declared.results.Hit.{Hit}
 use Rattle.tap_rows.specs.Tables.{no_rows}
-use Rattle.tap_rows.specs.Results.{covered}
+use Rattle.tap_rows.specs.Results.{covered, first_second, fresh_in}
 use Rattle.tap_rows.specs.Deliveries.{delivered}
 use Rattle.tap_rows.specs.Kept.{In}
 use Rattle.time_marks.specs.Probes.{meaning_without}
+use Rattle.monotone_rewrite.specs.Laws.{FromZero}
 use Rattle.wake_plan.specs.Wakes.{next_wake}
 use Rattle.tap_model.specs.declared.session.Session.{Session}
-use Rattle.tap_model.specs.Queries.{start_of, probes_in, hits_of}
+use Rattle.tap_model.specs.Queries.{truth_of, start_of, probes_in, hits_of}
 use Rattle.tap_model.specs.Sound.{IsMoment, IsSound}
 use Rattle.tap_model.specs.Wakes.{wake_moment}
 
@@ -44,3 +45,21 @@ abbrev pub RunsAreWindows : Type 0
 RunsAreWindows =
     (tables : Tables) (session : Session) (query : QueryRow) (moment : ℤ) → IsSound tables session → In query tables.queries
     → covered (start_of query) query.num.0 tables.runs ≤ℤ moment → found_since query tables moment ≡ hits_of query tables moment
+
+-- the document was given before this moment
+abbrev pub was_given : QueryRow → Tables → ℤ → Doc → Bool
+was_given query tables moment doc = is_some (first_second (truth_of query) tables doc (start_of query) moment)
+
+-- over any tables: what the window query finds from a moment on, without the documents that were given before it, is what
+-- is fresh; and from the query's start on nothing was given before, so without leaving out any
+pub record IsFreshUnseen (query : QueryRow) (tables : Tables) : Type 0 where
+  pub unseen : (seen : Doc → Bool) (from until : ℤ) → start_of query ≤ℤ from → from ≤ℤ until
+      → ((doc : Doc) → In doc tables.docs → seen doc ≡ was_given query tables from doc)
+      → meaning_without seen (probes_in query) tables (record { low = from; high = until })
+        ≡ fresh_in (truth_of query) tables (start_of query) from until
+  pub first : (until : ℤ) → start_of query ≤ℤ until
+      → meaning_without (λ _. false) (probes_in query) tables (record { low = start_of query; high = until })
+        ≡ fresh_in (truth_of query) tables (start_of query) (start_of query) until
+
+abbrev pub UnseenIsFresh : Type 0
+UnseenIsFresh = (query : QueryRow) (tables : Tables) → pos 0 ≤ℤ start_of query → FromZero tables → IsFreshUnseen query tables

@@ -1,6 +1,7 @@
 //! Laws of stories.
 ghost use Rattle.tap_model.specs.Laws.{StepsAreSound, AcceptedChangesFit, SessionsLeaveStores, StepsLeadToNextTables, StoresAreBoxed, AnswersAreNotMemory};
-ghost use Rattle.tap_model.specs.WindowRuns.{RunsAreWindows, WakesAreWindows};
+ghost use Rattle.tap_model.specs.Limits.{ConstantLimits};
+ghost use Rattle.tap_model.specs.WindowRuns.{RunsAreWindows, UnseenIsFresh, WakesAreWindows};
 ghost use Rattle.tap_model.specs.PrivacyLaws.{SameDeedSameReply, OthersLeaveTheView, SameDeedsSameReplies};
 
 /// Shows that each step of a story leads from a sound point to a sound point. Above all, what each query has delivered then
@@ -65,9 +66,21 @@ pub fn runs_are_windows()
     ensures { RunsAreWindows }
 {}
 
+/// Shows what a window query finds over any tables without the documents that were seen, if these are the ones that were
+/// given before the window: what is fresh. Nothing was given before the query's start, so from there on it finds all.
+pub fn what_is_unseen_is_fresh()
+    ensures { UnseenIsFresh }
+{}
+
 /// Shows that the earliest moment at which a run delivers follows from the least second that the query's window query finds
 /// since its last run, without what it has delivered already: the second after that one, or now if now is later. So nobody
 /// need try each moment.
 pub fn wakes_are_windows()
     ensures { WakesAreWindows }
+{}
+
+/// Shows which numbers the limits are that definitions name by a constant of the code: a moment has at most 250,000,000,000
+/// seconds, a text and a line at most 1,048,576 bytes.
+pub fn limits_are_numbers()
+    ensures { ConstantLimits }
 {}

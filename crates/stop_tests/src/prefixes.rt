@@ -1,0 +1,73 @@
+//! What the first commands of a script give, for each number of them.
+use crate::scripts::text_of;
+use crate::sessions::{left_by, no_failure};
+use std::alloc::Global;
+use tap_base::{Memory, Text, Texts};
+use tap_rows::Tables;
+
+/// What the first commands of a script write, and what a session after them shows: item `n` of each is of the first `n`.
+#[derive(Drop)]
+pub struct Prefixes {
+    pub written: Texts,
+    pub probes: Texts,
+}
+
+// Appends what these commands give.
+fn push_prefix(
+    alloc: Global,
+    base: &Tables,
+    commands: &[&[u8]],
+    into: &mut Prefixes,
+) -> Result<(), Memory> {
+    let script = text_of(alloc, commands)?;
+    let left = left_by(alloc, base, script.as_slice(), 100, no_failure(alloc))?;
+    into.written.push(left.written)?;
+    into.probes.push(left.probe)
+}
+
+impl Prefixes {
+    /// Runs each number of first commands over these tables.
+    pub fn of(alloc: Global, base: &Tables, commands: &[&[u8]]) -> Result<Prefixes, Memory> {
+        let mut all = Prefixes {
+            written: Texts::new(alloc),
+            probes: Texts::new(alloc),
+        };
+        for n in 0..commands.len() {
+            push_prefix(alloc, base, &commands[..n], &mut all)?;
+        }
+        push_prefix(alloc, base, commands, &mut all)?;
+        Ok(all)
+    }
+
+    // Tells whether a session shows what it shows after the first `n` commands.
+    pub fn shows(&self, n: usize, probe: &Text) -> bool {
+        match self.probes.as_slice().get(n) {
+            Some(want) => want == probe,
+            None => false,
+        }
+    }
+
+    /// Tells whether a run wrote what the first `n` commands write, and shows what it shows after `then` of them.
+    pub fn is_after(&self, n: usize, then: usize, written: &Text, probe: &Text) -> bool {
+        match self.written.as_slice().get(n) {
+            Some(want) => want == written && self.shows(then, probe),
+            None => false,
+        }
+    }
+
+    /// Tells whether a run wrote the first bytes of what all commands write, and shows what it shows after the commands
+    /// whose replies were put whole, or after one more.
+    pub fn is_within(&self, written: &Text, probe: &Text) -> bool {
+        let mut whole = 0;
+        for (n, some) in self.written.as_slice().iter().enumerate() {
+            if some.as_slice().len() <= written.as_slice().len() {
+                whole = n;
+            }
+        }
+        let is_start = match self.written.as_slice().last() {
+            Some(all) => all.as_slice().starts_with(written.as_slice()),
+            None => false,
+        };
+        is_start && (self.shows(whole, probe) || self.shows(whole.saturating_add(1), probe))
+    }
+}

@@ -1,0 +1,78 @@
+//! The scripts of the tests, command by command.
+use std::alloc::Global;
+use tap_base::{Memory, Text};
+
+/// A script, as its commands, each with its LF.
+pub type Script = [&'static [u8]; 16];
+
+/// A first session: a query, two messages and two runs.
+pub const FIRST: Script = [
+    b"as ann\n",
+    b"at 100\n",
+    b"query q m.words HAS 'hi'\n",
+    b"mail\nSubject: hi\n\n.\n",
+    b"at 101\n",
+    b"run q\n",
+    b"at 110\n",
+    b"mail\nSubject: hi\n\n.\n",
+    b"at 111\n",
+    b"run q\n",
+    b"",
+    b"",
+    b"",
+    b"",
+    b"",
+    b"",
+];
+
+/// A second session over what the first left.
+pub const SECOND: Script = [
+    b"as ann\n",
+    b"at 111\n",
+    b"at 120\n",
+    b"mail\nSubject: hi\n\n.\n",
+    b"at 121\n",
+    b"run q\n",
+    b"box q\n",
+    b"",
+    b"",
+    b"",
+    b"",
+    b"",
+    b"",
+    b"",
+    b"",
+    b"",
+];
+
+/// Two users with a query each.
+pub const TWO_USERS: Script = [
+    b"as ann\n",
+    b"at 100\n",
+    b"query q m.words HAS 'hi'\n",
+    b"mail\nSubject: hi\n\n.\n",
+    b"as bob\n",
+    b"query q m.words HAS 'yo'\n",
+    b"at 101\n",
+    b"as ann\n",
+    b"run q\n",
+    b"as bob\n",
+    b"run q\n",
+    b"box q\n",
+    b"box z\n",
+    b"as ann\n",
+    b"box q\n",
+    b"",
+];
+
+/// Shows the boxes of both users, and the number of the next document.
+pub const PROBE: &[u8] = b"as ann\nbox q\nas bob\nbox q\nmail\n\n.\n";
+
+/// Returns the text of some commands.
+pub fn text_of(alloc: Global, commands: &[&[u8]]) -> Result<Text, Memory> {
+    let mut text = Text::new(alloc);
+    for command in commands {
+        text.push_slice(command)?;
+    }
+    Ok(text)
+}
