@@ -1,6 +1,6 @@
 //! A store whose machine stops at each call of a file in turn: what is found again has the rows that were acknowledged, or
 //! those of one commit more.
-ghost use Rattle.std.specs.Prelude.{◌≡◌, true, false, IsTrue, IfSome};
+ghost use Rattle.std.specs.Prelude.{◌≡◌, false};
 
 use crate::session_tests::{
     apply_all, first_changes, new_files, same_tables, second_changes, session,

@@ -20,7 +20,7 @@ module _ {A B : Type 0} (f : A → ℤ) (g : B → ℤ) (h : A → B) where
       let a = and_parts (int_le low (f x)) (list_all (λ y. int_le low (f y)) xs) k in
       rw (e.0, a.0) (all_mapped low xs e.1 a.1)
 
-  -- seconds that never fall, of what stands for the rows
+  -- seconds that never fall, of what represents the rows
   pub rising_mapped : (xs : List A) → Each (λ x. g (h x) ≡ f x) xs → Rising f xs → Rising g (map h xs)
   rising_mapped [] e r = tt
   rising_mapped (x ∷ xs) e r = (rw e.0 (all_mapped (f x) xs e.1 r.0), rising_mapped xs e.1 r.1)

@@ -158,13 +158,6 @@ impl RowIndex {
         Walk::placed(&self.docs, self.places.texts.word.under(text))
     }
 
-    /// Returns the documents that have the text, of this kind, by one look-up.
-    pub fn by_text(&self, kind: TextKind, text: &[u8]) -> DocWalk<'_>
-        ensures { result ≡ with_text (texts_of kind) text.now self.now.docs }
-    {
-        Walk::placed(&self.docs, self.places.texts.under(kind, text))
-    }
-
     /// Returns the documents that have the text, of this kind, and that arrived from `low` up to but not at `high`: by one
     /// look-up, and two halvings of its posting list.
     pub fn by_text_arrived(
