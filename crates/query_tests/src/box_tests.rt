@@ -1,6 +1,6 @@
 //! Tests of adding and removing deliveries.
 
-use crate::LittleBox;
+use little_box::LittleBox;
 use tap_base::{DocNum, Memory};
 use tap_rows::Entry;
 

@@ -78,7 +78,7 @@ fn arrival(var: u8) -> Term {
 fn plans(alloc: Global, query: RangedQuery, order: &Rows<Reach>) -> Result<bool, Memory> {
     let planned = plan(alloc, query)?;
     match planned.orders.as_slice() {
-        [found] => Ok(found == order),
+        [found] => Ok(*found == *order),
         _ => Ok(false),
     }
 }

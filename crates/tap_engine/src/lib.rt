@@ -31,6 +31,3 @@ pub use fault::EngineFault;
 pub use prepared::Prepared;
 pub use tap_kept::StartFault;
 pub use undo::Undo;
-
-#[cfg(test)]
-mod start_tests;
