@@ -1,6 +1,6 @@
 //! Tests of sessions.
 ghost use Rattle.std.specs.Prelude.{◌≡◌, ◌<◌, ◌≤◌, length, IfOk};
-ghost use Rattle.pop_session.specs.Sessions.{AreBounded, IsReady};
+ghost use Rattle.pop_session.specs.Sessions.{AreShort, IsReady};
 
 use pop_session::{Letter, PopSession};
 use std::alloc::Global;
@@ -10,7 +10,7 @@ use tap_edges::{MemSink, PutPlan};
 
 // Returns two letters, of the documents 1 and 20. A line of the second begins with a dot.
 fn letters(alloc: Global) -> Result<Vec<Letter>, Memory>
-    ensures { IfOk result (λ letters. AreBounded letters.items) }
+    ensures { IfOk result (λ letters. AreShort letters.items) }
 {
     let first = Letter {
         doc: DocNum(1),
@@ -58,7 +58,7 @@ fn run(
     size: usize,
     fails: Vec<PutPlan>,
 ) -> Result<Text, Memory>
-    requires letters { AreBounded letters.now }
+    requires letters { AreShort letters.now }
     requires some { 0 < size }
 {
     let mut sink = MemSink::new(alloc, 4096, fails)?;

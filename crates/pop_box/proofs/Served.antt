@@ -1,15 +1,13 @@
 -- How a box was served, by what each call says.
-use Rattle.std.proofs.Common.{◌≡◌, ◌≢◌, ◌∙◌, sym, ap, refl, subst, arith, ℕ, ℤ, List, length, Option, Some, None, inl, inr, ◌≤◌}
+use Rattle.std.proofs.Common.{◌≡◌, ◌≢◌, refl, subst, arith, ℕ, ℤ, List, Option, Some, None, inl, inr, ◌≤◌}
 use Rattle.std.specs.Prelude.{◌⊎◌}
-use Rattle.std.specs.Io.KnownBytes.{Appends}
-use Rattle.std.proofs.Math.Seq.{take-length}
-use Rattle.tap_base.specs.Counts.{Rose}
+use Rattle.std.specs.Io.KnownBytes.{IsAtEnd}
 use Rattle.tap_rows.specs.declared.tables.Tables.{Tables}
-use Rattle.tap_top.specs.Premises.{IfKnown, IsCalm}
+use Rattle.tap_top.specs.Premises.{IfKnown}
 use Rattle.pop_session.specs.declared.letter.Letter.{Letter}
 use Rattle.pop_session.specs.Ends.{IsSession, LettersEnd}
 use Rattle.pop_box.specs.Letters.{letters_in}
-use Rattle.pop_box.specs.Served.{BoxLine, NoBox, BoxServed, LettersServed, IsUnserved, IsUndisturbed, Served, Unchanged}
+use Rattle.pop_box.specs.Served.{BoxLine, BoxServed, LettersServed, IsUnserved, Served, TookQuit}
 
 -- nothing was served, and nothing written
 pub unserved : (status : ℕ) (found : Option (List Letter)) (user secret : List ℕ) (left left' out out' : Option (List ℕ)) (versions : ℤ → Type 0) → IsUnserved status → (status ≡ 4 → ⊥) → left' ≡ left → out' ≡ out → Served status found user secret left left' out out' versions
@@ -102,3 +100,12 @@ served-words status t user user' name name' secret secret' left left' out out' v
     subst (λ x. Served status (letters_in user' name' t) user' x left left' out out' versions) s
     (subst (λ x. Served status (letters_in user' x t) user' secret left left' out out' versions) n
     (subst (λ x. Served status (letters_in x name t) x secret left left' out out' versions) u served))
+
+-- a session that ended by QUIT took one, and one that ended with the input is at its end
+pub took-quit : (status : ℕ) (letters : List Letter) (user user' secret secret' : List ℕ) (left left' out out' : Option (List ℕ)) → user ≡ user' → secret ≡ secret' → LettersEnd status user secret letters left left' out out' → status ≡ 0 → TookQuit user' secret' left left'
+took-quit status letters user user' secret secret' left left' out out' u s ends is =
+    let quit = ends.quit is in
+    subst (λ x. TookQuit user' x left left') s (subst (λ x. TookQuit x secret left left') u (record { taken = quit.taken; quit = quit.quit }))
+
+pub at-end : (status : ℕ) (letters : List Letter) (user secret : List ℕ) (left left' out out' : Option (List ℕ)) → LettersEnd status user secret letters left left' out out' → status ≡ 1 → IsAtEnd left'
+at-end status letters user secret left left' out out' ends is = (ends.ended is).1

@@ -1,5 +1,5 @@
 -- The letters of a box.
-use Rattle.std.specs.Prelude.{ℕ, ◌≤◌, List, [], ◌∷◌, length, Option, Some, None}
+use Rattle.std.specs.Prelude.{ℕ, List, [], ◌∷◌, Option, Some, None}
 use Rattle.std.specs.List.{flat_map}
 use Rattle.std.specs.Option.{option_map}
 use Rattle.tap_base.specs.declared.numbers.DocNum.{DocNum}
@@ -21,7 +21,3 @@ letters_of docs rows = flat_map (λ row. letter_with row.entry.doc (text_in row.
 -- the letters of the user's box of this name, in the order of its listing, if the user has a query of this name
 abbrev pub letters_in : List ℕ → List ℕ → Tables → Option (List Letter)
 letters_in user name tables = option_map (letters_of tables.docs) (listing_in user name tables)
-
--- the text of a letter is no longer than a message may be
-abbrev pub IsShort : Letter → Type 0
-IsShort letter = length letter.text ≤ 1048576

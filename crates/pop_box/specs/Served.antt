@@ -1,11 +1,13 @@
 -- How a box was served, by the status.
-use Rattle.std.specs.Prelude.{ℕ, ℤ, ⊤, ◌≡◌, ◌≢◌, ◌≤◌, ◌⊎◌, List, Bool, length, take, codes, Option, Some, None}
+use Rattle.std.specs.Prelude.{ℕ, ℤ, ◌≡◌, ◌≢◌, ◌≤◌, ◌⊎◌, List, true, take, codes, Option, Some, None}
 use Rattle.std.specs.Io.KnownBytes.{Appends}
 use Rattle.tap_rows.specs.declared.tables.Tables.{Tables}
 use Rattle.tap_top.specs.Premises.{IfKnown}
 use Rattle.pop_session.specs.declared.letter.Letter.{Letter}
 use Rattle.pop_session.specs.Letters.{line}
-use Rattle.pop_session.specs.Ends.{IsSession, LettersEnd}
+use Rattle.pop_session.specs.declared.hold.TheConstants.{SESSION_LIMIT}
+use Rattle.pop_session.specs.Sessions.{has_quit}
+use Rattle.pop_session.specs.Ends.{IsSession, LettersEnd, Taken}
 
 -- the line that says that there is no such box
 abbrev pub box_line : List ℕ
@@ -44,11 +46,17 @@ IsUndisturbed status = (status ≤ 1) ⊎ ((status ≡ 6) ⊎ ((status ≡ 7) �
 -- over the store of tables in which the letters of the box are these: with a status that says that nothing was served,
 -- nothing was read, and nothing was written unless the store was refused; else the box was served. Status 4 also comes if
 -- the line of a refused store can't be put, which no store of a known version is
-pub record Served (status : ℕ) (found : Option (List Letter)) (user secret : List ℕ) (left left' out out' : Option (List ℕ)) (versions : ℤ → Type 0) : Type 0 where
+pub record Served (status : ℕ) (found : Option (List Letter)) (user secret : List ℕ) (left left' out out' : Option (List ℕ))
+    (versions : ℤ → Type 0) : Type 0 where
   pub unread : IsUnserved status → left' ≡ left
   pub silent : (status ≡ 2) ⊎ ((status ≡ 5) ⊎ (status ≡ 7)) → out' ≡ out
   pub served : status ≢ 4 → IsUnserved status ⊎ BoxServed status found user secret left left' out out'
   pub put : status ≡ 4 → IfKnown versions (BoxServed status found user secret left left' out out')
+
+-- an accepted QUIT of this user and secret is among the bytes that were taken
+pub record TookQuit (user secret : List ℕ) (left left' : Option (List ℕ)) : Type 0 where
+  pub taken : Taken left left'
+  pub quit : has_quit (take SESSION_LIMIT taken.bytes) user secret ≡ true
 
 -- the tables are unchanged: a crash leaves them alone, and unless the keeper failed it tells them
 pub record Unchanged (status : ℕ) (tables : Tables) (tells leaves : Tables → Type 0) : Type 0 where

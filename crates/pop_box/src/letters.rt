@@ -1,41 +1,36 @@
 //! The letters of a box, copied out of the engine.
-ghost use Rattle.std.specs.Prelude.{◌≡◌, ◌≤◌, ◌<◌, ◌++◌, length, OnOk, IfOk, IfSome};
-ghost use Rattle.std.specs.List.{All};
+ghost use Rattle.std.specs.Prelude.{◌≡◌, ◌≤◌, ◌++◌, length, OnOk, IfOk, IfSome};
 ghost use Rattle.std.specs.Option.{option_copied};
 ghost use Rattle.tap_engine.specs.Standing.{OverSound};
-ghost use Rattle.pop_session.specs.Sessions.{AreBounded};
-ghost use Rattle.pop_box.specs.Letters.{letter_with, letters_of, letters_in, IsShort};
+ghost use Rattle.tap_top.specs.Opened.{HasShortTexts};
+ghost use Rattle.pop_session.specs.Sessions.{AreShort};
+ghost use Rattle.pop_box.specs.Letters.{letter_with, letters_of, letters_in};
 
 use pop_session::Letter;
-use script_lang::MESSAGE_LIMIT;
 use std::alloc::Global;
 use std::sync::ledger::Ledger;
 use tap_base::{DocNum, Memory, Rows, Steps, Text};
 use tap_engine::Engine;
 use tap_rows::Listed;
 
-// Appends a document as a letter, if it has a text. A text that is too long is refused as out of memory: no store has one.
+// Appends a document as a letter, if it has a text.
 fn push_letter(
     alloc: Global,
     letters: &mut Rows<Letter>,
     doc: DocNum,
     text: Option<&[u8]>,
 ) -> Result<(), Memory>
-    requires { All IsShort letters.old }
+    requires letters { AreShort letters.old }
+    requires short { IfSome (option_copied text.entry) (λ bytes. length bytes ≤ 1048576) }
     ensures letters { OnOk result (letters.new ≡ letters.old ++ letter_with doc (option_copied text.entry)) }
-    ensures short { OnOk result (All IsShort letters.new) }
+    ensures short { OnOk result (AreShort letters.new) }
 {
     match text {
         None => Ok(()),
-        Some(text) => {
-            if text.len() > MESSAGE_LIMIT as usize {
-                return Err(Memory);
-            }
-            letters.push(Letter {
-                doc,
-                text: Text::from_slice(alloc, text)?,
-            })
-        }
+        Some(text) => letters.push(Letter {
+            doc,
+            text: Text::from_slice(alloc, text)?,
+        }),
     }
 }
 
@@ -46,31 +41,14 @@ fn copy_letters<L: Ledger>(
     rows: &[Listed],
     steps: &mut Steps<L>,
 ) -> Result<Rows<Letter>, Memory>
+    requires { HasShortTexts engine.now }
     ensures letters { IfOk result (λ letters. letters ≡ letters_of engine.now.index.docs rows.now) }
-    ensures short { IfOk result (λ letters. All IsShort letters) }
+    ensures short { IfOk result AreShort }
 {
     let mut letters = Rows::new(alloc);
     for row in rows {
         let text = engine.text_of(row.entry.doc, steps);
         push_letter(alloc, &mut letters, row.entry.doc, text)?;
-    }
-    Ok(letters)
-}
-
-// Copies the listed documents as letters. More letters than a `u32` counts are refused as out of memory: no store has so
-// many.
-fn bounded_letters<L: Ledger>(
-    alloc: Global,
-    engine: &Engine,
-    rows: &[Listed],
-    steps: &mut Steps<L>,
-) -> Result<Rows<Letter>, Memory>
-    ensures letters { IfOk result (λ letters. letters ≡ letters_of engine.now.index.docs rows.now) }
-    ensures bounded { IfOk result (λ letters. AreBounded letters) }
-{
-    let letters = copy_letters(alloc, engine, rows, steps)?;
-    if letters.len() > u32::MAX as usize {
-        return Err(Memory);
     }
     Ok(letters)
 }
@@ -83,11 +61,12 @@ fn find_letters<L: Ledger>(
     name: &[u8],
     steps: &mut Steps<L>,
 ) -> Result<Option<Rows<Letter>>, Memory>
+    requires { HasShortTexts engine.now }
     ensures letters { IfOk result (λ found. OverSound engine.now (λ t. found ≡ letters_in user.now name.now t)) }
-    ensures bounded { IfOk result (λ found. IfSome found AreBounded) }
+    ensures short { IfOk result (λ found. IfSome found AreShort) }
 {
     match engine.listing(alloc, user, name, steps)? {
-        Some(rows) => Ok(Some(bounded_letters(alloc, engine, rows.as_slice(), steps)?)),
+        Some(rows) => Ok(Some(copy_letters(alloc, engine, rows.as_slice(), steps)?)),
         None => Ok(None),
     }
 }
@@ -102,8 +81,9 @@ pub fn letters_from<L: Ledger>(
     name: &[u8],
     steps: &mut Steps<L>,
 ) -> Result<Option<Rows<Letter>>, Memory>
+    requires { HasShortTexts engine }
     ensures letters { IfOk result (λ found. OverSound engine (λ t. found ≡ letters_in user.now name.now t)) }
-    ensures bounded { IfOk result (λ found. IfSome found AreBounded) }
+    ensures short { IfOk result (λ found. IfSome found AreShort) }
 {
     find_letters(alloc, &engine, user, name, steps)
 }

@@ -1,7 +1,7 @@
 //! Puts the line that says that there is no such box.
 ghost use Rattle.std.specs.Prelude.{◌≡◌, ◌⊎◌};
 ghost use Rattle.tap_base.specs.Counts.{Rose};
-ghost use Rattle.pop_box.specs.Served.{box_line, BoxLine};
+ghost use Rattle.pop_box.specs.Served.{BoxLine};
 
 use tap_edges::Sink;
 

@@ -1,7 +1,8 @@
 //! The top call: reads the words, opens the store, and holds a session over the letters of a box.
-ghost use Rattle.std.specs.Prelude.{◌≡◌, ◌≢◌, ◌≤◌, ◌⊎◌, ◌↔◌, ℕ, List, [], Option, Some, None, true, false};
+ghost use Rattle.std.specs.Prelude.{◌≡◌, ◌≢◌, ◌≤◌, ◌⊎◌, ℕ, List, [], Option, Some, None, false};
 ghost use Rattle.std.specs.List.{All};
 ghost use Rattle.std.specs.Str.{IsUtf8};
+ghost use Rattle.std.specs.Io.KnownBytes.{IsAtEnd};
 ghost use Rattle.clap.specs.Words.{takes, fault_of as faults_of};
 ghost use Rattle.command_words.specs.PopOptions.{pop_app};
 ghost use Rattle.command_words.specs.PopWords.{pop_place_in, user_in, box_in, secret_in, IsPopWorded};
@@ -12,10 +13,12 @@ ghost use Rattle.tap_rows.specs.declared.tables.Tables.{Tables};
 ghost use Rattle.tap_top.specs.declared.store_fault.StoreFault.{StoreFault as StoreFaultOf};
 ghost use Rattle.tap_top.specs.Premises.{FromStore, FromVersion, IfKnown, IsCalm};
 ghost use Rattle.tap_top.specs.Refusals.{fault_of, Refused};
+ghost use Rattle.tap_top.specs.Opened.{HasShortTexts};
+ghost use Rattle.tap_top.specs.Causes.{Causes};
 ghost use Rattle.pop_box.specs.Letters.{letters_in};
 ghost use Rattle.tap_engine.specs.Standing.{OverSound};
 ghost use Rattle.pop_session.specs.Ends.{IsSession, TookMany};
-ghost use Rattle.pop_box.specs.Served.{LettersServed, Served, Unchanged, IsUndisturbed};
+ghost use Rattle.pop_box.specs.Served.{LettersServed, Served, TookQuit, Unchanged, IsUndisturbed};
 
 use crate::letters::letters_from;
 use crate::no_box::refuse_box;
@@ -24,18 +27,10 @@ use keeper_core::Keeper;
 use pop_session::hold_session;
 use std::alloc::Global;
 use std::sync::ledger::Ledger;
-use tap_base::{HashKey, Memory, Steps, Text, Texts};
+use tap_base::{HashKey, Memory, Steps, Texts};
 use tap_edges::{Sink, Source};
 use tap_engine::Engine;
 use tap_top::{OpenFault, open_store, refuse};
-
-// Returns a text that is UTF-8 as a `str`.
-fn as_str(text: &Text) -> &str
-    requires { IsUtf8 text.now }
-    ensures { result.now ≡ text.now }
-{
-    std::str::from_utf8(text.as_slice()).unwrap_or("")
-}
 
 // Holds a session over the letters of the box, which are copied out of the engine; returns the status.
 fn serve_with<S: Source, K: Sink, L: Ledger>(
@@ -46,6 +41,7 @@ fn serve_with<S: Source, K: Sink, L: Ledger>(
     engine: Engine,
     steps: &mut Steps<L>,
 ) -> u8
+    requires short { HasShortTexts engine }
     ensures session { OverSound engine (λ t.
         LettersServed result (letters_in asked.now.user asked.now.name t) asked.now.user asked.now.secret
         (S.left source.old) (S.left source.new) (K.out sink.old) (K.out sink.new)) }
@@ -53,6 +49,8 @@ fn serve_with<S: Source, K: Sink, L: Ledger>(
     ensures read_cause { result ≡ 3 → Rose (S.faults source.old) (S.faults source.new) }
     ensures put_cause { result ≡ 4 → Rose (K.faults sink.old) (K.faults sink.new) }
     ensures many { result ≡ 8 → TookMany (S.left source.old) (S.left source.new) }
+    ensures quit { result ≡ 0 → TookQuit asked.now.user asked.now.secret (S.left source.old) (S.left source.new) }
+    ensures ended { result ≡ 1 → IsAtEnd (S.left source.new) }
 {
     let user = asked.user.as_slice();
     match letters_from(alloc, engine, user, asked.name.as_slice(), steps) {
@@ -94,11 +92,11 @@ fn serve_box<S: Source, K: Sink, P: Keeper, L: Ledger>(
         fault_of v t ≡ None → result ≢ 6) }
     ensures known { FromStore (P.honest keeper.new) (P.tells keeper.old) (P.may_leave keeper.old) (λ t.
         IfKnown (P.has_version keeper.old) (result ≢ 6)) }
-    ensures read_cause { result ≡ 3 → Rose (S.faults source.old) (S.faults source.new) }
-    ensures put_cause { result ≡ 4 → Rose (K.faults sink.old) (K.faults sink.new) }
-    ensures stopped { (P.stopped keeper.new ≡ true) ↔ (result ≡ 5) }
-    ensures keeper_cause { result ≡ 5 → Rose (P.faults keeper.old) (P.faults keeper.new) }
+    ensures causes { Causes result (S.faults source.old) (S.faults source.new) (K.faults sink.old) (K.faults sink.new)
+        (P.faults keeper.old) (P.faults keeper.new) (P.stopped keeper.new) }
     ensures many { result ≡ 8 → TookMany (S.left source.old) (S.left source.new) }
+    ensures quit { result ≡ 0 → TookQuit asked.now.user asked.now.secret (S.left source.old) (S.left source.new) }
+    ensures ended { result ≡ 1 → IsAtEnd (S.left source.new) }
     ensures complete { IsCalm (S.faults source.old) (S.faults source.new) →
         IsCalm (K.faults sink.old) (K.faults sink.new) →
         IsCalm (P.faults keeper.old) (P.faults keeper.new) →
@@ -106,7 +104,7 @@ fn serve_box<S: Source, K: Sink, P: Keeper, L: Ledger>(
     ensures statuses { (result ≤ 9) × (result ≢ 2) }
     ensures place { (result ≡ 7) ⊎ (P.place keeper.new ≡ asked.now.place) }
 {
-    match open_store(alloc, key, as_str(&asked.place), keeper) {
+    match open_store(alloc, key, &asked.place, keeper) {
         Ok(engine) => serve_with(alloc, asked, source, sink, engine, steps),
         Err(OpenFault::Refused(fault)) => refuse(fault, sink),
         Err(OpenFault::Keeper) => 5,
@@ -175,11 +173,11 @@ pub fn serve<S: Source, K: Sink, P: Keeper, L: Ledger>(
         IfKnown (P.has_version keeper.old) (result ≢ 6)) }
 
     // When each status comes.
-    ensures read_cause { result ≡ 3 → Rose (S.faults source.old) (S.faults source.new) }
-    ensures put_cause { result ≡ 4 → Rose (K.faults sink.old) (K.faults sink.new) }
-    ensures stopped { (P.stopped keeper.new ≡ true) ↔ (result ≡ 5) }
-    ensures keeper_cause { result ≡ 5 → Rose (P.faults keeper.old) (P.faults keeper.new) }
+    ensures causes { Causes result (S.faults source.old) (S.faults source.new) (K.faults sink.old) (K.faults sink.new)
+        (P.faults keeper.old) (P.faults keeper.new) (P.stopped keeper.new) }
     ensures many { result ≡ 8 → TookMany (S.left source.old) (S.left source.new) }
+    ensures quit { result ≡ 0 → TookQuit (user_in words.now) (secret_in words.now) (S.left source.old) (S.left source.new) }
+    ensures ended { result ≡ 1 → IsAtEnd (S.left source.new) }
     ensures complete { (path : Option (List ℕ)) (user name secret : List ℕ) → IsPopWorded words.now path user name secret →
         IsCalm (S.faults source.old) (S.faults source.new) →
         IsCalm (K.faults sink.old) (K.faults sink.new) →

@@ -1,7 +1,7 @@
 -- How large the lines of a text can be.
 use Rattle.std.proofs.Common.{◌≡◌, ◌∙◌, sym, ap, subst, refl, arith, ℕ, suc, List, [], ◌∷◌, ◌++◌, ◌+◌, ◌-◌, ◌*◌, ◌≤◌, ◌<◌, drop, length, map, get_or, Bool, true, false}
 use Rattle.std.specs.Prelude.{◌==◌, if◌then◌else◌}
-use Rattle.std.specs.List.{flat_map, onto_first, suffix_len, All}
+use Rattle.std.specs.List.{flat_map, onto_first, suffix_len}
 use Rattle.std.proofs.lemmas.List.{length-append, length-take}
 use Rattle.std.proofs.Math.Seq.{drop-cons}
 use Rattle.mail_lines.specs.Lines.{is_end, parts, without_empty_end}
@@ -9,6 +9,7 @@ use Rattle.mail_lines.proofs.Ends.{HasFirst, has_first}
 use Rattle.digest_mail.specs.Digests.{lined, without_returns}
 use Rattle.pop_session.specs.declared.letter.Letter.{Letter}
 use Rattle.pop_session.specs.Letters.{line, size_of, total_size}
+use Rattle.pop_session.specs.Sessions.{AreShort}
 
 -- how many bytes some parts have, with the LFs between them
 weight : List (List ℕ) → ℕ
@@ -76,10 +77,6 @@ size-more text first rest e =
     ap (λ ls. length (flat_map line ls)) e
     ∙ length-append (line first) (flat_map line (lined rest))
     ∙ ap (λ n. n + size_of rest) (length-append first (13 ∷ 10 ∷ []))
-
--- the size of all letters
-abbrev AreShort : List Letter → Type 0
-AreShort letters = All (λ letter. length letter.text ≤ 1048576) letters
 
 rest-short : (l : Letter) (letters : List Letter) → AreShort (l ∷ letters) → AreShort letters
 rest-short l letters short k d lt = short (suc k) d (omega arith)

@@ -1,5 +1,5 @@
 -- What a session replies to all of its bytes.
-use Rattle.std.specs.Prelude.{ℕ, ◌≡◌, ◌≤◌, ◌<◌, ◌-◌, ◌⊎◌, List, [], ◌∷◌, ◌++◌, length, take, Bool, true, false, if◌then◌else◌}
+use Rattle.std.specs.Prelude.{ℕ, ◌≡◌, ◌≤◌, ◌-◌, ◌⊎◌, List, [], ◌∷◌, ◌++◌, length, take, Bool, true, false, if◌then◌else◌}
 use Rattle.std.specs.List.{All}
 use Rattle.pop_session.specs.declared.letter.Letter.{Letter}
 use Rattle.pop_session.specs.declared.outcome.Phase.{Phase}
@@ -79,10 +79,9 @@ IsOver s rest = (length rest ≡ 0) ⊎ (is_ended s.phase ≡ true)
 abbrev pub grown : List ℕ → List ℕ → List ℕ
 grown front bytes = front ++ take (513 - length front) bytes
 
--- the letters are fewer than 4,294,967,296, each with a text of at most 1,048,576 bytes
-pub record AreBounded (letters : List Letter) : Type 0 where
-  pub few : length letters < 4294967296
-  pub short : All (λ letter. length letter.text ≤ 1048576) letters
+-- the text of each letter has at most 1,048,576 bytes
+abbrev pub AreShort : List Letter → Type 0
+AreShort letters = All (λ letter. length letter.text ≤ 1048576) letters
 
 -- a session that holds more bytes of its open request
 abbrev pub held : Session → List ℕ → Session

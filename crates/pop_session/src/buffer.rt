@@ -81,7 +81,7 @@ pub(crate) fn number_line(n: u64) -> ArrayVec<u8, 128>
 }
 
 /// Returns the reply to STAT: the number of letters and their size.
-pub(crate) fn totals_line(count: usize, size: u64) -> ArrayVec<u8, 128>
+pub(crate) fn totals_line(count: usize, size: u128) -> ArrayVec<u8, 128>
     ensures { result.items ≡ line (codes "+OK " ++ decimal count ++ codes " " ++ decimal size) }
 {
     let mut buffer = ArrayVec::new();

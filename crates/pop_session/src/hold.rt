@@ -2,7 +2,7 @@
 ghost use Rattle.std.specs.Prelude.{◌≡◌, ◌≤◌, [], min};
 ghost use Rattle.tap_base.specs.Counts.{Rose};
 ghost use Rattle.pop_session.specs.declared.outcome.Phase.{Phase};
-ghost use Rattle.pop_session.specs.Sessions.{AreBounded, IsReady, replies_from, quits_from};
+ghost use Rattle.pop_session.specs.Sessions.{AreShort, IsReady, replies_from, quits_from};
 ghost use Rattle.pop_session.specs.Ends.{SessionEnds, TookMany, IsSession, LettersEnd};
 
 use crate::laws::replies_grow;
@@ -70,7 +70,7 @@ pub fn hold_session<S: Source, K: Sink>(
     source: &mut S,
     sink: &mut K,
 ) -> u8
-    requires { AreBounded letters.now }
+    requires { AreShort letters.now }
     ensures ends { LettersEnd result user.now secret.now letters.now (S.left source.old) (S.left source.new) (K.out sink.old) (K.out sink.new) }
     ensures statuses { IsSession result }
     ensures read_cause { result ≡ 3 → Rose (S.faults source.old) (S.faults source.new) }

@@ -4,7 +4,7 @@ ghost use Rattle.std.specs.List.{flat_map};
 ghost use Rattle.digest_mail.specs.Digests.{lined};
 ghost use Rattle.pop_session.specs.Letters.{line, size_of, total_size, letter_at};
 ghost use Rattle.std.specs.Prelude.{option_copied};
-ghost use Rattle.pop_session.specs.Sessions.{AreBounded};
+ghost use Rattle.pop_session.specs.Sessions.{AreShort};
 
 use digest_mail::first_lined;
 use tap_base::{DocNum, Text};
@@ -33,13 +33,13 @@ pub(crate) fn size_of(text: &[u8]) -> u64
 }
 
 /// Returns the size of all letters together.
-pub(crate) fn total_size(letters: &[Letter]) -> u64
-    requires { AreBounded letters.now }
+pub(crate) fn total_size(letters: &[Letter]) -> u128
+    requires { AreShort letters.now }
     ensures { result ≡ total_size letters.now }
 {
-    let mut total = 0u64;
+    let mut total = 0u128;
     for letter in letters {
-        total += size_of(letter.text.as_slice());
+        total += size_of(letter.text.as_slice()) as u128;
     }
     total
 }

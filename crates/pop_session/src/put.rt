@@ -6,7 +6,7 @@ ghost use Rattle.pop_session.specs.Letters.{line, stuffed, sent_lines, letter_at
 ghost use Rattle.pop_session.specs.Puts.{counted, TookSome};
 ghost use Rattle.pop_session.specs.Replies.{refusal_text, rows_head, row_reply, text_reply, reply_bytes};
 ghost use Rattle.pop_session.specs.declared.reply.Reply.TheVariants.{Rows};
-ghost use Rattle.pop_session.specs.Sessions.{AreBounded};
+ghost use Rattle.pop_session.specs.Sessions.{AreShort};
 
 use crate::buffer::{
     accepted_line, has_dot, head_line, number_line, one_row_line, refusal_line, row_line,
@@ -106,7 +106,7 @@ fn put_rows<K: Sink>(
     listing: Listing,
     letters: &[Letter],
 ) -> Result<usize, PutFailed>
-    requires { AreBounded letters.now }
+    requires { AreShort letters.now }
     ensures count { IfOk result (λ done. done ≡ counted (start + length (rows_from listing 1 letters.now))) }
     ensures ok { OnOk result (Appends (K.out sink.old) (K.out sink.new) (rows_from listing 1 letters.now)) }
     ensures err { IfErr result (λ failed. TookSome start (K.out sink.old) (K.out sink.new) (rows_from listing 1 letters.now) failed) }
@@ -133,7 +133,7 @@ fn put_all_rows<K: Sink>(
     listing: Listing,
     letters: &[Letter],
 ) -> Result<usize, PutFailed>
-    requires { AreBounded letters.now }
+    requires { AreShort letters.now }
     ensures count { IfOk result (λ done. done ≡ counted (start + length (rows_from listing 1 letters.now ++ line (codes ".")))) }
     ensures ok { OnOk result (Appends (K.out sink.old) (K.out sink.new) (rows_from listing 1 letters.now ++ line (codes "."))) }
     ensures err { IfErr result (λ failed.
@@ -168,7 +168,7 @@ fn put_row<K: Sink>(
     number: u64,
     letters: &[Letter],
 ) -> Result<usize, PutFailed>
-    requires { AreBounded letters.now }
+    requires { AreShort letters.now }
     ensures count { IfOk result (λ done. done ≡ counted (start + length (row_reply listing number (letter_at letters.now number)))) }
     ensures ok { OnOk result (Appends (K.out sink.old) (K.out sink.new) (row_reply listing number (letter_at letters.now number))) }
     ensures err { IfErr result (λ failed.
@@ -207,7 +207,7 @@ fn put_text<K: Sink>(
     number: u64,
     letters: &[Letter],
 ) -> Result<usize, PutFailed>
-    requires { AreBounded letters.now }
+    requires { AreShort letters.now }
     ensures count { IfOk result (λ done. done ≡ counted (start + length (text_reply (letter_at letters.now number)))) }
     ensures ok { OnOk result (Appends (K.out sink.old) (K.out sink.new) (text_reply (letter_at letters.now number))) }
     ensures err { IfErr result (λ failed. TookSome start (K.out sink.old) (K.out sink.new) (text_reply (letter_at letters.now number)) failed) }
@@ -226,7 +226,7 @@ fn put_list<K: Sink>(
     listing: Listing,
     letters: &[Letter],
 ) -> Result<usize, PutFailed>
-    requires { AreBounded letters.now }
+    requires { AreShort letters.now }
     ensures count { IfOk result (λ done. done ≡ counted (start + length (reply_bytes letters.now (Rows listing)))) }
     ensures ok { OnOk result (Appends (K.out sink.old) (K.out sink.new) (reply_bytes letters.now (Rows listing))) }
     ensures err { IfErr result (λ failed. TookSome start (K.out sink.old) (K.out sink.new) (reply_bytes letters.now (Rows listing)) failed) }
@@ -246,7 +246,7 @@ pub(crate) fn put_reply<K: Sink>(
     letters: &[Letter],
     reply: Reply,
 ) -> Result<usize, PutFailed>
-    requires { AreBounded letters.now }
+    requires { AreShort letters.now }
     ensures count { IfOk result (λ done. done ≡ counted (start + length (reply_bytes letters.now reply))) }
     ensures ok { OnOk result (Appends (K.out sink.old) (K.out sink.new) (reply_bytes letters.now reply)) }
     ensures err { IfErr result (λ failed. TookSome start (K.out sink.old) (K.out sink.new) (reply_bytes letters.now reply) failed) }

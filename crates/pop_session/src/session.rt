@@ -6,7 +6,7 @@ ghost use Rattle.mail_lines.specs.Lines.{is_end, NoEnd};
 ghost use Rattle.tap_edges.specs.Edges.{HasCause};
 ghost use Rattle.pop_session.specs.Puts.{counted, TookSome};
 ghost use Rattle.pop_session.specs.Replies.{greeting, reply_bytes};
-ghost use Rattle.pop_session.specs.Sessions.{Session, new_session, greeted, replies_from, quits_from, IsReady, is_ended, grown, AreBounded};
+ghost use Rattle.pop_session.specs.Sessions.{Session, new_session, greeted, replies_from, quits_from, IsReady, is_ended, grown, AreShort};
 ghost use Rattle.pop_session.specs.Sessions.{held, open_reply, answered, IsOver};
 
 use crate::buffer::greeting_line;
@@ -36,7 +36,7 @@ pub struct PopSession<'a> {
 impl<'a> Model for PopSession<'a> {
     ghost use Rattle.std.specs.Prelude.{◌≡◌};
     ghost use Rattle.mail_lines.specs.Lines.{NoEnd};
-    ghost use Rattle.pop_session.specs.Sessions.{Session, AreBounded};
+    ghost use Rattle.pop_session.specs.Sessions.{Session, AreShort};
 
     ghost Value = { Session };
 
@@ -50,7 +50,7 @@ impl<'a> Model for PopSession<'a> {
       failed = s.failed;
     } };
 
-    ghost invariant = { λ s. NoEnd s.front.items × AreBounded s.letters.now };
+    ghost invariant = { λ s. NoEnd s.front.items × AreShort s.letters.now };
 }
 
 // Returns how many bytes come before the first LF; all of them if there is none.
@@ -104,7 +104,7 @@ struct Step {
 impl<'a> PopSession<'a> {
     /// Returns a session before its greeting, for the user of this name and secret.
     pub fn new(user: &'a [u8], secret: &'a [u8], letters: &'a [Letter]) -> PopSession<'a>
-        requires { AreBounded letters.now }
+        requires { AreShort letters.now }
         ensures { result ≡ new_session user.now secret.now letters.now }
     {
         PopSession {

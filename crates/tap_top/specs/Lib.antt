@@ -8,3 +8,4 @@ pub mod Opened
 pub mod Crashes
 pub mod Samples
 pub mod Ends
+pub mod Causes

@@ -1,21 +1,23 @@
 //! Opens a store: attaches the keeper, checks the tables, and starts an engine over them.
 ghost use Rattle.std.specs.Prelude.{◌≡◌, ◌⊎◌, ◌↔◌, ◌≤◌, ℤ, true, false, Some, None, IfOk, OnOk, IsErrOf};
+ghost use Rattle.std.specs.Str.{IsUtf8};
 ghost use Rattle.keeper_core.specs.Keeping.{IsDurable};
 ghost use Rattle.tap_base.specs.Counts.{Rose};
 ghost use Rattle.tap_rows.specs.declared.tables.Tables.{Tables as TableRows};
+ghost use Rattle.restart_core.specs.Damages.{damage_of};
 ghost use Rattle.tap_model.specs.Sessions.{no_session};
 ghost use Rattle.tap_engine.specs.Standing.{Represents};
 ghost use Rattle.tap_top.specs.Points.{CanPerform};
 ghost use Rattle.tap_top.specs.Premises.{IfTold};
 ghost use Rattle.tap_top.specs.Refusals.{row_fault, fault_of};
-ghost use Rattle.tap_top.specs.Opened.{IfRefused};
+ghost use Rattle.tap_top.specs.Opened.{HasShortTexts, IfRefused};
 ghost use Rattle.tap_top.specs.declared.opening.OpenFault.{OpenFault};
 
 use crate::StoreFault;
 use keeper_core::{AttachFault, Keeper};
 use restart_core::{RestartFault, TableName, Why, check_tables};
 use std::alloc::Global;
-use tap_base::HashKey;
+use tap_base::{HashKey, Text};
 use tap_engine::{Engine, StartFault};
 use tap_rows::Tables;
 
@@ -30,12 +32,21 @@ pub enum OpenFault {
     Memory,
 }
 
+// Returns a text that is UTF-8 as a `str`.
+fn as_str(text: &Text) -> &str
+    requires { IsUtf8 text.now }
+    ensures { result.now ≡ text.now }
+{
+    std::str::from_utf8(text.as_slice()).unwrap_or("")
+}
+
 // Checks the tables of a store, and starts an engine over them.
 fn start(alloc: Global, key: HashKey, tables: Tables) -> Result<Engine, OpenFault>
     ensures can { IfOk result (λ engine. CanPerform engine true false) }
     ensures session { IfOk result (λ engine. engine.session ≡ no_session) }
     ensures represents { IfOk result (λ engine. Represents engine tables) }
     ensures sure { OnOk result (row_fault tables ≡ None) }
+    ensures undamaged { OnOk result (damage_of tables ≡ None) }
     ensures refused { IfRefused result (λ fault. row_fault tables ≡ Some fault) }
     ensures asked { IsErrOf result OpenFault.Keeper → ⊥ }
 {
@@ -57,17 +68,20 @@ fn start(alloc: Global, key: HashKey, tables: Tables) -> Result<Engine, OpenFaul
     }
 }
 
-/// Attaches the store at a place, checks its tables, and starts an engine over them, which hashes texts under this key.
+/// Attaches the store at a place, checks its tables, and starts an engine over them, which hashes texts under this key. No
+/// text of its documents is longer than a message may be.
 pub fn open_store<P: Keeper>(
     alloc: Global,
     key: HashKey,
-    place: &str,
+    place: &Text,
     keeper: &mut P,
 ) -> Result<Engine, OpenFault>
+    requires text { IsUtf8 place.now }
     requires free { P.attached keeper.old ≡ false }
     requires running { P.stopped keeper.old ≡ false }
     ensures can { IfOk result (λ engine. CanPerform engine (P.attached keeper.new) (P.stopped keeper.new)) }
     ensures session { IfOk result (λ engine. engine.session ≡ no_session) }
+    ensures short { IfOk result HasShortTexts }
     ensures represents { IfOk result (λ engine. IfTold (P.honest keeper.new) (P.tells keeper.old) (λ t. Represents engine t)) }
     ensures kept { IfTold (P.honest keeper.new) (P.tells keeper.old) (λ t.
         P.stopped keeper.new ≡ false → IsDurable (P.tells keeper.new) (P.may_leave keeper.new) t) }
@@ -82,7 +96,7 @@ pub fn open_store<P: Keeper>(
     ensures later { P.faults keeper.old ≤ P.faults keeper.new }
     ensures honest { P.honest keeper.new → P.honest keeper.old }
 {
-    match keeper.attach(alloc, place) {
+    match keeper.attach(alloc, as_str(place)) {
         Ok(tables) => start(alloc, key, tables),
         Err(AttachFault::Alien { version }) => {
             Err(OpenFault::Refused(StoreFault::Version { version }))

@@ -2,6 +2,7 @@
 ghost use Rattle.std.specs.Prelude.{◌≡◌, ◌≢◌, ◌≤◌, ◌+◌, ◌⊎◌, ◌↔◌, ◌==◌, ℕ, List, [], ◌∷◌, Option, Some, None};
 ghost use Rattle.std.specs.Prelude.{true, false, length, OnOk, IfOk, IfSome, IsErrOf};
 ghost use Rattle.std.specs.Io.KnownBytes.{Appends};
+ghost use Rattle.std.specs.Str.{IsUtf8};
 ghost use Rattle.keeper_core.specs.Keeping.{IsDurable};
 ghost use Rattle.tap_base.specs.Counts.{Rose};
 ghost use Rattle.script_lang.specs.declared.reply.Reply.{Reply as ReplyOf};
@@ -24,7 +25,7 @@ use sample_gen::{Summary, sample};
 use script_lang::{Command, Refusal, Reply};
 use std::alloc::Global;
 use std::sync::ledger::Ledger;
-use tap_base::{HashKey, Rows, Steps};
+use tap_base::{HashKey, Rows, Steps, Text};
 use tap_edges::Sink;
 use tap_engine::{Engine, EngineFault};
 
@@ -222,7 +223,7 @@ fn sample_with<K: Sink, P: Keeper, L: Ledger>(
 pub fn sample_store<K: Sink, P: Keeper, L: Ledger>(
     alloc: Global,
     key: HashKey,
-    place: &str,
+    place: &Text,
     n: u32,
     sink: &mut K,
     keeper: &mut P,
@@ -232,6 +233,7 @@ pub fn sample_store<K: Sink, P: Keeper, L: Ledger>(
     requires few { n ≤ 100000 }
     requires free { P.attached keeper.old ≡ false }
     requires running { P.stopped keeper.old ≡ false }
+    requires text { IsUtf8 place.now }
 
     // How the sample ended over a store that a session left.
     ensures sample { FromStore (P.honest keeper.new) (P.tells keeper.old) (P.may_leave keeper.old) (λ t.

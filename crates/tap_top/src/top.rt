@@ -3,6 +3,7 @@ ghost use Rattle.std.specs.Prelude.{◌≡◌, ◌≢◌, ◌≤◌, ◌⊎◌, 
 ghost use Rattle.std.specs.Prelude.{ℕ, List, [], Option, Some, None, true, false, min};
 ghost use Rattle.std.specs.List.{All};
 ghost use Rattle.std.specs.Str.{IsUtf8};
+ghost use Rattle.std.specs.Io.KnownBytes.{IsAtEnd};
 ghost use Rattle.clap.specs.Words.{takes, fault_of as faults_of};
 ghost use Rattle.command_words.specs.Options.{app};
 ghost use Rattle.command_words.specs.Words.{place_in, sample_in};
@@ -18,6 +19,7 @@ ghost use Rattle.tap_top.specs.Points.{CanPerform, KeeperFrame};
 ghost use Rattle.tap_top.specs.Premises.{FromEngine, FromStore, FromVersion, IfKnown, IsCalm, IsUndisturbed};
 ghost use Rattle.tap_top.specs.Answers.{CutOff, Uncommitted, Closed, ClosedCut};
 ghost use Rattle.tap_top.specs.Statuses.{TookMany, HoldsScript};
+ghost use Rattle.tap_top.specs.Causes.{Causes};
 ghost use Rattle.tap_top.specs.Ends.{EngineScriptEnds, ScriptEnds, SampleEnds};
 ghost use Rattle.tap_top.specs.Refusals.{fault_of, Refused};
 
@@ -114,7 +116,8 @@ fn run<S: Source, K: Sink, P: Keeper, L: Ledger>(
     ensures statuses { result ≤ 1 ⊎ (result ≡ 3 ⊎ (result ≡ 4 ⊎ (result ≡ 5 ⊎ (result ≡ 7 ⊎ result ≡ 8)))) }
     ensures stopped { (P.stopped keeper.new ≡ true) ↔ (result ≡ 5) }
     ensures read_cause { result ≡ 3 → Rose (S.faults source.old) (S.faults source.new) }
-    ensures cause { result ≡ 4 → Rose (K.faults sink.old) (K.faults sink.new) }
+    ensures put_cause { result ≡ 4 → Rose (K.faults sink.old) (K.faults sink.new) }
+    ensures ended { result ≤ 1 → IsAtEnd (S.left source.new) }
     ensures kept_cause { result ≡ 5 → Rose (P.faults keeper.old) (P.faults keeper.new) }
     ensures frame { KeeperFrame (P.place keeper.old) (P.place keeper.new) (P.faults keeper.old) (P.faults keeper.new)
         (P.honest keeper.old) (P.honest keeper.new) }
@@ -170,7 +173,8 @@ fn run_with<S: Source, K: Sink, P: Keeper, L: Ledger>(
     ensures statuses { result ≤ 1 ⊎ (result ≡ 3 ⊎ (result ≡ 4 ⊎ (result ≡ 5 ⊎ (result ≡ 7 ⊎ result ≡ 8)))) }
     ensures stopped { (P.stopped keeper.new ≡ true) ↔ (result ≡ 5) }
     ensures read_cause { result ≡ 3 → Rose (S.faults source.old) (S.faults source.new) }
-    ensures cause { result ≡ 4 → Rose (K.faults sink.old) (K.faults sink.new) }
+    ensures put_cause { result ≡ 4 → Rose (K.faults sink.old) (K.faults sink.new) }
+    ensures ended { result ≤ 1 → IsAtEnd (S.left source.new) }
     ensures kept_cause { result ≡ 5 → Rose (P.faults keeper.old) (P.faults keeper.new) }
     ensures frame { KeeperFrame (P.place keeper.old) (P.place keeper.new) (P.faults keeper.old) (P.faults keeper.new)
         (P.honest keeper.old) (P.honest keeper.new) }
@@ -182,7 +186,7 @@ fn run_with<S: Source, K: Sink, P: Keeper, L: Ledger>(
 fn run_store<S: Source, K: Sink, P: Keeper, L: Ledger>(
     alloc: Global,
     key: HashKey,
-    place: &str,
+    place: &Text,
     source: &mut S,
     sink: &mut K,
     keeper: &mut P,
@@ -190,6 +194,7 @@ fn run_store<S: Source, K: Sink, P: Keeper, L: Ledger>(
 ) -> u8
     requires free { P.attached keeper.old ≡ false }
     requires running { P.stopped keeper.old ≡ false }
+    requires text { IsUtf8 place.now }
 
     // How the script ended over a store that a session left.
     ensures script { FromStore (P.honest keeper.new) (P.tells keeper.old) (P.may_leave keeper.old) (λ t.
@@ -209,11 +214,10 @@ fn run_store<S: Source, K: Sink, P: Keeper, L: Ledger>(
         IfKnown (P.has_version keeper.old) (result ≢ 6)) }
 
     // When each status comes.
-    ensures read_cause { result ≡ 3 → Rose (S.faults source.old) (S.faults source.new) }
-    ensures put_cause { result ≡ 4 → Rose (K.faults sink.old) (K.faults sink.new) }
-    ensures stopped { (P.stopped keeper.new ≡ true) ↔ (result ≡ 5) }
-    ensures keeper_cause { result ≡ 5 → Rose (P.faults keeper.old) (P.faults keeper.new) }
+    ensures causes { Causes result (S.faults source.old) (S.faults source.new) (K.faults sink.old) (K.faults sink.new)
+        (P.faults keeper.old) (P.faults keeper.new) (P.stopped keeper.new) }
     ensures many { result ≡ 8 → TookMany (S.left source.old) (S.left source.new) }
+    ensures ended { result ≤ 1 → IsAtEnd (S.left source.new) }
     ensures complete { HoldsScript (S.left source.old) →
         IsCalm (S.faults source.old) (S.faults source.new) →
         IsCalm (K.faults sink.old) (K.faults sink.new) →
@@ -228,14 +232,6 @@ fn run_store<S: Source, K: Sink, P: Keeper, L: Ledger>(
         Err(OpenFault::Keeper) => 5,
         Err(OpenFault::Memory) => 7,
     }
-}
-
-// Returns a text that is UTF-8 as a `str`.
-fn as_str(text: &Text) -> &str
-    requires { IsUtf8 text.now }
-    ensures { result.now ≡ text.now }
-{
-    std::str::from_utf8(text.as_slice()).unwrap_or("")
 }
 
 /// Runs the mail filter: reads the words of the command line, attaches the keeper at the place that they name, checks its
@@ -309,11 +305,10 @@ pub fn tapestry<S: Source, K: Sink, P: Keeper, L: Ledger>(
         IfKnown (P.has_version keeper.old) (result ≢ 6)) }
 
     // When each status comes.
-    ensures read_cause { result ≡ 3 → Rose (S.faults source.old) (S.faults source.new) }
-    ensures put_cause { result ≡ 4 → Rose (K.faults sink.old) (K.faults sink.new) }
-    ensures stopped { (P.stopped keeper.new ≡ true) ↔ (result ≡ 5) }
-    ensures keeper_cause { result ≡ 5 → Rose (P.faults keeper.old) (P.faults keeper.new) }
+    ensures causes { Causes result (S.faults source.old) (S.faults source.new) (K.faults sink.old) (K.faults sink.new)
+        (P.faults keeper.old) (P.faults keeper.new) (P.stopped keeper.new) }
     ensures many { result ≡ 8 → TookMany (S.left source.old) (S.left source.new) }
+    ensures ended { sample_in words.now ≡ None → result ≤ 1 → IsAtEnd (S.left source.new) }
     ensures complete { (path : Option (List ℕ)) → IsWellWorded words.now path None → HoldsScript (S.left source.old) →
         IsCalm (S.faults source.old) (S.faults source.new) →
         IsCalm (K.faults sink.old) (K.faults sink.new) →
@@ -330,9 +325,8 @@ pub fn tapestry<S: Source, K: Sink, P: Keeper, L: Ledger>(
         Err(OptionFault::Refused) => return 2,
         Err(OptionFault::Memory) => return 7,
     };
-    let place = as_str(&asked.place);
     match asked.sample {
-        Some(n) => sample_store(alloc, key, place, n, sink, keeper, steps),
-        None => run_store(alloc, key, place, source, sink, keeper, steps),
+        Some(n) => sample_store(alloc, key, &asked.place, n, sink, keeper, steps),
+        None => run_store(alloc, key, &asked.place, source, sink, keeper, steps),
     }
 }

@@ -1,15 +1,43 @@
--- A session over the files of a store.
-use Rattle.std.specs.Prelude.{ℤ}
+-- How a session of the mail filter ended.
+use Rattle.std.specs.Prelude.{ℕ, ℤ, ◌≡◌, ◌≢◌, ◌≤◌, ◌⊎◌, List, [], Option, Some, None, false}
+use Rattle.std.specs.Io.KnownBytes.{IsAtEnd}
+use Rattle.clap.specs.Words.{takes, fault_of as faults_of}
+use Rattle.command_words.specs.Options.{app}
+use Rattle.command_words.specs.Words.{sample_in}
+use Rattle.command_words.specs.WellWorded.{IsWellWorded}
+use Rattle.tap_base.specs.Counts.{Rose}
 use Rattle.tap_rows.specs.declared.tables.Tables.{Tables}
-use Rattle.sqlite_wal.specs.Recovery.{Image}
-use Rattle.keeper_file.specs.Images.{ImageTells, ImageHasVersion}
 use Rattle.tap_model.specs.Sound.{IsStore}
+use Rattle.tap_top.specs.declared.store_fault.StoreFault.{StoreFault}
+use Rattle.tap_top.specs.Ends.{ScriptEnds, SampleEnds}
+use Rattle.tap_top.specs.Premises.{IfKnown}
+use Rattle.tap_top.specs.Refusals.{fault_of, Refused}
+use Rattle.tap_top.specs.Statuses.{TookMany}
 
-module _ (first : Image) (honest : Type 0) where
-  -- if the disk was honest, this holds of the tables that the files held at first, if a session left them
-  abbrev pub FromFiles : (Ends : Tables → Type 0) → Type 0
-  FromFiles Ends = (t : Tables) → honest → ImageTells first t → IsStore t → Ends t
+-- whatever the store: when the words are refused, which then changes nothing; what a sample reads and puts; when a read or a
+-- put failed; and that a script that ended with its commands was read to its end
+pub record Ends (words : List (List ℕ)) (status : ℕ) (left left' out out' : Option (List ℕ)) (reads reads' puts puts' : ℕ) : Type 0 where
+  pub words : status ≡ 2 → takes app words ≡ false
+  pub exact : status ≡ 2 → faults_of app words ≢ []
+  pub worded : (path : Option (List ℕ)) (number : Option ℕ) → IsWellWorded words path number → status ≢ 2
+  pub faulty : (status ≡ 2) ⊎ ((status ≡ 7) ⊎ (faults_of app words ≡ []))
+  pub nothing : status ≡ 2 → (out' ≡ out) × (left' ≡ left)
+  pub sample_silent : (n : ℕ) → sample_in words ≡ Some n → (status ≡ 5) ⊎ (status ≡ 7) → out' ≡ out
+  pub sample_unread : (n : ℕ) → sample_in words ≡ Some n → (left' ≡ left) × ((status ≢ 3) × (status ≢ 8))
+  pub read : status ≡ 3 → Rose reads reads'
+  pub put : status ≡ 4 → Rose puts puts'
+  pub many : status ≡ 8 → TookMany left left'
+  pub ended : sample_in words ≡ None → status ≤ 1 → IsAtEnd left'
+  pub statuses : status ≤ 8
 
-  -- if the disk was honest, this holds of the tables and the version that the files held at first
-  abbrev pub FromFilesOf : (Ends : Tables → ℤ → Type 0) → Type 0
-  FromFilesOf Ends = (t : Tables) → honest → ImageTells first t → (v : ℤ) → ImageHasVersion first v → Ends t v
+-- over a store with these tables: how the script or the sample ended, that whatever a crash leaves is a store, and when the
+-- store is refused
+pub record EndsOver (words : List (List ℕ)) (status : ℕ) (left left' out out' : Option (List ℕ))
+    (tables : Tables) (versions : ℤ → Type 0) (tells leaves : Tables → Type 0) : Type 0 where
+  pub script : sample_in words ≡ None → IsStore tables → ScriptEnds status tables left left' out out' versions tells leaves
+  pub sample : (n : ℕ) → sample_in words ≡ Some n → IsStore tables → SampleEnds status tables n out out' versions tells leaves
+  pub kept : IsStore tables → (x : Tables) → leaves x → IsStore x
+  pub refused : (v : ℤ) → versions v → (fault : StoreFault) → fault_of v tables ≡ Some fault →
+      Refused status fault left left' out out' tells leaves tables
+  pub fine : (v : ℤ) → versions v → fault_of v tables ≡ None → status ≢ 6
+  pub known : IsStore tables → IfKnown versions (status ≢ 6)

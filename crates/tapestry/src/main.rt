@@ -1,10 +1,11 @@
 //! The mail filter over a store: reads a script from standard input, and writes its replies.
 #![tactic(auto)]
 
-mod file_session;
+mod mail_filter;
 
 use command_words::{WordsFault, words_of_line};
-use file_session::session;
+use file_session::run_session;
+use mail_filter::MailFilter;
 use sqlite::Unknown;
 use std::marker::Brand;
 use std::process::ExitCode;
@@ -19,7 +20,7 @@ fn main(rt: HostRuntime) -> ExitCode {
     };
     let mut source = StdSource::new(rt.stdin());
     let mut sink = StdSink::new(rt.stdout());
-    let status = session::<_, _, _, Brand>(
+    let status = run_session::<MailFilter, _, _, _, Brand>(
         &rt,
         &words,
         &mut source,

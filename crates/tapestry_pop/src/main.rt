@@ -2,10 +2,11 @@
 //! bytes, and standard output takes the replies, as under a superserver.
 #![tactic(auto)]
 
-mod file_session;
+mod pop_server;
 
 use command_words::{WordsFault, words_of_line};
-use file_session::session;
+use file_session::run_session;
+use pop_server::PopServer;
 use sqlite::Unknown;
 use std::marker::Brand;
 use std::process::ExitCode;
@@ -20,7 +21,7 @@ fn main(rt: HostRuntime) -> ExitCode {
     };
     let mut source = StdSource::new(rt.stdin());
     let mut sink = StdSink::new(rt.stdout());
-    let status = session::<_, _, _, Brand>(
+    let status = run_session::<PopServer, _, _, _, Brand>(
         &rt,
         &words,
         &mut source,

@@ -1,5 +1,5 @@
 use Rattle.tapestry.proofs.main.Given as goal
 
 -- the counter is that of the blank
-abbrev pub ghosts-session : goal.ghosts-session
-ghosts-session a = record { name = a.blank.name; parts = a.blank.parts }
+abbrev pub ghosts-run_session : goal.ghosts-session
+ghosts-run_session a = record { name = a.blank.name; parts = a.blank.parts }

@@ -52,6 +52,9 @@ returns-in-Err-Memory-clause-refused g c = λ t honest holds v version fault is.
 pub returns-in-Some-clause-script : goal.returns-in-Some-clause-script
 returns-in-Some-clause-script g c = λ none. absurd (some-is (sample_in c.args.words.now) c.in-Some.n (sym c.in-Ok.ensures.sample ∙ c.in-Some.is) none)
 
+pub returns-in-Some-clause-ended : goal.returns-in-Some-clause-ended
+returns-in-Some-clause-ended g c = λ none. absurd (some-is (sample_in c.args.words.now) c.in-Some.n (sym c.in-Ok.ensures.sample ∙ c.in-Some.is) none)
+
 pub returns-in-Some-clause-sample : goal.returns-in-Some-clause-sample
 returns-in-Some-clause-sample g c = λ n asked t honest holds store.
     let same : c.in-Some.n ≡ n = same-number (sample_in c.args.words.now) c.in-Some.n n (sym c.in-Ok.ensures.sample ∙ c.in-Some.is) asked in

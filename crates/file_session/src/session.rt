@@ -1,0 +1,44 @@
+//! The call that a program makes over its store.
+ghost use Rattle.std.specs.Prelude.{◌≡◌, ◌↔◌, ℕ, ℤ, List, Option, true, false};
+ghost use Rattle.std.specs.List.{All};
+ghost use Rattle.std.specs.Str.{IsUtf8};
+ghost use Rattle.keeper_core.specs.Keeping.{IsDurable};
+ghost use Rattle.tap_rows.specs.declared.tables.Tables.{Tables as TableRows};
+
+use keeper_core::Keeper;
+use std::alloc::Global;
+use std::sync::ledger::Ledger;
+use tap_base::{HashKey, Steps, Texts};
+use tap_edges::{Sink, Source};
+
+/// The call that a program makes over its store: it reads the words of the command line, and returns a status.
+pub trait Session {
+    // How it ended, whatever the store: by the words and the status; by the bytes that were left in the source before and
+    // after, and those that were written to the sink; and by the counts of faults of both.
+    ghost ends: { List (List ℕ) → ℕ → Option (List ℕ) → Option (List ℕ) → Option (List ℕ) → Option (List ℕ) → ℕ → ℕ → ℕ → ℕ → Type 0 };
+
+    // How it ended over a store with these tables and this version: by the words, the status and the bytes, and by what the
+    // store tells after and what a crash leaves then.
+    ghost ends_over: { List (List ℕ) → ℕ → Option (List ℕ) → Option (List ℕ) → Option (List ℕ) → Option (List ℕ)
+        → TableRows → (ℤ → Type 0) → (TableRows → Type 0) → (TableRows → Type 0) → Type 0 };
+
+    /// Makes the call over a keeper that isn't attached, with texts hashed under this key; returns the status, which is 5 if and only if the keeper failed.
+    fn hold<I: Source, K: Sink, P: Keeper, L: Ledger>(
+        alloc: Global,
+        key: HashKey,
+        words: &Texts,
+        source: &mut I,
+        sink: &mut K,
+        keeper: &mut P,
+        steps: &mut Steps<L>,
+    ) -> u8
+        requires free { P.attached keeper.old ≡ false }
+        requires running { P.stopped keeper.old ≡ false }
+        requires texts { All IsUtf8 words.now }
+        ensures ends { ends words.now result (I.left source.old) (I.left source.new) (K.out sink.old) (K.out sink.new)
+            (I.faults source.old) (I.faults source.new) (K.faults sink.old) (K.faults sink.new) }
+        ensures ends_over { (t : TableRows) → P.honest keeper.new → IsDurable (P.tells keeper.old) (P.may_leave keeper.old) t →
+            ends_over words.now result (I.left source.old) (I.left source.new) (K.out sink.old) (K.out sink.new)
+            t (P.has_version keeper.old) (P.tells keeper.new) (P.may_leave keeper.new) }
+        ensures stopped { (P.stopped keeper.new ≡ true) ↔ (result ≡ 5) };
+}

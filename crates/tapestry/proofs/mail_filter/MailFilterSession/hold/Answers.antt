@@ -1,0 +1,30 @@
+use Rattle.tapestry.proofs.mail_filter.MailFilterSession.hold.Goals as goal
+
+pub returns-clause-ends : goal.returns-clause-ends
+returns-clause-ends g c = record {
+  words = c.tapestry.ensures.words;
+  exact = c.tapestry.ensures.exact;
+  worded = c.tapestry.ensures.worded;
+  faulty = c.tapestry.ensures.faulty;
+  nothing = λ is. (c.tapestry.ensures.nothing is).1;
+  sample_silent = c.tapestry.ensures.sample_silent;
+  sample_unread = c.tapestry.ensures.sample_unread;
+  read = c.tapestry.ensures.causes.read_cause;
+  put = c.tapestry.ensures.causes.put_cause;
+  many = c.tapestry.ensures.many;
+  ended = c.tapestry.ensures.ended;
+  statuses = c.tapestry.ensures.statuses;
+}
+
+pub returns-clause-ends_over : goal.returns-clause-ends_over
+returns-clause-ends_over g c = λ t honest holds. record {
+  script = λ none store. c.tapestry.ensures.script none t honest holds store;
+  sample = λ n some store. c.tapestry.ensures.sample n some t honest holds store;
+  kept = λ store. c.tapestry.ensures.kept t honest holds store;
+  refused = λ v has. c.tapestry.ensures.refused t honest holds v has;
+  fine = λ v has. c.tapestry.ensures.fine t honest holds v has;
+  known = λ store. c.tapestry.ensures.known t honest holds store;
+}
+
+pub returns-clause-stopped : goal.returns-clause-stopped
+returns-clause-stopped g c = c.tapestry.ensures.causes.stopped

@@ -1,0 +1,32 @@
+//! The mail filter as a session over a store.
+use file_session::Session;
+use keeper_core::Keeper;
+use std::alloc::Global;
+use std::sync::ledger::Ledger;
+use tap_base::{HashKey, Steps, Texts};
+use tap_edges::{Sink, Source};
+use tap_top::tapestry;
+
+/// The mail filter: performs a script or a sample over the store that the words name.
+pub struct MailFilter;
+
+impl Session for MailFilter {
+    ghost use Rattle.tapestry.specs.Sessions.{Ends, EndsOver};
+
+    ghost ends = { λ words status left left' out out' reads reads' puts puts'. Ends words status left left' out out' reads reads' puts puts' };
+
+    ghost ends_over = { λ words status left left' out out' tables versions tells leaves.
+        EndsOver words status left left' out out' tables versions tells leaves };
+
+    fn hold<I: Source, K: Sink, P: Keeper, L: Ledger>(
+        alloc: Global,
+        key: HashKey,
+        words: &Texts,
+        source: &mut I,
+        sink: &mut K,
+        keeper: &mut P,
+        steps: &mut Steps<L>,
+    ) -> u8 {
+        tapestry(alloc, key, words, source, sink, keeper, steps)
+    }
+}

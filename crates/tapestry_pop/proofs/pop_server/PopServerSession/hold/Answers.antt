@@ -1,0 +1,28 @@
+use Rattle.tapestry_pop.proofs.pop_server.PopServerSession.hold.Goals as goal
+
+pub returns-clause-ends : goal.returns-clause-ends
+returns-clause-ends g c = record {
+  words = c.serve.ensures.words;
+  exact = c.serve.ensures.exact;
+  worded = c.serve.ensures.worded;
+  faulty = c.serve.ensures.faulty;
+  nothing = λ is. (c.serve.ensures.nothing is).1;
+  read = c.serve.ensures.causes.read_cause;
+  put = c.serve.ensures.causes.put_cause;
+  many = c.serve.ensures.many;
+  quit = c.serve.ensures.quit;
+  ended = c.serve.ensures.ended;
+  statuses = c.serve.ensures.statuses;
+}
+
+pub returns-clause-ends_over : goal.returns-clause-ends_over
+returns-clause-ends_over g c = λ t honest holds. record {
+  session = λ store. c.serve.ensures.session t honest holds store;
+  unchanged = c.serve.ensures.unchanged t honest holds;
+  refused = λ v has. c.serve.ensures.refused t honest holds v has;
+  fine = λ v has. c.serve.ensures.fine t honest holds v has;
+  known = λ store. c.serve.ensures.known t honest holds store;
+}
+
+pub returns-clause-stopped : goal.returns-clause-stopped
+returns-clause-stopped g c = c.serve.ensures.causes.stopped

@@ -1,0 +1,32 @@
+//! The server of a box as a session over a store.
+use file_session::Session;
+use keeper_core::Keeper;
+use pop_box::serve;
+use std::alloc::Global;
+use std::sync::ledger::Ledger;
+use tap_base::{HashKey, Steps, Texts};
+use tap_edges::{Sink, Source};
+
+/// The server of a box: holds one POP3 session over the letters of the box that the words name.
+pub struct PopServer;
+
+impl Session for PopServer {
+    ghost use Rattle.tapestry_pop.specs.Sessions.{Ends, EndsOver};
+
+    ghost ends = { λ words status left left' out out' reads reads' puts puts'. Ends words status left left' out out' reads reads' puts puts' };
+
+    ghost ends_over = { λ words status left left' out out' tables versions tells leaves.
+        EndsOver words status left left' out out' tables versions tells leaves };
+
+    fn hold<I: Source, K: Sink, P: Keeper, L: Ledger>(
+        alloc: Global,
+        key: HashKey,
+        words: &Texts,
+        source: &mut I,
+        sink: &mut K,
+        keeper: &mut P,
+        steps: &mut Steps<L>,
+    ) -> u8 {
+        serve(alloc, key, words, source, sink, keeper, steps)
+    }
+}
