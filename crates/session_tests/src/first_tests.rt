@@ -1,5 +1,5 @@
 //! What a run delivers, against what asking at each second gives.
-use crate::test_runs::{answers_within, push_number};
+use session_runs::{answers_within, push_number};
 use std::alloc::Global;
 use std::test::Fail;
 use tap_base::{Memory, Text, Texts, nth_word};

@@ -1,5 +1,5 @@
 //! A long script: it ends in time only if each run reads new rows alone.
-use crate::test_runs::{answers_within, push_line, push_number};
+use session_runs::{answers_within, push_line, push_number};
 use std::alloc::Global;
 use std::test::Fail;
 use tap_base::{Memory, Text};

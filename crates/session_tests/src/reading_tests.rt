@@ -1,5 +1,5 @@
 //! The commands that look ahead, count votes and show a run as a message.
-use crate::test_runs::answers;
+use session_runs::answers;
 use std::test::Fail;
 
 #[test]

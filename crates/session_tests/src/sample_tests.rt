@@ -1,6 +1,6 @@
 //! Samples, by the words of the command line.
-use crate::test_runs::{sink_of, source_of, status_of, words_in};
 use keeper_core::MemKeeper;
+use session_runs::{sink_of, source_of, status_of, words_in};
 use std::alloc::Global;
 use std::test::Fail;
 use tap_base::{Memory, Text};

@@ -8,9 +8,7 @@ use tap_base::{Memory, Text};
 use tap_rows::Tables;
 
 // Returns what a script writes over no rows, in pieces of this many bytes.
-fn written(alloc: Global, script: &[u8], size: u8) -> Result<Text, Memory>
-    requires some { 0 < size }
-{
+fn written(alloc: Global, script: &[u8], size: usize) -> Result<Text, Memory> {
     let left = left_by(
         alloc,
         &Tables::empty(alloc),

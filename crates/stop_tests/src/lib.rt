@@ -8,6 +8,8 @@ mod damage_tests;
 #[cfg(test)]
 mod failing_tests;
 #[cfg(test)]
+mod keeper_tests;
+#[cfg(test)]
 mod prefixes;
 #[cfg(test)]
 mod scripts;

@@ -1,4 +1,4 @@
-//! What the tests share: runs over sources, sinks and keepers in memory.
+//! Runs over sources, sinks and keepers in memory.
 ghost use Rattle.std.specs.Prelude.{◌≡◌, ◌<◌, false, IfOk};
 ghost use Rattle.std.specs.List.{All};
 ghost use Rattle.std.specs.Str.{IsUtf8};

@@ -3,9 +3,9 @@ ghost use Rattle.std.specs.Prelude.{◌≡◌, ◌<◌, false};
 ghost use Rattle.std.specs.List.{All};
 ghost use Rattle.std.specs.Str.{IsUtf8};
 
-use crate::test_runs::{sink_of, source_of, words_in, written_over};
 use keeper_core::MemKeeper;
 use pop_box::serve;
+use session_runs::{sink_of, source_of, words_in, written_over};
 use std::alloc::Global;
 use std::marker::Brand;
 use std::sync::ledger::{Blank, Ledger};

@@ -1,8 +1,8 @@
 //! Sessions over a keeper that fails, and over stores of each version.
 ghost use Rattle.std.specs.Prelude.{◌≡◌, false};
 
-use crate::test_runs::{sink_of, source_of, written_over};
 use keeper_core::{KeepPlan, MemKeeper};
+use session_runs::{sink_of, source_of, written_over};
 use std::alloc::Global;
 use std::test::Fail;
 use tap_base::{DocNum, Memory, QueryNum, Rows, Text};
