@@ -1,2 +1,2 @@
 mod Served
-mod Letters
+mod Texts

@@ -21,7 +21,7 @@ fn push_letter(
     text: Option<&[u8]>,
 ) -> Result<(), Memory>
     requires letters { AreShort letters.old }
-    requires short { IfSome (option_copied text.entry) (λ bytes. length bytes ≤ 1048576) }
+    requires short { IfSome (option_copied text) (λ bytes. length bytes ≤ 1048576) }
     ensures letters { OnOk result (letters.new ≡ letters.old ++ letter_with doc (option_copied text.entry)) }
     ensures short { OnOk result (AreShort letters.new) }
 {

@@ -1,5 +1,5 @@
 use Rattle.std.proofs.Common.{sym, subst, ◌≤◌, length, IfSome}
-use Rattle.pop_box.proofs.Letters.{text-short}
+use Rattle.pop_box.proofs.Texts.{text-short}
 use Rattle.pop_box.proofs.letters.copy_letters.Goals as goal
 
 pub push_letter-requires : goal.push_letter-requires
