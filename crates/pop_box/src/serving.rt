@@ -47,7 +47,9 @@ fn serve_with<S: Source, K: Sink, L: Ledger>(
         (S.left source.old) (S.left source.new) (K.out sink.old) (K.out sink.new)) }
     ensures statuses { IsSession result ⊎ ((result ≡ 7) ⊎ (result ≡ 9)) }
     ensures read_cause { result ≡ 3 → Rose (S.faults source.old) (S.faults source.new) }
+    ensures read_calm { result ≢ 3 → S.faults source.new ≡ S.faults source.old }
     ensures put_cause { result ≡ 4 → Rose (K.faults sink.old) (K.faults sink.new) }
+    ensures put_calm { result ≢ 4 → K.faults sink.new ≡ K.faults sink.old }
     ensures many { result ≡ 8 → TookMany (S.left source.old) (S.left source.new) }
     ensures quit { result ≡ 0 → TookQuit asked.now.user asked.now.secret (S.left source.old) (S.left source.new) }
     ensures ended { result ≡ 1 → IsAtEnd (S.left source.new) }

@@ -1,5 +1,5 @@
 //! A session over a source and a sink: the client's bytes in pieces, and the replies to them.
-ghost use Rattle.std.specs.Prelude.{◌≡◌, ◌≤◌, [], min};
+ghost use Rattle.std.specs.Prelude.{◌≡◌, ◌≢◌, [], min};
 ghost use Rattle.tap_base.specs.Counts.{Rose};
 ghost use Rattle.pop_session.specs.declared.outcome.Phase.{Phase};
 ghost use Rattle.pop_session.specs.Sessions.{AreShort, IsReady, replies_from, quits_from};
@@ -35,9 +35,10 @@ fn answer_pieces<S: Source, K: Sink>(
         (K.out sink.old) (K.out sink.new) result [] }
     ensures statuses { IsSession result }
     ensures read_cause { result ≡ 3 → Rose (S.faults source.old) (S.faults source.new) }
+    ensures read_calm { result ≢ 3 → S.faults source.new ≡ S.faults source.old }
     ensures put_cause { result ≡ 4 → Rose (K.faults sink.old) (K.faults sink.new) }
+    ensures put_calm { result ≢ 4 → K.faults sink.new ≡ K.faults sink.old }
     ensures many { result ≡ 8 → TookMany (S.left source.old) (S.left source.new) }
-    ensures later { K.faults sink.old ≤ K.faults sink.new }
 {
     replies_grow();
     let mut piece = [0u8; PIECE];
@@ -74,7 +75,9 @@ pub fn hold_session<S: Source, K: Sink>(
     ensures ends { LettersEnd result user.now secret.now letters.now (S.left source.old) (S.left source.new) (K.out sink.old) (K.out sink.new) }
     ensures statuses { IsSession result }
     ensures read_cause { result ≡ 3 → Rose (S.faults source.old) (S.faults source.new) }
+    ensures read_calm { result ≢ 3 → S.faults source.new ≡ S.faults source.old }
     ensures put_cause { result ≡ 4 → Rose (K.faults sink.old) (K.faults sink.new) }
+    ensures put_calm { result ≢ 4 → K.faults sink.new ≡ K.faults sink.old }
     ensures many { result ≡ 8 → TookMany (S.left source.old) (S.left source.new) }
 {
     let mut session = PopSession::new(user, secret, letters);

@@ -65,7 +65,7 @@ pub fn answer<K: Sink, P: Keeper, L: Ledger>(
     ensures stopped { (P.stopped keeper.new ≡ true) ↔ IsErrOf result Stop.Keeper }
     ensures cause { IsErrOf result Stop.Put → Rose (K.faults sink.old) (K.faults sink.new) }
     ensures kept_cause { IsErrOf result Stop.Keeper → Rose (P.faults keeper.old) (P.faults keeper.new) }
-    ensures later { K.faults sink.old ≤ K.faults sink.new }
+    ensures calm { (IsErrOf result Stop.Put → ⊥) → K.faults sink.new ≡ K.faults sink.old }
     ensures frame { KeeperFrame (P.place keeper.old) (P.place keeper.new) (P.faults keeper.old) (P.faults keeper.new)
         (P.honest keeper.old) (P.honest keeper.new) }
 {
@@ -124,7 +124,7 @@ fn take_one<K: Sink, P: Keeper, L: Ledger>(
     ensures stopped { (P.stopped keeper.new ≡ true) ↔ IsErrOf result Stop.Keeper }
     ensures cause { IsErrOf result Stop.Put → Rose (K.faults sink.old) (K.faults sink.new) }
     ensures kept_cause { IsErrOf result Stop.Keeper → Rose (P.faults keeper.old) (P.faults keeper.new) }
-    ensures later { K.faults sink.old ≤ K.faults sink.new }
+    ensures calm { (IsErrOf result Stop.Put → ⊥) → K.faults sink.new ≡ K.faults sink.old }
     ensures frame { KeeperFrame (P.place keeper.old) (P.place keeper.new) (P.faults keeper.old) (P.faults keeper.new)
         (P.honest keeper.old) (P.honest keeper.new) }
 {
@@ -175,7 +175,7 @@ pub fn feed<K: Sink, P: Keeper, L: Ledger>(
     ensures stopped { (P.stopped keeper.new ≡ true) ↔ IsErrOf result Stop.Keeper }
     ensures cause { IsErrOf result Stop.Put → Rose (K.faults sink.old) (K.faults sink.new) }
     ensures kept_cause { IsErrOf result Stop.Keeper → Rose (P.faults keeper.old) (P.faults keeper.new) }
-    ensures later { K.faults sink.old ≤ K.faults sink.new }
+    ensures calm { (IsErrOf result Stop.Put → ⊥) → K.faults sink.new ≡ K.faults sink.old }
     ensures frame { KeeperFrame (P.place keeper.old) (P.place keeper.new) (P.faults keeper.old) (P.faults keeper.new)
         (P.honest keeper.old) (P.honest keeper.new) }
 {
@@ -220,7 +220,7 @@ pub fn finish<K: Sink, P: Keeper, L: Ledger>(
     ensures stopped { (P.stopped keeper.new ≡ true) ↔ IsErrOf result Stop.Keeper }
     ensures cause { IsErrOf result Stop.Put → Rose (K.faults sink.old) (K.faults sink.new) }
     ensures kept_cause { IsErrOf result Stop.Keeper → Rose (P.faults keeper.old) (P.faults keeper.new) }
-    ensures later { K.faults sink.old ≤ K.faults sink.new }
+    ensures calm { (IsErrOf result Stop.Put → ⊥) → K.faults sink.new ≡ K.faults sink.old }
     ensures frame { KeeperFrame (P.place keeper.old) (P.place keeper.new) (P.faults keeper.old) (P.faults keeper.new)
         (P.honest keeper.old) (P.honest keeper.new) }
 {

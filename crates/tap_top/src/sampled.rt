@@ -148,6 +148,7 @@ fn put_summary<K: Sink>(summary: Summary, sink: &mut K) -> u8
     ensures whole { result ≤ 1 → Appends (K.out sink.old) (K.out sink.new) (summary_lines summary) }
     ensures cut { result ≡ 4 → FrontPut (summary_lines summary) (K.out sink.old) (K.out sink.new) }
     ensures cause { result ≡ 4 → Rose (K.faults sink.old) (K.faults sink.new) }
+    ensures calm { result ≢ 4 → K.faults sink.new ≡ K.faults sink.old }
 {
     match sink.put(summary.lines().as_slice()) {
         Ok(()) if summary.refused == 0 => 0,
@@ -175,6 +176,7 @@ fn run_sample<K: Sink, P: Keeper, L: Ledger>(
     ensures statuses { result ≤ 1 ⊎ (result ≡ 4 ⊎ (result ≡ 5 ⊎ result ≡ 7)) }
     ensures stopped { (P.stopped keeper.new ≡ true) ↔ (result ≡ 5) }
     ensures cause { result ≡ 4 → Rose (K.faults sink.old) (K.faults sink.new) }
+    ensures calm { result ≢ 4 → K.faults sink.new ≡ K.faults sink.old }
     ensures kept_cause { result ≡ 5 → Rose (P.faults keeper.old) (P.faults keeper.new) }
     ensures frame { KeeperFrame (P.place keeper.old) (P.place keeper.new) (P.faults keeper.old) (P.faults keeper.new)
         (P.honest keeper.old) (P.honest keeper.new) }
@@ -211,6 +213,7 @@ fn sample_with<K: Sink, P: Keeper, L: Ledger>(
     ensures statuses { result ≤ 1 ⊎ (result ≡ 4 ⊎ (result ≡ 5 ⊎ result ≡ 7)) }
     ensures stopped { (P.stopped keeper.new ≡ true) ↔ (result ≡ 5) }
     ensures cause { result ≡ 4 → Rose (K.faults sink.old) (K.faults sink.new) }
+    ensures calm { result ≢ 4 → K.faults sink.new ≡ K.faults sink.old }
     ensures kept_cause { result ≡ 5 → Rose (P.faults keeper.old) (P.faults keeper.new) }
     ensures frame { KeeperFrame (P.place keeper.old) (P.place keeper.new) (P.faults keeper.old) (P.faults keeper.new)
         (P.honest keeper.old) (P.honest keeper.new) }
@@ -252,6 +255,7 @@ pub fn sample_store<K: Sink, P: Keeper, L: Ledger>(
 
     // When each status comes.
     ensures cause { result ≡ 4 → Rose (K.faults sink.old) (K.faults sink.new) }
+    ensures calm { result ≢ 4 → K.faults sink.new ≡ K.faults sink.old }
     ensures stopped { (P.stopped keeper.new ≡ true) ↔ (result ≡ 5) }
     ensures kept_cause { result ≡ 5 → Rose (P.faults keeper.old) (P.faults keeper.new) }
     ensures statuses { result ≤ 1 ⊎ (result ≡ 4 ⊎ (result ≡ 5 ⊎ (result ≡ 6 ⊎ result ≡ 7))) }

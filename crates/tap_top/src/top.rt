@@ -86,7 +86,7 @@ fn close<K: Sink, P: Keeper, L: Ledger>(
     ensures stopped { (P.stopped keeper.new ≡ true) ↔ (result ≡ 5) }
     ensures cause { result ≡ 4 → Rose (K.faults sink.old) (K.faults sink.new) }
     ensures kept_cause { result ≡ 5 → Rose (P.faults keeper.old) (P.faults keeper.new) }
-    ensures later { K.faults sink.old ≤ K.faults sink.new }
+    ensures calm { result ≢ 4 → K.faults sink.new ≡ K.faults sink.old }
     ensures frame { KeeperFrame (P.place keeper.old) (P.place keeper.new) (P.faults keeper.old) (P.faults keeper.new)
         (P.honest keeper.old) (P.honest keeper.new) }
 {
@@ -116,7 +116,9 @@ fn run<S: Source, K: Sink, P: Keeper, L: Ledger>(
     ensures statuses { result ≤ 1 ⊎ (result ≡ 3 ⊎ (result ≡ 4 ⊎ (result ≡ 5 ⊎ (result ≡ 7 ⊎ result ≡ 8)))) }
     ensures stopped { (P.stopped keeper.new ≡ true) ↔ (result ≡ 5) }
     ensures read_cause { result ≡ 3 → Rose (S.faults source.old) (S.faults source.new) }
+    ensures read_calm { result ≢ 3 → S.faults source.new ≡ S.faults source.old }
     ensures put_cause { result ≡ 4 → Rose (K.faults sink.old) (K.faults sink.new) }
+    ensures put_calm { result ≢ 4 → K.faults sink.new ≡ K.faults sink.old }
     ensures ended { result ≤ 1 → IsAtEnd (S.left source.new) }
     ensures kept_cause { result ≡ 5 → Rose (P.faults keeper.old) (P.faults keeper.new) }
     ensures frame { KeeperFrame (P.place keeper.old) (P.place keeper.new) (P.faults keeper.old) (P.faults keeper.new)
@@ -173,7 +175,9 @@ fn run_with<S: Source, K: Sink, P: Keeper, L: Ledger>(
     ensures statuses { result ≤ 1 ⊎ (result ≡ 3 ⊎ (result ≡ 4 ⊎ (result ≡ 5 ⊎ (result ≡ 7 ⊎ result ≡ 8)))) }
     ensures stopped { (P.stopped keeper.new ≡ true) ↔ (result ≡ 5) }
     ensures read_cause { result ≡ 3 → Rose (S.faults source.old) (S.faults source.new) }
+    ensures read_calm { result ≢ 3 → S.faults source.new ≡ S.faults source.old }
     ensures put_cause { result ≡ 4 → Rose (K.faults sink.old) (K.faults sink.new) }
+    ensures put_calm { result ≢ 4 → K.faults sink.new ≡ K.faults sink.old }
     ensures ended { result ≤ 1 → IsAtEnd (S.left source.new) }
     ensures kept_cause { result ≡ 5 → Rose (P.faults keeper.old) (P.faults keeper.new) }
     ensures frame { KeeperFrame (P.place keeper.old) (P.place keeper.new) (P.faults keeper.old) (P.faults keeper.new)

@@ -1,4 +1,4 @@
-use Rattle.std.proofs.Common.{arith, ◌≤◌, ◌<◌, length}
+use Rattle.std.proofs.Common.{◌∙◌, refl, arith, ◌≤◌, ◌<◌, length}
 use Rattle.pop_session.specs.declared.hold.TheConstants.{SESSION_LIMIT, PIECE}
 use Rattle.pop_session.proofs.PieceRuns.{Answering-start, Answering-more, Answering-quit, Answering-read, Answering-end, Answering-long, Answering-cut, none-taken, many-taken, few-taken, begun-none, begun-open, begun-grows, quit-ends, end-ends, read-ends, put-ends, long-ends}
 use Rattle.pop_session.proofs.hold.answer_pieces.Goals as goal
@@ -8,8 +8,8 @@ pieces-init g c = record {
   answering = Answering-start _ _ _ _ (begun-none c.args.session.now c.requires.unread c.requires.first) (begun-open c.args.session.now c.requires.unread c.requires.first);
   few = omega arith;
   ready = c.requires.ready;
-  reads = omega arith;
-  puts = omega arith;
+  reads = refl;
+  puts = refl;
 }
 
 pub pieces-preserved : goal.pieces-preserved
@@ -19,8 +19,8 @@ pieces-preserved g c =
           c.in-Ok-false.ensures.ok c.in-Ok-false.ensures.next c.in-Ok-false.ensures.quits _ c.in-Ok-false.field-0-test c.in-Ok-false.ensures.quit;
       few = few-taken _ c.in-Ok.n c.pieces-test.true within;
       ready = c.in-Ok-false.ensures.ready c.in-Ok-false.field-0-test;
-      reads = (let a = c.pieces.invariant.reads in let b = c.in-Ok.ensures.cause.later in omega arith);
-      puts = (let a = c.pieces.invariant.puts in let b = c.in-Ok-false.ensures.cause.later in omega arith);
+      reads = c.in-Ok.ensures.cause.fine ∙ c.pieces.invariant.reads;
+      puts = c.in-Ok-false.ensures.cause.fine ∙ c.pieces.invariant.puts;
     }
 
 pub returns-in-Err-clause-ends : goal.returns-in-Err-clause-ends

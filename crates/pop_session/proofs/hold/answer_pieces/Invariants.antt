@@ -10,8 +10,8 @@ invariant-pieces g l = record {
   answering : Answering (g.S.Source.left l.fn.source) (g.S.Source.left l.source) l.taken (replies_from l.fn.session) (replies_from l.session) (quits_from l.fn.session) (quits_from l.session) (g.K.Sink.out l.fn.sink) (g.K.Sink.out l.sink);
   few : l.taken ≤ SESSION_LIMIT + PIECE;
   ready : IsReady l.session;
-  reads : g.S.Source.faults l.fn.source ≤ g.S.Source.faults l.source;
-  puts : g.K.Sink.faults l.fn.sink ≤ g.K.Sink.faults l.sink;
+  reads : g.S.Source.faults l.source ≡ g.S.Source.faults l.fn.source;
+  puts : g.K.Sink.faults l.sink ≡ g.K.Sink.faults l.fn.sink;
 }
 
 abbrev pub decreases-pieces : goal.decreases-pieces

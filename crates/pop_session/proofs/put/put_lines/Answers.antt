@@ -1,4 +1,4 @@
-use Rattle.std.proofs.Common.{arith}
+use Rattle.std.proofs.Common.{◌∙◌}
 use Rattle.pop_session.specs.Letters.{line, stuffed}
 use Rattle.pop_session.proofs.Puts.{Puts-more, Puts-cut}
 use Rattle.pop_session.proofs.Rows.{lines-next}
@@ -7,7 +7,7 @@ use Rattle.pop_session.proofs.put.put_lines.Goals as goal
 pub lines-preserved : goal.lines-preserved
 lines-preserved g c = record {
   puts = Puts-more _ _ _ (line (stuffed c.first_lined-first.result.line.now)) _ _ _ _ _ _ c.lines.invariant.puts (lines-next c.lines.rest.now c.first_lined-first.result.line.now c.first_lined-first.result.rest.now c.first_lined-first.ensures.lines) c.in-Ok.ensures.count c.in-Ok.ensures.ok;
-  later = (let a = c.lines.invariant.later in let b = c.in-Ok.ensures.cause.later in omega arith);
+  same = c.in-Ok.ensures.cause.fine ∙ c.lines.invariant.same;
 }
 
 pub returns-in-Err-clause-err : goal.returns-in-Err-clause-err

@@ -1,4 +1,4 @@
-use Rattle.std.proofs.Common.{◌≤◌, length}
+use Rattle.std.proofs.Common.{◌≡◌, length}
 use Rattle.pop_session.specs.Letters.{sent_lines}
 use Rattle.pop_session.proofs.Puts.{Puts}
 use Rattle.pop_session.proofs.put.put_lines.Given as goal
@@ -7,7 +7,7 @@ use Rattle.pop_session.proofs.put.put_lines.Given as goal
 abbrev pub invariant-lines : goal.invariant-lines
 invariant-lines g l = record {
   puts : Puts (sent_lines l.fn.text) (sent_lines l.rest) l.fn.start l.done (g.K.Sink.out l.fn.sink) (g.K.Sink.out l.sink);
-  later : g.K.Sink.faults l.fn.sink ≤ g.K.Sink.faults l.sink;
+  same : g.K.Sink.faults l.sink ≡ g.K.Sink.faults l.fn.sink;
 }
 
 abbrev pub decreases-lines : goal.decreases-lines

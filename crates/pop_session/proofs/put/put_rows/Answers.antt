@@ -1,4 +1,4 @@
-use Rattle.std.proofs.Common.{◌∙◌, arith}
+use Rattle.std.proofs.Common.{◌∙◌}
 use Rattle.pop_session.proofs.Puts.{Puts-more, Puts-cut}
 use Rattle.pop_session.proofs.Rows.{rows-next}
 use Rattle.pop_session.proofs.put.put_rows.Goals as goal
@@ -6,7 +6,7 @@ use Rattle.pop_session.proofs.put.put_rows.Goals as goal
 pub loop-i-preserved : goal.loop-i-preserved
 loop-i-preserved g c = record {
   puts = Puts-more _ _ _ c.as_slice.result.now _ _ _ _ _ _ c.loop-i.invariant.puts (rows-next c.args.listing c.args.letters.now c.loop-i.i c.index-letters-i.result c.as_slice.result.now c.loop-i-test.true c.index-letters-i.is (c.as_slice.ensures.value ∙ c.row_line.ensures)) c.in-Ok.ensures.count c.in-Ok.ensures.ok;
-  later = (let a = c.loop-i.invariant.later in let b = c.in-Ok.ensures.cause.later in omega arith);
+  same = c.in-Ok.ensures.cause.fine ∙ c.loop-i.invariant.same;
 }
 
 pub returns-in-Err-clause-err : goal.returns-in-Err-clause-err

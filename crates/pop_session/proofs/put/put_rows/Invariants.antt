@@ -1,4 +1,4 @@
-use Rattle.std.proofs.Common.{◌≤◌, ◌+◌, drop}
+use Rattle.std.proofs.Common.{◌≡◌, ◌+◌, drop}
 use Rattle.pop_session.specs.Letters.{rows_from}
 use Rattle.pop_session.proofs.Puts.{Puts}
 use Rattle.pop_session.proofs.put.put_rows.Given as goal
@@ -7,5 +7,5 @@ use Rattle.pop_session.proofs.put.put_rows.Given as goal
 abbrev pub invariant-loop-i : goal.invariant-loop-i
 invariant-loop-i g l = record {
   puts : Puts (rows_from l.listing 1 l.letters) (rows_from l.listing (l.i + 1) (drop l.i l.letters)) l.start l.done (g.K.Sink.out l.fn.sink) (g.K.Sink.out l.sink);
-  later : g.K.Sink.faults l.fn.sink ≤ g.K.Sink.faults l.sink;
+  same : g.K.Sink.faults l.sink ≡ g.K.Sink.faults l.fn.sink;
 }

@@ -1,4 +1,4 @@
-use Rattle.std.proofs.Common.{arith, Err, ap, sym, subst}
+use Rattle.std.proofs.Common.{◌≡◌, ◌∙◌, refl, Err, ap, sym, subst}
 use Rattle.keeper_core.specs.Keeping.{IsDurable}
 use Rattle.tap_top.specs.Points.{EngineMatchesKeeper}
 use Rattle.tap_top.proofs.Steps.{Feeding-start, Feeding-more, Feeding-cut, Feeding-uncommitted, Feeding-short, KeeperFrame-start, KeeperFrame-then}
@@ -9,7 +9,7 @@ loop-rest-init g c = record {
   feeding = λ t honest at. Feeding-start c.args.piece.now c.args.reader.now t _ _ (EngineMatchesKeeper c.args.engine.now (g.P.Keeper.tells c.args.keeper.now) (g.P.Keeper.may_leave c.args.keeper.now)) c.requires.open at.sound at;
   ended = c.requires.open;
   can = c.requires.can;
-  later = omega arith;
+  same = refl;
   keeper = KeeperFrame-start _ _ _;
 }
 
@@ -18,7 +18,7 @@ loop-rest-preserved g c = record {
   feeding = λ t honest at. Feeding-more _ _ _ c.in-Ok.step.used _ _ _ t _ _ _ _ _ c.loop-rest.all_ok _ _ _ c.in-Ok.step.ok (c.loop-rest.invariant.feeding t (c.in-Ok.ensures.frame.before honest) at) c.rest_from-rest.ensures (λ t1 there. c.in-Ok.ensures.ok t1 honest there);
   ended = c.in-Ok.ensures.open;
   can = c.in-Ok.ensures.can;
-  later = (let a = c.loop-rest.invariant.later in let b = c.in-Ok.ensures.later in omega arith);
+  same = c.in-Ok.ensures.calm (λ e. cc) ∙ c.loop-rest.invariant.same;
   keeper = KeeperFrame-then _ _ _ _ _ _ _ _ _ c.loop-rest.invariant.keeper c.in-Ok.ensures.frame;
 }
 

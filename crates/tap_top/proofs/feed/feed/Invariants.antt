@@ -1,4 +1,4 @@
-use Rattle.std.proofs.Common.{◌≡◌, ◌≤◌, length, []}
+use Rattle.std.proofs.Common.{◌≡◌, length, []}
 use Rattle.tap_rows.specs.declared.tables.Tables.{Tables}
 use Rattle.script_lang.specs.Script.{complete_from}
 use Rattle.tap_top.specs.Points.{CanPerform, EngineMatchesKeeper, KeeperFrame}
@@ -10,7 +10,7 @@ invariant-loop-rest g l = record {
   feeding : (t : Tables) → g.P.Keeper.honest l.keeper → EngineMatchesKeeper l.fn.engine (g.P.Keeper.tells l.fn.keeper) (g.P.Keeper.may_leave l.fn.keeper) t → Feeding l.piece l.rest l.fn.reader l.reader t l.fn.engine.session (g.K.Sink.out l.fn.sink) (g.K.Sink.out l.sink) (EngineMatchesKeeper l.engine (g.P.Keeper.tells l.keeper) (g.P.Keeper.may_leave l.keeper)) l.engine.session l.all_ok;
   ended : complete_from l.reader [] ≡ [];
   can : CanPerform l.engine (g.P.Keeper.attached l.keeper) (g.P.Keeper.stopped l.keeper);
-  later : g.K.Sink.faults l.fn.sink ≤ g.K.Sink.faults l.sink;
+  same : g.K.Sink.faults l.sink ≡ g.K.Sink.faults l.fn.sink;
   keeper : KeeperFrame (g.P.Keeper.place l.fn.keeper) (g.P.Keeper.place l.keeper) (g.P.Keeper.faults l.fn.keeper) (g.P.Keeper.faults l.keeper) (g.P.Keeper.honest l.fn.keeper) (g.P.Keeper.honest l.keeper);
 }
 

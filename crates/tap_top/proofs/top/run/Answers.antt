@@ -1,5 +1,5 @@
 use Rattle.keeper_core.specs.Keeping.{IsDurable}
-use Rattle.std.proofs.Common.{arith, ap, sym, subst, refl, Err, ◌≤◌, ◌<◌, length}
+use Rattle.std.proofs.Common.{◌∙◌, arith, ap, sym, subst, refl, Err, ◌≤◌, ◌<◌, length}
 use Rattle.std.specs.Prelude.{◌==◌}
 use Rattle.tap_top.specs.declared.top.TheConstants.{PIECE}
 use Rattle.tap_top.specs.Points.{EngineMatchesKeeper}
@@ -15,8 +15,8 @@ pieces-init g c = record {
   few = omega arith;
   ended = rw c.new-reader.ensures refl;
   can = c.requires.can;
-  reads = omega arith;
-  puts = omega arith;
+  reads = refl;
+  puts = refl;
   keeper = KeeperFrame-start _ _ _;
 }
 
@@ -27,8 +27,8 @@ pieces-preserved g c = record {
   few = few-taken _ c.in-Ok.n c.pieces-test.true (let within : c.in-Ok.n ≤ PIECE = grind (arith, c.in-Ok.ensures.bound) in within);
   ended = c.in-Ok-feed.ensures.open;
   can = c.in-Ok-feed.ensures.can;
-  reads = (let a = c.pieces.invariant.reads in let b = c.in-Ok.ensures.cause.later in omega arith);
-  puts = (let a = c.pieces.invariant.puts in let b = c.in-Ok-feed.ensures.later in omega arith);
+  reads = c.in-Ok.ensures.cause.fine ∙ c.pieces.invariant.reads;
+  puts = c.in-Ok-feed.ensures.calm (λ e. cc) ∙ c.pieces.invariant.puts;
   keeper = KeeperFrame-then _ _ _ _ _ _ _ _ _ c.pieces.invariant.keeper c.in-Ok-feed.ensures.frame;
 }
 

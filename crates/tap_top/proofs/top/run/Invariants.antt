@@ -13,8 +13,8 @@ invariant-pieces g l = record {
   few : l.taken ≤ SCRIPT_LIMIT + PIECE;
   ended : complete_from l.reader [] ≡ [];
   can : CanPerform l.engine (g.P.Keeper.attached l.keeper) (g.P.Keeper.stopped l.keeper);
-  reads : g.S.Source.faults l.fn.source ≤ g.S.Source.faults l.source;
-  puts : g.K.Sink.faults l.fn.sink ≤ g.K.Sink.faults l.sink;
+  reads : g.S.Source.faults l.source ≡ g.S.Source.faults l.fn.source;
+  puts : g.K.Sink.faults l.sink ≡ g.K.Sink.faults l.fn.sink;
   keeper : KeeperFrame (g.P.Keeper.place l.fn.keeper) (g.P.Keeper.place l.keeper) (g.P.Keeper.faults l.fn.keeper) (g.P.Keeper.faults l.keeper) (g.P.Keeper.honest l.fn.keeper) (g.P.Keeper.honest l.keeper);
 }
 

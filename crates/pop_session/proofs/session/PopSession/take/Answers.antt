@@ -1,4 +1,4 @@
-use Rattle.std.proofs.Common.{◌∙◌, ap, arith}
+use Rattle.std.proofs.Common.{◌∙◌, ap}
 use Rattle.pop_session.specs.Sessions.{is_ended}
 use Rattle.pop_session.proofs.Taken.{Taken-more, end-put, end-next, end-quits, end-quit, open-replies, ended-silent, taken-cut}
 use Rattle.pop_session.proofs.session.PopSession.take.Goals as goal
@@ -8,7 +8,7 @@ requests-preserved g c = record {
   taken = Taken-more c.args.self.now c.requests.self c.take_one.new.self c.args.piece.now c.requests.rest.now c.rest_from-rest.result.now c.in-Ok.step.used _ _ _ _ _ c.requests.invariant.taken c.rest_from-rest.ensures c.in-Ok.ensures.next c.in-Ok.ensures.quits c.in-Ok.ensures.count c.in-Ok.ensures.ok;
   greeted = c.in-Ok.ensures.going.0;
   going = c.in-Ok.ensures.going.1;
-  later = (let a = c.requests.invariant.later in let b = c.in-Ok.ensures.cause.later in omega arith);
+  same = c.in-Ok.ensures.cause.fine ∙ c.requests.invariant.same;
 }
 
 pub returns-in-Err-clause-err : goal.returns-in-Err-clause-err

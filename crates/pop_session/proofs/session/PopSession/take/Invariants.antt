@@ -1,4 +1,4 @@
-use Rattle.std.proofs.Common.{◌≡◌, ◌≤◌, length, true, false}
+use Rattle.std.proofs.Common.{◌≡◌, length, true, false}
 use Rattle.pop_session.proofs.Taken.{Taken}
 use Rattle.pop_session.proofs.session.PopSession.take.Given as goal
 
@@ -8,7 +8,7 @@ invariant-requests g l = record {
   taken : Taken l.fn.self l.self l.piece l.rest l.done (g.K.Sink.out l.fn.sink) (g.K.Sink.out l.sink);
   greeted : l.self.greeted ≡ true;
   going : l.self.failed ≡ false;
-  later : g.K.Sink.faults l.fn.sink ≤ g.K.Sink.faults l.sink;
+  same : g.K.Sink.faults l.sink ≡ g.K.Sink.faults l.fn.sink;
 }
 
 abbrev pub decreases-requests : goal.decreases-requests
