@@ -1,5 +1,6 @@
 pub mod AccessLists
 pub mod AccessTables
+pub mod AlikeRows
 pub mod Costs
 pub mod DriverLaws
 pub mod Dues
