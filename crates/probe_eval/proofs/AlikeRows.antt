@@ -45,6 +45,7 @@ use Rattle.access_plan.proofs.Fields as same
 use Rattle.access_plan.proofs.Nearests.{nearest_serves}
 use Rattle.probe_eval.specs.Open.{number_known, text_known, atom_known, atom_held, is_open, are_open, path_open, is_apart, are_apart, path_apart, may_go}
 use Rattle.probe_eval.specs.Work.{admits_by, rows_by}
+use Rattle.probe_eval.specs.Laws.{RestsAreAlike}
 use Rattle.probe_eval.specs.Rests.{all_or, rest_of}
 use Rattle.probe_eval.proofs.Costs.{filter_same}
 use Rattle.probe_eval.proofs.NextRows.{nearest_held, held_alike}
@@ -323,3 +324,6 @@ module _ (T : Tables) (path : List Step) (b : ℤ) (env : Env) (v : Var) (apart 
         | inl e ↦ e
         | inr n ↦ absurd (false≢true (stopped T path b order (bind v row env) n ∙ i))
       ]
+
+pub rests_are_alike : RestsAreAlike
+rests_are_alike T path b order env v row other apart g h = rest_alike T path b env v apart order row other g h

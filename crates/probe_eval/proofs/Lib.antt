@@ -9,6 +9,7 @@ pub mod Founds
 pub mod HitSteps
 pub mod Inner
 pub mod LeastSeconds
+pub mod LevelLaws
 pub mod LiteralLaws
 pub mod Meant
 pub mod Members

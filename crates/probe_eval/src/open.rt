@@ -104,8 +104,8 @@ fn are_apart(env: &Env, var: Var, guards: &[Atom]) -> bool
     true
 }
 
-// Returns whether no guard of the path names the variable and another one that has no row yet.
-fn path_apart(path: &[Step], env: &Env, var: Var) -> bool
+/// Returns whether no guard of the path names the variable and another one that has no row yet.
+pub(crate) fn path_apart(path: &[Step], env: &Env, var: Var) -> bool
     ensures { result ≡ path_apart path.now env.now var }
 {
     for step in path {

@@ -8,26 +8,16 @@ ghost use Rattle.probe_eval.specs.Rests.{further, rest_of, rest_cost};
 use crate::Next;
 use crate::access_rows::rows_by;
 use crate::open::{is_like_others, may_go};
-use access_plan::{Reach, ReachRef, nearest};
+use access_plan::{Reach, ReachRef};
 use row_index::RowIndex;
 use std::sync::ledger::Ledger;
 use tap_base::Steps;
 use time_marks::Step;
 use tql_core::Env;
 
-/// Returns the step of a path that is looked for next. `None` comes if each has a row or the rows so far are refused.
-pub fn further<'a>(path: &'a [Step], mark: i64, env: &Env<'a>) -> Option<ReachRef<'a>>
-    ensures { option_reach result ≡ further path.now mark env.now }
-{
-    if may_go(path, mark, env) {
-        nearest(path, env)
-    } else {
-        None
-    }
-}
-
-/// Returns what `further` does. The nearest step is found once for all rows of a level.
-pub fn further_once<'a>(
+/// Returns the step of a path that is looked for next. `None` comes if each has a row or the rows so far are refused. The
+/// nearest step is found once for all rows of a level.
+pub(crate) fn further_once<'a>(
     path: &'a [Step],
     next: &mut Next<'a>,
     mark: i64,
