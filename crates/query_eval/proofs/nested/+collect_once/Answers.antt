@@ -20,14 +20,14 @@ pub loop-row-init : goal.loop-row-init
 loop-row-init g t c =
     let mark = to_z w64 (of_z w64 c.args.mark) in
     let p = probe_in c.args.search.now.pool.now c.args.search.now.probe.now in
-    let v : IsLevel c.args.search.now.seen.now c.args.search.now.index.now p mark c.args.order.now c.args.env.now c.in-Some-next_level.level = search rules in
-    let q : c.rows_by-rows.result ≡ rows_at c.args.search.now.index.now mark c.args.env.now c.in-Some-next_level.level = search rules in
-    let s : c.next_level.new.steps + level_cost c.args.search.now.index.now p mark c.args.env.now (Some c.in-Some-next_level.level) ≤ c.args.steps.now + work_over c.args.search.now.index.now p mark c.args.sure c.args.order.now c.args.env.now = search rules in
+    let v : IsLevel c.args.search.now.seen.now c.args.search.now.index.now p mark c.args.order.now c.args.env.now c.in-Some.level = search rules in
+    let q : c.rows_by-rows.result ≡ rows_at c.args.search.now.index.now mark c.args.env.now c.in-Some.level = search rules in
+    let s : c.next_level.new.steps + level_cost c.args.search.now.index.now p mark c.args.env.now (Some c.in-Some.level) ≤ c.args.steps.now + work_over c.args.search.now.index.now p mark c.args.sure c.args.order.now c.args.env.now = search rules in
     record {
-      hits = level_hits c.args.search.now.seen.now c.args.search.now.index.now p mark c.args.order.now c.args.env.now c.in-Some-next_level.level c.rows_by-rows.result _ _ v q;
+      hits = level_hits c.args.search.now.seen.now c.args.search.now.index.now p mark c.args.order.now c.args.env.now c.in-Some.level c.rows_by-rows.result _ _ v q;
       ready = c.requires.ready;
       places = refl;
-      steps = level_steps c.args.search.now.index.now p mark c.args.env.now c.in-Some-next_level.level c.rows_by-rows.result _ _ q s;
+      steps = level_steps c.args.search.now.index.now p mark c.args.env.now c.in-Some.level c.rows_by-rows.result _ _ q s;
       more = c.next_level.ensures.more;
       next = λ row. tt;
     }
@@ -38,9 +38,9 @@ loop-row-preserved g t c =
     let s : c.next.new.steps ≡ c.loop-row.steps + 1 = search rules in
     let mark = to_z w64 (of_z w64 c.args.mark) in
     let p = probe_in c.args.search.now.pool.now c.args.search.now.probe.now in
-    let x = bind c.in-Some-next_level.level.reach.var (row_of c.in-Some-next.row) c.args.env.now in
-    let h : c.collect_once.new.into.hits.items ≡ keeping (length c.loop-row.into.places.items) c.loop-row.into.hits.items (hits_over c.args.search.now.seen.now c.args.search.now.index.now p mark c.in-Some-next_level.level.rest.now x) = search rules in
-    let k : c.collect_once.new.steps ≤ c.next.new.steps + work_over c.args.search.now.index.now p mark c.in-Some-next_level.level.sure c.in-Some-next_level.level.rest.now x = search rules in
+    let x = bind c.in-Some.level.reach.var (row_of c.in-Some-next.row) c.args.env.now in
+    let h : c.collect_once.new.into.hits.items ≡ keeping (length c.loop-row.into.places.items) c.loop-row.into.hits.items (hits_over c.args.search.now.seen.now c.args.search.now.index.now p mark c.in-Some.level.rest.now x) = search rules in
+    let k : c.collect_once.new.steps ≤ c.next.new.steps + work_over c.args.search.now.index.now p mark c.in-Some.level.sure c.in-Some.level.rest.now x = search rules in
     let i = c.loop-row.invariant.more in
     let m = c.collect_once.ensures.more in
     let n : IsNext c.args.search.now.probe.now.path x c.collect_once.new.next = search rules in
@@ -50,7 +50,7 @@ loop-row-preserved g t c =
       places = c.collect_once.ensures.places ∙ c.loop-row.invariant.places;
       steps = cost_step _ _ _ _ _ _ _ (row_of c.in-Some-next.row) c.loop-row.invariant.steps e s k;
       more = omega (arith, i, s, m);
-      next = λ row. next_alike c.args.search.now.probe.now.path c.in-Some-next_level.level.reach.var (row_of c.in-Some-next.row) row c.args.env.now c.collect_once.new.next n;
+      next = λ row. next_alike c.args.search.now.probe.now.path c.in-Some.level.reach.var (row_of c.in-Some-next.row) row c.args.env.now c.collect_once.new.next n;
     }
 
 pub returns-in-Some-OfDoc-clause-hits : goal.returns-in-Some-OfDoc-clause-hits
@@ -79,7 +79,7 @@ collect_once-requires g t c κs within =
     let mark = to_z w64 (of_z w64 c.args.mark) in
     let p = probe_in c.args.search.now.pool.now c.args.search.now.probe.now in
     let by = c.loop-row.invariant.next (row_of c.in-Some-next.row) in
-    let v : IsLevel c.args.search.now.seen.now c.args.search.now.index.now p mark c.args.order.now c.args.env.now c.in-Some-next_level.level = search rules in
+    let v : IsLevel c.args.search.now.seen.now c.args.search.now.index.now p mark c.args.order.now c.args.env.now c.in-Some.level = search rules in
     let sure = v.sure (row_of c.in-Some-next.row) in
     let fewer = v.fewer in
     search (rules, by, sure, fewer)

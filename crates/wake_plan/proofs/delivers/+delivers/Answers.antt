@@ -18,12 +18,12 @@ pub loop-row-init : goal.loop-row-init
 loop-row-init g t c =
     let mark = to_z w64 (of_z w64 c.args.mark) in
     let p = probe_in c.args.search.now.pool.now c.args.search.now.probe.now in
-    let v : IsLevel c.args.search.now.seen.now c.args.search.now.index.now p mark c.args.order.now c.args.env.now c.in-Some-next_level.level = search rules in
-    let q : c.rows_by-rows.result ≡ rows_at c.args.search.now.index.now mark c.args.env.now c.in-Some-next_level.level = search rules in
-    let s : c.next_level.new.steps + level_cost c.args.search.now.index.now p mark c.args.env.now (Some c.in-Some-next_level.level) ≤ c.args.steps.now + work_over c.args.search.now.index.now p mark c.args.sure c.args.order.now c.args.env.now = search rules in
+    let v : IsLevel c.args.search.now.seen.now c.args.search.now.index.now p mark c.args.order.now c.args.env.now c.in-Some.level = search rules in
+    let q : c.rows_by-rows.result ≡ rows_at c.args.search.now.index.now mark c.args.env.now c.in-Some.level = search rules in
+    let s : c.next_level.new.steps + level_cost c.args.search.now.index.now p mark c.args.env.now (Some c.in-Some.level) ≤ c.args.steps.now + work_over c.args.search.now.index.now p mark c.args.sure c.args.order.now c.args.env.now = search rules in
     record {
-      same = ap has_hit (v.hits ∙ ap (flat_map (λ row. hits_over c.args.search.now.seen.now c.args.search.now.index.now p mark c.in-Some-next_level.level.rest.now (bind c.in-Some-next_level.level.reach.var row c.args.env.now))) (sym q));
-      steps = level_steps c.args.search.now.index.now p mark c.args.env.now c.in-Some-next_level.level c.rows_by-rows.result _ _ q s;
+      same = ap has_hit (v.hits ∙ ap (flat_map (λ row. hits_over c.args.search.now.seen.now c.args.search.now.index.now p mark c.in-Some.level.rest.now (bind c.in-Some.level.reach.var row c.args.env.now))) (sym q));
+      steps = level_steps c.args.search.now.index.now p mark c.args.env.now c.in-Some.level c.rows_by-rows.result _ _ q s;
       more = c.next_level.ensures.more;
     }
 
@@ -33,10 +33,10 @@ loop-row-preserved g t c =
     let s : c.next.new.steps ≡ c.loop-row.steps + 1 = search rules in
     let mark = to_z w64 (of_z w64 c.args.mark) in
     let p = probe_in c.args.search.now.pool.now c.args.search.now.probe.now in
-    let x = bind c.in-Some-next_level.level.reach.var (row_of c.in-Some-next.row) c.args.env.now in
-    let h : c.delivers.result ≡ has_hit (hits_over c.args.search.now.seen.now c.args.search.now.index.now p mark c.in-Some-next_level.level.rest.now x) = search rules in
+    let x = bind c.in-Some.level.reach.var (row_of c.in-Some-next.row) c.args.env.now in
+    let h : c.delivers.result ≡ has_hit (hits_over c.args.search.now.seen.now c.args.search.now.index.now p mark c.in-Some.level.rest.now x) = search rules in
     let n : c.delivers.result ≡ false = search rules in
-    let k : c.delivers.new.steps ≤ c.next.new.steps + work_over c.args.search.now.index.now p mark c.in-Some-next_level.level.sure c.in-Some-next_level.level.rest.now x = search rules in
+    let k : c.delivers.new.steps ≤ c.next.new.steps + work_over c.args.search.now.index.now p mark c.in-Some.level.sure c.in-Some.level.rest.now x = search rules in
     let i = c.loop-row.invariant.more in
     let m = c.delivers.ensures.more in
     record {
@@ -70,7 +70,7 @@ pub delivers-requires : goal.delivers-requires
 delivers-requires g t c κs within =
     let mark = to_z w64 (of_z w64 c.args.mark) in
     let p = probe_in c.args.search.now.pool.now c.args.search.now.probe.now in
-    let v : IsLevel c.args.search.now.seen.now c.args.search.now.index.now p mark c.args.order.now c.args.env.now c.in-Some-next_level.level = search rules in
+    let v : IsLevel c.args.search.now.seen.now c.args.search.now.index.now p mark c.args.order.now c.args.env.now c.in-Some.level = search rules in
     let sure = v.sure (row_of c.in-Some-next.row) in
     let fewer = v.fewer in
     search (rules, sure, fewer)
