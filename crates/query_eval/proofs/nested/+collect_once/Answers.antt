@@ -1,11 +1,11 @@
-use Rattle.std.proofs.Common.{rules, ◌≡◌, ◌≤◌, ◌+◌, ◌∷◌, ◌∙◌, [], None, Some, arith, length, refl, sym, ap, to_z, of_z, w64}
+use Rattle.std.proofs.Common.{rules, ◌≡◌, ◌≤◌, ◌+◌, ◌∷◌, ◌∙◌, None, Some, arith, length, refl, sym, ap, to_z, of_z, w64}
 use Rattle.std.specs.Prelude.{option_to_list}
 use Rattle.tql_core.specs.Bindings.{row_of}
 use Rattle.tql_core.specs.Row.{OfDoc, OfNote}
 use Rattle.tql_core.specs.Values.{bind, lookup}
 use Rattle.time_marks.specs.Views.{probe_in}
 use Rattle.query_eval.specs.Lowest.{keeping}
-use Rattle.probe_eval.specs.Levels.{IsLevel, IsSure, level_cost, rows_at}
+use Rattle.probe_eval.specs.Levels.{IsLevel, level_cost, rows_at}
 use Rattle.probe_eval.specs.Nexts.{IsNext}
 use Rattle.probe_eval.specs.Nested.{new_doc, hit_if, holds_here, hits_over, work_over, cost_here}
 use Rattle.probe_eval.proofs.Steps.{cost_step}
