@@ -212,10 +212,13 @@ module _ (T : Tables) (w : Window) (p : Probe) (order : List Reach) (k : IsProbe
             one : work_over T p b false (r ∷ []) [] ≤ total due T.docs
             one = go (further p.path b []) refl
               where
-                go : (o : Option Reach) → further p.path b [] ≡ o → cost_of o (λ x. total (λ row. 1 + work_over T p b false [] (bind x.var row [])) (rows_by b x.access [] T)) ≤ total due T.docs
+                go : (o : Option Reach) → further p.path b [] ≡ o → cost_of o (λ x. 0 + total (λ row. 1 + work_over T p b false [] (bind x.var row [])) (rows_by b x.access [] T)) ≤ total due T.docs
                 go None e = omega arith
-                go (Some x) e = next x (nearest_serves p.path [] x (further_is p.path b [] x e).1)
+                go (Some x) e = plain _ _ (next x (nearest_serves p.path [] x (further_is p.path b [] x e).1))
                   where
+                    plain : (n m : ℕ) → n ≤ m → 0 + n ≤ m
+                    plain n m h = omega (arith, h)
+
                     next : (x : Reach) → IsNearest p.path [] x → total (λ row. 1 + work_over T p b false [] (bind x.var row [])) (rows_by b x.access [] T) ≤ total due T.docs
                     next x near = subst (λ z. total (λ row. 1 + work_over T p b false [] (bind x.var row [])) (rows_by b x.access [] T) ≤ z) all (trans (total_filter _ (admits_by b x.access []) (rows_of (table_of x.access) T)) (total_less _ _ (rows_of (table_of x.access) T) each))
                       where
