@@ -31,7 +31,7 @@ use Rattle.access_plan.specs.Accesses.{admits, is_known_number, is_known_text, o
 use Rattle.access_plan.specs.Laws.{AreSame}
 use Rattle.access_plan.proofs.Fields.{number_is, text_is, both_round, texts_round}
 
-one_of : {A : Type 0} (x y : Option A) (e : A) → option_or x y ≡ Some e → (x ≡ Some e) ⊎ (y ≡ Some e)
+pub one_of : {A : Type 0} (x y : Option A) (e : A) → option_or x y ≡ Some e → (x ≡ Some e) ⊎ (y ≡ Some e)
 one_of None y e h = inr h
 one_of (Some x) y e h = inl h
 

@@ -114,14 +114,14 @@ module _ (T : Tables) (w : Window) (p : Probe) (order : List Reach) (k : IsProbe
     var_is v e = ap (λ n. record { 0 = n }) e
 
     -- a document that has its row costs the work of the body
-    pair_less : (b : ℤ) (env : Env) → work_over T p b [] env ≤ work T p.body env
+    pair_less : (b : ℤ) (env : Env) → work_over T p b false [] env ≤ work T p.body env
     pair_less b env = go (lookup 0 env)
       where
         or_none : (c : Bool) (n : ℕ) → 0 + (if c then n else 0) ≤ n
         or_none true n = omega arith
         or_none false n = omega arith
 
-        go : (o : Option Row) → asked_cost T p b [] env o 0 ≤ work T p.body env
+        go : (o : Option Row) → asked_cost T p b false [] env o 0 ≤ work T p.body env
         go None = omega arith
         go (Some (OfDoc d)) = or_none (rest_of T p.path b [] env) (work T p.body env)
         go (Some (OfNote n)) = omega arith
@@ -196,9 +196,9 @@ module _ (T : Tables) (w : Window) (p : Probe) (order : List Reach) (k : IsProbe
         every : (b : ℤ) → value p.at [] ≡ Some b → lies_in w (value p.at []) ≡ true → filter (λ d. lies_in w (value p.at (asked_of d))) T.docs ≡ T.docs
         every b v l = filter_all _ T.docs (λ d i. ap (lies_in w) (value_same (numbers_of (driven p.at.base)) [] (asked_of d) (λ j z. absurd (subst (λ vs. In j (numbers_of vs)) none_driven z)) p.at (base_driven p.at.base)) ∙ l)
 
-        walk : (b : ℤ) (rs : List Reach) (bound : List Var) → IsServed p.path bound rs → Distinct (order_vars rs) → In 0 (order_vars rs) → work_over T p b rs [] ≤ total due T.docs
+        walk : (b : ℤ) (rs : List Reach) (bound : List Var) → IsServed p.path bound rs → Distinct (order_vars rs) → In 0 (order_vars rs) → work_over T p b false rs [] ≤ total due T.docs
         walk b [] bound s u i = absurd i
-        walk b (r ∷ rs) bound s u i = subst (λ z. work_over T p b (r ∷ z) [] ≤ total due T.docs) (sym (alone rs s.2 u)) one
+        walk b (r ∷ rs) bound s u i = subst (λ z. work_over T p b false (r ∷ z) [] ≤ total due T.docs) (sym (alone rs s.2 u)) one
           where
             r_zero : r.var.0 ≡ 0
             r_zero = is_asked r.var.0 (ordered p.path (r ∷ rs) bound s r.var.0 (inl refl))
@@ -209,15 +209,18 @@ module _ (T : Tables) (w : Window) (p : Probe) (order : List Reach) (k : IsProbe
                 let z = is_asked x.var.0 (ordered p.path (x ∷ xs) (bound ++ r.var ∷ []) s x.var.0 (inl refl)) in
                 absurd (u.0 (inl (r_zero ∙ sym z)))
 
-            one : work_over T p b (r ∷ []) [] ≤ total due T.docs
+            one : work_over T p b false (r ∷ []) [] ≤ total due T.docs
             one = go (further p.path b []) refl
               where
-                go : (o : Option Reach) → further p.path b [] ≡ o → cost_of o (λ x. total (λ row. 1 + work_over T p b [] (bind x.var row [])) (rows_by b x.access [] T)) ≤ total due T.docs
+                go : (o : Option Reach) → further p.path b [] ≡ o → cost_of o (λ x. 0 + total (λ row. 1 + work_over T p b false [] (bind x.var row [])) (rows_by b x.access [] T)) ≤ total due T.docs
                 go None e = omega arith
-                go (Some x) e = next x (nearest_serves p.path [] x (further_is p.path b [] x e).1)
+                go (Some x) e = plain _ _ (next x (nearest_serves p.path [] x (further_is p.path b [] x e).1))
                   where
-                    next : (x : Reach) → IsNearest p.path [] x → total (λ row. 1 + work_over T p b [] (bind x.var row [])) (rows_by b x.access [] T) ≤ total due T.docs
-                    next x near = subst (λ z. total (λ row. 1 + work_over T p b [] (bind x.var row [])) (rows_by b x.access [] T) ≤ z) all (trans (total_filter _ (admits_by b x.access []) (rows_of (table_of x.access) T)) (total_less _ _ (rows_of (table_of x.access) T) each))
+                    plain : (n m : ℕ) → n ≤ m → 0 + n ≤ m
+                    plain n m h = omega (arith, h)
+
+                    next : (x : Reach) → IsNearest p.path [] x → total (λ row. 1 + work_over T p b false [] (bind x.var row [])) (rows_by b x.access [] T) ≤ total due T.docs
+                    next x near = subst (λ z. total (λ row. 1 + work_over T p b false [] (bind x.var row [])) (rows_by b x.access [] T) ≤ z) all (trans (total_filter _ (admits_by b x.access []) (rows_of (table_of x.access) T)) (total_less _ _ (rows_of (table_of x.access) T) each))
                       where
                         x_zero : x.var.0 ≡ 0
                         x_zero = is_asked x.var.0 (subst (λ (v : Var). In v.0 (vars_of p.path)) (sym near.var) (in_map (λ (s : Step). s.var.0) p.path near.step near.is_step))
@@ -225,7 +228,7 @@ module _ (T : Tables) (w : Window) (p : Probe) (order : List Reach) (k : IsProbe
                         plus : (a b : ℕ) → a ≤ b → 1 + a ≤ 1 + b
                         plus a b h = omega (arith, h)
 
-                        each : (row : Row) → 1 + work_over T p b [] (bind x.var row []) ≤ 1 + work T p.body (bind x.var row [])
+                        each : (row : Row) → 1 + work_over T p b false [] (bind x.var row []) ≤ 1 + work T p.body (bind x.var row [])
                         each row = plus _ _ (pair_less b (bind x.var row []))
 
                         trans : {a b c : ℕ} → a ≤ b → b ≤ c → a ≤ c
@@ -241,7 +244,7 @@ module _ (T : Tables) (w : Window) (p : Probe) (order : List Reach) (k : IsProbe
         go None q = omega arith
         go (Some b) q =
             let l = mark_lies w (value p.at []) b q in
-            subst (λ z. work_over T p b order [] ≤ total due z) (sym (every b l.0 l.1)) (walk b order (driven p.at.base) o.served once bound_zero)
+            subst (λ z. work_over T p b false order [] ≤ total due z) (sym (every b l.0 l.1)) (walk b order (driven p.at.base) o.served once bound_zero)
 
     -- a path of the document alone takes no more steps than its marked documents are due
     pub alone_cost : (sv : Option Var) → seek_var (seek_of p.at) ≡ sv → seek_cost T w p order (seek_of p.at) sv ≤ rows_due T w p

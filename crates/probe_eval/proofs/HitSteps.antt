@@ -1,5 +1,5 @@
 -- One turn of the search for documents beside a driving row.
-use Rattle.std.proofs.Common.{◌≡◌, ◌∙◌, ◌+◌, ◌≤◌, ℕ, ℤ, Some, None, List, [], ◌∷◌, refl, sym, ap, arith}
+use Rattle.std.proofs.Common.{◌≡◌, ◌∙◌, ◌+◌, ℕ, ℤ, Bool, Option, Some, None, List, [], ◌∷◌, refl, ap}
 use Rattle.std.specs.Prelude.{option_to_list}
 use Rattle.std.specs.List.{flat_map}
 use Rattle.tap_rows.specs.declared.rows.Doc.{Doc}
@@ -11,7 +11,7 @@ use Rattle.time_marks.specs.Probes.{Probe}
 use Rattle.access_plan.specs.declared.reach.Reach.{Reach}
 use Rattle.probe_eval.specs.Work.{rows_by, total}
 use Rattle.probe_eval.specs.Rests.{further, cost_of}
-use Rattle.probe_eval.specs.Nested.{new_doc, hit_if, over_rows, holds_here, cost_here, asked_or, hits_over, asked_cost, work_over}
+use Rattle.probe_eval.specs.Nested.{new_doc, hit_if, over_rows, holds_here, cost_here, asked_or, hits_over, is_once, asked_cost, once_cost, work_over}
 
 module _ (entries : List Entry) (T : Tables) (p : Probe) (b : ℤ) where
   pub doc_hits : (order : List Reach) (env : Env) (d : Doc) → lookup 0 env ≡ Some (OfDoc d) → hits_over entries T p b order env ≡ option_to_list (hit_if (holds_here T p b order env) b (new_doc entries d))
@@ -29,17 +29,16 @@ module _ (entries : List Entry) (T : Tables) (p : Probe) (b : ℤ) where
       ∙ ap (λ o. over_rows T b env o (λ r row. hits_over entries T p b rs (bind r.var row env))) f
 
 module _ (T : Tables) (p : Probe) (b : ℤ) where
-  pub doc_cost : (order : List Reach) (env : Env) (d : Doc) → lookup 0 env ≡ Some (OfDoc d) → work_over T p b order env ≡ cost_here T p b order env
-  doc_cost [] env d e = ap (λ o. asked_cost T p b [] env o 0) e
-  doc_cost (x ∷ rs) env d e = ap (λ o. asked_cost T p b (x ∷ rs) env o (cost_of (further p.path b env) (λ r. total (λ row. 1 + work_over T p b rs (bind r.var row env)) (rows_by b r.access env T)))) e
+  abbrev next_work : Bool → List Reach → Env → Reach → ℕ
+  next_work once rs env r = total (λ row. 1 + work_over T p b once rs (bind r.var row env)) (rows_by b r.access env T)
 
-  pub next_cost : (x : Reach) (rs : List Reach) (env : Env) (r : Reach) → lookup 0 env ≡ None → further p.path b env ≡ Some r → work_over T p b (x ∷ rs) env ≡ total (λ row. 1 + work_over T p b rs (bind r.var row env)) (rows_by b r.access env T)
-  next_cost x rs env r e f =
-      ap (λ o. asked_cost T p b (x ∷ rs) env o (cost_of (further p.path b env) (λ r. total (λ row. 1 + work_over T p b rs (bind r.var row env)) (rows_by b r.access env T)))) e
-      ∙ ap (λ o. cost_of o (λ r. total (λ row. 1 + work_over T p b rs (bind r.var row env)) (rows_by b r.access env T))) f
+  abbrev others_cost : Reach → List Reach → Env → Option Reach → ℕ
+  others_cost x rs env o = cost_of o (λ r. once_cost T p b (is_once p.path env rs r.var) (x ∷ rs) env (next_work (is_once p.path env rs r.var) rs env r))
 
-  pub first_cost : (s : ℕ) (order : List Reach) (x : Reach) (rs : List Reach) (env : Env) (r : Reach) (rows : List Row) → order ≡ x ∷ rs → lookup 0 env ≡ None → further p.path b env ≡ Some r → rows ≡ rows_by b r.access env T
-      → s + total (λ row. 1 + work_over T p b rs (bind r.var row env)) rows ≤ s + work_over T p b order env
-  first_cost s order x rs env r rows o e f q =
-      let k : work_over T p b order env ≡ total (λ row. 1 + work_over T p b rs (bind r.var row env)) rows = ap (λ z. work_over T p b z env) o ∙ next_cost x rs env r e f ∙ ap (total (λ row. 1 + work_over T p b rs (bind r.var row env))) (sym q) in
-      omega (arith, k)
+  pub doc_cost : (sure : Bool) (order : List Reach) (env : Env) (d : Doc) → lookup 0 env ≡ Some (OfDoc d) → work_over T p b sure order env ≡ cost_here T p b sure order env
+  doc_cost sure [] env d e = ap (λ o. asked_cost T p b sure [] env o 0) e
+  doc_cost sure (x ∷ rs) env d e = ap (λ o. asked_cost T p b sure (x ∷ rs) env o (others_cost x rs env (further p.path b env))) e
+
+  pub next_cost : (sure : Bool) (x : Reach) (rs : List Reach) (env : Env) (r : Reach) → lookup 0 env ≡ None → further p.path b env ≡ Some r
+      → work_over T p b sure (x ∷ rs) env ≡ once_cost T p b (is_once p.path env rs r.var) (x ∷ rs) env (total (λ row. 1 + work_over T p b (is_once p.path env rs r.var) rs (bind r.var row env)) (rows_by b r.access env T))
+  next_cost sure x rs env r e f = ap (λ o. asked_cost T p b sure (x ∷ rs) env o (others_cost x rs env (further p.path b env))) e ∙ ap (others_cost x rs env) f

@@ -1,5 +1,6 @@
 pub mod AccessLists
 pub mod AccessTables
+pub mod AlikeRows
 pub mod Costs
 pub mod DriverLaws
 pub mod Dues
@@ -8,6 +9,7 @@ pub mod Founds
 pub mod HitSteps
 pub mod Inner
 pub mod LeastSeconds
+pub mod LevelLaws
 pub mod LiteralLaws
 pub mod Meant
 pub mod Members

@@ -30,7 +30,7 @@ unfolding nearest_known near_known
 is_known_nearest path env = refl
 
 -- the nearest step is the same beside rows of the same variables
-nearest_held : (path : List Step) (env other : Env) → is_held env ≡ is_held other → nearest path env ≡ nearest path other
+pub nearest_held : (path : List Step) (env other : Env) → is_held env ≡ is_held other → nearest path env ≡ nearest path other
 nearest_held path env other h = is_known_nearest path env ∙ (ap (nearest_known path) h ∙ sym (is_known_nearest path other))
 
 held_at : (v : Var) (row other : Row) (env : Env) (k : ℕ) → is_held (bind v row env) k ≡ is_held (bind v other env) k
@@ -40,7 +40,7 @@ held_at v row other env k = go (nat_eq k v.0)
     go true = refl
     go false = refl
 
-held_alike : (v : Var) (row other : Row) (env : Env) → is_held (bind v row env) ≡ is_held (bind v other env)
+pub held_alike : (v : Var) (row other : Row) (env : Env) → is_held (bind v row env) ≡ is_held (bind v other env)
 held_alike v row other env t k = held_at v row other env k t
 
 nearest_alike : (path : List Step) (v : Var) (row other : Row) (env : Env) → nearest path (bind v row env) ≡ nearest path (bind v other env)

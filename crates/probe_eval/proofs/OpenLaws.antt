@@ -1,5 +1,5 @@
 -- Guards while rows are looked for.
-use Rattle.std.proofs.Common.{◌≡◌, ◌∙◌, ℕ, true, false, Some, None, List, refl, sym, ap, subst, inl, inr}
+use Rattle.std.proofs.Common.{◌≡◌, ◌∙◌, ℕ, Bool, true, false, Some, None, List, refl, sym, ap, subst, inl, inr}
 use Rattle.std.specs.Prelude.{◌⊎◌, ◌+ℤ◌, is_some}
 use Rattle.tql_core.specs.declared.term.Term.{Term}
 use Rattle.std.proofs.lemmas.Bool.{cases_Bool, cases_eq, and_parts, and_from}
@@ -22,7 +22,7 @@ use Rattle.time_marks.proofs.Envs.{bind_same, bind_other}
 use Rattle.time_marks.proofs.Orders.{all_from}
 use Rattle.access_plan.specs.Accesses.{is_held}
 use Rattle.access_plan.specs.Laws.{AreSame}
-use Rattle.probe_eval.specs.Open.{base_held, number_held, text_held, atom_held, is_open, are_open, path_open}
+use Rattle.probe_eval.specs.Open.{base_known, number_known, text_known, atom_known, atom_held, is_open, are_open, path_open}
 
 -- what is bound has a row
 pub held_same : (env : Env) (v : Var) (row : Row) → is_held (bind v row env) v.0 ≡ true
@@ -55,35 +55,37 @@ same_bound env final v row same e k h =
       | inr n ↦ same k (sym (held_other env v row k n) ∙ h) ∙ sym (bind_other k v row env n)
     ]
 
--- a guard that can be evaluated has the truth that it has in the end
-module _ (env final : Env) (h : AreSame (is_held env) env final) where
-  base_is : (b : Base) → base_held env b ≡ true → base_value b final ≡ base_value b env
+-- a guard that names known variables alone has the truth that it has in the end
+module _ (known : ℕ → Bool) (env final : Env) (h : AreSame known env final) where
+  base_is : (b : Base) → base_known known b ≡ true → base_value b final ≡ base_value b env
   base_is (Arrival v) i = ap (λ o. on_row o (λ r. Some (arrival r))) (h v.0 i)
   base_is (Date v) i = ap (λ o. on_row o date) (h v.0 i)
   base_is Fixed i = refl
   base_is (ArrivalDay v n) i = ap (λ o. on_row o (λ r. Some (round_up_to_day (arrival r +ℤ n)))) (h v.0 i)
   base_is (DateDay v n) i = ap (λ o. on_row o (λ r. day_of n (date r))) (h v.0 i)
 
-  value_is : (e : Term) → base_held env e.base ≡ true → value e final ≡ value e env
+  value_is : (e : Term) → base_known known e.base ≡ true → value e final ≡ value e env
   value_is e i = ap (λ o. plus_to o e.plus) (base_is e.base i)
 
-  number_is : (x : NumExpr) → number_held env x ≡ true → number x final ≡ number x env
+  pub number_is : (x : NumExpr) → number_known known x ≡ true → number x final ≡ number x env
   number_is (Literal n) i = refl
   number_is (Field v f) i = ap (λ o. on_row o (field f)) (h v.0 i)
 
-  text_is : (x : TextExpr) → text_held env x ≡ true → text x final ≡ text x env
+  pub text_is : (x : TextExpr) → text_known known x ≡ true → text x final ≡ text x env
   text_is (X.Literal t) i = refl
   text_is (X.Field v f) i = ap (λ o. on_row o (text_field f)) (h v.0 i)
 
-  pub atom_is : (a : Atom) → atom_held env a ≡ true → true_atom a final ≡ true_atom a env
-  atom_is (Numbers x op y) i = let k = and_parts (number_held env x) (number_held env y) i in rw (number_is x k.0, number_is y k.1)
-  atom_is (Texts x op y) i = let k = and_parts (text_held env x) (text_held env y) i in rw (text_is x k.0, text_is y k.1)
-  atom_is (Has v f y) i = let k = and_parts (is_held env v.0) (text_held env y) i in rw (h v.0 k.0, text_is y k.1)
-  atom_is (Times x op y) i = let k = and_parts (base_held env x.base) (base_held env y.base) i in rw (value_is x k.0, value_is y k.1)
+  pub atom_is : (a : Atom) → atom_known known a ≡ true → true_atom a final ≡ true_atom a env
+  atom_is (Numbers x op y) i = let k = and_parts (number_known known x) (number_known known y) i in rw (number_is x k.0, number_is y k.1)
+  atom_is (Texts x op y) i = let k = and_parts (text_known known x) (text_known known y) i in rw (text_is x k.0, text_is y k.1)
+  atom_is (Has v f y) i = let k = and_parts (known v.0) (text_known known y) i in rw (h v.0 k.0, text_is y k.1)
+  atom_is (Times x op y) i = let k = and_parts (base_known known x.base) (base_known known y.base) i in rw (value_is x k.0, value_is y k.1)
 
+-- a guard that can be evaluated has the truth that it has in the end
+module _ (env final : Env) (h : AreSame (is_held env) env final) where
   open_one : (a : Atom) → true_atom a final ≡ true → is_open env a ≡ true
   open_one a t = elim (cases_Bool (atom_held env a)) [
-    | inl y ↦ let e : true_atom a env ≡ true = sym (atom_is a y) ∙ t in rw (y, e) refl
+    | inl y ↦ let e : true_atom a env ≡ true = sym (atom_is (is_held env) env final h a y) ∙ t in rw (y, e) refl
     | inr n ↦ rw n refl
   ]
 
@@ -93,18 +95,18 @@ module _ (env final : Env) (h : AreSame (is_held env) env final) where
 
 -- if each variable that is named has a row, a guard can be evaluated
 module _ (env : Env) (scope : List ℕ) (h : (k : ℕ) → In k scope → is_held env k ≡ true) where
-  held_base : (b : Base) → BaseIn scope b → base_held env b ≡ true
+  held_base : (b : Base) → BaseIn scope b → base_known (is_held env) b ≡ true
   held_base (Arrival v) i = h v.0 i
   held_base (Date v) i = h v.0 i
   held_base Fixed i = refl
   held_base (ArrivalDay v n) i = h v.0 i
   held_base (DateDay v n) i = h v.0 i
 
-  held_number : (x : NumExpr) → NumIn scope x → number_held env x ≡ true
+  held_number : (x : NumExpr) → NumIn scope x → number_known (is_held env) x ≡ true
   held_number (Literal n) i = refl
   held_number (Field v f) i = h v.0 i
 
-  held_text : (x : TextExpr) → TextIn scope x → text_held env x ≡ true
+  held_text : (x : TextExpr) → TextIn scope x → text_known (is_held env) x ≡ true
   held_text (X.Literal t) i = refl
   held_text (X.Field v f) i = h v.0 i
 

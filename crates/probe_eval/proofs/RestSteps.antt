@@ -1,5 +1,6 @@
 -- One turn of the search for the rest of a path.
-use Rattle.std.proofs.Common.{◌≡◌, ◌∙◌, ◌||◌, ℤ, Bool, true, false, None, List, [], ◌∷◌, refl, ap}
+use Rattle.std.proofs.Common.{◌≡◌, ◌∙◌, ◌||◌, ℤ, Bool, true, false, None, List, [], ◌∷◌, refl, sym, ap, inl, inr}
+use Rattle.std.proofs.lemmas.Bool.{cases_Bool}
 use Rattle.std.specs.List.{list_any}
 use Rattle.tap_rows.specs.declared.tables.Tables.{Tables}
 use Rattle.tql_core.specs.Values.{Env}
@@ -19,6 +20,10 @@ module _ (T : Tables) (path : List Step) (b : ℤ) where
   pub all_there : (order : List Reach) (env : Env) → may_go path b env ≡ true → nearest path env ≡ None → true ≡ rest_of T path b order env
   all_there [] env h n = rw (h, n) refl
   all_there (x ∷ rs) env h n = rw (h, n) refl
+
+  -- if there is a rest beside rows that may go on, there is one if and only if they may
+  pub sure_rest : (order : List Reach) (env : Env) → (may_go path b env ≡ true → rest_of T path b order env ≡ true) → may_go path b env ≡ rest_of T path b order env
+  sure_rest order env h = elim (cases_Bool (may_go path b env)) [ inl y ↦ y ∙ sym (h y) | inr n ↦ n ∙ stopped order env n ]
 
 -- the row that was handed out has no rest
 pub any_step : {A : Type 0} (f : A → Bool) (whole : Bool) (rows left : List A) (r : A) → whole ≡ list_any f rows → rows ≡ r ∷ left → f r ≡ false → whole ≡ list_any f left

@@ -1,14 +1,28 @@
 -- One turn of a loop over rows, and the items at places of a list.
-use Rattle.std.proofs.Common.{◌≡◌, ◌∙◌, ◌+◌, ◌≤◌, ℕ, zero, suc, Some, drop, List, [], ◌∷◌, sym, ap, subst, inl, inr, arith}
+use Rattle.std.proofs.Common.{◌≡◌, ◌∙◌, ◌+◌, ◌≤◌, ◌||◌, ℕ, zero, suc, Bool, false, Some, drop, List, [], ◌∷◌, refl, sym, ap, subst, inl, inr, arith}
 use Rattle.std.specs.Prelude.{◌<◌, length, slice_get, slice_index_or}
 use Rattle.tap_rows.specs.Kept.{In}
 use Rattle.probe_eval.specs.Work.{total}
+use Rattle.probe_eval.specs.Rests.{until}
 
 module _ {A : Type 0} where
   -- the steps of the row that was handed out are taken
   pub cost_step : (cost : A → ℕ) (s next now bound : ℕ) (rows left : List A) (r : A) → s + total (λ x. 1 + cost x) rows ≤ bound → rows ≡ r ∷ left → next ≡ s + 1 → now ≤ next + cost r → now + total (λ x. 1 + cost x) left ≤ bound
   cost_step cost s next now bound rows left r h e n c =
       let k : s + (1 + cost r + total (λ x. 1 + cost x) left) ≤ bound = subst (λ z. s + total (λ x. 1 + cost x) z ≤ bound) e h in
+      omega (arith, k, n, c)
+
+  -- the same of a walk that stops at the first row of which f is true, if it goes on
+  pub until_step : (cost : A → ℕ) (f : A → Bool) (s next now bound : ℕ) (rows left : List A) (r : A) → s + total (λ x. 1 + cost x) (until f rows) ≤ bound → rows ≡ r ∷ left → f r ≡ false → next ≡ s + 1 → now ≤ next + cost r → now + total (λ x. 1 + cost x) (until f left) ≤ bound
+  until_step cost f s next now bound rows left r h e q n c =
+      let k : s + total (λ x. 1 + cost x) (until f (r ∷ left)) ≤ bound = subst (λ z. s + total (λ x. 1 + cost x) (until f z) ≤ bound) e h in
+      let m : s + (1 + cost r + total (λ x. 1 + cost x) (until f left)) ≤ bound = rw q at k in
+      omega (arith, m, n, c)
+
+  -- and if it stops there
+  pub until_end : (cost : A → ℕ) (f : A → Bool) (s next now bound : ℕ) (rows left : List A) (r : A) → s + total (λ x. 1 + cost x) (until f rows) ≤ bound → rows ≡ r ∷ left → next ≡ s + 1 → now ≤ next + cost r → now ≤ bound
+  until_end cost f s next now bound rows left r h e n c =
+      let k : s + total (λ x. 1 + cost x) (until f (r ∷ left)) ≤ bound = subst (λ z. s + total (λ x. 1 + cost x) (until f z) ≤ bound) e h in
       omega (arith, k, n, c)
 
   -- the same of a loop that takes no step of its own
@@ -36,6 +50,9 @@ module _ {A : Type 0} where
     where
       less : (i l : ℕ) → suc i < suc l → i < l
       less i l h = omega (arith, h)
+
+pub or_none : {a b : Bool} → a ≡ false → b ≡ false → (a || b) ≡ false
+or_none h k = rw (h, k) refl
 
 pub get_in : {A : Type 0} (xs : List A) (j : ℕ) (x : A) → slice_get xs j ≡ Some x → In x xs
 get_in [] j x e = absurd cc

@@ -1,5 +1,5 @@
 -- The rows that drive a probe: those whose mark lies in the window.
-use Rattle.std.specs.Prelude.{ℕ, ◌+◌, ℤ, Option, Some, None, List, [], map, if◌then◌else◌}
+use Rattle.std.specs.Prelude.{ℕ, ◌+◌, ℤ, false, Option, Some, None, List, [], map, if◌then◌else◌}
 use Rattle.std.specs.List.{flat_map}
 use Rattle.tap_rows.specs.declared.tables.Tables.{Tables}
 use Rattle.tap_rows.specs.declared.results.Hit.{Hit}
@@ -79,7 +79,7 @@ module _ (entries : List Entry) (T : Tables) (w : Window) (p : Probe) (order : L
 module _ (T : Tables) (w : Window) (p : Probe) (order : List Reach) where
   abbrev pub marked_cost : Env → Option ℤ → ℕ
   marked_cost env None = 0
-  marked_cost env (Some b) = work_over T p b order env
+  marked_cost env (Some b) = work_over T p b false order env
 
   abbrev pub cost_at : Env → ℕ
   cost_at env = marked_cost env (mark_in w (value p.at env))

@@ -19,6 +19,7 @@ use Rattle.probe_eval.specs.Found.{AreFound}
 use Rattle.probe_eval.specs.Drivers.{seek_var, driving, walked, hits_at, seek_hits}
 use Rattle.probe_eval.specs.Tables.{table_in}
 use Rattle.probe_eval.specs.Nested.{was_seen}
+use Rattle.probe_eval.specs.Open.{path_apart, may_go}
 use Rattle.probe_eval.specs.Rests.{Rest, left_of, InTables, rest_of}
 use Rattle.tql_core.specs.declared.atom.Atom.{Atom}
 use Rattle.time_marks.specs.declared.mark.Step.{Step}
@@ -52,3 +53,10 @@ RestsAreFound =
     (T : Tables) (path : List Step) (b : ℤ) (order : List Reach) (env : Env) → Distinct (vars_of path)
     → ((step : Step) → In step path → (a : Atom) → In a step.guards → AtomIn (vars_of path) a)
     → InTables T path env → come_by b env ≡ true → left_of path env ≤ length order → ((rest_of T path b order env ≡ true) ↔ Rest T path b env)
+
+-- if no guard names v and another variable that has no row yet, the rest exists beside all rows of v that may go on, or beside none
+abbrev pub RestsAreAlike : Type 0
+RestsAreAlike =
+    (T : Tables) (path : List Step) (b : ℤ) (order : List Reach) (env : Env) (v : Var) (row other : Row) → path_apart path env v ≡ true
+    → may_go path b (bind v row env) ≡ true → may_go path b (bind v other env) ≡ true
+    → rest_of T path b order (bind v row env) ≡ rest_of T path b order (bind v other env)

@@ -5,6 +5,7 @@ pub mod Tables
 pub mod Rests
 pub mod Nexts
 pub mod Nested
+pub mod Levels
 pub mod Searches
 pub mod Literals
 pub mod Drivers

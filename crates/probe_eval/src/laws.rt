@@ -1,7 +1,7 @@
 //! Laws of what probes find.
 
 ghost use Rattle.probe_eval.specs.Laws.{DrivingRowsAreMarked, WalkedRowsAreEnough};
-ghost use Rattle.probe_eval.specs.Laws.{WalksFindWhatProbesFind, RestsAreFound};
+ghost use Rattle.probe_eval.specs.Laws.{WalksFindWhatProbesFind, RestsAreFound, RestsAreAlike};
 ghost use Rattle.probe_eval.specs.Pairs.{ProbesTestPairs};
 
 /// States that the driving rows of a probe are the rows of its table whose mark lies in the window.
@@ -25,6 +25,12 @@ pub fn walks_find_what_probes_find()
 /// names its own variables alone, each of them once.
 pub fn rests_are_found()
     ensures { RestsAreFound }
+{}
+
+/// States that the rest of a path exists beside all rows of a variable that may go on, or beside none, if no guard names the
+/// variable and another one that has no row yet.
+pub fn rests_are_alike()
+    ensures { RestsAreAlike }
 {}
 
 /// States that a probe finds a document with a mark if and only if some driving row has that mark, beside which the rest

@@ -5,6 +5,7 @@ mod access_rows;
 mod bodies;
 mod drivers;
 pub mod laws;
+mod level;
 mod literals;
 mod next;
 mod open;
@@ -14,7 +15,7 @@ mod search;
 
 pub use access_rows::rows_by;
 pub use drivers::{mark_in, seek_var, walked};
+pub use level::{Level, next_level};
 pub use next::Next;
-pub use rests::{further, further_once};
 pub use row_walk::RowWalk;
-pub use search::{Search, holds_here, holds_once, new_doc, order_at};
+pub use search::{Search, holds_here, new_doc, order_at};

@@ -1,54 +1,56 @@
 //! Guards that can be evaluated already, while rows of a path are still looked for.
 
-ghost use Rattle.std.specs.Prelude.{◌≡◌};
-ghost use Rattle.probe_eval.specs.Open.{base_held, number_held, text_held, atom_held, is_open, are_open, path_open, may_go};
+ghost use Rattle.std.specs.Prelude.{◌≡◌, ◌&&◌};
+ghost use Rattle.access_plan.specs.Views.{is_known};
+ghost use Rattle.probe_eval.specs.Open.{base_known, number_known, text_known, atom_known, is_open, are_open, path_open, may_go};
+ghost use Rattle.probe_eval.specs.Open.{is_apart, are_apart, path_apart};
 
-use access_plan::is_held;
+use access_plan::Known;
 use time_marks::Step;
-use tql_core::{Atom, Base, Env, NumExpr, TextExpr, true_atom};
+use tql_core::{Atom, Base, Env, NumExpr, TextExpr, Var, true_atom};
 
-// Returns whether the variable of the time has a row.
-fn base_held(env: &Env, base: Base) -> bool
-    ensures { result ≡ base_held env.now base }
+// Returns whether the variable of the time is known.
+fn base_known(known: Known, base: Base) -> bool
+    ensures { result ≡ base_known (is_known known.entry) base }
 {
     match base {
-        Base::Arrival(var) => is_held(env, var),
-        Base::Date(var) => is_held(env, var),
+        Base::Arrival(var) => known.has(var),
+        Base::Date(var) => known.has(var),
         Base::Fixed => true,
-        Base::ArrivalDay(var, _) => is_held(env, var),
-        Base::DateDay(var, _) => is_held(env, var),
+        Base::ArrivalDay(var, _) => known.has(var),
+        Base::DateDay(var, _) => known.has(var),
     }
 }
 
-// Returns whether the variable of the number has a row.
-fn number_held(env: &Env, e: NumExpr) -> bool
-    ensures { result ≡ number_held env.now e }
+// Returns whether the variable of the number is known.
+fn number_known(known: Known, e: NumExpr) -> bool
+    ensures { result ≡ number_known (is_known known.entry) e }
 {
     match e {
         NumExpr::Literal(_) => true,
-        NumExpr::Field(var, _) => is_held(env, var),
+        NumExpr::Field(var, _) => known.has(var),
     }
 }
 
-// Returns whether the variable of the text has a row.
-fn text_held(env: &Env, e: &TextExpr) -> bool
-    ensures { result ≡ text_held env.now e.now }
+// Returns whether the variable of the text is known.
+fn text_known(known: Known, e: &TextExpr) -> bool
+    ensures { result ≡ text_known (is_known known.entry) e.now }
 {
     match e {
         TextExpr::Literal(_) => true,
-        TextExpr::Field(var, _) => is_held(env, *var),
+        TextExpr::Field(var, _) => known.has(*var),
     }
 }
 
-// Returns whether each variable of the guard has a row.
-fn atom_held(env: &Env, guard: &Atom) -> bool
-    ensures { result ≡ atom_held env.now guard.now }
+// Returns whether each variable of the guard is known.
+fn atom_known(known: Known, guard: &Atom) -> bool
+    ensures { result ≡ atom_known (is_known known.entry) guard.now }
 {
     match guard {
-        Atom::Numbers(x, _, y) => number_held(env, *x) && number_held(env, *y),
-        Atom::Texts(x, _, y) => text_held(env, x) && text_held(env, y),
-        Atom::Has(var, _, y) => is_held(env, *var) && text_held(env, y),
-        Atom::Times(x, _, y) => base_held(env, x.base) && base_held(env, y.base),
+        Atom::Numbers(x, _, y) => number_known(known, *x) && number_known(known, *y),
+        Atom::Texts(x, _, y) => text_known(known, x) && text_known(known, y),
+        Atom::Has(var, _, y) => known.has(*var) && text_known(known, y),
+        Atom::Times(x, _, y) => base_known(known, x.base) && base_known(known, y.base),
     }
 }
 
@@ -56,7 +58,7 @@ fn atom_held(env: &Env, guard: &Atom) -> bool
 fn is_open<'a>(env: &Env<'a>, guard: &'a Atom) -> bool
     ensures { result ≡ is_open env.now guard.now }
 {
-    !atom_held(env, guard) || true_atom(guard, env)
+    !atom_known(Known::Held(env), guard) || true_atom(guard, env)
 }
 
 // Returns whether each guard is true, or can't be evaluated yet.
@@ -83,9 +85,54 @@ fn path_open<'a>(path: &'a [Step], env: &Env<'a>) -> bool
     true
 }
 
+// Returns whether the guard doesn't name the variable, or names besides it only variables that have a row.
+fn is_apart(env: &Env, var: Var, guard: &Atom) -> bool
+    ensures { result ≡ is_apart env.now var guard.now }
+{
+    atom_known(Known::AllBut(var), guard) || atom_known(Known::HeldOr(env, var), guard)
+}
+
+// Returns whether this is so of each guard.
+fn are_apart(env: &Env, var: Var, guards: &[Atom]) -> bool
+    ensures { result ≡ are_apart env.now var guards.now }
+{
+    for guard in guards {
+        if !is_apart(env, var, guard) {
+            return false;
+        }
+    }
+    true
+}
+
+/// Returns whether no guard of the path names the variable and another one that has no row yet.
+pub(crate) fn path_apart(path: &[Step], env: &Env, var: Var) -> bool
+    ensures { result ≡ path_apart path.now env.now var }
+{
+    for step in path {
+        if !are_apart(env, var, step.guards.as_slice()) {
+            return false;
+        }
+    }
+    true
+}
+
 /// Returns whether the rows so far have arrived by the mark and no guard that can be evaluated is false.
 pub(crate) fn may_go<'a>(path: &'a [Step], mark: i64, env: &Env<'a>) -> bool
     ensures { result ≡ may_go path.now mark env.now }
 {
     env.come_by(mark) && path_open(path, env)
+}
+
+/// Returns whether the row of the variable stands for all others in a search for the rest of the path beside `env`: it may go
+/// on, and no guard names the variable and another one that has no row yet.
+pub(crate) fn is_like_others<'a>(
+    path: &'a [Step],
+    mark: i64,
+    env: &Env<'a>,
+    var: Var,
+    more: &Env<'a>,
+) -> bool
+    ensures { result ≡ may_go path.now mark more.now && path_apart path.now env.now var }
+{
+    may_go(path, mark, more) && path_apart(path, env, var)
 }

@@ -7,27 +7,17 @@ ghost use Rattle.probe_eval.specs.Rests.{further, rest_of, rest_cost};
 
 use crate::Next;
 use crate::access_rows::rows_by;
-use crate::open::may_go;
-use access_plan::{Reach, ReachRef, nearest};
+use crate::open::{is_like_others, may_go};
+use access_plan::{Reach, ReachRef};
 use row_index::RowIndex;
 use std::sync::ledger::Ledger;
 use tap_base::Steps;
 use time_marks::Step;
 use tql_core::Env;
 
-/// Returns the step of a path that is looked for next. `None` comes if each has a row or the rows so far are refused.
-pub fn further<'a>(path: &'a [Step], mark: i64, env: &Env<'a>) -> Option<ReachRef<'a>>
-    ensures { option_reach result ≡ further path.now mark env.now }
-{
-    if may_go(path, mark, env) {
-        nearest(path, env)
-    } else {
-        None
-    }
-}
-
-/// Returns what `further` does. The nearest step is found once for all rows of a level.
-pub fn further_once<'a>(
+/// Returns the step of a path that is looked for next. `None` comes if each has a row or the rows so far are refused. The
+/// nearest step is found once for all rows of a level.
+pub(crate) fn further_once<'a>(
     path: &'a [Step],
     next: &mut Next<'a>,
     mark: i64,
@@ -45,7 +35,9 @@ pub fn further_once<'a>(
 }
 
 /// Returns whether there are rows for the rest of the path, arrived by the mark, with which all guards are true. It stops at
-/// the first. At most as many steps are left as `order` has. The nearest step is found once for all rows of a level.
+/// the first row that decides: beside it the rest exists, or no guard names it and a row that is still looked for, so that
+/// there is no rest beside any other row of its level. At most as many steps are left as `order` has. The nearest step is
+/// found once for all rows of a level.
 pub(crate) fn rest_exists<'a, L: Ledger>(
     path: &'a [Step],
     order: &'a [Reach],
@@ -76,6 +68,9 @@ pub(crate) fn rest_exists<'a, L: Ledger>(
                     let more = env.bind(reach.var, row);
                     if rest_exists(path, rest, &mut below, &more, mark, index, steps) {
                         return true;
+                    }
+                    if is_like_others(path, mark, env, reach.var, &more) {
+                        return false;
                     }
                 }
                 false

@@ -1,14 +1,17 @@
 //! A search for what a probe finds.
 
-ghost use Rattle.std.specs.Prelude.{◌≡◌, ◌+◌, ◌≤◌, length, slice_get, Some};
+ghost use Rattle.std.specs.Prelude.{◌≡◌, ◌+◌, ◌≤◌, length, slice_get, Some, if◌then◌else◌};
 ghost use Rattle.time_marks.specs.declared.ranged.Ranged.{Ranged};
 ghost use Rattle.probe_eval.specs.Runs.{part_order};
 ghost use Rattle.probe_eval.specs.Searches.{searched, HasBody, HasSlots};
 ghost use Rattle.probe_eval.specs.Nexts.{IsNext};
+ghost use Rattle.probe_eval.specs.Rests.{rest_of, rest_cost};
+ghost use Rattle.probe_eval.specs.Levels.{IsSure};
 ghost use Rattle.probe_eval.specs.Nested.{new_doc, holds_here, cost_here};
 
 use crate::Next;
 use crate::bodies::body_holds;
+use crate::open::may_go;
 use crate::rests::rest_exists;
 use access_plan::{Plan, Reach};
 use little_box::LittleBox;
@@ -37,12 +40,39 @@ pub fn new_doc(seen: &LittleBox, doc: &KeptDoc) -> Option<DocNum>
     if seen.has(num) { None } else { Some(num) }
 }
 
-/// Returns whether the rest of the path exists beside these rows and the body is true of them. The nearest step is found
-/// once for all rows of a level.
-pub fn holds_once<'a, L: Ledger>(
+// Returns whether the rest of the path exists beside these rows. If that is sure, it exists if they may go on.
+fn has_rest<'a, L: Ledger>(
     search: &Search<'a>,
     order: &'a [Reach],
     next: &mut Next<'a>,
+    sure: bool,
+    env: &Env<'a>,
+    mark: i64,
+    steps: &mut Steps<L>,
+) -> bool
+    requires room { HasSlots search.now (length env.now + length order.now) }
+    requires next { IsNext search.now.probe.now.path env.now next.old }
+    requires sure { IsSure search.now.index.now search.now.probe.now.path mark order.now env.now sure }
+    ensures rest { result ≡ rest_of search.now.index.now search.now.probe.now.path mark order.now env.now }
+    ensures next { IsNext search.now.probe.now.path env.now next.new }
+    ensures steps { steps.new ≤ steps.old + (if sure then 0 else rest_cost search.now.index.now search.now.probe.now.path mark order.now env.now) }
+    ensures more { steps.old ≤ steps.new }
+{
+    let path = search.probe.path.as_slice();
+    if sure {
+        may_go(path, mark, env)
+    } else {
+        rest_exists(path, order, next, env, mark, search.index, steps)
+    }
+}
+
+/// Returns whether the rest of the path exists beside these rows and the body is true of them. If the rest is sure to exist
+/// beside rows that may go on, it isn't looked for. The nearest step is found once for all rows of a level.
+pub fn holds_here<'a, L: Ledger>(
+    search: &Search<'a>,
+    order: &'a [Reach],
+    next: &mut Next<'a>,
+    sure: bool,
     env: &Env<'a>,
     mark: i64,
     steps: &mut Steps<L>,
@@ -50,37 +80,14 @@ pub fn holds_once<'a, L: Ledger>(
     requires node { HasBody search.now }
     requires room { HasSlots search.now (length env.now + length order.now) }
     requires next { IsNext search.now.probe.now.path env.now next.old }
+    requires sure { IsSure search.now.index.now search.now.probe.now.path mark order.now env.now sure }
     ensures holds { result ≡ holds_here search.now.index.now (searched search.now) mark order.now env.now }
     ensures next { IsNext search.now.probe.now.path env.now next.new }
-    ensures steps { steps.new ≤ steps.old + cost_here search.now.index.now (searched search.now) mark order.now env.now }
+    ensures steps { steps.new ≤ steps.old + cost_here search.now.index.now (searched search.now) mark sure order.now env.now }
     ensures more { steps.old ≤ steps.new }
 {
-    rest_exists(
-        search.probe.path.as_slice(),
-        order,
-        next,
-        env,
-        mark,
-        search.index,
-        steps,
-    ) && body_holds(search.pool, search.probe.body, env, search.index, steps)
-}
-
-/// Returns whether the rest of the path exists beside these rows and the body is true of them.
-pub fn holds_here<'a, L: Ledger>(
-    search: &Search<'a>,
-    order: &'a [Reach],
-    env: &Env<'a>,
-    mark: i64,
-    steps: &mut Steps<L>,
-) -> bool
-    requires node { HasBody search.now }
-    requires room { HasSlots search.now (length env.now + length order.now) }
-    ensures holds { result ≡ holds_here search.now.index.now (searched search.now) mark order.now env.now }
-    ensures steps { steps.new ≤ steps.old + cost_here search.now.index.now (searched search.now) mark order.now env.now }
-    ensures more { steps.old ≤ steps.new }
-{
-    holds_once(search, order, &mut Next::Unknown, env, mark, steps)
+    has_rest(search, order, next, sure, env, mark, steps)
+        && body_holds(search.pool, search.probe.body, env, search.index, steps)
 }
 
 /// Returns the order in which the part at this place of the query binds its variables.

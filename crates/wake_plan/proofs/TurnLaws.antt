@@ -133,10 +133,10 @@ module _ (w : Window) (p : Probe) (v : Var) where
 module _ (T : Tables) (u : Window) (p : Probe) (order : List Reach) where
   pub cost_part : (due : Due) (envs : List Env) → value p.at due.env ≡ Some due.mark → lies_in u (Some due.mark) ≡ true
       → total (λ env. 1 + cost_at T u p order env) (filter (λ env. lies_in u (value p.at env)) (due.env ∷ envs))
-      ≡ (1 + work_over T p due.mark order due.env) + total (λ env. 1 + cost_at T u p order env) (filter (λ env. lies_in u (value p.at env)) envs)
+      ≡ (1 + work_over T p due.mark false order due.env) + total (λ env. 1 + cost_at T u p order env) (filter (λ env. lies_in u (value p.at env)) envs)
   cost_part due envs e l =
       let k : lies_in u (value p.at due.env) ≡ true = ap (lies_in u) e ∙ l in
-      let c : cost_at T u p order due.env ≡ work_over T p due.mark order due.env = ap (marked_cost T u p order due.env) (in_mark u (value p.at due.env) due.mark e k) in
+      let c : cost_at T u p order due.env ≡ work_over T p due.mark false order due.env = ap (marked_cost T u p order due.env) (in_mark u (value p.at due.env) due.mark e k) in
       rw (k, c) refl
 
 -- the least mark of what is found beside the row that was read ahead

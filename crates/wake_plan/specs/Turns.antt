@@ -61,7 +61,7 @@ due_hits t (Some due) = hits_over t.search.seen.now t.search.index.now (searched
 -- the steps that looking for them may take
 abbrev pub due_cost : Turn → Option Due → ℕ
 due_cost t None = 0
-due_cost t (Some due) = work_over t.search.index.now (searched t.search) due.mark t.order.now due.env
+due_cost t (Some due) = work_over t.search.index.now (searched t.search) due.mark false t.order.now due.env
 
 -- the hits beside the rows that are left
 abbrev pub hits_left : Window → Turn → List Hit

@@ -2,11 +2,12 @@
 
 ghost use Rattle.std.specs.Prelude.{◌≡◌, ◌+◌, ◌≤◌, length, option_to_list};
 ghost use Rattle.probe_eval.specs.Searches.{searched, HasBody, HasSlots};
+ghost use Rattle.probe_eval.specs.Levels.{IsSure};
 ghost use Rattle.probe_eval.specs.Nested.{new_doc, hit_if, holds_here, cost_here, hits_over, work_over};
 ghost use Rattle.wake_plan.specs.Turns.{has_hit};
 
 use access_plan::Reach;
-use probe_eval::{Search, further, holds_here, new_doc, rows_by};
+use probe_eval::{Next, Search, holds_here, new_doc, next_level, rows_by};
 use std::sync::ledger::Ledger;
 use tap_base::Steps;
 use tap_rows::KeptDoc;
@@ -17,50 +18,53 @@ fn delivers_pair<'a, L: Ledger>(
     search: &Search<'a>,
     doc: &KeptDoc,
     order: &'a [Reach],
+    sure: bool,
     env: &Env<'a>,
     mark: i64,
     steps: &mut Steps<L>,
 ) -> bool
     requires node { HasBody search.now }
     requires room { HasSlots search.now (length env.now + length order.now) }
+    requires sure { IsSure search.now.index.now search.now.probe.now.path mark order.now env.now sure }
     ensures hits { result ≡ has_hit (option_to_list (hit_if (holds_here search.now.index.now (searched search.now) mark order.now env.now) mark
         (new_doc search.now.seen.now doc.now))) }
-    ensures steps { steps.new ≤ steps.old + cost_here search.now.index.now (searched search.now) mark order.now env.now }
+    ensures steps { steps.new ≤ steps.old + cost_here search.now.index.now (searched search.now) mark sure order.now env.now }
     ensures more { steps.old ≤ steps.new }
 {
     match new_doc(search.seen, doc) {
         None => false,
-        Some(_) => holds_here(search, order, env, mark, steps),
+        Some(_) => holds_here(search, order, &mut Next::Unknown, sure, env, mark, steps),
     }
 }
 
 /// Returns whether a document that isn't in the box is found with the mark beside the rows of `env`. It binds the nearest
 /// step's rows next, until the document that the query is about has a row, and stops at the first that is found. At most
-/// as many steps are left as `order` has.
+/// as many steps are left as `order` has. If the rest is sure to exist beside rows that may go on, it isn't looked for.
 pub(crate) fn delivers<'a, L: Ledger>(
     search: &Search<'a>,
     order: &'a [Reach],
+    sure: bool,
     env: &Env<'a>,
     mark: i64,
     steps: &mut Steps<L>,
 ) -> bool
     requires node { HasBody search.now }
     requires room { HasSlots search.now (length env.now + length order.now) }
+    requires sure { IsSure search.now.index.now search.now.probe.now.path mark order.now env.now sure }
     ensures hits { result ≡ has_hit (hits_over search.now.seen.now search.now.index.now (searched search.now) mark order.now env.now) }
-    ensures steps { steps.new ≤ steps.old + work_over search.now.index.now (searched search.now) mark order.now env.now }
+    ensures steps { steps.new ≤ steps.old + work_over search.now.index.now (searched search.now) mark sure order.now env.now }
     ensures more { steps.old ≤ steps.new }
 {
     match env.get(Var(0)) {
-        Some(RowRef::OfDoc(doc)) => delivers_pair(search, doc, order, env, mark, steps),
+        Some(RowRef::OfDoc(doc)) => delivers_pair(search, doc, order, sure, env, mark, steps),
         Some(RowRef::OfNote(_)) => false,
         None => {
-            if let Some((_, rest)) = order.split_first() {
-                if let Some(reach) = further(search.probe.path.as_slice(), mark, env) {
-                    let mut rows = rows_by(reach.access, mark, env, search.index);
-                    while let Some(row) = rows.next(steps) {
-                        if delivers(search, rest, &env.bind(reach.var, row), mark, steps) {
-                            return true;
-                        }
+            if let Some(level) = next_level(search, order, &mut Next::Unknown, env, mark, steps) {
+                let mut rows = rows_by(level.reach.access, mark, env, search.index);
+                while let Some(row) = rows.next(steps) {
+                    let more = env.bind(level.reach.var, row);
+                    if delivers(search, level.rest, level.sure, &more, mark, steps) {
+                        return true;
                     }
                 }
             }

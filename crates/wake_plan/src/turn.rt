@@ -44,7 +44,7 @@ impl<'a> Turn<'a> {
         match &self.next {
             None => None,
             Some(due) => {
-                if delivers(&self.search, self.order, &due.env, due.mark, steps) {
+                if delivers(&self.search, self.order, false, &due.env, due.mark, steps) {
                     Some(due.mark)
                 } else {
                     None

@@ -1,12 +1,14 @@
-use Rattle.std.proofs.Common.{rules, ◌≡◌, ◌≤◌, ◌+◌, ◌∷◌, true, false, None, arith, to_z, of_z, w64}
+use Rattle.std.proofs.Common.{rules, ◌≡◌, ◌≤◌, ◌+◌, ◌∷◌, ◌&&◌, true, false, None, arith, to_z, of_z, w64}
 use Rattle.tql_core.specs.Bindings.{row_of}
 use Rattle.tql_core.specs.Values.{bind}
 use Rattle.access_plan.specs.Nearest.{nearest}
-use Rattle.probe_eval.specs.Open.{may_go}
+use Rattle.probe_eval.specs.Open.{path_apart, may_go}
 use Rattle.probe_eval.specs.Nexts.{IsNext}
-use Rattle.probe_eval.specs.Rests.{rest_of, rest_cost}
+use Rattle.probe_eval.specs.Rests.{rest_of, decides, rest_cost}
+use Rattle.std.proofs.lemmas.Bool.{and_parts}
+use Rattle.probe_eval.proofs.AlikeRows.{none_left}
 use Rattle.probe_eval.proofs.NextRows.{next_alike}
-use Rattle.probe_eval.proofs.Steps.{cost_step}
+use Rattle.probe_eval.proofs.Steps.{until_step, or_none}
 use Rattle.probe_eval.proofs.RestSteps.{stopped, all_there, any_step}
 use Rattle.probe_eval.proofs.rests.+rest_exists.Goals as goal
 
@@ -34,12 +36,24 @@ loop-row-preserved g t c =
     let x = bind c.in-Some.reach.var (row_of c.in-Some-next.row) c.args.env.now in
     let d : rest_of c.args.index.now c.args.path.now mark c.in-Some-split_first.rest.now x ≡ false = search rules in
     let k : c.rest_exists.new.steps ≤ c.next.new.steps + rest_cost c.args.index.now c.args.path.now mark c.in-Some-split_first.rest.now x = search rules in
+    let a : (may_go c.args.path.now mark x && path_apart c.args.path.now c.args.env.now c.in-Some.reach.var) ≡ false = search rules in
     let n : IsNext c.args.path.now x c.rest_exists.new.next = search rules in
     let i = c.loop-row.invariant.more in
     let m = c.rest_exists.ensures.more in
     record {
       same = any_step (λ row. rest_of c.args.index.now c.args.path.now mark c.in-Some-split_first.rest.now (bind c.in-Some.reach.var row c.args.env.now)) _ _ _ (row_of c.in-Some-next.row) c.loop-row.invariant.same e d;
-      steps = cost_step _ _ _ _ _ _ _ (row_of c.in-Some-next.row) c.loop-row.invariant.steps e s k;
+      steps = until_step _ (decides c.args.index.now c.args.path.now mark c.in-Some-split_first.rest.now c.args.env.now c.in-Some.reach.var) _ _ _ _ _ _ (row_of c.in-Some-next.row) c.loop-row.invariant.steps e (or_none d a) s k;
       more = omega (arith, i, s, m);
       next = λ row. next_alike c.args.path.now c.in-Some.reach.var (row_of c.in-Some-next.row) row c.args.env.now c.rest_exists.new.next n;
     }
+
+pub returns-then-is_like_others-clause-exists : goal.returns-then-is_like_others-clause-exists
+returns-then-is_like_others-clause-exists g t c =
+    let mark = to_z w64 (of_z w64 c.args.mark) in
+    let e : c.loop-row.rows ≡ row_of c.in-Some-next.row ∷ c.next.new.self = search rules in
+    let x = bind c.in-Some.reach.var (row_of c.in-Some-next.row) c.args.env.now in
+    let d : rest_of c.args.index.now c.args.path.now mark c.in-Some-split_first.rest.now x ≡ false = search rules in
+    let a : (may_go c.args.path.now mark x && path_apart c.args.path.now c.args.env.now c.in-Some.reach.var) ≡ true = search rules in
+    let k = and_parts (may_go c.args.path.now mark x) (path_apart c.args.path.now c.args.env.now c.in-Some.reach.var) a in
+    let n = none_left c.args.index.now c.args.path.now mark c.args.env.now c.in-Some.reach.var k.1 c.in-Some-split_first.rest.now _ _ _ (row_of c.in-Some-next.row) c.loop-row.invariant.same e k.0 d in
+    search (rules, n)

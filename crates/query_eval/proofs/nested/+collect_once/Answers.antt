@@ -4,34 +4,31 @@ use Rattle.tql_core.specs.Bindings.{row_of}
 use Rattle.tql_core.specs.Row.{OfDoc, OfNote}
 use Rattle.tql_core.specs.Values.{bind, lookup}
 use Rattle.time_marks.specs.Views.{probe_in}
-use Rattle.access_plan.specs.Views.{reach_at}
 use Rattle.query_eval.specs.Lowest.{keeping}
-use Rattle.probe_eval.specs.Work.{rows_by}
-use Rattle.probe_eval.specs.Rests.{further}
+use Rattle.probe_eval.specs.Levels.{IsLevel, level_cost, rows_at}
 use Rattle.probe_eval.specs.Nexts.{IsNext}
 use Rattle.probe_eval.specs.Nested.{new_doc, hit_if, holds_here, hits_over, work_over, cost_here}
 use Rattle.probe_eval.proofs.Steps.{cost_step}
 use Rattle.probe_eval.proofs.NextRows.{next_alike}
 use Rattle.query_eval.proofs.Steps.{hits_step}
-use Rattle.probe_eval.proofs.HitSteps.{doc_hits, note_hits, doc_cost, first_cost}
-use Rattle.query_eval.proofs.HitSteps.{first_hits}
+use Rattle.probe_eval.proofs.HitSteps.{doc_hits, note_hits, doc_cost}
+use Rattle.probe_eval.proofs.LevelLaws.{level_steps}
+use Rattle.query_eval.proofs.HitSteps.{level_hits}
 use Rattle.query_eval.proofs.nested.+collect_once.Goals as goal
 
 pub loop-row-init : goal.loop-row-init
 loop-row-init g t c =
     let mark = to_z w64 (of_z w64 c.args.mark) in
     let p = probe_in c.args.search.now.pool.now c.args.search.now.probe.now in
-    let r = reach_at c.in-Some-further_once.reach in
-    let o : c.args.order.now ≡ c.in-Some.field-0-0.now ∷ c.in-Some.rest.now = search rules in
-    let e : lookup 0 c.args.env.now ≡ None = search rules in
-    let f : further p.path mark c.args.env.now ≡ Some r = search rules in
-    let q : c.rows_by-rows.result ≡ rows_by mark r.access c.args.env.now c.args.search.now.index.now = search rules in
+    let v : IsLevel c.args.search.now.seen.now c.args.search.now.index.now p mark c.args.order.now c.args.env.now c.in-Some.level = search rules in
+    let q : c.rows_by-rows.result ≡ rows_at c.args.search.now.index.now mark c.args.env.now c.in-Some.level = search rules in
+    let s : c.next_level.new.steps + level_cost c.args.search.now.index.now p mark c.args.env.now (Some c.in-Some.level) ≤ c.args.steps.now + work_over c.args.search.now.index.now p mark c.args.sure c.args.order.now c.args.env.now = search rules in
     record {
-      hits = first_hits c.args.search.now.seen.now c.args.search.now.index.now p mark c.args.order.now c.in-Some.field-0-0.now c.in-Some.rest.now c.args.env.now r c.rows_by-rows.result _ _ o e f q;
+      hits = level_hits c.args.search.now.seen.now c.args.search.now.index.now p mark c.args.order.now c.args.env.now c.in-Some.level c.rows_by-rows.result _ _ v q;
       ready = c.requires.ready;
       places = refl;
-      steps = first_cost c.args.search.now.index.now p mark c.args.steps.now c.args.order.now c.in-Some.field-0-0.now c.in-Some.rest.now c.args.env.now r c.rows_by-rows.result o e f q;
-      more = omega arith;
+      steps = level_steps c.args.search.now.index.now p mark c.args.env.now c.in-Some.level c.rows_by-rows.result _ _ q s;
+      more = c.next_level.ensures.more;
       next = λ row. tt;
     }
 
@@ -41,9 +38,9 @@ loop-row-preserved g t c =
     let s : c.next.new.steps ≡ c.loop-row.steps + 1 = search rules in
     let mark = to_z w64 (of_z w64 c.args.mark) in
     let p = probe_in c.args.search.now.pool.now c.args.search.now.probe.now in
-    let x = bind c.in-Some-further_once.reach.var (row_of c.in-Some-next.row) c.args.env.now in
-    let h : c.collect_once.new.into.hits.items ≡ keeping (length c.loop-row.into.places.items) c.loop-row.into.hits.items (hits_over c.args.search.now.seen.now c.args.search.now.index.now p mark c.in-Some.rest.now x) = search rules in
-    let k : c.collect_once.new.steps ≤ c.next.new.steps + work_over c.args.search.now.index.now p mark c.in-Some.rest.now x = search rules in
+    let x = bind c.in-Some.level.reach.var (row_of c.in-Some-next.row) c.args.env.now in
+    let h : c.collect_once.new.into.hits.items ≡ keeping (length c.loop-row.into.places.items) c.loop-row.into.hits.items (hits_over c.args.search.now.seen.now c.args.search.now.index.now p mark c.in-Some.level.rest.now x) = search rules in
+    let k : c.collect_once.new.steps ≤ c.next.new.steps + work_over c.args.search.now.index.now p mark c.in-Some.level.sure c.in-Some.level.rest.now x = search rules in
     let i = c.loop-row.invariant.more in
     let m = c.collect_once.ensures.more in
     let n : IsNext c.args.search.now.probe.now.path x c.collect_once.new.next = search rules in
@@ -53,7 +50,7 @@ loop-row-preserved g t c =
       places = c.collect_once.ensures.places ∙ c.loop-row.invariant.places;
       steps = cost_step _ _ _ _ _ _ _ (row_of c.in-Some-next.row) c.loop-row.invariant.steps e s k;
       more = omega (arith, i, s, m);
-      next = λ row. next_alike c.args.search.now.probe.now.path c.in-Some-further_once.reach.var (row_of c.in-Some-next.row) row c.args.env.now c.collect_once.new.next n;
+      next = λ row. next_alike c.args.search.now.probe.now.path c.in-Some.level.reach.var (row_of c.in-Some-next.row) row c.args.env.now c.collect_once.new.next n;
     }
 
 pub returns-in-Some-OfDoc-clause-hits : goal.returns-in-Some-OfDoc-clause-hits
@@ -67,8 +64,8 @@ pub returns-in-Some-OfDoc-clause-steps : goal.returns-in-Some-OfDoc-clause-steps
 returns-in-Some-OfDoc-clause-steps g t c =
     let p = probe_in c.args.search.now.pool.now c.args.search.now.probe.now in
     let e : lookup 0 c.args.env.now ≡ Some (OfDoc c.in-Some-OfDoc.doc.now) = search rules in
-    let k : work_over c.args.search.now.index.now p c.args.mark c.args.order.now c.args.env.now ≡ cost_here c.args.search.now.index.now p c.args.mark c.args.order.now c.args.env.now = doc_cost c.args.search.now.index.now p c.args.mark c.args.order.now c.args.env.now c.in-Some-OfDoc.doc.now e in
-    let s : c.collect_pair.new.steps ≤ c.args.steps.now + cost_here c.args.search.now.index.now p c.args.mark c.args.order.now c.args.env.now = search rules in
+    let k : work_over c.args.search.now.index.now p c.args.mark c.args.sure c.args.order.now c.args.env.now ≡ cost_here c.args.search.now.index.now p c.args.mark c.args.sure c.args.order.now c.args.env.now = doc_cost c.args.search.now.index.now p c.args.mark c.args.sure c.args.order.now c.args.env.now c.in-Some-OfDoc.doc.now e in
+    let s : c.collect_pair.new.steps ≤ c.args.steps.now + cost_here c.args.search.now.index.now p c.args.mark c.args.sure c.args.order.now c.args.env.now = search rules in
     omega (arith, k, s)
 
 pub returns-in-Some-OfNote-clause-hits : goal.returns-in-Some-OfNote-clause-hits
@@ -79,5 +76,10 @@ returns-in-Some-OfNote-clause-hits g t c =
 
 pub collect_once-requires : goal.collect_once-requires
 collect_once-requires g t c κs within =
+    let mark = to_z w64 (of_z w64 c.args.mark) in
+    let p = probe_in c.args.search.now.pool.now c.args.search.now.probe.now in
     let by = c.loop-row.invariant.next (row_of c.in-Some-next.row) in
-    search (rules, by)
+    let v : IsLevel c.args.search.now.seen.now c.args.search.now.index.now p mark c.args.order.now c.args.env.now c.in-Some.level = search rules in
+    let sure = v.sure (row_of c.in-Some-next.row) in
+    let fewer = v.fewer in
+    search (rules, by, sure, fewer)

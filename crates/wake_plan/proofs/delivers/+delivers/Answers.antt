@@ -5,12 +5,11 @@ use Rattle.tql_core.specs.Bindings.{row_of}
 use Rattle.tql_core.specs.Row.{OfDoc, OfNote}
 use Rattle.tql_core.specs.Values.{bind, lookup}
 use Rattle.time_marks.specs.Views.{probe_in}
-use Rattle.access_plan.specs.Views.{reach_at}
-use Rattle.probe_eval.specs.Work.{rows_by}
-use Rattle.probe_eval.specs.Rests.{further}
+use Rattle.probe_eval.specs.Levels.{IsLevel, level_cost, rows_at}
 use Rattle.probe_eval.specs.Nested.{new_doc, hit_if, holds_here, hits_over, work_over, cost_here}
 use Rattle.probe_eval.proofs.Steps.{cost_step}
-use Rattle.probe_eval.proofs.HitSteps.{doc_hits, note_hits, next_hits, doc_cost, first_cost}
+use Rattle.probe_eval.proofs.HitSteps.{doc_hits, note_hits, doc_cost}
+use Rattle.probe_eval.proofs.LevelLaws.{level_steps}
 use Rattle.wake_plan.specs.Turns.{has_hit}
 use Rattle.wake_plan.proofs.DeliverLaws.{next_row}
 use Rattle.wake_plan.proofs.delivers.+delivers.Goals as goal
@@ -19,17 +18,13 @@ pub loop-row-init : goal.loop-row-init
 loop-row-init g t c =
     let mark = to_z w64 (of_z w64 c.args.mark) in
     let p = probe_in c.args.search.now.pool.now c.args.search.now.probe.now in
-    let r = reach_at c.in-Some-further.reach in
-    let o : c.args.order.now ≡ c.in-Some.field-0-0.now ∷ c.in-Some.rest.now = search rules in
-    let e : lookup 0 c.args.env.now ≡ None = search rules in
-    let f : further p.path mark c.args.env.now ≡ Some r = search rules in
-    let q : c.rows_by-rows.result ≡ rows_by mark r.access c.args.env.now c.args.search.now.index.now = search rules in
+    let v : IsLevel c.args.search.now.seen.now c.args.search.now.index.now p mark c.args.order.now c.args.env.now c.in-Some.level = search rules in
+    let q : c.rows_by-rows.result ≡ rows_at c.args.search.now.index.now mark c.args.env.now c.in-Some.level = search rules in
+    let s : c.next_level.new.steps + level_cost c.args.search.now.index.now p mark c.args.env.now (Some c.in-Some.level) ≤ c.args.steps.now + work_over c.args.search.now.index.now p mark c.args.sure c.args.order.now c.args.env.now = search rules in
     record {
-      same = ap has_hit (ap (λ z. hits_over c.args.search.now.seen.now c.args.search.now.index.now p mark z c.args.env.now) o
-          ∙ next_hits c.args.search.now.seen.now c.args.search.now.index.now p mark c.in-Some.field-0-0.now c.in-Some.rest.now c.args.env.now r e f
-          ∙ ap (flat_map (λ row. hits_over c.args.search.now.seen.now c.args.search.now.index.now p mark c.in-Some.rest.now (bind r.var row c.args.env.now))) (sym q));
-      steps = first_cost c.args.search.now.index.now p mark c.args.steps.now c.args.order.now c.in-Some.field-0-0.now c.in-Some.rest.now c.args.env.now r c.rows_by-rows.result o e f q;
-      more = omega arith;
+      same = ap has_hit (v.hits ∙ ap (flat_map (λ row. hits_over c.args.search.now.seen.now c.args.search.now.index.now p mark c.in-Some.level.rest.now (bind c.in-Some.level.reach.var row c.args.env.now))) (sym q));
+      steps = level_steps c.args.search.now.index.now p mark c.args.env.now c.in-Some.level c.rows_by-rows.result _ _ q s;
+      more = c.next_level.ensures.more;
     }
 
 pub loop-row-preserved : goal.loop-row-preserved
@@ -38,10 +33,10 @@ loop-row-preserved g t c =
     let s : c.next.new.steps ≡ c.loop-row.steps + 1 = search rules in
     let mark = to_z w64 (of_z w64 c.args.mark) in
     let p = probe_in c.args.search.now.pool.now c.args.search.now.probe.now in
-    let x = bind c.in-Some-further.reach.var (row_of c.in-Some-next.row) c.args.env.now in
-    let h : c.delivers.result ≡ has_hit (hits_over c.args.search.now.seen.now c.args.search.now.index.now p mark c.in-Some.rest.now x) = search rules in
+    let x = bind c.in-Some.level.reach.var (row_of c.in-Some-next.row) c.args.env.now in
+    let h : c.delivers.result ≡ has_hit (hits_over c.args.search.now.seen.now c.args.search.now.index.now p mark c.in-Some.level.rest.now x) = search rules in
     let n : c.delivers.result ≡ false = search rules in
-    let k : c.delivers.new.steps ≤ c.next.new.steps + work_over c.args.search.now.index.now p mark c.in-Some.rest.now x = search rules in
+    let k : c.delivers.new.steps ≤ c.next.new.steps + work_over c.args.search.now.index.now p mark c.in-Some.level.sure c.in-Some.level.rest.now x = search rules in
     let i = c.loop-row.invariant.more in
     let m = c.delivers.ensures.more in
     record {
@@ -61,8 +56,8 @@ pub returns-in-Some-OfDoc-clause-steps : goal.returns-in-Some-OfDoc-clause-steps
 returns-in-Some-OfDoc-clause-steps g t c =
     let p = probe_in c.args.search.now.pool.now c.args.search.now.probe.now in
     let e : lookup 0 c.args.env.now ≡ Some (OfDoc c.in-Some-OfDoc.doc.now) = search rules in
-    let k : work_over c.args.search.now.index.now p c.args.mark c.args.order.now c.args.env.now ≡ cost_here c.args.search.now.index.now p c.args.mark c.args.order.now c.args.env.now = doc_cost c.args.search.now.index.now p c.args.mark c.args.order.now c.args.env.now c.in-Some-OfDoc.doc.now e in
-    let s : c.delivers_pair.new.steps ≤ c.args.steps.now + cost_here c.args.search.now.index.now p c.args.mark c.args.order.now c.args.env.now = search rules in
+    let k : work_over c.args.search.now.index.now p c.args.mark c.args.sure c.args.order.now c.args.env.now ≡ cost_here c.args.search.now.index.now p c.args.mark c.args.sure c.args.order.now c.args.env.now = doc_cost c.args.search.now.index.now p c.args.mark c.args.sure c.args.order.now c.args.env.now c.in-Some-OfDoc.doc.now e in
+    let s : c.delivers_pair.new.steps ≤ c.args.steps.now + cost_here c.args.search.now.index.now p c.args.mark c.args.sure c.args.order.now c.args.env.now = search rules in
     omega (arith, k, s)
 
 pub returns-in-Some-OfNote-clause-hits : goal.returns-in-Some-OfNote-clause-hits
@@ -70,3 +65,12 @@ returns-in-Some-OfNote-clause-hits g t c =
     let p = probe_in c.args.search.now.pool.now c.args.search.now.probe.now in
     let e : lookup 0 c.args.env.now ≡ Some (OfNote c.in-Some-OfNote.field-0-0.now) = search rules in
     ap has_hit (sym (note_hits c.args.search.now.seen.now c.args.search.now.index.now p c.args.mark c.args.order.now c.args.env.now (OfNote c.in-Some-OfNote.field-0-0.now) e (λ d z. absurd cc)))
+
+pub delivers-requires : goal.delivers-requires
+delivers-requires g t c κs within =
+    let mark = to_z w64 (of_z w64 c.args.mark) in
+    let p = probe_in c.args.search.now.pool.now c.args.search.now.probe.now in
+    let v : IsLevel c.args.search.now.seen.now c.args.search.now.index.now p mark c.args.order.now c.args.env.now c.in-Some.level = search rules in
+    let sure = v.sure (row_of c.in-Some-next.row) in
+    let fewer = v.fewer in
+    search (rules, sure, fewer)
