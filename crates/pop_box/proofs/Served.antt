@@ -107,5 +107,10 @@ took-quit status letters user user' secret secret' left left' out out' u s ends 
     let quit = ends.quit is in
     subst (λ x. TookQuit user' x left left') s (subst (λ x. TookQuit x secret left left') u (record { taken = quit.taken; quit = quit.quit }))
 
+-- a QUIT of the words' own user and secret
+pub took-quit-words : (status : ℕ) (user user' secret secret' : List ℕ) (left left' : Option (List ℕ)) → user ≡ user' → secret ≡ secret' → (status ≡ 0 → TookQuit user secret left left') → status ≡ 0 → TookQuit user' secret' left left'
+took-quit-words status user user' secret secret' left left' u s quit is =
+    subst (λ x. TookQuit user' x left left') s (subst (λ x. TookQuit x secret left left') u (quit is))
+
 pub at-end : (status : ℕ) (letters : List Letter) (user secret : List ℕ) (left left' out out' : Option (List ℕ)) → LettersEnd status user secret letters left left' out out' → status ≡ 1 → IsAtEnd left'
 at-end status letters user secret left left' out out' ends is = (ends.ended is).1

@@ -5,7 +5,7 @@ use Rattle.command_words.proofs.PopWorded.{worded-pop}
 use Rattle.clap.specs.Words.{takes}
 use Rattle.command_words.specs.PopOptions.{pop_app}
 use Rattle.tap_top.proofs.Refusals.{Refused-none, not-stopped}
-use Rattle.pop_box.proofs.Served.{unserved, served-words}
+use Rattle.pop_box.proofs.Served.{unserved, served-words, took-quit-words}
 use Rattle.pop_box.proofs.serving.serve.Goals as goal
 
 not-both : (x : OptionFault) → x ≡ RefusedWords → x ≡ Memory → ⊥
@@ -42,6 +42,9 @@ returns-in-Err-Memory-clause-refused g c = λ t honest holds v version fault is.
 pub returns-clause-session : goal.returns-clause-session
 returns-clause-session g c = λ t honest holds store.
     served-words c.serve_box.result t _ _ _ _ _ _ _ _ _ _ _ c.in-Ok.ensures.user c.in-Ok.ensures.name c.in-Ok.ensures.secret (c.serve_box.ensures.session t honest holds store)
+
+pub returns-clause-quit : goal.returns-clause-quit
+returns-clause-quit g c = took-quit-words c.serve_box.result _ _ _ _ _ _ c.in-Ok.ensures.user c.in-Ok.ensures.secret c.serve_box.ensures.quit
 
 pub returns-clause-complete : goal.returns-clause-complete
 returns-clause-complete g c = λ path user name secret worded reads puts keeps. c.serve_box.ensures.complete reads puts keeps
