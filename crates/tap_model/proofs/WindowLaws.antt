@@ -323,12 +323,12 @@ pub unseen-is-fresh : UnseenIsFresh
 unseen-is-fresh query tables positive zero =
     let union = distinct_is_union (condition_by query) (start_of query) (is-query (condition_text query.source)) positive in
     let unseen : (seen : Doc → Bool) (from until : ℤ) → start_of query ≤ℤ from → from ≤ℤ until
-          → ((doc : Doc) → In doc tables.docs → seen doc ≡ was_given query tables from doc)
-          → meaning_without seen (probes_in query) tables (record { low = from; high = until })
-            ≡ fresh_in (truth_of query) tables (start_of query) from until
-        = λ seen from until late le same.
-          same-without seen (was_given query tables from) (probes_in query) tables (record { low = from; high = until }) same
-          ∙ union.since tables from until zero late le in
+    → ((doc : Doc) → In doc tables.docs → seen doc ≡ was_given query tables from doc)
+    → meaning_without seen (probes_in query) tables (record { low = from; high = until })
+    ≡ fresh_in (truth_of query) tables (start_of query) from until
+    = λ seen from until late le same.
+    same-without seen (was_given query tables from) (probes_in query) tables (record { low = from; high = until }) same
+    ∙ union.since tables from until zero late le in
     record {
       unseen = unseen;
       first = λ until le. unseen (λ _. false) (start_of query) until (omega (arith, ints)) le (λ d has. none-before query tables d);

@@ -56,10 +56,10 @@ pub record IsFreshUnseen (query : QueryRow) (tables : Tables) : Type 0 where
   pub unseen : (seen : Doc → Bool) (from until : ℤ) → start_of query ≤ℤ from → from ≤ℤ until
       → ((doc : Doc) → In doc tables.docs → seen doc ≡ was_given query tables from doc)
       → meaning_without seen (probes_in query) tables (record { low = from; high = until })
-        ≡ fresh_in (truth_of query) tables (start_of query) from until
+      ≡ fresh_in (truth_of query) tables (start_of query) from until
   pub first : (until : ℤ) → start_of query ≤ℤ until
       → meaning_without (λ _. false) (probes_in query) tables (record { low = start_of query; high = until })
-        ≡ fresh_in (truth_of query) tables (start_of query) (start_of query) until
+      ≡ fresh_in (truth_of query) tables (start_of query) (start_of query) until
 
 abbrev pub UnseenIsFresh : Type 0
 UnseenIsFresh = (query : QueryRow) (tables : Tables) → pos 0 ≤ℤ start_of query → FromZero tables → IsFreshUnseen query tables
