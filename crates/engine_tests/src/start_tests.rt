@@ -1,9 +1,9 @@
 //! Starts over stored rows.
 
-use crate::Engine;
 use restart_core::check_tables;
 use std::alloc::Global;
 use tap_base::{DocNum, HashKey, Memory, NoteNum, QueryNum, Text};
+use tap_engine::Engine;
 use tap_kept::StartFault;
 use tap_rows::{Doc, FilterRow, Note, Pick, QueryRow, RunRow, Tables};
 

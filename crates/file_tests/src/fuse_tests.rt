@@ -1,6 +1,6 @@
 //! A store whose machine stops at each call of a file in turn: what is found again has the rows that were acknowledged, or
 //! those of one commit more.
-ghost use Rattle.std.specs.Prelude.{◌≡◌, false};
+ghost use Rattle.std.specs.Prelude.{◌≡◌, true, false};
 
 use crate::session_tests::{
     apply_all, first_changes, new_files, same_tables, second_changes, session,
@@ -25,14 +25,11 @@ fn fused(files: Files<MemoryFile>, log: u64, db: u64) -> Files<Fuse<MemoryFile>>
     }
 }
 
-// Attaches a keeper and commits the changes up to the first that fails; returns how many were committed.
-fn committed<P: Keeper>(alloc: Global, keeper: &mut P, changes: &[Change]) -> usize
-    requires free { P.attached keeper.old ≡ false }
+// Commits the changes up to the first that fails; returns how many were committed.
+fn committed<P: Keeper>(keeper: &mut P, changes: &[Change]) -> usize
+    requires ready { P.attached keeper.old ≡ true }
     requires running { P.stopped keeper.old ≡ false }
 {
-    if keeper.attach(alloc, "store").is_err() {
-        return 0;
-    }
     let mut done = 0usize;
     'commits: for change in changes {
         if keeper.commit(change).is_err() {
@@ -41,6 +38,17 @@ fn committed<P: Keeper>(alloc: Global, keeper: &mut P, changes: &[Change]) -> us
         done = done.saturating_add(1);
     }
     done
+}
+
+// Attaches a keeper and commits the changes up to the first that fails; returns how many were committed.
+fn attached<P: Keeper>(alloc: Global, keeper: &mut P, changes: &[Change]) -> usize
+    requires free { P.attached keeper.old ≡ false }
+    requires running { P.stopped keeper.old ≡ false }
+{
+    match keeper.attach(alloc, "store") {
+        Ok(_) => committed(keeper, changes),
+        Err(_) => 0,
+    }
 }
 
 // Runs a session over the files, and takes them back as they are when it ends.
@@ -52,7 +60,7 @@ fn stopped(alloc: Global, files: Files<Fuse<MemoryFile>>, changes: &[Change]) ->
         Err((_, left)) => Some((0, false, left.into_files())),
         Ok(connection) => {
             let mut keeper = SqlKeeper::adopt(connection);
-            let done = committed(alloc, &mut keeper, changes);
+            let done = attached(alloc, &mut keeper, changes);
             match keeper.into_connection().close_files() {
                 Ok(files) => Some((done, true, files)),
                 Err((_, store)) => Some((done, false, store.close())),

@@ -1,7 +1,7 @@
 use Rattle.std.proofs.Common.{◌≡◌, true, sym, subst, refl, arith, inl, inr}
 use Rattle.tql_core.specs.Bounds.{are_bounded}
 use Rattle.tql_core.specs.Scope.{IsQuery}
-use Rattle.query_tests.proofs.probe_tests.a_condition_has_its_probes.Goals as goal
+use Rattle.plan_tests.proofs.probe_tests.a_condition_has_its_probes.Goals as goal
 
 pub monotone-requires-clause-scoped : goal.monotone-requires-clause-scoped
 monotone-requires-clause-scoped g c = subst IsQuery (sym c.in_ok-cond.ensures) (omega arith, omega arith, (λ i. elim i [ inl e ↦ absurd (omega arith) | inr n ↦ absurd n ]), inl refl)

@@ -53,10 +53,14 @@ fn reach(var: u8, access: Access) -> Reach {
     }
 }
 
-// Returns a query of one probe with this path and mark.
-fn asked(alloc: Global, path: Rows<Step>, at: Term) -> Result<RangedQuery, Memory> {
+// Returns a query of one probe with this path, whose driver is this document.
+fn asked(alloc: Global, path: Rows<Step>, driver: u8) -> Result<RangedQuery, Memory> {
     let mut pool = Pool::new(alloc);
     let body = pool.intern(TNode::True)?;
+    let at = Term {
+        base: Base::Arrival(Var(driver)),
+        plus: 0,
+    };
     let seek = Seek::of(at);
     let mut parts = Rows::new(alloc);
     parts.push(Ranged {
@@ -64,14 +68,6 @@ fn asked(alloc: Global, path: Rows<Step>, at: Term) -> Result<RangedQuery, Memor
         seek,
     })?;
     Ok(RangedQuery { pool, parts })
-}
-
-// Returns the arrival of a variable's row.
-fn arrival(var: u8) -> Term {
-    Term {
-        base: Base::Arrival(Var(var)),
-        plus: 0,
-    }
 }
 
 // Returns whether the plan of a query of one probe has this order.
@@ -91,7 +87,7 @@ fn has_order(
     first: Reach,
     second: Reach,
 ) -> Result<bool, Memory> {
-    let query = asked(alloc, path(alloc, ninth, tenth)?, arrival(0))?;
+    let query = asked(alloc, path(alloc, ninth, tenth)?, 0)?;
     let mut order = Rows::new(alloc);
     order.push(first)?;
     order.push(second)?;
@@ -168,7 +164,7 @@ fn paths_have_their_orders(rt: HostRuntime) -> Result<(), Memory> {
 fn each_probe_has_its_order(rt: HostRuntime) -> Result<(), Memory> {
     let alloc = rt.alloc();
     let path = path(alloc, Rows::new(alloc), Rows::new(alloc))?;
-    let planned = plan(alloc, asked(alloc, path, arrival(9))?)?;
+    let planned = plan(alloc, asked(alloc, path, 9)?)?;
     assert_eq!(rt; planned.query.parts.len(), 1);
     assert_eq!(rt; planned.orders.len(), 1);
     let mut order = Rows::new(alloc);
