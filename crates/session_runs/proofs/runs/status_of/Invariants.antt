@@ -1,4 +1,4 @@
-use Rattle.session_tests.proofs.test_runs.status_of.Given as goal
+use Rattle.session_runs.proofs.runs.status_of.Given as goal
 
 -- the counter is that of the blank
 abbrev pub ghosts-run : goal.ghosts-run

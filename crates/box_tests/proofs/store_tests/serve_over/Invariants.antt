@@ -1,4 +1,4 @@
-use Rattle.session_tests.proofs.pop_tests.serve_over.Given as goal
+use Rattle.box_tests.proofs.store_tests.serve_over.Given as goal
 
 -- the counter is that of the blank
 abbrev pub ghosts-serve_with : goal.ghosts-serve_with
