@@ -17,7 +17,7 @@ use Rattle.tap_top.specs.Statuses.{TookMany}
 -- whatever the store: when the words are refused, which then changes nothing; what a sample reads and puts; when a read or a
 -- put failed; and that a script that ended with its commands was read to its end
 pub record Ends (words : List (List ℕ)) (status : ℕ) (left left' out out' : Option (List ℕ)) (reads reads' puts puts' : ℕ) : Type 0 where
-  pub words : status ≡ 2 → takes app words ≡ false
+  pub untaken : status ≡ 2 → takes app words ≡ false
   pub exact : status ≡ 2 → faults_of app words ≢ []
   pub worded : (path : Option (List ℕ)) (number : Option ℕ) → IsWellWorded words path number → status ≢ 2
   pub faulty : (status ≡ 2) ⊎ ((status ≡ 7) ⊎ (faults_of app words ≡ []))

@@ -17,7 +17,7 @@ use Rattle.pop_box.specs.Served.{Served, TookQuit, Unchanged}
 -- whatever the store: when the words are refused, which then changes nothing; when a read or a put failed; that a QUIT was
 -- read if one ended the session, and the input to its end if that did
 pub record Ends (words : List (List ℕ)) (status : ℕ) (left left' out out' : Option (List ℕ)) (reads reads' puts puts' : ℕ) : Type 0 where
-  pub words : status ≡ 2 → takes pop_app words ≡ false
+  pub untaken : status ≡ 2 → takes pop_app words ≡ false
   pub exact : status ≡ 2 → faults_of pop_app words ≢ []
   pub worded : (path : Option (List ℕ)) (user name secret : List ℕ) → IsPopWorded words path user name secret → status ≢ 2
   pub faulty : (status ≡ 2) ⊎ ((status ≡ 7) ⊎ (faults_of pop_app words ≡ []))

@@ -2,7 +2,7 @@ use Rattle.tapestry.proofs.mail_filter.MailFilterSession.hold.Goals as goal
 
 pub returns-clause-ends : goal.returns-clause-ends
 returns-clause-ends g c = record {
-  words = c.tapestry.ensures.words;
+  untaken = c.tapestry.ensures.words;
   exact = c.tapestry.ensures.exact;
   worded = c.tapestry.ensures.worded;
   faulty = c.tapestry.ensures.faulty;

@@ -2,7 +2,7 @@ use Rattle.tapestry_pop.proofs.pop_server.PopServerSession.hold.Goals as goal
 
 pub returns-clause-ends : goal.returns-clause-ends
 returns-clause-ends g c = record {
-  words = c.serve.ensures.words;
+  untaken = c.serve.ensures.words;
   exact = c.serve.ensures.exact;
   worded = c.serve.ensures.worded;
   faulty = c.serve.ensures.faulty;
