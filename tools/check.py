@@ -230,6 +230,7 @@ def make(name, is_test):
     if call(["build", *words, "-o", f"{made}.o"], folder).returncode:
         return None
     words = ["--target", TARGET, "--toolchain", f"{KIT}/toolchain", "-o", made, f"{made}.o"]
+    words += [f"{KIT}/c/{it}" for it in ("libos_c.a", "liblibc_c.a")]
     linked = subprocess.run([f"{KIT}/bin/rattle-link", *words], cwd=folder, check=False)
     return None if linked.returncode else f"{folder}/{made}"
 
