@@ -241,8 +241,8 @@ def run_tests(name, tests):
         return False
     listed = subprocess.run([program, "--list"], capture_output=True, text=True, check=False).stdout.split("\n")
     failed = 0
-    for test in tests or [it.split(":")[0] if ": " in it else it for it in listed if it.strip()]:
-        status = subprocess.run([program, test.strip()], cwd=os.path.dirname(program), check=False).returncode
+    for test in tests or [it[: -len(": test")] for it in listed if it.endswith(": test")]:
+        status = subprocess.run([program, test], cwd=os.path.dirname(program), check=False).returncode
         print(f"test {test}: {'ok' if status == 0 else f'FAILED, status {status}'}")
         failed += status != 0
     return not failed
