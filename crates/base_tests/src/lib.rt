@@ -4,6 +4,8 @@
 #[cfg(test)]
 mod edge_tests;
 #[cfg(test)]
+mod key_tests;
+#[cfg(test)]
 mod pool_tests;
 #[cfg(test)]
 mod word_tests;

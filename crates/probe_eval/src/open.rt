@@ -123,8 +123,8 @@ pub(crate) fn may_go<'a>(path: &'a [Step], mark: i64, env: &Env<'a>) -> bool
     env.come_by(mark) && path_open(path, env)
 }
 
-/// Returns whether the row of the variable stands for all others in a search for the rest of the path beside `env`: it may go
-/// on, and no guard names the variable and another one that has no row yet.
+/// Returns whether one row of the variable decides for all of them in a search for the rest of the path beside `env`: it may
+/// go on, and no guard names the variable and another one that has no row yet.
 pub(crate) fn is_like_others<'a>(
     path: &'a [Step],
     mark: i64,

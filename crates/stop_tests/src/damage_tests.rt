@@ -23,6 +23,7 @@ enum Damage {
     PickLate,
     PickEarly,
     PickOrder,
+    PickTwice,
     FilterOwner,
     FilterSource,
 }
@@ -132,6 +133,15 @@ fn pick(num: u32, doc: u32, damage: Damage) -> Pick {
     }
 }
 
+// Returns a run of the query.
+fn run_row(num: u32, moment: i64) -> RunRow {
+    RunRow {
+        num,
+        query: QueryNum(1),
+        moment,
+    }
+}
+
 // Returns the run with its deliveries.
 fn run(alloc: Global, damage: Damage) -> Result<Change, Memory> {
     let mut picks = Rows::new(alloc);
@@ -141,12 +151,16 @@ fn run(alloc: Global, damage: Damage) -> Result<Change, Memory> {
     } else {
         picks.push(pick(1, 1, damage))?;
     }
-    let run = RunRow {
-        num: 1,
-        query: QueryNum(1),
-        moment: moment(damage),
-    };
-    Ok(Change::RunDone(run, picks))
+    Ok(Change::RunDone(run_row(1, moment(damage)), picks))
+}
+
+// Returns a second run, which delivers what the first did.
+fn second_run(alloc: Global, damage: Damage) -> Result<Change, Memory> {
+    let mut picks = Rows::new(alloc);
+    let mut pick = pick(2, 1, damage);
+    pick.run = 2;
+    picks.push(pick)?;
+    Ok(Change::RunDone(run_row(2, 102), picks))
 }
 
 // Returns the filter.
@@ -179,6 +193,9 @@ fn tables(alloc: Global, damage: Damage) -> Result<Tables, Memory> {
         tables.apply(query(alloc, 2, damage)?)?;
     }
     tables.apply(run(alloc, damage)?)?;
+    if damage == Damage::PickTwice {
+        tables.apply(second_run(alloc, damage)?)?;
+    }
     tables.apply(filter(alloc, damage)?)?;
     Ok(tables)
 }
@@ -196,7 +213,7 @@ fn each_damage_has_its_line(rt: HostRuntime) -> Result<(), Fail> {
     let (status, written) = opened(alloc, Damage::Nothing)?;
     assert_eq!(rt; status, 0);
     assert_eq!(rt; written.as_slice(), b"".as_slice());
-    let rows: [(Damage, &[u8]); 16] = [
+    let rows: [(Damage, &[u8]); 17] = [
         (Damage::DocNumber, b"stop 6 damaged docs 1 number\n"),
         (Damage::DocText, b"stop 6 damaged docs 1 text\n"),
         (Damage::NoteDoc, b"stop 6 damaged notes 1 reference\n"),
@@ -211,6 +228,7 @@ fn each_damage_has_its_line(rt: HostRuntime) -> Result<(), Fail> {
         (Damage::PickLate, b"stop 6 damaged picks 1 second\n"),
         (Damage::PickEarly, b"stop 6 damaged picks 1 second\n"),
         (Damage::PickOrder, b"stop 6 damaged picks 2 order\n"),
+        (Damage::PickTwice, b"stop 6 damaged picks 2 twice\n"),
         (Damage::FilterOwner, b"stop 6 damaged filters 1 name\n"),
         (Damage::FilterSource, b"stop 6 damaged filters 1 text\n"),
     ];

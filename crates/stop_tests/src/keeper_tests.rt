@@ -5,9 +5,9 @@ use keeper_core::{KeepPlan, MemKeeper};
 use session_runs::{sink_of, source_of, written_over};
 use std::alloc::Global;
 use std::test::Fail;
-use tap_base::{DocNum, Memory, QueryNum, Rows, Text};
+use tap_base::{Memory, Text};
 use tap_edges::PutPlan;
-use tap_rows::{Change, Doc, FilterRow, Pick, QueryRow, RunRow, Tables};
+use tap_rows::Tables;
 
 // Runs a session over a keeper, with puts that fail as planned; returns its status and what was written.
 fn cut_session(
@@ -124,86 +124,6 @@ fn a_crash_leaves_a_run_or_none_of_it(rt: HostRuntime) -> Result<(), Fail> {
         assert_eq!(rt; status, 0);
         assert_eq!(rt; written.as_slice(), boxed);
     }
-    Ok(())
-}
-
-// Returns a run of the first query, and its pick of the first document.
-fn run_with_pick(alloc: Global, num: u32, moment: i64) -> Result<Change, Memory> {
-    let mut picks = Rows::new(alloc);
-    picks.push(Pick {
-        num,
-        query: QueryNum(1),
-        run: num,
-        doc: DocNum(1),
-        first: 100,
-    })?;
-    let run = RunRow {
-        num,
-        query: QueryNum(1),
-        moment,
-    };
-    Ok(Change::RunDone(run, picks))
-}
-
-// Returns a document of second 100.
-fn one_doc(alloc: Global) -> Result<Change, Memory> {
-    let mut docs = Rows::new(alloc);
-    docs.push(Doc {
-        num: DocNum(1),
-        arrival: 100,
-        text: Text::from_slice(alloc, b"Subject: hi\n\n")?,
-    })?;
-    Ok(Change::Docs(docs))
-}
-
-// Returns a query of second 100.
-fn one_query(alloc: Global) -> Result<Change, Memory> {
-    Ok(Change::OneQuery(QueryRow {
-        num: QueryNum(1),
-        owner: Text::from_slice(alloc, b"ann")?,
-        name: Text::from_slice(alloc, b"q")?,
-        source: Text::from_slice(alloc, b"TRUE")?,
-        arrival: 100,
-    }))
-}
-
-// Returns tables with one document that two runs delivered.
-fn picked_twice(alloc: Global) -> Result<Tables, Memory> {
-    let mut tables = Tables::empty(alloc);
-    tables.apply(one_doc(alloc)?)?;
-    tables.apply(one_query(alloc)?)?;
-    tables.apply(run_with_pick(alloc, 1, 101)?)?;
-    tables.apply(run_with_pick(alloc, 2, 102)?)?;
-    Ok(tables)
-}
-
-// Returns a filter whose text can't be read.
-fn unread_filter(alloc: Global) -> Result<Tables, Memory> {
-    let mut tables = Tables::empty(alloc);
-    tables.apply(Change::OneFilter(FilterRow {
-        num: 1,
-        owner: Text::from_slice(alloc, b"ann")?,
-        source: Text::from_slice(alloc, b"WHEN\n")?,
-        arrival: 100,
-    }))?;
-    Ok(tables)
-}
-
-#[test]
-fn damaged_stores_are_refused(rt: HostRuntime) -> Result<(), Fail> {
-    let alloc = rt.alloc();
-    let (status, written) = over(alloc, picked_twice(alloc)?, 1, b"at 200\n")?;
-    assert_eq!(rt; status, 6);
-    assert_eq!(rt;
-        written.as_slice(),
-        b"stop 6 damaged picks 2 twice\n".as_slice()
-    );
-    let (status, written) = over(alloc, unread_filter(alloc)?, 2, b"at 200\n")?;
-    assert_eq!(rt; status, 6);
-    assert_eq!(rt;
-        written.as_slice(),
-        b"stop 6 damaged filters 1 text\n".as_slice()
-    );
     Ok(())
 }
 
