@@ -44,6 +44,10 @@ abbrev pub left_by : Bool → Tables → Change → Tables
 left_by true tables change = after tables change
 left_by false tables change = tables
 
+-- what a crash leaves now: its tables, or what a failed call left
+abbrev pub left_now : Stored → Tables
+left_now keeper = if keeper.stopped then keeper.left else keeper.tables
+
 -- the keeper after a call that failed by the plan
 abbrev pub stopped_with : Tables → Stored → Stored
 stopped_with left keeper =

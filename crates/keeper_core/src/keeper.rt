@@ -75,6 +75,7 @@ pub trait Keeper {
         ensures stays { result ≡ Err AttachFault.Memory → place self.new ≡ place self.old }
         ensures later { faults self.old ≤ faults self.new }
         ensures cause { result ≡ Err AttachFault.Failed → Rose (faults self.old) (faults self.new) }
+        ensures calm { stopped self.new ≡ false → faults self.new ≡ faults self.old }
         ensures honest { honest self.new → honest self.old }
 
         // The tables that it told: it returns them, and tells them unless it failed.
@@ -82,6 +83,9 @@ pub trait Keeper {
         ensures kept { honest self.new → (s : TableRows) → tells self.old s → stopped self.new ≡ false
             → IsDurable (tells self.new) (may_leave self.new) s }
         ensures crash { honest self.new → (s : TableRows) → tells self.old s → (x : TableRows) → may_leave self.new x → x ≡ s }
+
+        // Whatever it told before, it tells no other tables than it returns.
+        ensures answered { IfOk result (λ given. honest self.new → (t : TableRows) → tells self.new t → t ≡ given) }
 
         // The version.
         ensures version { OnOk result (honest self.new → (s : TableRows) → tells self.old s → has_version self.new (pos 2)) }
@@ -100,6 +104,7 @@ pub trait Keeper {
         ensures stopped { (stopped self.new ≡ true) ↔ (result ≡ Err CommitFault.Failed) }
         ensures later { faults self.old ≤ faults self.new }
         ensures cause { result ≡ Err CommitFault.Failed → Rose (faults self.old) (faults self.new) }
+        ensures calm { stopped self.new ≡ false → faults self.new ≡ faults self.old }
         ensures honest { honest self.new → honest self.old }
 
         // The tables, if they are well formed and the change fits them.
@@ -114,4 +119,10 @@ pub trait Keeper {
 
     // It tells the tables of one store at most.
     ghost one: { (k : Self) (s t : TableRows) → tells k s → tells k t → s ≡ t };
+
+    // While no call has failed, a crash may leave the tables that it tells,
+    ghost left: { (k : Self) (t : TableRows) → honest k → stopped k ≡ false → tells k t → may_leave k t };
+
+    // and no others.
+    ghost alone: { (k : Self) (t x : TableRows) → honest k → stopped k ≡ false → tells k t → may_leave k x → x ≡ t };
 }

@@ -3,7 +3,7 @@
 ghost use Rattle.std.specs.Prelude.{◌≡◌, ◌≢◌, ◌⊎◌, ◌↔◌, ◌≤◌, ◌<◌, ℕ, ℤ, pos};
 ghost use Rattle.std.specs.Prelude.{List, [], Bool, true, false, Option, Some, None, Err, IsOk, IfOk, OnOk, OnErr, unwrap_or, is_some};
 ghost use Rattle.tap_rows.specs.Tables.{after};
-ghost use Rattle.keeper_core.specs.Stored.{Stored, planned, stopped_with, attached_at, attach_answer, committed, commit_answer};
+ghost use Rattle.keeper_core.specs.Stored.{Stored, planned, left_now, stopped_with, attached_at, attach_answer, committed, commit_answer};
 ghost use Rattle.tap_base.specs.Counts.{next_count};
 
 use crate::{AttachFault, CommitFault, Keeper};
@@ -118,7 +118,8 @@ impl MemKeeper {
 
     /// Returns the tables that a crash leaves now.
     pub fn after_crash(self) -> Tables
-        ensures { result ≡ self.left }
+        ensures left { result ≡ self.left }
+        ensures now { result ≡ left_now self }
     {
         let MemKeeper { tables, left, .. } = self;
         match left {
@@ -142,6 +143,8 @@ impl MemKeeper {
 impl Keeper for MemKeeper {
     ghost use Rattle.std.specs.Prelude.{◌≡◌};
     ghost use Rattle.std.proofs.Common.{sym, ◌∙◌};
+    ghost use Rattle.keeper_core.specs.Stored.{left_now};
+    ghost use Rattle.keeper_core.specs.Leaving.{left_running};
 
     ghost tells = { λ k s. s ≡ k.tables };
 
@@ -149,7 +152,7 @@ impl Keeper for MemKeeper {
 
     ghost honest = { λ _. Unit {0} };
 
-    ghost may_leave = { λ k x. x ≡ k.left };
+    ghost may_leave = { λ k x. x ≡ left_now k };
 
     ghost attached = { λ k. k.attached };
 
@@ -221,4 +224,8 @@ impl Keeper for MemKeeper {
     }
 
     ghost one = { λ k s t a b. a ∙ sym b };
+
+    ghost left = { λ k t honest running told. told ∙ sym (left_running k running) };
+
+    ghost alone = { λ k t x honest running told may. may ∙ left_running k running ∙ sym told };
 }

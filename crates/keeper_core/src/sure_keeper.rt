@@ -70,4 +70,8 @@ impl Keeper for SureKeeper {
     }
 
     ghost one = { λ k s t a b. a ∙ sym b };
+
+    ghost left = { λ k t honest running told. told };
+
+    ghost alone = { λ k t x honest running told may. may ∙ sym told };
 }

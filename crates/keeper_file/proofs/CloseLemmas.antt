@@ -14,10 +14,10 @@ use Rattle.keeper_sql.specs.Store.{TellsAs, tables_of}
 use Rattle.keeper_file.specs.Closing.{HoldsWhole, AreWhole, IsCopyOf, LeavesOnly}
 use Rattle.keeper_file.specs.Crashes.{HoldsOne}
 use Rattle.keeper_file.specs.Images.{ImageTells}
-use Rattle.keeper_file.proofs.SameLemmas.{is_told_open, IsSettled}
+use Rattle.keeper_file.proofs.SameLemmas.{is_told_open, ShowsLastCommit}
 use Rattle.keeper_file.proofs.CrashLemmas.{told_trees, ours_told, leaves_commit, only_held}
 
-module _ {D : Type 0} {g : Ghosts D} (was : Held (FileStore D g)) (settled : IsSettled (file_state was)) (b : Bool) (t : Tables) (told : TellsAs b (file_state was) t) where
+module _ {D : Type 0} {g : Ghosts D} (was : Held (FileStore D g)) (settled : ShowsLastCommit (file_state was)) (b : Bool) (t : Tables) (told : TellsAs b (file_state was) t) where
   whole_at : (image : Image) → HoldsAlone image (file_state was).committed.trees → HoldsWhole image t
   whole_at image holds =
       let same = settled (is_told_open b (file_state was) t told) in
@@ -34,7 +34,7 @@ module _ {D : Type 0} {g : Ghosts D} (was : Held (FileStore D g)) (settled : IsS
   pub alone_then : (last : FileStore D g) → SeenMayStay g → IsClosed was last → LeavesOnly g last t
   alone_then last stays closed db may =
       let is_open = is_told_open b (file_state was) t told in
-      ap tables_of (leaves_commit was stays is_open (settled is_open) db (closed.quiet.outcomes db may)) ∙ sym (told_trees b (file_state was) t told)
+      ap tables_of (leaves_commit was stays is_open (ap (λ (d : Database). d.trees) (settled is_open)) db (closed.quiet.outcomes db may)) ∙ sym (told_trees b (file_state was) t told)
 
 -- ---- and so the next session is told what the earlier one kept
 

@@ -14,7 +14,7 @@ use Rattle.sqlite.specs.State.{State, HasCleanDisk, IsLive}
 use Rattle.keeper_sql.specs.Schema.{no_schema}
 use Rattle.keeper_sql.specs.RowsAsValues.{tables_in, tables_listed, tables_of, doc_in, note_in, query_in, run_in, pick_in, filter_in}
 use Rattle.keeper_sql.specs.Store.{IsOurs, WritesVersion, OpensTo, IsAfterOpen, AreAllKeyed, AreKeyed, AreEmpty, HoldsStore, TellsAs, MayLeave, HasVersion, LeavesOnlyTrees}
-use Rattle.keeper_sql.specs.Opening.{IsHeld}
+use Rattle.keeper_sql.specs.Opening.{IsHeld, AreRead}
 use Rattle.keeper_sql.proofs.TablesAfter.{listed}
 
 pub told_ours : (s : State) (t : Tables) → TellsAs false s t → IsOurs s.now
@@ -93,6 +93,13 @@ held_given old new s t live told held =
     let holds = opened_holds old s new.now (live held.1).0 told held.3 in
     let keyed : AreAllKeyed new.now = record { docs = holds.docs; notes = holds.notes; queries = holds.queries; runs = holds.runs; picks = holds.picks; filters = holds.filters } in
     sym (opened_tables old s new.now told held.3) ∙ listed new.now holds ∙ sym (held.4 keyed)
+
+-- the tables that were read are those that the store tells, if it tells any
+pub read_told : (new : State) (given t : Tables) → AreRead new given → TellsAs true new t → t ≡ given
+read_told new given t read told =
+    let holds = told.holds in
+    let keyed : AreAllKeyed new.now = record { docs = holds.docs; notes = holds.notes; queries = holds.queries; runs = holds.runs; picks = holds.picks; filters = holds.filters } in
+    told.tables ∙ listed new.now holds ∙ sym (read holds.schema keyed)
 
 pub held_told : (old new : State) (s t : Tables) → HasCleanDisk new → IsLive new → LeavesOnlyTrees new new.now.trees → TellsAs false old s → IsHeld old new t → IsDurable (TellsAs true new) (MayLeave new) s
 held_told old new s t clean live alone told held =

@@ -5,10 +5,12 @@ pub mod Appending
 pub mod Numbered
 pub mod TablesAfter
 pub mod KeepLemmas
+pub mod Refusals
 pub mod SelectTexts
 pub mod ShownRows
 pub mod CreateTexts
 pub mod Creates
+pub mod AnySchema
 pub mod QueryLemmas
 pub mod MetaLemmas
 pub mod Settling

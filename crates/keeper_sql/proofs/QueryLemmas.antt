@@ -1,15 +1,13 @@
 -- What a query in a transaction leaves.
-use Rattle.std.proofs.Common.{◌≡◌, ◌⊎◌, inl, inr, ℕ, List, [], ◌∷◌, map, Option, Some, None, Result, Ok, Err, OnOk, OnErr, refl, sym, ap, subst, ◌∙◌}
+use Rattle.std.proofs.Common.{◌≡◌, ◌⊎◌, inl, inr, ℕ, List, [], ◌∷◌, map, Option, Some, None, Result, Ok, Err, OnOk, OnErr, refl, ap}
 use Rattle.sqlite_value.specs.Order.{Row}
 use Rattle.sqlite_schema.specs.declared.command.Returning.{Returning}
 use Rattle.sqlite_resolve.specs.declared.compiled.Compiled.{Compiled}
 use Rattle.sqlite.specs.declared.error.Error.{Error}
 use Rattle.sqlite.specs.State.{State, IsUnchanged, IsRolledBack, IsNotRun, FailsToQuery, FailsToShow, IsTooLate, Shown}
-use Rattle.sqlite.specs.Listing.{understood}
-use Rattle.sqlite.proofs.Callers.{IsPlain}
-use Rattle.keeper_sql.specs.Schema.{store_schema}
 use Rattle.keeper_sql.specs.RowsAsValues.{version_shown, version_in, show_version}
 use Rattle.keeper_sql.specs.Store.{Undone}
+use Rattle.keeper_sql.proofs.AnySchema.{Asks, understood_none}
 
 pub unchanged_undone : (old new : State) → IsUnchanged old new → Undone old new
 unchanged_undone old new h = record { was_open = λ _. h.0.was_open; committed = λ _. h.0.committed_is }
@@ -36,13 +34,10 @@ pub query_undone : (old new : State) (sql : List ℕ) (params : Row) (e : Error)
 query_undone old new sql params e (inl h) = fails_undone old new sql params e h
 query_undone old new sql params e (inr h) = unchanged_undone old new h.5
 
--- a query under the store's schema changes nothing
-pub shown_rests : (sql : List ℕ) (old new : State) (rows : List Row) → IsPlain (understood store_schema sql) → old.now.schema ≡ store_schema → Shown sql [] old new rows → IsUnchanged old new
+-- a query changes nothing
+pub shown_rests : (sql : List ℕ) (old new : State) (rows : List Row) → Asks sql → Shown sql [] old new rows → IsUnchanged old new
 unfolding Shown
-shown_rests sql old new rows plain has h =
-    let known = sym h.1.is ∙ ap (λ s. understood s sql) has in
-    let bare = subst IsPlain (sym known) plain in
-    (rw bare.0 at h.2).3
+shown_rests sql old new rows asks h = let bare = understood_none old.now.schema sql h.0 asks h.1.is in (rw bare at h.2).3
 
 pub always_ok : {T E P : Type 0} (r : Result T E) → P → OnOk r P
 always_ok (Ok x) p = p

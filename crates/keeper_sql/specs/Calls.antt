@@ -1,9 +1,13 @@
 -- What a call on a connection does, if the disk is honest at its end.
-use Rattle.std.specs.Prelude.{◌≡◌, ◌⊎◌, ℕ, IsTrue, IfOk, OnOk, OnErr, Result, List, map}
+use Rattle.std.specs.Prelude.{◌≡◌, ◌⊎◌, ℕ, IsTrue, IfOk, OnOk, OnErr, Result, Ok, Err, List, map}
 use Rattle.sqlite_value.specs.Order.{Row}
+use Rattle.std.specs.Coded.{→_prop}
 use Rattle.sqlite_trees.specs.Tree.{Trees}
+use Rattle.sqlite_trees.specs.Props.{Trees-set}
 use Rattle.sqlite_trees.specs.declared.store.Store.{Ghosts}
+use Rattle.sqlite_resolve.specs.declared.error.CompileError.{CompileError}
 use Rattle.sqlite.specs.declared.error.Error.{Error}
+use Rattle.sqlite.specs.declared.error.Error.TheVariants.{SqlInputError}
 use Rattle.sqlite.specs.Effect.{Database}
 use Rattle.sqlite.specs.Held.{Held, state}
 use Rattle.sqlite.specs.State.{State, HasCleanDisk, Survives, IsUnchanged}
@@ -23,10 +27,9 @@ module _ {S : Type 0} (g : Ghosts S) (old new : Held S) where
   abbrev pub CommitsNothing : Type 0
   CommitsNothing = Survives (state g old) (state g new) (λ _. ⊥)
 
-  -- a read of a store that has all its tables changes nothing
+  -- a read changes nothing, whatever tables there are
   abbrev pub ReadsOnly : {T : Type 0} → Result T Error → Type 0
-  ReadsOnly result =
-      HasCleanDisk (state g new) → (state g old).now.schema ≡ store_schema → OnOk result (IsUnchanged (state g old) (state g new))
+  ReadsOnly result = HasCleanDisk (state g new) → OnOk result (IsUnchanged (state g old) (state g new))
 
   -- a read that fails commits nothing
   abbrev pub ReadsOrUndoes : {T : Type 0} → Result T Error → Type 0
@@ -56,6 +59,18 @@ module _ {S : Type 0} (g : Ghosts S) (old new : Held S) where
 -- the rows of a table, read one by one
 abbrev pub AreRowsOf : {X : Type 0} → ℕ → (Row → X) → Database → List X → Type 0
 AreRowsOf table row_in db rows = AreKeyed (db.trees table) → rows ≡ map row_in (db.trees table)
+
+-- a text was refused as it was read, and not by a failure
+abbrev pub IsRefused : {T : Type 0} → Result T Error → Type 0
+IsRefused (Ok x) = ⊥
+IsRefused (Err e) = (fault : CompileError) × (e ≡ SqlInputError fault)
+
+-- between two transactions the connection shows the last commit
+abbrev pub IsSettled : State → Type 0
+IsSettled s = IsTrue s.is_open → s.now.trees ≡ s.committed.trees
+
+pub IsSettled-prop : (s : State) → IsProp (IsSettled s)
+IsSettled-prop s = →_prop (Trees-set _ _)
 
 -- a crash leaves what the connection shows, and nothing else
 abbrev pub LeavesItsTrees : State → Type 0

@@ -6,6 +6,7 @@ use Rattle.keeper_sql.specs.declared.opened.Opened.TheVariants.{Held, Alien}
 use Rattle.tap_rows.specs.declared.tables.Tables.{Tables}
 use Rattle.keeper_core.specs.declared.fault.AttachFault.{AttachFault}
 use Rattle.keeper_core.specs.declared.fault.AttachFault.TheVariants as fault
+use Rattle.keeper_sql.specs.Schema.{store_schema}
 use Rattle.keeper_sql.specs.RowsAsValues.{tables_in}
 use Rattle.keeper_sql.specs.Store.{OpensTo, OpensAt, AreAllKeyed}
 use Rattle.sqlite.specs.Effect.{Database}
@@ -15,6 +16,15 @@ use Rattle.sqlite.specs.declared.error.Error.{Error}
 abbrev pub IsOpened : State → State → Opened → Type 0
 IsOpened old new (Held tables) = OpensAt (pos 2) old new × (AreAllKeyed new.now → tables ≡ tables_in new.now.trees)
 IsOpened old new (Alien version) = OpensAt version old new
+
+-- if the database has the store's tables, in order of their keys, these are their rows
+abbrev pub AreRead : State → Tables → Type 0
+AreRead new tables = new.now.schema ≡ store_schema → AreAllKeyed new.now → tables ≡ tables_in new.now.trees
+
+-- the tables that were opened are those
+abbrev pub IsRead : State → Opened → Type 0
+IsRead new (Held tables) = AreRead new tables
+IsRead new (Alien version) = Unit {0}
 
 -- only a version that isn't known is refused
 abbrev pub IsRefusedAt : Opened → Type 0

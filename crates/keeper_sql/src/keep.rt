@@ -5,11 +5,11 @@ ghost use Rattle.sqlite.specs.Held.{state};
 ghost use Rattle.sqlite.specs.State.{HasCleanDisk, Survives, IsUnchanged, IsLive};
 ghost use Rattle.keeper_sql.specs.RowsAsValues.{rows_of, IsReadBack};
 ghost use Rattle.keeper_sql.specs.Store.{Commits, IsAfter};
-ghost use Rattle.keeper_sql.specs.Calls.{LeavesItsTrees, LeavesOldOr};
+ghost use Rattle.keeper_sql.specs.Calls.{IsRefused, IsSettled, LeavesItsTrees, LeavesOldOr};
 
 use crate::change::commit_change;
 use keeper_core::CommitFault;
-use sqlite::{Alter, Connection, Error, ErrorCode};
+use sqlite::{Alter, Connection, Error, ErrorCode, Statement};
 use tap_rows::Change;
 
 // Does the error say that the call was out of memory?
@@ -24,6 +24,7 @@ pub fn is_settled<S: Alter>(conn: &Connection<S>) -> bool
     requires { (state S.Store conn.now).in_transaction ≡ false }
     ensures live { IsLive (state S.Store conn.now) }
     ensures committed { IsTrue (state S.Store conn.now).is_open → (state S.Store conn.now).now ≡ (state S.Store conn.now).committed }
+    ensures settled { IsSettled (state S.Store conn.now) }
     ensures alone { IsTrue (state S.Store conn.now).is_open → LeavesItsTrees (state S.Store conn.now) }
 {
     // For the clause `live`.
@@ -31,7 +32,14 @@ pub fn is_settled<S: Alter>(conn: &Connection<S>) -> bool
     conn.is_autocommit()
 }
 
-// Is the store still open? A connection doesn't say so itself; one that compiles a statement is open.
+// Was a text refused, and not by a failure?
+fn is_refused(answer: Result<Statement, Error>) -> bool
+    ensures { IsTrue result → IsRefused answer }
+{
+    matches!(answer, Err(Error::SqlInputError(_)))
+}
+
+// Is the store still open? A connection doesn't say so itself. One that is open refuses this text, which takes no memory.
 pub fn is_still_open<S: Alter>(conn: &mut Connection<S>) -> bool
     requires { (state S.Store conn.old).in_transaction ≡ false }
     ensures ended { (state S.Store conn.new).in_transaction ≡ false }
@@ -39,7 +47,7 @@ pub fn is_still_open<S: Alter>(conn: &mut Connection<S>) -> bool
     ensures alone { HasCleanDisk (state S.Store conn.new) → IsTrue result → LeavesItsTrees (state S.Store conn.new) }
     ensures survives { Survives (state S.Store conn.old) (state S.Store conn.new) (λ _. ⊥) }
 {
-    conn.prepare("SELECT 1").is_ok() && is_settled(conn)
+    is_refused(conn.prepare("DROP")) && is_settled(conn)
 }
 
 // Was the call out of memory, and is the store unchanged?

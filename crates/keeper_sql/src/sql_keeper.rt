@@ -1,6 +1,8 @@
 //! The keeper over a connection to a database.
 
 ghost use Rattle.std.specs.Prelude.{◌≡◌, false, None};
+ghost use Rattle.sqlite.specs.Held.{state};
+ghost use Rattle.keeper_sql.specs.Calls.{IsSettled, IsSettled-prop};
 
 use crate::keep::{is_settled, keep};
 use crate::opened::open_kept;
@@ -19,6 +21,7 @@ pub struct SqlKeeper<S: Alter> {
     stopped: bool,
     faults: u64,
     ghost idle: { connection.in_transaction ≡ false },
+    ghost settled: { IsSettled (state S.Store connection) } by { IsSettled-prop (state S.Store connection) },
 }
 
 impl<S: Alter> SqlKeeper<S> {
@@ -28,7 +31,10 @@ impl<S: Alter> SqlKeeper<S> {
         ensures free { (result.attached ≡ false) × (result.stopped ≡ false) }
         ensures same { result.connection ≡ connection }
         ensures placeless { result.place ≡ None }
+        ensures unfailed { result.faults ≡ 0 }
     {
+        // For its clause `settled`, as in the calls below.
+        let _settled = is_settled(&connection);
         SqlKeeper {
             connection,
             place: None,
@@ -55,10 +61,9 @@ impl<S: Alter> SqlKeeper<S> {
 
 impl<S: Alter> Keeper for SqlKeeper<S> {
     ghost use Rattle.std.specs.Prelude.{List, ℕ, [], unwrap_or};
-    ghost use Rattle.sqlite.specs.Held.{state};
     ghost use Rattle.sqlite.specs.State.{HasCleanDisk};
     ghost use Rattle.keeper_sql.specs.Store.{TellsAs, MayLeave, HasVersion};
-    ghost use Rattle.keeper_sql.specs.Telling.{tells_one};
+    ghost use Rattle.keeper_sql.specs.Telling.{tells_one, told_left, told_alone};
 
     ghost tells = { λ k t. TellsAs k.attached (state S.Store k.connection) t };
 
@@ -78,10 +83,12 @@ impl<S: Alter> Keeper for SqlKeeper<S> {
 
     fn attach(&mut self, alloc: Global, at: &str) -> Result<Tables, AttachFault> {
         // For its clauses, which a failure needs.
-        let _settled = is_settled(&self.connection);
+        let _before = is_settled(&self.connection);
         // Taken first: what comes later than the open of the store takes no memory.
         let place = Text::from_slice(alloc, at.as_bytes())?;
-        match open_kept(alloc, &mut self.connection) {
+        let opened = open_kept(alloc, &mut self.connection);
+        let _after = is_settled(&self.connection);
+        match opened {
             Ok(tables) => {
                 self.place = Some(place);
                 self.attached = true;
@@ -102,7 +109,9 @@ impl<S: Alter> Keeper for SqlKeeper<S> {
     }
 
     fn commit(&mut self, change: &Change) -> Result<(), CommitFault> {
-        match keep(&mut self.connection, change) {
+        let kept = keep(&mut self.connection, change);
+        let _after = is_settled(&self.connection);
+        match kept {
             Ok(()) => Ok(()),
             Err(CommitFault::Memory) => Err(CommitFault::Memory),
             Err(CommitFault::Failed) => {
@@ -114,4 +123,8 @@ impl<S: Alter> Keeper for SqlKeeper<S> {
     }
 
     ghost one = { λ k s t a b. tells_one k.attached _ s t a b };
+
+    ghost left = { λ k t clean running told. told_left _ k.attached t told k.settled (S.Store.stays k.connection.store) };
+
+    ghost alone = { λ k t x clean running told left. told_alone _ k.attached t told k.settled (S.Store.settled k.connection.store) x left };
 }

@@ -4,7 +4,7 @@ use Rattle.sqlite.specs.Held.{state}
 use Rattle.keeper_sql.specs.Schema.{select_notes}
 use Rattle.keeper_sql.specs.RowsAsValues.{show_note, note_shown}
 use Rattle.std.proofs.Common.{map}
-use Rattle.keeper_sql.proofs.SelectTexts.{notes_select_plain}
+use Rattle.keeper_sql.proofs.AnySchema.{notes_asks}
 use Rattle.keeper_sql.proofs.ShownRows.{notes_shown}
 use Rattle.keeper_sql.proofs.QueryLemmas.{query_undone, unchanged_undone, shown_rests, always_ok, always_err, map_twice}
 use Rattle.keeper_sql.proofs.notes.read_notes.Goals as goal
@@ -13,8 +13,8 @@ pub returns-in-Err-clause-err : goal.returns-in-Err-clause-err
 returns-in-Err-clause-err g c clean has = query_undone (state g.S.Store c.args.tx.now.conn.now) (state g.S.Store c.query_all.new.self.conn.now) select_notes _ _ (c.in-Err.ensures.err clean)
 
 pub returns-in-Ok-clause-same : goal.returns-in-Ok-clause-same
-returns-in-Ok-clause-same g c clean has =
-    always_ok c.notes_of.result (shown_rests select_notes (state g.S.Store c.args.tx.now.conn.now) (state g.S.Store c.query_all.new.self.conn.now) _ notes_select_plain has (c.in-Ok.ensures.ok clean))
+returns-in-Ok-clause-same g c clean =
+    always_ok c.notes_of.result (shown_rests select_notes (state g.S.Store c.args.tx.now.conn.now) (state g.S.Store c.query_all.new.self.conn.now) _ notes_asks (c.in-Ok.ensures.ok clean))
 
 pub returns-in-Ok-clause-read : goal.returns-in-Ok-clause-read
 returns-in-Ok-clause-read g c clean has =
@@ -26,4 +26,4 @@ pub returns-in-Ok-clause-err : goal.returns-in-Ok-clause-err
 returns-in-Ok-clause-err g c clean has =
     let old = state g.S.Store c.args.tx.now.conn.now in
     let new = state g.S.Store c.query_all.new.self.conn.now in
-    always_err c.notes_of.result (unchanged_undone old new (shown_rests select_notes old new _ notes_select_plain has (c.in-Ok.ensures.ok clean)))
+    always_err c.notes_of.result (unchanged_undone old new (shown_rests select_notes old new _ notes_asks (c.in-Ok.ensures.ok clean)))

@@ -6,7 +6,7 @@ use Rattle.sqlite.proofs.StateLemmas.{survives_then}
 use Rattle.sqlite.proofs.Callers.{survives_begin}
 use Rattle.keeper_sql.specs.RowsAsValues.{tables_in}
 use Rattle.keeper_sql.specs.Store.{IsOurs, OpensTo, OpensAt, AreAllKeyed, IsAfterOpen}
-use Rattle.keeper_sql.specs.Opening.{IsOpened, IsStored}
+use Rattle.keeper_sql.specs.Opening.{IsOpened, IsStored, IsRead, AreRead}
 use Rattle.keeper_sql.specs.declared.opened.Opened.TheVariants.{Held}
 use Rattle.keeper_sql.proofs.opened.open_store.Goals as goal
 
@@ -69,3 +69,15 @@ returns-in-Ok-Alien-clause-ok g c clean ours =
     let opened = rw begun at (subst (IsOpened (state g.S.Store c.transaction-tx.result.conn.now) (state g.S.Store mid)) c.in-Ok-Alien.field-0-is (c.in-Ok-Alien.ensures.ok early (rw begun refl) (rw begun ours))) in
     let by = opened.to in
     ((state g.S.Store mid).now, search (rules, by))
+
+pub returns-in-Ok-clause-read : goal.returns-in-Ok-clause-read
+returns-in-Ok-clause-read g c =
+    let mid = c.open_within.new.tx.conn.now in
+    let end = c.commit.new.self.0 in
+    let whole : HasCleanDisk (state g.S.Store end) → AreRead (state g.S.Store end) c.in-Ok-Held.tables =
+    λ clean has keyed.
+    let now = (c.in-Ok.ensures.ok clean).1.now_is in
+    let read = subst (IsRead (state g.S.Store mid)) c.in-Ok-Held.field-0-is (c.in-Ok-Held.ensures.read (omega (arith, c.commit.ensures.survives.clean))) in
+    read (ap (λ (d : Database). d.schema) (sym now) ∙ has) (subst AreAllKeyed now keyed) ∙ ap (λ (d : Database). tables_in d.trees) (sym now) in
+    let same : end ≡ c.conn-in-Ok-Held-1.given.0 = search rules in
+    subst (λ h. HasCleanDisk (state g.S.Store h) → AreRead (state g.S.Store h) c.in-Ok-Held.tables) same whole

@@ -15,9 +15,17 @@ returns-in-Ok-read_tables-clause-ok g c clean inside ours =
     let early : HasCleanDisk mid = omega (arith, c.read_tables.ensures.survives.clean) in
     let is_two : c.in-Ok-eq2.field-0 ≡ pos 2 = search rules in
     let at : OpensAt (pos 2) old mid = subst (λ v. OpensAt v old mid) is_two (c.in-Ok-eq2.ensures.ok early inside ours) in
-    let same : IsUnchanged mid new = c.in-Ok-read_tables.ensures.same clean at.to.schema in
+    let same : IsUnchanged mid new = c.in-Ok-read_tables.ensures.same clean in
     let now = same.0.now_is in
     (opens_still (pos 2) old mid new at same, λ keyed. c.in-Ok-read_tables.ensures.read clean at.to.schema (subst AreAllKeyed now keyed) ∙ ap (λ (d : Database). tables_in d.trees) (sym now))
 
 pub returns-in-Ok-clause-ok : goal.returns-in-Ok-clause-ok
 returns-in-Ok-clause-ok g c clean inside ours = let by = c.in-Ok.ensures.ok clean inside ours in search (rules, by)
+
+pub returns-in-Ok-read_tables-clause-read : goal.returns-in-Ok-read_tables-clause-read
+returns-in-Ok-read_tables-clause-read g c clean has keyed =
+    let mid = state g.S.Store c.prepare.new.tx.conn.now in
+    let new = state g.S.Store c.read_tables.new.tx.conn.now in
+    let same : IsUnchanged mid new = c.in-Ok-read_tables.ensures.same clean in
+    let now = same.0.now_is in
+    c.in-Ok-read_tables.ensures.read clean (ap (λ (d : Database). d.schema) (sym now) ∙ has) (subst AreAllKeyed now keyed) ∙ ap (λ (d : Database). tables_in d.trees) (sym now)

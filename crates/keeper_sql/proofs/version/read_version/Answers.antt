@@ -3,7 +3,7 @@ use Rattle.std.proofs.lemmas.Result.{IfOk-weaker}
 use Rattle.sqlite.specs.Held.{state}
 use Rattle.keeper_sql.specs.Schema.{select_meta}
 use Rattle.keeper_sql.specs.RowsAsValues.{version_shown}
-use Rattle.keeper_sql.proofs.SelectTexts.{meta_select_plain}
+use Rattle.keeper_sql.proofs.AnySchema.{meta_asks}
 use Rattle.keeper_sql.proofs.ShownRows.{meta_shown}
 use Rattle.keeper_sql.proofs.QueryLemmas.{query_undone, unchanged_undone, shown_rests, always_ok, always_err, version_as_shown}
 use Rattle.keeper_sql.proofs.version.read_version.Goals as goal
@@ -12,8 +12,8 @@ pub returns-in-Err-clause-err : goal.returns-in-Err-clause-err
 returns-in-Err-clause-err g c clean has = query_undone (state g.S.Store c.args.tx.now.conn.now) (state g.S.Store c.query_all.new.self.conn.now) select_meta _ _ (c.in-Err.ensures.err clean)
 
 pub returns-in-Ok-clause-same : goal.returns-in-Ok-clause-same
-returns-in-Ok-clause-same g c clean has =
-    always_ok c.version_of.result (shown_rests select_meta (state g.S.Store c.args.tx.now.conn.now) (state g.S.Store c.query_all.new.self.conn.now) _ meta_select_plain has (c.in-Ok.ensures.ok clean))
+returns-in-Ok-clause-same g c clean =
+    always_ok c.version_of.result (shown_rests select_meta (state g.S.Store c.args.tx.now.conn.now) (state g.S.Store c.query_all.new.self.conn.now) _ meta_asks (c.in-Ok.ensures.ok clean))
 
 pub returns-in-Ok-clause-read : goal.returns-in-Ok-clause-read
 returns-in-Ok-clause-read g c clean has =
@@ -25,4 +25,4 @@ pub returns-in-Ok-clause-err : goal.returns-in-Ok-clause-err
 returns-in-Ok-clause-err g c clean has =
     let old = state g.S.Store c.args.tx.now.conn.now in
     let new = state g.S.Store c.query_all.new.self.conn.now in
-    always_err c.version_of.result (unchanged_undone old new (shown_rests select_meta old new _ meta_select_plain has (c.in-Ok.ensures.ok clean)))
+    always_err c.version_of.result (unchanged_undone old new (shown_rests select_meta old new _ meta_asks (c.in-Ok.ensures.ok clean)))

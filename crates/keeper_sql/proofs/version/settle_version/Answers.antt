@@ -13,7 +13,7 @@ returns-in-Ok-None-clause-ok g c clean inside has meta =
     let mid = state g.S.Store c.read_version.new.tx.conn.now in
     let new = state g.S.Store c.raise_version.new.tx.conn.now in
     let early : HasCleanDisk mid = omega (arith, c.raise_version.ensures.survives.clean) in
-    let same : IsUnchanged old mid = c.in-Ok-None.ensures.same early has in
+    let same : IsUnchanged old mid = c.in-Ok-None.ensures.same early in
     let read : None ≡ version_in (old.now.trees 0) = sym c.in-Ok-None.field-0-is ∙ c.in-Ok-None.ensures.read early has (meta_keyed _ meta) in
     IfOk-weaker c.raise_version.result _ _ (λ v h. subst (λ x. Settles x old new) (sym h.0) (settle_raised None old mid new has meta same read (λ w e. absurd (let e' = e in cc)) h.1)) (c.raise_version.ensures.ok clean (same.0.mode ∙ inside))
 
@@ -23,7 +23,7 @@ returns-in-Ok-Some-eq1-clause-ok g c clean inside has meta =
     let mid = state g.S.Store c.read_version.new.tx.conn.now in
     let new = state g.S.Store c.raise_version-in-Ok-Some-eq1.new.tx.conn.now in
     let early : HasCleanDisk mid = omega (arith, c.raise_version-in-Ok-Some-eq1.ensures.survives.clean) in
-    let same : IsUnchanged old mid = c.in-Ok-Some-eq1.ensures.same early has in
+    let same : IsUnchanged old mid = c.in-Ok-Some-eq1.ensures.same early in
     let is_one : c.in-Ok-Some-eq1.field-0-0 ≡ pos 1 = search rules in
     let read : Some (pos 1) ≡ version_in (old.now.trees 0) = ap Some (sym is_one) ∙ sym c.in-Ok-Some-eq1.field-0-is ∙ c.in-Ok-Some-eq1.ensures.read early has (meta_keyed _ meta) in
     let one : (w : ℤ) → ◌≡◌ {A = Option ℤ} (Some (pos 1)) (Some w) → w ≡ pos 1 = λ w e. (let e' = e in cc) in
@@ -33,7 +33,7 @@ pub returns-in-Ok-Some-clause-ok : goal.returns-in-Ok-Some-clause-ok
 returns-in-Ok-Some-clause-ok g c clean inside has meta =
     let old = state g.S.Store c.args.tx.now.conn.now in
     let new = state g.S.Store c.read_version.new.tx.conn.now in
-    let same : IsUnchanged old new = c.in-Ok-Some.ensures.same clean has in
+    let same : IsUnchanged old new = c.in-Ok-Some.ensures.same clean in
     let read : Some c.in-Ok-Some.version ≡ version_in (old.now.trees 0) = sym c.in-Ok-Some.field-0-is ∙ c.in-Ok-Some.ensures.read clean has (meta_keyed _ meta) in
     let by = settle_same c.in-Ok-Some.version old new inside has meta same read in
     search (rules, by)
