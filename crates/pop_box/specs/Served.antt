@@ -5,7 +5,7 @@ use Rattle.tap_rows.specs.declared.tables.Tables.{Tables}
 use Rattle.tap_top.specs.Premises.{IfKnown}
 use Rattle.pop_session.specs.declared.letter.Letter.{Letter}
 use Rattle.pop_session.specs.Letters.{line}
-use Rattle.pop_session.specs.declared.hold.TheConstants.{SESSION_LIMIT}
+use Rattle.pop_session.specs.declared.hold.TheConstants.{SESSION_LIMIT, PIECE}
 use Rattle.pop_session.specs.Sessions.{has_quit}
 use Rattle.pop_session.specs.Ends.{IsSession, LettersEnd, Taken}
 
@@ -62,3 +62,8 @@ pub record TookQuit (user secret : List ℕ) (left left' : Option (List ℕ)) : 
 pub record Unchanged (status : ℕ) (tables : Tables) (tells leaves : Tables → Type 0) : Type 0 where
   pub alone : (x : Tables) → leaves x → x ≡ tables
   pub told : status ≢ 5 → tells tables
+
+-- the sizes that definitions name by a constant, as numbers: the most bytes of a session and of one read
+pub record ConstantSizes : Type 0 where
+  pub session : SESSION_LIMIT ≡ 268435456
+  pub piece : PIECE ≡ 65536

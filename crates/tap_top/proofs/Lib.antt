@@ -7,3 +7,4 @@ mod Samples
 mod SampleCrashes
 mod Ends
 mod OpenLaws
+mod ChainLaws

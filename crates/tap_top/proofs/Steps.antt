@@ -1,5 +1,5 @@
 -- What a reader of a script and the commands that it completed did so far.
-use Rattle.std.proofs.Common.{◌≡◌, ◌∙◌, sym, ap, refl, subst, arith, ℕ, Err, List, [], ◌∷◌, ◌++◌, ◌+◌, ◌-◌, get_or, length, take, drop, Bool, true, Option, ◌≤◌, ◌<◌}
+use Rattle.std.proofs.Common.{◌≡◌, ◌∙◌, sym, ap, refl, subst, arith, ℕ, Err, List, [], ◌∷◌, ◌++◌, ◌+◌, ◌-◌, get_or, length, take, drop, Bool, true, false, Option, ◌≤◌, ◌<◌}
 use Rattle.std.specs.Prelude.{◌&&◌, option_to_list, Result}
 use Rattle.std.proofs.lemmas.List.{append_assoc, take_more}
 use Rattle.std.proofs.lemmas.Grind.{common_steps}
@@ -132,13 +132,18 @@ PieceCut-got piece used given r r1 Cut until ended none last is some within cut 
   front some within = let e : used ≡ used - 1 + 1 = omega arith in ap (λ n. take n piece) e ∙ take_more piece (used - 1) 0 (omega arith)
 
 -- what is left of a keeper after one call and another
-pub KeeperFrame-then : (p p1 p2 : List ℕ) (f f1 f2 : ℕ) (h h1 h2 : Type 0) → KeeperFrame p p1 f f1 h h1 → KeeperFrame p1 p2 f1 f2 h1 h2 → KeeperFrame p p2 f f2 h h2
-KeeperFrame-then p p1 p2 f f1 f2 h h1 h2 one two = record { same = two.same ∙ one.same; later = le one.later two.later; before = λ now. one.before (two.before now) } where
+pub KeeperFrame-then : (p p1 p2 : List ℕ) (f f1 f2 : ℕ) (h h1 h2 : Type 0) (b1 b2 : Bool) → b1 ≡ false → KeeperFrame p p1 f f1 h h1 b1 → KeeperFrame p1 p2 f1 f2 h1 h2 b2 → KeeperFrame p p2 f f2 h h2 b2
+KeeperFrame-then p p1 p2 f f1 f2 h h1 h2 b1 b2 running one two = record {
+  same = two.same ∙ one.same;
+  later = le one.later two.later;
+  calm = λ runs. two.calm runs ∙ one.calm running;
+  before = λ now. one.before (two.before now);
+} where
   le : f ≤ f1 → f1 ≤ f2 → f ≤ f2
   le a b = omega arith
 
-pub KeeperFrame-start : (p : List ℕ) (f : ℕ) (h : Type 0) → KeeperFrame p p f f h h
-KeeperFrame-start p f h = record { same = refl; later = omega arith; before = λ now. now }
+pub KeeperFrame-start : (p : List ℕ) (f : ℕ) (h : Type 0) (b : Bool) → KeeperFrame p p f f h h b
+KeeperFrame-start p f h b = record { same = refl; later = omega arith; calm = λ runs. refl; before = λ now. now }
 
 -- an error of one call is that of another
 pub Err-at : {A B E : Type 0} (x y : E) → ◌≡◌ {A = Result A E} (Err x) (Err y) → ◌≡◌ {A = Result B E} (Err x) (Err y)

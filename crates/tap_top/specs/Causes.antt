@@ -1,13 +1,14 @@
 -- When a status comes, by the counts of faults of the source, the sink and the keeper.
-use Rattle.std.specs.Prelude.{ℕ, ◌≡◌, ◌≢◌, ◌↔◌, Bool, true}
+use Rattle.std.specs.Prelude.{ℕ, ◌≡◌, ◌≢◌, ◌↔◌, Bool, true, false}
 use Rattle.tap_base.specs.Counts.{Rose}
 
 -- status 3 comes only if a read failed, and with every other status no read failed; status 4 and puts alike; status 5 comes
--- only if the keeper failed, which has stopped then and only then
+-- only if the keeper failed, which has stopped then and only then; a keeper that hasn't stopped has not failed
 pub record Causes (status reads reads' puts puts' keeps keeps' : ℕ) (halted : Bool) : Type 0 where
   pub read_cause : status ≡ 3 → Rose reads reads'
   pub read_calm : status ≢ 3 → reads' ≡ reads
   pub put_cause : status ≡ 4 → Rose puts puts'
   pub put_calm : status ≢ 4 → puts' ≡ puts
   pub keeper_cause : status ≡ 5 → Rose keeps keeps'
+  pub keeper_calm : halted ≡ false → keeps' ≡ keeps
   pub stopped : (halted ≡ true) ↔ (status ≡ 5)

@@ -9,3 +9,4 @@ pub mod Crashes
 pub mod Samples
 pub mod Ends
 pub mod Causes
+pub mod Chains

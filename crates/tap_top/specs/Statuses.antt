@@ -108,3 +108,8 @@ pub record TooLong (tables : Tables) (left left' out out' : Option (List ℕ)) (
 abbrev pub HoldsScript : Option (List ℕ) → Type 0
 HoldsScript None = ⊥
 HoldsScript (Some bytes) = length bytes ≤ SCRIPT_LIMIT
+
+-- the sizes that definitions name by a constant, as numbers: the most bytes of a script and of one read
+pub record ConstantSizes : Type 0 where
+  pub script : SCRIPT_LIMIT ≡ 268435456
+  pub piece : PIECE ≡ 65536

@@ -67,7 +67,7 @@ pub fn answer<K: Sink, P: Keeper, L: Ledger>(
     ensures kept_cause { IsErrOf result Stop.Keeper → Rose (P.faults keeper.old) (P.faults keeper.new) }
     ensures calm { (IsErrOf result Stop.Put → ⊥) → K.faults sink.new ≡ K.faults sink.old }
     ensures frame { KeeperFrame (P.place keeper.old) (P.place keeper.new) (P.faults keeper.old) (P.faults keeper.new)
-        (P.honest keeper.old) (P.honest keeper.new) }
+        (P.honest keeper.old) (P.honest keeper.new) (P.stopped keeper.new) }
 {
     let reply = match engine.perform(alloc, keeper, command, steps) {
         Ok(reply) => reply,
@@ -126,7 +126,7 @@ fn take_one<K: Sink, P: Keeper, L: Ledger>(
     ensures kept_cause { IsErrOf result Stop.Keeper → Rose (P.faults keeper.old) (P.faults keeper.new) }
     ensures calm { (IsErrOf result Stop.Put → ⊥) → K.faults sink.new ≡ K.faults sink.old }
     ensures frame { KeeperFrame (P.place keeper.old) (P.place keeper.new) (P.faults keeper.old) (P.faults keeper.new)
-        (P.honest keeper.old) (P.honest keeper.new) }
+        (P.honest keeper.old) (P.honest keeper.new) (P.stopped keeper.new) }
 {
     let got = match reader.take(piece) {
         Ok(got) => got,
@@ -177,7 +177,7 @@ pub fn feed<K: Sink, P: Keeper, L: Ledger>(
     ensures kept_cause { IsErrOf result Stop.Keeper → Rose (P.faults keeper.old) (P.faults keeper.new) }
     ensures calm { (IsErrOf result Stop.Put → ⊥) → K.faults sink.new ≡ K.faults sink.old }
     ensures frame { KeeperFrame (P.place keeper.old) (P.place keeper.new) (P.faults keeper.old) (P.faults keeper.new)
-        (P.honest keeper.old) (P.honest keeper.new) }
+        (P.honest keeper.old) (P.honest keeper.new) (P.stopped keeper.new) }
 {
     let mut all_ok = true;
     let mut rest = piece;
@@ -222,7 +222,7 @@ pub fn finish<K: Sink, P: Keeper, L: Ledger>(
     ensures kept_cause { IsErrOf result Stop.Keeper → Rose (P.faults keeper.old) (P.faults keeper.new) }
     ensures calm { (IsErrOf result Stop.Put → ⊥) → K.faults sink.new ≡ K.faults sink.old }
     ensures frame { KeeperFrame (P.place keeper.old) (P.place keeper.new) (P.faults keeper.old) (P.faults keeper.new)
-        (P.honest keeper.old) (P.honest keeper.new) }
+        (P.honest keeper.old) (P.honest keeper.new) (P.stopped keeper.new) }
 {
     match reader.finish() {
         Ok(None) => Ok(true),

@@ -94,6 +94,7 @@ pub fn open_store<P: Keeper>(
     ensures cause { IsErrOf result OpenFault.Keeper → Rose (P.faults keeper.old) (P.faults keeper.new) }
     ensures placed { (P.place keeper.new ≡ place.now) ⊎ IsErrOf result OpenFault.Memory }
     ensures later { P.faults keeper.old ≤ P.faults keeper.new }
+    ensures calm { P.stopped keeper.new ≡ false → P.faults keeper.new ≡ P.faults keeper.old }
     ensures honest { P.honest keeper.new → P.honest keeper.old }
 {
     match keeper.attach(alloc, as_str(place)) {

@@ -73,7 +73,7 @@ fn perform_one<P: Keeper, L: Ledger>(
     ensures stopped { (P.stopped keeper.new ≡ true) ↔ IsErrOf result Cut.Keeper }
     ensures kept_cause { IsErrOf result Cut.Keeper → Rose (P.faults keeper.old) (P.faults keeper.new) }
     ensures frame { KeeperFrame (P.place keeper.old) (P.place keeper.new) (P.faults keeper.old) (P.faults keeper.new)
-        (P.honest keeper.old) (P.honest keeper.new) }
+        (P.honest keeper.old) (P.honest keeper.new) (P.stopped keeper.new) }
 {
     let reply = match engine.perform(alloc, keeper, command, steps) {
         Ok(reply) => reply,
@@ -107,7 +107,7 @@ fn perform_all<P: Keeper, L: Ledger>(
     ensures stopped { (P.stopped keeper.new ≡ true) ↔ IsErrOf result Cut.Keeper }
     ensures kept_cause { IsErrOf result Cut.Keeper → Rose (P.faults keeper.old) (P.faults keeper.new) }
     ensures frame { KeeperFrame (P.place keeper.old) (P.place keeper.new) (P.faults keeper.old) (P.faults keeper.new)
-        (P.honest keeper.old) (P.honest keeper.new) }
+        (P.honest keeper.old) (P.honest keeper.new) (P.stopped keeper.new) }
 {
     let mut tally = Tally::new();
     for command in commands.into_vec() {
@@ -179,7 +179,7 @@ fn run_sample<K: Sink, P: Keeper, L: Ledger>(
     ensures calm { result ≢ 4 → K.faults sink.new ≡ K.faults sink.old }
     ensures kept_cause { result ≡ 5 → Rose (P.faults keeper.old) (P.faults keeper.new) }
     ensures frame { KeeperFrame (P.place keeper.old) (P.place keeper.new) (P.faults keeper.old) (P.faults keeper.new)
-        (P.honest keeper.old) (P.honest keeper.new) }
+        (P.honest keeper.old) (P.honest keeper.new) (P.stopped keeper.new) }
 {
     let Ok(commands) = sample(alloc, n) else {
         return 7;
@@ -216,7 +216,7 @@ fn sample_with<K: Sink, P: Keeper, L: Ledger>(
     ensures calm { result ≢ 4 → K.faults sink.new ≡ K.faults sink.old }
     ensures kept_cause { result ≡ 5 → Rose (P.faults keeper.old) (P.faults keeper.new) }
     ensures frame { KeeperFrame (P.place keeper.old) (P.place keeper.new) (P.faults keeper.old) (P.faults keeper.new)
-        (P.honest keeper.old) (P.honest keeper.new) }
+        (P.honest keeper.old) (P.honest keeper.new) (P.stopped keeper.new) }
 {
     run_sample(alloc, n, sink, &mut engine, keeper, steps)
 }
@@ -258,6 +258,7 @@ pub fn sample_store<K: Sink, P: Keeper, L: Ledger>(
     ensures calm { result ≢ 4 → K.faults sink.new ≡ K.faults sink.old }
     ensures stopped { (P.stopped keeper.new ≡ true) ↔ (result ≡ 5) }
     ensures kept_cause { result ≡ 5 → Rose (P.faults keeper.old) (P.faults keeper.new) }
+    ensures kept_calm { P.stopped keeper.new ≡ false → P.faults keeper.new ≡ P.faults keeper.old }
     ensures statuses { result ≤ 1 ⊎ (result ≡ 4 ⊎ (result ≡ 5 ⊎ (result ≡ 6 ⊎ result ≡ 7))) }
     ensures place { (result ≡ 7) ⊎ (P.place keeper.new ≡ place.now) }
 {

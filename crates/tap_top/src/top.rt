@@ -88,7 +88,7 @@ fn close<K: Sink, P: Keeper, L: Ledger>(
     ensures kept_cause { result ≡ 5 → Rose (P.faults keeper.old) (P.faults keeper.new) }
     ensures calm { result ≢ 4 → K.faults sink.new ≡ K.faults sink.old }
     ensures frame { KeeperFrame (P.place keeper.old) (P.place keeper.new) (P.faults keeper.old) (P.faults keeper.new)
-        (P.honest keeper.old) (P.honest keeper.new) }
+        (P.honest keeper.old) (P.honest keeper.new) (P.stopped keeper.new) }
 {
     match finish(alloc, reader, engine, keeper, steps, sink) {
         Ok(ok) => status(all_ok && ok),
@@ -122,7 +122,7 @@ fn run<S: Source, K: Sink, P: Keeper, L: Ledger>(
     ensures ended { result ≤ 1 → IsAtEnd (S.left source.new) }
     ensures kept_cause { result ≡ 5 → Rose (P.faults keeper.old) (P.faults keeper.new) }
     ensures frame { KeeperFrame (P.place keeper.old) (P.place keeper.new) (P.faults keeper.old) (P.faults keeper.new)
-        (P.honest keeper.old) (P.honest keeper.new) }
+        (P.honest keeper.old) (P.honest keeper.new) (P.stopped keeper.new) }
 {
     let mut reader = ScriptReader::new(alloc);
     let mut piece = [0u8; PIECE];
@@ -181,7 +181,7 @@ fn run_with<S: Source, K: Sink, P: Keeper, L: Ledger>(
     ensures ended { result ≤ 1 → IsAtEnd (S.left source.new) }
     ensures kept_cause { result ≡ 5 → Rose (P.faults keeper.old) (P.faults keeper.new) }
     ensures frame { KeeperFrame (P.place keeper.old) (P.place keeper.new) (P.faults keeper.old) (P.faults keeper.new)
-        (P.honest keeper.old) (P.honest keeper.new) }
+        (P.honest keeper.old) (P.honest keeper.new) (P.stopped keeper.new) }
 {
     run(alloc, source, sink, &mut engine, keeper, steps)
 }

@@ -10,7 +10,7 @@ loop-rest-init g c = record {
   ended = c.requires.open;
   can = c.requires.can;
   same = refl;
-  keeper = KeeperFrame-start _ _ _;
+  keeper = KeeperFrame-start _ _ _ _;
 }
 
 pub loop-rest-preserved : goal.loop-rest-preserved
@@ -19,7 +19,7 @@ loop-rest-preserved g c = record {
   ended = c.in-Ok.ensures.open;
   can = c.in-Ok.ensures.can;
   same = c.in-Ok.ensures.calm (λ e. cc) ∙ c.loop-rest.invariant.same;
-  keeper = KeeperFrame-then _ _ _ _ _ _ _ _ _ c.loop-rest.invariant.keeper c.in-Ok.ensures.frame;
+  keeper = KeeperFrame-then _ _ _ _ _ _ _ _ _ _ _ c.loop-rest.invariant.can.keeping c.loop-rest.invariant.keeper c.in-Ok.ensures.frame;
 }
 
 pub returns-in-Err-Put-clause-put : goal.returns-in-Err-Put-clause-put

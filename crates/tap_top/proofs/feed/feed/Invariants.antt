@@ -11,7 +11,7 @@ invariant-loop-rest g l = record {
   ended : complete_from l.reader [] ≡ [];
   can : CanPerform l.engine (g.P.Keeper.attached l.keeper) (g.P.Keeper.stopped l.keeper);
   same : g.K.Sink.faults l.sink ≡ g.K.Sink.faults l.fn.sink;
-  keeper : KeeperFrame (g.P.Keeper.place l.fn.keeper) (g.P.Keeper.place l.keeper) (g.P.Keeper.faults l.fn.keeper) (g.P.Keeper.faults l.keeper) (g.P.Keeper.honest l.fn.keeper) (g.P.Keeper.honest l.keeper);
+  keeper : KeeperFrame (g.P.Keeper.place l.fn.keeper) (g.P.Keeper.place l.keeper) (g.P.Keeper.faults l.fn.keeper) (g.P.Keeper.faults l.keeper) (g.P.Keeper.honest l.fn.keeper) (g.P.Keeper.honest l.keeper) (g.P.Keeper.stopped l.keeper);
 }
 
 abbrev pub decreases-loop-rest : goal.decreases-loop-rest

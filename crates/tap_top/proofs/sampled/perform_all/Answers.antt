@@ -13,7 +13,7 @@ loop-command-init g c =
           subst (λ cs. Performing c.args.commands cs t c.args.engine.now.session (EngineMatchesKeeper c.args.engine.now (g.P.Keeper.tells c.args.keeper.now) (g.P.Keeper.may_leave c.args.keeper.now)) c.new-tally.result c.args.engine.now.session) (sym items)
           (Performing-start c.args.commands t c.args.engine.now.session (EngineMatchesKeeper c.args.engine.now (g.P.Keeper.tells c.args.keeper.now) (g.P.Keeper.may_leave c.args.keeper.now)) c.new-tally.result at.sound at c.new-tally.ensures.refused c.new-tally.ensures.delivered);
       can = c.requires.can;
-      keeper = KeeperFrame-start _ _ _;
+      keeper = KeeperFrame-start _ _ _ _;
     }
 
 pub loop-command-preserved : goal.loop-command-preserved
@@ -21,7 +21,7 @@ loop-command-preserved g c = record {
   len = (let a = ap length c.in-Some.ensures.steps.0 in let b = c.in-Some.ensures.steps.1 in let d = c.loop-command.invariant.len in omega arith);
   performing = λ t honest at. Performing-more c.args.commands _ c.in-Some.command _ t _ _ c.loop-command.tally _ (EngineMatchesKeeper c.perform_one.new.engine (g.P.Keeper.tells c.perform_one.new.keeper) (g.P.Keeper.may_leave c.perform_one.new.keeper)) c.in-Ok.counted _ (c.loop-command.invariant.performing t (c.in-Ok.ensures.frame.before honest) at) c.in-Some.ensures.steps.0 (λ x there. c.in-Ok.ensures.ok x honest there);
   can = c.in-Ok.ensures.can;
-  keeper = KeeperFrame-then _ _ _ _ _ _ _ _ _ c.loop-command.invariant.keeper c.in-Ok.ensures.frame;
+  keeper = KeeperFrame-then _ _ _ _ _ _ _ _ _ _ _ c.loop-command.invariant.can.keeping c.loop-command.invariant.keeper c.in-Ok.ensures.frame;
 }
 
 pub returns-in-Err-Keeper-clause-keeper : goal.returns-in-Err-Keeper-clause-keeper

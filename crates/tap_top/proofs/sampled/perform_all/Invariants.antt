@@ -10,5 +10,5 @@ invariant-loop-command g l = record {
   len : into_iter_len l.command-iterator ≡ length (into_iter_items l.command-iterator);
   performing : (t : Tables) → g.P.Keeper.honest l.keeper → EngineMatchesKeeper l.fn.engine (g.P.Keeper.tells l.fn.keeper) (g.P.Keeper.may_leave l.fn.keeper) t → Performing l.fn.commands (into_iter_items l.command-iterator) t l.fn.engine.session (EngineMatchesKeeper l.engine (g.P.Keeper.tells l.keeper) (g.P.Keeper.may_leave l.keeper)) l.tally l.engine.session;
   can : CanPerform l.engine (g.P.Keeper.attached l.keeper) (g.P.Keeper.stopped l.keeper);
-  keeper : KeeperFrame (g.P.Keeper.place l.fn.keeper) (g.P.Keeper.place l.keeper) (g.P.Keeper.faults l.fn.keeper) (g.P.Keeper.faults l.keeper) (g.P.Keeper.honest l.fn.keeper) (g.P.Keeper.honest l.keeper);
+  keeper : KeeperFrame (g.P.Keeper.place l.fn.keeper) (g.P.Keeper.place l.keeper) (g.P.Keeper.faults l.fn.keeper) (g.P.Keeper.faults l.keeper) (g.P.Keeper.honest l.fn.keeper) (g.P.Keeper.honest l.keeper) (g.P.Keeper.stopped l.keeper);
 }

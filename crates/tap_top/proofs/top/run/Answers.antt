@@ -17,7 +17,7 @@ pieces-init g c = record {
   can = c.requires.can;
   reads = refl;
   puts = refl;
-  keeper = KeeperFrame-start _ _ _;
+  keeper = KeeperFrame-start _ _ _ _;
 }
 
 pub pieces-preserved : goal.pieces-preserved
@@ -29,7 +29,7 @@ pieces-preserved g c = record {
   can = c.in-Ok-feed.ensures.can;
   reads = c.in-Ok.ensures.cause.fine ∙ c.pieces.invariant.reads;
   puts = c.in-Ok-feed.ensures.calm (λ e. cc) ∙ c.pieces.invariant.puts;
-  keeper = KeeperFrame-then _ _ _ _ _ _ _ _ _ c.pieces.invariant.keeper c.in-Ok-feed.ensures.frame;
+  keeper = KeeperFrame-then _ _ _ _ _ _ _ _ _ _ _ c.pieces.invariant.can.keeping c.pieces.invariant.keeper c.in-Ok-feed.ensures.frame;
 }
 
 pub returns-in-Err-clause-ends : goal.returns-in-Err-clause-ends

@@ -15,7 +15,7 @@ invariant-pieces g l = record {
   can : CanPerform l.engine (g.P.Keeper.attached l.keeper) (g.P.Keeper.stopped l.keeper);
   reads : g.S.Source.faults l.source ≡ g.S.Source.faults l.fn.source;
   puts : g.K.Sink.faults l.sink ≡ g.K.Sink.faults l.fn.sink;
-  keeper : KeeperFrame (g.P.Keeper.place l.fn.keeper) (g.P.Keeper.place l.keeper) (g.P.Keeper.faults l.fn.keeper) (g.P.Keeper.faults l.keeper) (g.P.Keeper.honest l.fn.keeper) (g.P.Keeper.honest l.keeper);
+  keeper : KeeperFrame (g.P.Keeper.place l.fn.keeper) (g.P.Keeper.place l.keeper) (g.P.Keeper.faults l.fn.keeper) (g.P.Keeper.faults l.keeper) (g.P.Keeper.honest l.fn.keeper) (g.P.Keeper.honest l.keeper) (g.P.Keeper.stopped l.keeper);
 }
 
 abbrev pub decreases-pieces : goal.decreases-pieces
