@@ -64,7 +64,7 @@ module _ (known : ℕ → Bool) (env final : Env) (h : AreSame known env final) 
   base_is (ArrivalDay v n) i = ap (λ o. on_row o (λ r. Some (round_up_to_day (arrival r +ℤ n)))) (h v.0 i)
   base_is (DateDay v n) i = ap (λ o. on_row o (λ r. day_of n (date r))) (h v.0 i)
 
-  value_is : (e : Term) → base_known known e.base ≡ true → value e final ≡ value e env
+  pub value_is : (e : Term) → base_known known e.base ≡ true → value e final ≡ value e env
   value_is e i = ap (λ o. plus_to o e.plus) (base_is e.base i)
 
   pub number_is : (x : NumExpr) → number_known known x ≡ true → number x final ≡ number x env

@@ -1,5 +1,6 @@
 pub mod RowWalks
 pub mod Work
+pub mod Conjuncts
 pub mod Open
 pub mod Tables
 pub mod Rests

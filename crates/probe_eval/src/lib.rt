@@ -7,6 +7,7 @@ mod drivers;
 pub mod laws;
 mod level;
 mod literals;
+mod names;
 mod next;
 mod open;
 mod rests;

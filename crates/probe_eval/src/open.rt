@@ -42,8 +42,8 @@ fn text_known(known: Known, e: &TextExpr) -> bool
     }
 }
 
-// Returns whether each variable of the guard is known.
-fn atom_known(known: Known, guard: &Atom) -> bool
+/// Returns whether each variable of the guard is known.
+pub(crate) fn atom_known(known: Known, guard: &Atom) -> bool
     ensures { result ≡ atom_known (is_known known.entry) guard.now }
 {
     match guard {

@@ -1,0 +1,36 @@
+use Rattle.std.proofs.Common.{◌≡◌, ◌+◌, ◌*◌, ◌≤◌, pos, length}
+use Rattle.std.specs.List.{list_any}
+use Rattle.tql_core.specs.Trees.{tree_at}
+use Rattle.tql_core.specs.Holds.{truth}
+use Rattle.tql_core.specs.Values.{bind}
+use Rattle.probe_eval.specs.Work.{work, total}
+use Rattle.probe_eval.specs.Conjuncts.{own_part}
+use Rattle.probe_eval.proofs.bodies.+bodies.Given as goal
+
+abbrev pub invariant-any_own-loop-row : goal.invariant-any_own-loop-row
+invariant-any_own-loop-row g l = record {
+  same : list_any (λ row. truth l.fn.index (pos 0) (own_part l.fn.var (tree_at l.fn.pool l.fn.inner.0)) (bind l.fn.var row l.fn.env)) l.initial.rows ≡ list_any (λ row. truth l.fn.index (pos 0) (own_part l.fn.var (tree_at l.fn.pool l.fn.inner.0)) (bind l.fn.var row l.fn.env)) l.rows;
+  steps : l.steps + total (λ row. 1 + work l.fn.index (own_part l.fn.var (tree_at l.fn.pool l.fn.inner.0)) (bind l.fn.var row l.fn.env)) l.rows ≤ l.fn.steps + total (λ row. 1 + work l.fn.index (own_part l.fn.var (tree_at l.fn.pool l.fn.inner.0)) (bind l.fn.var row l.fn.env)) l.initial.rows;
+  more : l.fn.steps ≤ l.steps;
+}
+
+abbrev pub decreases-any_own-loop-row : goal.decreases-any_own-loop-row
+decreases-any_own-loop-row g l = length l.rows
+
+abbrev pub decreases-body_holds : goal.decreases-body_holds
+decreases-body_holds g l = 5 * l.body.0
+
+abbrev pub decreases-fixed_holds : goal.decreases-fixed_holds
+decreases-fixed_holds g l = 5 * l.body.0 + 1
+
+abbrev pub decreases-own_holds : goal.decreases-own_holds
+decreases-own_holds g l = 5 * l.body.0 + 1
+
+abbrev pub decreases-any_own : goal.decreases-any_own
+decreases-any_own g l = 5 * l.inner.0 + 2
+
+abbrev pub decreases-any_later : goal.decreases-any_later
+decreases-any_later g l = 5 * l.inner.0 + 3
+
+abbrev pub decreases-exists_holds : goal.decreases-exists_holds
+decreases-exists_holds g l = 5 * l.inner.0 + 4
