@@ -22,7 +22,10 @@ enum Outcome {
 // Returns what parsing the tokens comes to.
 fn parsed(alloc: Global, tokens: &[Token]) -> Outcome {
     match parse(alloc, tokens) {
-        Ok(_) => Outcome::Fine,
+        Ok(tree) => {
+            drop(tree);
+            Outcome::Fine
+        }
         Err(ParseFault::Unexpected { place }) => Outcome::Unexpected(place),
         Err(ParseFault::Ended) => Outcome::Ended,
         Err(ParseFault::Deep { place }) => Outcome::Deep(place),
@@ -33,7 +36,11 @@ fn parsed(alloc: Global, tokens: &[Token]) -> Outcome {
 // Returns what reading the text comes to.
 fn read(alloc: Global, text: &[u8]) -> Outcome {
     match lex(alloc, text) {
-        Ok(tokens) => parsed(alloc, &tokens),
+        Ok(tokens) => {
+            let outcome = parsed(alloc, &tokens);
+            drop(tokens);
+            outcome
+        }
         Err(LexFault::BadByte { place }) => Outcome::Byte(place),
         Err(LexFault::OpenString { place }) => Outcome::Open(place),
         Err(LexFault::BigNumber { place }) => Outcome::Big(place),
@@ -44,31 +51,60 @@ fn read(alloc: Global, text: &[u8]) -> Outcome {
 
 // Returns the tree of the text, if it has one.
 fn tree_of(alloc: Global, text: &[u8]) -> Option<Tree> {
-    let tokens = lex(alloc, text).ok()?;
-    parse(alloc, &tokens).ok()
+    match lex(alloc, text) {
+        Ok(tokens) => {
+            let tree = parse(alloc, &tokens).ok();
+            drop(tokens);
+            tree
+        }
+        Err(_) => None,
+    }
+}
+
+// Returns whether this is the canonical text of the tree.
+fn is_printed(alloc: Global, tree: &Tree, wanted: &[u8]) -> bool {
+    match print(alloc, tree) {
+        Ok(printed) => {
+            let same = printed.as_slice() == wanted;
+            drop(printed);
+            same
+        }
+        Err(_) => false,
+    }
 }
 
 // Returns whether the canonical text of this one is the wanted one.
 fn canonical(alloc: Global, text: &[u8], wanted: &[u8]) -> bool {
     match tree_of(alloc, text) {
-        Some(tree) => match print(alloc, &tree) {
-            Ok(printed) => printed.as_slice() == wanted,
-            Err(_) => false,
-        },
+        Some(tree) => {
+            let same = is_printed(alloc, &tree, wanted);
+            drop(tree);
+            same
+        }
         None => false,
     }
 }
 
 // Returns whether a copy of the tree is printed so.
+fn is_copy_printed(alloc: Global, tree: &Tree, wanted: &[u8]) -> bool {
+    match tree.copy(alloc) {
+        Ok(copy) => {
+            let same = is_printed(alloc, &copy, wanted);
+            drop(copy);
+            same
+        }
+        Err(_) => false,
+    }
+}
+
+// Returns whether a copy of the text's tree is printed so.
 fn canonical_copy(alloc: Global, text: &[u8], wanted: &[u8]) -> bool {
     match tree_of(alloc, text) {
-        Some(tree) => match tree.copy(alloc) {
-            Ok(tree) => match print(alloc, &tree) {
-                Ok(printed) => printed.as_slice() == wanted,
-                Err(_) => false,
-            },
-            Err(_) => false,
-        },
+        Some(tree) => {
+            let same = is_copy_printed(alloc, &tree, wanted);
+            drop(tree);
+            same
+        }
         None => false,
     }
 }
@@ -84,16 +120,29 @@ fn are_same(one: &Kind, two: &Kind) -> bool {
     }
 }
 
+// Returns whether a copy of the token equals it.
+fn is_copied(token: &Token) -> bool {
+    match token.copy() {
+        Ok(copy) => {
+            let same = are_same(&copy.kind, &token.kind) && copy.end == token.end;
+            drop(copy);
+            same
+        }
+        Err(_) => false,
+    }
+}
+
 // Returns whether a copy of the text's first token equals it.
 fn copied_token(alloc: Global, text: &[u8]) -> bool {
     match lex(alloc, text) {
-        Ok(tokens) => match tokens.first() {
-            Some(token) => match token.copy() {
-                Ok(copy) => are_same(&copy.kind, &token.kind) && copy.end == token.end,
-                Err(_) => false,
-            },
-            None => false,
-        },
+        Ok(tokens) => {
+            let same = match tokens.first() {
+                Some(token) => is_copied(token),
+                None => false,
+            };
+            drop(tokens);
+            same
+        }
         Err(_) => false,
     }
 }
@@ -153,26 +202,48 @@ fn printed(rt: HostRuntime) {
     );
 }
 
+// Adds a text so many times.
+fn repeat(text: &mut Vec<u8>, part: &[u8], n: usize) -> Result<(), Fail> {
+    for _ in 0..n {
+        text.extend_from_slice(part)?;
+    }
+    Ok(())
+}
+
+// Adds a text behind so many of another.
+fn push_behind(text: &mut Vec<u8>, part: &[u8], n: usize, last: &[u8]) -> Result<(), Fail> {
+    repeat(text, part, n)?;
+    text.extend_from_slice(last)?;
+    Ok(())
+}
+
+// Returns what reading a text comes to that is these parts, the middle so many times.
+fn read_parts(
+    alloc: Global,
+    first: &[u8],
+    part: &[u8],
+    n: usize,
+    last: &[u8],
+) -> Result<Outcome, Fail> {
+    let mut text = Vec::from_slice(alloc, first)?;
+    let pushed = push_behind(&mut text, part, n, last);
+    let outcome = read(alloc, &text);
+    drop(text);
+    pushed?;
+    Ok(outcome)
+}
+
 #[test]
 fn levels(rt: HostRuntime) -> Result<(), Fail> {
     let alloc = rt.alloc();
-    let mut text = Vec::new(alloc);
-    for _ in 0..32 {
-        text.extend_from_slice(b"NOT ")?;
-    }
-    text.extend_from_slice(b"TRUE")?;
-    assert_eq!(rt; read(alloc, &text), Outcome::Fine);
-    text.truncate(128);
-    text.extend_from_slice(b"NOT TRUE")?;
-    assert_eq!(rt; read(alloc, &text), Outcome::Deep(128));
-    let mut long = Vec::new(alloc);
-    long.extend_from_slice(b"m.size=1")?;
-    for _ in 0..4088 {
-        long.push(b' ')?;
-    }
-    assert_eq!(rt; read(alloc, &long), Outcome::Fine);
-    long.push(b' ')?;
-    assert_eq!(rt; read(alloc, &long), Outcome::Long(4097));
+    let deep = read_parts(alloc, b"", b"NOT ", 32, b"TRUE")?;
+    assert_eq!(rt; deep, Outcome::Fine);
+    let deeper = read_parts(alloc, b"", b"NOT ", 33, b"TRUE")?;
+    assert_eq!(rt; deeper, Outcome::Deep(128));
+    let long = read_parts(alloc, b"m.size=1", b" ", 4088, b"")?;
+    assert_eq!(rt; long, Outcome::Fine);
+    let longer = read_parts(alloc, b"m.size=1", b" ", 4089, b"")?;
+    assert_eq!(rt; longer, Outcome::Long(4097));
     Ok(())
 }
 

@@ -6,17 +6,25 @@ use tql_parse::ParseFault;
 use tql_text::{TextFault, read_condition};
 use tql_types::TypeFault;
 
+// Returns the fault of the text, if it is no condition.
+fn fault_of(alloc: Global, text: &[u8]) -> Option<TextFault> {
+    match read_condition(alloc, text) {
+        Ok(cond) => {
+            drop(cond);
+            None
+        }
+        Err(fault) => Some(fault),
+    }
+}
+
 // Returns whether the text has this fault.
 fn has_fault(alloc: Global, text: &[u8], fault: TextFault) -> bool {
-    match read_condition(alloc, text) {
-        Ok(_) => false,
-        Err(found) => found == fault,
-    }
+    fault_of(alloc, text) == Some(fault)
 }
 
 // Returns whether the text is a condition.
 fn is_condition(alloc: Global, text: &[u8]) -> bool {
-    read_condition(alloc, text).is_ok()
+    fault_of(alloc, text).is_none()
 }
 
 #[test]
@@ -145,28 +153,32 @@ fn limits_are_exact(rt: HostRuntime) -> Result<(), Fail> {
     Ok(())
 }
 
-// Returns a chain of 64 TRUEs behind this front: 127 nodes, and those of the front.
-fn many_nodes(alloc: Global, front: &[u8]) -> Result<Vec<u8>, Fail> {
-    let mut text = Vec::new(alloc);
-    text.extend_from_slice(front)?;
+// Adds a chain of 64 TRUEs, which has 127 nodes.
+fn push_chain(text: &mut Vec<u8>) -> Result<(), Fail> {
     for _ in 0..63 {
         text.extend_from_slice(b"TRUE OR ")?;
     }
     text.extend_from_slice(b"TRUE")?;
-    Ok(text)
+    Ok(())
+}
+
+// Returns the fault of such a chain behind this front, if it is no condition.
+fn chain_fault(alloc: Global, front: &[u8]) -> Result<Option<TextFault>, Fail> {
+    let mut text = Vec::from_slice(alloc, front)?;
+    let pushed = push_chain(&mut text);
+    let fault = fault_of(alloc, &text);
+    drop(text);
+    pushed?;
+    Ok(fault)
 }
 
 #[test]
 fn a_condition_has_at_most_128_nodes(rt: HostRuntime) -> Result<(), Fail> {
     let alloc = rt.alloc();
-    let too_many = TextFault::Types(TypeFault::ManyNodes);
-    let chain = many_nodes(alloc, b"")?;
-    let full = many_nodes(alloc, b"NOT ")?;
-    let above = many_nodes(alloc, b"NOT NOT ")?;
-    let longer = many_nodes(alloc, b"TRUE OR ")?;
-    assert!(rt; is_condition(alloc, &chain));
-    assert!(rt; is_condition(alloc, &full));
-    assert!(rt; has_fault(alloc, &above, too_many));
-    assert!(rt; has_fault(alloc, &longer, too_many));
+    let too_many = Some(TextFault::Types(TypeFault::ManyNodes));
+    assert!(rt; chain_fault(alloc, b"")?.is_none());
+    assert!(rt; chain_fault(alloc, b"NOT ")?.is_none());
+    assert!(rt; chain_fault(alloc, b"NOT NOT ")? == too_many);
+    assert!(rt; chain_fault(alloc, b"TRUE OR ")? == too_many);
     Ok(())
 }

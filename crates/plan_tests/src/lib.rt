@@ -4,6 +4,8 @@
 #[cfg(test)]
 mod box_tests;
 #[cfg(test)]
+mod conditions;
+#[cfg(test)]
 mod line_tests;
 #[cfg(test)]
 mod mark_tests;

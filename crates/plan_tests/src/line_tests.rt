@@ -13,33 +13,37 @@ ghost use Rattle.tql_core.specs.Bounds.{are_bounded};
 ghost use Rattle.tql_core.specs.Condition.{condition, Plain, All, Not, Exists, NowAtLeast, NowBefore};
 ghost use Rattle.tql_core.specs.Scope.{IsQuery};
 
+use crate::conditions::{arrival, both, for_no_note};
 use incremental_rewrite::{incremental, render};
 use monotone_rewrite::monotone_from;
 use std::alloc::Global;
 use tap_base::{Memory, Op, Text, Texts};
+use time_marks::RangedQuery;
 use tql_core::{Atom, Base, Cond, ListField, NumExpr, NumField, Term, TextExpr, Var};
-use tql_tree::Table;
 
-// Returns the arrival of a variable's row, some seconds later.
-fn arrival(var: u8, plus: i64) -> Term
-    ensures { result ≡ record { base = B.Arrival (record { 0 = var }); plus = plus } }
-{
-    Term {
-        base: Base::Arrival(Var(var)),
-        plus,
-    }
-}
-
-// Returns the lines of a condition for the seconds from the start on.
-fn explained(alloc: Global, cond: &Cond, start: i64) -> Result<Texts, Memory>
+// Returns the window query of a condition for the seconds from the start on.
+fn rewritten(alloc: Global, cond: &Cond, start: i64) -> Result<RangedQuery, Memory>
     requires scoped { IsQuery (condition cond.now) }
     requires bounded { are_bounded (condition cond.now) ≡ true }
     requires from_zero { pos 0 ≤ℤ start }
     requires start { start ≤ℤ pos 250000000000 }
 {
-    let query = monotone_from(alloc, cond, start)?;
-    let ranged = incremental(alloc, query)?;
-    render(alloc, &ranged)
+    incremental(alloc, monotone_from(alloc, cond, start)?)
+}
+
+// Returns the lines of a condition for the seconds from the start on.
+fn explained(alloc: Global, cond: Cond, start: i64) -> Result<Texts, Memory>
+    requires scoped { IsQuery (condition cond) }
+    requires bounded { are_bounded (condition cond) ≡ true }
+    requires from_zero { pos 0 ≤ℤ start }
+    requires start { start ≤ℤ pos 250000000000 }
+{
+    let ranged = rewritten(alloc, &cond, start);
+    drop(cond);
+    let ranged = ranged?;
+    let lines = render(alloc, &ranged);
+    drop(ranged);
+    lines
 }
 
 // Returns the condition that the message came at least 3 and less than 6 seconds ago.
@@ -47,9 +51,9 @@ fn between(alloc: Global) -> Result<Cond, Memory>
     ensures { IfOk result (λ cond. condition cond ≡ All (NowAtLeast (record { base = B.Arrival (record { 0 = 0 }); plus = pos 3 }))
         (NowBefore (record { base = B.Arrival (record { 0 = 0 }); plus = pos 6 }))) }
 {
-    let since = Box::new(alloc, Cond::NowAtLeast(arrival(0, 3)))?;
-    let until = Box::new(alloc, Cond::NowBefore(arrival(0, 6)))?;
-    Ok(Cond::All(since, until))
+    let since = Cond::NowAtLeast(arrival(0, 3));
+    let until = Cond::NowBefore(arrival(0, 6));
+    both(alloc, since, until)
 }
 
 // Returns the condition that no note on the message came less than 5 seconds ago.
@@ -63,11 +67,9 @@ fn unnoted(alloc: Global) -> Result<Cond, Memory>
         Op::Eq,
         NumExpr::Field(Var(0), NumField::Id),
     ));
-    let on = Box::new(alloc, on)?;
-    let young = Box::new(alloc, Cond::NowBefore(arrival(1, 5)))?;
-    let both = Box::new(alloc, Cond::All(on, young))?;
-    let noted = Box::new(alloc, Cond::Exists(Var(1), Table::Notes, both))?;
-    Ok(Cond::Not(noted))
+    let young = Cond::NowBefore(arrival(1, 5));
+    let noted = both(alloc, on, young)?;
+    for_no_note(alloc, noted)
 }
 
 // Returns the condition that the day of now began after the message came.
@@ -92,9 +94,10 @@ fn says_hi(alloc: Global) -> Result<Cond, Memory>
 fn a_window_of_seconds_has_one_line(rt: HostRuntime) -> Result<(), Memory> {
     let alloc = rt.alloc();
     let cond = between(alloc)?;
-    let lines = explained(alloc, &cond, 0)?;
+    let lines = explained(alloc, cond, 0)?;
     assert_eq!(rt; lines.len(), 1);
     assert!(rt; lines.holds(b"OVER m: DOC AT m.ts + 3 WHERE TRUE"));
+    drop(lines);
     Ok(())
 }
 
@@ -102,7 +105,7 @@ fn a_window_of_seconds_has_one_line(rt: HostRuntime) -> Result<(), Memory> {
 fn a_row_that_is_missing_has_its_own_line(rt: HostRuntime) -> Result<(), Memory> {
     let alloc = rt.alloc();
     let cond = unnoted(alloc)?;
-    let lines = explained(alloc, &cond, 0)?;
+    let lines = explained(alloc, cond, 0)?;
     assert_eq!(rt; lines.len(), 2);
     assert_eq!(rt;
         lines.as_slice()[0].as_slice(),
@@ -112,6 +115,7 @@ fn a_row_that_is_missing_has_its_own_line(rt: HostRuntime) -> Result<(), Memory>
         lines.as_slice()[1].as_slice(),
         b"OVER m: DOC, p1: NOTE [p1.doc = m.id] AT p1.ts + 5 WHERE NOT EXISTS (v1: NOTE WHERE v1.ts <= p1.ts + 5 AND (v1.doc = m.id AND p1.ts + 5 < v1.ts + 5))".as_slice()
     );
+    drop(lines);
     Ok(())
 }
 
@@ -119,7 +123,7 @@ fn a_row_that_is_missing_has_its_own_line(rt: HostRuntime) -> Result<(), Memory>
 fn days_have_their_lines(rt: HostRuntime) -> Result<(), Memory> {
     let alloc = rt.alloc();
     let cond = next_day();
-    let lines = explained(alloc, &cond, 0)?;
+    let lines = explained(alloc, cond, 0)?;
     assert_eq!(rt; lines.len(), 2);
     assert_eq!(rt;
         lines.as_slice()[0].as_slice(),
@@ -129,6 +133,7 @@ fn days_have_their_lines(rt: HostRuntime) -> Result<(), Memory> {
         lines.as_slice()[1].as_slice(),
         b"OVER m: DOC AT DAY(m.ts + 1) WHERE TRUE".as_slice()
     );
+    drop(lines);
     Ok(())
 }
 
@@ -136,7 +141,7 @@ fn days_have_their_lines(rt: HostRuntime) -> Result<(), Memory> {
 fn a_start_has_its_line(rt: HostRuntime) -> Result<(), Memory> {
     let alloc = rt.alloc();
     let cond = says_hi(alloc)?;
-    let lines = explained(alloc, &cond, 110)?;
+    let lines = explained(alloc, cond, 110)?;
     assert_eq!(rt; lines.len(), 2);
     assert_eq!(rt;
         lines.as_slice()[0].as_slice(),
@@ -146,5 +151,6 @@ fn a_start_has_its_line(rt: HostRuntime) -> Result<(), Memory> {
         lines.as_slice()[1].as_slice(),
         b"OVER m: DOC [m.words HAS 'hi'] AT TIME 110 WHERE m.words HAS 'hi'".as_slice()
     );
+    drop(lines);
     Ok(())
 }

@@ -1,6 +1,10 @@
 //! Documents and boxes that tests use.
 
-ghost use Rattle.std.specs.Prelude.{◌≡◌, []};
+ghost use Rattle.std.specs.Prelude.{◌≡◌, ◌+◌, ◌≤ℤ◌, [], ◌∷◌, length, IfOk};
+ghost use Rattle.row_index.specs.Orders.{IsMoment};
+ghost use Rattle.tap_rows.specs.Kept.{Each};
+ghost use Rattle.tap_rows.specs.Tables.{after};
+ghost use Rattle.tap_rows.specs.declared.change.Change.TheVariants.{Docs};
 
 use little_box::LittleBox;
 use row_index::RowIndex;
@@ -33,21 +37,42 @@ pub fn blank_doc(alloc: Global, num: u32, arrival: i64) -> KeptDoc
     KeptDoc::new(doc, fields)
 }
 
+/// Returns the index with a further document.
+pub fn with_doc(index: RowIndex, doc: KeptDoc) -> Result<RowIndex, Memory>
+    requires number { doc.num.0 ≡ length index.docs + 1 }
+    requires moment { IsMoment doc.arrival }
+    requires after { Each (λ other. other.arrival ≤ℤ doc.arrival) index.docs }
+    ensures { IfOk result (λ new. new ≡ after index (Docs (doc ∷ []))) }
+{
+    let mut index = index;
+    match index.add_doc(doc) {
+        Ok(()) => Ok(index),
+        Err(Memory) => {
+            drop(index);
+            Err(Memory)
+        }
+    }
+}
+
 /// Returns two documents of second 100.
 pub fn two_docs(alloc: Global) -> Result<RowIndex, Memory> {
-    let mut index = RowIndex::new(alloc);
-    index.add_doc(blank_doc(alloc, 1, 100))?;
-    index.add_doc(blank_doc(alloc, 2, 100))?;
-    Ok(index)
+    let one = with_doc(RowIndex::new(alloc), blank_doc(alloc, 1, 100))?;
+    with_doc(one, blank_doc(alloc, 2, 100))
 }
 
 /// Returns a box with the second document.
 pub fn second_seen(alloc: Global) -> Result<LittleBox, Memory> {
     let mut seen = LittleBox::new(alloc);
-    seen.add(Entry {
+    let entry = Entry {
         doc: DocNum(2),
         first: 105,
         run: 1,
-    })?;
-    Ok(seen)
+    };
+    match seen.add(entry) {
+        Ok(()) => Ok(seen),
+        Err(Memory) => {
+            drop(seen);
+            Err(Memory)
+        }
+    }
 }

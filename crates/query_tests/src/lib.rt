@@ -6,6 +6,8 @@ mod documents;
 #[cfg(test)]
 mod index_tests;
 #[cfg(test)]
+mod probes;
+#[cfg(test)]
 mod run_tests;
 #[cfg(test)]
 mod wake_tests;

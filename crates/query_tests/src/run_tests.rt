@@ -7,44 +7,20 @@ ghost use Rattle.tql_core.specs.declared.term.Base.TheVariants.{Arrival};
 ghost use Rattle.probe_eval.specs.Runs.{HasValidProbes};
 
 use crate::documents::{second_seen, two_docs};
+use crate::probes::part_at;
 use access_plan::{Plan, plan};
 use node_pool::{NodeId, Pool};
 use query_eval::{Hits, run};
+use row_index::RowIndex;
 use std::alloc::Global;
 use std::marker::Brand;
 use std::sync::ledger::{Blank, Ledger};
 use tap_base::{Memory, Rows, Steps};
 use tap_rows::Hit;
-use time_marks::{Probe, Ranged, RangedQuery, Seek, Step, Window};
+use time_marks::{Ranged, RangedQuery, Window};
 use tql_core::{Base, TNode, Term, Var};
-use tql_tree::Table;
 
 // Returns the probe that finds a document five seconds after its arrival.
-fn old_probe(alloc: Global, body: NodeId) -> Result<Probe, Memory>
-    ensures { IfOk result (λ probe. probe ≡ record {
-      path = record { var = record { 0 = 0 }; table = Docs; guards = [] }
-          ∷ [];
-      at = record { base = Arrival (record { 0 = 0 }); plus = pos 5 };
-      body = body;
-    }) }
-{
-    let mut path = Rows::new(alloc);
-    path.push(Step {
-        var: Var(0),
-        table: Table::Docs,
-        guards: Rows::new(alloc),
-    })?;
-    Ok(Probe {
-        path,
-        at: Term {
-            base: Base::Arrival(Var(0)),
-            plus: 5,
-        },
-        body,
-    })
-}
-
-// Returns that probe alone, with its seek.
 fn old_parts(alloc: Global, body: NodeId) -> Result<Rows<Ranged>, Memory>
     ensures { IfOk result (λ parts. map (λ part. part.probe) parts
         ≡ record {
@@ -54,11 +30,19 @@ fn old_parts(alloc: Global, body: NodeId) -> Result<Rows<Ranged>, Memory>
           body = body;
         } ∷ []) }
 {
-    let probe = old_probe(alloc, body)?;
-    let seek = Seek::of(probe.at);
+    let at = Term {
+        base: Base::Arrival(Var(0)),
+        plus: 5,
+    };
+    let part = part_at(alloc, at, body)?;
     let mut parts = Rows::new(alloc);
-    parts.push(Ranged { probe, seek })?;
-    Ok(parts)
+    match parts.push(part) {
+        Ok(()) => Ok(parts),
+        Err(Memory) => {
+            drop(parts);
+            Err(Memory)
+        }
+    }
 }
 
 // Returns the query of that probe.
@@ -78,7 +62,48 @@ fn old_plan(alloc: Global) -> Result<Plan, Memory>
     plan(alloc, old_query(alloc)?)
 }
 
-// Returns what the plan gives below this second of two documents, one of which is in the box.
+// Returns what a plan gives below this second, if the box has the second document.
+fn found_in<L: Ledger>(
+    alloc: Global,
+    blank: Blank,
+    plan: &Plan,
+    index: &RowIndex,
+    high: i64,
+) -> Result<Rows<Hit>, Memory>
+    requires name { blank.name ≡ L.name }
+    requires parts { blank.parts ≡ L.parts }
+    requires some { 0 < blank.parts }
+    requires high { IsWithin 500000000000 high }
+    requires probes { HasValidProbes plan.now.query }
+{
+    let seen = second_seen(alloc)?;
+    let mut steps = Steps::<L>::start(blank);
+    let window = Window { low: 0, high };
+    let hits = run(alloc, plan, index, &seen, window, &mut steps);
+    drop(seen);
+    hits
+}
+
+// Returns what a plan gives below this second of two documents, one of which is in the box.
+fn found_by<L: Ledger>(
+    alloc: Global,
+    blank: Blank,
+    plan: &Plan,
+    high: i64,
+) -> Result<Rows<Hit>, Memory>
+    requires name { blank.name ≡ L.name }
+    requires parts { blank.parts ≡ L.parts }
+    requires some { 0 < blank.parts }
+    requires high { IsWithin 500000000000 high }
+    requires probes { HasValidProbes plan.now.query }
+{
+    let index = two_docs(alloc)?;
+    let hits = found_in::<L>(alloc, blank, plan, &index, high);
+    drop(index);
+    hits
+}
+
+// Returns what the plan of the probe gives below this second of two documents, one of which is in the box.
 fn found<L: Ledger>(alloc: Global, blank: Blank, high: i64) -> Result<Rows<Hit>, Memory>
     requires name { blank.name ≡ L.name }
     requires parts { blank.parts ≡ L.parts }
@@ -86,17 +111,9 @@ fn found<L: Ledger>(alloc: Global, blank: Blank, high: i64) -> Result<Rows<Hit>,
     requires high { IsWithin 500000000000 high }
 {
     let plan = old_plan(alloc)?;
-    let index = two_docs(alloc)?;
-    let seen = second_seen(alloc)?;
-    let mut steps = Steps::<L>::start(blank);
-    run(
-        alloc,
-        &plan,
-        &index,
-        &seen,
-        Window { low: 0, high },
-        &mut steps,
-    )
+    let hits = found_by::<L>(alloc, blank, &plan, high);
+    drop(plan);
+    hits
 }
 
 #[test]

@@ -1,44 +1,22 @@
 //! Tests of moments over two documents.
 
-ghost use Rattle.std.specs.Prelude.{◌≡◌, ◌<◌, pos, [], ◌∷◌, map, IfOk};
+ghost use Rattle.std.specs.Prelude.{◌≡◌, ◌<◌, map, IfOk};
 ghost use Rattle.row_index.specs.Orders.{IsMoment};
-ghost use Rattle.tql_tree.specs.declared.table.Table.TheVariants.{Docs};
 ghost use Rattle.probe_eval.specs.Runs.{HasValidProbes};
 ghost use Rattle.query_tests.specs.Samples.{sample_probe, sample_marks};
 
 use crate::documents::{second_seen, two_docs};
+use crate::probes::part_at;
 use access_plan::{Plan, plan};
 use node_pool::{NodeId, Pool};
+use row_index::RowIndex;
 use std::alloc::Global;
 use std::marker::Brand;
 use std::sync::ledger::{Blank, Ledger};
 use tap_base::{Memory, Rows, Steps};
-use time_marks::{Probe, Ranged, RangedQuery, Seek, Step};
+use time_marks::{Ranged, RangedQuery};
 use tql_core::{Base, TNode, Term, Var};
-use tql_tree::Table;
 use wake_plan::wake;
-
-// Returns the probe that finds a document with this mark.
-fn probe_at(alloc: Global, at: Term, body: NodeId) -> Result<Probe, Memory>
-    ensures { IfOk result (λ probe. probe ≡ record { path = record { var = record { 0 = 0 }; table = Docs; guards = [] } ∷ []; at = at; body = body }) }
-{
-    let mut path = Rows::new(alloc);
-    path.push(Step {
-        var: Var(0),
-        table: Table::Docs,
-        guards: Rows::new(alloc),
-    })?;
-    Ok(Probe { path, at, body })
-}
-
-// Returns that probe, with its seek.
-fn part_at(alloc: Global, at: Term, body: NodeId) -> Result<Ranged, Memory>
-    ensures { IfOk result (λ part. part.probe ≡ record { path = record { var = record { 0 = 0 }; table = Docs; guards = [] } ∷ []; at = at; body = body }) }
-{
-    let probe = probe_at(alloc, at, body)?;
-    let seek = Seek::of(probe.at);
-    Ok(Ranged { probe, seek })
-}
 
 // Returns a probe with a mark five seconds after the arrival, one with a mark a second after the date, and one with the
 // fixed mark 130.
@@ -81,7 +59,51 @@ fn three_plan(alloc: Global) -> Result<Plan, Memory>
     plan(alloc, three_query(alloc)?)
 }
 
-// Returns the moment for two documents, one of which is in the box.
+// Returns the moment for a plan, if the box has the second document.
+fn planned_in<L: Ledger>(
+    alloc: Global,
+    blank: Blank,
+    plan: &Plan,
+    index: &RowIndex,
+    last: i64,
+    now: i64,
+) -> Result<Option<i64>, Memory>
+    requires name { blank.name ≡ L.name }
+    requires parts { blank.parts ≡ L.parts }
+    requires some { 0 < blank.parts }
+    requires last { IsMoment last }
+    requires now { IsMoment now }
+    requires probes { HasValidProbes plan.now.query }
+{
+    let seen = second_seen(alloc)?;
+    let mut steps = Steps::<L>::start(blank);
+    let moment = wake(alloc, plan, index, &seen, last, now, &mut steps);
+    drop(seen);
+    moment
+}
+
+// Returns the moment for a plan and two documents, one of which is in the box.
+fn planned_by<L: Ledger>(
+    alloc: Global,
+    blank: Blank,
+    plan: &Plan,
+    last: i64,
+    now: i64,
+) -> Result<Option<i64>, Memory>
+    requires name { blank.name ≡ L.name }
+    requires parts { blank.parts ≡ L.parts }
+    requires some { 0 < blank.parts }
+    requires last { IsMoment last }
+    requires now { IsMoment now }
+    requires probes { HasValidProbes plan.now.query }
+{
+    let index = two_docs(alloc)?;
+    let moment = planned_in::<L>(alloc, blank, plan, &index, last, now);
+    drop(index);
+    moment
+}
+
+// Returns the moment for the plan of the probes and two documents, one of which is in the box.
 fn planned<L: Ledger>(
     alloc: Global,
     blank: Blank,
@@ -95,10 +117,9 @@ fn planned<L: Ledger>(
     requires now { IsMoment now }
 {
     let plan = three_plan(alloc)?;
-    let index = two_docs(alloc)?;
-    let seen = second_seen(alloc)?;
-    let mut steps = Steps::<L>::start(blank);
-    wake(alloc, &plan, &index, &seen, last, now, &mut steps)
+    let moment = planned_by::<L>(alloc, blank, &plan, last, now);
+    drop(plan);
+    moment
 }
 
 #[test]

@@ -1,6 +1,12 @@
-ghost use Rattle.std.specs.Prelude.{◌≡◌, ◌<◌, pos, []};
+//! Tests of filters: their limits, their faults, and the listing of a box.
 
-use appraiser::{RuleFault, listing, read_rules};
+ghost use Rattle.std.specs.Prelude.{◌≡◌, ◌+◌, ◌<◌, ◌≤ℤ◌, pos, [], ◌∷◌, length, IfOk};
+ghost use Rattle.row_index.specs.Orders.{IsMoment};
+ghost use Rattle.tap_rows.specs.Kept.{Each};
+ghost use Rattle.tap_rows.specs.Tables.{after};
+ghost use Rattle.tap_rows.specs.declared.change.Change.TheVariants.{Docs};
+
+use appraiser::{RuleFault, Rules, listing, read_rules};
 use row_index::RowIndex;
 use std::alloc::Global;
 use std::marker::Brand;
@@ -12,30 +18,40 @@ use tap_rows::{Doc, Entry, Fields, KeptDoc};
 // Returns how many rules the text has, or its fault.
 fn rules_or_fault(alloc: Global, text: &[u8]) -> Result<usize, RuleFault> {
     match read_rules(alloc, text) {
-        Ok(rules) => Ok(rules.len()),
+        Ok(rules) => {
+            let len = rules.len();
+            drop(rules);
+            Ok(len)
+        }
         Err(fault) => Err(fault),
     }
 }
 
-// A filter's text of so many rules, behind a comment.
-fn rules_text(alloc: Global, n: usize) -> Result<Text, Memory> {
-    let mut text = Text::from_slice(alloc, b"# rules\n")?;
+// Adds so many rules to a text.
+fn push_rules(text: &mut Text, n: usize) -> Result<(), Memory> {
     for _ in 0..n {
         text.push_slice(b"WHEN TRUE PRIORITY 1 CLASS 'a'\n")?;
     }
-    Ok(text)
+    Ok(())
+}
+
+// Returns how many rules a text of so many rules has, behind a comment, or its fault.
+fn count_rules(alloc: Global, n: usize) -> Result<Result<usize, RuleFault>, Memory> {
+    let mut text = Text::from_slice(alloc, b"# rules\n")?;
+    let pushed = push_rules(&mut text, n);
+    let found = rules_or_fault(alloc, text.as_slice());
+    drop(text);
+    match pushed {
+        Ok(()) => Ok(found),
+        Err(Memory) => Err(Memory),
+    }
 }
 
 #[test]
 fn a_filter_has_64_rules_at_most(rt: HostRuntime) -> Result<(), Fail> {
     let alloc = rt.alloc();
-    let full = rules_text(alloc, 64)?;
-    assert_eq!(rt; rules_or_fault(alloc, full.as_slice()), Ok(64));
-    let more = rules_text(alloc, 65)?;
-    assert_eq!(rt;
-        rules_or_fault(alloc, more.as_slice()),
-        Err(RuleFault::ManyRules)
-    );
+    assert_eq!(rt; count_rules(alloc, 64)?, Ok(64));
+    assert_eq!(rt; count_rules(alloc, 65)?, Err(RuleFault::ManyRules));
     Ok(())
 }
 
@@ -150,7 +166,7 @@ fn each_fault_of_a_rule_has_its_place(rt: HostRuntime) -> Result<(), Fail> {
     Ok(())
 }
 
-// A document without a text.
+// Returns a document without a text.
 fn blank_doc(alloc: Global, num: u32) -> KeptDoc
     ensures { result ≡ record { num = record { 0 = num }; arrival = pos 100; text = [] } }
 {
@@ -175,42 +191,86 @@ fn blank_doc(alloc: Global, num: u32) -> KeptDoc
     KeptDoc::new(doc, fields)
 }
 
-// Two documents.
-fn two_docs(alloc: Global) -> Result<RowIndex, Memory> {
-    let mut index = RowIndex::new(alloc);
-    index.add_doc(blank_doc(alloc, 1))?;
-    index.add_doc(blank_doc(alloc, 2))?;
-    Ok(index)
+// Returns the index with a further document.
+fn with_doc(index: RowIndex, doc: KeptDoc) -> Result<RowIndex, Memory>
+    requires number { doc.num.0 ≡ length index.docs + 1 }
+    requires moment { IsMoment doc.arrival }
+    requires after { Each (λ other. other.arrival ≤ℤ doc.arrival) index.docs }
+    ensures { IfOk result (λ new. new ≡ after index (Docs (doc ∷ []))) }
+{
+    let mut index = index;
+    match index.add_doc(doc) {
+        Ok(()) => Ok(index),
+        Err(Memory) => {
+            drop(index);
+            Err(Memory)
+        }
+    }
 }
 
-// The numbers and priorities of a box of both, rated by a rule for the second.
+// Returns two documents.
+fn two_docs(alloc: Global) -> Result<RowIndex, Memory> {
+    let one = with_doc(RowIndex::new(alloc), blank_doc(alloc, 1))?;
+    with_doc(one, blank_doc(alloc, 2))
+}
+
+// Returns a delivery of the first run.
+fn entry(doc: u32, first: i64) -> Entry {
+    Entry {
+        doc: DocNum(doc),
+        first,
+        run: 1,
+    }
+}
+
+// Returns the numbers and priorities of a box of two documents.
+fn listed_in<L: Ledger>(
+    alloc: Global,
+    rules: &Rules,
+    index: &RowIndex,
+    steps: &mut Steps<L>,
+) -> Result<Option<[(u32, u32); 2]>, Memory> {
+    let entries = [entry(1, 100), entry(2, 101)];
+    let rows = listing(alloc, rules, &entries, index, steps)?;
+    let found = match rows.as_slice() {
+        [a, b] => Some([(a.entry.doc.0, a.priority), (b.entry.doc.0, b.priority)]),
+        _ => None,
+    };
+    drop(rows);
+    Ok(found)
+}
+
+// Returns the numbers and priorities of a box of two documents, rated by these rules.
+fn listed_by<L: Ledger>(
+    alloc: Global,
+    blank: Blank,
+    rules: &Rules,
+) -> Result<Option<[(u32, u32); 2]>, Memory>
+    requires name { blank.name ≡ L.name }
+    requires parts { blank.parts ≡ L.parts }
+    requires some { 0 < blank.parts }
+{
+    let index = two_docs(alloc)?;
+    let mut steps = Steps::<L>::start(blank);
+    let found = listed_in(alloc, rules, &index, &mut steps);
+    drop(index);
+    found
+}
+
+// Returns the numbers and priorities of a box of two documents, rated by a rule for the second.
 fn listed<L: Ledger>(alloc: Global, blank: Blank) -> Result<Option<[(u32, u32); 2]>, Memory>
     requires name { blank.name ≡ L.name }
     requires parts { blank.parts ≡ L.parts }
     requires some { 0 < blank.parts }
 {
-    let Ok(rules) = read_rules(alloc, b"WHEN m.id = 2 PRIORITY 5 CLASS 'a'\n") else {
-        return Ok(None);
-    };
-    let index = two_docs(alloc)?;
-    let entries = [
-        Entry {
-            doc: DocNum(1),
-            first: 100,
-            run: 1,
-        },
-        Entry {
-            doc: DocNum(2),
-            first: 101,
-            run: 1,
-        },
-    ];
-    let mut steps = Steps::<L>::start(blank);
-    let rows = listing(alloc, &rules, &entries, &index, &mut steps)?;
-    let [a, b] = rows.as_slice() else {
-        return Ok(None);
-    };
-    Ok(Some([(a.entry.doc.0, a.priority), (b.entry.doc.0, b.priority)]))
+    match read_rules(alloc, b"WHEN m.id = 2 PRIORITY 5 CLASS 'a'\n") {
+        Ok(rules) => {
+            let found = listed_by::<L>(alloc, blank, &rules);
+            drop(rules);
+            found
+        }
+        Err(_) => Ok(None),
+    }
 }
 
 #[test]

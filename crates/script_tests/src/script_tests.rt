@@ -1,3 +1,5 @@
+//! Tests of the lines of replies, and of the commands of a script that comes in pieces.
+
 ghost use Rattle.std.specs.Prelude.{◌≡◌, ◌≤◌, ◌<◌, length};
 ghost use Rattle.script_lang.specs.Replies.{HasShortNames};
 
@@ -12,13 +14,23 @@ use tql_lex::LexFault;
 use tql_parse::ParseFault;
 use tql_types::TypeFault;
 
-// The bytes of a reply that are taken where these puts fail.
+// Returns the bytes of a reply that are taken if these puts fail.
 fn shown(alloc: Global, reply: &Reply, fails: Vec<PutPlan>) -> Result<Text, Memory>
     requires { HasShortNames reply.now }
 {
     let mut sink = MemSink::new(alloc, 256, fails)?;
     let _ = put_reply(reply, &mut sink);
-    Text::from_slice(alloc, sink.written())
+    let text = Text::from_slice(alloc, sink.written());
+    drop(sink);
+    text
+}
+
+// Returns the line of a refusal.
+fn refused(alloc: Global, refusal: Refusal) -> Result<Text, Memory> {
+    let reply = Reply::No(refusal);
+    let line = shown(alloc, &reply, Vec::new(alloc));
+    drop(reply);
+    line
 }
 
 #[test]
@@ -70,42 +82,68 @@ fn refusals_have_their_lines(rt: HostRuntime) -> Result<(), Fail> {
         (Refusal::NoRun { runs: 2 }, b"no 19 2\n"),
     ];
     for (refusal, want) in rows {
-        let line = shown(alloc, &Reply::No(refusal), Vec::new(alloc))?;
+        let line = refused(alloc, refusal)?;
         assert_eq!(rt; line.as_slice(), want);
+        drop(line);
     }
     Ok(())
 }
 
-// A reply with two deliveries, where this put fails.
-fn box_until(alloc: Global, call: u64) -> Result<Text, Memory> {
-    let mut entries = Rows::new(alloc);
-    entries.push(Entry {
-        doc: DocNum(1),
-        first: 100,
-        run: 1,
-    })?;
-    entries.push(Entry {
-        doc: DocNum(20),
-        first: 110,
-        run: 2,
-    })?;
-    let reply = Reply::BoxOf {
-        name: Text::new(alloc),
-        entries,
-    };
-    shown(alloc, &reply, vec![in alloc; PutPlan { call, out: 0 }]?)
+// Returns the bytes of a reply that are taken if this put fails.
+fn shown_until(alloc: Global, reply: &Reply, call: u64) -> Result<Text, Memory>
+    requires { HasShortNames reply.now }
+{
+    shown(alloc, reply, vec![in alloc; PutPlan { call, out: 0 }]?)
 }
 
-// A reply with two texts, where this put fails.
-fn texts_until(alloc: Global, call: u64) -> Result<Text, Memory> {
-    let mut lines = Texts::new(alloc);
-    lines.push(Text::from_slice(alloc, b"one")?)?;
-    lines.push(Text::new(alloc))?;
-    let reply = Reply::Explain {
+// Returns a delivery.
+fn entry(doc: u32, first: i64, run: u32) -> Entry {
+    Entry {
+        doc: DocNum(doc),
+        first,
+        run,
+    }
+}
+
+// Returns what is taken of a reply with two deliveries if this put fails.
+fn box_until(alloc: Global, call: u64) -> Result<Text, Memory> {
+    let entries = vec![in alloc; entry(1, 100, 1), entry(20, 110, 2)]?;
+    let reply = Reply::BoxOf {
         name: Text::new(alloc),
-        lines,
+        entries: Rows::from_vec(entries),
     };
-    shown(alloc, &reply, vec![in alloc; PutPlan { call, out: 0 }]?)
+    let text = shown_until(alloc, &reply, call);
+    drop(reply);
+    text
+}
+
+// Adds a text and an empty one.
+fn push_lines(alloc: Global, lines: &mut Texts) -> Result<(), Memory> {
+    lines.push(Text::from_slice(alloc, b"one")?)?;
+    lines.push(Text::new(alloc))
+}
+
+// Returns those two texts.
+fn two_lines(alloc: Global) -> Result<Texts, Memory> {
+    let mut lines = Texts::new(alloc);
+    match push_lines(alloc, &mut lines) {
+        Ok(()) => Ok(lines),
+        Err(Memory) => {
+            drop(lines);
+            Err(Memory)
+        }
+    }
+}
+
+// Returns what is taken of a reply with two texts if this put fails.
+fn texts_until(alloc: Global, call: u64) -> Result<Text, Memory> {
+    let reply = Reply::Explain {
+        lines: two_lines(alloc)?,
+        name: Text::new(alloc),
+    };
+    let text = shown_until(alloc, &reply, call);
+    drop(reply);
+    text
 }
 
 #[test]
@@ -121,6 +159,7 @@ fn a_line_is_one_put(rt: HostRuntime) -> Result<(), Fail> {
     for (call, want) in rows {
         let bytes = box_until(rt.alloc(), call)?;
         assert_eq!(rt; bytes.as_slice(), want);
+        drop(bytes);
     }
     Ok(())
 }
@@ -136,6 +175,7 @@ fn a_text_is_two_puts(rt: HostRuntime) -> Result<(), Fail> {
     for (call, want) in rows {
         let bytes = texts_until(rt.alloc(), call)?;
         assert_eq!(rt; bytes.as_slice(), want);
+        drop(bytes);
     }
     Ok(())
 }
@@ -223,12 +263,28 @@ fn show(alloc: Global, into: &mut Text, command: &Command) -> Result<(), Memory>
     }
 }
 
-// Shows the commands of a script that comes in pieces of `size` bytes.
-fn read(alloc: Global, script: &[u8], size: usize) -> Result<Text, Memory>
+// Shows a command, if there is one.
+fn show_some(alloc: Global, into: &mut Text, command: Option<Command>) -> Result<(), Memory> {
+    match command {
+        Some(command) => {
+            let done = show(alloc, into, &command);
+            drop(command);
+            done
+        }
+        None => Ok(()),
+    }
+}
+
+// Shows the commands of a script that comes in pieces of `size` bytes, as the reader gives them.
+fn read_into(
+    alloc: Global,
+    reader: &mut ScriptReader,
+    into: &mut Text,
+    script: &[u8],
+    size: usize,
+) -> Result<(), Memory>
     requires { 0 < size }
 {
-    let mut reader = ScriptReader::new(alloc);
-    let mut out = Text::new(alloc);
     let mut at = 0;
     while at < script.len() {
         let end = if script.len() - at < size {
@@ -237,27 +293,37 @@ fn read(alloc: Global, script: &[u8], size: usize) -> Result<Text, Memory>
             at + size
         };
         let got = reader.take(&script[at..end])?;
-        if let Some(command) = &got.command {
-            show(alloc, &mut out, command)?;
-        }
         at += got.used;
+        show_some(alloc, into, got.command)?;
     }
-    if let Some(command) = &reader.finish()? {
-        show(alloc, &mut out, command)?;
-    }
-    Ok(out)
+    show_some(alloc, into, reader.finish()?)
 }
 
-// Shows the commands of a script that comes whole; shows nothing where they are others in pieces of one byte or two.
-fn read_all(alloc: Global, script: &[u8]) -> Result<Text, Memory> {
-    let whole = read(alloc, script, 1000)?;
-    let ones = read(alloc, script, 1)?;
-    let twos = read(alloc, script, 2)?;
-    if ones.as_slice() == whole.as_slice() && twos.as_slice() == whole.as_slice() {
-        Ok(whole)
-    } else {
-        Ok(Text::new(alloc))
+// Shows the commands of a script that comes in pieces of `size` bytes.
+fn read(alloc: Global, script: &[u8], size: usize) -> Result<Text, Memory>
+    requires { 0 < size }
+{
+    let mut reader = ScriptReader::new(alloc);
+    let mut out = Text::new(alloc);
+    let done = read_into(alloc, &mut reader, &mut out, script, size);
+    drop(reader);
+    match done {
+        Ok(()) => Ok(out),
+        Err(Memory) => {
+            drop(out);
+            Err(Memory)
+        }
     }
+}
+
+// Returns whether these are the commands of a script that comes in pieces of `size` bytes.
+fn reads(alloc: Global, script: &[u8], size: usize, want: &[u8]) -> Result<bool, Memory>
+    requires { 0 < size }
+{
+    let shown = read(alloc, script, size)?;
+    let same = shown.as_slice() == want;
+    drop(shown);
+    Ok(same)
 }
 
 #[test]
@@ -283,8 +349,11 @@ fn commands_are_read_in_any_pieces(rt: HostRuntime) -> Result<(), Fail> {
         (b"mbox y\nat 1", b"bad form;"),
     ];
     for (script, want) in rows {
-        let shown = read_all(alloc, script)?;
-        assert_eq!(rt; shown.as_slice(), want);
+        let whole = read(alloc, script, 1000)?;
+        assert_eq!(rt; whole.as_slice(), want);
+        drop(whole);
+        assert!(rt; reads(alloc, script, 1, want)?);
+        assert!(rt; reads(alloc, script, 2, want)?);
     }
     Ok(())
 }

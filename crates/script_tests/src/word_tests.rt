@@ -1,3 +1,5 @@
+//! Tests of the words of the command line.
+
 ghost use Rattle.std.specs.Prelude.{IfOk};
 ghost use Rattle.std.specs.List.{All};
 ghost use Rattle.std.specs.Str.{IsUtf8};
@@ -18,29 +20,49 @@ fn words_in(alloc: Global, line: &str) -> Result<Texts, Memory>
     Ok(words)
 }
 
-// Shows what words ask for: the place, a blank and the number, or why they are not read.
-fn shown(alloc: Global, words: &Texts) -> Result<Text, Memory>
+// Adds a blank and a number, if there is one.
+fn push_sample(alloc: Global, text: &mut Text, sample: Option<u32>) -> Result<(), Memory> {
+    if let Some(n) = sample {
+        text.push_slice(b" ")?;
+        put_decimal(alloc, n as i64, text)?;
+    }
+    Ok(())
+}
+
+// Returns whether words are read so: the place, a blank and the number, or why they are not read.
+fn is_shown(alloc: Global, words: &Texts, want: &[u8]) -> Result<bool, Memory>
     requires { All IsUtf8 words.now }
 {
     match read_words(alloc, words) {
         Ok(asked) => {
-            let mut text = asked.place.copy()?;
-            if let Some(n) = asked.sample {
-                text.push_slice(b" ")?;
-                put_decimal(alloc, n as i64, &mut text)?;
+            let mut text = asked.place;
+            let pushed = push_sample(alloc, &mut text, asked.sample);
+            let same = text.as_slice() == want;
+            drop(text);
+            match pushed {
+                Ok(()) => Ok(same),
+                Err(Memory) => Err(Memory),
             }
-            Ok(text)
         }
-        Err(OptionFault::Refused) => Text::from_slice(alloc, b"refused"),
+        Err(OptionFault::Refused) => Ok(want == b"refused".as_slice()),
         Err(OptionFault::Memory) => Err(Memory),
     }
+}
+
+// Returns whether the words of a line are read so.
+fn is_line_shown(alloc: Global, line: &str, want: &[u8]) -> Result<bool, Memory> {
+    let words = words_in(alloc, line)?;
+    let same = is_shown(alloc, &words, want);
+    drop(words);
+    same
 }
 
 #[test]
 fn no_words_ask_for_a_store_in_memory(rt: HostRuntime) -> Result<(), Fail> {
     let words = Texts::new(rt.alloc());
-    let text = shown(rt.alloc(), &words)?;
-    assert_eq!(rt; text.as_slice(), b":memory:".as_slice());
+    let same = is_shown(rt.alloc(), &words, b":memory:");
+    drop(words);
+    assert!(rt; same?);
     Ok(())
 }
 
@@ -70,8 +92,7 @@ fn words_are_read(rt: HostRuntime) -> Result<(), Fail> {
         ("--help", b"refused"),
     ];
     for (line, want) in rows {
-        let text = shown(alloc, &words_in(alloc, line)?)?;
-        assert_eq!(rt; text.as_slice(), want);
+        assert!(rt; is_line_shown(alloc, line, want)?, "{line}");
     }
     Ok(())
 }

@@ -1,5 +1,5 @@
 use Rattle.std.proofs.Common.{◌≤◌, ◌-◌, length}
-use Rattle.script_tests.proofs.script_tests.read.Given as goal
+use Rattle.script_tests.proofs.script_tests.read_into.Given as goal
 
 -- the place is within the script
 abbrev pub invariant-loop-at : goal.invariant-loop-at
