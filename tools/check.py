@@ -5,6 +5,7 @@
     tools/check.py check CRATE [FLAG..]       checks a crate; flags as of rattle check, such as --only F, --test, --start F
     tools/check.py edit CRATE [NAME..]        tries wrong bodies of crates/CRATE/must-fail (none: all)
     tools/check.py tests CRATE [NAME..]       proves, builds and runs tests (none: all)
+    tools/check.py plant CRATE [FLAG..]       checks a crate, and lists the wrong bodies that its contracts let through; flags of rt plant
     tools/check.py program CRATE              builds a program, as crates/CRATE/out/CRATE
 
 A library is proved once for each text of its files and of what it stands on, into a folder of the user's cache, where any checkout
@@ -14,12 +15,14 @@ in which `rt ci` runs: its libraries are taken if their files are the same. At m
 import fcntl
 import functools
 import hashlib
+import importlib.machinery
 import os
 import shutil
 import subprocess
 import sys
 import tempfile
 import time
+import types
 from concurrent.futures import FIRST_COMPLETED, ThreadPoolExecutor, wait
 
 TOP = os.path.dirname(os.path.dirname(os.path.abspath(__file__)))
@@ -222,6 +225,32 @@ def try_edit(name, path):
     return ran.returncode == 1
 
 
+def plant(name, flags):
+    """Runs the kit's rt plant on a crate over the libraries that were found; returns its status."""
+    kit = types.ModuleType("rt_plant")
+    kit.__file__ = f"{KIT}/bin/rt-plant"
+    importlib.machinery.SourceFileLoader("rt_plant", kit.__file__).exec_module(kit)
+    for used in below(name):
+        folder = f"{TOP}/crates/{used}/out/rlib"
+        os.makedirs(folder, exist_ok=True)
+        link = f"{folder}/{used}.rlib"
+        if os.path.islink(link):
+            os.remove(link)
+        if not os.path.exists(link):
+            os.symlink(BUILT[used][0], link)
+
+    def check(*_):
+        words = ["check", *words_of(name), "--progress", *kit.rt.KEPT, "--jobs", JOBS]
+        ran = call(words, f"{TOP}/crates/{name}", stdout=subprocess.PIPE, stderr=subprocess.STDOUT, text=True)
+        print(ran.stdout)
+        return ran.returncode
+
+    kit.rt.main = check
+    os.makedirs(f"{TOP}/crates/{name}/out", exist_ok=True)
+    os.chdir(f"{TOP}/crates/{name}")
+    return kit.main(*flags)
+
+
 def make(name, is_test):
     """Proves, builds and links a program or the tests of a crate; returns the path, or nothing."""
     folder, made = f"{TOP}/crates/{name}", f"out/{name}{'_tests' * is_test}"
@@ -249,7 +278,7 @@ def run_tests(name, tests):
 
 
 def main(words):
-    if not words or words[0] not in ("libs", "check", "edit", "tests", "program"):
+    if not words or words[0] not in ("libs", "check", "edit", "tests", "plant", "program"):
         print(__doc__)
         return 2
     os.makedirs(CACHE, exist_ok=True)
@@ -268,6 +297,8 @@ def main(words):
         return 0 if all(tried) else 1
     if what == "tests":
         return 0 if run_tests(name, more) else 1
+    if what == "plant":
+        return plant(name, more)
     return 0 if make(name, False) else 1
 
 
