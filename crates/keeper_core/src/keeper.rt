@@ -2,10 +2,8 @@
 
 ghost use Rattle.std.specs.Prelude.{◌≡◌, ◌≢◌, ◌⊎◌, ◌↔◌, ◌≤◌, ℕ, ℤ, pos, List, Bool, true, false, Err, IsOk, IfOk, OnOk};
 ghost use Rattle.tap_rows.specs.Tables.{after};
-ghost use Rattle.tap_rows.specs.WellFormed.{is_well_formed};
-ghost use Rattle.tap_rows.specs.Fits.{fits};
 ghost use Rattle.tap_rows.specs.declared.tables.Tables.{Tables as TableRows};
-ghost use Rattle.keeper_core.specs.Keeping.{IsDurable, IfAlien};
+ghost use Rattle.keeper_core.specs.Keeping.{IsDurable, IfAlien, Extends};
 ghost use Rattle.tap_base.specs.Counts.{Rose};
 
 use crate::{AttachFault, CommitFault};
@@ -37,6 +35,9 @@ use tap_rows::{Change, Tables};
 /// - attached: they are the tables that the attach returned, with the rows of each committed change, and a crash
 ///   leaves them alone.
 /// - stopped: a crash leaves the tables of before the call that failed, or those with all rows of its change.
+///
+/// A keeper may tell tables once it is attached that told none before. By `answered` they are those that the attach
+/// returned, by `version` their version is 2, and by the law `alone` a crash leaves no others.
 ///
 /// Of a keeper that isn't honest only the states, the place and the count of failures are promised.
 pub trait Keeper {
@@ -84,11 +85,11 @@ pub trait Keeper {
             → IsDurable (tells self.new) (may_leave self.new) s }
         ensures crash { honest self.new → (s : TableRows) → tells self.old s → (x : TableRows) → may_leave self.new x → x ≡ s }
 
-        // Whatever it told before, it tells no other tables than it returns.
+        // Whatever it told before, it tells no other tables than it returns, and has version 2 if it tells tables.
         ensures answered { IfOk result (λ given. honest self.new → (t : TableRows) → tells self.new t → t ≡ given) }
+        ensures version { OnOk result (honest self.new → (t : TableRows) → tells self.new t → has_version self.new (pos 2)) }
 
-        // The version.
-        ensures version { OnOk result (honest self.new → (s : TableRows) → tells self.old s → has_version self.new (pos 2)) }
+        // The version that it told.
         ensures known { honest self.new → (v : ℤ) → has_version self.old v → OnOk result ((v ≡ pos 1) ⊎ (v ≡ pos 2)) }
         ensures alien { IfAlien result (λ v. (v ≢ pos 1) × (v ≢ pos 2)) }
         ensures same { IfAlien result (λ v. honest self.new → (w : ℤ) → has_version self.old w → (w ≡ v) × has_version self.new w) }
@@ -107,14 +108,14 @@ pub trait Keeper {
         ensures calm { stopped self.new ≡ false → faults self.new ≡ faults self.old }
         ensures honest { honest self.new → honest self.old }
 
-        // The tables, if they are well formed and the change fits them.
-        ensures ok { honest self.new → (s : TableRows) → tells self.old s → is_well_formed s ≡ true → fits s change.now ≡ true
+        // The tables, if the change adds rows that fit them.
+        ensures ok { honest self.new → (s : TableRows) → tells self.old s → Extends change.now s
             → OnOk result (IsDurable (tells self.new) (may_leave self.new) (after s change.now)) }
         ensures memory { honest self.new → (s : TableRows) → tells self.old s → result ≡ Err CommitFault.Memory
             → IsDurable (tells self.new) (may_leave self.new) s }
-        ensures crash { honest self.new → (s : TableRows) → tells self.old s → is_well_formed s ≡ true → fits s change.now ≡ true
+        ensures crash { honest self.new → (s : TableRows) → tells self.old s → Extends change.now s
             → (x : TableRows) → may_leave self.new x → (x ≡ s) ⊎ (x ≡ after s change.now) }
-        ensures version { honest self.new → (s : TableRows) → tells self.old s → is_well_formed s ≡ true → fits s change.now ≡ true
+        ensures version { honest self.new → (s : TableRows) → tells self.old s → Extends change.now s
             → (v : ℤ) → has_version self.old v → stopped self.new ≡ false → has_version self.new v };
 
     // It tells the tables of one store at most.

@@ -1,21 +1,22 @@
 -- What a close leaves is what the keeper told.
-use Rattle.std.proofs.Common.{Bool, [], inl, sym, ap, subst, ◌∙◌}
+use Rattle.std.proofs.Common.{◌≡◌, ◌≤◌, Bool, true, false, IsTrue, [], inl, sym, ap, subst, arith, ◌∙◌}
 use Rattle.tap_rows.specs.declared.tables.Tables.{Tables}
 use Rattle.sqlite_disk.specs.declared.Disk.{Ghosts}
 use Rattle.sqlite_disk.specs.declared.Files.{Files}
 use Rattle.sqlite_wal.specs.Recovery.{Image}
 use Rattle.sqlite_wal.proofs.LogLemmas.{SeenMayStay}
 use Rattle.sqlite_store.specs.declared.store.FileStore.{FileStore}
+use Rattle.sqlite_trees.specs.View.{doubt}
+use Rattle.sqlite_trees.proofs.Doubt.{no_doubt}
 use Rattle.sqlite.specs.Closing.{IsCopied, HoldsAlone}
 use Rattle.sqlite.specs.Effect.{Database}
 use Rattle.sqlite.specs.Files.{file_state, image_of, IsClosed}
 use Rattle.sqlite.specs.Held.{Held}
 use Rattle.keeper_sql.specs.Store.{TellsAs, tables_of}
 use Rattle.keeper_file.specs.Closing.{HoldsWhole, AreWhole, IsCopyOf, LeavesOnly}
-use Rattle.keeper_file.specs.Crashes.{HoldsOne}
 use Rattle.keeper_file.specs.Images.{ImageTells}
 use Rattle.keeper_file.proofs.SameLemmas.{is_told_open, ShowsLastCommit}
-use Rattle.keeper_file.proofs.CrashLemmas.{told_trees, ours_told, leaves_commit, only_held}
+use Rattle.keeper_file.proofs.CrashLemmas.{told_trees, ours_told, leaves_commit}
 
 module _ {D : Type 0} {g : Ghosts D} (was : Held (FileStore D g)) (settled : ShowsLastCommit (file_state was)) (b : Bool) (t : Tables) (told : TellsAs b (file_state was) t) where
   whole_at : (image : Image) → HoldsAlone image (file_state was).committed.trees → HoldsWhole image t
@@ -38,14 +39,15 @@ module _ {D : Type 0} {g : Ghosts D} (was : Held (FileStore D g)) (settled : Sho
 
 -- ---- and so the next session is told what the earlier one kept
 
-pub whole_tells : (image : Image) (t : Tables) → HoldsOne image → HoldsWhole image t → ImageTells image t
-whole_tells image t once whole =
-    inl (record { db = whole.db; holds = only_held image whole.db.trees once whole.holds.both; ours = whole.ours; tables = whole.tables })
+pub whole_tells : (image : Image) (t : Tables) → HoldsWhole image t → ImageTells image t
+whole_tells image t whole = inl (record { db = whole.db; holds = whole.holds.both; ours = whole.ours; tables = whole.tables })
 
-alone_tells : (image : Image) (t : Tables) → HoldsOne (record image { log = [] }) → HoldsWhole image t → ImageTells (record image { log = [] }) t
-alone_tells image t once whole =
-    inl (record { db = whole.db; holds = only_held (record image { log = [] }) whole.db.trees once whole.holds.alone; ours = whole.ours; tables = whole.tables })
+alone_tells : (image : Image) (t : Tables) → HoldsWhole image t → ImageTells (record image { log = [] }) t
+alone_tells image t whole = inl (record { db = whole.db; holds = whole.holds.alone; ours = whole.ours; tables = whole.tables })
 
-pub copy_tells : {D : Type 0} (g : Ghosts D) (files : Files D) (copy : Image) (t : Tables) → IsCopyOf g files copy → HoldsOne copy → AreWhole g files t → ImageTells copy t
-copy_tells g files copy t of once whole =
-    subst (λ i. ImageTells i t) (sym of.is) (alone_tells of.image t (subst HoldsOne of.is once) (whole.crash of.image of.left))
+pub copy_tells : {D : Type 0} (g : Ghosts D) (files : Files D) (copy : Image) (t : Tables) → IsCopyOf g files copy → AreWhole g files t → ImageTells copy t
+copy_tells g files copy t of whole = subst (λ i. ImageTells i t) (sym of.is) (alone_tells of.image t (whole.crash of.image of.left))
+
+-- a store that is clean was clean before
+pub was_clean : (old new : Bool) → doubt old ≤ doubt new → IsTrue new → doubt old ≡ 0
+was_clean old new falls clean = let none = no_doubt new clean in omega arith

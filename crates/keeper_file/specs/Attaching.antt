@@ -31,7 +31,7 @@ module _ (image : Image) {A O : Type 0} (g : Ghosts A) where
     pub kept : IsHonest image g new → (s : Tables) → Tells image g old s → is_stopped new ≡ false → IsDurable (Tells image g new) (MayLeave image g new) s
     pub crash : IsHonest image g new → (s : Tables) → Tells image g old s → (x : Tables) → MayLeave image g new x → x ≡ s
     pub answered : IfOk result (λ given. IsHonest image g new → (t : Tables) → Tells image g new t → t ≡ given)
-    pub version : OnOk result (IsHonest image g new → (s : Tables) → Tells image g old s → HasVersion image g new (pos 2))
+    pub version : OnOk result (IsHonest image g new → (t : Tables) → Tells image g new t → HasVersion image g new (pos 2))
     pub known : IsHonest image g new → (v : ℤ) → HasVersion image g old v → OnOk result ((v ≡ pos 1) ⊎ (v ≡ pos 2))
     pub alien : IfAlien result (λ v. (v ≢ pos 1) × (v ≢ pos 2))
     pub same : IfAlien result (λ v. IsHonest image g new → (w : ℤ) → HasVersion image g old w → (w ≡ v) × HasVersion image g new w)

@@ -3,11 +3,12 @@
 ghost use Rattle.std.specs.Prelude.{◌≡◌, false, IsTrue, None, Ok, IfOk, IfErr, IfSome};
 ghost use Rattle.sqlite.specs.Closing.{IsCopied};
 ghost use Rattle.sqlite.specs.Files.{file_state, over_files};
+ghost use Rattle.sqlite.specs.State.{HasCleanDisk};
 ghost use Rattle.sqlite_store.specs.FileStore.{view};
 ghost use Rattle.sqlite_wal.specs.Reads.{AreClean};
 ghost use Rattle.tap_rows.specs.declared.tables.Tables.{Tables as TableRows};
 ghost use Rattle.keeper_sql.specs.Store.{TellsAs};
-ghost use Rattle.keeper_file.specs.Cases.{Tells, has_files};
+ghost use Rattle.keeper_file.specs.Cases.{Tells, IsHonest, has_files};
 ghost use Rattle.keeper_file.specs.Closing.{AreWhole, LeavesOnly};
 
 use crate::inner::Inner;
@@ -22,6 +23,8 @@ pub fn closed<D: Disk + Drop>(keeper: SqlKeeper<FileStore<D>>) -> Result<Files<D
     ensures usable { IfOk result (λ files. IsTrue (D.Disk.is_usable files.log) × IsTrue (D.Disk.is_usable files.db)) }
     ensures settled { IsTrue (file_state keeper.connection).is_open
         → (file_state keeper.connection).now ≡ (file_state keeper.connection).committed }
+    ensures honest { IfOk result (λ files. AreClean D.Disk files.log files.db → HasCleanDisk (file_state keeper.connection)) }
+    ensures honest_left { IfErr result (λ store. IsTrue (view store).is_clean → HasCleanDisk (file_state keeper.connection)) }
     ensures copied { IfOk result (λ files. AreClean D.Disk files.log files.db → IsCopied keeper.connection files) }
     ensures whole { IfOk result (λ files. AreClean D.Disk files.log files.db
         → (t : TableRows) → TellsAs keeper.attached (file_state keeper.connection) t → AreWhole D.Disk files t) }
@@ -42,6 +45,9 @@ pub fn close_inner<D: Disk + Drop, O: Opener<FileStore<D>>>(
     inner: Inner<FileStore<D>, O>,
 ) -> Result<Option<Files<D>>, FileStore<D>>
     ensures none { result ≡ Ok None → has_files inner ≡ false }
+    ensures honest { IfOk result (λ files. IfSome files (λ both. AreClean D.Disk both.log both.db
+        → IsHonest O.Opener.image over_files inner)) }
+    ensures honest_left { IfErr result (λ store. IsTrue (view store).is_clean → IsHonest O.Opener.image over_files inner) }
     ensures whole { IfOk result (λ files. IfSome files (λ both. AreClean D.Disk both.log both.db
         → (t : TableRows) → Tells O.Opener.image over_files inner t → AreWhole D.Disk both t)) }
     ensures alone { IfErr result (λ store. IsTrue (view store).is_clean

@@ -95,11 +95,16 @@ held_given old new s t live told held =
     sym (opened_tables old s new.now told held.3) ∙ listed new.now holds ∙ sym (held.4 keyed)
 
 -- the tables that were read are those that the store tells, if it tells any
-pub read_told : (new : State) (given t : Tables) → AreRead new given → TellsAs true new t → t ≡ given
+pub read_told : (new : State) (given t : Tables) → AreRead new.now given → TellsAs true new t → t ≡ given
 read_told new given t read told =
     let holds = told.holds in
     let keyed : AreAllKeyed new.now = record { docs = holds.docs; notes = holds.notes; queries = holds.queries; runs = holds.runs; picks = holds.picks; filters = holds.filters } in
-    told.tables ∙ listed new.now holds ∙ sym (read holds.schema keyed)
+    told.tables ∙ listed new.now holds ∙ sym (read.rows holds.schema keyed)
+
+-- and then its version is 2
+pub read_version : (new : State) (given t : Tables) → AreRead new.now given → TellsAs true new t → HasVersion new (pos 2)
+read_version new given t read told =
+    record { clean = told.clean; is_open = told.is_open; row = inr (told.holds.schema, read.version told.holds.schema told.holds.meta) }
 
 pub held_told : (old new : State) (s t : Tables) → HasCleanDisk new → IsLive new → LeavesOnlyTrees new new.now.trees → TellsAs false old s → IsHeld old new t → IsDurable (TellsAs true new) (MayLeave new) s
 held_told old new s t clean live alone told held =
@@ -125,9 +130,6 @@ left_still old new s told crash x left = elim (crash left.0 left.1) [
   | inl before ↦ left.2 ∙ ap tables_of before ∙ sym (told_trees old s told)
   | inr made ↦ left.2 ∙ ap tables_of made.is ∙ opened_tables old s made.db told (made.to (told_ours old s told))
 ]
-
-pub held_version : (old new : State) (t : Tables) → HasCleanDisk new → IsHeld old new t → HasVersion new (pos 2)
-held_version old new t clean held = record { clean = clean; is_open = held.1; row = inr (held.3.schema, held.3.meta) }
 
 pub known_version : (old : State) (new : Database) (w : ℤ) → HasVersion old w → OpensTo (pos 2) old.now new → (w ≡ pos 1) ⊎ (w ≡ pos 2)
 known_version old new w has to = elim has.row [

@@ -11,6 +11,7 @@ pub mod ShownRows
 pub mod CreateTexts
 pub mod Creates
 pub mod AnySchema
+pub mod AnyInsert
 pub mod QueryLemmas
 pub mod MetaLemmas
 pub mod Settling

@@ -19,13 +19,15 @@ use Rattle.sqlite_rules.specs.Keys.{conflicts, AreConflicts}
 use Rattle.sqlite_trees.specs.Tree.{Trees, rowid, put_row, without_rowid}
 use Rattle.sqlite.specs.Does.{Tally, Does}
 use Rattle.sqlite.specs.Rows.{Written, Task, InsertsOr, TriesEach, Tries, Judged, Clears, Puts, nothing, mended, count_of}
-use Rattle.sqlite.specs.Effect.{Database}
+use Rattle.sqlite.specs.Effect.{Database, IsDatabase}
 use Rattle.sqlite.specs.Listing.{understood}
 use Rattle.sqlite.specs.State.{State, mode_of, Executes}
 use Rattle.sqlite.proofs.Callers.{IsPlain, command_of, statement_of, runs_as, one_step}
 use Rattle.sqlite_tied.specs.Compute.{everything}
 use Rattle.keeper_sql.specs.Schema.{meta_at, store_schema, replace_meta}
-use Rattle.keeper_sql.specs.Store.{IsMeta, meta_row, WritesVersion}
+use Rattle.keeper_sql.specs.Store.{IsMeta, meta_row, WritesVersion, IsAtVersion}
+use Rattle.sqlite_rules.proofs.TableLemmas.{has_put}
+use Rattle.keeper_sql.proofs.AnyInsert.{keeps_schema}
 use Rattle.keeper_sql.proofs.Casts.{cast_int, cast_null, same_value, went}
 
 meta_replaced : command_of (understood store_schema replace_meta) ≡ InsertOr 0 Replace (Values (lit (Int (pos 1)) ∷ lit Null ∷ lit (Int (pos 2)) ∷ []) 3) []
@@ -112,8 +114,12 @@ judged : (limit : Option ℕ) (keys : Keys) (db : Trees) (one : Written) (verdic
 judged limit keys db one None meta h = found_rows limit keys db one h.0 meta h.1 h.2
 judged limit keys db one (Some why) meta h = absurd cc
 
-written : (limit : Option ℕ) (keys : Keys) (db : Trees) (w : Written) → IsMeta (db 0) → InsertsOr (task_of limit keys) Replace [] (Values (lit (Int (pos 1)) ∷ lit Null ∷ lit (Int (pos 2)) ∷ []) 3) db (Ok w) → IsWritten db w.trees
-written limit keys db w meta h =
+-- what was written is the row that was judged last
+abbrev IsJudgedLast : Option ℕ → Keys → Trees → Written → Type 0
+IsJudgedLast limit keys db w = (one : Written) × (verdict : Option Refusal) × Judged (task_of limit keys) Replace [] source db verdict (Ok one) × (w.trees ≡ one.trees)
+
+judged_last : (limit : Option ℕ) (keys : Keys) (db : Trees) (w : Written) → InsertsOr (task_of limit keys) Replace [] (Values (lit (Int (pos 1)) ∷ lit Null ∷ lit (Int (pos 2)) ∷ []) 3) db (Ok w) → IsJudgedLast limit keys db w
+judged_last limit keys db w h =
     let task = task_of limit keys in
     let given = went h in
     let counter = went given.2 in
@@ -124,24 +130,64 @@ written limit keys db w meta h =
     let done : tried.0.0.trees ≡ one.trees = ap (λ (p : Written × ℤ). p.0.trees) (same_value each.2) in
     let all : w.trees ≡ tried.0.0.trees = ap (λ (it : Written). it.trees) (same_value last.2) ∙ same_value last.1 in
     let tries : Tries task Replace [] source db (Ok one) = subst (λ new. Tries task Replace [] new db (Ok one)) (new_meta (db 0)) each.1 in
-    let here : IsWritten db one.trees = elim tries [
+    elim tries [
       | inl refused ↦ absurd (let e = refused.1 in cc)
-      | inr went_on ↦ judged limit keys db one went_on.0 meta went_on.2
-    ] in
-    subst (IsWritten db) (sym (all ∙ done)) here
+      | inr went_on ↦ (one, went_on.0, went_on.2, all ∙ done)
+    ]
 
-pub writes_version : (old new : State) (count : ℕ) → old.now.schema ≡ store_schema → IsMeta (old.now.trees 0) → Executes replace_meta [] old new (Ok count) → WritesVersion (pos 2) old.now new.now
-writes_version old new count has meta h =
+written : (limit : Option ℕ) (keys : Keys) (db : Trees) (w : Written) → IsMeta (db 0) → IsJudgedLast limit keys db w → IsWritten db w.trees
+written limit keys db w meta last = subst (IsWritten db) (sym last.3) (judged limit keys db last.0 last.1 meta last.2)
+
+-- ---- whatever the table held, it has the row then
+
+-- the row was put there
+abbrev IsPut : Trees → Type 0
+IsPut db = (rows : List Row) × (db 0 ≡ put_row source rows)
+
+put_anyhow : (limit : Option ℕ) (keys : Keys) (db : Trees) (one : Written) (found : List Row) → Clears (task_of limit keys) Replace source db found (Ok one) → IsPut one.trees
+put_anyhow limit keys db one [] h = (db 0, (put_step limit keys db one h).0)
+put_anyhow limit keys db one (x ∷ more) h = let on = went h in (on.0 0, (put_step limit keys on.0 one on.2).0)
+
+judged_anyhow : (limit : Option ℕ) (keys : Keys) (db : Trees) (one : Written) (verdict : Option Refusal) → Judged (task_of limit keys) Replace [] source db verdict (Ok one) → IsPut one.trees
+judged_anyhow limit keys db one None h = put_anyhow limit keys db one h.0 h.2
+judged_anyhow limit keys db one (Some why) h = absurd cc
+
+put_meta : (rows : List Row) → Has rows source → IsMeta rows → rows ≡ source ∷ []
+put_meta rows has (inl none) = absurd (subst (λ r. Has r source) none has)
+put_meta rows has (inr (version, row)) =
+    let only : (source ≡ meta_row version) ⊎ ⊥ = subst (λ r. Has r source) row has in
+    elim only [ inl e ↦ row ∙ ap (λ (r : Row). r ∷ []) (sym e) | inr never ↦ absurd never ]
+
+-- ---- the statement
+
+-- it wrote such a row, and nothing else
+pub record Wrote (old new : State) : Type 0 where
+  pub sound : IsDatabase new.now
+  pub rows : Written
+  pub last : IsJudgedLast old.step_limit (mode_of old).keys old.now.trees rows
+  pub now : new.now ≡ record { schema = store_schema; trees = rows.trees }
+
+wrote : (old new : State) (count : ℕ) → old.now.schema ≡ store_schema → Executes replace_meta [] old new (Ok count) → Wrote old new
+wrote old new count has h =
     let command = InsertOr 0 Replace (Values (lit (Int (pos 1)) ∷ lit Null ∷ lit (Int (pos 2)) ∷ []) 3) [] in
     let w = runs_as replace_meta [] old new store_schema has command meta_replaced meta_plain count h in
     let text = statement_of replace_meta (understood store_schema replace_meta) in
     let done = went (subst (λ s. Does old.step_limit (mode_of old) [] (record old.now { schema = s }) text None command (Ok (w.tally, new.now))) has w.changed) in
-    let now = ap (λ (p : Tally × Database). p.1) (same_value (went (went done.2).2).2) in
-    let put = written old.step_limit (mode_of old).keys old.now.trees done.0 meta done.1 in
-    let at : (t : ℕ) → new.now.trees t ≡ done.0.trees t = λ t. ap (λ (d : Database). d.trees t) now in
+    record {
+      sound = w.sound;
+      rows = done.0;
+      last = judged_last old.step_limit (mode_of old).keys old.now.trees done.0 done.1;
+      now = ap (λ (p : Tally × Database). p.1) (same_value (went (went done.2).2).2);
+    }
+
+pub writes_version : (old new : State) (count : ℕ) → old.now.schema ≡ store_schema → IsMeta (old.now.trees 0) → Executes replace_meta [] old new (Ok count) → WritesVersion (pos 2) old.now new.now
+writes_version old new count has meta h =
+    let w = wrote old new count has h in
+    let put = written old.step_limit (mode_of old).keys old.now.trees w.rows meta w.last in
+    let at : (t : ℕ) → new.now.trees t ≡ w.rows.trees t = λ t. ap (λ (d : Database). d.trees t) w.now in
     record {
       sound = λ _. w.sound;
-      schema = ap (λ (d : Database). d.schema) now;
+      schema = ap (λ (d : Database). d.schema) w.now;
       meta = at 0 ∙ put.0;
       docs = at 1 ∙ put.1.0;
       notes = at 2 ∙ put.1.1;
@@ -150,3 +196,11 @@ writes_version old new count has meta h =
       picks = at 5 ∙ put.1.4;
       filters = at 6 ∙ put.1.5;
     }
+
+-- a store that has its tables and one row at most for its version is of version 2 then
+pub at_version : (old new : State) (count : ℕ) → Executes replace_meta [] old new (Ok count) → IsAtVersion new.now (pos 2)
+at_version old new count h has meta =
+    let w = wrote old new count (sym (keeps_schema [] old new count h) ∙ has) h in
+    let put = judged_anyhow old.step_limit (mode_of old).keys old.now.trees w.last.0 w.last.1 w.last.2 in
+    let row : new.now.trees 0 ≡ put_row source put.0 = ap (λ (d : Database). d.trees 0) w.now ∙ ap (λ (t : Trees). t 0) w.last.3 ∙ put.1 in
+    put_meta (new.now.trees 0) (subst (λ rows. Has rows source) (sym row) (has_put source put.0)) meta

@@ -6,7 +6,7 @@ use Rattle.sqlite.specs.Effect.{Database, IsDatabase}
 use Rattle.sqlite.specs.State.{State, IsUnchanged}
 use Rattle.keeper_sql.specs.Schema.{store_schema}
 use Rattle.keeper_sql.specs.RowsAsValues.{version_in}
-use Rattle.keeper_sql.specs.Store.{IsMeta, meta_row, Raises, Settles, AreKeyed, Undone}
+use Rattle.keeper_sql.specs.Store.{IsMeta, meta_row, Raises, Settles, AreKeyed, Undone, IsAtVersion}
 
 pub meta_keyed : (rows : List Row) → IsMeta rows → AreKeyed rows
 meta_keyed rows (inl none) = ([], none, tt)
@@ -48,6 +48,11 @@ settle_raised version old mid new has meta same read one raised =
       was = λ w is. inr (one w (read ∙ ap version_in is), refl);
       fresh = λ none. refl;
     }
+
+-- the version that was read, if nothing was changed
+pub read_at : (v : ℤ) (old new : State) → IsUnchanged old new → (old.now.schema ≡ store_schema → AreKeyed (old.now.trees 0) → Some v ≡ version_in (old.now.trees 0)) → IsAtVersion new.now v
+read_at v old new same read =
+    subst (λ (d : Database). IsAtVersion d v) (sym same.0.now_is) (λ has meta. row_of (old.now.trees 0) v meta (read has (meta_keyed (old.now.trees 0) meta)))
 
 pub undone_after : (old mid new : State) → IsUnchanged old mid → Undone mid new → Undone old new
 undone_after old mid new same h = record { was_open = λ _. same.0.was_open; committed = λ now. h.committed now ∙ same.0.committed_is }

@@ -8,7 +8,7 @@ use Rattle.keeper_core.specs.declared.fault.AttachFault.{AttachFault}
 use Rattle.keeper_core.specs.declared.fault.AttachFault.TheVariants as fault
 use Rattle.keeper_sql.specs.Schema.{store_schema}
 use Rattle.keeper_sql.specs.RowsAsValues.{tables_in}
-use Rattle.keeper_sql.specs.Store.{OpensTo, OpensAt, AreAllKeyed}
+use Rattle.keeper_sql.specs.Store.{OpensTo, OpensAt, AreAllKeyed, IsAtVersion}
 use Rattle.sqlite.specs.Effect.{Database}
 use Rattle.sqlite.specs.declared.error.Error.{Error}
 
@@ -17,14 +17,15 @@ abbrev pub IsOpened : State → State → Opened → Type 0
 IsOpened old new (Held tables) = OpensAt (pos 2) old new × (AreAllKeyed new.now → tables ≡ tables_in new.now.trees)
 IsOpened old new (Alien version) = OpensAt version old new
 
--- if the database has the store's tables, in order of their keys, these are their rows
-abbrev pub AreRead : State → Tables → Type 0
-AreRead new tables = new.now.schema ≡ store_schema → AreAllKeyed new.now → tables ≡ tables_in new.now.trees
+-- if the database has the store's tables, in order of their keys, these are their rows, and the version is 2
+pub record AreRead (db : Database) (tables : Tables) : Type 0 where
+  pub rows : db.schema ≡ store_schema → AreAllKeyed db → tables ≡ tables_in db.trees
+  pub version : IsAtVersion db (pos 2)
 
 -- the tables that were opened are those
-abbrev pub IsRead : State → Opened → Type 0
-IsRead new (Held tables) = AreRead new tables
-IsRead new (Alien version) = Unit {0}
+abbrev pub IsRead : Database → Opened → Type 0
+IsRead db (Held tables) = AreRead db tables
+IsRead db (Alien version) = Unit {0}
 
 -- only a version that isn't known is refused
 abbrev pub IsRefusedAt : Opened → Type 0

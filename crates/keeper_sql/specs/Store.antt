@@ -49,6 +49,10 @@ meta_row version = Int (pos 1) ∷ Null ∷ Int version ∷ []
 abbrev pub IsMeta : List Row → Type 0
 IsMeta rows = (rows ≡ []) ⊎ ((version : ℤ) × (rows ≡ meta_row version ∷ []))
 
+-- if the database has the store's tables and one version at most, it has this version
+abbrev pub IsAtVersion : Database → ℤ → Type 0
+IsAtVersion db version = db.schema ≡ store_schema → IsMeta (db.trees 0) → db.trees 0 ≡ meta_row version ∷ []
+
 -- this is the version now, and nothing else is changed
 pub record WritesVersion (version : ℤ) (old new : Database) : Type 0 where
   pub sound : IsDatabase old → IsDatabase new

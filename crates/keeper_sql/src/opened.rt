@@ -5,7 +5,7 @@ ghost use Rattle.keeper_core.specs.Keeping.{IfAlien};
 ghost use Rattle.sqlite.specs.Effect.{Database};
 ghost use Rattle.sqlite.specs.Held.{state};
 ghost use Rattle.sqlite.specs.State.{HasCleanDisk, Survives, IsLive};
-ghost use Rattle.keeper_sql.specs.Store.{Undone, OpensTo, OpensAt, IsAfterOpen};
+ghost use Rattle.keeper_sql.specs.Store.{Undone, OpensTo, OpensAt, IsAfterOpen, IsAtVersion};
 ghost use Rattle.keeper_sql.specs.Opening.{IsOpened, IsRead, AreRead, IsRefusedAt, IsStored, IsHeld, UnlessHeld, UnlessFailed};
 ghost use Rattle.keeper_sql.specs.Calls.{CommitsNothing, InOurs, IsRolledBack, LeavesItsTrees, LeavesOldOr, OverOurs, ShowsTheSame, WasOpen};
 
@@ -31,6 +31,7 @@ fn prepare<S: Alter>(tx: &mut Transaction<'_, S>) -> Result<i64, Error>
     ensures never { IfOk result (λ version. version ≢ pos 1) }
     ensures ok { InOurs S.Store tx.old.conn.now tx.new.conn.now (IfOk result (λ version.
         OpensAt version (state S.Store tx.old.conn.now) (state S.Store tx.new.conn.now))) }
+    ensures at { HasCleanDisk (state S.Store tx.new.conn.now) → IfOk result (IsAtVersion (state S.Store tx.new.conn.now).now) }
     ensures err { InOurs S.Store tx.old.conn.now tx.new.conn.now (OnErr result (Undone (state S.Store tx.old.conn.now) (state S.Store tx.new.conn.now))) }
     ensures survives { CommitsNothing S.Store tx.old.conn.now tx.new.conn.now }
 {
@@ -45,7 +46,7 @@ pub fn open_within<S: Alter>(alloc: Global, tx: &mut Transaction<'_, S>) -> Resu
     ensures same_reference { tx.new.conn.ghost_name ≡ tx.old.conn.ghost_name }
     ensures never { IfOk result IsRefusedAt }
     ensures ok { InOurs S.Store tx.old.conn.now tx.new.conn.now (IfOk result (IsOpened (state S.Store tx.old.conn.now) (state S.Store tx.new.conn.now))) }
-    ensures read { HasCleanDisk (state S.Store tx.new.conn.now) → IfOk result (IsRead (state S.Store tx.new.conn.now)) }
+    ensures read { HasCleanDisk (state S.Store tx.new.conn.now) → IfOk result (IsRead (state S.Store tx.new.conn.now).now) }
     ensures err { InOurs S.Store tx.old.conn.now tx.new.conn.now (OnErr result (Undone (state S.Store tx.old.conn.now) (state S.Store tx.new.conn.now))) }
     ensures survives { CommitsNothing S.Store tx.old.conn.now tx.new.conn.now }
 {
@@ -65,7 +66,7 @@ pub fn open_store<S: Alter>(alloc: Global, conn: &mut Connection<S>) -> Result<O
     ensures ended { (state S.Store conn.new).in_transaction ≡ false }
     ensures never { IfOk result IsRefusedAt }
     ensures ok { OverOurs S.Store conn.old conn.new (IfOk result (IsStored (state S.Store conn.old) (state S.Store conn.new))) }
-    ensures read { HasCleanDisk (state S.Store conn.new) → IfOk result (IsRead (state S.Store conn.new)) }
+    ensures read { HasCleanDisk (state S.Store conn.new) → IfOk result (IsRead (state S.Store conn.new).now) }
     ensures was_open { OverOurs S.Store conn.old conn.new (UnlessHeld result (WasOpen (state S.Store conn.old) (state S.Store conn.new))) }
     ensures undone { OverOurs S.Store conn.old conn.new (UnlessHeld result (IsRolledBack (state S.Store conn.old) (state S.Store conn.new))) }
     ensures survives { Survives (state S.Store conn.old) (state S.Store conn.new) (IsAfterOpen (state S.Store conn.old)) }
@@ -89,7 +90,7 @@ pub fn open_kept<S: Alter>(alloc: Global, conn: &mut Connection<S>) -> Result<Ta
     ensures honest { HasCleanDisk (state S.Store conn.new) → HasCleanDisk (state S.Store conn.old) }
     ensures never { IfAlien result (λ v. (v ≢ pos 1) × (v ≢ pos 2)) }
     ensures ok { OverOurs S.Store conn.old conn.new (IfOk result (IsHeld (state S.Store conn.old) (state S.Store conn.new))) }
-    ensures read { HasCleanDisk (state S.Store conn.new) → IfOk result (AreRead (state S.Store conn.new)) }
+    ensures read { HasCleanDisk (state S.Store conn.new) → IfOk result (AreRead (state S.Store conn.new).now) }
     ensures live { OnOk result (IsLive (state S.Store conn.new)) }
     ensures given_alone { OverOurs S.Store conn.old conn.new (OnOk result (LeavesItsTrees (state S.Store conn.new))) }
     ensures alone { HasCleanDisk (state S.Store conn.new) → UnlessFailed result (LeavesItsTrees (state S.Store conn.new)) }

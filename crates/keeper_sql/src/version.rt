@@ -1,9 +1,10 @@
 //! Reads and raises the version of a store.
 
-ghost use Rattle.std.specs.Prelude.{◌≡◌, ◌≢◌, pos, IfOk, OnErr};
+ghost use Rattle.std.specs.Prelude.{◌≡◌, ◌≢◌, pos, IfOk, OnOk, OnErr};
 ghost use Rattle.sqlite.specs.Held.{state};
+ghost use Rattle.sqlite.specs.State.{HasCleanDisk};
 ghost use Rattle.keeper_sql.specs.RowsAsValues.{version_in, version_shown};
-ghost use Rattle.keeper_sql.specs.Store.{Undone, Raises, Settles, AreKeyed, IsMeta};
+ghost use Rattle.keeper_sql.specs.Store.{Undone, Raises, Settles, AreKeyed, IsMeta, IsAtVersion};
 ghost use Rattle.keeper_sql.specs.Calls.{CommitsNothing, Does, DoesOrUndoes, Gives, InStore, Reads, ReadsOnly, ReadsOrUndoes};
 
 use crate::reading::integer;
@@ -37,6 +38,7 @@ pub fn read_version<S: Alter>(tx: &mut Transaction<'_, S>) -> Result<Option<i64>
 pub fn write_version<S: Alter>(tx: &mut Transaction<'_, S>) -> Result<(), Error>
     ensures same_reference { tx.new.conn.ghost_name ≡ tx.old.conn.ghost_name }
     ensures ok { Does S.Store tx.old.conn.now tx.new.conn.now result Raises }
+    ensures at { HasCleanDisk (state S.Store tx.new.conn.now) → OnOk result (IsAtVersion (state S.Store tx.new.conn.now).now (pos 2)) }
     ensures err { DoesOrUndoes S.Store tx.old.conn.now tx.new.conn.now result }
     ensures survives { CommitsNothing S.Store tx.old.conn.now tx.new.conn.now }
 {
@@ -54,6 +56,7 @@ fn raise_version<S: Alter>(tx: &mut Transaction<'_, S>) -> Result<i64, Error>
     ensures same_reference { tx.new.conn.ghost_name ≡ tx.old.conn.ghost_name }
     ensures ok { Gives S.Store tx.old.conn.now tx.new.conn.now result (λ version old new. (version ≡ pos 2) × Raises old new) }
     ensures two { IfOk result (λ version. version ≡ pos 2) }
+    ensures at { HasCleanDisk (state S.Store tx.new.conn.now) → IfOk result (IsAtVersion (state S.Store tx.new.conn.now).now) }
     ensures err { DoesOrUndoes S.Store tx.old.conn.now tx.new.conn.now result }
     ensures survives { CommitsNothing S.Store tx.old.conn.now tx.new.conn.now }
 {
@@ -69,6 +72,7 @@ pub fn settle_version<S: Alter>(tx: &mut Transaction<'_, S>) -> Result<i64, Erro
     ensures never { IfOk result (λ version. version ≢ pos 1) }
     ensures ok { InStore S.Store tx.old.conn.now tx.new.conn.now (IsMeta ((state S.Store tx.old.conn.now).now.trees 0)
         → IfOk result (λ version. Settles version (state S.Store tx.old.conn.now) (state S.Store tx.new.conn.now))) }
+    ensures at { HasCleanDisk (state S.Store tx.new.conn.now) → IfOk result (IsAtVersion (state S.Store tx.new.conn.now).now) }
     ensures err { InStore S.Store tx.old.conn.now tx.new.conn.now (OnErr result (Undone (state S.Store tx.old.conn.now) (state S.Store tx.new.conn.now))) }
     ensures survives { CommitsNothing S.Store tx.old.conn.now tx.new.conn.now }
 {

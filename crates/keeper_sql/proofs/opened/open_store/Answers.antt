@@ -74,10 +74,9 @@ pub returns-in-Ok-clause-read : goal.returns-in-Ok-clause-read
 returns-in-Ok-clause-read g c =
     let mid = c.open_within.new.tx.conn.now in
     let end = c.commit.new.self.0 in
-    let whole : HasCleanDisk (state g.S.Store end) → AreRead (state g.S.Store end) c.in-Ok-Held.tables =
-    λ clean has keyed.
-    let now = (c.in-Ok.ensures.ok clean).1.now_is in
-    let read = subst (IsRead (state g.S.Store mid)) c.in-Ok-Held.field-0-is (c.in-Ok-Held.ensures.read (omega (arith, c.commit.ensures.survives.clean))) in
-    read (ap (λ (d : Database). d.schema) (sym now) ∙ has) (subst AreAllKeyed now keyed) ∙ ap (λ (d : Database). tables_in d.trees) (sym now) in
+    let whole : HasCleanDisk (state g.S.Store end) → AreRead (state g.S.Store end).now c.in-Ok-Held.tables =
+    λ clean.
+    let read = subst (IsRead (state g.S.Store mid).now) c.in-Ok-Held.field-0-is (c.in-Ok-Held.ensures.read (omega (arith, c.commit.ensures.survives.clean))) in
+    subst (λ (d : Database). AreRead d c.in-Ok-Held.tables) (sym (c.in-Ok.ensures.ok clean).1.now_is) read in
     let same : end ≡ c.conn-in-Ok-Held-1.given.0 = search rules in
-    subst (λ h. HasCleanDisk (state g.S.Store h) → AreRead (state g.S.Store h) c.in-Ok-Held.tables) same whole
+    subst (λ h. HasCleanDisk (state g.S.Store h) → AreRead (state g.S.Store h).now c.in-Ok-Held.tables) same whole

@@ -3,7 +3,8 @@ use Rattle.sqlite.specs.Held.{state}
 use Rattle.sqlite.specs.Effect.{Database}
 use Rattle.sqlite.specs.State.{HasCleanDisk, IsUnchanged}
 use Rattle.keeper_sql.specs.RowsAsValues.{tables_in}
-use Rattle.keeper_sql.specs.Store.{OpensAt, AreAllKeyed}
+use Rattle.keeper_sql.specs.Store.{OpensAt, AreAllKeyed, IsAtVersion}
+use Rattle.keeper_sql.specs.Opening.{AreRead}
 use Rattle.keeper_sql.proofs.OpeningLemmas.{opens_still}
 use Rattle.keeper_sql.proofs.opened.open_within.Goals as goal
 
@@ -23,9 +24,11 @@ pub returns-in-Ok-clause-ok : goal.returns-in-Ok-clause-ok
 returns-in-Ok-clause-ok g c clean inside ours = let by = c.in-Ok.ensures.ok clean inside ours in search (rules, by)
 
 pub returns-in-Ok-read_tables-clause-read : goal.returns-in-Ok-read_tables-clause-read
-returns-in-Ok-read_tables-clause-read g c clean has keyed =
+returns-in-Ok-read_tables-clause-read g c clean =
     let mid = state g.S.Store c.prepare.new.tx.conn.now in
     let new = state g.S.Store c.read_tables.new.tx.conn.now in
     let same : IsUnchanged mid new = c.in-Ok-read_tables.ensures.same clean in
-    let now = same.0.now_is in
-    c.in-Ok-read_tables.ensures.read clean (ap (λ (d : Database). d.schema) (sym now) ∙ has) (subst AreAllKeyed now keyed) ∙ ap (λ (d : Database). tables_in d.trees) (sym now)
+    let early : HasCleanDisk mid = omega (arith, c.read_tables.ensures.survives.clean) in
+    let is_two : c.in-Ok-eq2.field-0 ≡ pos 2 = search rules in
+    subst (λ (d : Database). AreRead d c.in-Ok-read_tables.tables) (sym same.0.now_is)
+    (record { rows = c.in-Ok-read_tables.ensures.read clean; version = subst (IsAtVersion mid.now) is_two (c.in-Ok-eq2.ensures.at early) })

@@ -4,7 +4,7 @@ use Rattle.sqlite.specs.Held.{state}
 use Rattle.sqlite.specs.State.{HasCleanDisk, IsUnchanged}
 use Rattle.keeper_sql.specs.RowsAsValues.{version_in}
 use Rattle.keeper_sql.specs.Store.{Settles}
-use Rattle.keeper_sql.proofs.Settling.{meta_keyed, settle_same, settle_raised}
+use Rattle.keeper_sql.proofs.Settling.{meta_keyed, settle_same, settle_raised, read_at}
 use Rattle.keeper_sql.proofs.version.settle_version.Goals as goal
 
 pub returns-in-Ok-None-clause-ok : goal.returns-in-Ok-None-clause-ok
@@ -36,4 +36,11 @@ returns-in-Ok-Some-clause-ok g c clean inside has meta =
     let same : IsUnchanged old new = c.in-Ok-Some.ensures.same clean in
     let read : Some c.in-Ok-Some.version ≡ version_in (old.now.trees 0) = sym c.in-Ok-Some.field-0-is ∙ c.in-Ok-Some.ensures.read clean has (meta_keyed _ meta) in
     let by = settle_same c.in-Ok-Some.version old new inside has meta same read in
+    search (rules, by)
+
+pub returns-in-Ok-Some-clause-at : goal.returns-in-Ok-Some-clause-at
+returns-in-Ok-Some-clause-at g c clean =
+    let old = state g.S.Store c.args.tx.now.conn.now in
+    let new = state g.S.Store c.read_version.new.tx.conn.now in
+    let by = read_at c.in-Ok-Some.version old new (c.in-Ok-Some.ensures.same clean) (λ has keyed. sym c.in-Ok-Some.field-0-is ∙ c.in-Ok-Some.ensures.read clean has keyed) in
     search (rules, by)

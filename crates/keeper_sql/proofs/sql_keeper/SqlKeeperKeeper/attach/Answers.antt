@@ -1,7 +1,7 @@
 use Rattle.std.proofs.Common.{false, subst}
 use Rattle.sqlite.specs.Held.{state}
 use Rattle.keeper_sql.specs.Store.{TellsAs}
-use Rattle.keeper_sql.proofs.AttachLemmas.{told_ours, held_told, left_still, read_told}
+use Rattle.keeper_sql.proofs.AttachLemmas.{told_ours, held_told, left_still, read_told, read_version}
 use Rattle.keeper_sql.proofs.sql_keeper.SqlKeeperKeeper.attach.Goals as goal
 
 pub returns-in-Ok-clause-kept : goal.returns-in-Ok-clause-kept
@@ -22,3 +22,6 @@ returns-in-Ok-clause-crash g c clean s told x left =
 
 pub returns-in-Ok-clause-answered : goal.returns-in-Ok-clause-answered
 returns-in-Ok-clause-answered g c clean t told = read_told (state g.S.Store c.open_kept-opened.new.conn) c.in-Ok.tables t (c.in-Ok.ensures.read clean) told
+
+pub returns-in-Ok-clause-version : goal.returns-in-Ok-clause-version
+returns-in-Ok-clause-version g c clean t told = read_version (state g.S.Store c.open_kept-opened.new.conn) c.in-Ok.tables t (c.in-Ok.ensures.read clean) told

@@ -3,21 +3,21 @@ use Rattle.keeper_sql.proofs.KeepLemmas.{as_told, holds_as, told_after, left_aft
 use Rattle.keeper_sql.proofs.sql_keeper.SqlKeeperKeeper.commit.Goals as goal
 
 pub returns-in-Ok-clause-ok : goal.returns-in-Ok-clause-ok
-returns-in-Ok-clause-ok g c clean s told formed fit =
+returns-in-Ok-clause-ok g c clean s told extends =
     let old = state g.S.Store c.args.self.now.connection in
     let new = state g.S.Store c.keep-kept.new.conn in
-    holds_as _ new _ c.requires.ready (told_after c.args.change.now old new s clean (as_told _ old s c.requires.ready told) formed fit (c.in-Ok.ensures.ok clean) c.in-Ok.ensures.read (c.in-Ok.ensures.alone clean))
+    holds_as _ new _ c.requires.ready (told_after c.args.change.now old new s clean (as_told _ old s c.requires.ready told) extends.formed extends.fits (c.in-Ok.ensures.ok clean) c.in-Ok.ensures.read (c.in-Ok.ensures.alone clean))
 
 pub returns-in-Ok-clause-crash : goal.returns-in-Ok-clause-crash
-returns-in-Ok-clause-crash g c clean s told formed fit x left =
+returns-in-Ok-clause-crash g c clean s told extends x left =
     let old = state g.S.Store c.args.self.now.connection in
     let new = state g.S.Store c.keep-kept.new.conn in
     let held = as_told _ old s c.requires.ready told in
-    left_after c.args.change.now old new s held formed fit (c.keep-kept.ensures.crash clean held.is_open) x left
+    left_after c.args.change.now old new s held extends.formed extends.fits (c.keep-kept.ensures.crash clean held.is_open) x left
 
 pub returns-in-Err-Failed-clause-crash : goal.returns-in-Err-Failed-clause-crash
-returns-in-Err-Failed-clause-crash g c clean s told formed fit x left =
+returns-in-Err-Failed-clause-crash g c clean s told extends x left =
     let old = state g.S.Store c.args.self.now.connection in
     let new = state g.S.Store c.keep-kept.new.conn in
     let held = as_told _ old s c.requires.ready told in
-    left_after c.args.change.now old new s held formed fit (c.keep-kept.ensures.crash clean held.is_open) x left
+    left_after c.args.change.now old new s held extends.formed extends.fits (c.keep-kept.ensures.crash clean held.is_open) x left
