@@ -1,16 +1,18 @@
 //! The files of a store, from their open to their close.
-ghost use Rattle.std.specs.Prelude.{◌≡◌, ◌<◌, ◌⊎◌, ◌↔◌, true, false, None, Some, Ok, IsTrue, IfOk, IfErr, IfSome};
+ghost use Rattle.std.specs.Prelude.{◌≡◌, ◌<◌, ◌⊎◌, ◌↔◌, true, None};
 ghost use Rattle.std.specs.List.{All};
 ghost use Rattle.std.specs.Str.{IsUtf8};
-ghost use Rattle.keeper_file.specs.Cases.{Tells, IsHonest, MayLeave, is_stopped, has_files};
+ghost use Rattle.keeper_file.specs.Cases.{Tells, HasVersion, IsHonest, MayLeave, is_stopped};
+ghost use Rattle.keeper_file.specs.declared.opener.PathOpener.{PathOpener};
 ghost use Rattle.keeper_file.specs.Images.{ImageTells, ImageHasVersion};
 ghost use Rattle.sqlite.specs.Files.{over_files};
 ghost use Rattle.sqlite_wal.specs.Files.{image_at};
 ghost use Rattle.tap_rows.specs.declared.tables.Tables.{Tables};
+ghost use Rattle.file_session.specs.Closes.{SessionEnd};
 
 use crate::session::Session;
 use keeper_file::{FileKeeper, PathOpener};
-use sqlite::{FileFrom, FileStore, Start};
+use sqlite::{FileFrom, FileStore, Files, Start};
 use std::sync::ledger::{Blank, Ledger};
 use tap_base::{HashKey, Steps, Texts};
 use tap_edges::{Sink, Source};
@@ -35,8 +37,8 @@ pub fn run_on_files<'a, C: Session, I: Source, K: Sink, S: Start, L: Ledger>(
     // If the disk was honest: how the call ended over the tables that the files held at first.
     ensures ends_over { (t : Tables) → IsHonest (image_at S.Start) over_files result.1.inner → ImageTells (image_at S.Start) t →
         C.ends_over words.now result.0 (I.left source.old) (I.left source.new) (K.out sink.old) (K.out sink.new)
-        t (ImageHasVersion (image_at S.Start)) (Tells (image_at S.Start) over_files result.1.inner)
-        (MayLeave (image_at S.Start) over_files result.1.inner) }
+        t (ImageHasVersion (image_at S.Start)) (HasVersion (image_at S.Start) over_files result.1.inner)
+        (Tells (image_at S.Start) over_files result.1.inner) (MayLeave (image_at S.Start) over_files result.1.inner) }
     ensures stopped { (is_stopped result.1.inner ≡ true) ↔ (result.0 ≡ 5) }
 {
     let mut steps = Steps::<L>::start(blank);
@@ -47,8 +49,43 @@ pub fn run_on_files<'a, C: Session, I: Source, K: Sink, S: Start, L: Ledger>(
     (status, keeper)
 }
 
-/// Makes the call over the files that the words name, and closes them in order unless the keeper failed or the store was
-/// refused. Returns the status.
+/// Makes the call over the files that the words name, and closes them unless the keeper failed or the store was refused. Returns
+/// the status, and what the close gave: both files, none if no file was open, or what is left of the store if it failed.
+pub fn run_to_close<C: Session, I: Source, K: Sink, S: Start, L: Ledger>(
+    rt: &HostRuntime,
+    words: &Texts,
+    source: &mut I,
+    sink: &mut K,
+    start: S,
+    blank: Blank,
+) -> (
+    u8,
+    Option<Result<Option<Files<FileFrom<S>>>, FileStore<FileFrom<S>>>>,
+)
+    requires name { blank.name ≡ L.name }
+    requires parts { blank.parts ≡ L.parts }
+    requires some { 0 < blank.parts }
+    requires texts { All IsUtf8 words.now }
+    ensures ends { C.ends words.now result.0 (I.left source.old) (I.left source.new) (K.out sink.old) (K.out sink.new)
+        (I.faults source.old) (I.faults source.new) (K.faults sink.old) (K.faults sink.new) }
+    ensures closes { result.1 ≡ None → (result.0 ≡ 5) ⊎ (result.0 ≡ 6) }
+
+    // How the call ended over the tables that the files held at first, and what the close left of those that it told.
+    ensures end { SessionEnd (PathOpener S) (image_at S.Start) (λ t versions tells leaves.
+        C.ends_over words.now result.0 (I.left source.old) (I.left source.new) (K.out sink.old) (K.out sink.new)
+        t (ImageHasVersion (image_at S.Start)) versions tells leaves) result.0 result.1 }
+{
+    let (status, keeper) = run_on_files::<C, _, _, _, L>(rt, words, source, sink, start, blank);
+    if status == 5 || status == 6 {
+        drop(keeper);
+        (status, None)
+    } else {
+        (status, Some(keeper.close()))
+    }
+}
+
+/// Makes the call over the files that the words name, and closes them unless the keeper failed or the store was refused. Returns
+/// the status.
 pub fn run_session<C: Session, I: Source, K: Sink, S: Start, L: Ledger>(
     rt: &HostRuntime,
     words: &Texts,
@@ -64,12 +101,8 @@ pub fn run_session<C: Session, I: Source, K: Sink, S: Start, L: Ledger>(
     ensures { C.ends words.now result (I.left source.old) (I.left source.new) (K.out sink.old) (K.out sink.new)
         (I.faults source.old) (I.faults source.new) (K.faults sink.old) (K.faults sink.new) }
 {
-    let (status, keeper) = run_on_files::<C, _, _, _, L>(rt, words, source, sink, start, blank);
-    if status == 5 || status == 6 {
-        drop(keeper);
-    } else {
-        // A close that fails loses no committed row, and changes no status.
-        drop(keeper.close());
-    }
+    let (status, closed) = run_to_close::<C, _, _, _, L>(rt, words, source, sink, start, blank);
+    // A close that fails loses no committed row, and changes no status.
+    drop(closed);
     status
 }

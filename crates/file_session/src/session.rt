@@ -17,10 +17,10 @@ pub trait Session {
     // after, and those that were written to the sink; and by the counts of faults of both.
     ghost ends: { List (List ℕ) → ℕ → Option (List ℕ) → Option (List ℕ) → Option (List ℕ) → Option (List ℕ) → ℕ → ℕ → ℕ → ℕ → Type 0 };
 
-    // How it ended over a store with these tables and this version: by the words, the status and the bytes, and by what the
-    // store tells after and what a crash leaves then.
+    // How it ended over a store with these tables and this version: by the words, the status and the bytes, and by the version
+    // and the tables that the store tells after and what a crash leaves then.
     ghost ends_over: { List (List ℕ) → ℕ → Option (List ℕ) → Option (List ℕ) → Option (List ℕ) → Option (List ℕ)
-        → TableRows → (ℤ → Type 0) → (TableRows → Type 0) → (TableRows → Type 0) → Type 0 };
+        → TableRows → (ℤ → Type 0) → (ℤ → Type 0) → (TableRows → Type 0) → (TableRows → Type 0) → Type 0 };
 
     /// Makes the call over a keeper that isn't attached, with texts hashed under this key; returns the status, which is 5 if and only if the keeper failed.
     fn hold<I: Source, K: Sink, P: Keeper, L: Ledger>(
@@ -39,6 +39,6 @@ pub trait Session {
             (I.faults source.old) (I.faults source.new) (K.faults sink.old) (K.faults sink.new) }
         ensures ends_over { (t : TableRows) → P.honest keeper.new → IsDurable (P.tells keeper.old) (P.may_leave keeper.old) t →
             ends_over words.now result (I.left source.old) (I.left source.new) (K.out sink.old) (K.out sink.new)
-            t (P.has_version keeper.old) (P.tells keeper.new) (P.may_leave keeper.new) }
+            t (P.has_version keeper.old) (P.has_version keeper.new) (P.tells keeper.new) (P.may_leave keeper.new) }
         ensures stopped { (P.stopped keeper.new ≡ true) ↔ (result ≡ 5) };
 }

@@ -10,5 +10,5 @@ returns-clause-ends_over g c t honest told =
     let now = c.hold-status.new.keeper.inner in
     subst (λ inner. g.C.Session.ends_over c.args.words.now c.hold-status.result (g.I.Source.left c.args.source.now) (g.I.Source.left c.hold-status.new.source)
     (g.K.Sink.out c.args.sink.now) (g.K.Sink.out c.hold-status.new.sink) t (HasVersion first over_files inner)
-    (Tells first over_files now) (MayLeave first over_files now))
+    (HasVersion first over_files now) (Tells first over_files now) (MayLeave first over_files now))
     c.new-keeper.ensures.unopened (c.hold-status.ensures.ends_over t honest (c.new-keeper.ensures.told t told))
