@@ -16,6 +16,7 @@ use Rattle.tql_text.specs.Texts.{condition_of}
 use Rattle.tap_model.proofs.AnswerLaws.{some-none, find-in, truth-of-second}
 use Rattle.tap_kept.proofs.PlanLaws.{covered-each}
 use Rattle.tap_engine.proofs.ReadyLaws.{some-moment}
+use Rattle.tap_model.proofs.SoundLaws.{sound-asked}
 use Rattle.tap_model.proofs.WindowLaws.{run-of-sound}
 use Rattle.tap_rows.specs.Kept.{In, Each}
 use Rattle.script_lang.specs.declared.refusal.Refusal.{Refusal}
@@ -36,7 +37,7 @@ use Rattle.tap_model.specs.Limits.{limit_refusal}
 use Rattle.tap_model.specs.Verdicts.{first_refusal, verdict, missing, refuse_unless, no_moment, no_user, bad_name, text_fault, taken, hits_found}
 use Rattle.tap_kept.specs.Keeping.{cached_query, named_in, owned_in, hits_since}
 use Rattle.tap_engine.specs.Standing.{Represents, name_refusal, query_limits, early_define, define_refusal, query_refusal, look_refusal, run_refusal, cached_named, cached_hits, cached_entries, RefusedAfter, RefusedBy}
-use Rattle.tap_model.specs.Sound.{IsSound, IsNow}
+use Rattle.tap_model.specs.Sound.{IsSound, IsSoundFor, IsNow}
 use Rattle.tap_model.specs.Stories.{Refuses}
 use Rattle.tap_engine.specs.Answering.{Answers}
 use Rattle.tap_engine.proofs.AnswerTurns.{answers-accepted, refused-after}
@@ -205,8 +206,8 @@ run-left e name kept m hits is-m look runs named is-hits =
     ∙ ap (λ z. picks (hits_since kept e.index z)) (ap or_zero is-m)
     ∙ sym (ap picks is-hits)
 
-pub run-refuses : (e : Engine) (name : List ℕ) (refusal : Refusal) → RefusedBy (run_refusal e name) refusal → (t : Tables) → Represents e t → IsSound t e.session → Refuses refusal (Run name) e.session t
-run-refuses e name refusal by t represents sound = refused-after _ _ refusal (subst (λ v. RefusedBy v refusal) (run-verdict e t name represents sound) by)
+pub run-refuses : (e : Engine) (name : List ℕ) (refusal : Refusal) → RefusedBy (run_refusal e name) refusal → (t : Tables) → Represents e t → IsSoundFor (Run name) t e.session → Refuses refusal (Run name) e.session t
+run-refuses e name refusal by t represents sound = refused-after _ _ refusal (subst (λ v. RefusedBy v refusal) (run-verdict e t name represents (sound-asked (Run name) t e.session refl sound)) by)
 
 -- a query isn't defined without a moment
 pub define-moment : (e : Engine) (name source : List ℕ) → define_refusal e name source ≡ None → e.session.moment ≡ None → ⊥
@@ -242,7 +243,7 @@ text-refused e name source refusal moment user named by =
     ]
 
 -- a box that isn't refused is of a query that there is
-pub answers-box : (e : Engine) (t : Tables) (name : List ℕ) (entries : List Entry) → Represents e t → IsSound t e.session → look_refusal e name ≡ None → Some entries ≡ cached_entries (cached_named e name) → Answers t e.session (BoxOf name) (Boxed name entries) None e.session
+pub answers-box : (e : Engine) (t : Tables) (name : List ℕ) (entries : List Entry) → Represents e t → IsSoundFor (BoxOf name) t e.session → look_refusal e name ≡ None → Some entries ≡ cached_entries (cached_named e name) → Answers t e.session (BoxOf name) (Boxed name entries) None e.session
 answers-box e t name entries represents sound none is = go (query_named (user_of e.session) name t) refl where
   accepted : Answers t e.session (BoxOf name) (show_box (query_named (user_of e.session) name t) name e.session t).reply (show_box (query_named (user_of e.session) name t) name e.session t).change (show_box (query_named (user_of e.session) name t) name e.session t).session
   accepted = answers-accepted t e.session (BoxOf name) (sym (box-verdict e t name represents) ∙ none)
@@ -254,7 +255,7 @@ answers-box e t name entries represents sound none is = go (query_named (user_of
   go None none' = absurd (some-entries entries (kept ∙ ap (λ o. cached_entries (option_map (cached_query t) o)) none'))
   go (Some q) some =
       let same : entries ≡ delivered q.num.0 t = some-same entries (delivered q.num.0 t) (kept ∙ ap (λ o. cached_entries (option_map (cached_query t) o)) some) in
-      let box = box-is truth_of start_of truth-of-second t q t.queries (find-in (is_query_of (user_of e.session) name) t.queries q some) sound.kept.each in
+      let box = box-is truth_of start_of truth-of-second t q t.queries (find-in (is_query_of (user_of e.session) name) t.queries q some) (sound.kept refl).each in
       record {
         fine = accepted.fine;
         reply_is = ap (Boxed name) (same ∙ box.box) ∙ sym (ap (λ o. (show_box o name e.session t).reply) some) ∙ accepted.reply_is;

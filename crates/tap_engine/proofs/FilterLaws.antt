@@ -41,7 +41,7 @@ use Rattle.tap_model.specs.Queries.{query_named, truth_of, start_of, box_in, lin
 use Rattle.tap_rows.specs.WellFormed.{is_query_of}
 use Rattle.tap_model.specs.Verdicts.{first_refusal, checks, verdict, missing, no_moment, no_user, long_filter, filter_fault, text_of}
 use Rattle.tap_model.specs.Replies.{next_filter, show_list, show_lines}
-use Rattle.tap_model.specs.Sound.{IsSound}
+use Rattle.tap_model.specs.Sound.{IsSoundFor}
 use Rattle.tap_model.specs.Stories.{Refuses}
 use Rattle.tap_model.proofs.AnswerLaws.{some-none, find-in, truth-of-second}
 use Rattle.tap_engine.specs.declared.engine.Engine.{Engine}
@@ -185,7 +185,7 @@ some-same : (xs ys : List Listed) → Some xs ≡ Some ys → xs ≡ ys
 some-same xs ys e = cc
 
 -- a list that isn't refused is of a query that there is
-pub answers-list : (e : Engine) (t : Tables) (name : List ℕ) (rows : List Listed) → Represents e t → IsSound t e.session → look_refusal e name ≡ None → Some rows ≡ cached_rows e (cached_named e name) → Answers t e.session (ListOf name) (Listing name rows) None e.session
+pub answers-list : (e : Engine) (t : Tables) (name : List ℕ) (rows : List Listed) → Represents e t → IsSoundFor (ListOf name) t e.session → look_refusal e name ≡ None → Some rows ≡ cached_rows e (cached_named e name) → Answers t e.session (ListOf name) (Listing name rows) None e.session
 answers-list e t name rows represents sound none is = go (query_named (user_of e.session) name t) refl where
   accepted : Answers t e.session (ListOf name) (show_list (query_named (user_of e.session) name t) name e.session t).reply (show_list (query_named (user_of e.session) name t) name e.session t).change (show_list (query_named (user_of e.session) name t) name e.session t).session
   accepted = answers-accepted t e.session (ListOf name) (sym (box-verdict e t name represents) ∙ none)
@@ -201,7 +201,7 @@ answers-list e t name rows represents sound none is = go (query_named (user_of e
   go (Some q) some =
       let by-kept : Some rows ≡ Some (listing_of (filter_rules (last_filter (user_of e.session) e.filters)) e.index.docs (delivered q.num.0 t)) = kept ∙ ap (λ o. cached_rows e (option_map (cached_query t) o)) some in
       let same : rows ≡ listing_of (filter_rules (last_filter (user_of e.session) e.filters)) e.index.docs (delivered q.num.0 t) = some-same rows _ by-kept in
-      let box = box-is truth_of start_of truth-of-second t q t.queries (find-in (is_query_of (user_of e.session) name) t.queries q some) sound.kept.each in
+      let box = box-is truth_of start_of truth-of-second t q t.queries (find-in (is_query_of (user_of e.session) name) t.queries q some) (sound.kept refl).each in
       let whole : rows ≡ listing_of rules t.docs (box_in q t) =
       same ∙ ap (λ fs. listing_of (filter_rules (last_filter (user_of e.session) fs)) e.index.docs (delivered q.num.0 t)) represents.filters
       ∙ ap (λ docs. listing_of rules docs (delivered q.num.0 t)) (docs-are represents) ∙ ap (listing_of rules t.docs) box.box in

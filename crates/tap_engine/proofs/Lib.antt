@@ -8,6 +8,7 @@ mod StandingLaws
 mod AskLaws
 mod DueLaws
 mod MemoryTurns
+mod SomeRows
 mod PerformLaws
 mod CostLaws
 mod NoteLaws

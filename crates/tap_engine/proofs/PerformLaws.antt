@@ -7,7 +7,7 @@ use Rattle.tap_base.specs.Numbers.{moment_of}
 use Rattle.tap_rows.specs.declared.tables.Tables.{Tables}
 use Rattle.tap_rows.specs.declared.change.Change.{Change}
 use Rattle.tap_rows.specs.Tables.{after}
-use Rattle.tap_rows.specs.Fits.{fits}
+use Rattle.keeper_core.specs.Keeping.{Extends}
 use Rattle.script_lang.specs.declared.command.Command.{Command}
 use Rattle.script_lang.specs.declared.command.Command.TheVariants.{At, AsUser, Mail, Mbox, AddNote, Define, Run, BoxOf, ListOf, Filter, Explain, Ask, Wake, ScoresOf, DigestOf, Bad}
 use Rattle.script_lang.specs.declared.refusal.Refusal.TheVariants.{Memory}
@@ -17,9 +17,10 @@ use Rattle.tap_model.specs.declared.session.Session.{Session}
 use Rattle.tap_model.specs.Verdicts.{checks, verdict, is_spared}
 use Rattle.tap_model.specs.Replies.{answer_of, answer_by, tables_after, set_moment}
 use Rattle.tap_model.specs.Stories.{Step, next_tables}
-use Rattle.tap_model.specs.Sound.{IsSound}
+use Rattle.tap_model.specs.Sound.{IsSoundFor}
 use Rattle.tap_model.proofs.AnswerLaws.{some-none}
 use Rattle.tap_model.proofs.FitLaws.{accepted_fits}
+use Rattle.tap_engine.proofs.SomeRows.{change-rows}
 use Rattle.tap_model.proofs.NextLaws.{next-is}
 use Rattle.query_eval.specs.Hits.{HitsWithRoom}
 use Rattle.tap_engine.proofs.MemoryTurns.{first-none}
@@ -60,8 +61,9 @@ pub memory-step : (t : Tables) (s : Session) (c : Command) (reply : Reply) (chan
 memory-step t s c reply change s' answers = inr (record { reply_is = refl; tables_are = refl; session_is = refl; not_spared = unspared c s t change answers.fine (sym answers.change_is) })
 
 -- the rows of a command follow those of the tables in order
-pub rows-fit : (t : Tables) (s : Session) (c : Command) (reply : Reply) (change : Change) (s' : Session) → IsSound t s → Answers t s c reply (Some change) s' → fits t change ≡ true
-rows-fit t s c reply change s' sound answers = accepted_fits t s c change sound (sym answers.change_is)
+pub rows-fit : (t : Tables) (s : Session) (c : Command) (reply : Reply) (change : Change) (s' : Session) → IsSoundFor c t s → Answers t s c reply (Some change) s' → Extends change t
+rows-fit t s c reply change s' sound answers =
+    record { formed = sound.formed; fits = accepted_fits t s c change sound (sym answers.change_is); some = change-rows c s t change (sym answers.change_is) }
 
 -- the tables with the rows of a command
 pub rows-next : (t : Tables) (s : Session) (c : Command) (reply : Reply) (change : Change) (s' : Session) → Answers t s c reply (Some change) s' → after t change ≡ next_tables c reply s t

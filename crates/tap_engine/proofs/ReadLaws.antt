@@ -22,14 +22,16 @@ use Rattle.wake_plan.specs.Wakes.{next_wake}
 use Rattle.tap_model.specs.declared.session.Session.{Session}
 use Rattle.tap_model.specs.Sessions.{or_zero, moment_or_zero, user_of}
 use Rattle.tap_model.specs.Queries.{truth_of, start_of, query_named, box_in}
-use Rattle.tap_model.specs.Sound.{IsMoment, IsNow, IsSound}
+use Rattle.tap_model.specs.Sound.{IsMoment, IsNow, IsSound, IsSoundFor}
 use Rattle.tap_model.specs.Wakes.{wake_moment}
 use Rattle.tap_model.specs.Verdicts.{first_refusal, verdict, missing, no_moment, no_user, bad_name, no_run, runs_found}
 use Rattle.tap_model.specs.Replies.{show_wake, show_digest, entries_in_run}
 use Rattle.tap_model.specs.Stories.{Refuses}
 use Rattle.tap_model.proofs.AnswerLaws.{find-in, some-none, truth-of-second}
+use Rattle.tap_model.proofs.FormedRows.{placed}
+use Rattle.tap_model.proofs.SoundLaws.{sound-asked}
 use Rattle.tap_model.proofs.WakeLaws.{wakes-are-windows}
-use Rattle.tap_rows.specs.WellFormed.{is_query_of}
+use Rattle.tap_rows.specs.WellFormed.{is_query_of, is_well_formed}
 use Rattle.tap_kept.specs.Keeping.{cached_query, hits_since}
 use Rattle.tap_kept.specs.Starting.{IsOneOf}
 use Rattle.tap_engine.specs.declared.engine.Engine.{Engine}
@@ -86,8 +88,11 @@ wake-now e t name none sound = go e.session.moment refl sound.now where
   go (Some m) is now = subst IsMoment (sym (ap or_zero is)) now.0
 
 -- the answer is of a query that there is
-pub answers-wake : (e : Engine) (t : Tables) (name : List ℕ) (moment : Option ℤ) → Represents e t → IsSound t e.session → wake_refusal e name ≡ None → Some moment ≡ cached_wake e (cached_named e name) → Answers t e.session (Wake name) (Woken name moment) None e.session
-answers-wake e t name moment represents sound none is = go (query_named (user_of e.session) name t) refl where
+pub answers-wake : (e : Engine) (t : Tables) (name : List ℕ) (moment : Option ℤ) → Represents e t → IsSoundFor (Wake name) t e.session → wake_refusal e name ≡ None → Some moment ≡ cached_wake e (cached_named e name) → Answers t e.session (Wake name) (Woken name moment) None e.session
+answers-wake e t name moment represents sound-for none is = go (query_named (user_of e.session) name t) refl where
+  sound : IsSound t e.session
+  sound = sound-asked (Wake name) t e.session refl sound-for
+
   accepted : Answers t e.session (Wake name) (show_wake (query_named (user_of e.session) name t) name e.session t).reply (show_wake (query_named (user_of e.session) name t) name e.session t).change (show_wake (query_named (user_of e.session) name t) name e.session t).session
   accepted = answers-accepted t e.session (Wake name) (sym (wake-verdict e t name represents) ∙ none)
 
@@ -113,20 +118,20 @@ answers-wake e t name moment represents sound none is = go (query_named (user_of
 pub scores-refuses : (e : Engine) (kind : List ℕ) (refusal : Refusal) → RefusedBy (bad_name kind) refusal → (t : Tables) → Refuses refusal (ScoresOf kind) e.session t
 scores-refuses e kind refusal by t = refused-after _ _ refusal (subst (λ v. RefusedBy v refusal) (sym (one (bad_name kind))) by)
 
--- the documents of sound tables have their places as numbers, and each note is on one of them
-pub numbered-sound : (t : Tables) (s : Session) → IsSound t s → AreNumbered t
-numbered-sound t s sound = record {
-  docs = sound.kept.docs;
-  notes = each-map (λ note. IsOneOf note.doc.0 (length t.docs)) (λ note. (1 ≤ note.doc.0) × (note.doc.0 ≤ length t.docs)) t.notes (λ note one. (one.low, one.high)) (formed t sound.formed).on;
+-- the documents of well formed tables have their places as numbers, and each note is on one of them
+pub numbered-formed : (t : Tables) → is_well_formed t ≡ true → AreNumbered t
+numbered-formed t is = record {
+  docs = (placed t is).docs;
+  notes = each-map (λ note. IsOneOf note.doc.0 (length t.docs)) (λ note. (1 ≤ note.doc.0) × (note.doc.0 ≤ length t.docs)) t.notes (λ note one. (one.low, one.high)) (formed t is).on;
 }
 
-pub answers-scores : (e : Engine) (t : Tables) (kind : List ℕ) (rows : List Score) → Represents e t → IsSound t e.session → bad_name kind ≡ None
+pub answers-scores : (e : Engine) (t : Tables) (kind : List ℕ) (rows : List Score) → Represents e t → is_well_formed t ≡ true → bad_name kind ≡ None
     → ((tables : Tables) → AreNumbered tables → e.votes ≡ tally tables.notes → rows ≡ scores_of kind tables) → Answers t e.session (ScoresOf kind) (Scored kind rows) None e.session
-answers-scores e t kind rows represents sound none is =
+answers-scores e t kind rows represents rows-formed none is =
     let accepted = answers-accepted t e.session (ScoresOf kind) (one (bad_name kind) ∙ none) in
     record {
       fine = accepted.fine;
-      reply_is = ap (Scored kind) (is t (numbered-sound t e.session sound) represents.votes) ∙ accepted.reply_is;
+      reply_is = ap (Scored kind) (is t (numbered-formed t rows-formed) represents.votes) ∙ accepted.reply_is;
       change_is = accepted.change_is;
       session_is = accepted.session_is;
     }
@@ -153,7 +158,7 @@ some-lines x e = cc
 lines-same : (x y : List (List ℕ)) → Some x ≡ Some y → x ≡ y
 lines-same x y e = cc
 
-pub answers-digest : (e : Engine) (t : Tables) (name : List ℕ) (ordinal : ℕ) (lines : List (List ℕ)) → Represents e t → IsSound t e.session → digest_refusal e name ordinal ≡ None → Some lines ≡ cached_digest e name ordinal (cached_named e name)
+pub answers-digest : (e : Engine) (t : Tables) (name : List ℕ) (ordinal : ℕ) (lines : List (List ℕ)) → Represents e t → IsSoundFor (DigestOf name ordinal) t e.session → digest_refusal e name ordinal ≡ None → Some lines ≡ cached_digest e name ordinal (cached_named e name)
     → Answers t e.session (DigestOf name ordinal) (Digest name ordinal lines) None e.session
 answers-digest e t name ordinal lines represents sound none is = go (query_named (user_of e.session) name t) refl where
   accepted : Answers t e.session (DigestOf name ordinal) (show_digest (query_named (user_of e.session) name t) name ordinal e.session t).reply (show_digest (query_named (user_of e.session) name t) name ordinal e.session t).change (show_digest (query_named (user_of e.session) name t) name ordinal e.session t).session
@@ -167,7 +172,7 @@ answers-digest e t name ordinal lines represents sound none is = go (query_named
   go (Some q) some =
       let text : List Doc → List Entry → List (List ℕ) = λ docs entries. digest_lines name ordinal (digested docs (entries_in_run ordinal entries)) in
       let same : lines ≡ text e.index.docs (delivered q.num.0 t) = lines-same lines _ (kept ∙ ap (λ o. cached_digest e name ordinal (option_map (cached_query t) o)) some) in
-      let box = box-is truth_of start_of truth-of-second t q t.queries (find-in (is_query_of (user_of e.session) name) t.queries q some) sound.kept.each in
+      let box = box-is truth_of start_of truth-of-second t q t.queries (find-in (is_query_of (user_of e.session) name) t.queries q some) (sound.kept refl).each in
       let whole : lines ≡ text t.docs (box_in q t) = same ∙ ap (λ docs. text docs (delivered q.num.0 t)) (docs-are represents) ∙ ap (text t.docs) box.box in
       record {
         fine = accepted.fine;

@@ -1,5 +1,5 @@
 -- The engine represents the tables after a change.
-use Rattle.std.proofs.Common.{◌≡◌, ◌∙◌, sym, refl, ap, arith, ℕ, ◌+◌, ◌≤◌, ◌<◌, List, [], ◌∷◌, ◌++◌, length, map, None}
+use Rattle.std.proofs.Common.{◌≡◌, ◌∙◌, sym, refl, ap, arith, ℕ, ◌+◌, ◌≤◌, ◌<◌, List, [], ◌∷◌, ◌++◌, length, map, true, None}
 use Rattle.std.specs.Prelude.{sum_by}
 use Rattle.std.proofs.lemmas.List.{append_assoc, map-append}
 use Rattle.std.proofs.lemmas.List.Sums.{sum_by-append}
@@ -7,28 +7,30 @@ use Rattle.tap_rows.specs.declared.tables.Tables.{Tables}
 use Rattle.tap_rows.specs.declared.rows.QueryRow.{QueryRow}
 use Rattle.tap_rows.specs.declared.change.Change.TheVariants.{OneQuery}
 use Rattle.tap_rows.specs.Tables.{after}
-use Rattle.tap_rows.specs.Kept.{IsKept}
+use Rattle.tap_rows.specs.WellFormed.{is_well_formed}
 use Rattle.tap_rows.proofs.LaterLaws.{each-map}
 use Rattle.tap_rows.proofs.PlaceLaws.{runs-none, no-picks}
 use Rattle.tap_engine.specs.declared.engine.Engine.{Engine}
 use Rattle.tap_base.specs.Words.{holds}
 use Rattle.tap_model.specs.Limits.{different}
-use Rattle.tap_model.specs.Queries.{truth_of, start_of}
+use Rattle.tap_model.proofs.FormedRows.{placed}
 use Rattle.tap_kept.specs.Keeping.{cached_query, never_run, with_owner}
 use Rattle.tap_engine.specs.Standing.{Represents}
 use Rattle.tap_engine.proofs.OwnerLaws.{users-more, owners-more}
 
 -- a query that is new was never run
-new-is : (t : Tables) (row : QueryRow) → IsKept truth_of start_of t → row.num.0 ≡ length t.queries + 1 → cached_query t row ≡ never_run row
-new-is t row kept num =
-    rw (runs-none row.num.0 t.runs (each-map (λ run. run.query.0 ≤ length t.queries) (λ run. run.query.0 < row.num.0) t.runs (λ run le. omega (arith, le, num)) kept.owned), no-picks row.num.0 (length t.queries) t.runs t.picks (omega (arith, num)) kept.owned kept.picks) refl
+new-is : (t : Tables) (row : QueryRow) → is_well_formed t ≡ true → row.num.0 ≡ length t.queries + 1 → cached_query t row ≡ never_run row
+new-is t row formed num =
+    let rows = placed t formed in
+    let owned = each-map (λ run. (1 ≤ run.query.0) × (run.query.0 ≤ length t.queries)) (λ run. run.query.0 ≤ length t.queries) t.runs (λ run within. within.1) rows.owned in
+    rw (runs-none row.num.0 t.runs (each-map (λ run. run.query.0 ≤ length t.queries) (λ run. run.query.0 < row.num.0) t.runs (λ run le. omega (arith, le, num)) owned), no-picks row.num.0 (length t.queries) t.runs t.picks (omega (arith, num)) owned rows.picks) refl
 
 -- the engine with one more query
-pub represents-query : (e : Engine) (t : Tables) (row : QueryRow) → Represents e t → IsKept truth_of start_of t → row.num.0 ≡ length t.queries + 1 → (e.session.moment ≡ None → ⊥)
+pub represents-query : (e : Engine) (t : Tables) (row : QueryRow) → Represents e t → is_well_formed t ≡ true → row.num.0 ≡ length t.queries + 1 → (e.session.moment ≡ None → ⊥)
     → Represents (record e { queries = e.queries ++ never_run row ∷ []; owners = with_owner e.owners row.owner; bytes = e.bytes + length row.source }) (after t (OneQuery row))
-represents-query e t row represents kept num there = record {
+represents-query e t row represents formed num there = record {
   rows = represents.rows;
-  queries = rw represents.queries (ap (λ k. map (cached_query t) t.queries ++ k ∷ []) (sym (new-is t row kept num)) ∙ sym (map-append (cached_query t) t.queries (row ∷ [])));
+  queries = rw represents.queries (ap (λ k. map (cached_query t) t.queries ++ k ∷ []) (sym (new-is t row formed num)) ∙ sym (map-append (cached_query t) t.queries (row ∷ [])));
   run_count = represents.run_count;
   pick_count = represents.pick_count;
   bytes = more (sum_by (λ doc. length doc.text) t.docs) (sum_by (λ note. length note.text) t.notes) (sum_by (λ query. length query.source) t.queries) (sum_by (λ filter. length filter.source) t.filters) _ _ (length row.source) represents.bytes (sum_by-append (λ query. length query.source) t.queries (row ∷ []));

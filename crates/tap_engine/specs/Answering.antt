@@ -21,7 +21,7 @@ use Rattle.tap_engine.specs.declared.engine.Engine.{Engine}
 use Rattle.tap_engine.specs.declared.fault.EngineFault.{EngineFault}
 use Rattle.tap_engine.specs.declared.fault.EngineFault.TheVariants.{KeeperFailed}
 use Rattle.tap_engine.specs.declared.prepared.Prepared.{Prepared}
-use Rattle.tap_engine.specs.Standing.{Represents, OverTables, OverSound}
+use Rattle.tap_engine.specs.Standing.{Represents, OverTables, OverSoundFor}
 use Rattle.tap_engine.specs.declared.undo.Undo.{Undo}
 use Rattle.tap_engine.specs.declared.undo.Undo.TheVariants.{Nothing, Docs, Note, Query, Filter, Run}
 
@@ -32,26 +32,26 @@ pub record Answers (tables : Tables) (session : Session) (command : Command) (re
   pub change_is : change ≡ (answer_of command session tables).change
   pub session_is : session' ≡ (answer_of command session tables).session
 
--- over sound tables, what was prepared and the session after it are the model's answer to the command
+-- over tables that are sound for the command, what was prepared and the session after it are the model's answer to it
 abbrev pub AnswersAsModel : Engine → Command → Engine → Prepared → Type 0
 AnswersAsModel before command engine made =
-    OverSound before (λ t. Answers t before.session command made.reply made.change engine.session)
+    OverSoundFor before command (λ t. Answers t before.session command made.reply made.change engine.session)
 
--- over sound tables, the reply to a command that only reads is the model's
+-- over tables that are sound for a command that only reads, the reply to it is the model's
 abbrev pub ReadsAsModel : Engine → Command → Reply → Type 0
-ReadsAsModel engine command reply = OverSound engine (λ t. Answers t engine.session command reply None engine.session)
+ReadsAsModel engine command reply = OverSoundFor engine command (λ t. Answers t engine.session command reply None engine.session)
 
--- the engine represents the sound tables of before with the rows that were prepared
-abbrev pub RepresentsNext : Engine → Engine → Prepared → Type 0
-RepresentsNext before engine made = OverSound before (λ t. Represents engine (tables_after made.change t))
+-- over tables that are sound for the command, the engine represents those with the rows that were prepared
+abbrev pub RepresentsNext : Engine → Command → Engine → Prepared → Type 0
+RepresentsNext before command engine made = OverSoundFor before command (λ t. Represents engine (tables_after made.change t))
 
 -- over represented tables, the model refuses the command so
 abbrev pub RefusesAsModel : Engine → Command → Refusal → Type 0
 RefusesAsModel engine command refusal = OverTables engine (λ t. Refuses refusal command engine.session t)
 
--- over sound tables, the model refuses the command so
+-- over tables that are sound for the command, the model refuses it so
 abbrev pub RefusesSoundly : Engine → Command → Refusal → Type 0
-RefusesSoundly engine command refusal = OverSound engine (λ t. Refuses refusal command engine.session t)
+RefusesSoundly engine command refusal = OverSoundFor engine command (λ t. Refuses refusal command engine.session t)
 
 -- the model's answer to the command adds rows
 pub record AddsRows (command : Command) (session : Session) (tables : Tables) : Type 0 where

@@ -8,6 +8,7 @@ use Rattle.tap_rows.specs.declared.results.Hit.{Hit}
 use Rattle.tap_rows.specs.declared.results.Entry.{Entry}
 use Rattle.mail_lines.specs.declared.block.Block.{Block}
 use Rattle.row_index.specs.Rows.{rows_alone}
+use Rattle.script_lang.specs.declared.command.Command.{Command}
 use Rattle.script_lang.specs.declared.refusal.Refusal.{Refusal}
 use Rattle.script_lang.specs.declared.refusal.Refusal.TheVariants.{Taken, NoQuery, Memory}
 use Rattle.script_lang.specs.declared.refusal.LimitName.TheVariants.{Documents, Notes, Queries, AllQueries, Users, Runs, Picks, Store}
@@ -19,7 +20,7 @@ use Rattle.tap_engine.specs.declared.run.Due.{Due}
 use Rattle.tap_model.specs.declared.session.Session.{Session}
 use Rattle.tap_model.specs.Sessions.{moment_or_zero, user_of, greatest_moment}
 use Rattle.tap_model.specs.Limits.{stored_bytes, owners_in, different, limit_refusal}
-use Rattle.tap_model.specs.Sound.{IsSound}
+use Rattle.tap_model.specs.Sound.{IsSound, IsSoundFor}
 use Rattle.tap_model.specs.Verdicts.{missing, refuse_unless, first_refusal, no_moment, no_user, bad_name, text_fault}
 use Rattle.tap_model.specs.Verdicts.{messages_of, long_message, long_block, bytes_of, no_doc, long_note, no_run}
 use Rattle.vote_scores.specs.Tally.{tally}
@@ -49,6 +50,10 @@ OverTables engine P = (t : Tables) → Represents engine t → P t
 -- for each tables that the engine represents and that are sound with its session
 abbrev pub OverSound : Engine → (Tables → Type 0) → Type 0
 OverSound engine P = (t : Tables) → Represents engine t → IsSound t engine.session → P t
+
+-- for each tables that the engine represents and that are sound with its session for a command
+abbrev pub OverSoundFor : Engine → Command → (Tables → Type 0) → Type 0
+OverSoundFor engine command P = (t : Tables) → Represents engine t → IsSoundFor command t engine.session → P t
 
 -- the user's query of this name
 abbrev pub cached_named : Engine → List ℕ → Option CachedQuery

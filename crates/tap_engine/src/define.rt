@@ -194,7 +194,7 @@ impl Engine {
     ) -> Result<Prepared, Refusal>
         requires ready { IsReady self.old }
         ensures ok { IfOk result (AnswersAsModel self.old (Command.Define name source) self.new) }
-        ensures represents { IfOk result (RepresentsNext self.old self.new) }
+        ensures represents { IfOk result (RepresentsNext self.old (Command.Define name source) self.new) }
         ensures refusal { IfErr result (RefusesAsModel self.old (Command.Define name source)) }
         ensures err { OnErr result (self.new ≡ self.old) }
         ensures undo { IfOk result (IsUndoable self.old self.new) }

@@ -233,7 +233,7 @@ impl Engine {
     pub(crate) fn mbox(&mut self, alloc: Global, block: Block) -> Result<Prepared, Refusal>
         requires ready { IsReady self.old }
         ensures ok { IfOk result (AnswersAsModel self.old (Command.Mbox block) self.new) }
-        ensures represents { IfOk result (RepresentsNext self.old self.new) }
+        ensures represents { IfOk result (RepresentsNext self.old (Command.Mbox block) self.new) }
         ensures refusal { IfErr result (RefusesAsModel self.old (Command.Mbox block)) }
         ensures err { OnErr result (IsUnchangedButHits self.new self.old) }
         ensures undo { IfOk result (IsUndoable self.old self.new) }

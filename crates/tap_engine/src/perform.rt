@@ -1,6 +1,6 @@
 //! One command, one step, one commit: what a command is answered, and what it changes.
 
-ghost use Rattle.std.specs.Prelude.{◌≡◌, ◌⊎◌, ◌↔◌, ◌≤◌, None, true, false, OnOk, OnErr, IsErr, IfOk, IfErr};
+ghost use Rattle.std.specs.Prelude.{◌≡◌, ◌⊎◌, ◌↔◌, ◌≤◌, ℤ, None, true, false, OnOk, OnErr, IsErr, IfOk, IfErr};
 ghost use Rattle.tap_rows.specs.declared.tables.Tables.{Tables};
 ghost use Rattle.keeper_core.specs.Keeping.{IsDurable};
 ghost use Rattle.tap_base.specs.Counts.{Rose};
@@ -19,7 +19,7 @@ use std::sync::ledger::Ledger;
 use tap_base::Steps;
 
 impl Engine {
-    ghost use Rattle.tap_engine.specs.Standing.{Represents, OverSound};
+    ghost use Rattle.tap_engine.specs.Standing.{Represents, OverSoundFor};
     ghost use Rattle.tap_engine.specs.Ready.{IsReady};
     ghost use Rattle.tap_engine.specs.Answering.{AnswersAsModel, RepresentsNext, RefusesSoundly, IsUndoable, AddsRows};
     ghost use Rattle.tap_engine.specs.Answering.{IsUnchangedButHits, fault_answer, fault_engine};
@@ -34,7 +34,7 @@ impl Engine {
     ) -> Result<Prepared, Refusal>
         requires ready { IsReady self.old }
         ensures ok { IfOk result (AnswersAsModel self.old command self.new) }
-        ensures represents { IfOk result (RepresentsNext self.old self.new) }
+        ensures represents { IfOk result (RepresentsNext self.old command self.new) }
         ensures refusal { IfErr result (RefusesSoundly self.old command) }
         ensures err { OnErr result (IsUnchangedButHits self.new self.old) }
         ensures undo { IfOk result (IsUndoable self.old self.new) }
@@ -108,10 +108,12 @@ impl Engine {
         requires attached { P.attached keeper.old ≡ true }
         requires keeping { P.stopped keeper.old ≡ false }
 
-        // The reply and the step, over the tables that the engine represents.
-        ensures step { OverSound self.old (λ t. IfOk result (λ reply.
+        // The reply and the step, over the tables that the engine represents. What was delivered matters only to a command
+        // that looks at it.
+        ensures step { OverSoundFor self.old command (λ t. IfOk result (λ reply.
             Step t self.old.session command reply (next_tables command reply self.old.session t) self.new.session)) }
-        ensures represents { OverSound self.old (λ t. IfOk result (λ reply. Represents self.new (next_tables command reply self.old.session t))) }
+        ensures represents { OverSoundFor self.old command (λ t. IfOk result (λ reply.
+            Represents self.new (next_tables command reply self.old.session t))) }
         ensures refused { IfOk result (λ reply. is_accepted reply ≡ false → IsUnchangedButHits self.new self.old) }
         ensures short { IfOk result (λ reply. HasShortNames reply) }
         ensures ready { OnOk result (IsReady self.new) }
@@ -121,17 +123,20 @@ impl Engine {
         ensures due { TakesRowsDue self.old command steps.old steps.new }
         ensures most { TakesAtMost self.old command steps.old steps.new }
 
-        // What the keeper's store has, and what a crash leaves, if the keeper is honest.
-        ensures kept { OverSound self.old (λ t. P.honest keeper.new → IsDurable (P.tells keeper.old) (P.may_leave keeper.old) t →
+        // What the keeper's store has, what a crash leaves, and the store's version, if the keeper is honest.
+        ensures kept { OverSoundFor self.old command (λ t. P.honest keeper.new → IsDurable (P.tells keeper.old) (P.may_leave keeper.old) t →
             IfOk result (λ reply.
             IsDurable (P.tells keeper.new) (P.may_leave keeper.new) (next_tables command reply self.old.session t))) }
-        ensures crash { OverSound self.old (λ t. P.honest keeper.new → IsDurable (P.tells keeper.old) (P.may_leave keeper.old) t →
+        ensures crash { OverSoundFor self.old command (λ t. P.honest keeper.new → IsDurable (P.tells keeper.old) (P.may_leave keeper.old) t →
             OnErr result ((verdict command self.old.session t ≡ None)
             × ((x : Tables) → P.may_leave keeper.new x →
             (x ≡ t) ⊎ (x ≡ tables_after (answer_of command self.old.session t).change t)))) }
 
+        ensures version { OverSoundFor self.old command (λ t. P.honest keeper.new → P.tells keeper.old t → P.stopped keeper.new ≡ false →
+            (v : ℤ) → P.has_version keeper.old v → P.has_version keeper.new v) }
+
         // It fails only if the keeper fails, and only for a command that adds rows.
-        ensures adds { OverSound self.old (λ t. OnErr result (AddsRows command self.old.session t)) }
+        ensures adds { OverSoundFor self.old command (λ t. OnErr result (AddsRows command self.old.session t)) }
         ensures cause { OnErr result (Rose (P.faults keeper.old) (P.faults keeper.new)) }
         ensures stopped { (P.stopped keeper.new ≡ true) ↔ IsErr result }
         ensures halted { self.new.stopped ≡ P.stopped keeper.new }

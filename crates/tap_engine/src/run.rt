@@ -171,7 +171,7 @@ impl Engine {
     ) -> Result<Prepared, Refusal>
         requires ready { IsReady self.old }
         ensures ok { IfOk result (AnswersAsModel self.old (Command.Run name.now) self.new) }
-        ensures represents { IfOk result (RepresentsNext self.old self.new) }
+        ensures represents { IfOk result (RepresentsNext self.old (Command.Run name.now) self.new) }
         ensures refusal { IfErr result (RefusesSoundly self.old (Command.Run name.now)) }
         ensures err { OnErr result (IsUnchangedButHits self.new self.old) }
         ensures undo { IfOk result (IsUndoable self.old self.new) }

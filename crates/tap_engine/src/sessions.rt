@@ -51,7 +51,7 @@ impl Engine {
     pub(crate) fn at(&mut self, text: &[u8]) -> Result<Prepared, Refusal>
         requires ready { IsReady self.old }
         ensures ok { IfOk result (AnswersAsModel self.old (Command.At text.now) self.new) }
-        ensures represents { IfOk result (RepresentsNext self.old self.new) }
+        ensures represents { IfOk result (RepresentsNext self.old (Command.At text.now) self.new) }
         ensures refusal { IfErr result (RefusesAsModel self.old (Command.At text.now)) }
         ensures err { OnErr result (self.new ≡ self.old) }
         ensures undo { IfOk result (IsUndoable self.old self.new) }
@@ -72,7 +72,7 @@ impl Engine {
     pub(crate) fn as_user(&mut self, name: Text) -> Result<Prepared, Refusal>
         requires ready { IsReady self.old }
         ensures ok { IfOk result (AnswersAsModel self.old (Command.AsUser name) self.new) }
-        ensures represents { IfOk result (RepresentsNext self.old self.new) }
+        ensures represents { IfOk result (RepresentsNext self.old (Command.AsUser name) self.new) }
         ensures refusal { IfErr result (RefusesAsModel self.old (Command.AsUser name)) }
         ensures err { OnErr result (self.new ≡ self.old) }
         ensures undo { IfOk result (IsUndoable self.old self.new) }

@@ -15,7 +15,7 @@ use Rattle.tap_rows.specs.declared.rows.QueryRow.{QueryRow}
 use Rattle.tap_rows.specs.Deliveries.{run_change}
 use Rattle.tap_rows.specs.WellFormed.{may_follow, docs_stand, is_query_of}
 use Rattle.tap_rows.specs.Fits.{low_of, fits}
-use Rattle.tap_rows.specs.Kept.{Each, In, IsBy}
+use Rattle.tap_rows.specs.Kept.{Each, In, IsKept, IsBy}
 use Rattle.tap_rows.proofs.LaterLaws.{each-map}
 use Rattle.mail_lines.specs.declared.block.Block.{Block}
 use Rattle.mail_lines.specs.declared.block.Block.TheVariants.{Whole, Long}
@@ -30,9 +30,9 @@ use Rattle.tap_model.specs.Sessions.{moment_or_zero, or_zero, or_empty, user_of}
 use Rattle.tap_model.specs.Queries.{truth_of, start_of, query_named}
 use Rattle.tap_model.specs.Verdicts.{verdict, checks, first_refusal, missing, refuse_unless, bad_name, too_long, are_short, no_doc, text_of, messages_of}
 use Rattle.tap_model.specs.Replies.{Answer, answer_of, answer_by, accepted, set_moment, docs_from, next_docs, some_docs, next_note, next_query, next_filter, run_query, show_box, show_list, show_lines, show_wake, show_digest, ask_at}
-use Rattle.tap_model.specs.Sound.{IsSound, IsMoment, IsUser}
+use Rattle.tap_model.specs.Sound.{IsSoundFor, IsNow, IsMoment, IsUser}
 use Rattle.tap_model.proofs.AnswerLaws.{some-none, find-in}
-use Rattle.tap_model.proofs.HeldLaws.{Held, moment_or_zero-by, now-at}
+use Rattle.tap_model.proofs.HeldLaws.{moment_or_zero-by}
 use Rattle.tap_model.proofs.RowLaws.{some-same, low-by, row-within}
 use Rattle.tap_model.proofs.RunFits.{run-fits}
 use Rattle.tap_model.specs.Limits.{message_limit}
@@ -63,11 +63,10 @@ named None is e = absurd (some-none NoUser e)
 named (Some name) is e = is
 
 -- the present moment and the rows
-at-moment_or_zero : (tables : Tables) (session : Session) → IsSound tables session → missing NoMoment session.moment ≡ None → IsMoment (moment_or_zero session) × IsBy start_of (moment_or_zero session) tables
-at-moment_or_zero tables session sound none =
+at-moment_or_zero : (tables : Tables) (session : Session) → IsNow session.moment tables → missing NoMoment session.moment ≡ None → IsMoment (moment_or_zero session) × IsBy start_of (moment_or_zero session) tables
+at-moment_or_zero tables session now none =
     let there = moment_or_zero-by session none in
-    let held : Held tables session = record { kept = sound.kept; now = sound.now } in
-    subst (λ z. IsMoment z × IsBy start_of z tables) (sym (ap or_zero there.is)) (now-at tables session there.m there.is held)
+    subst (λ z. IsMoment z × IsBy start_of z tables) (sym (ap or_zero there.is)) (subst (λ moment. IsNow moment tables) there.is now)
 
 same-num : (n : ℕ) → (n == n) ≡ true
 same-num n = grind arith
@@ -103,9 +102,9 @@ some-fit : (tables : Tables) (docs : List Doc) (change : Change) → fits tables
 some-fit tables [] change fit e = absurd (no-change change e)
 some-fit tables (doc ∷ docs) change fit e = made tables (Docs (doc ∷ docs)) change fit e
 
-texts-fit : (texts : List (List ℕ)) (session : Session) (tables : Tables) → IsSound tables session → missing NoMoment session.moment ≡ None → are_short texts ≡ true → fits tables (Docs (next_docs tables (moment_or_zero session) texts)) ≡ true
-texts-fit texts session tables sound none short =
-    let now = at-moment_or_zero tables session sound none in
+texts-fit : (texts : List (List ℕ)) (session : Session) (tables : Tables) → IsNow session.moment tables → missing NoMoment session.moment ≡ None → are_short texts ≡ true → fits tables (Docs (next_docs tables (moment_or_zero session) texts)) ≡ true
+texts-fit texts session tables at none short =
+    let now = at-moment_or_zero tables session at none in
     docs-fit (length tables.docs + 1) (low_of (λ doc. doc.arrival) tables.docs) (moment_or_zero session) texts (low-by (λ doc. doc.arrival) (moment_or_zero session) tables.docs now.0.0 now.1.docs) now.0.1 short
 
 mail-short : (block : Block) → too_long block ≡ None → are_short (text_of block ∷ []) ≡ true
@@ -113,13 +112,13 @@ mail-short Long e = refl
 mail-short (Whole text) e = and_from _ _ (refuse_unless-holds (nat_le (length text) message_limit) (Limit Message) e) refl
 
 -- a note of the moment on a document that is there
-note-fit : (doc : ℕ) (kind : List ℕ) (value : ℤ) (text : List ℕ) (session : Session) (tables : Tables) → IsSound tables session → missing NoMoment session.moment ≡ None → missing NoUser session.user ≡ None → bad_name kind ≡ None → no_doc doc (length tables.docs) ≡ None
+note-fit : (doc : ℕ) (kind : List ℕ) (value : ℤ) (text : List ℕ) (session : Session) (tables : Tables) → IsNow session.moment tables → IsUser session.user → missing NoMoment session.moment ≡ None → missing NoUser session.user ≡ None → bad_name kind ≡ None → no_doc doc (length tables.docs) ≡ None
     → fits tables (OneNote (next_note tables session doc kind value text)) ≡ true
-note-fit doc kind value text session tables sound none user name there =
-    let now = at-moment_or_zero tables session sound none in
+note-fit doc kind value text session tables at is none user name there =
+    let now = at-moment_or_zero tables session at none in
     let within = doc-within doc (length tables.docs) there in
     let arrived = row-within (λ doc. int_le doc.arrival (moment_or_zero session)) tables.docs doc within.0 within.1 (each-map (λ doc. doc.arrival ≤ℤ moment_or_zero session) (λ doc. int_le doc.arrival (moment_or_zero session) ≡ true) tables.docs (λ doc le. le-yes doc.arrival (moment_or_zero session) le) now.1.docs) in
-    and_from _ _ (and_from _ _ (and_from _ _ (and_from _ _ (same-num (length tables.notes + 1)) (behind (λ note. note.arrival) (moment_or_zero session) tables.notes now.0 now.1.notes)) arrived) (named session.user sound.user user)) (name-is kind name)
+    and_from _ _ (and_from _ _ (and_from _ _ (and_from _ _ (same-num (length tables.notes + 1)) (behind (λ note. note.arrival) (moment_or_zero session) tables.notes now.0 now.1.notes)) arrived) (named session.user is user)) (name-is kind name)
 
 -- a query of a name that the user has no query of
 none-found : (p : QueryRow → Bool) (queries : List QueryRow) → is_none (find p queries) ≡ true → list_any p queries ≡ false
@@ -131,25 +130,25 @@ none-found p (query ∷ queries) e = go (p query) refl (none-found p queries) e 
     differ e = cc
   go false is rest e = rw is (rest e)
 
-query-fit : (name source : List ℕ) (session : Session) (tables : Tables) → IsSound tables session → missing NoMoment session.moment ≡ None → missing NoUser session.user ≡ None → bad_name name ≡ None → refuse_unless (is_none (query_named (user_of session) name tables)) Taken ≡ None
+query-fit : (name source : List ℕ) (session : Session) (tables : Tables) → IsNow session.moment tables → IsUser session.user → missing NoMoment session.moment ≡ None → missing NoUser session.user ≡ None → bad_name name ≡ None → refuse_unless (is_none (query_named (user_of session) name tables)) Taken ≡ None
     → fits tables (OneQuery (next_query tables session name source)) ≡ true
-query-fit name source session tables sound none user bad free =
-    let now = at-moment_or_zero tables session sound none in
+query-fit name source session tables at is none user bad free =
+    let now = at-moment_or_zero tables session at none in
     let by = each-map (λ query. (query.arrival ≤ℤ moment_or_zero session) × (start_of query ≤ℤ moment_or_zero session)) (λ query. query.arrival ≤ℤ moment_or_zero session) tables.queries (λ query le. le.0) now.1.queries in
     let absent = none-found (is_query_of (user_of session) name) tables.queries (refuse_unless-holds (is_none (query_named (user_of session) name tables)) Taken free) in
-    and_from _ _ (and_from _ _ (and_from _ _ (and_from _ _ (same-num (length tables.queries + 1)) (behind (λ query. query.arrival) (moment_or_zero session) tables.queries now.0 by)) (named session.user sound.user user)) (name-is name bad)) (ap not absent)
+    and_from _ _ (and_from _ _ (and_from _ _ (and_from _ _ (same-num (length tables.queries + 1)) (behind (λ query. query.arrival) (moment_or_zero session) tables.queries now.0 by)) (named session.user is user)) (name-is name bad)) (ap not absent)
 
-filter-fit : (source : List ℕ) (session : Session) (tables : Tables) → IsSound tables session → missing NoMoment session.moment ≡ None → missing NoUser session.user ≡ None → fits tables (OneFilter (next_filter tables session source)) ≡ true
-filter-fit source session tables sound none user =
-    let now = at-moment_or_zero tables session sound none in
-    and_from _ _ (and_from _ _ (same-num (length tables.filters + 1)) (behind (λ filter. filter.arrival) (moment_or_zero session) tables.filters now.0 now.1.filters)) (named session.user sound.user user)
+filter-fit : (source : List ℕ) (session : Session) (tables : Tables) → IsNow session.moment tables → IsUser session.user → missing NoMoment session.moment ≡ None → missing NoUser session.user ≡ None → fits tables (OneFilter (next_filter tables session source)) ≡ true
+filter-fit source session tables at is none user =
+    let now = at-moment_or_zero tables session at none in
+    and_from _ _ (and_from _ _ (same-num (length tables.filters + 1)) (behind (λ filter. filter.arrival) (moment_or_zero session) tables.filters now.0 now.1.filters)) (named session.user is user)
 
 -- a run, in which each document is delivered for the first time
-run-fit : (session : Session) (tables : Tables) (query : Option QueryRow) → ((q : QueryRow) → query ≡ Some q → In q tables.queries) → IsSound tables session → missing NoMoment session.moment ≡ None → Fit tables (run_query query session tables)
-run-fit session tables None has sound none change e = absurd (no-change change e)
-run-fit session tables (Some q) has sound none change e =
-    let now = at-moment_or_zero tables session sound none in
-    made tables (run_change (truth_of q) (start_of q) tables q.num (moment_or_zero session)) change (run-fits truth_of start_of (moment_or_zero session) tables q sound.kept now.1 now.0.0 now.0.1 (has q refl)) e
+run-fit : (session : Session) (tables : Tables) (query : Option QueryRow) → ((q : QueryRow) → query ≡ Some q → In q tables.queries) → IsKept truth_of start_of tables → IsNow session.moment tables → missing NoMoment session.moment ≡ None → Fit tables (run_query query session tables)
+run-fit session tables None has kept at none change e = absurd (no-change change e)
+run-fit session tables (Some q) has kept at none change e =
+    let now = at-moment_or_zero tables session at none in
+    made tables (run_change (truth_of q) (start_of q) tables q.num (moment_or_zero session)) change (run-fits truth_of start_of (moment_or_zero session) tables q kept now.1 now.0.0 now.0.1 (has q refl)) e
 
 moment-fit : (second : Option ℤ) (session : Session) (tables : Tables) → Fit tables (set_moment second session)
 moment-fit None session tables change e = absurd (no-change change e)
@@ -179,32 +178,32 @@ ask-fit : (second : Option ℤ) (source : List ℕ) (session : Session) (tables 
 ask-fit None source session tables change e = absurd (no-change change e)
 ask-fit (Some second) source session tables change e = absurd (no-change change e)
 
-command-fits : (command : Command) (session : Session) (tables : Tables) → IsSound tables session → Each (λ check. check ≡ None) (checks command session tables) → Fit tables (accepted command session tables)
+command-fits : (command : Command) (session : Session) (tables : Tables) → IsSoundFor command tables session → Each (λ check. check ≡ None) (checks command session tables) → Fit tables (accepted command session tables)
 command-fits (Bad refusal) session tables sound pass change e = absurd (no-change change e)
 command-fits (At text) session tables sound pass change e = moment-fit (moment_of text) session tables change e
 command-fits (AsUser name) session tables sound pass change e = absurd (no-change change e)
 command-fits (Mail block) session tables sound pass change e =
-    some-fit tables (next_docs tables (moment_or_zero session) (text_of block ∷ [])) change (texts-fit (text_of block ∷ []) session tables sound pass.0 (mail-short block pass.1.0)) e
+    some-fit tables (next_docs tables (moment_or_zero session) (text_of block ∷ [])) change (texts-fit (text_of block ∷ []) session tables sound.now pass.0 (mail-short block pass.1.0)) e
 command-fits (Define name source) session tables sound pass change e =
-    made tables (OneQuery (next_query tables session name (stored_source source))) change (query-fit name (stored_source source) session tables sound pass.0 pass.1.0 pass.1.1.0 pass.1.1.1.0) e
+    made tables (OneQuery (next_query tables session name (stored_source source))) change (query-fit name (stored_source source) session tables sound.now sound.user pass.0 pass.1.0 pass.1.1.0 pass.1.1.1.0) e
 command-fits (Run name) session tables sound pass change e =
-    run-fit session tables (query_named (user_of session) name tables) (find-in (is_query_of (user_of session) name) tables.queries) sound pass.0 change e
+    run-fit session tables (query_named (user_of session) name tables) (find-in (is_query_of (user_of session) name) tables.queries) (sound.kept refl) sound.now pass.0 change e
 command-fits (BoxOf name) session tables sound pass change e = box-fit (query_named (user_of session) name tables) name session tables change e
 command-fits (Mbox block) session tables sound pass change e =
-    some-fit tables (next_docs tables (moment_or_zero session) (messages_of block)) change (texts-fit (messages_of block) session tables sound pass.0 (refuse_unless-holds (are_short (messages_of block)) (Limit Message) pass.1.0)) e
+    some-fit tables (next_docs tables (moment_or_zero session) (messages_of block)) change (texts-fit (messages_of block) session tables sound.now pass.0 (refuse_unless-holds (are_short (messages_of block)) (Limit Message) pass.1.0)) e
 command-fits (AddNote doc kind value text) session tables sound pass change e =
-    made tables (OneNote (next_note tables session doc kind value text)) change (note-fit doc kind value text session tables sound pass.0 pass.1.0 pass.1.1.0 pass.1.1.1.0) e
+    made tables (OneNote (next_note tables session doc kind value text)) change (note-fit doc kind value text session tables sound.now sound.user pass.0 pass.1.0 pass.1.1.0 pass.1.1.1.0) e
 command-fits (ListOf name) session tables sound pass change e = list-fit (query_named (user_of session) name tables) name session tables change e
 command-fits (Filter block) session tables sound pass change e =
-    made tables (OneFilter (next_filter tables session (text_of block))) change (filter-fit (text_of block) session tables sound pass.0 pass.1.0) e
+    made tables (OneFilter (next_filter tables session (text_of block))) change (filter-fit (text_of block) session tables sound.now sound.user pass.0 pass.1.0) e
 command-fits (Explain name) session tables sound pass change e = lines-fit (query_named (user_of session) name tables) name session tables change e
 command-fits (Ask moment source) session tables sound pass change e = ask-fit (moment_of moment) source session tables change e
 command-fits (Wake name) session tables sound pass change e = wake-fit (query_named (user_of session) name tables) name session tables change e
 command-fits (ScoresOf kind) session tables sound pass change e = absurd (no-change change e)
 command-fits (DigestOf name ordinal) session tables sound pass change e = digest-fit (query_named (user_of session) name tables) name ordinal session tables change e
 
--- the rows that a command adds at a sound point fit
-pub accepted_fits : (tables : Tables) (session : Session) (command : Command) (change : Change) → IsSound tables session → (answer_of command session tables).change ≡ Some change → fits tables change ≡ true
+-- the rows that a command adds at a point that is sound for it fit
+pub accepted_fits : (tables : Tables) (session : Session) (command : Command) (change : Change) → IsSoundFor command tables session → (answer_of command session tables).change ≡ Some change → fits tables change ≡ true
 accepted_fits tables session command change sound = go (verdict command session tables) refl where
   go : (v : Option Refusal) → verdict command session tables ≡ v → (answer_by v command session tables).change ≡ Some change → fits tables change ≡ true
   go None none e = command-fits command session tables sound (all-none (checks command session tables) none) change e

@@ -1,4 +1,4 @@
--- What is kept of the tables, and the session's moment: above all, that a query's deliveries are its box. Each command keeps it.
+-- What is kept of the tables, and the session's moment: if asked, that a query's deliveries are its box. Each command keeps it.
 use Rattle.std.proofs.Common.{◌≡◌, ◌∙◌, sym, ap, refl, subst, arith, ℕ, suc, ◌+◌, ℤ, pos, List, [], ◌∷◌, ◌++◌, length, map, Bool, true, false, Option, Some, None, if◌then◌else◌}
 use Rattle.std.specs.Prelude.{◌≤ℤ◌, int_le}
 use Rattle.std.specs.Option.{option_or}
@@ -32,14 +32,14 @@ use Rattle.tap_model.specs.Replies.{Answer, answer_of, answer_by, accepted, tabl
 use Rattle.tap_model.specs.Sound.{IsNow, IsMoment}
 use Rattle.tap_model.proofs.AnswerLaws.{truth-of-second, find-in, second-none}
 
--- the tables are kept, and no row is of a time after the session's moment
-pub record Held (tables : Tables) (session : Session) : Type 0 where
-  pub kept : IsKept truth_of start_of tables
+-- the tables are kept, if that is asked, and no row is of a time after the session's moment
+pub record Held (Asked : Type 0) (tables : Tables) (session : Session) : Type 0 where
+  pub kept : Asked → IsKept truth_of start_of tables
   pub now : IsNow session.moment tables
 
 -- what an answer leaves is held
-abbrev Leaves : Tables → Answer → Type 0
-Leaves tables answer = Held (tables_after answer.change tables) answer.session
+abbrev Leaves : Type 0 → Tables → Answer → Type 0
+Leaves Asked tables answer = Held Asked (tables_after answer.change tables) answer.session
 
 -- a moment that is there, and is the session's
 pub record Present (session : Session) : Type 0 where
@@ -65,7 +65,7 @@ unfolding start_of
 start-by m query positive le = elim (is_from_now query.source) as (λ b. (if b then query.arrival else pos 0) ≤ℤ m) [ true ↦ le | false ↦ positive ]
 
 -- what is known of the session's moment
-pub now-at : (tables : Tables) (session : Session) (m : ℤ) → session.moment ≡ Some m → Held tables session → IsMoment m × IsBy start_of m tables
+pub now-at : {Asked : Type 0} (tables : Tables) (session : Session) (m : ℤ) → session.moment ≡ Some m → Held Asked tables session → IsMoment m × IsBy start_of m tables
 now-at tables session m is held = subst (λ moment. IsNow moment tables) is held.now
 
 -- rows that are by a moment are by a later one
@@ -138,7 +138,7 @@ not-back last second none = go (int_le last second) refl where
   go false n = absurd (some-refusal (Backwards last) (sym (ap (λ b. refuse_unless b (Backwards last)) n) ∙ none))
 
 -- the rows are by a moment that is not below the last one
-at-by : (tables : Tables) (session : Session) (m : ℤ) → Held tables session → pos 0 ≤ℤ m → is_back (last_moment session tables) (Some m) ≡ None → IsBy start_of m tables
+at-by : {Asked : Type 0} (tables : Tables) (session : Session) (m : ℤ) → Held Asked tables session → pos 0 ≤ℤ m → is_back (last_moment session tables) (Some m) ≡ None → IsBy start_of m tables
 at-by tables session m held positive none = go session.moment refl where
   at-greatest : (o : Option ℤ) → is_back o (Some m) ≡ None → AtMost m o
   at-greatest None e = tt
@@ -148,9 +148,9 @@ at-by tables session m held positive none = go session.moment refl where
   go (Some last) is = by-later last m tables (not-back last m (sym (ap (λ o. is_back (option_or o (greatest_moment tables)) (Some m)) is) ∙ none)) (now-at tables session last is held).1
   go None is = greatest-by m tables positive (at-greatest (greatest_moment tables) (sym (ap (λ o. is_back (option_or o (greatest_moment tables)) (Some m)) is) ∙ none))
 
-at-held : (text : List ℕ) (session : Session) (tables : Tables) → Held tables session → verdict (At text) session tables ≡ None → Leaves tables (accepted (At text) session tables)
-at-held text session tables held none = go (moment_of text) refl where
-  go : (moment : Option ℤ) → moment_of text ≡ moment → Leaves tables (set_moment moment session)
+at-held : {Asked : Type 0} (text : List ℕ) (session : Session) (tables : Tables) → Held Asked tables session → verdict (At text) session tables ≡ None → Leaves Asked tables (accepted (At text) session tables)
+at-held {Asked = Asked} text session tables held none = go (moment_of text) refl where
+  go : (moment : Option ℤ) → moment_of text ≡ moment → Leaves Asked tables (set_moment moment session)
   go None is = held
   go (Some m) is =
       let range = moment-in-range text m is in
@@ -162,7 +162,7 @@ arrived-more : (num : ℕ) (low m : ℤ) (docs : List Doc) (doc : Doc) → Arriv
 arrived-more num low m [] doc arrived each le is at = (subst (λ z. low ≤ℤ z) (sym is) le, omega (arith, at), tt)
 arrived-more num low m (other ∷ docs) doc arrived each le is at = (arrived.0, arrived.1, arrived-more (suc num) other.arrival m docs doc arrived.2 each.1 each.0 is (omega (arith, at)))
 
-mail-held : (block : Block) (session : Session) (tables : Tables) → Held tables session → Present session → Leaves tables (accepted (Mail block) session tables)
+mail-held : {Asked : Type 0} (block : Block) (session : Session) (tables : Tables) → Held Asked tables session → Present session → Leaves Asked tables (accepted (Mail block) session tables)
 mail-held block session tables held there =
     let m = there.m in
     let now = now-at tables session m there.is held in
@@ -171,7 +171,7 @@ mail-held block session tables held there =
     let le : doc.arrival ≤ℤ m = subst (λ z. z ≤ℤ m) (sym at) (omega (arith, ints)) in
     let ge : m ≤ℤ doc.arrival = subst (λ z. m ≤ℤ z) (sym at) (omega (arith, ints)) in
     record {
-      kept = kept-docs truth_of start_of truth-of-second m tables (doc ∷ []) held.kept now.1 (ge, tt) (arrived-more 1 (pos 0) m tables.docs doc held.kept.docs now.1.docs now.0.0 at (omega arith));
+      kept = λ asked. kept-docs truth_of start_of truth-of-second m tables (doc ∷ []) (held.kept asked) now.1 (ge, tt) (arrived-more 1 (pos 0) m tables.docs doc (held.kept asked).docs now.1.docs now.0.0 at (omega arith));
       now = subst (λ moment. IsNow moment (after tables (Docs (doc ∷ [])))) (sym there.is) (
         now.0,
         record {
@@ -202,12 +202,12 @@ arrived-all num low m moment [] texts next arrived each le at is = subst (λ n. 
   none e = omega (arith, e)
 arrived-all num low m moment (doc ∷ docs) texts next arrived each le at is = (arrived.0, arrived.1, arrived-all (suc num) doc.arrival m moment docs texts next arrived.2 each.1 each.0 at (omega (arith, is)))
 
-docs-held : (docs : List Doc) (m : ℤ) (session : Session) (tables : Tables) → Held tables session → session.moment ≡ Some m → Each (λ doc. doc.arrival ≤ℤ m) docs → Each (λ doc. m ≤ℤ doc.arrival) docs → Arrived 1 (pos 0) (tables.docs ++ docs) → Held (tables_after (some_docs docs) tables) session
+docs-held : {Asked : Type 0} (docs : List Doc) (m : ℤ) (session : Session) (tables : Tables) → Held Asked tables session → session.moment ≡ Some m → Each (λ doc. doc.arrival ≤ℤ m) docs → Each (λ doc. m ≤ℤ doc.arrival) docs → (Asked → Arrived 1 (pos 0) (tables.docs ++ docs)) → Held Asked (tables_after (some_docs docs) tables) session
 docs-held [] m session tables held is by from arrived = held
 docs-held (doc ∷ docs) m session tables held is by from arrived =
     let now = now-at tables session m is held in
     record {
-      kept = kept-docs truth_of start_of truth-of-second m tables (doc ∷ docs) held.kept now.1 from arrived;
+      kept = λ asked. kept-docs truth_of start_of truth-of-second m tables (doc ∷ docs) (held.kept asked) now.1 from (arrived asked);
       now = subst (λ moment. IsNow moment (after tables (Docs (doc ∷ docs)))) (sym is) (
         now.0,
         record {
@@ -220,7 +220,7 @@ docs-held (doc ∷ docs) m session tables held is by from arrived =
       );
     }
 
-mbox-held : (texts : List (List ℕ)) (session : Session) (tables : Tables) → Held tables session → Present session → Leaves tables (add_mbox texts session tables)
+mbox-held : {Asked : Type 0} (texts : List (List ℕ)) (session : Session) (tables : Tables) → Held Asked tables session → Present session → Leaves Asked tables (add_mbox texts session tables)
 mbox-held texts session tables held there =
     let m = there.m in
     let now = now-at tables session m there.is held in
@@ -228,9 +228,9 @@ mbox-held texts session tables held there =
     docs-held (next_docs tables (moment_or_zero session) texts) m session tables held there.is
     (each-at (λ doc. doc.arrival ≤ℤ m) (length tables.docs + 1) (moment_or_zero session) texts (λ doc e. subst (λ z. z ≤ℤ m) (sym (e ∙ at)) (omega (arith, ints))))
     (each-at (λ doc. m ≤ℤ doc.arrival) (length tables.docs + 1) (moment_or_zero session) texts (λ doc e. subst (λ z. m ≤ℤ z) (sym (e ∙ at)) (omega (arith, ints))))
-    (arrived-all 1 (pos 0) m (moment_or_zero session) tables.docs texts (length tables.docs + 1) held.kept.docs now.1.docs now.0.0 at (omega arith))
+    (λ asked. arrived-all 1 (pos 0) m (moment_or_zero session) tables.docs texts (length tables.docs + 1) (held.kept asked).docs now.1.docs now.0.0 at (omega arith))
 
-note-held : (doc : ℕ) (kind : List ℕ) (value : ℤ) (text : List ℕ) (session : Session) (tables : Tables) → Held tables session → Present session → Leaves tables (accepted (AddNote doc kind value text) session tables)
+note-held : {Asked : Type 0} (doc : ℕ) (kind : List ℕ) (value : ℤ) (text : List ℕ) (session : Session) (tables : Tables) → Held Asked tables session → Present session → Leaves Asked tables (accepted (AddNote doc kind value text) session tables)
 note-held doc kind value text session tables held there =
     let m = there.m in
     let now = now-at tables session m there.is held in
@@ -239,7 +239,7 @@ note-held doc kind value text session tables held there =
     let le : note.arrival ≤ℤ m = subst (λ z. z ≤ℤ m) (sym at) (omega (arith, ints)) in
     let ge : m ≤ℤ note.arrival = subst (λ z. m ≤ℤ z) (sym at) (omega (arith, ints)) in
     record {
-      kept = kept-note truth_of start_of truth-of-second m tables note held.kept now.1 ge;
+      kept = λ asked. kept-note truth_of start_of truth-of-second m tables note (held.kept asked) now.1 ge;
       now = subst (λ moment. IsNow moment (after tables (OneNote note))) (sym there.is) (
         now.0,
         record {
@@ -252,7 +252,7 @@ note-held doc kind value text session tables held there =
       );
     }
 
-define-held : (name source : List ℕ) (session : Session) (tables : Tables) → Held tables session → Present session → Leaves tables (accepted (Define name source) session tables)
+define-held : {Asked : Type 0} (name source : List ℕ) (session : Session) (tables : Tables) → Held Asked tables session → Present session → Leaves Asked tables (accepted (Define name source) session tables)
 define-held name source session tables held there =
     let m = there.m in
     let now = now-at tables session m there.is held in
@@ -260,7 +260,7 @@ define-held name source session tables held there =
     let at : query.arrival ≡ m = ap or_zero there.is in
     let le : query.arrival ≤ℤ m = subst (λ z. z ≤ℤ m) (sym at) (omega (arith, ints)) in
     record {
-      kept = kept-query truth_of start_of truth-of-second m tables query held.kept now.1 refl;
+      kept = λ asked. kept-query truth_of start_of truth-of-second m tables query (held.kept asked) now.1 refl;
       now = subst (λ moment. IsNow moment (after tables (OneQuery query))) (sym there.is) (
         now.0,
         record {
@@ -273,14 +273,14 @@ define-held name source session tables held there =
       );
     }
 
-run-held : (session : Session) (tables : Tables) (query : Option QueryRow) → ((q : QueryRow) → query ≡ Some q → In q tables.queries) → Held tables session → Present session → Leaves tables (run_query query session tables)
+run-held : {Asked : Type 0} (session : Session) (tables : Tables) (query : Option QueryRow) → ((q : QueryRow) → query ≡ Some q → In q tables.queries) → Held Asked tables session → Present session → Leaves Asked tables (run_query query session tables)
 run-held session tables None has held there = held
-run-held session tables (Some q) has held there =
+run-held {Asked = Asked} session tables (Some q) has held there =
     let m = there.m in
     let now = now-at tables session m there.is held in
     let at : moment_or_zero session ≡ m = ap or_zero there.is in
-    subst (λ z. Leaves tables (record { reply = (run_query (Some q) session tables).reply; session = session; change = Some (run_change (truth_of q) (start_of q) tables q.num z) })) (sym at) (record {
-      kept = kept-run truth_of start_of truth-of-second m tables q held.kept now.1 (has q refl);
+    subst (λ z. Leaves Asked tables (record { reply = (run_query (Some q) session tables).reply; session = session; change = Some (run_change (truth_of q) (start_of q) tables q.num z) })) (sym at) (record {
+      kept = λ asked. kept-run truth_of start_of truth-of-second m tables q (held.kept asked) now.1 (has q refl);
       now = subst (λ moment. IsNow moment (after tables (run_change (truth_of q) (start_of q) tables q.num m))) (sym there.is) (
         now.0,
         record {
@@ -293,19 +293,19 @@ run-held session tables (Some q) has held there =
       );
     })
 
-box-held : (session : Session) (tables : Tables) (query : Option QueryRow) (name : List ℕ) → Held tables session → Leaves tables (show_box query name session tables)
+box-held : {Asked : Type 0} (session : Session) (tables : Tables) (query : Option QueryRow) (name : List ℕ) → Held Asked tables session → Leaves Asked tables (show_box query name session tables)
 box-held session tables None name held = held
 box-held session tables (Some q) name held = held
 
-list-held : (session : Session) (tables : Tables) (query : Option QueryRow) (name : List ℕ) → Held tables session → Leaves tables (show_list query name session tables)
+list-held : {Asked : Type 0} (session : Session) (tables : Tables) (query : Option QueryRow) (name : List ℕ) → Held Asked tables session → Leaves Asked tables (show_list query name session tables)
 list-held session tables None name held = held
 list-held session tables (Some q) name held = held
 
-lines-held : (session : Session) (tables : Tables) (query : Option QueryRow) (name : List ℕ) → Held tables session → Leaves tables (show_lines query name session tables)
+lines-held : {Asked : Type 0} (session : Session) (tables : Tables) (query : Option QueryRow) (name : List ℕ) → Held Asked tables session → Leaves Asked tables (show_lines query name session tables)
 lines-held session tables None name held = held
 lines-held session tables (Some q) name held = held
 
-filter-held : (block : Block) (session : Session) (tables : Tables) → Held tables session → Present session → Leaves tables (accepted (Filter block) session tables)
+filter-held : {Asked : Type 0} (block : Block) (session : Session) (tables : Tables) → Held Asked tables session → Present session → Leaves Asked tables (accepted (Filter block) session tables)
 filter-held block session tables held there =
     let m = there.m in
     let now = now-at tables session m there.is held in
@@ -313,7 +313,7 @@ filter-held block session tables held there =
     let at : filter.arrival ≡ m = ap or_zero there.is in
     let le : filter.arrival ≤ℤ m = subst (λ z. z ≤ℤ m) (sym at) (omega (arith, ints)) in
     record {
-      kept = kept-filter truth_of start_of truth-of-second m tables filter held.kept now.1;
+      kept = λ asked. kept-filter truth_of start_of truth-of-second m tables filter (held.kept asked) now.1;
       now = subst (λ moment. IsNow moment (after tables (OneFilter filter))) (sym there.is) (
         now.0,
         record {
@@ -326,20 +326,20 @@ filter-held block session tables held there =
       );
     }
 
-wake-held : (session : Session) (tables : Tables) (query : Option QueryRow) (name : List ℕ) → Held tables session → Leaves tables (show_wake query name session tables)
+wake-held : {Asked : Type 0} (session : Session) (tables : Tables) (query : Option QueryRow) (name : List ℕ) → Held Asked tables session → Leaves Asked tables (show_wake query name session tables)
 wake-held session tables None name held = held
 wake-held session tables (Some q) name held = held
 
-digest-held : (session : Session) (tables : Tables) (query : Option QueryRow) (name : List ℕ) (ordinal : ℕ) → Held tables session → Leaves tables (show_digest query name ordinal session tables)
+digest-held : {Asked : Type 0} (session : Session) (tables : Tables) (query : Option QueryRow) (name : List ℕ) (ordinal : ℕ) → Held Asked tables session → Leaves Asked tables (show_digest query name ordinal session tables)
 digest-held session tables None name ordinal held = held
 digest-held session tables (Some q) name ordinal held = held
 
-ask-held : (second : Option ℤ) (source : List ℕ) (session : Session) (tables : Tables) → Held tables session → Leaves tables (ask_at second source session tables)
+ask-held : {Asked : Type 0} (second : Option ℤ) (source : List ℕ) (session : Session) (tables : Tables) → Held Asked tables session → Leaves Asked tables (ask_at second source session tables)
 ask-held None source session tables held = held
 ask-held (Some second) source session tables held = held
 
 -- a command that isn't refused keeps it
-accepted-held : (command : Command) (session : Session) (tables : Tables) → Held tables session → verdict command session tables ≡ None → Leaves tables (accepted command session tables)
+accepted-held : {Asked : Type 0} (command : Command) (session : Session) (tables : Tables) → Held Asked tables session → verdict command session tables ≡ None → Leaves Asked tables (accepted command session tables)
 accepted-held (At text) session tables held none = at-held text session tables held none
 accepted-held (AsUser name) session tables held none = record { kept = held.kept; now = held.now }
 accepted-held (Mail block) session tables held none = mail-held block session tables held (moment_or_zero-by session (first-none (missing NoMoment session.moment) _ none))
@@ -358,8 +358,8 @@ accepted-held (ScoresOf kind) session tables held none = held
 accepted-held (DigestOf name ordinal) session tables held none = digest-held session tables (query_named (user_of session) name tables) name ordinal held
 
 -- so does each command
-pub answer-held : (command : Command) (session : Session) (tables : Tables) → Held tables session → Leaves tables (answer_of command session tables)
-answer-held command session tables held = go (verdict command session tables) refl where
-  go : (v : Option Refusal) → verdict command session tables ≡ v → Leaves tables (answer_by v command session tables)
+pub answer-held : {Asked : Type 0} (command : Command) (session : Session) (tables : Tables) → Held Asked tables session → Leaves Asked tables (answer_of command session tables)
+answer-held {Asked = Asked} command session tables held = go (verdict command session tables) refl where
+  go : (v : Option Refusal) → verdict command session tables ≡ v → Leaves Asked tables (answer_by v command session tables)
   go None none = accepted-held command session tables held none
   go (Some refusal) is = held

@@ -19,20 +19,30 @@ use Rattle.tap_model.specs.Sessions.{no_session}
 use Rattle.tap_model.specs.Queries.{box_in}
 use Rattle.tap_model.specs.Replies.{answer_of}
 use Rattle.tap_model.specs.Stories.{Step, next_tables}
-use Rattle.tap_model.specs.Sound.{IsSound, IsStore}
+use Rattle.tap_model.specs.Sound.{IsSound, IsSoundFor, IsStore}
 
--- a new session over no rows is sound, and each step from a sound point leads to a sound point
+-- a new session over no rows is sound; each step from a sound point leads to a sound point; and each step from a point that is
+-- sound for its command leads to a point that is sound for each command that the point before was sound for
 pub record StepsAreSound : Type 0 where
   pub first : IsSound no_rows no_session
   pub next :
       (tables : Tables) (session : Session) (command : Command) (reply : Reply) (tables' : Tables) (session' : Session)
       → Step tables session command reply tables' session' → IsSound tables session → IsSound tables' session'
+  pub each :
+      (tables : Tables) (session : Session) (command : Command) (reply : Reply) (tables' : Tables) (session' : Session)
+      → Step tables session command reply tables' session' → IsSoundFor command tables session
+      → (other : Command) → IsSoundFor other tables session → IsSoundFor other tables' session'
 
--- at a sound point the rows that a command adds stand in order behind those of the tables
+-- at a point that is sound for a command, the rows that it adds stand in order behind those of the tables
 abbrev pub AcceptedChangesFit : Type 0
 AcceptedChangesFit =
     (tables : Tables) (session : Session) (command : Command) (change : Change)
-    → IsSound tables session → (answer_of command session tables).change ≡ Some change → fits tables change ≡ true
+    → IsSoundFor command tables session → (answer_of command session tables).change ≡ Some change → fits tables change ≡ true
+
+-- a point is sound if and only if it is sound for every command
+abbrev pub SoundIsForEachCommand : Type 0
+SoundIsForEachCommand =
+    (tables : Tables) (session : Session) → IsSound tables session ↔ ((command : Command) → IsSoundFor command tables session)
 
 -- a session may begin with the tables that any other left
 abbrev pub SessionsLeaveStores : Type 0

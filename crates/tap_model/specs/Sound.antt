@@ -1,11 +1,14 @@
 -- What holds of the tables and the session at every point of a story.
-use Rattle.std.specs.Prelude.{ℕ, ◌≡◌, ℤ, pos, ◌≤ℤ◌, List, true, Option, Some, None}
+use Rattle.std.specs.Prelude.{ℕ, ◌≡◌, ℤ, pos, ◌≤ℤ◌, List, Bool, true, false, Option, Some, None}
 use Rattle.tap_base.specs.Names.{is_name}
 use Rattle.tap_base.specs.declared.moments.TheConstants.{LAST_MOMENT}
 use Rattle.tap_rows.specs.declared.tables.Tables.{Tables}
 use Rattle.tap_rows.specs.Kept.{Each, IsKept, IsBy}
 use Rattle.tap_rows.specs.WellFormed.{is_well_formed}
 use Rattle.restart_core.specs.Starts.{condition_text}
+use Rattle.script_lang.specs.declared.command.Command.{Command}
+use Rattle.script_lang.specs.declared.command.Command.TheVariants.{At, AsUser, Mail, Mbox, AddNote, Define, Run, BoxOf, ListOf, Filter, Explain, Ask, Wake}
+use Rattle.script_lang.specs.declared.command.Command.TheVariants.{ScoresOf, DigestOf, Bad}
 use Rattle.tap_model.specs.declared.session.Session.{Session}
 use Rattle.tap_model.specs.Sessions.{no_session}
 use Rattle.tap_model.specs.Queries.{truth_of, start_of}
@@ -38,3 +41,31 @@ pub record IsSound (tables : Tables) (session : Session) : Type 0 where
 -- tables that a session may begin with: those that one left
 abbrev pub IsStore : Tables → Type 0
 IsStore tables = IsSound tables no_session
+
+-- does the command look at what a query has delivered?
+abbrev pub asks_deliveries : Command → Bool
+asks_deliveries (At text) = false
+asks_deliveries (AsUser name) = false
+asks_deliveries (Mail block) = false
+asks_deliveries (Mbox block) = false
+asks_deliveries (AddNote doc kind value text) = false
+asks_deliveries (Define name source) = false
+asks_deliveries (Run name) = true
+asks_deliveries (BoxOf name) = true
+asks_deliveries (ListOf name) = true
+asks_deliveries (Filter block) = false
+asks_deliveries (Explain name) = false
+asks_deliveries (Ask moment source) = false
+asks_deliveries (Wake name) = true
+asks_deliveries (ScoresOf kind) = false
+asks_deliveries (DigestOf name ordinal) = true
+asks_deliveries (Bad refusal) = false
+
+-- a sound point, but the deliveries need be boxes only if the command looks at them
+pub record IsSoundFor (command : Command) (tables : Tables) (session : Session) : Type 0 where
+  pub kept : asks_deliveries command ≡ true → IsKept truth_of start_of tables
+  pub now : IsNow session.moment tables
+  pub formed : is_well_formed tables ≡ true
+  pub sources : Each (λ query. text_fault (condition_text query.source) ≡ None) tables.queries
+  pub rules : Each (λ filter. filter_fault filter.source ≡ None) tables.filters
+  pub user : IsUser session.user

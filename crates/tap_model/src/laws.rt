@@ -1,20 +1,28 @@
 //! Laws of stories.
-ghost use Rattle.tap_model.specs.Laws.{StepsAreSound, AcceptedChangesFit, SessionsLeaveStores, StepsLeadToNextTables, StoresAreBoxed, AnswersAreNotMemory};
+ghost use Rattle.tap_model.specs.Laws.{StepsAreSound, AcceptedChangesFit, SoundIsForEachCommand, SessionsLeaveStores};
+ghost use Rattle.tap_model.specs.Laws.{StepsLeadToNextTables, StoresAreBoxed, AnswersAreNotMemory};
 ghost use Rattle.tap_model.specs.Limits.{ConstantLimits};
 ghost use Rattle.tap_model.specs.WindowRuns.{RunsAreWindows, UnseenIsFresh, WakesAreWindows};
 ghost use Rattle.tap_model.specs.PrivacyLaws.{SameDeedSameReply, OthersLeaveTheView, SameDeedsSameReplies};
 
 /// Shows that each step of a story leads from a sound point to a sound point. Above all, what each query has delivered then
-/// is its box.
+/// is its box. A point need be sound only for the step's own command: the next one is then sound for each command that it was
+/// sound for. So a story of commands that don't look at deliveries may begin over any well formed tables.
 pub fn every_step_is_sound()
     ensures { StepsAreSound }
 {}
 
-/// Shows that at a sound point the rows that a command adds stand in order behind those of the tables: each has its place as
-/// its number, a moment that is not below the last one, names that are names, and references to rows that exist. A run
-/// delivers each of its documents for the first time.
+/// Shows that at a point that is sound for a command, the rows that it adds stand in order behind those of the tables: each
+/// has its place as its number, a moment that is not below the last one, names that are names, and references to rows that
+/// exist. A run delivers each of its documents for the first time. What was delivered before matters to a run alone.
 pub fn accepted_changes_fit()
     ensures { AcceptedChangesFit }
+{}
+
+/// Shows that a sound point is sound for every command, and that nothing else is. A command that doesn't look at deliveries
+/// asks less of a point than one that does.
+pub fn a_sound_point_is_sound_for_each_command()
+    ensures { SoundIsForEachCommand }
 {}
 
 /// Shows that a session leaves tables that another session may begin with: tables that are sound with a session are sound

@@ -30,7 +30,7 @@ pub returns-clause-represents : goal.returns-clause-represents
 returns-clause-represents c = λ t represents sound.
     let count = ap length represents.queries ∙ length-map t.queries (cached_query t) in
     rw (c.in_ok-change.ensures.engine, c.in_ok-change.ensures.change)
-    (represents-query c.args.self.now t c.in_ok-row.row represents sound.kept (ap (λ r. r.num.0) c.in_ok-row.ensures.row ∙ ap (λ n. n + 1) count) (define-moment c.args.self.now c.args.name c.args.source c.in_ok-row.ensures.checks))
+    (represents-query c.args.self.now t c.in_ok-row.row represents sound.formed (ap (λ r. r.num.0) c.in_ok-row.ensures.row ∙ ap (λ n. n + 1) count) (define-moment c.args.self.now c.args.name c.args.source c.in_ok-row.ensures.checks))
 
 pub returns-clause-undo : goal.returns-clause-undo
 returns-clause-undo c = rw c.in_ok-change.ensures.engine (undo-query c.args.self.now (never_run c.in_ok-row.row ∷ []) c.in_ok-row.row.owner _ c.len.result c.len-2.result c.len.ensures c.len-2.ensures)

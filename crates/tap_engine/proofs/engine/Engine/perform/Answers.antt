@@ -11,7 +11,7 @@ pub returns-in-Ok-commit-clause-kept : goal.returns-in-Ok-commit-clause-kept
 returns-in-Ok-commit-clause-kept g c = λ t represents sound honest holds.
     let answers : Answers t c.args.self.now.session c.args.command c.in-Ok.prepared.reply (Some c.in-Some.change) c.prepare.new.self.session = subst (λ change. Answers t c.args.self.now.session c.args.command c.in-Ok.prepared.reply change c.prepare.new.self.session) c.in-Some.is (c.in-Ok.ensures.ok t represents sound) in
     subst (IsDurable (g.P.Keeper.tells c.commit.new.self) (g.P.Keeper.may_leave c.commit.new.self)) (rows-next t c.args.self.now.session c.args.command c.in-Ok.prepared.reply c.in-Some.change c.prepare.new.self.session answers)
-    (c.in-Ok-commit.ensures.ok honest t holds.told sound.formed (rows-fit t c.args.self.now.session c.args.command c.in-Ok.prepared.reply c.in-Some.change c.prepare.new.self.session sound answers))
+    (c.in-Ok-commit.ensures.ok honest t holds.told (rows-fit t c.args.self.now.session c.args.command c.in-Ok.prepared.reply c.in-Some.change c.prepare.new.self.session sound answers))
 
 pub returns-in-Err-commit-clause-step : goal.returns-in-Err-commit-clause-step
 returns-in-Err-commit-clause-step g c = λ t represents sound.
@@ -24,7 +24,7 @@ pub returns-in-Err-commit-clause-crash : goal.returns-in-Err-commit-clause-crash
 returns-in-Err-commit-clause-crash g c = λ t represents sound honest holds.
     let answers : Answers t c.args.self.now.session c.args.command c.in-Ok.prepared.reply (Some c.in-Some.change) c.prepare.new.self.session = subst (λ change. Answers t c.args.self.now.session c.args.command c.in-Ok.prepared.reply change c.prepare.new.self.session) c.in-Some.is (c.in-Ok.ensures.ok t represents sound) in
     let fit = rows-fit t c.args.self.now.session c.args.command c.in-Ok.prepared.reply c.in-Some.change c.prepare.new.self.session sound answers in
-    on-err c.not_committed.result (answers.fine, λ x leaves. one-of t x c.args.self.now.session c.args.command c.in-Ok.prepared.reply c.in-Some.change c.prepare.new.self.session answers (c.in-Err-commit.ensures.crash honest t holds.told sound.formed fit x leaves))
+    on-err c.not_committed.result (answers.fine, λ x leaves. one-of t x c.args.self.now.session c.args.command c.in-Ok.prepared.reply c.in-Some.change c.prepare.new.self.session answers (c.in-Err-commit.ensures.crash honest t holds.told fit x leaves))
 
 pub returns-in-Err-commit-clause-adds : goal.returns-in-Err-commit-clause-adds
 returns-in-Err-commit-clause-adds g c = λ t represents sound.
@@ -42,3 +42,15 @@ returns-in-Err-commit-clause-represents g c = λ t represents sound.
     let takes = taken-there c.in-Ok.prepared.undo c.prepare.new.self c.args.self.now c.in-Ok.prepared.change c.in-Some.change c.in-Some.is c.in-Ok.ensures.undo in
     fault-represents c.in-Err-commit.fault t c.args.self.now c.undo_rows.new.self c.not_committed.new.self c.args.command c.not_committed.result c.not_committed.ensures.0 c.not_committed.ensures.1
     (subst (λ k. IsUnchangedButHits k c.args.self.now) (sym c.undo_rows.ensures) takes.before_is) represents
+
+pub returns-in-Ok-commit-clause-version : goal.returns-in-Ok-commit-clause-version
+returns-in-Ok-commit-clause-version g c = λ t represents sound honest told running version has.
+    let answers : Answers t c.args.self.now.session c.args.command c.in-Ok.prepared.reply (Some c.in-Some.change) c.prepare.new.self.session = subst (λ change. Answers t c.args.self.now.session c.args.command c.in-Ok.prepared.reply change c.prepare.new.self.session) c.in-Some.is (c.in-Ok.ensures.ok t represents sound) in
+    let fit = rows-fit t c.args.self.now.session c.args.command c.in-Ok.prepared.reply c.in-Some.change c.prepare.new.self.session sound answers in
+    c.in-Ok-commit.ensures.version honest t told fit version has running
+
+pub returns-in-Err-commit-clause-version : goal.returns-in-Err-commit-clause-version
+returns-in-Err-commit-clause-version g c = λ t represents sound honest told running version has.
+    let answers : Answers t c.args.self.now.session c.args.command c.in-Ok.prepared.reply (Some c.in-Some.change) c.prepare.new.self.session = subst (λ change. Answers t c.args.self.now.session c.args.command c.in-Ok.prepared.reply change c.prepare.new.self.session) c.in-Some.is (c.in-Ok.ensures.ok t represents sound) in
+    let fit = rows-fit t c.args.self.now.session c.args.command c.in-Ok.prepared.reply c.in-Some.change c.prepare.new.self.session sound answers in
+    c.in-Err-commit.ensures.version honest t told fit version has running

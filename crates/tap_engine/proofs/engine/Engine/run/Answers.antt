@@ -1,5 +1,6 @@
-use Rattle.std.proofs.Common.{rules, arith, ◌≡◌, ◌∙◌, sym, ap, subst, ◌-◌, ◌<◌, length, map, ◌+◌}
+use Rattle.std.proofs.Common.{rules, arith, ◌≡◌, ◌∙◌, sym, refl, ap, subst, ◌-◌, ◌<◌, length, map, ◌+◌}
 use Rattle.std.specs.Prelude.{slice_set, slice_index_or, IfSome}
+use Rattle.script_lang.specs.declared.command.Command.TheVariants.{Run}
 use Rattle.script_lang.specs.declared.refusal.Refusal.TheVariants.{Memory}
 use Rattle.tap_kept.specs.Keeping.{never_run, after_run, AreNew}
 use Rattle.tap_rows.specs.Results.{entry_at}
@@ -7,6 +8,7 @@ use Rattle.tap_rows.specs.Tables.{after}
 use Rattle.tap_engine.specs.Standing.{Represents}
 use Rattle.tap_engine.specs.Ready.{IsReady}
 use Rattle.tap_model.specs.Sound.{IsMoment}
+use Rattle.tap_model.proofs.SoundLaws.{sound-asked}
 use Rattle.tap_engine.specs.declared.engine.Engine.{Engine}
 use Rattle.tap_kept.specs.declared.cached_query.CachedQuery.{CachedQuery}
 use Rattle.tap_engine.specs.Answering.{IsUnchangedButHits, UndoRestores, undo_run}
@@ -68,8 +70,9 @@ pub returns-in_err-change-clause-err : goal.returns-in_err-change-clause-err
 returns-in_err-change-clause-err g c = let by = subst (λ k. IsUnchangedButHits k c.args.self.now) (sym c.in_err-change.ensures.err) c.due_run.ensures.still in search (rules, by)
 
 pub returns-clause-ok : goal.returns-clause-ok
-returns-clause-ok g c = λ t represents sound.
+returns-clause-ok g c = λ t represents sound-for.
     let e = c.args.self.now in
+    let sound = sound-asked (Run c.args.name.now) t e.session refl sound-for in
     let due = c.in_ok-due.due in
     let same = c.due_run.ensures.still.same in
     let none = sym (run-verdict e t c.args.name.now represents sound) ∙ c.in_ok-due.ensures.verdict in
@@ -79,8 +82,9 @@ returns-clause-ok g c = λ t represents sound.
     let answers = answers-run e t c.args.name.now due c.in_ok-change.change c.deliver.new.self.session represents none d change (ap (λ k. k.session) (c.in_ok-change.ensures.engine (never_run d.q)) ∙ ap (λ k. k.session) same) in search (rules, answers)
 
 pub returns-clause-represents : goal.returns-clause-represents
-returns-clause-represents g c = λ t represents sound.
+returns-clause-represents g c = λ t represents sound-for.
     let e = c.args.self.now in
+    let sound = sound-asked (Run c.args.name.now) t e.session refl sound-for in
     let due = c.in_ok-due.due in
     let next : Engine → CachedQuery → Engine = λ k x. record k { queries = slice_set k.queries (due.query.0 - 1) (after_run due.moment (map (entry_at (due.runs + 1)) due.hits) (slice_index_or k.queries (due.query.0 - 1) x)); run_count = k.run_count + 1; pick_count = k.pick_count + length due.hits } in
     let same = c.due_run.ensures.still.same in
