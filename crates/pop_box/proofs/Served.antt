@@ -114,3 +114,6 @@ took-quit-words status user user' secret secret' left left' u s quit is =
 
 pub at-end : (status : ℕ) (letters : List Letter) (user secret : List ℕ) (left left' out out' : Option (List ℕ)) → LettersEnd status user secret letters left left' out out' → status ≡ 1 → IsAtEnd left'
 at-end status letters user secret left left' out out' ends is = (ends.ended is).1
+
+pub served-not-two : (status : ℕ) → IsSession status ⊎ ((status ≡ 7) ⊎ (status ≡ 9)) → status ≡ 2 → ⊥
+served-not-two status one is = grind (arith, one, is)

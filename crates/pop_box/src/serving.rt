@@ -13,6 +13,7 @@ ghost use Rattle.tap_rows.specs.declared.tables.Tables.{Tables};
 ghost use Rattle.tap_top.specs.declared.store_fault.StoreFault.{StoreFault as StoreFaultOf};
 ghost use Rattle.tap_top.specs.Premises.{FromStore, FromVersion, IfKnown, IsCalm};
 ghost use Rattle.tap_top.specs.Refusals.{fault_of, Refused};
+ghost use Rattle.tap_top.specs.Versions.{VersionAtExit};
 ghost use Rattle.tap_top.specs.Opened.{HasShortTexts};
 ghost use Rattle.tap_top.specs.Causes.{Causes};
 ghost use Rattle.pop_box.specs.Letters.{letters_in};
@@ -86,6 +87,8 @@ fn serve_box<S: Source, K: Sink, P: Keeper, L: Ledger>(
         (S.left source.old) (S.left source.new) (K.out sink.old) (K.out sink.new) (P.has_version keeper.old)) }
     ensures unchanged { (t : Tables) → P.honest keeper.new → IsDurable (P.tells keeper.old) (P.may_leave keeper.old) t →
         Unchanged result t (P.tells keeper.new) (P.may_leave keeper.new) }
+    ensures version { (t : Tables) → P.honest keeper.new → IsDurable (P.tells keeper.old) (P.may_leave keeper.old) t →
+        VersionAtExit result (P.has_version keeper.old) (P.has_version keeper.new) }
     ensures refused { FromVersion (P.honest keeper.new) (P.tells keeper.old) (P.may_leave keeper.old) (P.has_version keeper.old) (λ t v.
         (fault : StoreFaultOf) → fault_of v t ≡ Some fault →
         Refused result fault (S.left source.old) (S.left source.new) (K.out sink.old) (K.out sink.new)
@@ -160,9 +163,11 @@ pub fn serve<S: Source, K: Sink, P: Keeper, L: Ledger>(
         Served result (letters_in (user_in words.now) (box_in words.now) t) (user_in words.now) (secret_in words.now)
         (S.left source.old) (S.left source.new) (K.out sink.old) (K.out sink.new) (P.has_version keeper.old)) }
 
-    // Whatever the store holds, it is unchanged.
+    // Whatever the store holds, its tables are unchanged, and its version is the one before, or 2 if that was 1.
     ensures unchanged { (t : Tables) → P.honest keeper.new → IsDurable (P.tells keeper.old) (P.may_leave keeper.old) t →
         Unchanged result t (P.tells keeper.new) (P.may_leave keeper.new) }
+    ensures version { (t : Tables) → P.honest keeper.new → IsDurable (P.tells keeper.old) (P.may_leave keeper.old) t →
+        VersionAtExit result (P.has_version keeper.old) (P.has_version keeper.new) }
 
     // A store is refused if and only if its version isn't known or one of its rows is damaged.
     ensures refused { FromVersion (P.honest keeper.new) (P.tells keeper.old) (P.may_leave keeper.old) (P.has_version keeper.old) (λ t v.

@@ -7,4 +7,5 @@ mod Samples
 mod SampleCrashes
 mod Ends
 mod OpenLaws
+pub mod Versions
 mod ChainLaws

@@ -1,5 +1,6 @@
 pub mod Points
 pub mod Premises
+pub mod Versions
 pub mod Answers
 pub mod Pieces
 pub mod Statuses

@@ -6,6 +6,7 @@ ghost use Rattle.script_lang.specs.Replies.{is_accepted};
 ghost use Rattle.script_lang.specs.Script.{script_from, complete_from};
 ghost use Rattle.tap_top.specs.Points.{CanPerform, EngineMatchesKeeper, KeeperFrame};
 ghost use Rattle.tap_top.specs.Premises.{FromEngine};
+ghost use Rattle.tap_top.specs.Versions.{VersionStays};
 ghost use Rattle.tap_top.specs.Answers.{Answered, CutOff, Uncommitted, ClosedCut};
 ghost use Rattle.tap_top.specs.Pieces.{PieceAnswered, PieceCut, PieceOutOfMemory};
 ghost use Rattle.tap_top.specs.declared.feed.Stop.{Stop};
@@ -68,6 +69,8 @@ pub fn answer<K: Sink, P: Keeper, L: Ledger>(
     ensures calm { (IsErrOf result Stop.Put → ⊥) → K.faults sink.new ≡ K.faults sink.old }
     ensures frame { KeeperFrame (P.place keeper.old) (P.place keeper.new) (P.faults keeper.old) (P.faults keeper.new)
         (P.honest keeper.old) (P.honest keeper.new) (P.stopped keeper.new) }
+    ensures version { FromEngine (P.honest keeper.new) engine.old (P.tells keeper.old) (P.may_leave keeper.old) (λ t.
+        VersionStays (P.stopped keeper.new) (P.has_version keeper.old) (P.has_version keeper.new)) }
 {
     let reply = match engine.perform(alloc, keeper, command, steps) {
         Ok(reply) => reply,
@@ -127,6 +130,8 @@ fn take_one<K: Sink, P: Keeper, L: Ledger>(
     ensures calm { (IsErrOf result Stop.Put → ⊥) → K.faults sink.new ≡ K.faults sink.old }
     ensures frame { KeeperFrame (P.place keeper.old) (P.place keeper.new) (P.faults keeper.old) (P.faults keeper.new)
         (P.honest keeper.old) (P.honest keeper.new) (P.stopped keeper.new) }
+    ensures version { FromEngine (P.honest keeper.new) engine.old (P.tells keeper.old) (P.may_leave keeper.old) (λ t.
+        VersionStays (P.stopped keeper.new) (P.has_version keeper.old) (P.has_version keeper.new)) }
 {
     let got = match reader.take(piece) {
         Ok(got) => got,
@@ -178,6 +183,8 @@ pub fn feed<K: Sink, P: Keeper, L: Ledger>(
     ensures calm { (IsErrOf result Stop.Put → ⊥) → K.faults sink.new ≡ K.faults sink.old }
     ensures frame { KeeperFrame (P.place keeper.old) (P.place keeper.new) (P.faults keeper.old) (P.faults keeper.new)
         (P.honest keeper.old) (P.honest keeper.new) (P.stopped keeper.new) }
+    ensures version { FromEngine (P.honest keeper.new) engine.old (P.tells keeper.old) (P.may_leave keeper.old) (λ t.
+        VersionStays (P.stopped keeper.new) (P.has_version keeper.old) (P.has_version keeper.new)) }
 {
     let mut all_ok = true;
     let mut rest = piece;
@@ -223,6 +230,8 @@ pub fn finish<K: Sink, P: Keeper, L: Ledger>(
     ensures calm { (IsErrOf result Stop.Put → ⊥) → K.faults sink.new ≡ K.faults sink.old }
     ensures frame { KeeperFrame (P.place keeper.old) (P.place keeper.new) (P.faults keeper.old) (P.faults keeper.new)
         (P.honest keeper.old) (P.honest keeper.new) (P.stopped keeper.new) }
+    ensures version { FromEngine (P.honest keeper.new) engine.old (P.tells keeper.old) (P.may_leave keeper.old) (λ t.
+        VersionStays (P.stopped keeper.new) (P.has_version keeper.old) (P.has_version keeper.new)) }
 {
     match reader.finish() {
         Ok(None) => Ok(true),

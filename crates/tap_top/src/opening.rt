@@ -1,5 +1,5 @@
 //! Opens a store: attaches the keeper, checks the tables, and starts an engine over them.
-ghost use Rattle.std.specs.Prelude.{◌≡◌, ◌⊎◌, ◌↔◌, ◌≤◌, ℤ, true, false, Some, None, IfOk, OnOk, IsErrOf};
+ghost use Rattle.std.specs.Prelude.{◌≡◌, ◌⊎◌, ◌↔◌, ◌≤◌, ℤ, pos, true, false, Some, None, IfOk, OnOk, IsErrOf};
 ghost use Rattle.std.specs.Str.{IsUtf8};
 ghost use Rattle.keeper_core.specs.Keeping.{IsDurable};
 ghost use Rattle.tap_base.specs.Counts.{Rose};
@@ -9,6 +9,7 @@ ghost use Rattle.tap_model.specs.Sessions.{no_session};
 ghost use Rattle.tap_engine.specs.Standing.{Represents};
 ghost use Rattle.tap_top.specs.Points.{CanPerform};
 ghost use Rattle.tap_top.specs.Premises.{IfTold};
+ghost use Rattle.tap_top.specs.Versions.{IsMigrated, MayBeMigrated};
 ghost use Rattle.tap_top.specs.Refusals.{row_fault, fault_of};
 ghost use Rattle.tap_top.specs.Opened.{HasShortTexts, IfRefused};
 ghost use Rattle.tap_top.specs.declared.opening.OpenFault.{OpenFault};
@@ -90,6 +91,12 @@ pub fn open_store<P: Keeper>(
         (v : ℤ) → P.has_version keeper.old v → fault_of v t ≡ None)) }
     ensures refused { IfRefused result (λ fault. IfTold (P.honest keeper.new) (P.tells keeper.old) (λ t.
         (v : ℤ) → P.has_version keeper.old v → fault_of v t ≡ Some fault)) }
+    ensures version { OnOk result (IfTold (P.honest keeper.new) (P.tells keeper.old) (λ t. P.has_version keeper.new (pos 2))) }
+    ensures known { OnOk result (P.honest keeper.new → (v : ℤ) → P.has_version keeper.old v → (v ≡ pos 1) ⊎ (v ≡ pos 2)) }
+    ensures migrated { IfRefused result (λ fault. IfTold (P.honest keeper.new) (P.tells keeper.old) (λ t.
+        (v : ℤ) → P.has_version keeper.old v → IsMigrated v (P.has_version keeper.new))) }
+    ensures memory { IsErrOf result OpenFault.Memory → IfTold (P.honest keeper.new) (P.tells keeper.old) (λ t.
+        (v : ℤ) → P.has_version keeper.old v → MayBeMigrated v (P.has_version keeper.new)) }
     ensures stopped { (P.stopped keeper.new ≡ true) ↔ IsErrOf result OpenFault.Keeper }
     ensures cause { IsErrOf result OpenFault.Keeper → Rose (P.faults keeper.old) (P.faults keeper.new) }
     ensures placed { (P.place keeper.new ≡ place.now) ⊎ IsErrOf result OpenFault.Memory }

@@ -14,6 +14,7 @@ ghost use Rattle.tap_top.specs.declared.sampled.Cut.{Cut};
 ghost use Rattle.tap_top.specs.Refusals.{fault_of, Refused};
 ghost use Rattle.tap_top.specs.Points.{CanPerform, EngineMatchesKeeper, KeeperFrame};
 ghost use Rattle.tap_top.specs.Premises.{FromEngine, FromStore, FromVersion, IfKnown};
+ghost use Rattle.tap_top.specs.Versions.{VersionStays, VersionAtExit};
 ghost use Rattle.tap_top.specs.Ends.{EngineSampleEnds, SampleEnds};
 ghost use Rattle.tap_top.specs.Samples.{refusals_in, hits_in, Performed, Counted, Adds, FirstPerformed, NextUncommitted, FrontPut};
 
@@ -74,6 +75,8 @@ fn perform_one<P: Keeper, L: Ledger>(
     ensures kept_cause { IsErrOf result Cut.Keeper → Rose (P.faults keeper.old) (P.faults keeper.new) }
     ensures frame { KeeperFrame (P.place keeper.old) (P.place keeper.new) (P.faults keeper.old) (P.faults keeper.new)
         (P.honest keeper.old) (P.honest keeper.new) (P.stopped keeper.new) }
+    ensures version { FromEngine (P.honest keeper.new) engine.old (P.tells keeper.old) (P.may_leave keeper.old) (λ t.
+        VersionStays (P.stopped keeper.new) (P.has_version keeper.old) (P.has_version keeper.new)) }
 {
     let reply = match engine.perform(alloc, keeper, command, steps) {
         Ok(reply) => reply,
@@ -108,6 +111,8 @@ fn perform_all<P: Keeper, L: Ledger>(
     ensures kept_cause { IsErrOf result Cut.Keeper → Rose (P.faults keeper.old) (P.faults keeper.new) }
     ensures frame { KeeperFrame (P.place keeper.old) (P.place keeper.new) (P.faults keeper.old) (P.faults keeper.new)
         (P.honest keeper.old) (P.honest keeper.new) (P.stopped keeper.new) }
+    ensures version { FromEngine (P.honest keeper.new) engine.old (P.tells keeper.old) (P.may_leave keeper.old) (λ t.
+        VersionStays (P.stopped keeper.new) (P.has_version keeper.old) (P.has_version keeper.new)) }
 {
     let mut tally = Tally::new();
     for command in commands.into_vec() {
@@ -180,6 +185,8 @@ fn run_sample<K: Sink, P: Keeper, L: Ledger>(
     ensures kept_cause { result ≡ 5 → Rose (P.faults keeper.old) (P.faults keeper.new) }
     ensures frame { KeeperFrame (P.place keeper.old) (P.place keeper.new) (P.faults keeper.old) (P.faults keeper.new)
         (P.honest keeper.old) (P.honest keeper.new) (P.stopped keeper.new) }
+    ensures version { FromEngine (P.honest keeper.new) engine.old (P.tells keeper.old) (P.may_leave keeper.old) (λ t.
+        VersionStays (P.stopped keeper.new) (P.has_version keeper.old) (P.has_version keeper.new)) }
 {
     let Ok(commands) = sample(alloc, n) else {
         return 7;
@@ -217,6 +224,8 @@ fn sample_with<K: Sink, P: Keeper, L: Ledger>(
     ensures kept_cause { result ≡ 5 → Rose (P.faults keeper.old) (P.faults keeper.new) }
     ensures frame { KeeperFrame (P.place keeper.old) (P.place keeper.new) (P.faults keeper.old) (P.faults keeper.new)
         (P.honest keeper.old) (P.honest keeper.new) (P.stopped keeper.new) }
+    ensures version { FromEngine (P.honest keeper.new) engine (P.tells keeper.old) (P.may_leave keeper.old) (λ t.
+        VersionStays (P.stopped keeper.new) (P.has_version keeper.old) (P.has_version keeper.new)) }
 {
     run_sample(alloc, n, sink, &mut engine, keeper, steps)
 }
@@ -243,6 +252,8 @@ pub fn sample_store<K: Sink, P: Keeper, L: Ledger>(
         SampleEnds result t n (K.out sink.old) (K.out sink.new)
         (P.has_version keeper.old) (P.tells keeper.new) (P.may_leave keeper.new)) }
     ensures silent { (result ≡ 5) ⊎ (result ≡ 7) → K.out sink.new ≡ K.out sink.old }
+    ensures version { FromStore (P.honest keeper.new) (P.tells keeper.old) (P.may_leave keeper.old) (λ t.
+        VersionAtExit result (P.has_version keeper.old) (P.has_version keeper.new)) }
 
     // A store is refused if and only if its version isn't known or one of its rows is damaged.
     ensures refused { FromVersion (P.honest keeper.new) (P.tells keeper.old) (P.may_leave keeper.old) (P.has_version keeper.old) (λ t v.

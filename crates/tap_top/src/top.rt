@@ -17,6 +17,7 @@ ghost use Rattle.tap_model.specs.Sound.{IsStore};
 ghost use Rattle.tap_top.specs.declared.store_fault.StoreFault.{StoreFault as StoreFaultOf};
 ghost use Rattle.tap_top.specs.Points.{CanPerform, KeeperFrame};
 ghost use Rattle.tap_top.specs.Premises.{FromEngine, FromStore, FromVersion, IfKnown, IsCalm, IsUndisturbed};
+ghost use Rattle.tap_top.specs.Versions.{VersionStays, VersionAtExit};
 ghost use Rattle.tap_top.specs.Answers.{CutOff, Uncommitted, Closed, ClosedCut};
 ghost use Rattle.tap_top.specs.Statuses.{TookMany, HoldsScript};
 ghost use Rattle.tap_top.specs.Causes.{Causes};
@@ -89,6 +90,8 @@ fn close<K: Sink, P: Keeper, L: Ledger>(
     ensures calm { result ≢ 4 → K.faults sink.new ≡ K.faults sink.old }
     ensures frame { KeeperFrame (P.place keeper.old) (P.place keeper.new) (P.faults keeper.old) (P.faults keeper.new)
         (P.honest keeper.old) (P.honest keeper.new) (P.stopped keeper.new) }
+    ensures version { FromEngine (P.honest keeper.new) engine.old (P.tells keeper.old) (P.may_leave keeper.old) (λ t.
+        VersionStays (P.stopped keeper.new) (P.has_version keeper.old) (P.has_version keeper.new)) }
 {
     match finish(alloc, reader, engine, keeper, steps, sink) {
         Ok(ok) => status(all_ok && ok),
@@ -123,6 +126,8 @@ fn run<S: Source, K: Sink, P: Keeper, L: Ledger>(
     ensures kept_cause { result ≡ 5 → Rose (P.faults keeper.old) (P.faults keeper.new) }
     ensures frame { KeeperFrame (P.place keeper.old) (P.place keeper.new) (P.faults keeper.old) (P.faults keeper.new)
         (P.honest keeper.old) (P.honest keeper.new) (P.stopped keeper.new) }
+    ensures version { FromEngine (P.honest keeper.new) engine.old (P.tells keeper.old) (P.may_leave keeper.old) (λ t.
+        VersionStays (P.stopped keeper.new) (P.has_version keeper.old) (P.has_version keeper.new)) }
 {
     let mut reader = ScriptReader::new(alloc);
     let mut piece = [0u8; PIECE];
@@ -182,6 +187,8 @@ fn run_with<S: Source, K: Sink, P: Keeper, L: Ledger>(
     ensures kept_cause { result ≡ 5 → Rose (P.faults keeper.old) (P.faults keeper.new) }
     ensures frame { KeeperFrame (P.place keeper.old) (P.place keeper.new) (P.faults keeper.old) (P.faults keeper.new)
         (P.honest keeper.old) (P.honest keeper.new) (P.stopped keeper.new) }
+    ensures version { FromEngine (P.honest keeper.new) engine (P.tells keeper.old) (P.may_leave keeper.old) (λ t.
+        VersionStays (P.stopped keeper.new) (P.has_version keeper.old) (P.has_version keeper.new)) }
 {
     run(alloc, source, sink, &mut engine, keeper, steps)
 }
@@ -206,6 +213,8 @@ fn run_store<S: Source, K: Sink, P: Keeper, L: Ledger>(
         (P.has_version keeper.old) (P.tells keeper.new) (P.may_leave keeper.new)) }
     ensures kept { FromStore (P.honest keeper.new) (P.tells keeper.old) (P.may_leave keeper.old) (λ t.
         (x : Tables) → P.may_leave keeper.new x → IsStore x) }
+    ensures version { FromStore (P.honest keeper.new) (P.tells keeper.old) (P.may_leave keeper.old) (λ t.
+        VersionAtExit result (P.has_version keeper.old) (P.has_version keeper.new)) }
 
     // A store is refused if and only if its version isn't known or one of its rows is damaged.
     ensures refused { FromVersion (P.honest keeper.new) (P.tells keeper.old) (P.may_leave keeper.old) (P.has_version keeper.old) (λ t v.
@@ -294,9 +303,15 @@ pub fn tapestry<S: Source, K: Sink, P: Keeper, L: Ledger>(
     ensures sample_unread { (n : ℕ) → sample_in words.now ≡ Some n →
         (S.left source.new ≡ S.left source.old) × ((result ≢ 3) × (result ≢ 8)) }
 
-    // Whatever a crash leaves, the next session may begin with it.
+    // Whatever a crash leaves, and what the keeper tells, the next session may begin with it.
     ensures kept { FromStore (P.honest keeper.new) (P.tells keeper.old) (P.may_leave keeper.old) (λ t.
         (x : Tables) → P.may_leave keeper.new x → IsStore x) }
+    ensures told { FromStore (P.honest keeper.new) (P.tells keeper.old) (P.may_leave keeper.old) (λ t.
+        result ≢ 5 → (x : Tables) → P.tells keeper.new x → IsStore x) }
+
+    // The version of the store after.
+    ensures version { FromStore (P.honest keeper.new) (P.tells keeper.old) (P.may_leave keeper.old) (λ t.
+        VersionAtExit result (P.has_version keeper.old) (P.has_version keeper.new)) }
 
     // A store is refused if and only if its version isn't known or one of its rows is damaged.
     ensures refused { FromVersion (P.honest keeper.new) (P.tells keeper.old) (P.may_leave keeper.old) (P.has_version keeper.old) (λ t v.

@@ -12,6 +12,7 @@ use Rattle.tap_top.specs.declared.store_fault.StoreFault.{StoreFault}
 use Rattle.tap_top.specs.Ends.{ScriptEnds, SampleEnds}
 use Rattle.tap_top.specs.Premises.{IfKnown}
 use Rattle.tap_top.specs.Refusals.{fault_of, Refused}
+use Rattle.tap_top.specs.Versions.{VersionAtExit}
 use Rattle.tap_top.specs.Statuses.{TookMany}
 
 -- whatever the store: when the words are refused, which then changes nothing; what a sample reads and puts; when a read or a
@@ -30,13 +31,15 @@ pub record Ends (words : List (List ℕ)) (status : ℕ) (left left' out out' : 
   pub ended : sample_in words ≡ None → status ≤ 1 → IsAtEnd left'
   pub statuses : status ≤ 8
 
--- over a store with these tables: how the script or the sample ended, that whatever a crash leaves is a store, and when the
--- store is refused
+-- over a store with these tables: how the script or the sample ended; that whatever a crash leaves, and what the store tells,
+-- is a store again, and with which version; and when the store is refused
 pub record EndsOver (words : List (List ℕ)) (status : ℕ) (left left' out out' : Option (List ℕ))
-    (tables : Tables) (versions : ℤ → Type 0) (tells leaves : Tables → Type 0) : Type 0 where
+    (tables : Tables) (versions versions' : ℤ → Type 0) (tells leaves : Tables → Type 0) : Type 0 where
   pub script : sample_in words ≡ None → IsStore tables → ScriptEnds status tables left left' out out' versions tells leaves
   pub sample : (n : ℕ) → sample_in words ≡ Some n → IsStore tables → SampleEnds status tables n out out' versions tells leaves
   pub kept : IsStore tables → (x : Tables) → leaves x → IsStore x
+  pub told : IsStore tables → status ≢ 5 → (x : Tables) → tells x → IsStore x
+  pub version : IsStore tables → VersionAtExit status versions versions'
   pub refused : (v : ℤ) → versions v → (fault : StoreFault) → fault_of v tables ≡ Some fault →
       Refused status fault left left' out out' tells leaves tables
   pub fine : (v : ℤ) → versions v → fault_of v tables ≡ None → status ≢ 6

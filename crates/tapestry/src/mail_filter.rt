@@ -15,8 +15,8 @@ impl Session for MailFilter {
 
     ghost ends = { λ words status left left' out out' reads reads' puts puts'. Ends words status left left' out out' reads reads' puts puts' };
 
-    ghost ends_over = { λ words status left left' out out' tables versions tells leaves.
-        EndsOver words status left left' out out' tables versions tells leaves };
+    ghost ends_over = { λ words status left left' out out' tables versions versions' tells leaves.
+        EndsOver words status left left' out out' tables versions versions' tells leaves };
 
     fn hold<I: Source, K: Sink, P: Keeper, L: Ledger>(
         alloc: Global,

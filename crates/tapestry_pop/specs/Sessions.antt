@@ -10,6 +10,7 @@ use Rattle.tap_model.specs.Sound.{IsStore}
 use Rattle.tap_top.specs.declared.store_fault.StoreFault.{StoreFault}
 use Rattle.tap_top.specs.Premises.{IfKnown}
 use Rattle.tap_top.specs.Refusals.{fault_of, Refused}
+use Rattle.tap_top.specs.Versions.{VersionAtExit}
 use Rattle.pop_session.specs.Ends.{TookMany}
 use Rattle.pop_box.specs.Letters.{letters_in}
 use Rattle.pop_box.specs.Served.{Served, TookQuit, Unchanged}
@@ -29,12 +30,14 @@ pub record Ends (words : List (List ℕ)) (status : ℕ) (left left' out out' : 
   pub ended : status ≡ 1 → IsAtEnd left'
   pub statuses : status ≤ 9
 
--- over a store with these tables: how the box was served, that the tables are unchanged, and when the store is refused
+-- over a store with these tables: how the box was served, that the tables are unchanged, the version after, and when the
+-- store is refused
 pub record EndsOver (words : List (List ℕ)) (status : ℕ) (left left' out out' : Option (List ℕ))
-    (tables : Tables) (versions : ℤ → Type 0) (tells leaves : Tables → Type 0) : Type 0 where
+    (tables : Tables) (versions versions' : ℤ → Type 0) (tells leaves : Tables → Type 0) : Type 0 where
   pub session : IsStore tables →
       Served status (letters_in (user_in words) (box_in words) tables) (user_in words) (secret_in words) left left' out out' versions
   pub unchanged : Unchanged status tables tells leaves
+  pub version : VersionAtExit status versions versions'
   pub refused : (v : ℤ) → versions v → (fault : StoreFault) → fault_of v tables ≡ Some fault →
       Refused status fault left left' out out' tells leaves tables
   pub fine : (v : ℤ) → versions v → fault_of v tables ≡ None → status ≢ 6

@@ -5,6 +5,7 @@ use Rattle.command_words.proofs.PopWorded.{worded-pop}
 use Rattle.clap.specs.Words.{takes}
 use Rattle.command_words.specs.PopOptions.{pop_app}
 use Rattle.tap_top.proofs.Refusals.{Refused-none, not-stopped}
+use Rattle.tap_top.proofs.Versions.{exit-words, exit-unopened}
 use Rattle.pop_box.proofs.Served.{unserved, served-words, took-quit-words}
 use Rattle.pop_box.proofs.serving.serve.Goals as goal
 
@@ -62,3 +63,9 @@ returns-in-Err-Refused-clause-named g c = λ path user name secret worded.
 pub returns-clause-named : goal.returns-clause-named
 returns-clause-named g c = λ path user name secret worded.
     let asked = worded-pop c.args.words.now path user name secret worded in (asked.place, (asked.user_is, (asked.name_is, asked.secret_is)))
+
+pub returns-in-Err-Refused-clause-version : goal.returns-in-Err-Refused-clause-version
+returns-in-Err-Refused-clause-version g c = λ t honest holds. exit-words _
+
+pub returns-in-Err-Memory-clause-version : goal.returns-in-Err-Memory-clause-version
+returns-in-Err-Memory-clause-version g c = λ t honest holds. exit-unopened _

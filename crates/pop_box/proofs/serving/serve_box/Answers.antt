@@ -1,8 +1,9 @@
-use Rattle.std.proofs.Common.{refl, sym, subst, inl, inr}
+use Rattle.std.proofs.Common.{refl, sym, ap, subst, Err, inl, inr}
 use Rattle.tap_model.specs.Sound.{IsSound}
 use Rattle.tap_top.specs.Refusals.{fault_of}
 use Rattle.tap_top.proofs.Refusals.{fine-store, some-or-none, Refused-none, refused-for, not-stopped}
-use Rattle.pop_box.proofs.Served.{served, refused, unserved}
+use Rattle.tap_top.proofs.Versions.{exit-opened, exit-failed, exit-refused, exit-memory}
+use Rattle.pop_box.proofs.Served.{served, refused, unserved, served-not-two}
 use Rattle.pop_box.proofs.serving.serve_box.Goals as goal
 
 pub returns-in-Ok-clause-session : goal.returns-in-Ok-clause-session
@@ -50,3 +51,19 @@ returns-in-Err-Memory-clause-unchanged g c = λ t honest holds. record {
 
 pub returns-in-Err-Memory-clause-refused : goal.returns-in-Err-Memory-clause-refused
 returns-in-Err-Memory-clause-refused g c = λ t honest holds v version fault is. Refused-none 7 fault _ _ _ _ _ _ t (inr (inr (inr (inr refl)))) (λ e. cc) refl refl (λ _. (c.in-Err-Memory.ensures.kept honest t holds.told (not-stopped (g.P.Keeper.stopped c.open_store.new.keeper) c.in-Err-Memory.ensures.stopped.0 (λ e. cc))).told) (c.in-Err-Memory.ensures.crash honest t holds.told)
+
+pub returns-in-Ok-clause-version : goal.returns-in-Ok-clause-version
+returns-in-Ok-clause-version g c = λ t honest holds.
+    exit-opened c.serve_with.result (g.P.Keeper.has_version c.args.keeper.now) (g.P.Keeper.has_version c.open_store.new.keeper)
+    (served-not-two c.serve_with.result c.serve_with.ensures.statuses) (c.in-Ok.ensures.version honest t holds.told) (c.in-Ok.ensures.known honest)
+
+pub returns-in-Err-Refused-clause-version : goal.returns-in-Err-Refused-clause-version
+returns-in-Err-Refused-clause-version g c = λ t honest holds.
+    exit-refused c.refuse.result (g.P.Keeper.has_version c.args.keeper.now) (g.P.Keeper.has_version c.open_store.new.keeper) c.refuse.ensures.statuses
+    (refused-for _ _ c.in-Err-Refused.fault c.in-Err-Refused.ensures.migrated c.in-Err-Refused.field-0-is honest t holds.told)
+
+pub returns-in-Err-Keeper-clause-version : goal.returns-in-Err-Keeper-clause-version
+returns-in-Err-Keeper-clause-version g c = λ t honest holds. exit-failed 5 _ _ refl
+
+pub returns-in-Err-Memory-clause-version : goal.returns-in-Err-Memory-clause-version
+returns-in-Err-Memory-clause-version g c = λ t honest holds. exit-memory _ _ (c.in-Err-Memory.ensures.memory (ap Err c.in-Err-Memory.field-0-is) honest t holds.told)

@@ -11,6 +11,7 @@ loop-rest-init g c = record {
   can = c.requires.can;
   same = refl;
   keeper = KeeperFrame-start _ _ _ _;
+  version = λ t honest at v has. has;
 }
 
 pub loop-rest-preserved : goal.loop-rest-preserved
@@ -20,6 +21,9 @@ loop-rest-preserved g c = record {
   can = c.in-Ok.ensures.can;
   same = c.in-Ok.ensures.calm (λ e. cc) ∙ c.loop-rest.invariant.same;
   keeper = KeeperFrame-then _ _ _ _ _ _ _ _ _ _ _ c.loop-rest.invariant.can.keeping c.loop-rest.invariant.keeper c.in-Ok.ensures.frame;
+  version = λ t honest at v has.
+      let fed = (c.loop-rest.invariant.feeding t (c.in-Ok.ensures.frame.before honest) at).answered_piece.answered in
+      c.in-Ok.ensures.version fed.tables' honest fed.ends c.in-Ok.ensures.can.keeping v (c.loop-rest.invariant.version t (c.in-Ok.ensures.frame.before honest) at v has);
 }
 
 pub returns-in-Err-Put-clause-put : goal.returns-in-Err-Put-clause-put
@@ -34,3 +38,21 @@ pub returns-in-Err-Memory-clause-memory : goal.returns-in-Err-Memory-clause-memo
 returns-in-Err-Memory-clause-memory g c = λ _ t honest at.
     let same = c.in-Err-Memory.ensures.memory (ap Err c.in-Err-Memory.field-0-is) in
     Feeding-short _ _ _ _ t _ _ _ _ _ _ _ _ (λ x there. subst (λ k. IsDurable (g.P.Keeper.tells k) (g.P.Keeper.may_leave k) x) (sym same.0) there.holds) same.1.1 (c.loop-rest.invariant.feeding t (c.in-Err-Memory.ensures.frame.before honest) at)
+
+pub returns-in-Err-Put-clause-version : goal.returns-in-Err-Put-clause-version
+returns-in-Err-Put-clause-version g c = λ t honest at runs v has.
+    let fed = (c.loop-rest.invariant.feeding t (c.in-Err-Put.ensures.frame.before honest) at).answered_piece.answered in
+    c.in-Err-Put.ensures.version fed.tables' honest fed.ends runs v (c.loop-rest.invariant.version t (c.in-Err-Put.ensures.frame.before honest) at v has)
+
+pub returns-in-Err-Keeper-clause-version : goal.returns-in-Err-Keeper-clause-version
+returns-in-Err-Keeper-clause-version g c = λ t honest at runs v has.
+    let fed = (c.loop-rest.invariant.feeding t (c.in-Err-Keeper.ensures.frame.before honest) at).answered_piece.answered in
+    c.in-Err-Keeper.ensures.version fed.tables' honest fed.ends runs v (c.loop-rest.invariant.version t (c.in-Err-Keeper.ensures.frame.before honest) at v has)
+
+pub returns-in-Err-Memory-clause-version : goal.returns-in-Err-Memory-clause-version
+returns-in-Err-Memory-clause-version g c = λ t honest at runs v has.
+    let fed = (c.loop-rest.invariant.feeding t (c.in-Err-Memory.ensures.frame.before honest) at).answered_piece.answered in
+    c.in-Err-Memory.ensures.version fed.tables' honest fed.ends runs v (c.loop-rest.invariant.version t (c.in-Err-Memory.ensures.frame.before honest) at v has)
+
+pub returns-clause-version : goal.returns-clause-version
+returns-clause-version g c = λ t honest at runs v has. c.loop-rest.invariant.version t honest at v has

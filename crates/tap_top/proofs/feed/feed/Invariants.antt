@@ -1,4 +1,4 @@
-use Rattle.std.proofs.Common.{◌≡◌, length, []}
+use Rattle.std.proofs.Common.{◌≡◌, ℤ, length, []}
 use Rattle.tap_rows.specs.declared.tables.Tables.{Tables}
 use Rattle.script_lang.specs.Script.{complete_from}
 use Rattle.tap_top.specs.Points.{CanPerform, EngineMatchesKeeper, KeeperFrame}
@@ -12,6 +12,7 @@ invariant-loop-rest g l = record {
   can : CanPerform l.engine (g.P.Keeper.attached l.keeper) (g.P.Keeper.stopped l.keeper);
   same : g.K.Sink.faults l.sink ≡ g.K.Sink.faults l.fn.sink;
   keeper : KeeperFrame (g.P.Keeper.place l.fn.keeper) (g.P.Keeper.place l.keeper) (g.P.Keeper.faults l.fn.keeper) (g.P.Keeper.faults l.keeper) (g.P.Keeper.honest l.fn.keeper) (g.P.Keeper.honest l.keeper) (g.P.Keeper.stopped l.keeper);
+  version : (t : Tables) → g.P.Keeper.honest l.keeper → EngineMatchesKeeper l.fn.engine (g.P.Keeper.tells l.fn.keeper) (g.P.Keeper.may_leave l.fn.keeper) t → (v : ℤ) → g.P.Keeper.has_version l.fn.keeper v → g.P.Keeper.has_version l.keeper v;
 }
 
 abbrev pub decreases-loop-rest : goal.decreases-loop-rest

@@ -1,8 +1,9 @@
-use Rattle.std.proofs.Common.{refl, inl, inr}
+use Rattle.std.proofs.Common.{refl, ap, Err, inl, inr}
 use Rattle.tap_top.specs.Refusals.{fault_of}
 use Rattle.tap_top.proofs.Refusals.{fine-store, some-or-none, Refused-none, refused-for, not-stopped}
 use Rattle.tap_top.proofs.Crashes.{opened-at}
 use Rattle.tap_top.proofs.Ends.{sample-ends, refused-sample, failed-sample, unopened-sample}
+use Rattle.tap_top.proofs.Versions.{sample-not-two, exit-run, exit-refused, exit-failed, exit-memory}
 use Rattle.tap_top.proofs.sampled.sample_store.Goals as goal
 
 pub returns-in-Ok-clause-sample : goal.returns-in-Ok-clause-sample
@@ -31,3 +32,22 @@ returns-in-Err-Memory-clause-sample g c = λ t honest holds store. unopened-samp
 
 pub returns-in-Err-Memory-clause-refused : goal.returns-in-Err-Memory-clause-refused
 returns-in-Err-Memory-clause-refused g c = λ t honest holds v version fault is left. Refused-none 7 fault left left _ _ _ _ t (inr (inr (inr (inr refl)))) (λ e. cc) refl refl (λ _. (c.in-Err-Memory.ensures.kept honest t holds.told (not-stopped (g.P.Keeper.stopped c.open_store.new.keeper) c.in-Err-Memory.ensures.stopped.0 (λ e. cc))).told) (c.in-Err-Memory.ensures.crash honest t holds.told)
+
+pub returns-in-Ok-clause-version : goal.returns-in-Ok-clause-version
+returns-in-Ok-clause-version g c = λ t honest holds store.
+    let opened = c.sample_with.ensures.frame.before honest in
+    let at = opened-at c.in-Ok.engine _ _ t c.in-Ok.ensures.session (c.in-Ok.ensures.represents opened t holds.told) (c.in-Ok.ensures.kept opened t holds.told c.in-Ok.ensures.can.keeping) store in
+    exit-run c.sample_with.result (g.P.Keeper.stopped c.sample_with.new.keeper) (g.P.Keeper.has_version c.args.keeper.now) (g.P.Keeper.has_version c.sample_with.new.keeper)
+    (sample-not-two c.sample_with.result c.sample_with.ensures.statuses) c.sample_with.ensures.stopped.0
+    (λ runs. c.sample_with.ensures.version t honest at runs _ (c.in-Ok.ensures.version opened t holds.told)) (c.in-Ok.ensures.known opened)
+
+pub returns-in-Err-Refused-clause-version : goal.returns-in-Err-Refused-clause-version
+returns-in-Err-Refused-clause-version g c = λ t honest holds store.
+    exit-refused c.refuse.result (g.P.Keeper.has_version c.args.keeper.now) (g.P.Keeper.has_version c.open_store.new.keeper) c.refuse.ensures.statuses
+    (refused-for _ _ c.in-Err-Refused.fault c.in-Err-Refused.ensures.migrated c.in-Err-Refused.field-0-is honest t holds.told)
+
+pub returns-in-Err-Keeper-clause-version : goal.returns-in-Err-Keeper-clause-version
+returns-in-Err-Keeper-clause-version g c = λ t honest holds store. exit-failed 5 _ _ refl
+
+pub returns-in-Err-Memory-clause-version : goal.returns-in-Err-Memory-clause-version
+returns-in-Err-Memory-clause-version g c = λ t honest holds store. exit-memory _ _ (c.in-Err-Memory.ensures.memory (ap Err c.in-Err-Memory.field-0-is) honest t holds.told)

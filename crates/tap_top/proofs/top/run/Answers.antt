@@ -18,6 +18,7 @@ pieces-init g c = record {
   reads = refl;
   puts = refl;
   keeper = KeeperFrame-start _ _ _ _;
+  version = λ t honest at v has. has;
 }
 
 pub pieces-preserved : goal.pieces-preserved
@@ -30,6 +31,9 @@ pieces-preserved g c = record {
   reads = c.in-Ok.ensures.cause.fine ∙ c.pieces.invariant.reads;
   puts = c.in-Ok-feed.ensures.calm (λ e. cc) ∙ c.pieces.invariant.puts;
   keeper = KeeperFrame-then _ _ _ _ _ _ _ _ _ _ _ c.pieces.invariant.can.keeping c.pieces.invariant.keeper c.in-Ok-feed.ensures.frame;
+  version = λ t honest at v has.
+      let ran = (c.pieces.invariant.running t (c.in-Ok-feed.ensures.frame.before honest) at).answered_piece.answered in
+      c.in-Ok-feed.ensures.version ran.tables' honest ran.ends c.in-Ok-feed.ensures.can.keeping v (c.pieces.invariant.version t (c.in-Ok-feed.ensures.frame.before honest) at v has);
 }
 
 pub returns-in-Err-clause-ends : goal.returns-in-Err-clause-ends
@@ -70,3 +74,29 @@ pub returns-clause-ends : goal.returns-clause-ends
 returns-clause-ends g c = λ t honest at.
     long-ends t _ _ _ _ _ _
     (Running-long _ _ _ _ t _ _ _ _ _ _ (λ x there. there.holds) (c.pieces.invariant.running t honest at) (let e = c.pieces-test.false in omega arith) c.pieces.invariant.few)
+
+pub returns-in-Err-clause-version : goal.returns-in-Err-clause-version
+returns-in-Err-clause-version g c = λ t honest at runs v has. c.pieces.invariant.version t honest at v has
+
+pub returns-then-n-eq0-clause-version : goal.returns-then-n-eq0-clause-version
+returns-then-n-eq0-clause-version g c = λ t honest at runs v has.
+    let ran = (c.pieces.invariant.running t (c.close.ensures.frame.before honest) at).answered_piece.answered in
+    c.close.ensures.version ran.tables' honest ran.ends runs v (c.pieces.invariant.version t (c.close.ensures.frame.before honest) at v has)
+
+pub returns-in-Err-Put-clause-version : goal.returns-in-Err-Put-clause-version
+returns-in-Err-Put-clause-version g c = λ t honest at runs v has.
+    let ran = (c.pieces.invariant.running t (c.in-Err-Put.ensures.frame.before honest) at).answered_piece.answered in
+    c.in-Err-Put.ensures.version ran.tables' honest ran.ends runs v (c.pieces.invariant.version t (c.in-Err-Put.ensures.frame.before honest) at v has)
+
+pub returns-in-Err-Keeper-clause-version : goal.returns-in-Err-Keeper-clause-version
+returns-in-Err-Keeper-clause-version g c = λ t honest at runs v has.
+    let ran = (c.pieces.invariant.running t (c.in-Err-Keeper.ensures.frame.before honest) at).answered_piece.answered in
+    c.in-Err-Keeper.ensures.version ran.tables' honest ran.ends runs v (c.pieces.invariant.version t (c.in-Err-Keeper.ensures.frame.before honest) at v has)
+
+pub returns-in-Err-Memory-clause-version : goal.returns-in-Err-Memory-clause-version
+returns-in-Err-Memory-clause-version g c = λ t honest at runs v has.
+    let ran = (c.pieces.invariant.running t (c.in-Err-Memory.ensures.frame.before honest) at).answered_piece.answered in
+    c.in-Err-Memory.ensures.version ran.tables' honest ran.ends runs v (c.pieces.invariant.version t (c.in-Err-Memory.ensures.frame.before honest) at v has)
+
+pub returns-clause-version : goal.returns-clause-version
+returns-clause-version g c = λ t honest at runs v has. c.pieces.invariant.version t honest at v has

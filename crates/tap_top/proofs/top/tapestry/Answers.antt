@@ -4,8 +4,10 @@ use Rattle.command_words.specs.declared.option_fault.OptionFault.TheVariants.{Re
 use Rattle.command_words.specs.Words.{sample_in}
 use Rattle.command_words.proofs.Worded.{worded}
 use Rattle.sample_gen.specs.Samples.{sample_of}
+use Rattle.tap_model.specs.Sound.{IsStore}
 use Rattle.tap_top.specs.Ends.{SampleEnds}
-use Rattle.tap_top.proofs.Refusals.{Refused-none}
+use Rattle.tap_top.proofs.Refusals.{Refused-none, not-stopped}
+use Rattle.tap_top.proofs.Versions.{exit-words, exit-unopened}
 use Rattle.tap_top.proofs.SampleCrashes.{first-stores}
 use Rattle.tap_top.proofs.Ends.{worded-ends, worded-sample, unopened-ends, unopened-sample}
 use Rattle.tap_top.proofs.top.tapestry.Goals as goal
@@ -74,3 +76,25 @@ returns-clause-script g c = λ _ t honest holds store. c.run_store.ensures.scrip
 
 pub returns-clause-sample : goal.returns-clause-sample
 returns-clause-sample g c = λ n asked. absurd (some-is (sample_in c.args.words.now) n asked (sym c.in-Ok.ensures.sample ∙ c.in-None.is))
+
+pub returns-in-Err-Refused-clause-version : goal.returns-in-Err-Refused-clause-version
+returns-in-Err-Refused-clause-version g c = λ t honest holds store. exit-words _
+
+pub returns-in-Err-Memory-clause-version : goal.returns-in-Err-Memory-clause-version
+returns-in-Err-Memory-clause-version g c = λ t honest holds store. exit-unopened _
+
+pub returns-in-Err-Refused-clause-told : goal.returns-in-Err-Refused-clause-told
+returns-in-Err-Refused-clause-told g c = λ t honest holds store _ x tells. subst IsStore (sym (holds.alone x (g.met.P.Keeper.left c.args.keeper.now x honest c.requires.running tells))) store
+
+pub returns-in-Err-Memory-clause-told : goal.returns-in-Err-Memory-clause-told
+returns-in-Err-Memory-clause-told g c = λ t honest holds store _ x tells. subst IsStore (sym (holds.alone x (g.met.P.Keeper.left c.args.keeper.now x honest c.requires.running tells))) store
+
+pub returns-in-Some-clause-told : goal.returns-in-Some-clause-told
+returns-in-Some-clause-told g c = λ t honest holds store runs x tells.
+    returns-in-Some-clause-kept g c t honest holds store x
+    (g.met.P.Keeper.left c.sample_store.new.keeper x honest (not-stopped (g.P.Keeper.stopped c.sample_store.new.keeper) c.sample_store.ensures.stopped.0 runs) tells)
+
+pub returns-clause-told : goal.returns-clause-told
+returns-clause-told g c = λ t honest holds store runs x tells.
+    c.run_store.ensures.kept t honest holds store x
+    (g.met.P.Keeper.left c.run_store.new.keeper x honest (not-stopped (g.P.Keeper.stopped c.run_store.new.keeper) c.run_store.ensures.causes.stopped.0 runs) tells)
