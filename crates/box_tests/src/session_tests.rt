@@ -1,29 +1,30 @@
 //! Tests of sessions.
+
 ghost use Rattle.std.specs.Prelude.{◌≡◌, ◌<◌, ◌≤◌, length, IfOk};
 ghost use Rattle.pop_session.specs.Sessions.{AreShort, IsReady};
 
 use pop_session::{Letter, PopSession};
 use std::alloc::Global;
-use std::test::Fail;
 use tap_base::{DocNum, Memory, Text};
 use tap_edges::{MemSink, PutPlan};
+
+// Returns a letter.
+fn letter(doc: u32, text: Text) -> Letter
+    ensures { result.text ≡ text }
+{
+    Letter {
+        doc: DocNum(doc),
+        text,
+    }
+}
 
 // Returns two letters, of the documents 1 and 20. A line of the second begins with a dot.
 fn letters(alloc: Global) -> Result<Vec<Letter>, Memory>
     ensures { IfOk result (λ letters. AreShort letters.items) }
 {
-    let first = Letter {
-        doc: DocNum(1),
-        text: Text::from_slice(alloc, b"Subject: hi\n\n")?,
-    };
-    let second = Letter {
-        doc: DocNum(20),
-        text: Text::from_slice(alloc, b"Subject: dots\n\n.a\n")?,
-    };
-    let mut letters = Vec::new(alloc);
-    letters.push(first)?;
-    letters.push(second)?;
-    Ok(letters)
+    let first = Text::from_slice(alloc, b"Subject: hi\n\n")?;
+    let second = Text::from_slice(alloc, b"Subject: dots\n\n.a\n")?;
+    Ok(vec![in alloc; letter(1, first), letter(20, second)]?)
 }
 
 // Gives the bytes to the session in pieces of this size. Returns whether it accepted a QUIT, or how many bytes a put that
@@ -49,43 +50,76 @@ fn give(
     Ok(false)
 }
 
-// Returns what a session over these letters puts for these bytes in pieces of this size. `quit` follows if it accepted a QUIT, and
-// `failed` if a put failed.
-fn run(
-    alloc: Global,
+// Greets, and gives the bytes to a session over these letters; returns what `give` does, or nothing if the greeting failed.
+fn serve(
     letters: &[Letter],
     bytes: &[u8],
     size: usize,
-    fails: Vec<PutPlan>,
-) -> Result<Text, Memory>
+    sink: &mut MemSink,
+) -> Option<Result<bool, usize>>
     requires letters { AreShort letters.now }
     requires some { 0 < size }
 {
-    let mut sink = MemSink::new(alloc, 4096, fails)?;
     let mut session = PopSession::new(b"ann", b"pw", letters);
-    if session.greet(&mut sink).is_err() {
-        return Text::from_slice(alloc, b"no greeting");
+    match session.greet(sink) {
+        Ok(()) => Some(give(&mut session, bytes, size, sink)),
+        Err(_) => None,
     }
-    let end: &[u8] = match give(&mut session, bytes, size, &mut sink) {
-        Ok(true) => b"quit",
-        Ok(false) => b"",
-        Err(_) => b"failed",
+}
+
+// Serves the two letters.
+fn serve_letters(
+    alloc: Global,
+    bytes: &[u8],
+    size: usize,
+    sink: &mut MemSink,
+) -> Result<Option<Result<bool, usize>>, Memory>
+    requires some { 0 < size }
+{
+    let letters = letters(alloc)?;
+    let end = serve(&letters, bytes, size, sink);
+    drop(letters);
+    Ok(end)
+}
+
+// Returns what was put, and then how the session ended.
+fn with_end(alloc: Global, put: &[u8], end: &[u8]) -> Result<Text, Memory> {
+    let mut text = Text::from_slice(alloc, put)?;
+    match text.push_slice(end) {
+        Ok(()) => Ok(text),
+        Err(Memory) => {
+            drop(text);
+            Err(Memory)
+        }
+    }
+}
+
+// Returns what a session over the two letters puts for these bytes in pieces of this size. `quit` follows if it accepted a
+// QUIT, and `failed` if a put failed.
+fn run(alloc: Global, bytes: &[u8], size: usize, fails: Vec<PutPlan>) -> Result<Text, Memory>
+    requires some { 0 < size }
+{
+    let mut sink = MemSink::new(alloc, 4096, fails)?;
+    let text = match serve_letters(alloc, bytes, size, &mut sink) {
+        Ok(None) => Text::from_slice(alloc, b"no greeting"),
+        Ok(Some(Ok(true))) => with_end(alloc, sink.written(), b"quit"),
+        Ok(Some(Ok(false))) => with_end(alloc, sink.written(), b""),
+        Ok(Some(Err(_))) => with_end(alloc, sink.written(), b"failed"),
+        Err(Memory) => Err(Memory),
     };
-    let mut text = Text::from_slice(alloc, sink.written())?;
-    text.push_slice(end)?;
-    Ok(text)
+    drop(sink);
+    text
 }
 
 // Returns what a session over the two letters puts.
 fn shown(alloc: Global, bytes: &[u8], size: usize) -> Result<Text, Memory>
     requires some { 0 < size }
 {
-    let letters = letters(alloc)?;
-    run(alloc, &letters, bytes, size, Vec::new(alloc))
+    run(alloc, bytes, size, Vec::new(alloc))
 }
 
 #[test]
-fn a_session_is_served(rt: HostRuntime) -> Result<(), Fail> {
+fn a_session_is_served(rt: HostRuntime) -> Result<(), Memory> {
     let bytes: &[u8] =
         b"USER ann\r\nPASS no\r\nSTAT\r\nuser ann\r\nPASS pw\r\nSTAT\r\nLIST 2\r\nUIDL\r\nRETR 2\r\nDELE 1\r\nRETR 3\r\nTOP 1 0\r\nQUIT\r\nSTAT\r\n";
     let want: &[u8] =
@@ -95,13 +129,14 @@ fn a_session_is_served(rt: HostRuntime) -> Result<(), Fail> {
         if size > 0 {
             let text = shown(rt.alloc(), bytes, size)?;
             assert_eq!(rt; text.as_slice(), want);
+            drop(text);
         }
     }
     Ok(())
 }
 
 #[test]
-fn requests_are_checked_in_order(rt: HostRuntime) -> Result<(), Fail> {
+fn requests_are_checked_in_order(rt: HostRuntime) -> Result<(), Memory> {
     let rows: [(&[u8], &[u8]); 14] = [
         // no request; a last one without an LF is none
         (b"", b""),
@@ -155,25 +190,37 @@ fn requests_are_checked_in_order(rt: HostRuntime) -> Result<(), Fail> {
     ];
     for (bytes, want) in rows {
         let text = shown(rt.alloc(), bytes, 3)?;
-        let mut whole = Text::from_slice(rt.alloc(), b"+OK tapestry\r\n")?;
-        whole.push_slice(want)?;
-        assert_eq!(rt; text.as_slice(), whole.as_slice());
+        assert_eq!(rt;
+            text.as_slice().strip_prefix(b"+OK tapestry\r\n".as_slice()),
+            Some(want)
+        );
+        drop(text);
     }
     Ok(())
 }
 
-// Returns what a session puts for a request of QUIT, as many blanks as make it this long, and an end.
-fn of_length(alloc: Global, len: usize, end: &[u8]) -> Result<Text, Memory> {
-    let mut request = Text::from_slice(alloc, b"QUIT")?;
+// Appends a request of QUIT, as many blanks as make it this long, and an end.
+fn push_request(request: &mut Text, len: usize, end: &[u8]) -> Result<(), Memory> {
+    request.push_slice(b"QUIT")?;
     for _ in 4..len {
         request.push_slice(b" ")?;
     }
-    request.push_slice(end)?;
-    shown(alloc, request.as_slice(), 100)
+    request.push_slice(end)
+}
+
+// Returns what a session puts for such a request.
+fn of_length(alloc: Global, len: usize, end: &[u8]) -> Result<Text, Memory> {
+    let mut request = Text::new(alloc);
+    let text = match push_request(&mut request, len, end) {
+        Ok(()) => shown(alloc, request.as_slice(), 100),
+        Err(Memory) => Err(Memory),
+    };
+    drop(request);
+    text
 }
 
 #[test]
-fn a_request_has_at_most_512_bytes(rt: HostRuntime) -> Result<(), Fail> {
+fn a_request_has_at_most_512_bytes(rt: HostRuntime) -> Result<(), Memory> {
     let rows: [(usize, &[u8], &[u8]); 5] = [
         (512, b"\n", b"+OK tapestry\r\n+OK\r\nquit"),
         (511, b"\r\n", b"+OK tapestry\r\n+OK\r\nquit"),
@@ -188,20 +235,19 @@ fn a_request_has_at_most_512_bytes(rt: HostRuntime) -> Result<(), Fail> {
     for (len, end, want) in rows {
         let text = of_length(rt.alloc(), len, end)?;
         assert_eq!(rt; text.as_slice(), want);
+        drop(text);
     }
     Ok(())
 }
 
 // Returns what a session puts where the put of this number fails after two bytes.
 fn shown_until(alloc: Global, call: u64) -> Result<Text, Memory> {
-    let letters = letters(alloc)?;
-    let mut fails = Vec::new(alloc);
-    fails.push(PutPlan { call, out: 2 })?;
-    run(alloc, &letters, b"USER ann\nPASS pw\nUIDL\n", 100, fails)
+    let fails = vec![in alloc; PutPlan { call, out: 2 }]?;
+    run(alloc, b"USER ann\nPASS pw\nUIDL\n", 100, fails)
 }
 
 #[test]
-fn a_failed_put_ends_the_session(rt: HostRuntime) -> Result<(), Fail> {
+fn a_failed_put_ends_the_session(rt: HostRuntime) -> Result<(), Memory> {
     let rows: [(u64, &[u8]); 4] = [
         (0, b"no greeting"),
         (1, b"+OK tapestry\r\n+Ofailed"),
@@ -214,21 +260,22 @@ fn a_failed_put_ends_the_session(rt: HostRuntime) -> Result<(), Fail> {
     for (call, want) in rows {
         let text = shown_until(rt.alloc(), call)?;
         assert_eq!(rt; text.as_slice(), want);
+        drop(text);
     }
     Ok(())
 }
 
-#[test]
-fn a_failed_put_counts_the_bytes_of_its_call(rt: HostRuntime) -> Result<(), Fail> {
-    let alloc = rt.alloc();
-    let letters = letters(alloc)?;
-    let mut fails = Vec::new(alloc);
-    fails.push(PutPlan { call: 4, out: 2 })?;
+// Returns how a session ends whose fifth put fails after two bytes.
+fn end_at_fifth(alloc: Global) -> Result<Option<Result<bool, usize>>, Memory> {
+    let fails = vec![in alloc; PutPlan { call: 4, out: 2 }]?;
     let mut sink = MemSink::new(alloc, 4096, fails)?;
-    let mut session = PopSession::new(b"ann", b"pw", &letters);
-    if session.greet(&mut sink).is_ok() {
-        let end = give(&mut session, b"USER ann\nPASS pw\nUIDL\n", 100, &mut sink);
-        assert_eq!(rt; end, Err(17));
-    }
+    let end = serve_letters(alloc, b"USER ann\nPASS pw\nUIDL\n", 100, &mut sink);
+    drop(sink);
+    end
+}
+
+#[test]
+fn a_failed_put_counts_the_bytes_of_its_call(rt: HostRuntime) -> Result<(), Memory> {
+    assert_eq!(rt; end_at_fifth(rt.alloc())?, Some(Err(17)));
     Ok(())
 }

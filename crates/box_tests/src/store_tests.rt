@@ -1,18 +1,17 @@
 //! Sessions over a store in memory: the worked session, in pieces of each size, and each way in which none begins.
+
 ghost use Rattle.std.specs.Prelude.{◌≡◌, ◌<◌, false};
 ghost use Rattle.std.specs.List.{All};
 ghost use Rattle.std.specs.Str.{IsUtf8};
 
 use keeper_core::MemKeeper;
 use pop_box::serve;
-use session_runs::{sink_of, source_of, words_in, written_over};
+use session_runs::{edges_of, tables_after, words_in};
 use std::alloc::Global;
 use std::marker::Brand;
 use std::sync::ledger::{Blank, Ledger};
-use std::test::Fail;
 use tap_base::{HashKey, Memory, Steps, Text, Texts};
 use tap_edges::{MemSink, MemSource};
-use tap_rows::Tables;
 
 // The commands that leave the store of the worked session: two letters, of which the second has a line that begins with a dot.
 const STORE: &[u8] =
@@ -23,15 +22,6 @@ const REQUESTS: &[u8] =
 
 const REPLIES: &[u8] =
     b"+OK tapestry\r\n+OK\r\n-ERR denied\r\n-ERR state\r\n+OK\r\n+OK\r\n+OK 2 36\r\n+OK 2 21\r\n+OK\r\n1 d1\r\n2 d2\r\n.\r\n+OK 21\r\nSubject: dots\r\n\r\n..a\r\n.\r\n-ERR kept\r\n-ERR message\r\n-ERR unknown\r\n+OK\r\n";
-
-// Returns the tables of the store.
-fn store(alloc: Global) -> Result<Tables, Memory> {
-    let mut keeper = MemKeeper::new(alloc, Tables::empty(alloc), 2, Vec::new(alloc));
-    let source = source_of(alloc, STORE, 4096, Vec::new(alloc))?;
-    let sink = sink_of(alloc, 4096, Vec::new(alloc))?;
-    let (_status, _written) = written_over(alloc, &mut keeper, source, sink)?;
-    Ok(keeper.after_crash())
-}
 
 // Serves with the counter of a blank; returns the status.
 fn serve_with<L: Ledger>(
@@ -74,64 +64,73 @@ fn serve_over(
     requires running { keeper.old.stopped ≡ false }
 {
     let status = serve_with::<Brand>(alloc, Blank::new(1), words, &mut source, &mut sink, keeper);
-    Ok((status, Text::from_slice(alloc, sink.written())?))
+    let written = Text::from_slice(alloc, sink.written());
+    drop(source);
+    drop(sink);
+    Ok((status, written?))
 }
 
 // Serves the requests in pieces of `size` bytes over a keeper; returns the status and what was written.
-fn serve_line(
+fn serve_requests(
     alloc: Global,
-    line: &str,
+    words: &Texts,
     requests: &[u8],
     size: usize,
     keeper: &mut MemKeeper,
 ) -> Result<(u8, Text), Memory>
+    requires texts { All IsUtf8 words.now }
     requires free { keeper.old.attached ≡ false }
     requires running { keeper.old.stopped ≡ false }
 {
-    let words = words_in(alloc, line)?;
-    let source = source_of(alloc, requests, size, Vec::new(alloc))?;
-    let sink = sink_of(alloc, 4096, Vec::new(alloc))?;
-    serve_over(alloc, &words, source, sink, keeper)
+    let (source, sink) = edges_of(
+        alloc,
+        requests,
+        size,
+        Vec::new(alloc),
+        4096,
+        Vec::new(alloc),
+    )?;
+    serve_over(alloc, words, source, sink, keeper)
 }
 
 // Serves the requests in pieces of `size` bytes over the store; returns the status and what was written.
-fn served(alloc: Global, line: &str, requests: &[u8], size: usize) -> Result<(u8, Text), Memory> {
-    let mut keeper = MemKeeper::new(alloc, store(alloc)?, 2, Vec::new(alloc));
-    serve_line(alloc, line, requests, size, &mut keeper)
-}
-
-// Checks whether the requests in pieces of `size` bytes end with this status and write these bytes.
-fn ends(
+fn serve_store(
     alloc: Global,
-    line: &str,
+    words: &Texts,
     requests: &[u8],
     size: usize,
-    status: u8,
-    written: &[u8],
-) -> Result<bool, Memory> {
-    let ended = served(alloc, line, requests, size)?;
-    Ok(ended.0 == status && ended.1.as_slice() == written)
+) -> Result<(u8, Text), Memory>
+    requires texts { All IsUtf8 words.now }
+{
+    let mut keeper = MemKeeper::new(alloc, tables_after(alloc, STORE)?, 2, Vec::new(alloc));
+    let ended = serve_requests(alloc, words, requests, size, &mut keeper);
+    drop(keeper);
+    ended
+}
+
+// Serves with the words of a line.
+fn served(alloc: Global, line: &str, requests: &[u8], size: usize) -> Result<(u8, Text), Memory> {
+    let words = words_in(alloc, line)?;
+    let ended = serve_store(alloc, &words, requests, size);
+    drop(words);
+    ended
 }
 
 #[test]
-fn a_session_is_answered_in_pieces_of_any_size(rt: HostRuntime) -> Result<(), Fail> {
+fn a_session_is_answered_in_pieces_of_any_size(rt: HostRuntime) -> Result<(), Memory> {
     let sizes: [usize; 3] = [4096, 1, 7];
     for size in sizes {
-        let right = ends(
-            rt.alloc(),
-            "--user ann --box all --pass pw",
-            REQUESTS,
-            size,
-            0,
-            REPLIES,
-        )?;
-        assert!(rt; right);
+        let line = "--user ann --box all --pass pw";
+        let (status, written) = served(rt.alloc(), line, REQUESTS, size)?;
+        assert_eq!(rt; status, 0);
+        assert_eq!(rt; written.as_slice(), REPLIES);
+        drop(written);
     }
     Ok(())
 }
 
 #[test]
-fn each_end_has_its_status(rt: HostRuntime) -> Result<(), Fail> {
+fn each_end_has_its_status(rt: HostRuntime) -> Result<(), Memory> {
     let rows: [(&str, u8, &[u8]); 5] = [
         ("--user ann --box all --pass pw", 1, b"+OK tapestry\r\n"),
         ("--pass pw --box none --user ann", 9, b"-ERR box\r\n"),
@@ -139,9 +138,11 @@ fn each_end_has_its_status(rt: HostRuntime) -> Result<(), Fail> {
         ("--user ann --box all", 2, b""),
         ("--user ann --box all --pass pw --user bob", 2, b""),
     ];
-    for (line, status, written) in rows {
-        let right = ends(rt.alloc(), line, b"", 4096, status, written)?;
-        assert!(rt; right);
+    for (line, want, bytes) in rows {
+        let (status, written) = served(rt.alloc(), line, b"", 4096)?;
+        assert_eq!(rt; status, want);
+        assert_eq!(rt; written.as_slice(), bytes);
+        drop(written);
     }
     Ok(())
 }

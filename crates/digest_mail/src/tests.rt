@@ -1,5 +1,9 @@
 //! Tests of digests.
-ghost use Rattle.std.specs.Prelude.{◌≡◌, ◌<◌, pos, []};
+ghost use Rattle.std.specs.Prelude.{◌≡◌, ◌<◌, ◌+◌, ◌≤ℤ◌, pos, [], ◌∷◌, length, IfOk};
+ghost use Rattle.row_index.specs.Orders.{IsMoment};
+ghost use Rattle.tap_rows.specs.Kept.{Each};
+ghost use Rattle.tap_rows.specs.Tables.{after};
+ghost use Rattle.tap_rows.specs.declared.change.Change.TheVariants.{Docs};
 
 use crate::digest;
 use crate::digests::{header, push_document};
@@ -8,7 +12,6 @@ use row_index::RowIndex;
 use std::alloc::Global;
 use std::marker::Brand;
 use std::sync::ledger::{Blank, Ledger};
-use std::test::Fail;
 use tap_base::{DocNum, Memory, Steps, Text, Texts};
 use tap_rows::{Doc, Entry, Fields, KeptDoc};
 
@@ -46,23 +49,80 @@ fn blank_doc(alloc: Global, num: u32) -> KeptDoc
     KeptDoc::new(doc, fields)
 }
 
-// Returns the lines, each with an LF.
-fn joined(alloc: Global, lines: &Texts) -> Result<Text, Memory> {
-    let mut text = Text::new(alloc);
+// Appends the lines, each with an LF.
+fn push_lines(text: &mut Text, lines: &Texts) -> Result<(), Memory> {
     for line in lines.as_slice() {
         text.push_slice(line.as_slice())?;
         text.push_slice(b"\n")?;
     }
-    Ok(text)
+    Ok(())
+}
+
+// Returns the lines, each with an LF.
+fn joined(alloc: Global, lines: &Texts) -> Result<Text, Memory> {
+    let mut text = Text::new(alloc);
+    match push_lines(&mut text, lines) {
+        Ok(()) => Ok(text),
+        Err(Memory) => {
+            drop(text);
+            Err(Memory)
+        }
+    }
+}
+
+// Appends the lines of a document for each text.
+fn push_documents(alloc: Global, lines: &mut Texts, texts: &[&[u8]]) -> Result<(), Memory> {
+    for text in texts {
+        push_document(alloc, lines, entry_of(7), text)?;
+    }
+    Ok(())
 }
 
 // Returns the digest of the run 2 of a query, whose documents have these texts.
 fn digest_of(alloc: Global, texts: &[&[u8]]) -> Result<Text, Memory> {
     let mut lines = header(alloc, b"all", 2)?;
-    for text in texts {
-        push_document(alloc, &mut lines, entry_of(7), text)?;
+    let pushed = push_documents(alloc, &mut lines, texts);
+    let text = joined(alloc, &lines);
+    drop(lines);
+    pushed?;
+    text
+}
+
+// Returns the index with a further document.
+fn with_doc(index: RowIndex, doc: KeptDoc) -> Result<RowIndex, Memory>
+    requires number { doc.num.0 ≡ length index.docs + 1 }
+    requires moment { IsMoment doc.arrival }
+    requires after { Each (λ other. other.arrival ≤ℤ doc.arrival) index.docs }
+    ensures { IfOk result (λ new. new ≡ after index (Docs (doc ∷ []))) }
+{
+    let mut index = index;
+    match index.add_doc(doc) {
+        Ok(()) => Ok(index),
+        Err(Memory) => {
+            drop(index);
+            Err(Memory)
+        }
     }
-    joined(alloc, &lines)
+}
+
+// Returns two documents without texts.
+fn two_docs(alloc: Global) -> Result<RowIndex, Memory> {
+    let one = with_doc(RowIndex::new(alloc), blank_doc(alloc, 1))?;
+    with_doc(one, blank_doc(alloc, 2))
+}
+
+// Returns the digest of a run over the documents of an index, which an entry without a document comes between.
+fn digest_over<L: Ledger>(alloc: Global, blank: Blank, index: &RowIndex) -> Result<Text, Memory>
+    requires name { blank.name ≡ L.name }
+    requires parts { blank.parts ≡ L.parts }
+    requires some { 0 < blank.parts }
+{
+    let mut steps = Steps::<L>::start(blank);
+    let entries = [entry_of(2), entry_of(3), entry_of(1)];
+    let lines = digest(alloc, b"all", 4294967295, &entries, index, &mut steps)?;
+    let text = joined(alloc, &lines);
+    drop(lines);
+    text
 }
 
 // Returns the digest of a run over two documents without texts, which an entry without a document comes between.
@@ -71,28 +131,45 @@ fn blank_digest<L: Ledger>(alloc: Global, blank: Blank) -> Result<Text, Memory>
     requires parts { blank.parts ≡ L.parts }
     requires some { 0 < blank.parts }
 {
-    let mut steps = Steps::<L>::start(blank);
-    let mut index = RowIndex::new(alloc);
-    index.add_doc(blank_doc(alloc, 1))?;
-    index.add_doc(blank_doc(alloc, 2))?;
-    let entries = [entry_of(2), entry_of(3), entry_of(1)];
-    let lines = digest(alloc, b"all", 4294967295, &entries, &index, &mut steps)?;
-    joined(alloc, &lines)
+    let index = two_docs(alloc)?;
+    let text = digest_over::<L>(alloc, blank, &index);
+    drop(index);
+    text
 }
 
 #[test]
-fn documents_stand_in_the_order_of_the_entries(rt: HostRuntime) -> Result<(), Fail> {
+fn documents_stand_in_the_order_of_the_entries(rt: HostRuntime) -> Result<(), Memory> {
     let text = blank_digest::<Brand>(rt.alloc(), Blank::new(1))?;
     assert_eq!(rt;
         text.as_slice(),
         b"From: tapestry\nSubject: digest all 4294967295\n\nFrom doc 2 first 100\n\nFrom doc 1 first 100\n\n".as_slice()
     );
+    drop(text);
     Ok(())
 }
 
+// Returns whether a digest is its header, the line before the document, these lines of it, and an empty line.
+fn has_lines(shown: &[u8], want: &[u8]) -> bool {
+    let head = b"From: tapestry\nSubject: digest all 2\n\nFrom doc 7 first 100\n".as_slice();
+    let Some(rest) = shown.strip_prefix(head) else {
+        return false;
+    };
+    match rest.strip_suffix(b"\n".as_slice()) {
+        Some(lines) => lines == want,
+        None => false,
+    }
+}
+
+// Returns whether a document with this text has these lines in a digest.
+fn is_digested(alloc: Global, text: &[u8], want: &[u8]) -> Result<bool, Memory> {
+    let shown = digest_of(alloc, &[text])?;
+    let same = has_lines(shown.as_slice(), want);
+    drop(shown);
+    Ok(same)
+}
+
 #[test]
-fn lines_are_quoted_and_end_by_lf(rt: HostRuntime) -> Result<(), Fail> {
-    let head: &[u8] = b"From: tapestry\nSubject: digest all 2\n\nFrom doc 7 first 100\n";
+fn lines_are_quoted_and_end_by_lf(rt: HostRuntime) -> Result<(), Memory> {
     let rows: [(&[u8], &[u8]); 10] = [
         (
             b"Subject: one\n\nFrom here\n>From there\n",
@@ -117,17 +194,34 @@ fn lines_are_quoted_and_end_by_lf(rt: HostRuntime) -> Result<(), Fail> {
         (b"\xff\x00\x80\n\xfe", b"\xff\x00\x80\n\xfe\n"),
     ];
     for (text, want) in rows {
-        let shown = digest_of(rt.alloc(), &[text])?;
-        let mut whole = Text::from_slice(rt.alloc(), head)?;
-        whole.push_slice(want)?;
-        whole.push_slice(b"\n")?;
-        assert_eq!(rt; shown.as_slice(), whole.as_slice());
+        assert!(rt; is_digested(rt.alloc(), text, want)?, "{text:?}");
     }
     Ok(())
 }
 
+// Returns whether these are the messages of a mailbox.
+fn are_messages(messages: &Texts, want: &[&[u8]]) -> bool {
+    for (message, wanted) in messages.as_slice().iter().zip(want) {
+        if message.as_slice() != *wanted {
+            return false;
+        }
+    }
+    messages.len() == want.len()
+}
+
+// Returns whether a digest of documents with these texts is a mailbox of these messages.
+fn is_cut(alloc: Global, texts: &[&[u8]], want: &[&[u8]]) -> Result<bool, Memory> {
+    let text = digest_of(alloc, texts)?;
+    let cut = cut_mbox(alloc, text.as_slice());
+    drop(text);
+    let messages = cut?;
+    let same = are_messages(&messages, want);
+    drop(messages);
+    Ok(same)
+}
+
 #[test]
-fn a_digest_is_cut_as_a_mailbox(rt: HostRuntime) -> Result<(), Fail> {
+fn a_digest_is_cut_as_a_mailbox(rt: HostRuntime) -> Result<(), Memory> {
     let texts: [&[u8]; 7] = [
         b"Subject: one\n\nFrom here\n>From there\n",
         b"",
@@ -146,13 +240,6 @@ fn a_digest_is_cut_as_a_mailbox(rt: HostRuntime) -> Result<(), Fail> {
         b"\xff\x00\n>>From \xfe\n",
         b"\n",
     ];
-    let text = digest_of(rt.alloc(), &texts)?;
-    let messages = cut_mbox(rt.alloc(), text.as_slice())?;
-    assert_eq!(rt; messages.len(), 7);
-    for (i, want) in lined.iter().enumerate() {
-        if let Some(message) = messages.get(i) {
-            assert_eq!(rt; message.as_slice(), *want);
-        }
-    }
+    assert!(rt; is_cut(rt.alloc(), &texts, &lined)?);
     Ok(())
 }

@@ -1,10 +1,10 @@
 //! Sessions over a keeper whose commits succeed or fail.
 
-ghost use Rattle.std.specs.Prelude.{◌≡◌, ◌<◌, true, false, OnOk, IfOk};
+ghost use Rattle.std.specs.Prelude.{◌≡◌, ◌<◌, true, false, OnOk};
 ghost use Rattle.tap_engine.specs.Ready.{IsReady};
 
 use keeper_core::{KeepPlan, Keeper, MemKeeper};
-use script_lang::{Command, Got, Reply, ScriptReader};
+use script_lang::{Command, Reply, ScriptReader};
 use std::alloc::Global;
 use std::marker::Brand;
 use std::sync::ledger::{Blank, Ledger};
@@ -18,19 +18,42 @@ use tap_rows::Tables;
 const SCRIPT: &[u8] =
     b"at 100\nas ann\nmail\nSubject: hi\n\n.\nnote 1 tag 1 good\nquery q m.words HAS 'hi'\nfilter\n.\nmbox\n.\nat 101\nrun q\nbox q\nlist q\nexplain q\nask 100 TRUE\n";
 
+// Appends a command, if there is one.
+fn push_some(commands: &mut Rows<Command>, command: Option<Command>) -> Result<(), Memory> {
+    match command {
+        Some(command) => commands.push(command),
+        None => Ok(()),
+    }
+}
+
 // Reads the commands of a script whose last line is ended.
+fn read_into(
+    reader: &mut ScriptReader,
+    commands: &mut Rows<Command>,
+    script: &[u8],
+) -> Result<(), Memory> {
+    let mut at = 0;
+    while at < script.len() {
+        let got = reader.take(&script[at..])?;
+        at += got.used;
+        push_some(commands, got.command)?;
+    }
+    Ok(())
+}
+
+// Returns the commands of a script whose last line is ended.
 fn commands_of(alloc: Global, script: &[u8]) -> Result<Rows<Command>, Memory> {
     let mut reader = ScriptReader::new(alloc);
     let mut commands = Rows::new(alloc);
-    let mut at = 0;
-    while at < script.len() {
-        let Got { used, command } = reader.take(&script[at..])?;
-        at += used;
-        if let Some(command) = command {
-            commands.push(command)?;
+    let done = read_into(&mut reader, &mut commands, script);
+    drop(reader);
+    match done {
+        Ok(()) => Ok(commands),
+        Err(Memory) => {
+            drop(commands);
+            Err(Memory)
         }
     }
-    Ok(commands)
 }
 
 // Counts the rows that a reply shows.
@@ -63,30 +86,32 @@ fn say<P: Keeper, L: Ledger>(
     ensures keeping { OnOk result (P.stopped keeper.new ≡ false) }
 {
     let reply = engine.perform(alloc, keeper, command, steps)?;
-    Ok(shown(&reply))
+    let rows = shown(&reply);
+    drop(reply);
+    Ok(rows)
 }
 
-// Performs commands until the keeper fails, and gives how many rows each reply shows.
+// Performs commands until the keeper fails, and appends how many rows each reply shows.
 fn perform_all<P: Keeper, L: Ledger>(
     alloc: Global,
     engine: &mut Engine,
     keeper: &mut P,
     commands: Rows<Command>,
     steps: &mut Steps<L>,
-) -> Result<Vec<usize>, Memory>
+    shown: &mut Vec<usize>,
+) -> Result<(), Memory>
     requires running { engine.old.stopped ≡ false }
     requires ready { IsReady engine.old }
     requires attached { P.attached keeper.old ≡ true }
     requires keeping { P.stopped keeper.old ≡ false }
 {
-    let mut counts = Vec::new(alloc);
     for command in commands.into_vec() {
         match say(alloc, engine, keeper, steps, command) {
-            Ok(count) => counts.push(count)?,
-            Err(EngineFault::KeeperFailed) => return Ok(counts),
+            Ok(rows) => shown.push(rows)?,
+            Err(EngineFault::KeeperFailed) => return Ok(()),
         }
     }
-    Ok(counts)
+    Ok(())
 }
 
 // Counts the rows of each table.
@@ -101,53 +126,89 @@ fn counts(tables: &Tables) -> [usize; 6] {
     ]
 }
 
-// Attaches a keeper without rows whose calls fail so.
-fn attached(alloc: Global, fails: Vec<KeepPlan>) -> Result<MemKeeper, Memory>
-    ensures attached { IfOk result (λ keeper. keeper.attached ≡ true) }
-    ensures keeping { IfOk result (λ keeper. keeper.stopped ≡ false) }
+// Attaches a keeper; returns whether it is attached.
+fn attach(alloc: Global, keeper: &mut MemKeeper) -> bool
+    requires free { keeper.old.attached ≡ false }
+    requires running { keeper.old.stopped ≡ false }
+    ensures attached { result ≡ true → keeper.new.attached ≡ true }
+    ensures keeping { result ≡ true → keeper.new.stopped ≡ false }
 {
-    let mut keeper = MemKeeper::new(alloc, Tables::empty(alloc), 2, fails);
     match keeper.attach(alloc, "store") {
-        Ok(_) => Ok(keeper),
-        Err(_) => Err(Memory),
+        Ok(tables) => {
+            drop(tables);
+            true
+        }
+        Err(_) => false,
     }
-}
-
-// Performs commands over a new engine: how many rows each reply shows, how many documents and notes the engine has then, and
-// whether it is stopped. The engine is owned here and nowhere else.
-fn performed<L: Ledger>(
-    alloc: Global,
-    keeper: &mut MemKeeper,
-    commands: Rows<Command>,
-    steps: &mut Steps<L>,
-) -> Result<(Vec<usize>, [u32; 2], bool), Memory>
-    requires attached { keeper.old.attached ≡ true }
-    requires keeping { keeper.old.stopped ≡ false }
-{
-    let mut engine = Engine::new(alloc);
-    let shown = perform_all(alloc, &mut engine, keeper, commands, steps)?;
-    Ok((shown, [engine.docs(), engine.notes()], engine.stopped()))
 }
 
 // What a session leaves: how many rows each reply shows, how many documents, notes, queries, filters, runs and picks its
 // keeper has, how many documents and notes its engine has, and whether the engine is stopped.
 type Left = (Vec<usize>, [usize; 6], [u32; 2], bool);
 
-// Performs the script over a keeper whose calls fail so.
-fn session<L: Ledger>(alloc: Global, blank: Blank, fails: Vec<KeepPlan>) -> Result<Left, Memory>
+// Performs commands over a new engine, and appends how many rows each reply shows. Returns how many documents and notes the
+// engine has then, and whether it is stopped.
+fn performed<L: Ledger>(
+    alloc: Global,
+    keeper: &mut MemKeeper,
+    commands: Rows<Command>,
+    steps: &mut Steps<L>,
+    shown: &mut Vec<usize>,
+) -> Result<([u32; 2], bool), Memory>
+    requires attached { keeper.old.attached ≡ true }
+    requires keeping { keeper.old.stopped ≡ false }
+{
+    let mut engine = Engine::new(alloc);
+    let done = perform_all(alloc, &mut engine, keeper, commands, steps, shown);
+    let left = ([engine.docs(), engine.notes()], engine.stopped());
+    drop(engine);
+    match done {
+        Ok(()) => Ok(left),
+        Err(Memory) => Err(Memory),
+    }
+}
+
+// Performs the script over a keeper, and appends how many rows each reply shows.
+fn performed_over<L: Ledger>(
+    alloc: Global,
+    blank: Blank,
+    keeper: &mut MemKeeper,
+    shown: &mut Vec<usize>,
+) -> Result<([u32; 2], bool), Memory>
+    requires name { blank.name ≡ L.name }
+    requires parts { blank.parts ≡ L.parts }
+    requires some { 0 < blank.parts }
+    requires free { keeper.old.attached ≡ false }
+    requires running { keeper.old.stopped ≡ false }
+{
+    let mut steps = Steps::<L>::start(blank);
+    let commands = commands_of(alloc, SCRIPT)?;
+    if attach(alloc, keeper) {
+        performed(alloc, keeper, commands, &mut steps, shown)
+    } else {
+        drop(commands);
+        Err(Memory)
+    }
+}
+
+// Performs the script over a keeper without rows, of which this call fails.
+fn session<L: Ledger>(alloc: Global, blank: Blank, call: u64) -> Result<Left, Memory>
     requires name { blank.name ≡ L.name }
     requires parts { blank.parts ≡ L.parts }
     requires some { 0 < blank.parts }
 {
-    let mut steps = Steps::<L>::start(blank);
-    let mut keeper = attached(alloc, fails)?;
-    let commands = commands_of(alloc, SCRIPT)?;
-    let (shown, kept, stopped) = performed(alloc, &mut keeper, commands, &mut steps)?;
-    Ok((shown, counts(keeper.tables()), kept, stopped))
+    let fails = vec![in alloc; KeepPlan { call, kept: false }]?;
+    let mut keeper = MemKeeper::new(alloc, Tables::empty(alloc), 2, fails);
+    let mut shown = Vec::new(alloc);
+    let done = performed_over::<L>(alloc, blank, &mut keeper, &mut shown);
+    let stored = counts(keeper.tables());
+    drop(keeper);
+    let (kept, stopped) = done?;
+    Ok((shown, stored, kept, stopped))
 }
 
 #[test]
-fn each_command_with_rows_is_one_commit(rt: HostRuntime) -> Result<(), Fail> {
+fn each_command_with_rows_is_one_commit(rt: HostRuntime) -> Result<(), Memory> {
     let alloc = rt.alloc();
     // the call of the keeper that fails, where attach is call 0, how many rows the replies show until then, and what is left;
     // no call of the last row fails
@@ -172,10 +233,10 @@ fn each_command_with_rows_is_one_commit(rt: HostRuntime) -> Result<(), Fail> {
         ),
     ];
     for (call, want, stored, kept, stopped) in rows {
-        let fails = vec![in alloc; KeepPlan { call, kept: false }]?;
-        let left = session::<Brand>(alloc, Blank::new(1), fails)?;
-        assert_eq!(rt; left.0.as_slice(), want);
-        assert_eq!(rt; (left.1, left.2, left.3), (stored, kept, stopped));
+        let (shown, tables, engine, ended) = session::<Brand>(alloc, Blank::new(1), call)?;
+        assert_eq!(rt; shown.as_slice(), want);
+        drop(shown);
+        assert_eq!(rt; (tables, engine, ended), (stored, kept, stopped));
     }
     Ok(())
 }

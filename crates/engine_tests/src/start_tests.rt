@@ -1,12 +1,13 @@
 //! Starts over stored rows.
 
-use restart_core::check_tables;
+use restart_core::{Sound, check_tables};
 use std::alloc::Global;
 use tap_base::{DocNum, HashKey, Memory, NoteNum, QueryNum, Text};
 use tap_engine::Engine;
 use tap_kept::StartFault;
 use tap_rows::{Doc, FilterRow, Note, Pick, QueryRow, RunRow, Tables};
 
+// Adds a document.
 fn add_doc(alloc: Global, tables: &mut Tables) -> Result<(), Memory> {
     let text = Text::from_slice(alloc, b"Subject: hi\n\n")?;
     tables.docs.push(Doc {
@@ -16,51 +17,60 @@ fn add_doc(alloc: Global, tables: &mut Tables) -> Result<(), Memory> {
     })
 }
 
+// Gives a note its texts.
+fn fill_note(note: &mut Note) -> Result<(), Memory> {
+    note.author.push_slice(b"ann")?;
+    note.kind.push_slice(b"score")?;
+    note.text.push_slice(b"x")
+}
+
+// Adds a note on the document.
 fn add_note(alloc: Global, tables: &mut Tables) -> Result<(), Memory> {
-    let author = Text::from_slice(alloc, b"ann")?;
-    let kind = Text::from_slice(alloc, b"score")?;
-    let text = Text::from_slice(alloc, b"x")?;
-    tables.notes.push(Note {
+    let mut note = Note {
         num: NoteNum(1),
         doc: DocNum(1),
-        author,
-        kind,
+        author: Text::new(alloc),
+        kind: Text::new(alloc),
         value: 1,
         arrival: 100,
-        text,
-    })
+        text: Text::new(alloc),
+    };
+    match fill_note(&mut note) {
+        Ok(()) => tables.notes.push(note),
+        Err(Memory) => {
+            drop(note);
+            Err(Memory)
+        }
+    }
 }
 
+// Gives a query its texts.
+fn fill_query(query: &mut QueryRow) -> Result<(), Memory> {
+    query.owner.push_slice(b"ann")?;
+    query.name.push_slice(b"q")?;
+    query.source.push_slice(b"m.words HAS 'hi'")
+}
+
+// Adds a query.
 fn add_query(alloc: Global, tables: &mut Tables) -> Result<(), Memory> {
-    let owner = Text::from_slice(alloc, b"ann")?;
-    let name = Text::from_slice(alloc, b"q")?;
-    let source = Text::from_slice(alloc, b"m.words HAS 'hi'")?;
-    tables.queries.push(QueryRow {
+    let mut query = QueryRow {
         num: QueryNum(1),
-        owner,
-        name,
-        source,
+        owner: Text::new(alloc),
+        name: Text::new(alloc),
+        source: Text::new(alloc),
         arrival: 100,
-    })
+    };
+    match fill_query(&mut query) {
+        Ok(()) => tables.queries.push(query),
+        Err(Memory) => {
+            drop(query);
+            Err(Memory)
+        }
+    }
 }
 
-fn add_filter(alloc: Global, tables: &mut Tables, source: &[u8]) -> Result<(), Memory> {
-    let owner = Text::from_slice(alloc, b"ann")?;
-    let source = Text::from_slice(alloc, source)?;
-    tables.filters.push(FilterRow {
-        num: 1,
-        owner,
-        source,
-        arrival: 100,
-    })
-}
-
-// One document, one note on it, one query, one run of it that delivered the document, and one filter of this source.
-fn stored(alloc: Global, source: &[u8]) -> Result<Tables, Memory> {
-    let mut tables = Tables::empty(alloc);
-    add_doc(alloc, &mut tables)?;
-    add_note(alloc, &mut tables)?;
-    add_query(alloc, &mut tables)?;
+// Adds a run of the query that delivered the document.
+fn add_run(tables: &mut Tables) -> Result<(), Memory> {
     tables.runs.push(RunRow {
         num: 1,
         query: QueryNum(1),
@@ -72,22 +82,80 @@ fn stored(alloc: Global, source: &[u8]) -> Result<Tables, Memory> {
         run: 1,
         doc: DocNum(1),
         first: 100,
-    })?;
-    add_filter(alloc, &mut tables, source)?;
-    Ok(tables)
+    })
 }
 
-// Starts an engine over stored rows: how many documents and notes it has, or the number of the filter that can't be read; None
-// if a row is damaged.
-fn started(alloc: Global, source: &[u8]) -> Result<Option<Result<(u32, u32), u32>>, Memory> {
-    let tables = stored(alloc, source)?;
-    let Ok(sound) = check_tables(alloc, HashKey::fixed(), tables) else {
-        return Ok(None);
+// Gives a filter its texts.
+fn fill_filter(filter: &mut FilterRow, source: &[u8]) -> Result<(), Memory> {
+    filter.owner.push_slice(b"ann")?;
+    filter.source.push_slice(source)
+}
+
+// Adds a filter of this source.
+fn add_filter(alloc: Global, tables: &mut Tables, source: &[u8]) -> Result<(), Memory> {
+    let mut filter = FilterRow {
+        num: 1,
+        owner: Text::new(alloc),
+        source: Text::new(alloc),
+        arrival: 100,
     };
+    match fill_filter(&mut filter, source) {
+        Ok(()) => tables.filters.push(filter),
+        Err(Memory) => {
+            drop(filter);
+            Err(Memory)
+        }
+    }
+}
+
+// Adds one document, one note on it, one query, one run of it that delivered the document, and one filter of this source.
+fn fill(alloc: Global, tables: &mut Tables, source: &[u8]) -> Result<(), Memory> {
+    add_doc(alloc, tables)?;
+    add_note(alloc, tables)?;
+    add_query(alloc, tables)?;
+    add_run(tables)?;
+    add_filter(alloc, tables, source)
+}
+
+// Returns tables with those rows.
+fn stored(alloc: Global, source: &[u8]) -> Result<Tables, Memory> {
+    let mut tables = Tables::empty(alloc);
+    match fill(alloc, &mut tables, source) {
+        Ok(()) => Ok(tables),
+        Err(Memory) => {
+            drop(tables);
+            Err(Memory)
+        }
+    }
+}
+
+// Returns those rows as a restart finds them, or nothing if one is damaged.
+fn sound(alloc: Global, source: &[u8]) -> Result<Option<Sound>, Memory> {
+    let tables = stored(alloc, source)?;
+    match check_tables(alloc, HashKey::fixed(), tables) {
+        Ok(sound) => Ok(Some(sound)),
+        Err(_) => Ok(None),
+    }
+}
+
+// Starts an engine over stored rows: how many documents and notes it has, or the number of the filter that can't be read.
+fn started_over(alloc: Global, sound: Sound) -> Result<Result<(u32, u32), u32>, Memory> {
     match Engine::start(alloc, HashKey::fixed(), sound) {
-        Ok(engine) => Ok(Some(Ok((engine.docs(), engine.notes())))),
-        Err(StartFault::Rules { num }) => Ok(Some(Err(num))),
+        Ok(engine) => {
+            let counts = (engine.docs(), engine.notes());
+            drop(engine);
+            Ok(Ok(counts))
+        }
+        Err(StartFault::Rules { num }) => Ok(Err(num)),
         Err(StartFault::Memory) => Err(Memory),
+    }
+}
+
+// Returns what that gives for a filter of this source; nothing if a row is damaged.
+fn started(alloc: Global, source: &[u8]) -> Result<Option<Result<(u32, u32), u32>>, Memory> {
+    match sound(alloc, source)? {
+        Some(sound) => Ok(Some(started_over(alloc, sound)?)),
+        None => Ok(None),
     }
 }
 

@@ -2,6 +2,8 @@
 #![tactic(auto)]
 
 #[cfg(test)]
+mod documents;
+#[cfg(test)]
 mod memory_tests;
 #[cfg(test)]
 mod sql_tests;

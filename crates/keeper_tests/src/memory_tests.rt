@@ -1,18 +1,17 @@
 //! Keepers in memory, and what a caller of any keeper knows.
 
-ghost use Rattle.std.specs.Prelude.{◌≡◌, ◌≢◌, ◌⊎◌, ◌↔◌, ℤ, pos, true, false, codes, IfOk};
+ghost use Rattle.std.specs.Prelude.{◌≡◌, ◌≢◌, ◌⊎◌, ◌↔◌, ℤ, pos, true, false, codes};
 ghost use Rattle.tap_rows.specs.Tables.{after};
-ghost use Rattle.tap_rows.specs.WellFormed.{is_well_formed};
-ghost use Rattle.tap_rows.specs.Fits.{fits};
 ghost use Rattle.tap_rows.specs.declared.tables.Tables.{Tables as TableRows};
-ghost use Rattle.keeper_core.specs.Keeping.{IsDurable};
+ghost use Rattle.keeper_core.specs.Keeping.{IsDurable, Extends};
 ghost use Rattle.tap_base.specs.Counts.{Rose};
 
+use crate::documents::{TwoDocs, keep, one_doc, two_docs};
 use keeper_core::{AttachFault, CommitFault, KeepPlan, Keeper, MemKeeper, SureKeeper};
 use std::alloc::Global;
 use std::test::Fail;
-use tap_base::{DocNum, Memory, Rows, Text};
-use tap_rows::{Change, Doc, Tables};
+use tap_base::Memory;
+use tap_rows::{Change, Tables};
 
 // Attaches any keeper and commits two changes. Returns 0 if both were committed, 5 if the keeper failed, 6 if its store
 // has another version, 7 if a call was out of memory.
@@ -24,18 +23,16 @@ fn keep_two<P: Keeper>(alloc: Global, keeper: &mut P, one: &Change, two: &Change
     ensures placed { (P.place keeper.new ≡ codes "store") ⊎ (result ≡ 7) }
     ensures known { P.honest keeper.new → (v : ℤ) → P.has_version keeper.old v → (v ≡ pos 1) ⊎ (v ≡ pos 2) → result ≢ 6 }
     ensures done { result ≡ 0 → P.honest keeper.new → (s : TableRows) → P.tells keeper.old s
-        → is_well_formed s ≡ true → fits s one.now ≡ true
-        → is_well_formed (after s one.now) ≡ true → fits (after s one.now) two.now ≡ true
+        → Extends one.now s → Extends two.now (after s one.now)
         → IsDurable (P.tells keeper.new) (P.may_leave keeper.new) (after (after s one.now) two.now) }
     ensures refused { result ≡ 6 → P.honest keeper.new → (s : TableRows) → P.tells keeper.old s
         → IsDurable (P.tells keeper.new) (P.may_leave keeper.new) s }
     ensures crash { P.honest keeper.new → (s : TableRows) → P.tells keeper.old s
-        → is_well_formed s ≡ true → fits s one.now ≡ true
-        → is_well_formed (after s one.now) ≡ true → fits (after s one.now) two.now ≡ true
+        → Extends one.now s → Extends two.now (after s one.now)
         → (x : TableRows) → P.may_leave keeper.new x → (x ≡ s) ⊎ ((x ≡ after s one.now) ⊎ (x ≡ after (after s one.now) two.now)) }
 {
     match keeper.attach(alloc, "store") {
-        Ok(_tables) => {}
+        Ok(tables) => drop(tables),
         Err(AttachFault::Alien { .. }) => return 6,
         Err(AttachFault::Failed) => return 5,
         Err(AttachFault::Memory) => return 7,
@@ -52,69 +49,79 @@ fn keep_two<P: Keeper>(alloc: Global, keeper: &mut P, one: &Change, two: &Change
     }
 }
 
-// Returns a change that adds a document of this number.
-fn one_doc(alloc: Global, num: u32) -> Result<Change, Memory> {
-    let mut docs = Rows::new(alloc);
-    docs.push(Doc {
-        num: DocNum(num),
-        arrival: 100,
-        text: Text::from_slice(alloc, b"Subject: hi\n\n")?,
-    })?;
-    Ok(Change::Docs(docs))
+// What a keeper that kept two documents says: the status, the number of documents and the version then, and the number
+// of documents that a crash leaves.
+type Kept = (u8, usize, i64, usize);
+
+// Commits two documents over a keeper of a version whose calls fail so.
+fn kept_docs(alloc: Global, version: i64, fails: Vec<KeepPlan>, docs: &TwoDocs) -> Kept {
+    let mut keeper = MemKeeper::new(alloc, Tables::empty(alloc), version, fails);
+    let status = keep_two(alloc, &mut keeper, &docs.one, &docs.two);
+    let now = keeper.tables().docs.len();
+    let version = keeper.version();
+    let left = keeper.after_crash();
+    let after = left.docs.len();
+    drop(left);
+    (status, now, version, after)
 }
 
-// Commits two documents over a keeper of a version whose calls fail so. Returns the status, the number of documents and
-// the version then, and the number of documents that a crash leaves.
-fn kept(
-    alloc: Global,
-    version: i64,
-    fails: Vec<KeepPlan>,
-) -> Result<(u8, usize, i64, usize), Memory> {
-    let mut keeper = MemKeeper::new(alloc, Tables::empty(alloc), version, fails);
-    let one = one_doc(alloc, 1)?;
-    let two = one_doc(alloc, 2)?;
-    let status = keep_two(alloc, &mut keeper, &one, &two);
-    let docs = keeper.tables().docs.len();
-    let version = keeper.version();
-    Ok((status, docs, version, keeper.after_crash().docs.len()))
+// Commits two documents over a keeper of a version, of which this call fails.
+fn kept(alloc: Global, version: i64, fail: Option<KeepPlan>) -> Result<Kept, Memory> {
+    let fails = match fail {
+        Some(plan) => vec![in alloc; plan]?,
+        None => Vec::new(alloc),
+    };
+    let docs = two_docs(alloc)?;
+    let kept = kept_docs(alloc, version, fails, &docs);
+    drop(docs);
+    Ok(kept)
 }
 
 #[test]
-fn keepers_fail_by_their_plan(rt: HostRuntime) -> Result<(), Fail> {
-    let alloc = rt.alloc();
-    assert_eq!(rt; kept(alloc, 2, Vec::new(alloc))?, (0, 2, 2, 2));
-    assert_eq!(rt; kept(alloc, 1, Vec::new(alloc))?, (0, 2, 2, 2));
-    assert_eq!(rt; kept(alloc, 7, Vec::new(alloc))?, (6, 0, 7, 0));
-    let rows: [(u64, bool, (u8, usize, i64, usize)); 4] = [
-        (0, true, (5, 0, 2, 0)),
-        (1, true, (5, 0, 2, 1)),
-        (2, false, (5, 1, 2, 1)),
-        (2, true, (5, 1, 2, 2)),
+fn keepers_fail_by_their_plan(rt: HostRuntime) -> Result<(), Memory> {
+    let rows: [(i64, Option<(u64, bool)>, Kept); 7] = [
+        (2, None, (0, 2, 2, 2)),
+        (1, None, (0, 2, 2, 2)),
+        (7, None, (6, 0, 7, 0)),
+        (2, Some((0, true)), (5, 0, 2, 0)),
+        (2, Some((1, true)), (5, 0, 2, 1)),
+        (2, Some((2, false)), (5, 1, 2, 1)),
+        (2, Some((2, true)), (5, 1, 2, 2)),
     ];
-    for (call, kept_new, expected) in rows {
-        let fails = vec![in alloc;
-            KeepPlan {
-                call,
-                kept: kept_new
-            },
-        ]?;
-        assert_eq!(rt; kept(alloc, 2, fails)?, expected);
+    for (version, fail, expected) in rows {
+        let plan = fail.map(|(call, kept)| KeepPlan { call, kept });
+        assert_eq!(rt; kept(rt.alloc(), version, plan)?, expected);
     }
     Ok(())
 }
 
-#[test]
-fn a_sure_keeper_gives_its_tables(rt: HostRuntime) -> Result<(), Fail> {
-    let alloc = rt.alloc();
+// Returns tables with the first document.
+fn one_row(alloc: Global) -> Result<Tables, Memory> {
+    let doc = one_doc(alloc, 1)?;
     let mut tables = Tables::empty(alloc);
-    tables.apply(one_doc(alloc, 1)?)?;
-    let mut keeper = SureKeeper::new(alloc, tables);
-    let given = keeper
-        .attach(alloc, "store")
-        .map(|tables| tables.docs.len());
-    assert!(rt; matches!(given, Ok(1)));
-    let two = one_doc(alloc, 2)?;
-    assert!(rt; keeper.commit(&two).is_ok());
+    match tables.apply(doc) {
+        Ok(()) => Ok(tables),
+        Err(Memory) => {
+            drop(tables);
+            Err(Memory)
+        }
+    }
+}
+
+// Commits a change over a keeper of one document that never fails; how many documents it gave before.
+fn surely_kept(alloc: Global, change: &Change) -> Result<Option<usize>, Memory> {
+    let mut keeper = SureKeeper::new(alloc, one_row(alloc)?);
+    let found = keep(alloc, &mut keeper, "store", change);
+    drop(keeper);
+    Ok(found)
+}
+
+#[test]
+fn a_sure_keeper_gives_its_tables(rt: HostRuntime) -> Result<(), Memory> {
+    let two = one_doc(rt.alloc(), 2)?;
+    let found = surely_kept(rt.alloc(), &two);
+    drop(two);
+    assert_eq!(rt; found?, Some(1));
     Ok(())
 }
 

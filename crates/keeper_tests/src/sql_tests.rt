@@ -2,57 +2,57 @@
 
 ghost use Rattle.std.specs.Prelude.{◌≡◌, false};
 
-use keeper_core::Keeper;
+use crate::documents::{TwoDocs, keep, two_docs};
 use keeper_sql::SqlKeeper;
-use sqlite::Connection;
+use sqlite::{Connection, MemStore};
 use std::alloc::Global;
-use std::test::Fail;
-use tap_base::{DocNum, Memory, Rows, Text};
-use tap_rows::{Change, Doc};
+use tap_base::Memory;
+use tap_rows::Change;
 
-// Attaches a keeper and commits a change; how many documents there were before.
-fn keep<P: Keeper>(alloc: Global, keeper: &mut P, change: &Change) -> Option<usize>
-    requires free { P.attached keeper.old ≡ false }
-    requires running { P.stopped keeper.old ≡ false }
+// Runs a session that commits a change; how many documents it found, and the connection.
+fn session(
+    alloc: Global,
+    connection: Connection<MemStore>,
+    change: &Change,
+) -> (Option<usize>, Connection<MemStore>)
+    requires { connection.in_transaction ≡ false }
 {
-    let Ok(tables) = keeper.attach(alloc, ":memory:") else {
-        return None;
-    };
-    let docs = tables.docs.len();
-    if keeper.commit(change).is_err() {
-        return None;
-    }
-    Some(docs)
+    let mut keeper = SqlKeeper::adopt(connection);
+    let found = keep(alloc, &mut keeper, ":memory:", change);
+    (found, keeper.into_connection())
 }
 
-// Returns a change that adds a document of this number.
-fn one_doc(alloc: Global, num: u32) -> Result<Change, Memory> {
-    let mut docs = Rows::new(alloc);
-    docs.push(Doc {
-        num: DocNum(num),
-        arrival: 100,
-        text: Text::from_slice(alloc, b"Subject: hi\n\n")?,
-    })?;
-    Ok(Change::Docs(docs))
-}
-
-// How many documents two sessions over one store in memory find, each of which adds one.
-fn two_sessions(alloc: Global) -> Result<(Option<usize>, Option<usize>), Memory> {
-    let mut keeper = SqlKeeper::adopt(Connection::open_in_memory(alloc)?);
-    let first = keep(alloc, &mut keeper, &one_doc(alloc, 1)?);
-    let connection = keeper.into_connection();
+// Runs two sessions over a store, each of which adds a document; how many documents each found.
+fn both_found(alloc: Global, connection: Connection<MemStore>, docs: &TwoDocs) -> [Option<usize>; 2]
+    requires { connection.in_transaction ≡ false }
+{
+    let (first, connection) = session(alloc, connection, &docs.one);
     if !connection.is_autocommit() {
-        return Ok((first, None));
+        drop(connection);
+        return [first, None];
     }
-    let mut again = SqlKeeper::adopt(connection);
-    let second = keep(alloc, &mut again, &one_doc(alloc, 2)?);
-    Ok((first, second))
+    let (second, connection) = session(alloc, connection, &docs.two);
+    drop(connection);
+    [first, second]
+}
+
+// Runs those sessions over a store in memory.
+fn found_in_memory(alloc: Global, docs: &TwoDocs) -> Result<[Option<usize>; 2], Memory> {
+    let connection = Connection::open_in_memory(alloc)?;
+    Ok(both_found(alloc, connection, docs))
+}
+
+// Returns how many documents those sessions find.
+fn found(alloc: Global) -> Result<[Option<usize>; 2], Memory> {
+    let docs = two_docs(alloc)?;
+    let found = found_in_memory(alloc, &docs);
+    drop(docs);
+    found
 }
 
 #[test]
-fn rows_are_kept_and_found_again(rt: HostRuntime) -> Result<(), Fail> {
-    let alloc = rt.alloc();
-    let (first, second) = two_sessions(alloc)?;
+fn rows_are_kept_and_found_again(rt: HostRuntime) -> Result<(), Memory> {
+    let [first, second] = found(rt.alloc())?;
     assert_eq!(rt; first, Some(0));
     assert_eq!(rt; second, Some(1));
     Ok(())

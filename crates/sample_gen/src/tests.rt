@@ -1,9 +1,12 @@
+//! Tests of samples.
+
+ghost use Rattle.std.specs.Prelude.{◌≤◌};
+
 use crate::generator::next_state;
-use crate::{Summary, sample};
+use crate::{SAMPLE_LIMIT, Summary, sample};
 use mail_lines::Block;
 use script_lang::Command;
 use std::alloc::Global;
-use std::test::Fail;
 use tap_base::{Memory, Text, put_decimal};
 
 // Shows a line of a word and a text.
@@ -41,8 +44,47 @@ fn show(alloc: Global, into: &mut Text, command: &Command) -> Result<(), Memory>
     }
 }
 
+// Shows commands as the script that gives them.
+fn show_all(alloc: Global, into: &mut Text, commands: &[Command]) -> Result<(), Memory> {
+    for command in commands {
+        show(alloc, into, command)?;
+    }
+    Ok(())
+}
+
+// Returns the script that gives commands.
+fn script_of(alloc: Global, commands: &[Command]) -> Result<Text, Memory> {
+    let mut script = Text::new(alloc);
+    match show_all(alloc, &mut script, commands) {
+        Ok(()) => Ok(script),
+        Err(Memory) => {
+            drop(script);
+            Err(Memory)
+        }
+    }
+}
+
+// Returns how many commands a sample of this many messages has.
+fn count(alloc: Global, messages: u32) -> Result<usize, Memory>
+    requires some { 1 ≤ messages }
+    requires few { messages ≤ SAMPLE_LIMIT }
+{
+    let commands = sample(alloc, messages)?;
+    let count = commands.len();
+    drop(commands);
+    Ok(count)
+}
+
+// Returns the script of a sample of five messages.
+fn sample_script(alloc: Global) -> Result<Text, Memory> {
+    let commands = sample(alloc, 5)?;
+    let script = script_of(alloc, commands.as_slice());
+    drop(commands);
+    script
+}
+
 #[test]
-fn numbers_are_drawn(rt: HostRuntime) -> Result<(), Fail> {
+fn numbers_are_drawn(rt: HostRuntime) -> Result<(), Memory> {
     let rows: [u32; 10] = [
         16838, 5758, 10113, 17515, 31051, 5627, 23010, 7419, 16212, 4086,
     ];
@@ -55,31 +97,26 @@ fn numbers_are_drawn(rt: HostRuntime) -> Result<(), Fail> {
 }
 
 #[test]
-fn samples_have_their_counts(rt: HostRuntime) -> Result<(), Fail> {
+fn samples_have_their_counts(rt: HostRuntime) -> Result<(), Memory> {
     let rows: [(u32, usize); 5] = [(1, 9), (5, 18), (9, 26), (10, 31), (2000, 4807)];
     for (n, want) in rows {
-        let commands = sample(rt.alloc(), n)?;
-        assert_eq!(rt; commands.len(), want);
+        assert_eq!(rt; count(rt.alloc(), n)?, want);
     }
     Ok(())
 }
 
 #[test]
-fn a_sample_has_its_commands(rt: HostRuntime) -> Result<(), Fail> {
-    let alloc = rt.alloc();
-    let commands = sample(alloc, 5)?;
-    let mut shown = Text::new(alloc);
-    for command in commands.as_slice() {
-        show(alloc, &mut shown, command)?;
-    }
+fn a_sample_has_its_commands(rt: HostRuntime) -> Result<(), Memory> {
+    let script = sample_script(rt.alloc())?;
     let want: &[u8] =
         b"at 1000\nas alice\nquery q1\n  m.words HAS 'alpha'\nquery q2\n  now >= m.ts + 60 SECONDS AND NOT EXISTS (r: DOC WHERE r.inreplyto = m.msgid)\nat 1010\nmail\nFrom: user@parc\nMessage-ID: <m1@parc>\nSubject: gamma\n\nabout gamma\n.\nat 1020\nmail\nFrom: user@parc\nMessage-ID: <m2@parc>\nSubject: gamma\n\nabout gamma\n.\nat 1030\nmail\nFrom: user@parc\nMessage-ID: <m3@parc>\nIn-Reply-To: <m2@parc>\nSubject: beta\n\nabout beta\n.\nat 1040\nmail\nFrom: user@parc\nMessage-ID: <m4@parc>\nSubject: delta\n\nabout delta\n.\nat 1050\nmail\nFrom: user@parc\nMessage-ID: <m5@parc>\nSubject: delta\n\nabout delta\n.\nnote 5 score 1 good\nat 2050\nrun q1\nrun q2\n";
-    assert_eq!(rt; shown.as_slice(), want);
+    assert_eq!(rt; script.as_slice(), want);
+    drop(script);
     Ok(())
 }
 
 #[test]
-fn summaries_have_their_lines(rt: HostRuntime) -> Result<(), Fail> {
+fn summaries_have_their_lines(rt: HostRuntime) -> Result<(), Memory> {
     let summary = Summary {
         messages: 10,
         commands: 31,

@@ -4,6 +4,6 @@
 mod runs;
 
 pub use runs::{
-    answers, answers_within, push_line, push_number, sink_of, source_of, status_of, words_in,
+    answers, answers_within, edges_of, push_line, push_number, tables_after, words_in, words_over,
     written_over,
 };

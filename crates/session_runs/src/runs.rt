@@ -1,4 +1,5 @@
 //! Runs over sources, sinks and keepers in memory.
+
 ghost use Rattle.std.specs.Prelude.{◌≡◌, ◌<◌, false, IfOk};
 ghost use Rattle.std.specs.List.{All};
 ghost use Rattle.std.specs.Str.{IsUtf8};
@@ -41,8 +42,8 @@ fn run<L: Ledger>(
     )
 }
 
-/// Runs with a counter of its own; returns the status.
-pub fn status_of(
+// Runs with a counter of its own; returns the status.
+fn status_of(
     alloc: Global,
     words: &Texts,
     source: &mut MemSource,
@@ -63,8 +64,8 @@ fn at_least_one(size: usize) -> usize
     if size == 0 { 1 } else { size }
 }
 
-/// Returns a source of a script in pieces of `size` bytes, of which these reads fail.
-pub fn source_of(
+// Returns a source of a script in pieces of `size` bytes, of which these reads fail.
+fn source_of(
     alloc: Global,
     script: &[u8],
     size: usize,
@@ -74,9 +75,24 @@ pub fn source_of(
     Ok(MemSource::new(Text::from_slice(alloc, script)?, sizes, fails))
 }
 
-/// Returns a sink with so much room, of which these puts fail.
-pub fn sink_of(alloc: Global, room: usize, fails: Vec<PutPlan>) -> Result<MemSink, Memory> {
-    MemSink::new(alloc, room, fails)
+/// Returns a source of a script in pieces of `size` bytes, of which these reads fail, and a sink with so much room, of which
+/// these puts fail.
+pub fn edges_of(
+    alloc: Global,
+    script: &[u8],
+    size: usize,
+    reads: Vec<u64>,
+    room: usize,
+    puts: Vec<PutPlan>,
+) -> Result<(MemSource, MemSink), Memory> {
+    let source = source_of(alloc, script, size, reads)?;
+    match MemSink::new(alloc, room, puts) {
+        Ok(sink) => Ok((source, sink)),
+        Err(Memory) => {
+            drop(source);
+            Err(Memory)
+        }
+    }
 }
 
 /// Returns the words of a line, one blank between them.
@@ -90,19 +106,57 @@ pub fn words_in(alloc: Global, line: &str) -> Result<Texts, Memory>
     Ok(words)
 }
 
+/// Runs with words over a keeper; returns the status and what was written.
+pub fn words_over(
+    alloc: Global,
+    words: &Texts,
+    keeper: &mut MemKeeper,
+    mut source: MemSource,
+    mut sink: MemSink,
+) -> Result<(u8, Text), Memory>
+    requires texts { All IsUtf8 words.now }
+    requires free { keeper.old.attached ≡ false }
+    requires running { keeper.old.stopped ≡ false }
+{
+    let status = status_of(alloc, words, &mut source, &mut sink, keeper);
+    let written = Text::from_slice(alloc, sink.written());
+    drop(source);
+    drop(sink);
+    Ok((status, written?))
+}
+
 /// Runs over a keeper, without words; returns the status and what was written.
 pub fn written_over(
     alloc: Global,
     keeper: &mut MemKeeper,
-    mut source: MemSource,
-    mut sink: MemSink,
+    source: MemSource,
+    sink: MemSink,
 ) -> Result<(u8, Text), Memory>
     requires free { keeper.old.attached ≡ false }
     requires running { keeper.old.stopped ≡ false }
 {
     let words = Texts::new(alloc);
-    let status = status_of(alloc, &words, &mut source, &mut sink, keeper);
-    Ok((status, Text::from_slice(alloc, sink.written())?))
+    let ended = words_over(alloc, &words, keeper, source, sink);
+    drop(words);
+    ended
+}
+
+/// Runs a script over no rows; returns the tables that a crash then leaves.
+pub fn tables_after(alloc: Global, script: &[u8]) -> Result<Tables, Memory> {
+    let (source, sink) = edges_of(alloc, script, 4096, Vec::new(alloc), 4096, Vec::new(alloc))?;
+    let mut keeper = MemKeeper::new(alloc, Tables::empty(alloc), 2, Vec::new(alloc));
+    let ended = written_over(alloc, &mut keeper, source, sink);
+    let left = keeper.after_crash();
+    match ended {
+        Ok((_, written)) => {
+            drop(written);
+            Ok(left)
+        }
+        Err(Memory) => {
+            drop(left);
+            Err(Memory)
+        }
+    }
 }
 
 /// Runs a script over no rows, in pieces of `size` bytes and with so much room for what is written; the status, and what
@@ -113,10 +167,11 @@ pub fn answers_within(
     size: usize,
     room: usize,
 ) -> Result<(u8, Text), Memory> {
+    let (source, sink) = edges_of(alloc, script, size, Vec::new(alloc), room, Vec::new(alloc))?;
     let mut keeper = MemKeeper::new(alloc, Tables::empty(alloc), 2, Vec::new(alloc));
-    let source = source_of(alloc, script, size, Vec::new(alloc))?;
-    let sink = sink_of(alloc, room, Vec::new(alloc))?;
-    written_over(alloc, &mut keeper, source, sink)
+    let ended = written_over(alloc, &mut keeper, source, sink);
+    drop(keeper);
+    ended
 }
 
 /// Runs a script over no rows with room for 4,096 bytes of replies; returns the status and what was written.

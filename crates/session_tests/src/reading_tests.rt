@@ -1,9 +1,10 @@
 //! The commands that look ahead, count votes and show a run as a message.
+
 use session_runs::answers;
-use std::test::Fail;
+use tap_base::Memory;
 
 #[test]
-fn runs_to_come_votes_and_digests_are_told(rt: HostRuntime) -> Result<(), Fail> {
+fn runs_to_come_votes_and_digests_are_told(rt: HostRuntime) -> Result<(), Memory> {
     let alloc = rt.alloc();
     let rows: [(&[u8], u8, &[u8]); 5] = [
         // a moment to wake at, while the query waits and after its run
@@ -41,6 +42,7 @@ fn runs_to_come_votes_and_digests_are_told(rt: HostRuntime) -> Result<(), Fail> 
         let (status, written) = answers(alloc, script, 100)?;
         assert_eq!(rt; status, want);
         assert_eq!(rt; written.as_slice(), bytes);
+        drop(written);
     }
     Ok(())
 }

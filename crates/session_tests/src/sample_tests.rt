@@ -1,23 +1,36 @@
 //! Samples, by the words of the command line.
+
+ghost use Rattle.std.specs.List.{All};
+ghost use Rattle.std.specs.Str.{IsUtf8};
+
 use keeper_core::MemKeeper;
-use session_runs::{sink_of, source_of, status_of, words_in};
+use session_runs::{edges_of, words_in, words_over};
 use std::alloc::Global;
-use std::test::Fail;
-use tap_base::{Memory, Text};
+use tap_base::{Memory, Text, Texts};
 use tap_rows::Tables;
 
-// A run of the words of a line over an empty store, with a script of one command: the status, and what was written.
+// Runs with words over an empty store, with a script of one command: the status, and what was written.
+fn ended_by(alloc: Global, words: &Texts) -> Result<(u8, Text), Memory>
+    requires { All IsUtf8 words.now }
+{
+    let script = b"at 9\n";
+    let (source, sink) = edges_of(alloc, script, 4096, Vec::new(alloc), 4096, Vec::new(alloc))?;
+    let mut keeper = MemKeeper::new(alloc, Tables::empty(alloc), 2, Vec::new(alloc));
+    let ended = words_over(alloc, words, &mut keeper, source, sink);
+    drop(keeper);
+    ended
+}
+
+// Runs with the words of a line: the status, and what was written.
 fn followed(alloc: Global, line: &str) -> Result<(u8, Text), Memory> {
     let words = words_in(alloc, line)?;
-    let mut keeper = MemKeeper::new(alloc, Tables::empty(alloc), 2, Vec::new(alloc));
-    let mut source = source_of(alloc, b"at 9\n", 4096, Vec::new(alloc))?;
-    let mut sink = sink_of(alloc, 4096, Vec::new(alloc))?;
-    let status = status_of(alloc, &words, &mut source, &mut sink, &mut keeper);
-    Ok((status, Text::from_slice(alloc, sink.written())?))
+    let ended = ended_by(alloc, &words);
+    drop(words);
+    ended
 }
 
 #[test]
-fn words_are_followed(rt: HostRuntime) -> Result<(), Fail> {
+fn words_are_followed(rt: HostRuntime) -> Result<(), Memory> {
     let alloc = rt.alloc();
     let rows: [(&str, u8, &[u8]); 8] = [
         ("--bogus", 2, b""),
@@ -46,10 +59,11 @@ fn words_are_followed(rt: HostRuntime) -> Result<(), Fail> {
             b"sample 2000\ncommands 4807\nrefused 0\ndocuments 2000\nnotes 400\ndelivered 2472\n",
         ),
     ];
-    for (line, status, written) in rows {
-        let got = followed(alloc, line)?;
-        assert_eq!(rt; got.0, status);
-        assert_eq!(rt; got.1.as_slice(), written);
+    for (line, want, bytes) in rows {
+        let (status, written) = followed(alloc, line)?;
+        assert_eq!(rt; status, want);
+        assert_eq!(rt; written.as_slice(), bytes);
+        drop(written);
     }
     Ok(())
 }

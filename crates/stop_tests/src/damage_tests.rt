@@ -1,9 +1,9 @@
 //! Stores with one damage each.
-use crate::sessions::{left_by, no_failure};
+
+use crate::sessions::{Failure, Left, left_by};
 use std::alloc::Global;
-use std::test::Fail;
-use tap_base::{DocNum, Memory, NoteNum, QueryNum, Rows, Text};
-use tap_rows::{Change, Doc, FilterRow, MESSAGE_LIMIT, Note, Pick, QueryRow, RunRow, Tables};
+use tap_base::{DocNum, Memory, NoteNum, QueryNum, Text};
+use tap_rows::{Doc, FilterRow, MESSAGE_LIMIT, Note, Pick, QueryRow, RunRow, Tables};
 
 // A damage of the store with one row in each table.
 #[derive(Clone, Copy, PartialEq, Eq, Debug)]
@@ -28,63 +28,86 @@ enum Damage {
     FilterSource,
 }
 
-// Returns a text of so many bytes.
-fn long_text(alloc: Global, len: usize) -> Result<Text, Memory> {
-    let mut text = Text::new(alloc);
+// Appends so many bytes.
+fn push_bytes(text: &mut Text, len: usize) -> Result<(), Memory> {
     for _ in 0..len {
         text.push_slice(b"x")?;
     }
-    Ok(text)
+    Ok(())
+}
+
+// Gives a document its text.
+fn fill_doc(doc: &mut Doc, damage: Damage) -> Result<(), Memory> {
+    match damage {
+        Damage::DocText => push_bytes(&mut doc.text, MESSAGE_LIMIT.saturating_add(1)),
+        _ => doc.text.push_slice(b"Subject: hi\n\n"),
+    }
 }
 
 // Returns a document.
 fn doc(alloc: Global, num: u32, damage: Damage) -> Result<Doc, Memory> {
-    let text = match damage {
-        Damage::DocText => long_text(alloc, MESSAGE_LIMIT.saturating_add(1))?,
-        _ => Text::from_slice(alloc, b"Subject: hi\n\n")?,
-    };
-    Ok(Doc {
+    let mut doc = Doc {
         num: DocNum(num),
         arrival: 100,
-        text,
-    })
-}
-
-// Returns the documents: one, or two equal ones.
-fn docs(alloc: Global, damage: Damage) -> Result<Change, Memory> {
-    let mut docs = Rows::new(alloc);
-    let num = if damage == Damage::DocNumber { 2 } else { 1 };
-    docs.push(doc(alloc, num, damage)?)?;
-    if damage == Damage::PickOrder {
-        docs.push(doc(alloc, 2, damage)?)?;
+        text: Text::new(alloc),
+    };
+    match fill_doc(&mut doc, damage) {
+        Ok(()) => Ok(doc),
+        Err(Memory) => {
+            drop(doc);
+            Err(Memory)
+        }
     }
-    Ok(Change::Docs(docs))
 }
 
-// Returns the note.
-fn note(alloc: Global, damage: Damage) -> Result<Change, Memory> {
+// Adds the documents: one, or two equal ones.
+fn add_docs(alloc: Global, tables: &mut Tables, damage: Damage) -> Result<(), Memory> {
+    let num = if damage == Damage::DocNumber { 2 } else { 1 };
+    tables.docs.push(doc(alloc, num, damage)?)?;
+    if damage == Damage::PickOrder {
+        tables.docs.push(doc(alloc, 2, damage)?)?;
+    }
+    Ok(())
+}
+
+// Gives the note its texts.
+fn fill_note(note: &mut Note, damage: Damage) -> Result<(), Memory> {
     let author: &[u8] = if damage == Damage::NoteAuthor {
         b"Ann"
     } else {
         b"ann"
     };
-    Ok(Change::OneNote(Note {
+    note.author.push_slice(author)?;
+    note.kind.push_slice(b"score")?;
+    note.text.push_slice(b"x")
+}
+
+// Adds the note.
+fn add_note(alloc: Global, tables: &mut Tables, damage: Damage) -> Result<(), Memory> {
+    let mut note = Note {
         num: NoteNum(1),
         doc: DocNum(if damage == Damage::NoteDoc { 2 } else { 1 }),
-        author: Text::from_slice(alloc, author)?,
-        kind: Text::from_slice(alloc, b"score")?,
+        author: Text::new(alloc),
+        kind: Text::new(alloc),
         value: 1,
         arrival: if damage == Damage::NoteArrival {
             99
         } else {
             100
         },
-        text: Text::from_slice(alloc, b"x")?,
-    }))
+        text: Text::new(alloc),
+    };
+    match fill_note(&mut note, damage) {
+        Ok(()) => tables.notes.push(note),
+        Err(Memory) => {
+            drop(note);
+            Err(Memory)
+        }
+    }
 }
 
-// Returns a query.
-fn query(alloc: Global, num: u32, damage: Damage) -> Result<Change, Memory> {
+// Gives a query its texts.
+fn fill_query(query: &mut QueryRow, damage: Damage) -> Result<(), Memory> {
     let name: &[u8] = if damage == Damage::QueryName {
         b"Q"
     } else {
@@ -95,13 +118,27 @@ fn query(alloc: Global, num: u32, damage: Damage) -> Result<Change, Memory> {
     } else {
         b"m.words HAS 'hi'"
     };
-    Ok(Change::OneQuery(QueryRow {
+    query.owner.push_slice(b"ann")?;
+    query.name.push_slice(name)?;
+    query.source.push_slice(source)
+}
+
+// Adds a query.
+fn add_query(alloc: Global, tables: &mut Tables, num: u32, damage: Damage) -> Result<(), Memory> {
+    let mut query = QueryRow {
         num: QueryNum(num),
-        owner: Text::from_slice(alloc, b"ann")?,
-        name: Text::from_slice(alloc, name)?,
-        source: Text::from_slice(alloc, source)?,
+        owner: Text::new(alloc),
+        name: Text::new(alloc),
+        source: Text::new(alloc),
         arrival: 100,
-    }))
+    };
+    match fill_query(&mut query, damage) {
+        Ok(()) => tables.queries.push(query),
+        Err(Memory) => {
+            drop(query);
+            Err(Memory)
+        }
+    }
 }
 
 // Returns the moment of the run.
@@ -142,29 +179,27 @@ fn run_row(num: u32, moment: i64) -> RunRow {
     }
 }
 
-// Returns the run with its deliveries.
-fn run(alloc: Global, damage: Damage) -> Result<Change, Memory> {
-    let mut picks = Rows::new(alloc);
+// Adds the run with its deliveries.
+fn add_run(tables: &mut Tables, damage: Damage) -> Result<(), Memory> {
+    tables.runs.push(run_row(1, moment(damage)))?;
     if damage == Damage::PickOrder {
-        picks.push(pick(1, 2, damage))?;
-        picks.push(pick(2, 1, damage))?;
+        tables.picks.push(pick(1, 2, damage))?;
+        tables.picks.push(pick(2, 1, damage))
     } else {
-        picks.push(pick(1, 1, damage))?;
+        tables.picks.push(pick(1, 1, damage))
     }
-    Ok(Change::RunDone(run_row(1, moment(damage)), picks))
 }
 
-// Returns a second run, which delivers what the first did.
-fn second_run(alloc: Global, damage: Damage) -> Result<Change, Memory> {
-    let mut picks = Rows::new(alloc);
+// Adds a second run, which delivers what the first did.
+fn add_second_run(tables: &mut Tables, damage: Damage) -> Result<(), Memory> {
+    tables.runs.push(run_row(2, 102))?;
     let mut pick = pick(2, 1, damage);
     pick.run = 2;
-    picks.push(pick)?;
-    Ok(Change::RunDone(run_row(2, 102), picks))
+    tables.picks.push(pick)
 }
 
-// Returns the filter.
-fn filter(alloc: Global, damage: Damage) -> Result<Change, Memory> {
+// Gives the filter its texts.
+fn fill_filter(filter: &mut FilterRow, damage: Damage) -> Result<(), Memory> {
     let owner: &[u8] = if damage == Damage::FilterOwner {
         b""
     } else {
@@ -175,67 +210,107 @@ fn filter(alloc: Global, damage: Damage) -> Result<Change, Memory> {
     } else {
         b"WHEN TRUE PRIORITY 1 CLASS 'a'\n"
     };
-    Ok(Change::OneFilter(FilterRow {
-        num: 1,
-        owner: Text::from_slice(alloc, owner)?,
-        source: Text::from_slice(alloc, source)?,
-        arrival: 100,
-    }))
+    filter.owner.push_slice(owner)?;
+    filter.source.push_slice(source)
 }
 
-// Returns the tables with this damage.
-fn tables(alloc: Global, damage: Damage) -> Result<Tables, Memory> {
-    let mut tables = Tables::empty(alloc);
-    tables.apply(docs(alloc, damage)?)?;
-    tables.apply(note(alloc, damage)?)?;
-    tables.apply(query(alloc, 1, damage)?)?;
+// Adds the filter.
+fn add_filter(alloc: Global, tables: &mut Tables, damage: Damage) -> Result<(), Memory> {
+    let mut filter = FilterRow {
+        num: 1,
+        owner: Text::new(alloc),
+        source: Text::new(alloc),
+        arrival: 100,
+    };
+    match fill_filter(&mut filter, damage) {
+        Ok(()) => tables.filters.push(filter),
+        Err(Memory) => {
+            drop(filter);
+            Err(Memory)
+        }
+    }
+}
+
+// Adds the queries: one, or two equal ones.
+fn add_queries(alloc: Global, tables: &mut Tables, damage: Damage) -> Result<(), Memory> {
+    add_query(alloc, tables, 1, damage)?;
     if damage == Damage::QueryTwice {
-        tables.apply(query(alloc, 2, damage)?)?;
+        add_query(alloc, tables, 2, damage)?;
     }
-    tables.apply(run(alloc, damage)?)?;
+    Ok(())
+}
+
+// Adds the runs: one, or two that deliver the same.
+fn add_runs(tables: &mut Tables, damage: Damage) -> Result<(), Memory> {
+    add_run(tables, damage)?;
     if damage == Damage::PickTwice {
-        tables.apply(second_run(alloc, damage)?)?;
+        add_second_run(tables, damage)?;
     }
-    tables.apply(filter(alloc, damage)?)?;
-    Ok(tables)
+    Ok(())
+}
+
+// Adds the rows of each table, with this damage.
+fn fill(alloc: Global, tables: &mut Tables, damage: Damage) -> Result<(), Memory> {
+    add_docs(alloc, tables, damage)?;
+    add_note(alloc, tables, damage)?;
+    add_queries(alloc, tables, damage)?;
+    add_runs(tables, damage)?;
+    add_filter(alloc, tables, damage)
+}
+
+// Runs an empty script over tables; returns the status and what was written.
+fn opened_over(alloc: Global, tables: &Tables) -> Result<(u8, Text), Memory> {
+    let Left {
+        status,
+        written,
+        probe,
+    } = left_by(alloc, tables, b"", 7, Failure::Nothing)?;
+    drop(probe);
+    Ok((status, written))
 }
 
 // Runs an empty script over the tables with this damage; returns the status and what was written.
 fn opened(alloc: Global, damage: Damage) -> Result<(u8, Text), Memory> {
-    let tables = tables(alloc, damage)?;
-    let left = left_by(alloc, &tables, b"", 7, no_failure(alloc))?;
-    Ok((left.status, left.written))
+    let mut tables = Tables::empty(alloc);
+    let ended = match fill(alloc, &mut tables, damage) {
+        Ok(()) => opened_over(alloc, &tables),
+        Err(Memory) => Err(Memory),
+    };
+    drop(tables);
+    ended
 }
 
 #[test]
-fn each_damage_has_its_line(rt: HostRuntime) -> Result<(), Fail> {
-    let alloc = rt.alloc();
-    let (status, written) = opened(alloc, Damage::Nothing)?;
-    assert_eq!(rt; status, 0);
-    assert_eq!(rt; written.as_slice(), b"".as_slice());
-    let rows: [(Damage, &[u8]); 17] = [
-        (Damage::DocNumber, b"stop 6 damaged docs 1 number\n"),
-        (Damage::DocText, b"stop 6 damaged docs 1 text\n"),
-        (Damage::NoteDoc, b"stop 6 damaged notes 1 reference\n"),
-        (Damage::NoteArrival, b"stop 6 damaged notes 1 reference\n"),
-        (Damage::NoteAuthor, b"stop 6 damaged notes 1 name\n"),
-        (Damage::QueryName, b"stop 6 damaged queries 1 name\n"),
-        (Damage::QueryTwice, b"stop 6 damaged queries 2 twice\n"),
-        (Damage::QuerySource, b"stop 6 damaged queries 1 text\n"),
-        (Damage::RunMoment, b"stop 6 damaged runs 1 moment\n"),
-        (Damage::RunBefore, b"stop 6 damaged runs 1 reference\n"),
-        (Damage::PickRun, b"stop 6 damaged picks 1 reference\n"),
-        (Damage::PickLate, b"stop 6 damaged picks 1 second\n"),
-        (Damage::PickEarly, b"stop 6 damaged picks 1 second\n"),
-        (Damage::PickOrder, b"stop 6 damaged picks 2 order\n"),
-        (Damage::PickTwice, b"stop 6 damaged picks 2 twice\n"),
-        (Damage::FilterOwner, b"stop 6 damaged filters 1 name\n"),
-        (Damage::FilterSource, b"stop 6 damaged filters 1 text\n"),
+fn each_damage_has_its_line(rt: HostRuntime) -> Result<(), Memory> {
+    let rows: [(Damage, u8, &[u8]); 18] = [
+        (Damage::Nothing, 0, b""),
+        (Damage::DocNumber, 6, b"stop 6 damaged docs 1 number\n"),
+        (Damage::DocText, 6, b"stop 6 damaged docs 1 text\n"),
+        (Damage::NoteDoc, 6, b"stop 6 damaged notes 1 reference\n"),
+        (
+            Damage::NoteArrival,
+            6,
+            b"stop 6 damaged notes 1 reference\n",
+        ),
+        (Damage::NoteAuthor, 6, b"stop 6 damaged notes 1 name\n"),
+        (Damage::QueryName, 6, b"stop 6 damaged queries 1 name\n"),
+        (Damage::QueryTwice, 6, b"stop 6 damaged queries 2 twice\n"),
+        (Damage::QuerySource, 6, b"stop 6 damaged queries 1 text\n"),
+        (Damage::RunMoment, 6, b"stop 6 damaged runs 1 moment\n"),
+        (Damage::RunBefore, 6, b"stop 6 damaged runs 1 reference\n"),
+        (Damage::PickRun, 6, b"stop 6 damaged picks 1 reference\n"),
+        (Damage::PickLate, 6, b"stop 6 damaged picks 1 second\n"),
+        (Damage::PickEarly, 6, b"stop 6 damaged picks 1 second\n"),
+        (Damage::PickOrder, 6, b"stop 6 damaged picks 2 order\n"),
+        (Damage::PickTwice, 6, b"stop 6 damaged picks 2 twice\n"),
+        (Damage::FilterOwner, 6, b"stop 6 damaged filters 1 name\n"),
+        (Damage::FilterSource, 6, b"stop 6 damaged filters 1 text\n"),
     ];
-    for (damage, want) in rows {
-        let (status, written) = opened(alloc, damage)?;
-        assert_eq!(rt; status, 6);
-        assert_eq!(rt; written.as_slice(), want);
+    for (damage, want, line) in rows {
+        let (status, written) = opened(rt.alloc(), damage)?;
+        assert_eq!(rt; status, want);
+        assert_eq!(rt; written.as_slice(), line);
+        drop(written);
     }
     Ok(())
 }

@@ -1,6 +1,7 @@
 //! What the first commands of a script give, for each number of them.
+
 use crate::scripts::text_of;
-use crate::sessions::{left_by, no_failure};
+use crate::sessions::{Failure, Left, left_by};
 use std::alloc::Global;
 use tap_base::{Memory, Text, Texts};
 use tap_rows::Tables;
@@ -12,6 +13,22 @@ pub struct Prefixes {
     pub probes: Texts,
 }
 
+// Appends what a run ended with.
+fn push_left(into: &mut Prefixes, left: Left) -> Result<(), Memory> {
+    let Left {
+        status: _,
+        written,
+        probe,
+    } = left;
+    match into.written.push(written) {
+        Ok(()) => into.probes.push(probe),
+        Err(Memory) => {
+            drop(probe);
+            Err(Memory)
+        }
+    }
+}
+
 // Appends what these commands give.
 fn push_prefix(
     alloc: Global,
@@ -20,9 +37,22 @@ fn push_prefix(
     into: &mut Prefixes,
 ) -> Result<(), Memory> {
     let script = text_of(alloc, commands)?;
-    let left = left_by(alloc, base, script.as_slice(), 100, no_failure(alloc))?;
-    into.written.push(left.written)?;
-    into.probes.push(left.probe)
+    let left = left_by(alloc, base, script.as_slice(), 100, Failure::Nothing);
+    drop(script);
+    push_left(into, left?)
+}
+
+// Appends what each number of first commands gives.
+fn push_all(
+    alloc: Global,
+    base: &Tables,
+    commands: &[&[u8]],
+    into: &mut Prefixes,
+) -> Result<(), Memory> {
+    for n in 0..commands.len() {
+        push_prefix(alloc, base, &commands[..n], into)?;
+    }
+    push_prefix(alloc, base, commands, into)
 }
 
 impl Prefixes {
@@ -32,14 +62,16 @@ impl Prefixes {
             written: Texts::new(alloc),
             probes: Texts::new(alloc),
         };
-        for n in 0..commands.len() {
-            push_prefix(alloc, base, &commands[..n], &mut all)?;
+        match push_all(alloc, base, commands, &mut all) {
+            Ok(()) => Ok(all),
+            Err(Memory) => {
+                drop(all);
+                Err(Memory)
+            }
         }
-        push_prefix(alloc, base, commands, &mut all)?;
-        Ok(all)
     }
 
-    // Tells whether a session shows what it shows after the first `n` commands.
+    /// Tells whether a session shows what it shows after the first `n` commands.
     pub fn shows(&self, n: usize, probe: &Text) -> bool {
         match self.probes.as_slice().get(n) {
             Some(want) => want == probe,

@@ -1,4 +1,5 @@
 //! The scripts of the tests, command by command.
+
 use std::alloc::Global;
 use tap_base::{Memory, Text};
 
@@ -68,11 +69,22 @@ pub const TWO_USERS: Script = [
 /// Shows the boxes of both users, and the number of the next document.
 pub const PROBE: &[u8] = b"as ann\nbox q\nas bob\nbox q\nmail\n\n.\n";
 
-/// Returns the text of some commands.
-pub fn text_of(alloc: Global, commands: &[&[u8]]) -> Result<Text, Memory> {
-    let mut text = Text::new(alloc);
+// Appends some commands.
+fn push_commands(text: &mut Text, commands: &[&[u8]]) -> Result<(), Memory> {
     for command in commands {
         text.push_slice(command)?;
     }
-    Ok(text)
+    Ok(())
+}
+
+/// Returns the text of some commands.
+pub fn text_of(alloc: Global, commands: &[&[u8]]) -> Result<Text, Memory> {
+    let mut text = Text::new(alloc);
+    match push_commands(&mut text, commands) {
+        Ok(()) => Ok(text),
+        Err(Memory) => {
+            drop(text);
+            Err(Memory)
+        }
+    }
 }

@@ -1,9 +1,10 @@
-//! Sessions over keepers in memory, with calls that fail.
+//! Sessions over keepers in memory, with a call that fails.
+
 ghost use Rattle.std.specs.Prelude.{◌≡◌, false};
 
 use crate::scripts::PROBE;
 use keeper_core::{KeepPlan, MemKeeper};
-use session_runs::{sink_of, source_of, written_over};
+use session_runs::{edges_of, written_over};
 use std::alloc::Global;
 use tap_base::{Memory, Text};
 use tap_edges::PutPlan;
@@ -17,20 +18,38 @@ pub struct Left {
     pub probe: Text,
 }
 
-/// The calls of a run that fail.
-#[derive(Drop)]
-pub struct Plan {
-    pub reads: Vec<u64>,
-    pub puts: Vec<PutPlan>,
-    pub keeps: Vec<KeepPlan>,
+/// The call of a run that fails.
+#[derive(Clone, Copy)]
+pub enum Failure {
+    /// No call fails.
+    Nothing,
+    /// The read of this number fails.
+    Read(u64),
+    Put(PutPlan),
+    Keep(KeepPlan),
 }
 
-/// Returns the plan by which no call fails.
-pub fn no_failure(alloc: Global) -> Plan {
-    Plan {
-        reads: Vec::new(alloc),
-        puts: Vec::new(alloc),
-        keeps: Vec::new(alloc),
+// Returns the reads that fail.
+fn reads_of(alloc: Global, failure: Failure) -> Result<Vec<u64>, Memory> {
+    match failure {
+        Failure::Read(call) => Ok(vec![in alloc; call]?),
+        _ => Ok(Vec::new(alloc)),
+    }
+}
+
+// Returns the puts that fail.
+fn puts_of(alloc: Global, failure: Failure) -> Result<Vec<PutPlan>, Memory> {
+    match failure {
+        Failure::Put(plan) => Ok(vec![in alloc; plan]?),
+        _ => Ok(Vec::new(alloc)),
+    }
+}
+
+// Returns the calls of the keeper that fail.
+fn keeps_of(alloc: Global, failure: Failure) -> Result<Vec<KeepPlan>, Memory> {
+    match failure {
+        Failure::Keep(plan) => Ok(vec![in alloc; plan]?),
+        _ => Ok(Vec::new(alloc)),
     }
 }
 
@@ -40,60 +59,58 @@ fn run_over(
     keeper: &mut MemKeeper,
     script: &[u8],
     size: usize,
-    reads: Vec<u64>,
-    puts: Vec<PutPlan>,
+    failure: Failure,
 ) -> Result<(u8, Text), Memory>
     requires free { keeper.old.attached ≡ false }
     requires running { keeper.old.stopped ≡ false }
 {
-    let source = source_of(alloc, script, size, reads)?;
-    let sink = sink_of(alloc, 4096, puts)?;
+    let reads = reads_of(alloc, failure)?;
+    let puts = puts_of(alloc, failure)?;
+    let (source, sink) = edges_of(alloc, script, size, reads, 4096, puts)?;
     written_over(alloc, keeper, source, sink)
 }
 
 // Returns what a session over these tables shows.
 fn probe_of(alloc: Global, tables: Tables) -> Result<Text, Memory> {
     let mut keeper = MemKeeper::new(alloc, tables, 2, Vec::new(alloc));
-    let (_status, written) = run_over(
-        alloc,
-        &mut keeper,
-        PROBE,
-        100,
-        Vec::new(alloc),
-        Vec::new(alloc),
-    )?;
+    let ended = run_over(alloc, &mut keeper, PROBE, 100, Failure::Nothing);
+    drop(keeper);
+    let (_status, written) = ended?;
     Ok(written)
 }
 
-/// Runs a script over these tables, in pieces of this many bytes, with these failures.
+// Joins what a run ended with and what a session over these tables shows.
+fn with_probe(alloc: Global, status: u8, written: Text, tables: Tables) -> Result<Left, Memory> {
+    match probe_of(alloc, tables) {
+        Ok(probe) => Ok(Left {
+            status,
+            written,
+            probe,
+        }),
+        Err(Memory) => {
+            drop(written);
+            Err(Memory)
+        }
+    }
+}
+
+/// Runs a script over these tables, in pieces of this many bytes, with this failure.
 pub fn left_by(
     alloc: Global,
     base: &Tables,
     script: &[u8],
     size: usize,
-    plan: Plan,
+    failure: Failure,
 ) -> Result<Left, Memory> {
-    let Plan { reads, puts, keeps } = plan;
+    let keeps = keeps_of(alloc, failure)?;
     let mut keeper = MemKeeper::new(alloc, base.copy()?, 2, keeps);
-    let (status, written) = run_over(alloc, &mut keeper, script, size, reads, puts)?;
-    let probe = probe_of(alloc, keeper.after_crash())?;
-    Ok(Left {
-        status,
-        written,
-        probe,
-    })
-}
-
-/// Runs a script over no rows; returns the tables that it leaves.
-pub fn tables_after(alloc: Global, script: &[u8]) -> Result<Tables, Memory> {
-    let mut keeper = MemKeeper::new(alloc, Tables::empty(alloc), 2, Vec::new(alloc));
-    let (_status, _written) = run_over(
-        alloc,
-        &mut keeper,
-        script,
-        100,
-        Vec::new(alloc),
-        Vec::new(alloc),
-    )?;
-    Ok(keeper.after_crash())
+    let ended = run_over(alloc, &mut keeper, script, size, failure);
+    let tables = keeper.after_crash();
+    match ended {
+        Ok((status, written)) => with_probe(alloc, status, written, tables),
+        Err(Memory) => {
+            drop(tables);
+            Err(Memory)
+        }
+    }
 }

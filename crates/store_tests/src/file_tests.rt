@@ -1,10 +1,11 @@
 //! Sessions over files in memory, and over stores that statements make.
-ghost use Rattle.std.specs.Prelude.{◌≡◌, ◌<◌, false, IsTrue, IfOk, IfSome};
+
+ghost use Rattle.std.specs.Prelude.{◌≡◌, ◌<◌, false, IsTrue, IfSome};
 ghost use Rattle.sqlite_disk.specs.Memory.{memory_is_usable};
 
 use keeper_core::Keeper;
 use keeper_sql::SqlKeeper;
-use sqlite::{Connection, Error, FileStore, Files, MemStore, Options};
+use sqlite::{Connection, FileStore, Files, MemStore, Options};
 use sqlite_disk::Memory as MemoryFile;
 use std::alloc::Global;
 use std::marker::Brand;
@@ -13,6 +14,38 @@ use std::test::Fail;
 use tap_base::{HashKey, Memory, Steps, Text, Texts};
 use tap_edges::{MemSink, MemSource};
 use tap_top::tapestry;
+
+// Runs over a keeper; the status and what was written.
+fn run_between<P: Keeper, L: Ledger>(
+    alloc: Global,
+    blank: Blank,
+    keeper: &mut P,
+    mut source: MemSource,
+    mut sink: MemSink,
+) -> Result<(u8, Text), Memory>
+    requires name { blank.name ≡ L.name }
+    requires parts { blank.parts ≡ L.parts }
+    requires some { 0 < blank.parts }
+    requires free { P.attached keeper.old ≡ false }
+    requires running { P.stopped keeper.old ≡ false }
+{
+    let mut steps = Steps::<L>::start(blank);
+    let words = Texts::new(alloc);
+    let status = tapestry(
+        alloc,
+        HashKey::fixed(),
+        &words,
+        &mut source,
+        &mut sink,
+        keeper,
+        &mut steps,
+    );
+    let written = Text::from_slice(alloc, sink.written());
+    drop(words);
+    drop(source);
+    drop(sink);
+    Ok((status, written?))
+}
 
 // Runs a script over a keeper; the status and what was written.
 fn run<P: Keeper, L: Ledger>(
@@ -27,24 +60,15 @@ fn run<P: Keeper, L: Ledger>(
     requires free { P.attached keeper.old ≡ false }
     requires running { P.stopped keeper.old ≡ false }
 {
-    let mut steps = Steps::<L>::start(blank);
-    let mut source = MemSource::new(
-        Text::from_slice(alloc, script)?,
-        Vec::new(alloc),
-        Vec::new(alloc),
-    );
-    let mut sink = MemSink::new(alloc, 4096, Vec::new(alloc))?;
-    let words = Texts::new(alloc);
-    let status = tapestry(
-        alloc,
-        HashKey::fixed(),
-        &words,
-        &mut source,
-        &mut sink,
-        keeper,
-        &mut steps,
-    );
-    Ok((status, Text::from_slice(alloc, sink.written())?))
+    let text = Text::from_slice(alloc, script)?;
+    let source = MemSource::new(text, Vec::new(alloc), Vec::new(alloc));
+    match MemSink::new(alloc, 4096, Vec::new(alloc)) {
+        Ok(sink) => run_between::<P, L>(alloc, blank, keeper, source, sink),
+        Err(Memory) => {
+            drop(source);
+            Err(Memory)
+        }
+    }
 }
 
 // Opens the files of a store, and adopts the connection.
@@ -72,7 +96,30 @@ fn closed(keeper: SqlKeeper<FileStore<MemoryFile>>) -> Option<Files<MemoryFile>>
     }
 }
 
-// A session over the files of a store: its status, what it wrote, and the files as it closed them.
+// Joins what a session ended with and the files that it left, if there are both.
+fn joined(
+    ran: Result<(u8, Text), Memory>,
+    files: Option<Files<MemoryFile>>,
+) -> Option<(u8, Text, Files<MemoryFile>)>
+    requires usable { IfSome files (λ left. IsTrue (memory_is_usable left.log) × IsTrue (memory_is_usable left.db)) }
+    ensures usable { IfSome result (λ left. IsTrue (memory_is_usable left.2.log) × IsTrue (memory_is_usable left.2.db)) }
+{
+    match files {
+        Some(files) => match ran {
+            Ok((status, written)) => Some((status, written, files)),
+            Err(Memory) => {
+                drop(files);
+                None
+            }
+        },
+        None => {
+            drop(ran);
+            None
+        }
+    }
+}
+
+// Runs a session over the files of a store: its status, what it wrote, and the files as it closed them.
 fn session(
     alloc: Global,
     files: Files<MemoryFile>,
@@ -84,11 +131,10 @@ fn session(
 {
     let mut keeper = adopted(alloc, files)?;
     let ran = run::<_, Brand>(alloc, Blank::new(1), &mut keeper, script);
-    let files = closed(keeper)?;
-    let (status, written) = ran.ok()?;
-    Some((status, written, files))
+    joined(ran, closed(keeper))
 }
 
+// Returns files without bytes.
 fn new_files(alloc: Global) -> Files<MemoryFile>
     ensures log { IsTrue (memory_is_usable result.log) }
     ensures db { IsTrue (memory_is_usable result.db) }
@@ -99,71 +145,116 @@ fn new_files(alloc: Global) -> Files<MemoryFile>
     }
 }
 
-// What three sessions over the same files write, where each ends with status 0.
-fn three_sessions(
+// Runs a session over the files; returns them if it ended with status 0 and wrote this.
+fn next_session(
     alloc: Global,
-    first: &[u8],
-    second: &[u8],
-    third: &[u8],
-) -> Option<(Text, Text, Text)> {
-    let (first_status, one, files) = session(alloc, new_files(alloc), first)?;
-    let (second_status, two, files) = session(alloc, files, second)?;
-    let (third_status, three, _files) = session(alloc, files, third)?;
-    let ended = first_status == 0 && second_status == 0 && third_status == 0;
-    ended.then_some((one, two, three))
+    files: Files<MemoryFile>,
+    script: &[u8],
+    want: &[u8],
+) -> Option<Files<MemoryFile>>
+    requires log { IsTrue (memory_is_usable files.log) }
+    requires db { IsTrue (memory_is_usable files.db) }
+    ensures usable { IfSome result (λ left. IsTrue (memory_is_usable left.log) × IsTrue (memory_is_usable left.db)) }
+{
+    let (status, written, files) = session(alloc, files, script)?;
+    let is_right = status == 0 && written.as_slice() == want;
+    drop(written);
+    if is_right {
+        Some(files)
+    } else {
+        drop(files);
+        None
+    }
+}
+
+const FIRST: &[u8] =
+    b"as ann\nat 100\nquery q m.words HAS 'hi'\nmail\nSubject: hi\n\n.\nat 101\nrun q\nat 110\nmail\nSubject: hi\n\n.\nat 111\nrun q\n";
+
+const FIRST_REPLIES: &[u8] =
+    b"ok 0 as ann\nok 0 at 100\nok 0 query q\nok 0 doc 1\nok 0 at 101\nok 1 run 1 before 101\ndoc 1 first 100\nok 0 at 110\nok 0 doc 2\nok 0 at 111\nok 1 run 2 before 111\ndoc 2 first 110\n";
+
+const SECOND: &[u8] = b"as ann\nat 111\nat 120\nmail\nSubject: hi\n\n.\nat 121\nrun q\nbox q\n";
+
+const SECOND_REPLIES: &[u8] =
+    b"ok 0 as ann\nok 0 at 111\nok 0 at 120\nok 0 doc 3\nok 0 at 121\nok 1 run 3 before 121\ndoc 3 first 120\nok 3 box q\ndoc 1 first 100 run 1\ndoc 2 first 110 run 2\ndoc 3 first 120 run 3\n";
+
+const THIRD: &[u8] = b"as ann\nbox q\n";
+
+const THIRD_REPLIES: &[u8] =
+    b"ok 0 as ann\nok 3 box q\ndoc 1 first 100 run 1\ndoc 2 first 110 run 2\ndoc 3 first 120 run 3\n";
+
+// Returns how many of three sessions over the same files are right, up to the first that isn't.
+fn right_sessions(alloc: Global) -> u8 {
+    let Some(files) = next_session(alloc, new_files(alloc), FIRST, FIRST_REPLIES) else {
+        return 0;
+    };
+    let Some(files) = next_session(alloc, files, SECOND, SECOND_REPLIES) else {
+        return 1;
+    };
+    match next_session(alloc, files, THIRD, THIRD_REPLIES) {
+        Some(files) => {
+            drop(files);
+            3
+        }
+        None => 2,
+    }
 }
 
 #[test]
-fn sessions_go_on_over_files(rt: HostRuntime) -> Result<(), Fail> {
-    let written = three_sessions(
-        rt.alloc(),
-        b"as ann\nat 100\nquery q m.words HAS 'hi'\nmail\nSubject: hi\n\n.\nat 101\nrun q\nat 110\nmail\nSubject: hi\n\n.\nat 111\nrun q\n",
-        b"as ann\nat 111\nat 120\nmail\nSubject: hi\n\n.\nat 121\nrun q\nbox q\n",
-        b"as ann\nbox q\n",
-    );
-    let Some((first, second, third)) = written else {
-        return Err(Fail::from("a session failed"));
-    };
-    assert_eq!(rt;
-        first.as_slice(),
-        b"ok 0 as ann\nok 0 at 100\nok 0 query q\nok 0 doc 1\nok 0 at 101\nok 1 run 1 before 101\ndoc 1 first 100\nok 0 at 110\nok 0 doc 2\nok 0 at 111\nok 1 run 2 before 111\ndoc 2 first 110\n".as_slice()
-    );
-    assert_eq!(rt;
-        second.as_slice(),
-        b"ok 0 as ann\nok 0 at 111\nok 0 at 120\nok 0 doc 3\nok 0 at 121\nok 1 run 3 before 121\ndoc 3 first 120\nok 3 box q\ndoc 1 first 100 run 1\ndoc 2 first 110 run 2\ndoc 3 first 120 run 3\n".as_slice()
-    );
-    assert_eq!(rt;
-        third.as_slice(),
-        b"ok 0 as ann\nok 3 box q\ndoc 1 first 100 run 1\ndoc 2 first 110 run 2\ndoc 3 first 120 run 3\n".as_slice()
-    );
-    Ok(())
+fn sessions_go_on_over_files(rt: HostRuntime) {
+    assert_eq!(rt; right_sessions(rt.alloc()), 3);
 }
 
-// A store that these statements make, adopted.
-fn store_of(alloc: Global, statements: &str) -> Result<SqlKeeper<MemStore>, Error>
-    ensures free { IfOk result (λ keeper. (keeper.attached ≡ false) × (keeper.stopped ≡ false)) }
+// Adopts a connection, if it is in no transaction.
+fn adopted_free(connection: Connection<MemStore>) -> Option<SqlKeeper<MemStore>>
+    ensures free { IfSome result (λ keeper. (keeper.attached ≡ false) × (keeper.stopped ≡ false)) }
 {
-    let mut connection = Connection::open_in_memory(alloc)?;
-    connection.execute_batch(statements)?;
-    if !connection.is_autocommit() {
-        return Err(Error::InvalidQuery);
+    if connection.is_autocommit() {
+        Some(SqlKeeper::adopt(connection))
+    } else {
+        drop(connection);
+        None
     }
-    Ok(SqlKeeper::adopt(connection))
 }
 
-// Runs a script over such a store: its status, what it wrote, and the version of the store then.
+// Returns a store that these statements make, adopted.
+fn store_of(alloc: Global, statements: &str) -> Option<SqlKeeper<MemStore>>
+    ensures free { IfSome result (λ keeper. (keeper.attached ≡ false) × (keeper.stopped ≡ false)) }
+{
+    let Ok(mut connection) = Connection::open_in_memory(alloc) else {
+        return None;
+    };
+    match connection.execute_batch(statements) {
+        Ok(()) => adopted_free(connection),
+        Err(_) => {
+            drop(connection);
+            None
+        }
+    }
+}
+
+// Returns the version that a store has.
+fn version_of(connection: &mut Connection<MemStore>) -> Option<i64> {
+    let Ok(row) = connection.query_row("SELECT version FROM meta", &[]) else {
+        return None;
+    };
+    let version = row.get(0).ok();
+    drop(row);
+    version
+}
+
+// Runs a script over such a store: its status and what it wrote, and the version of the store then.
 fn script_over(
     alloc: Global,
     statements: &str,
     script: &[u8],
-) -> Result<(Result<(u8, Text), Memory>, i64), Error> {
+) -> Option<(Result<(u8, Text), Memory>, Option<i64>)> {
     let mut keeper = store_of(alloc, statements)?;
     let ran = run::<_, Brand>(alloc, Blank::new(1), &mut keeper, script);
     let mut connection = keeper.into_connection();
-    let version = connection
-        .query_row("SELECT version FROM meta", &[])?
-        .get(0)?;
-    Ok((ran, version))
+    let version = version_of(&mut connection);
+    drop(connection);
+    Some((ran, version))
 }
 
 // A store of version 1 with one document, whose number is too large.
@@ -175,13 +266,16 @@ const DAMAGED: &str =
 
 #[test]
 fn a_number_that_is_too_large_is_damage(rt: HostRuntime) -> Result<(), Fail> {
-    let (ran, _version) = script_over(rt.alloc(), DAMAGED, b"as ann\n")?;
+    let Some((ran, _version)) = script_over(rt.alloc(), DAMAGED, b"as ann\n") else {
+        return Err(Fail::from("no store"));
+    };
     let (status, written) = ran?;
     assert_eq!(rt; status, 6);
     assert_eq!(rt;
         written.as_slice(),
         b"stop 6 damaged docs 1 number\n".as_slice()
     );
+    drop(written);
     Ok(())
 }
 
@@ -202,17 +296,13 @@ const FIRST_VERSION: &str =
 
 #[test]
 fn a_store_of_version_1_goes_on(rt: HostRuntime) -> Result<(), Fail> {
-    let (ran, version) = script_over(
-        rt.alloc(),
-        FIRST_VERSION,
-        b"as ann\nat 111\nat 120\nmail\nSubject: hi\n\n.\nat 121\nrun q\nbox q\n",
-    )?;
+    let Some((ran, version)) = script_over(rt.alloc(), FIRST_VERSION, SECOND) else {
+        return Err(Fail::from("no store"));
+    };
     let (status, written) = ran?;
-    assert_eq!(rt; version, 2);
+    assert_eq!(rt; version, Some(2));
     assert_eq!(rt; status, 0);
-    assert_eq!(rt;
-        written.as_slice(),
-        b"ok 0 as ann\nok 0 at 111\nok 0 at 120\nok 0 doc 3\nok 0 at 121\nok 1 run 3 before 121\ndoc 3 first 120\nok 3 box q\ndoc 1 first 100 run 1\ndoc 2 first 110 run 2\ndoc 3 first 120 run 3\n".as_slice()
-    );
+    assert_eq!(rt; written.as_slice(), SECOND_REPLIES);
+    drop(written);
     Ok(())
 }

@@ -1,5 +1,5 @@
 use Rattle.std.proofs.Common.{◌≤◌, ◌-◌, length}
-use Rattle.engine_tests.proofs.command_tests.commands_of.Given as goal
+use Rattle.engine_tests.proofs.command_tests.read_into.Given as goal
 
 -- the place is within the script
 abbrev pub invariant-loop-at : goal.invariant-loop-at
