@@ -10,13 +10,14 @@
 
 A library is proved once for each text of its files and of what it stands on, into a folder of the user's cache, where any checkout
 finds it. A change of a proof alone gives the same library, so the crates above aren't built again. LENDER=FOLDER names a checkout
-in which `rt ci` runs: its libraries are taken if their files are the same. At most LANES processes of the compiler run at a time
-(4 if it isn't set), each with JOBS jobs (2)."""
+in which `rt ci` runs: its libraries are taken if their files are the same, also those that it builds now. At most LANES processes of
+the compiler run at a time (4 if it isn't set), each with JOBS jobs (2)."""
 import fcntl
 import functools
 import hashlib
 import importlib.machinery
 import os
+import re
 import shutil
 import subprocess
 import sys
@@ -133,11 +134,28 @@ def lent(name):
     return path if same and os.path.isdir(path) else None
 
 
+def is_at_work(name):
+    """Returns whether the lending checkout builds the library of the same files now."""
+    folder = os.path.realpath(f"{LENDER}/crates/{name}")
+    if any(sum_of_files(TOP, it) != sum_of_files(LENDER, it) for it in [*below(name), name]):
+        return False
+    for process in os.listdir("/proc"):
+        try:
+            if os.readlink(f"/proc/{process}/cwd") == folder:
+                return True
+        except OSError:
+            pass
+    return False
+
+
 def build(name):
     """Returns the path and the sum of a library, built if nobody has; nothing if it isn't proved."""
     path = LENDER and lent(name)
+    while LENDER and not path and is_at_work(name):
+        time.sleep(2)
+        path = lent(name)
     if path:
-        return path, sum_of_files(TOP, name)
+        return path, sum_of_library(path)
     total = hashlib.sha256(sum_of_files(TOP, name).encode())
     for used in below(name):
         total.update(BUILT[used][1].encode())
@@ -220,9 +238,12 @@ def try_edit(name, path):
         shutil.copytree(kept(name), f"{copy}/check")
         words = ["check", *words_of(name), "--jobs", "1", "--incremental", f"{copy}/check"]
         ran = call(words, copy, stdout=subprocess.PIPE, stderr=subprocess.STDOUT, text=True)
-    first = next((it for it in ran.stdout.split("\n") if "error" in it), "")
-    print(f"{os.path.basename(path)}: {'refused' if ran.returncode == 1 else 'NOT REFUSED'}: {first[:160]}", flush=True)
-    return ran.returncode == 1
+    # An error of form has its place in a source file; what isn't proved has none.
+    is_bad = re.search(r"\.rt:\d+:\d+: error\[", ran.stdout)
+    is_refused = ran.returncode == 1 and not is_bad
+    first = next((it for it in ran.stdout.split("\n") if re.search(r"it is not proved|: error", it)), "")
+    print(f"{os.path.basename(path)}: {'refused' if is_refused else 'bad edit' if is_bad else 'NOT REFUSED'}: {first[:160]}", flush=True)
+    return is_refused
 
 
 def plant(name, flags):
