@@ -24,10 +24,10 @@ use Rattle.tql_core.specs.Exact.{var_is}
 use Rattle.tql_core.specs.Row.{Row}
 use Rattle.tql_core.specs.Values.{Env, lookup, on_row, field, number, text_field, text, list_field, both, both_texts, has, true_atom}
 use Rattle.access_plan.specs.declared.access.Access.{Access}
-use Rattle.access_plan.specs.declared.access.Access.TheVariants.{ById, ByMsgId, ByParent, BySender, BySubject, ByReference, ByWord, NotesOf}
+use Rattle.access_plan.specs.declared.access.Access.TheVariants.{ById, ByMsgId, ByParent, BySender, BySubject, ReferencedBy, ByReference, ByWord, NotesOf}
 use Rattle.access_plan.specs.declared.kind.Kind.{Kind}
 use Rattle.access_plan.specs.declared.kind.Kind.TheVariants as K
-use Rattle.access_plan.specs.Accesses.{admits, is_known_number, is_known_text, other_number, other_text, number_side, text_side, reference_side, word_side, guard_access}
+use Rattle.access_plan.specs.Accesses.{admits, is_known_number, is_known_text, other_number, other_text, number_side, text_side, referring_side, reference_side, word_side, guard_access}
 use Rattle.access_plan.specs.Laws.{AreSame}
 use Rattle.access_plan.proofs.Fields.{number_is, text_is, both_round, texts_round}
 
@@ -91,6 +91,15 @@ module _ (known : ℕ → Bool) (v : Var) (env final : Env) (row : Row) (same : 
       subst (λ z. has (list_field Words row) z ≡ true) right (subst (λ z. has z (text y final) ≡ true) left t)
   by_word _ e h t = absurd (none-some e h)
 
+  by_referring : (a : Atom) (w : Var) → referring_side known v a ≡ Some w → true_atom a final ≡ true → has (on_row (lookup w.0 env) (list_field References)) (text_field MsgId row) ≡ true
+  by_referring (Has x References (X.Field u MsgId)) w h t =
+      let c = cond_some (var.ghosts.eq u v && known x.0) x w h in
+      let p = and_parts _ _ c.0 in
+      let left : on_row (lookup x.0 final) (list_field References) ≡ on_row (lookup w.0 env) (list_field References) = ap (λ o. on_row o (list_field References)) (same x.0 p.1) ∙ ap (λ (z : Var). on_row (lookup z.0 env) (list_field References)) c.1 in
+      let right : on_row (lookup u.0 final) (text_field MsgId) ≡ text_field MsgId row = ap (λ (z : Var). on_row (lookup z.0 final) (text_field MsgId)) (var_is u v p.0) ∙ ap (λ o. on_row o (text_field MsgId)) here in
+      subst (λ z. has (on_row (lookup w.0 env) (list_field References)) z ≡ true) right (subst (λ z. has z (on_row (lookup u.0 final) (text_field MsgId)) ≡ true) left t)
+  by_referring _ w h t = absurd (none-some w h)
+
   by_reference : (a : Atom) (e : TextExpr) → reference_side known v a ≡ Some e → true_atom a final ≡ true → has (list_field References row) (text e env) ≡ true
   by_reference (Has w References y) e h t =
       let c = cond_some (var.ghosts.eq w v && is_known_text known y) y e h in
@@ -107,6 +116,7 @@ module _ (known : ℕ → Bool) (v : Var) (env final : Env) (row : Row) (same : 
   guard_admits K.ByParent a access h t = let m = made_of ByParent (text_side known v InReplyTo a) access h in subst (λ z. admits z env row ≡ true) m.2 (by_text InReplyTo a m.0 m.1 t)
   guard_admits K.BySender a access h t = let m = made_of BySender (text_side known v From a) access h in subst (λ z. admits z env row ≡ true) m.2 (by_text From a m.0 m.1 t)
   guard_admits K.BySubject a access h t = let m = made_of BySubject (text_side known v Subject a) access h in subst (λ z. admits z env row ≡ true) m.2 (by_text Subject a m.0 m.1 t)
+  guard_admits K.ReferencedBy a access h t = let m = made_of ReferencedBy (referring_side known v a) access h in subst (λ z. admits z env row ≡ true) m.2 (by_referring a m.0 m.1 t)
   guard_admits K.ByReference a access h t = let m = made_of ByReference (reference_side known v a) access h in subst (λ z. admits z env row ≡ true) m.2 (by_reference a m.0 m.1 t)
   guard_admits K.ByWord a access h t = let m = made_of ByWord (word_side known v a) access h in subst (λ z. admits z env row ≡ true) m.2 (by_word a m.0 m.1 t)
   guard_admits K.NotesOf a access h t = let m = made_of NotesOf (number_side known v DocOf a) access h in subst (λ z. admits z env row ≡ true) m.2 (by_number DocOf a m.0 m.1 t)

@@ -4,10 +4,11 @@ ghost use Rattle.std.specs.Prelude.{◌≡◌};
 ghost use Rattle.access_plan.specs.Views.{access_at};
 
 use crate::AccessRef;
-use tql_core::{NumExpr, TextExpr};
+use tql_core::{NumExpr, TextExpr, Var};
 
 /// The access to the rows of a variable: the document of a number, the documents whose Message-ID, In-Reply-To, sender or
-/// Subject (RFC 5322 3.6) is a text, those with a text among their References or with a word, the notes on the document of a number, or all rows of the table.
+/// Subject (RFC 5322 3.6) is a text, those whose Message-ID is among the References of another variable's row, those with a
+/// text among their References or with a word, the notes on the document of a number, or all rows of the table.
 #[derive(PartialEq, Eq, Drop)]
 pub enum Access {
     ById(NumExpr),
@@ -15,6 +16,7 @@ pub enum Access {
     ByParent(TextExpr),
     BySender(TextExpr),
     BySubject(TextExpr),
+    ReferencedBy(Var),
     ByReference(TextExpr),
     ByWord(TextExpr),
     NotesOf(NumExpr),
@@ -33,6 +35,7 @@ impl Access {
             Access::ByParent(e) => AccessRef::ByParent(e),
             Access::BySender(e) => AccessRef::BySender(e),
             Access::BySubject(e) => AccessRef::BySubject(e),
+            Access::ReferencedBy(var) => AccessRef::ReferencedBy(*var),
             Access::ByReference(e) => AccessRef::ByReference(e),
             Access::ByWord(e) => AccessRef::ByWord(e),
             Access::NotesOf(e) => AccessRef::NotesOf(*e),

@@ -6,7 +6,7 @@ ghost use Rattle.access_plan.specs.Views.{access_at};
 
 use crate::Access;
 use tap_base::{Copied, Memory};
-use tql_core::{NumExpr, TextExpr};
+use tql_core::{NumExpr, TextExpr, Var};
 use tql_tree::Table;
 
 /// An access whose other side is borrowed. It takes no memory.
@@ -17,6 +17,7 @@ pub enum AccessRef<'a> {
     ByParent(&'a TextExpr),
     BySender(&'a TextExpr),
     BySubject(&'a TextExpr),
+    ReferencedBy(Var),
     ByReference(&'a TextExpr),
     ByWord(&'a TextExpr),
     NotesOf(NumExpr),
@@ -45,6 +46,7 @@ impl<'a> AccessRef<'a> {
             AccessRef::ByParent(e) => Ok(Access::ByParent(e.copied()?)),
             AccessRef::BySender(e) => Ok(Access::BySender(e.copied()?)),
             AccessRef::BySubject(e) => Ok(Access::BySubject(e.copied()?)),
+            AccessRef::ReferencedBy(var) => Ok(Access::ReferencedBy(var)),
             AccessRef::ByReference(e) => Ok(Access::ByReference(e.copied()?)),
             AccessRef::ByWord(e) => Ok(Access::ByWord(e.copied()?)),
             AccessRef::NotesOf(e) => Ok(Access::NotesOf(e)),
