@@ -1,7 +1,7 @@
 -- Rows of a variable that no guard names beside one without a row are alike: the rest of a path exists beside all of them or beside none.
 use Rattle.std.proofs.Common.{◌≡◌, ◌∙◌, ℕ, ℤ, Bool, true, false, not, Option, Some, None, List, [], ◌∷◌, refl, sym, ap, subst, inl, inr, nat_eq, if◌then◌else◌}
 use Rattle.std.specs.Prelude.{◌⊎◌, ◌&&◌, ◌||◌, is_some, option_map, unwrap_or, int_le}
-use Rattle.std.specs.List.{list_any, list_all, filter}
+use Rattle.std.specs.List.{list_any, list_all, filter, flat_map}
 use Rattle.std.proofs.lemmas.Bool.{cases_Bool, and_parts, or_cases, false≢true, eq-eqb}
 use Rattle.std.proofs.lemmas.Option.{none-some, cond_some}
 use Rattle.tap_base.specs.declared.numbers.Op.TheVariants.{Eq}
@@ -26,17 +26,17 @@ use Rattle.tql_core.specs.contracts.atom.NumExprPartialEq.TheImpl as num_expr
 use Rattle.tql_core.specs.contracts.atom.TextExprPartialEq.TheImpl as text_expr
 use Rattle.tql_core.specs.Exact.{var_is}
 use Rattle.tql_core.specs.Row.{Row, arrival, rows_of}
-use Rattle.tql_core.specs.Values.{Env, bind, lookup, field, text_field, list_field, both, both_texts, has, true_atom}
+use Rattle.tql_core.specs.Values.{Env, bind, lookup, on_row, field, text_field, list_field, both, both_texts, has, true_atom}
 use Rattle.time_marks.specs.declared.mark.Step.{Step}
 use Rattle.time_marks.specs.Probes.{come_by}
 use Rattle.time_marks.proofs.Lists.{any_in, any_same, all_in, or_right}
 use Rattle.time_marks.proofs.Envs.{bind_other}
 use Rattle.access_plan.specs.declared.access.Access.{Access}
-use Rattle.access_plan.specs.declared.access.Access.TheVariants.{ById, ByMsgId, ByParent, BySender, BySubject, ByReference, ByWord, NotesOf, AllDocs, AllNotes}
+use Rattle.access_plan.specs.declared.access.Access.TheVariants.{ById, ByMsgId, ByParent, BySender, BySubject, ReferencedBy, ByReference, ByWord, NotesOf, AllDocs, AllNotes}
 use Rattle.access_plan.specs.declared.kind.Kind.{Kind}
 use Rattle.access_plan.specs.declared.kind.Kind.TheVariants as K
 use Rattle.access_plan.specs.declared.reach.Reach.{Reach}
-use Rattle.access_plan.specs.Accesses.{table_of, first_some, is_other, is_held, is_held_or, is_known_number, is_known_text, other_number, other_text, number_side, text_side, reference_side, word_side, guard_access, near_kinds, whole}
+use Rattle.access_plan.specs.Accesses.{table_of, first_some, is_other, is_held, is_held_or, is_known_number, is_known_text, other_number, other_text, number_side, text_side, referring_side, reference_side, word_side, guard_access, near_kinds, whole}
 use Rattle.access_plan.specs.Laws.{AreSame}
 use Rattle.access_plan.specs.Nearest.{kind_access, near, nearest, IsNearest}
 use Rattle.access_plan.proofs.Admits.{made_of, one_of}
@@ -44,7 +44,7 @@ use Rattle.access_plan.proofs.Enough.{first_of}
 use Rattle.access_plan.proofs.Fields as same
 use Rattle.access_plan.proofs.Nearests.{nearest_serves}
 use Rattle.probe_eval.specs.Open.{number_known, text_known, atom_known, atom_held, is_open, are_open, path_open, is_apart, are_apart, path_apart, may_go}
-use Rattle.probe_eval.specs.Work.{admits_by, rows_by}
+use Rattle.probe_eval.specs.Work.{admits_by, docs_of_id, rows_by}
 use Rattle.probe_eval.specs.Laws.{RestsAreAlike}
 use Rattle.probe_eval.specs.Rests.{all_or, rest_of}
 use Rattle.probe_eval.proofs.Costs.{filter_same}
@@ -59,6 +59,7 @@ access_known known (ByMsgId e) = text_known known e
 access_known known (ByParent e) = text_known known e
 access_known known (BySender e) = text_known known e
 access_known known (BySubject e) = text_known known e
+access_known known (ReferencedBy w) = known w.0
 access_known known (ByReference e) = text_known known e
 access_known known (ByWord e) = text_known known e
 access_known known (NotesOf e) = number_known known e
@@ -112,6 +113,20 @@ module _ (some known : ℕ → Bool) (u : Var) where
   by_reference (Has w References y) e h t = has_names w y e h t
   by_reference _ e h t = absurd (none-some e h)
 
+  by_referring : (a : Atom) (w : Var) → referring_side known u a ≡ Some w → atom_known some a ≡ true → (some u.0 ≡ true) × (some w.0 ≡ true)
+  by_referring (Has x References (X.Field y MsgId)) w h t =
+      let c = cond_some (var.ghosts.eq y u && known x.0) x w h in
+      let p = and_parts _ _ c.0 in
+      let q = and_parts (some x.0) (some y.0) t in
+      (subst (λ (z : Var). some z.0 ≡ true) (var_is y u p.0) q.1, subst (λ (z : Var). some z.0 ≡ true) c.1 q.0)
+  by_referring _ w h t = absurd (none-some w h)
+
+  referring_access : (side : Option Var) (access : Access) → ((w : Var) → side ≡ Some w → (some u.0 ≡ true) × (some w.0 ≡ true)) → option_map ReferencedBy side ≡ Some access → (some u.0 ≡ true) × (access_known some access ≡ true)
+  referring_access side access n h =
+      let m = made_of ReferencedBy side access h in
+      let k = n m.0 m.1 in
+      (k.0, subst (λ z. access_known some z ≡ true) m.2 k.1)
+
   text_access : (make : TextExpr → Access) → ((e : TextExpr) → access_known some (make e) ≡ text_known some e) → (side : Option TextExpr) (access : Access)
       → ((e : TextExpr) → side ≡ Some e → (some u.0 ≡ true) × (text_known some e ≡ true)) → option_map make side ≡ Some access → (some u.0 ≡ true) × (access_known some access ≡ true)
   text_access make is side access n h =
@@ -132,6 +147,7 @@ module _ (some known : ℕ → Bool) (u : Var) where
   guard_names K.ByParent a access h t = text_access ByParent (λ e. refl) (text_side known u InReplyTo a) access (λ e i. by_text InReplyTo a e i t) h
   guard_names K.BySender a access h t = text_access BySender (λ e. refl) (text_side known u From a) access (λ e i. by_text From a e i t) h
   guard_names K.BySubject a access h t = text_access BySubject (λ e. refl) (text_side known u Subject a) access (λ e i. by_text Subject a e i t) h
+  guard_names K.ReferencedBy a access h t = referring_access (referring_side known u a) access (λ w i. by_referring a w i t) h
   guard_names K.ByReference a access h t = text_access ByReference (λ e. refl) (reference_side known u a) access (λ e i. by_reference a e i t) h
   guard_names K.ByWord a access h t = text_access ByWord (λ e. refl) (word_side known u a) access (λ e i. by_word a e i t) h
   guard_names K.NotesOf a access h t = number_access NotesOf (λ e. refl) (number_side known u DocOf a) access (λ e i. by_number DocOf a e i t) h
@@ -144,6 +160,7 @@ module _ (some : ℕ → Bool) (env final : Env) (h : AreSame some env final) (b
   admits_same (ByParent e) k row = ap (both_texts Eq (text_field InReplyTo row)) (text_is some env final h e k)
   admits_same (BySender e) k row = ap (both_texts Eq (text_field From row)) (text_is some env final h e k)
   admits_same (BySubject e) k row = ap (both_texts Eq (text_field Subject row)) (text_is some env final h e k)
+  admits_same (ReferencedBy w) k row = ap (λ o. has (on_row o (list_field References)) (text_field MsgId row)) (h w.0 k)
   admits_same (ByReference e) k row = ap (has (list_field References row)) (text_is some env final h e k)
   admits_same (ByWord e) k row = ap (has (list_field Words row)) (text_is some env final h e k)
   admits_same (NotesOf e) k row = ap (both Eq (field DocOf row)) (number_is some env final h e k)
@@ -151,6 +168,7 @@ module _ (some : ℕ → Bool) (env final : Env) (h : AreSame some env final) (b
   admits_same AllNotes k row = refl
 
   rows_same : (access : Access) → access_known some access ≡ true → (T : Tables) → rows_by b access final T ≡ rows_by b access env T
+  rows_same (ReferencedBy w) k T = ap (λ o. flat_map (docs_of_id T) (unwrap_or (on_row o (list_field References)) [])) (h w.0 k)
   rows_same access k T = filter_same (admits_by b access final) (admits_by b access env) (rows_of (table_of access) T) (admits_same access k)
 
 all_same : {A : Type 0} (p q : A → Bool) (xs : List A) → ((x : A) → In x xs → p x ≡ q x) → list_all p xs ≡ list_all q xs

@@ -29,18 +29,19 @@ use Rattle.access_plan.specs.declared.reach.Reach.{Reach}
 use Rattle.access_plan.specs.Accesses.{table_of}
 use Rattle.access_plan.specs.Orders.{driven}
 use Rattle.access_plan.specs.Laws.{order_vars, numbers_of, IsServed, IsOrder}
-use Rattle.probe_eval.specs.Work.{admits_by, rows_by, total, work}
+use Rattle.probe_eval.specs.Work.{rows_by, total, work}
 use Rattle.probe_eval.specs.Nested.{asked_cost, work_over}
 use Rattle.probe_eval.specs.Drivers.{seek_var, stored_rows, driving, walked, mark_in, marked_cost, cost_at, seek_cost}
 use Rattle.probe_eval.specs.Tables.{table_in}
 use Rattle.probe_eval.specs.Runs.{starts_of, HasNoMark, PathIsDocument, rows_due}
-use Rattle.probe_eval.proofs.Costs.{total_same, total_less, total_none, total_filter, filter_same, filter_all, total_map, dated_total}
+use Rattle.probe_eval.proofs.Costs.{total_same, total_less, total_none, filter_same, filter_all, total_map, dated_total}
 use Rattle.probe_eval.proofs.DriverLaws.{driven_are}
 use Rattle.probe_eval.proofs.Finding.{driven_is, driven_in, base_driven, apart_left}
 use Rattle.probe_eval.proofs.Founds.{ordered}
 use Rattle.probe_eval.proofs.RestLaws.{reach_rows}
 use Rattle.probe_eval.proofs.Nesting.{asked_table, further_is}
 use Rattle.probe_eval.proofs.WalkedLaws.{walked_in, walked_total}
+use Rattle.probe_eval.proofs.WalkRows.{rows_less}
 use Rattle.access_plan.specs.Nearest.{IsNearest}
 use Rattle.access_plan.proofs.Nearests.{nearest_serves}
 use Rattle.probe_eval.specs.Rests.{further, cost_of, rest_of}
@@ -220,7 +221,7 @@ module _ (T : Tables) (w : Window) (p : Probe) (order : List Reach) (k : IsProbe
                     plain n m h = omega (arith, h)
 
                     next : (x : Reach) → IsNearest p.path [] x → total (λ row. 1 + work_over T p b false [] (bind x.var row [])) (rows_by b x.access [] T) ≤ total due T.docs
-                    next x near = subst (λ z. total (λ row. 1 + work_over T p b false [] (bind x.var row [])) (rows_by b x.access [] T) ≤ z) all (trans (total_filter _ (admits_by b x.access []) (rows_of (table_of x.access) T)) (total_less _ _ (rows_of (table_of x.access) T) each))
+                    next x near = subst (λ z. total (λ row. 1 + work_over T p b false [] (bind x.var row [])) (rows_by b x.access [] T) ≤ z) all (trans (rows_less _ b x.access T) (total_less _ _ (rows_of (table_of x.access) T) each))
                       where
                         x_zero : x.var.0 ≡ 0
                         x_zero = is_asked x.var.0 (subst (λ (v : Var). In v.0 (vars_of p.path)) (sym near.var) (in_map (λ (s : Step). s.var.0) p.path near.step near.is_step))

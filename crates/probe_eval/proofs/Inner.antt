@@ -8,10 +8,10 @@ use Rattle.tql_core.specs.Condition.{Condition, Exists}
 use Rattle.tql_core.specs.Row.{Row, rows_of}
 use Rattle.tql_core.specs.Values.{Env, bind}
 use Rattle.tql_core.specs.Holds.{truth}
-use Rattle.access_plan.specs.Accesses.{admits, inner_access}
-use Rattle.access_plan.proofs.Enough.{inner_accesses_are_enough}
+use Rattle.access_plan.specs.Accesses.{inner_access}
+use Rattle.access_plan.proofs.Enough.{inner_accesses_are_enough, inner_accesses_keep_tables}
 use Rattle.probe_eval.specs.Work.{reached}
-use Rattle.probe_eval.proofs.AccessTables.{any_admitted}
+use Rattle.probe_eval.proofs.WalkRows.{any_walked}
 
 module _ (T : Tables) (x : Condition) (v : Var) (t : Table) (env : Env) (rows : List Row) (r : rows ≡ reached T v t x env) where
   -- the truth of the inner condition with a row
@@ -20,7 +20,8 @@ module _ (T : Tables) (x : Condition) (v : Var) (t : Table) (env : Env) (rows : 
 
   exists_same : truth T (pos 0) (Exists v t x) env ≡ list_any with_row rows
   exists_same =
-      sym (any_admitted with_row (admits (inner_access v t x) env) (rows_of t T) (λ row h. inner_accesses_are_enough T v t x env row (pos 0) h))
+      ap (λ table. list_any with_row (rows_of table T)) (sym (inner_accesses_keep_tables v t x))
+      ∙ any_walked with_row (inner_access v t x) env T (λ row h. inner_accesses_are_enough T v t x env row (pos 0) h)
       ∙ ap (list_any with_row) (sym r)
 
   pub no_row : rows ≡ [] → truth T (pos 0) (Exists v t x) env ≡ false

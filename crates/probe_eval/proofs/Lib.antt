@@ -24,4 +24,5 @@ pub mod RestLaws
 pub mod RestSteps
 pub mod Steps
 pub mod Tables
+pub mod WalkRows
 pub mod WalkedLaws

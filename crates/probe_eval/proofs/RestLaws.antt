@@ -23,12 +23,12 @@ use Rattle.access_plan.specs.Nearest.{nearest, IsNearest}
 use Rattle.access_plan.proofs.Counts.{count_<, count_none}
 use Rattle.access_plan.proofs.Nearests.{nearest_serves, nearest_is_none, nearest_admits, nearest_keeps_table}
 use Rattle.probe_eval.specs.Open.{path_open, may_go}
-use Rattle.probe_eval.specs.Work.{admits_by, rows_by}
+use Rattle.probe_eval.specs.Work.{rows_by}
 use Rattle.probe_eval.specs.Laws.{RestsAreFound}
 use Rattle.probe_eval.specs.Tables.{table_in}
 use Rattle.probe_eval.specs.Rests.{Rest, is_left, left_of, InTables, all_or, rest_of}
-use Rattle.probe_eval.proofs.Members.{in_filter, to_filter}
-use Rattle.probe_eval.proofs.Tables.{table_is, by_both}
+use Rattle.probe_eval.proofs.Tables.{table_is}
+use Rattle.probe_eval.proofs.WalkRows.{in_rows, to_rows}
 use Rattle.probe_eval.proofs.OpenLaws.{held_same, held_more, held_was, same_bound, stays_open, all_true}
 
 module _ (T : Tables) (path : List Step) (b : ℤ) (once : Distinct (vars_of path)) where
@@ -40,7 +40,7 @@ module _ (T : Tables) (path : List Step) (b : ℤ) (once : Distinct (vars_of pat
   reach_rows env r k = nearest_keeps_table path env r k ∙ k.table ∙ sym (table_is path k.step once k.is_step) ∙ ap (λ (v : Var). table_in path v.0) (sym k.var)
 
   pub walked_row : (env : Env) (r : Reach) (row : Row) → IsNearest path env r → In row (rows_by b r.access env T) → In row (rows_of (table_in path r.var.0) T)
-  walked_row env r row k i = subst (λ t. In row (rows_of t T)) (reach_rows env r k) (in_filter (admits_by b r.access env) (rows_of (table_of r.access) T) row i).0
+  walked_row env r row k i = subst (λ t. In row (rows_of t T)) (reach_rows env r k) (in_rows env T row b r.access i)
 
   pub in_tables : (env : Env) (r : Reach) (row : Row) → InTables T path env → In row (rows_of (table_in path r.var.0) T) → InTables T path (bind r.var row env)
   in_tables env r row t i k j h = go (held_was env r.var row k h)
@@ -66,7 +66,7 @@ module _ (T : Tables) (path : List Step) (b : ℤ) (once : Distinct (vars_of pat
   walks_row env final r row k same e i c g =
       let a : admits r.access env row ≡ true = nearest_admits path env final r row k same e g in
       let t : In row (rows_of (table_of r.access) T) = subst (λ z. In row (rows_of z T)) (sym (reach_rows env r k)) i in
-      to_filter (admits_by b r.access env) (rows_of (table_of r.access) T) row t (by_both b r.access env row a c)
+      to_rows env T row b r.access t a c
 
   -- one step fewer is left
   pub fewer_left : (env : Env) (r : Reach) (row : Row) → IsNearest path env r → left_of path (bind r.var row env) < left_of path env

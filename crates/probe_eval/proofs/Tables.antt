@@ -9,7 +9,7 @@ use Rattle.time_marks.specs.declared.mark.Step.{Step}
 use Rattle.time_marks.specs.Found.{vars_of, Distinct}
 use Rattle.time_marks.proofs.Lists.{in_map}
 use Rattle.access_plan.specs.declared.access.Access.{Access}
-use Rattle.access_plan.specs.declared.access.Access.TheVariants.{ById, ByMsgId, ByParent, BySender, BySubject, ByReference, ByWord, NotesOf, AllDocs, AllNotes}
+use Rattle.access_plan.specs.declared.access.Access.TheVariants.{ById, ByMsgId, ByParent, BySender, BySubject, ReferencedBy, ByReference, ByWord, NotesOf, AllDocs, AllNotes}
 use Rattle.access_plan.specs.Accesses.{admits}
 use Rattle.probe_eval.specs.Tables.{table_in}
 use Rattle.probe_eval.specs.Work.{admits_by}
@@ -40,6 +40,7 @@ by_both b (ByMsgId e) env row h k = h
 by_both b (ByParent e) env row h k = h
 by_both b (BySender e) env row h k = h
 by_both b (BySubject e) env row h k = h
+by_both b (ReferencedBy w) env row h k = h
 by_both b (ByReference e) env row h k = h
 by_both b (ByWord e) env row h k = h
 by_both b (NotesOf e) env row h k = h

@@ -1,13 +1,18 @@
 -- The rows that the conditions of a body look at, and how many steps that may take.
-use Rattle.std.specs.Prelude.{ℕ, ◌+◌, ℤ, Bool, List, [], ◌∷◌, filter, int_le}
+use Rattle.std.specs.Prelude.{ℕ, ◌+◌, ℤ, Bool, Some, List, [], ◌∷◌, filter, unwrap_or, int_le}
+use Rattle.std.specs.List.{flat_map}
+use Rattle.tap_base.specs.declared.numbers.Op.TheVariants.{Eq}
 use Rattle.tap_rows.specs.declared.tables.Tables.{Tables}
 use Rattle.tql_tree.specs.declared.table.Table.{Table}
+use Rattle.tql_tree.specs.declared.table.Table.TheVariants.{Docs}
 use Rattle.tql_core.specs.declared.term.Var.{Var}
+use Rattle.tql_core.specs.declared.atom.TextField.TheVariants.{MsgId}
+use Rattle.tql_core.specs.declared.atom.ListField.TheVariants.{References}
 use Rattle.tql_core.specs.Condition.{Condition, Always, Never, Plain, NowAtLeast, NowBefore, All, Either, Not, Exists}
 use Rattle.tql_core.specs.Row.{Row, arrival, rows_of}
-use Rattle.tql_core.specs.Values.{Env, bind}
+use Rattle.tql_core.specs.Values.{Env, bind, lookup, on_row, text_field, list_field, both_texts}
 use Rattle.access_plan.specs.declared.access.Access.{Access}
-use Rattle.access_plan.specs.declared.access.Access.TheVariants.{AllDocs, AllNotes}
+use Rattle.access_plan.specs.declared.access.Access.TheVariants.{ReferencedBy, AllDocs, AllNotes}
 use Rattle.access_plan.specs.Accesses.{table_of, admits, inner_access}
 
 -- the rows that an access reaches, of a whole table those that have come by a second
@@ -16,9 +21,27 @@ admits_by last AllDocs env row = int_le (arrival row) last
 admits_by last AllNotes env row = int_le (arrival row) last
 admits_by last access env row = admits access env row
 
--- the rows that a walk by an access hands out
+-- the references of a variable's row: none if it has no row, or that of a note
+abbrev pub references_of : Var → Env → List (List ℕ)
+references_of v env = unwrap_or (on_row (lookup v.0 env) (list_field References)) []
+
+-- the documents of a message id
+abbrev pub docs_of_id : Tables → List ℕ → List Row
+docs_of_id T id = filter (λ row. both_texts Eq (text_field MsgId row) (Some id)) (rows_of Docs T)
+
+-- the documents that a variable's row refers to: those of each of its references, one after the other
+abbrev pub referenced : Var → Env → Tables → List Row
+referenced v env T = flat_map (docs_of_id T) (references_of v env)
+
+-- the rows that a walk by an access hands out, of a whole table those that have come by a second
 abbrev pub rows_by : ℤ → Access → Env → Tables → List Row
+rows_by last (ReferencedBy v) env T = referenced v env T
 rows_by last access env T = filter (admits_by last access env) (rows_of (table_of access) T)
+
+-- the same once all rows have come
+abbrev pub all_rows_by : Access → Env → Tables → List Row
+all_rows_by (ReferencedBy v) env T = referenced v env T
+all_rows_by access env T = filter (admits access env) (rows_of (table_of access) T)
 
 -- the sum of f over a list
 abbrev pub total : {A : Type 0} → (A → ℕ) → List A → ℕ
@@ -27,7 +50,7 @@ total f (x ∷ xs) = f x + total f xs
 
 -- the rows of an EXISTS that its access gives
 abbrev pub reached : Tables → Var → Table → Condition → Env → List Row
-reached T v t x env = filter (admits (inner_access v t x) env) (rows_of t T)
+reached T v t x env = all_rows_by (inner_access v t x) env T
 
 -- a step for each row of an outermost EXISTS, and the work of its inner condition
 abbrev pub work : Tables → Condition → Env → ℕ

@@ -9,14 +9,14 @@ ghost use Rattle.tql_core.specs.Row.{OfDoc, OfNote};
 ghost use Rattle.tql_core.specs.Values.{field, both, text_field, both_texts, list_field, has};
 ghost use Rattle.tql_core.specs.Trees.{tree_at};
 ghost use Rattle.access_plan.specs.Views.{access_at};
-ghost use Rattle.probe_eval.specs.Work.{rows_by, reached};
+ghost use Rattle.probe_eval.specs.Work.{references_of, referenced, rows_by, reached};
 
 use crate::row_walk::RowWalk;
 use access_plan::{AccessRef, inner_access};
 use node_pool::{NodeId, Pool};
 use row_index::RowIndex;
-use tap_base::DocNum;
-use tql_core::{Env, TNode, Var, number, text};
+use tap_base::{DocNum, Text};
+use tql_core::{Env, RowRef, TNode, Var, number, text};
 use tql_tree::Table;
 
 // Returns the number, if it has 32 bits.
@@ -82,6 +82,23 @@ fn with_subject<'a>(text: Option<&[u8]>, index: &'a RowIndex) -> RowWalk<'a>
     }
 }
 
+// Returns the references of the variable's row: none if it has no row, or that of a note.
+fn references_of<'a>(var: Var, env: &Env<'a>) -> &'a [Text]
+    ensures { result.now ≡ references_of var env.now }
+{
+    match env.get(var) {
+        Some(RowRef::OfDoc(doc)) => doc.fields().references.as_slice(),
+        _ => &[],
+    }
+}
+
+// Returns the documents that the variable's row refers to, those of each of its references after the other.
+fn referenced<'a>(var: Var, env: &Env<'a>, index: &'a RowIndex) -> RowWalk<'a>
+    ensures { result ≡ referenced var env.now index.now }
+{
+    RowWalk::of_ids(index, references_of(var, env))
+}
+
 // Returns the documents that have this text among their references.
 fn with_reference<'a>(text: Option<&[u8]>, index: &'a RowIndex) -> RowWalk<'a>
     ensures { result ≡ filter (λ row. has (list_field References row) (option_copied text.entry)) (map OfDoc index.now.docs) }
@@ -114,7 +131,8 @@ fn with_doc(num: Option<i128>, index: &RowIndex) -> RowWalk<'_>
     }
 }
 
-/// Returns the rows that an access reaches, of a whole table those that have arrived by `last`.
+/// Returns the rows that an access reaches, of a whole table those that have arrived by `last`. A document whose message id
+/// is named twice among a row's references comes twice.
 pub fn rows_by<'a>(
     access: AccessRef<'a>,
     last: i64,
@@ -129,6 +147,7 @@ pub fn rows_by<'a>(
         AccessRef::ByParent(e) => with_parent(text(e, env), index),
         AccessRef::BySender(e) => with_sender(text(e, env), index),
         AccessRef::BySubject(e) => with_subject(text(e, env), index),
+        AccessRef::ReferencedBy(var) => referenced(var, env, index),
         AccessRef::ByReference(e) => with_reference(text(e, env), index),
         AccessRef::ByWord(e) => with_word(text(e, env), index),
         AccessRef::NotesOf(e) => with_doc(number(e, env), index),
