@@ -11,6 +11,7 @@ pub mod HitSteps
 pub mod Inner
 pub mod LeastSeconds
 pub mod LevelLaws
+pub mod LinearLaws
 pub mod LiteralLaws
 pub mod Meant
 pub mod Members

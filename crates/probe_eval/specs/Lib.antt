@@ -13,4 +13,5 @@ pub mod Drivers
 pub mod Found
 pub mod Runs
 pub mod Pairs
+pub mod Linear
 pub mod Laws
