@@ -1,18 +1,23 @@
 //! Tests of window queries.
 
 ghost use Rattle.std.specs.Prelude.{◌≡◌, IfOk, pos, true};
-ghost use Rattle.tql_tree.specs.declared.table.Table.TheVariants.{Notes};
+ghost use Rattle.tap_base.specs.declared.numbers.Op.TheVariants.{Eq};
+ghost use Rattle.tql_tree.specs.declared.table.Table.TheVariants.{Docs, Notes};
+ghost use Rattle.tql_core.specs.declared.atom.TextField.TheVariants.{MsgId, InReplyTo};
+ghost use Rattle.tql_core.specs.declared.atom.TextExpr.TheVariants.{Field};
+ghost use Rattle.tql_core.specs.declared.atom.Atom.TheVariants.{Texts};
 ghost use Rattle.tql_core.specs.declared.term.Base.TheVariants.{Arrival};
 ghost use Rattle.tql_core.specs.Bounds.{are_bounded};
 ghost use Rattle.tql_core.specs.Scope.{IsQuery};
-ghost use Rattle.tql_core.specs.Condition.{condition, Not, Exists, NowBefore, Always, Never, All};
+ghost use Rattle.tql_core.specs.Condition.{condition, Not, Exists, Plain, NowBefore, Always, Never, All};
 
 use crate::conditions::{arrival, both, for_no_note, not};
 use monotone_rewrite::monotone;
 use std::alloc::Global;
-use tap_base::Memory;
-use time_marks::WindowQuery;
-use tql_core::Cond;
+use tap_base::{Memory, Op};
+use time_marks::{Probe, Step, WindowQuery};
+use tql_core::{Atom, Cond, TextExpr, TextField, Var};
+use tql_tree::Table;
 
 // Returns the condition that no note arrived less than 5 seconds ago.
 fn unnoted(alloc: Global) -> Result<Cond, Memory>
@@ -61,5 +66,52 @@ fn what_is_never_true_has_no_probe(rt: HostRuntime) -> Result<(), Memory> {
     let query = rewritten(alloc, cond)?;
     assert_eq!(rt; query.probes.len(), 0);
     drop(query);
+    Ok(())
+}
+
+// Returns the guard that a variable's document replies to the message.
+fn replies(var: u8) -> Atom
+    ensures { result ≡ Texts (Field (record { 0 = var }) InReplyTo) Eq (Field (record { 0 = 0 }) MsgId) }
+{
+    Atom::Texts(
+        TextExpr::Field(Var(var), TextField::InReplyTo),
+        Op::Eq,
+        TextExpr::Field(Var(0), TextField::MsgId),
+    )
+}
+
+// Returns the condition that the message has a reply.
+fn replied(alloc: Global) -> Result<Cond, Memory>
+    ensures { IfOk result (λ cond. condition cond ≡ Exists (record { 0 = 1 }) Docs
+        (Plain (Texts (Field (record { 0 = 1 }) InReplyTo) Eq (Field (record { 0 = 0 }) MsgId)))) }
+{
+    let replies = Box::new(alloc, Cond::Plain(replies(1)))?;
+    Ok(Cond::Exists(Var(1), Table::Docs, replies))
+}
+
+// Returns whether the step is to a document of this variable with these guards.
+fn is_step(step: &Step, var: u8, guards: &[Atom]) -> bool {
+    step.var == Var(var) && step.table == Table::Docs && step.guards.as_slice() == guards
+}
+
+// Returns whether the probe is that of new replies, for which the law of linear bounds has its example.
+fn is_of_replies(probe: &Probe) -> bool {
+    match probe.path.as_slice() {
+        [m, r] => is_step(m, 0, &[]) && is_step(r, 9, &[replies(9)]) && probe.at == arrival(9, 0),
+        _ => false,
+    }
+}
+
+#[test]
+fn a_new_reply_has_its_probe(rt: HostRuntime) -> Result<(), Memory> {
+    let alloc = rt.alloc();
+    let cond = replied(alloc)?;
+    let query = rewritten(alloc, cond)?;
+    let found = match query.probes.as_slice() {
+        [_, last] => is_of_replies(last),
+        _ => false,
+    };
+    drop(query);
+    assert!(rt; found);
     Ok(())
 }
