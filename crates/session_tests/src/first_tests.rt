@@ -4,8 +4,8 @@ use session_runs::{answers_within, push_number};
 use std::alloc::Global;
 use tap_base::{Memory, Text, Texts, nth_word};
 
-// Appends the question of a second.
-fn push_question(script: &mut Text, second: u32, condition: &[u8]) -> Result<(), Memory> {
+/// Appends the question of a second.
+pub fn push_question(script: &mut Text, second: u32, condition: &[u8]) -> Result<(), Memory> {
     script.push_slice(b"ask ")?;
     push_number(script, second)?;
     script.push_slice(b" ")?;
@@ -80,8 +80,8 @@ fn push_firsts(alloc: Global, firsts: &mut Firsts, written: &str) -> Result<(), 
     Ok(())
 }
 
-// Returns whether the run gives these first seconds, and so does asking.
-fn are_firsts(alloc: Global, written: &str, want: &[u8]) -> Result<(bool, bool), Memory> {
+/// Returns whether the runs give these first seconds, and so does asking.
+pub fn are_firsts(alloc: Global, written: &str, want: &[u8]) -> Result<(bool, bool), Memory> {
     let mut firsts = Firsts {
         ran: Text::new(alloc),
         asked: Text::new(alloc),

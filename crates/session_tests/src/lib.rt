@@ -11,3 +11,5 @@ mod reading_tests;
 mod sample_tests;
 #[cfg(test)]
 mod script_tests;
+#[cfg(test)]
+mod shape_tests;
