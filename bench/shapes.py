@@ -8,7 +8,8 @@ run. A round is the difference of the last two by the number of rounds; of three
 with the query in its own form, and its replies to the runs have to be the same.
 
 Mail i comes a second after mail i - 1. It has the message id <i@example.org>, one of 10 senders, one of 100 subjects and three
-words. Each fourth replies to the mail before it and has it in its references; each fifth has a note. SIZES are the numbers of mails,
+words. Each fourth replies to the mail before it and has it in its references; each fifth has a note. In one shape ten mails in a
+row have a subject of their own in place of one of 100, so that no more mails share a subject as there are more mails. SIZES are the numbers of mails,
 CROSS those of the two cross products, ROUNDS the rounds, LIMIT the most seconds of one line, SHAPES a text that the names of the
 shapes have.
 """
@@ -28,16 +29,24 @@ TURNS = 3
 TEN_DAYS = 10 * 86400
 
 
-def mail(i):
+def mail(i, subject=None):
     reply = f"In-Reply-To: <{i - 1}@example.org>\nReferences: <{i - 1}@example.org>\n" if i % 4 == 0 else ""
     return (
-        f"mail\nFrom: sender{i % 10}@example.org\nMessage-ID: <{i}@example.org>\nSubject: subject{i % 100}\n"
+        f"mail\nFrom: sender{i % 10}@example.org\nMessage-ID: <{i}@example.org>\nSubject: subject{i % 100 if subject is None else subject}\n"
         f"Date: Thu, 01 Jan 1970 01:00:00 +0000\n{reply}\nword{i % 50} rare{i} lunch\n.\n"
     )
 
 
+def mail_of_ten(i):
+    return mail(i, i // 10)
+
+
 def new_mail(size, k):
     return mail(size + k)
+
+
+def new_mail_of_ten(size, k):
+    return mail_of_ten(size + k)
 
 
 def new_reply(size, k):
@@ -64,6 +73,7 @@ ROWS = [
     ("three days after the date", "NOW >= m.date + 3 DAYS", new_mail, None),
     ("one of four words", "m.words HAS 'word1' OR m.words HAS 'word2' OR m.words HAS 'word3' OR m.words HAS 'word4'", new_mail, None),
     ("another of its subject", "EXISTS (r: DOC WHERE r.subject = m.subject AND r.id > m.id)", new_mail, None),
+    ("another of ten of its subject", "EXISTS (r: DOC WHERE r.subject = m.subject AND r.id > m.id)", new_mail_of_ten, None),
     ("a thread by references", "EXISTS (r: DOC WHERE r.references HAS m.msgid)", new_reply, None),
 ]
 CROSS_ROWS = [
@@ -128,8 +138,9 @@ def measure(program, size, query, event, rounds):
     session = Session(program)
     try:
         text = ["at 1000\nas ann\n"]
+        stored = mail_of_ten if event is new_mail_of_ten else mail
         for i in range(1, size + 1):
-            text.append(f"at {1000 + i}\n{mail(i)}" + (f"note {i} score 3 fine\n" if i % 5 == 0 else ""))
+            text.append(f"at {1000 + i}\n{stored(i)}" + (f"note {i} score 3 fine\n" if i % 5 == 0 else ""))
         session.part("".join(text))
         # Ten days later, so that an absence of that length has something to deliver.
         now = 2000 + size + TEN_DAYS
