@@ -17,17 +17,17 @@ use Rattle.probe_eval.specs.Work.{work, total}
 use Rattle.probe_eval.specs.Conjuncts.{names, fixed_part, own_part}
 use Rattle.probe_eval.proofs.OpenLaws.{value_is, atom_is}
 
+pub is_apart_from : (v : Var) (k : ℕ) → is_other v k ≡ true → k ≡ v.0 → ⊥
+is_apart_from v k h e = let z = eq-eqb v.0 k (sym e) in false≢true (rw z at h)
+
 -- two rows of a variable are the same to all others
 bound_apart : (v : Var) (r q : Row) (env : Env) → AreSame (is_other v) (bind v r env) (bind v q env)
 bound_apart v r q env k h =
-    let n : k ≡ v.0 → ⊥ = other v k h in
+    let n : k ≡ v.0 → ⊥ = is_apart_from v k h in
     bind_other k v q env n ∙ sym (bind_other k v r env n)
-  where
-    other : (v : Var) (k : ℕ) → is_other v k ≡ true → k ≡ v.0 → ⊥
-    other v k h e = let z = eq-eqb v.0 k (sym e) in false≢true (rw z at h)
 
 -- and stay so as one more is bound
-bound_same : (known : ℕ → Bool) (w : Var) (r : Row) (env final : Env) → AreSame known env final → AreSame known (bind w r env) (bind w r final)
+pub bound_same : (known : ℕ → Bool) (w : Var) (r : Row) (env final : Env) → AreSame known env final → AreSame known (bind w r env) (bind w r final)
 bound_same known w r env final same k h =
     elim (cases_eq k w.0) [
       | inl e ↦ subst (λ j. lookup j (bind w r final) ≡ lookup j (bind w r env)) (sym e) (bind_same w r final ∙ sym (bind_same w r env))
@@ -43,7 +43,7 @@ neither false b h = (refl, h)
 neither true b h = absurd (false≢true (sym h))
 
 -- a condition that doesn't name v has one truth for all rows of v
-stays : (T : Tables) (n : ℤ) (v : Var) (x : Condition) (env final : Env) → AreSame (is_other v) env final → names v x ≡ false → truth T n x final ≡ truth T n x env
+pub stays : (T : Tables) (n : ℤ) (v : Var) (x : Condition) (env final : Env) → AreSame (is_other v) env final → names v x ≡ false → truth T n x final ≡ truth T n x env
 stays T n v Always env final s h = refl
 stays T n v Never env final s h = refl
 stays T n v (Plain a) env final s h = atom_is (is_other v) env final s a (not_true (atom_known (is_other v) a) h)

@@ -25,7 +25,7 @@ use Rattle.probe_eval.proofs.AlikeRows.{each_beside}
 use Rattle.probe_eval.proofs.HitSteps.{doc_hits, note_hits, next_hits, next_cost}
 use Rattle.probe_eval.proofs.Nesting.{further_is}
 
-no_hit : (c : Bool) (b : ℤ) (o : Option DocNum) → c ≡ false → option_to_list (hit_if c b o) ≡ []
+pub no_hit : (c : Bool) (b : ℤ) (o : Option DocNum) → c ≡ false → option_to_list (hit_if c b o) ≡ []
 no_hit c b o h = subst (λ z. option_to_list (hit_if z b o) ≡ []) (sym h) (go o)
   where
     go : (o : Option DocNum) → option_to_list (hit_if false b o) ≡ []

@@ -1,6 +1,7 @@
 pub mod AccessLists
 pub mod AccessTables
 pub mod AlikeRows
+pub mod AnswerLaws
 pub mod ConjunctLaws
 pub mod Costs
 pub mod DriverLaws

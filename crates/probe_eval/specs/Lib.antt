@@ -2,6 +2,7 @@ pub mod RowWalks
 pub mod Work
 pub mod Conjuncts
 pub mod Open
+pub mod Answers
 pub mod Tables
 pub mod Rests
 pub mod Nexts

@@ -109,7 +109,7 @@ fn any_later<'a, L: Ledger>(
 
 // Returns whether the conjuncts that name the variable are true with one of the rows.
 #[cycle(bodies)]
-fn any_own<'a, L: Ledger>(
+pub(crate) fn any_own<'a, L: Ledger>(
     pool: &'a Pool<TNode>,
     inner: NodeId,
     var: Var,
@@ -159,7 +159,7 @@ fn fixed_holds<'a, L: Ledger>(
 
 // Returns whether the conjuncts of the condition at the number that name the variable are true.
 #[cycle(bodies)]
-fn own_holds<'a, L: Ledger>(
+pub(crate) fn own_holds<'a, L: Ledger>(
     pool: &'a Pool<TNode>,
     body: NodeId,
     var: Var,

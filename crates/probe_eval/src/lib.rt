@@ -2,6 +2,8 @@
 #![tactic(auto)]
 
 mod access_rows;
+mod answer;
+mod answers;
 mod bodies;
 mod drivers;
 pub mod laws;
@@ -15,8 +17,9 @@ mod row_walk;
 mod search;
 
 pub use access_rows::rows_by;
+pub use answer::Answer;
 pub use drivers::{mark_in, seek_var, walked};
 pub use level::{Level, next_level};
 pub use next::Next;
 pub use row_walk::RowWalk;
-pub use search::{Search, holds_here, new_doc, order_at};
+pub use search::{Search, answer_here, holds_here, new_doc, order_at};

@@ -2,6 +2,8 @@
 
 ghost use Rattle.std.specs.Prelude.{◌≡◌, ◌+◌, ◌≤◌, length, slice_get, Some, if◌then◌else◌};
 ghost use Rattle.time_marks.specs.declared.ranged.Ranged.{Ranged};
+ghost use Rattle.probe_eval.specs.declared.answer.Answer.TheVariants.{Never};
+ghost use Rattle.probe_eval.specs.Answers.{is_true, IsNever, query_var};
 ghost use Rattle.probe_eval.specs.Runs.{part_order};
 ghost use Rattle.probe_eval.specs.Searches.{searched, HasBody, HasSlots};
 ghost use Rattle.probe_eval.specs.Nexts.{IsNext};
@@ -9,10 +11,11 @@ ghost use Rattle.probe_eval.specs.Rests.{rest_of, rest_cost};
 ghost use Rattle.probe_eval.specs.Levels.{IsSure};
 ghost use Rattle.probe_eval.specs.Nested.{new_doc, holds_here, cost_here};
 
-use crate::Next;
+use crate::answers::body_answer;
 use crate::bodies::body_holds;
 use crate::open::may_go;
 use crate::rests::rest_exists;
+use crate::{Answer, Next};
 use access_plan::{Plan, Reach};
 use little_box::LittleBox;
 use node_pool::Pool;
@@ -21,7 +24,7 @@ use std::sync::ledger::Ledger;
 use tap_base::{DocNum, Steps};
 use tap_rows::KeptDoc;
 use time_marks::Probe;
-use tql_core::{Env, TNode};
+use tql_core::{Env, TNode, Var};
 
 /// A probe, and the rows and deliveries that it is evaluated over.
 #[derive(Drop)]
@@ -63,6 +66,36 @@ fn has_rest<'a, L: Ledger>(
         may_go(path, mark, env)
     } else {
         rest_exists(path, order, next, env, mark, search.index, steps)
+    }
+}
+
+/// Returns whether the rest of the path exists beside these rows and the body is true of them. `Never` comes only if the body
+/// is false whatever document the query is about. If the rest is sure to exist beside rows that may go on, it isn't looked for.
+/// The nearest step is found once for all rows of a level.
+pub fn answer_here<'a, L: Ledger>(
+    search: &Search<'a>,
+    order: &'a [Reach],
+    next: &mut Next<'a>,
+    sure: bool,
+    env: &Env<'a>,
+    mark: i64,
+    steps: &mut Steps<L>,
+) -> Answer
+    requires node { HasBody search.now }
+    requires room { HasSlots search.now (length env.now + length order.now) }
+    requires next { IsNext search.now.probe.now.path env.now next.old }
+    requires sure { IsSure search.now.index.now search.now.probe.now.path mark order.now env.now sure }
+    ensures holds { is_true result ≡ holds_here search.now.index.now (searched search.now) mark order.now env.now }
+    ensures never { result ≡ Never → IsNever search.now.index.now query_var (searched search.now).body env.now }
+    ensures next { IsNext search.now.probe.now.path env.now next.new }
+    ensures steps { steps.new ≤ steps.old + cost_here search.now.index.now (searched search.now) mark sure order.now env.now }
+    ensures more { steps.old ≤ steps.new }
+{
+    if has_rest(search, order, next, sure, env, mark, steps) {
+        let body = search.probe.body;
+        body_answer(search.pool, body, Var(0), env, search.index, steps)
+    } else {
+        Answer::False
     }
 }
 
