@@ -1,4 +1,4 @@
-use Rattle.std.proofs.Common.{rules, ◌≡◌, ◌≤◌, ◌+◌, ◌∷◌, ◌∙◌, None, Some, arith, length, refl, sym, ap, to_z, of_z, w64}
+use Rattle.std.proofs.Common.{rules, true, ◌≡◌, ◌≤◌, ◌+◌, ◌∷◌, ◌∙◌, None, Some, arith, length, refl, sym, ap, to_z, of_z, w64}
 use Rattle.std.specs.Prelude.{option_to_list}
 use Rattle.tql_core.specs.Bindings.{row_of}
 use Rattle.tql_core.specs.Row.{OfDoc, OfNote}
@@ -10,7 +10,9 @@ use Rattle.probe_eval.specs.Nexts.{IsNext}
 use Rattle.probe_eval.specs.Nested.{new_doc, hit_if, holds_here, hits_over, work_over, cost_here}
 use Rattle.probe_eval.proofs.Steps.{cost_step}
 use Rattle.probe_eval.proofs.NextRows.{next_alike}
-use Rattle.query_eval.proofs.Steps.{hits_step}
+use Rattle.query_eval.proofs.Steps.{hits_step, hits_end}
+use Rattle.probe_eval.specs.Answers.{IsNever, query_var}
+use Rattle.probe_eval.proofs.AnswerLaws.{never_hits}
 use Rattle.probe_eval.proofs.HitSteps.{doc_hits, note_hits, doc_cost}
 use Rattle.probe_eval.proofs.LevelLaws.{level_steps}
 use Rattle.query_eval.proofs.HitSteps.{level_hits}
@@ -83,3 +85,19 @@ collect_once-requires g t c κs within =
     let sure = v.sure (row_of c.in-Some-next.row) in
     let fewer = v.fewer in
     search (rules, by, sure, fewer)
+
+pub returns-then-level-eq0-clause-hits : goal.returns-then-level-eq0-clause-hits
+returns-then-level-eq0-clause-hits g t c =
+    let e : c.loop-row.rows ≡ row_of c.in-Some-next.row ∷ c.next.new.self = search rules in
+    let mark = to_z w64 (of_z w64 c.args.mark) in
+    let p = probe_in c.args.search.now.pool.now c.args.search.now.probe.now in
+    let v = c.in-Some.level.reach.var in
+    let x = bind v (row_of c.in-Some-next.row) c.args.env.now in
+    let z : v.0 ≡ 0 = search rules in
+    let h : c.collect_once.new.into.hits.items ≡ keeping (length c.loop-row.into.places.items) c.loop-row.into.hits.items (hits_over c.args.search.now.seen.now c.args.search.now.index.now p mark c.in-Some.level.rest.now x) = search rules in
+    let r : c.collect_once.result ≡ true = search rules in
+    let by = c.collect_once.ensures.never r in
+    let n : IsNever c.args.search.now.index.now query_var p.body x = search (rules, by) in
+    let f = never_hits c.args.search.now.seen.now c.args.search.now.index.now p mark c.in-Some.level.rest.now c.args.env.now v (row_of c.in-Some-next.row) z n c.next.new.self in
+    let a = hits_end _ _ _ _ _ _ _ _ (row_of c.in-Some-next.row) c.loop-row.invariant.hits e h c.collect_once.ensures.places f in
+    search (rules, a)
