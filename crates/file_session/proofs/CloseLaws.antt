@@ -7,20 +7,20 @@ use Rattle.sqlite_disk.specs.declared.Files.{Files}
 use Rattle.sqlite_store.specs.declared.store.FileStore.{FileStore}
 use Rattle.sqlite_store.specs.FileStore.{view}
 use Rattle.sqlite_wal.specs.Reads.{AreClean}
-use Rattle.sqlite_wal.specs.Recovery.{Image}
 use Rattle.tap_rows.specs.declared.tables.Tables.{Tables}
 use Rattle.keeper_file.specs.declared.inner.Inner.{Inner}
+use Rattle.keeper_file.specs.OpenerFiles.{FilesOf}
 use Rattle.keeper_file.specs.Cases.{Tells, IsHonest, has_files}
 use Rattle.keeper_file.specs.Closing.{AreWhole, LeavesOnly}
 use Rattle.file_session.specs.Closes.{IsClosedAs}
 
-module _ {D O : Type 0} {g : Ghosts D} (image : Image) (inner : Inner (FileStore D g) O over_files) where
+module _ {D O : Type 0} {g : Ghosts D} (first : FilesOf O) (inner : Inner (FileStore D g) O over_files) where
   pub closed-so : (given : Result (Option (Files D)) (FileStore D g)) → (given ≡ Ok None → has_files inner ≡ false)
-      → IfOk given (λ files. IfSome files (λ both. AreClean g both.log both.db → IsHonest image over_files inner))
-      → IfErr given (λ store. IsTrue (view store).is_clean → IsHonest image over_files inner)
-      → IfOk given (λ files. IfSome files (λ both. AreClean g both.log both.db → (t : Tables) → Tells image over_files inner t → AreWhole g both t))
-      → IfErr given (λ store. IsTrue (view store).is_clean → (t : Tables) → Tells image over_files inner t → LeavesOnly g store t)
-      → IsClosedAs image inner (Some given)
+      → IfOk given (λ files. IfSome files (λ both. AreClean g both.log both.db → IsHonest first over_files inner))
+      → IfErr given (λ store. IsTrue (view store).is_clean → IsHonest first over_files inner)
+      → IfOk given (λ files. IfSome files (λ both. AreClean g both.log both.db → (t : Tables) → Tells first over_files inner t → AreWhole g both t))
+      → IfErr given (λ store. IsTrue (view store).is_clean → (t : Tables) → Tells first over_files inner t → LeavesOnly g store t)
+      → IsClosedAs first inner (Some given)
   closed-so (Ok None) none honest left whole alone = none refl
   closed-so (Ok (Some files)) none honest left whole alone = λ clean. record { honest = honest clean; kept = λ t told. whole clean t told }
   closed-so (Err store) none honest left whole alone = λ clean. record { honest = left clean; kept = λ t told. alone clean t told }

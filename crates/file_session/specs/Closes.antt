@@ -2,22 +2,26 @@
 use Rattle.std.specs.Prelude.{ℕ, ℤ, ◌≡◌, ◌↔◌, true, false, Option, Some, None, Result, Ok, Err, IsTrue, ⊤}
 use Rattle.sqlite.specs.Files.{over_files}
 use Rattle.sqlite_disk.specs.declared.Disk.{Ghosts}
+use Rattle.sqlite_disk.specs.declared.start.Start as start
 use Rattle.sqlite_disk.specs.declared.Files.{Files}
 use Rattle.sqlite_store.specs.declared.store.FileStore.{FileStore}
 use Rattle.sqlite_store.specs.FileStore.{view}
 use Rattle.sqlite_wal.specs.Reads.{AreClean}
-use Rattle.sqlite_wal.specs.Recovery.{Image}
+use Rattle.sqlite_wal.specs.Files.{image_at}
 use Rattle.tap_rows.specs.declared.tables.Tables.{Tables}
 use Rattle.keeper_file.specs.declared.inner.Inner.{Inner}
+use Rattle.keeper_file.specs.declared.path_opener.PathOpener.{PathOpener}
 use Rattle.keeper_file.specs.Images.{ImageTells}
+use Rattle.keeper_file.specs.OpenerFiles.{FilesOf}
+use Rattle.keeper_file.specs.PathFiles.{path_files}
 use Rattle.keeper_file.specs.Cases.{Tells, HasVersion, IsHonest, MayLeave, has_files, is_stopped}
 use Rattle.keeper_file.specs.Closing.{AreWhole, LeavesOnly}
 
-module _ {D O : Type 0} {g : Ghosts D} (image : Image) where
+module _ {D O : Type 0} {g : Ghosts D} (first : FilesOf O) where
   -- the keeper was honest, and this holds of the tables that it told
   pub record ToldTablesAre (inner : Inner (FileStore D g) O over_files) (Kept : Tables → Type 0) : Type 0 where
-    pub honest : IsHonest image over_files inner
-    pub kept : (t : Tables) → Tells image over_files inner t → Kept t
+    pub honest : IsHonest first over_files inner
+    pub kept : (t : Tables) → Tells first over_files inner t → Kept t
 
   -- what the close of a keeper gave, if it was closed: no files, if it had none open; or both, which hold its tables whole, if they
   -- are clean; or, if the close failed, what is left of the store, of which a crash leaves its tables, if that is clean
@@ -27,12 +31,12 @@ module _ {D O : Type 0} {g : Ghosts D} (image : Image) where
   IsClosedAs inner (Some (Ok (Some files))) = AreClean g files.log files.db → ToldTablesAre inner (AreWhole g files)
   IsClosedAs inner (Some (Err store)) = IsTrue (view store).is_clean → ToldTablesAre inner (LeavesOnly g store)
 
--- the end of a session over files that held the image: the keeper, over which the call ended so, and what its close gave
-pub record SessionEnd (O : Type 0) {D : Type 0} {g : Ghosts D} (image : Image)
+-- the end of a session over files that held this at first: the keeper, over which the call ended so, and what its close gave
+pub record SessionEnd {S D : Type 0} {g : Ghosts D} (held : start.Ghosts S)
     (Ends : Tables → (ℤ → Type 0) → (Tables → Type 0) → (Tables → Type 0) → Type 0)
     (status : ℕ) (closed : Option (Result (Option (Files D)) (FileStore D g))) : Type 0 where
-  pub inner : Inner (FileStore D g) O over_files
-  pub ends : IsHonest image over_files inner → (t : Tables) → ImageTells image t →
-      Ends t (HasVersion image over_files inner) (Tells image over_files inner) (MayLeave image over_files inner)
+  pub inner : Inner (FileStore D g) (PathOpener S D held g) over_files
+  pub ends : IsHonest (path_files held) over_files inner → (t : Tables) → ImageTells (image_at held) t →
+      Ends t (HasVersion (path_files held) over_files inner) (Tells (path_files held) over_files inner) (MayLeave (path_files held) over_files inner)
   pub stopped : (is_stopped inner ≡ true) ↔ (status ≡ 5)
-  pub close : IsClosedAs image inner closed
+  pub close : IsClosedAs (path_files held) inner closed

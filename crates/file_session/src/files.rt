@@ -3,7 +3,7 @@ ghost use Rattle.std.specs.Prelude.{◌≡◌, ◌<◌, ◌⊎◌, ◌↔◌, tr
 ghost use Rattle.std.specs.List.{All};
 ghost use Rattle.std.specs.Str.{IsUtf8};
 ghost use Rattle.keeper_file.specs.Cases.{Tells, HasVersion, IsHonest, MayLeave, is_stopped};
-ghost use Rattle.keeper_file.specs.declared.opener.PathOpener.{PathOpener};
+ghost use Rattle.keeper_file.specs.PathFiles.{path_files};
 ghost use Rattle.keeper_file.specs.Images.{ImageTells, ImageHasVersion};
 ghost use Rattle.sqlite.specs.Files.{over_files};
 ghost use Rattle.sqlite_wal.specs.Files.{image_at};
@@ -26,7 +26,10 @@ pub fn run_on_files<'a, C: Session, I: Source, K: Sink, S: Start, L: Ledger>(
     sink: &mut K,
     start: S,
     blank: Blank,
-) -> (u8, FileKeeper<FileStore<FileFrom<S>>, PathOpener<'a, S>>)
+) -> (
+    u8,
+    FileKeeper<FileStore<FileFrom<S>>, PathOpener<'a, S, FileFrom<S>>>,
+)
     requires name { blank.name ≡ L.name }
     requires parts { blank.parts ≡ L.parts }
     requires some { 0 < blank.parts }
@@ -35,14 +38,15 @@ pub fn run_on_files<'a, C: Session, I: Source, K: Sink, S: Start, L: Ledger>(
         (I.faults source.old) (I.faults source.new) (K.faults sink.old) (K.faults sink.new) }
 
     // If the disk was honest: how the call ended over the tables that the files held at first.
-    ensures ends_over { (t : Tables) → IsHonest (image_at S.Start) over_files result.1.inner → ImageTells (image_at S.Start) t →
+    ensures ends_over { (t : Tables) → IsHonest (path_files S.Start) over_files result.1.inner → ImageTells (image_at S.Start) t →
         C.ends_over words.now result.0 (I.left source.old) (I.left source.new) (K.out sink.old) (K.out sink.new)
-        t (ImageHasVersion (image_at S.Start)) (HasVersion (image_at S.Start) over_files result.1.inner)
-        (Tells (image_at S.Start) over_files result.1.inner) (MayLeave (image_at S.Start) over_files result.1.inner) }
+        t (ImageHasVersion (image_at S.Start)) (HasVersion (path_files S.Start) over_files result.1.inner)
+        (Tells (path_files S.Start) over_files result.1.inner) (MayLeave (path_files S.Start) over_files result.1.inner) }
     ensures stopped { (is_stopped result.1.inner ≡ true) ↔ (result.0 ≡ 5) }
 {
     let mut steps = Steps::<L>::start(blank);
-    let mut keeper = FileKeeper::new(PathOpener::new(rt, start));
+    let opener = PathOpener::new(rt, start);
+    let mut keeper = FileKeeper::new(opener);
     let alloc = rt.alloc();
     let key = HashKey::draw(rt);
     let status = C::hold(alloc, key, words, source, sink, &mut keeper, &mut steps);
@@ -71,7 +75,7 @@ pub fn run_to_close<C: Session, I: Source, K: Sink, S: Start, L: Ledger>(
     ensures closes { result.1 ≡ None → (result.0 ≡ 5) ⊎ (result.0 ≡ 6) }
 
     // How the call ended over the tables that the files held at first, and what the close left of those that it told.
-    ensures end { SessionEnd (PathOpener S) (image_at S.Start) (λ t versions tells leaves.
+    ensures end { SessionEnd S.Start (λ t versions tells leaves.
         C.ends_over words.now result.0 (I.left source.old) (I.left source.new) (K.out sink.old) (K.out sink.new)
         t (ImageHasVersion (image_at S.Start)) versions tells leaves) result.0 result.1 }
 {

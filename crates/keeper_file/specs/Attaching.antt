@@ -6,7 +6,7 @@ use Rattle.keeper_core.specs.Keeping.{IsDurable, IfAlien}
 use Rattle.keeper_core.specs.declared.fault.AttachFault.{AttachFault}
 use Rattle.keeper_core.specs.declared.fault.AttachFault.TheVariants as fault
 use Rattle.sqlite_trees.specs.declared.store.Store.{Ghosts}
-use Rattle.sqlite_wal.specs.Recovery.{Image}
+use Rattle.keeper_file.specs.OpenerFiles.{FilesOf}
 use Rattle.keeper_file.specs.Cases.{Tells, HasVersion, IsHonest, MayLeave, is_open, is_in_memory, is_attached, is_stopped, faults_of, place_of}
 use Rattle.keeper_file.specs.declared.inner.Inner.{Inner}
 
@@ -16,7 +16,7 @@ module _ {A O : Type 0} {g : Ghosts A} where
     pub memory : is_open old ≡ false → is_open new ≡ true → (is_in_memory new ≡ true) ↔ (at ≡ codes ":memory:")
     pub same : is_open old ≡ true → is_in_memory new ≡ is_in_memory old
 
-module _ (image : Image) {A O : Type 0} (g : Ghosts A) where
+module _ {A O : Type 0} (files : FilesOf O) (g : Ghosts A) where
   -- the promise of each keeper for an attach
   pub record Attaches (old new : Inner A O g) (at : List ℕ) (result : Result Tables AttachFault) : Type 0 where
     pub attached : (is_attached new ≡ true) ↔ IsOk result
@@ -26,14 +26,18 @@ module _ (image : Image) {A O : Type 0} (g : Ghosts A) where
     pub later : faults_of old ≤ faults_of new
     pub cause : result ≡ Err fault.Failed → Rose (faults_of old) (faults_of new)
     pub calm : is_stopped new ≡ false → faults_of new ≡ faults_of old
-    pub honest : IsHonest image g new → IsHonest image g old
-    pub given : IfOk result (λ given. IsHonest image g new → (s : Tables) → Tells image g old s → s ≡ given)
-    pub kept : IsHonest image g new → (s : Tables) → Tells image g old s → is_stopped new ≡ false → IsDurable (Tells image g new) (MayLeave image g new) s
-    pub crash : IsHonest image g new → (s : Tables) → Tells image g old s → (x : Tables) → MayLeave image g new x → x ≡ s
-    pub answered : IfOk result (λ given. IsHonest image g new → (t : Tables) → Tells image g new t → t ≡ given)
-    pub version : OnOk result (IsHonest image g new → (t : Tables) → Tells image g new t → HasVersion image g new (pos 2))
-    pub known : IsHonest image g new → (v : ℤ) → HasVersion image g old v → OnOk result ((v ≡ pos 1) ⊎ (v ≡ pos 2))
+    pub honest : IsHonest files g new → IsHonest files g old
+    pub given : IfOk result (λ given. IsHonest files g new → (s : Tables) → Tells files g old s → s ≡ given)
+    pub kept : IsHonest files g new → (s : Tables) → Tells files g old s → is_stopped new ≡ false → IsDurable (Tells files g new) (MayLeave files g new) s
+    pub crash : IsHonest files g new → (s : Tables) → Tells files g old s → (x : Tables) → MayLeave files g new x → x ≡ s
+    pub answered : IfOk result (λ given. IsHonest files g new → (t : Tables) → Tells files g new t → t ≡ given)
+    pub version : OnOk result (IsHonest files g new → (t : Tables) → Tells files g new t → HasVersion files g new (pos 2))
+    pub known : IsHonest files g new → (v : ℤ) → HasVersion files g old v → OnOk result ((v ≡ pos 1) ⊎ (v ≡ pos 2))
     pub alien : IfAlien result (λ v. (v ≢ pos 1) × (v ≢ pos 2))
-    pub same : IfAlien result (λ v. IsHonest image g new → (w : ℤ) → HasVersion image g old w → (w ≡ v) × HasVersion image g new w)
-    pub migrated : result ≡ Err fault.Memory → IsHonest image g new → (w : ℤ) → HasVersion image g old w
-        → HasVersion image g new w ⊎ ((w ≡ pos 1) × HasVersion image g new (pos 2))
+    pub same : IfAlien result (λ v. IsHonest files g new → (w : ℤ) → HasVersion files g old w → (w ≡ v) × HasVersion files g new w)
+    pub migrated : result ≡ Err fault.Memory → IsHonest files g new → (w : ℤ) → HasVersion files g old w
+        → HasVersion files g new w ⊎ ((w ≡ pos 1) × HasVersion files g new (pos 2))
+
+  -- while no store is open after it, the keeper tells what it told before, and a crash leaves that alone
+  abbrev pub SparesFiles : Inner A O g → Inner A O g → Type 0
+  SparesFiles old new = is_open new ≡ false → IsHonest files g new → (t : Tables) → Tells files g old t → IsDurable (Tells files g new) (MayLeave files g new) t

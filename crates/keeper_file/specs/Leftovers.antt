@@ -1,5 +1,5 @@
 -- What an open that failed leaves of two files.
-use Rattle.std.specs.Prelude.{◌≡◌}
+use Rattle.std.specs.Prelude.{◌≡◌, ◌⊎◌, Option, Some, None, IfSome, IsSomeAnd}
 use Rattle.tap_rows.specs.declared.tables.Tables.{Tables}
 use Rattle.sqlite_disk.specs.declared.Disk.{Ghosts}
 use Rattle.sqlite_wal.specs.Files.{outcomes}
@@ -28,3 +28,15 @@ module _ {D : Type 0} {g : Ghosts D} where
   -- if the disk was honest, a crash of what is left leaves no other tables than the files held
   abbrev pub Spares : Image → Leftover D g → Type 0
   Spares image left = IsCleanLeft left → HasNoSums image → (t : Tables) → ImageTells image t → (x : Tables) → LeftTells left x → x ≡ t
+
+-- of files that are opened by this start, or were; and what is left of them if an open failed once it had them
+module _ {S D : Type 0} {g : Ghosts D} (image : Image) where
+  -- the disk was honest in an open that failed, and no pages end in sums
+  abbrev pub AreCleanSoFar : Option S → Option (Leftover D g) → Type 0
+  AreCleanSoFar (Some start) left = Unit {0}
+  AreCleanSoFar None left = IfSome left (λ it. IsCleanLeft it × HasNoSums image)
+
+  -- a crash may leave these tables: those that the files held, or those of what is left
+  abbrev pub MayLeaveSoFar : Option S → Option (Leftover D g) → Tables → Type 0
+  MayLeaveSoFar (Some start) left t = ImageTells image t
+  MayLeaveSoFar None left t = ImageTells image t ⊎ IsSomeAnd left (λ it. LeftTells it t)

@@ -46,12 +46,12 @@ pub fn close_inner<D: Disk + Drop, O: Opener<FileStore<D>>>(
 ) -> Result<Option<Files<D>>, FileStore<D>>
     ensures none { result ≡ Ok None → has_files inner ≡ false }
     ensures honest { IfOk result (λ files. IfSome files (λ both. AreClean D.Disk both.log both.db
-        → IsHonest O.Opener.image over_files inner)) }
-    ensures honest_left { IfErr result (λ store. IsTrue (view store).is_clean → IsHonest O.Opener.image over_files inner) }
+        → IsHonest O.Opener.files over_files inner)) }
+    ensures honest_left { IfErr result (λ store. IsTrue (view store).is_clean → IsHonest O.Opener.files over_files inner) }
     ensures whole { IfOk result (λ files. IfSome files (λ both. AreClean D.Disk both.log both.db
-        → (t : TableRows) → Tells O.Opener.image over_files inner t → AreWhole D.Disk both t)) }
+        → (t : TableRows) → Tells O.Opener.files over_files inner t → AreWhole D.Disk both t)) }
     ensures alone { IfErr result (λ store. IsTrue (view store).is_clean
-        → (t : TableRows) → Tells O.Opener.image over_files inner t → LeavesOnly D.Disk store t) }
+        → (t : TableRows) → Tells O.Opener.files over_files inner t → LeavesOnly D.Disk store t) }
 {
     match inner {
         Inner::File(keeper) => match closed(keeper) {

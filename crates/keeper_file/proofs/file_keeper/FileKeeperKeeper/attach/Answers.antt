@@ -1,25 +1,20 @@
+use Rattle.keeper_file.proofs.AttachLemmas.{not_opened, then_attached}
+use Rattle.keeper_file.proofs.UnopenedLemmas.{unopened_durable}
 use Rattle.keeper_file.proofs.file_keeper.FileKeeperKeeper.attach.Goals as goal
 
-pub returns-clause-attaches : goal.returns-clause-attaches
-returns-clause-attaches g c = record {
-  attached = c.attach_at.ensures.attached;
-  stopped = c.attach_at.ensures.stopped;
-  placed = c.attach_at.ensures.placed;
-  stays = c.attach_at.ensures.stays;
-  later = c.attach_at.ensures.later;
-  cause = c.attach_at.ensures.cause;
-  calm = c.attach_at.ensures.calm;
-  honest = c.attach_at.ensures.honest;
-  given = c.attach_at.ensures.given;
-  kept = c.attach_at.ensures.kept;
-  crash = c.attach_at.ensures.crash;
-  answered = c.attach_at.ensures.answered;
-  version = c.attach_at.ensures.version;
-  known = c.attach_at.ensures.known;
-  alien = c.attach_at.ensures.alien;
-  same = c.attach_at.ensures.same;
-  migrated = c.attach_at.ensures.migrated;
-}
+pub returns-in-Ok-clause-attaches : goal.returns-in-Ok-clause-attaches
+returns-in-Ok-clause-attaches g c =
+    let open_now = c.in-Ok.ensures.open in
+    then_attached g.O.Opener.files g.A.Store _ _ _ _ c.attach_open.result c.ready.ensures.honest c.ready.ensures.told c.ready.ensures.version
+    open_now.3 open_now.4 c.attach_open.ensures.attaches
 
-pub returns-clause-at_place : goal.returns-clause-at_place
-returns-clause-at_place g c = record { memory = c.attach_at.ensures.memory; same = c.attach_at.ensures.same_store }
+pub returns-in-Err-clause-attaches : goal.returns-in-Err-clause-attaches
+returns-in-Err-clause-attaches g c =
+    let files = g.O.Opener.files in
+    not_opened files g.A.Store _ c.ready.new.inner _ c.ready.ensures.honest c.ready.ensures.version
+    (λ clean t told. unopened_durable files g.A.Store g.met.O.Opener.alone c.ready.new.inner t c.in-Err.ensures.closed.0 clean (c.ready.ensures.told clean t told))
+    c.in-Err.ensures.closed.1 c.ready.ensures.later _ c.in-Err.ensures.kind
+
+pub returns-in-Err-clause-spared : goal.returns-in-Err-clause-spared
+returns-in-Err-clause-spared g c shut clean t told =
+    unopened_durable g.O.Opener.files g.A.Store g.met.O.Opener.alone c.ready.new.inner t shut clean (c.ready.ensures.told clean t told)

@@ -1,0 +1,96 @@
+-- An attach, from the open of the store and the attach of what is open.
+use Rattle.std.proofs.Common.{◌≡◌, ◌⊎◌, ◌≤◌, ℕ, ℤ, List, true, false, Result, Ok, Err, inl, inr, refl, sym, subst, ◌∙◌}
+use Rattle.std.proofs.lemmas.Result.{IfOk-weaker}
+use Rattle.tap_base.specs.Counts.{Rose}
+use Rattle.tap_rows.specs.declared.tables.Tables.{Tables}
+use Rattle.keeper_core.specs.Keeping.{IsDurable}
+use Rattle.keeper_core.specs.declared.fault.AttachFault.{AttachFault}
+use Rattle.keeper_core.specs.declared.fault.AttachFault.TheVariants as fault
+use Rattle.sqlite_trees.specs.declared.store.Store.{Ghosts}
+use Rattle.keeper_file.specs.OpenerFiles.{FilesOf}
+use Rattle.keeper_file.specs.Attaching.{Attaches}
+use Rattle.keeper_file.specs.Cases.{Tells, HasVersion, IsHonest, MayLeave, is_attached, is_stopped, faults_of, place_of}
+use Rattle.keeper_file.specs.declared.inner.Inner.{Inner}
+use Rattle.keeper_file.proofs.UnopenedLemmas.{alien_then}
+
+module _ {A O : Type 0} (files : FilesOf O) (g : Ghosts A) (old new : Inner A O g) (at : List ℕ)
+    (honest : IsHonest files g new → IsHonest files g old)
+    (version : IsHonest files g new → (v : ℤ) → HasVersion files g old v → HasVersion files g new v) where
+  -- no store was opened
+  module _ (durable : IsHonest files g new → (t : Tables) → Tells files g old t → IsDurable (Tells files g new) (MayLeave files g new) t) (free : is_attached new ≡ false) (later : faults_of old ≤ faults_of new) where
+    short : is_stopped new ≡ false → place_of new ≡ place_of old → faults_of new ≡ faults_of old → Attaches files g old new at (Err fault.Memory)
+    short running place faults = record {
+      attached = (λ yes. absurd (let a = yes in let b = free in cc), λ ok. absurd (let e = ok in cc));
+      stopped = (λ yes. absurd (let a = yes in let b = running in cc), λ same. absurd (let e = same in cc));
+      placed = inr (refl, place);
+      stays = λ out. place;
+      later = later;
+      cause = λ same. absurd (let e = same in cc);
+      calm = λ runs. faults;
+      honest = honest;
+      given = tt;
+      kept = λ clean s told runs. durable clean s told;
+      crash = λ clean s told x left. (durable clean s told).alone x left;
+      answered = tt;
+      version = tt;
+      known = λ clean v has. tt;
+      alien = tt;
+      same = tt;
+      migrated = λ out clean w has. inl (version clean w has);
+    }
+
+    failed : is_stopped new ≡ true → place_of new ≡ at → Rose (faults_of old) (faults_of new) → Attaches files g old new at (Err fault.Failed)
+    failed halted place rose = record {
+      attached = (λ yes. absurd (let a = yes in let b = free in cc), λ ok. absurd (let e = ok in cc));
+      stopped = (λ yes. refl, λ same. halted);
+      placed = inl place;
+      stays = λ same. absurd (let e = same in cc);
+      later = later;
+      cause = λ same. rose;
+      calm = λ runs. absurd (let a = halted in let b = runs in cc);
+      honest = honest;
+      given = tt;
+      kept = λ clean s told runs. durable clean s told;
+      crash = λ clean s told x left. (durable clean s told).alone x left;
+      answered = tt;
+      version = tt;
+      known = λ clean v has. tt;
+      alien = tt;
+      same = tt;
+      migrated = λ same clean w has. absurd (let e = same in cc);
+    }
+
+    pub not_opened : (f : AttachFault) → ((f ≡ fault.Memory) × (is_stopped new ≡ false) × (place_of new ≡ place_of old) × (faults_of new ≡ faults_of old))
+        ⊎ ((f ≡ fault.Failed) × (is_stopped new ≡ true) × (place_of new ≡ at) × Rose (faults_of old) (faults_of new)) → Attaches files g old new at (Err f)
+    not_opened f (inl m) = subst (λ x. Attaches files g old new at (Err x)) (sym m.0) (short m.1 m.2 m.3)
+    not_opened f (inr m) = subst (λ x. Attaches files g old new at (Err x)) (sym m.0) (failed m.1 m.2 m.3)
+
+-- a store was open, or was opened first
+pub then_attached : {A O : Type 0} (files : FilesOf O) (g : Ghosts A) (old mid new : Inner A O g) (at : List ℕ) (result : Result Tables AttachFault)
+    → (IsHonest files g mid → IsHonest files g old)
+    → (IsHonest files g mid → (t : Tables) → Tells files g old t → Tells files g mid t)
+    → (IsHonest files g mid → (v : ℤ) → HasVersion files g old v → HasVersion files g mid v)
+    → place_of mid ≡ place_of old → faults_of mid ≡ faults_of old → Attaches files g mid new at result → Attaches files g old new at result
+then_attached files g old mid new at result honest told version place faults a = record {
+  attached = a.attached;
+  stopped = a.stopped;
+  placed = subst (λ p. (place_of new ≡ at) ⊎ ((result ≡ Err fault.Memory) × (place_of new ≡ p))) place a.placed;
+  stays = λ out. a.stays out ∙ place;
+  later = subst (λ n. n ≤ faults_of new) faults a.later;
+  cause = λ is. subst (λ n. Rose n (faults_of new)) faults (a.cause is);
+  calm = λ runs. a.calm runs ∙ faults;
+  honest = λ clean. honest (a.honest clean);
+  given = IfOk-weaker result _ _ (λ given so clean s tells. so clean s (told (a.honest clean) s tells)) a.given;
+  kept = λ clean s tells runs. a.kept clean s (told (a.honest clean) s tells) runs;
+  crash = λ clean s tells x left. a.crash clean s (told (a.honest clean) s tells) x left;
+  answered = a.answered;
+  version = a.version;
+  known = λ clean v has. a.known clean v (version (a.honest clean) v has);
+  alien = a.alien;
+  same = alien_then result _ _ a.same (λ v so clean w has. so clean w (version (a.honest clean) w has));
+  migrated = λ out clean w has. a.migrated out clean w (version (a.honest clean) w has);
+}
+
+pub attaches_from : {A O : Type 0} (files : FilesOf O) (g : Ghosts A) (old now new : Inner A O g) (at : List ℕ) (result : Result Tables AttachFault)
+    → old ≡ now → Attaches files g now new at result → Attaches files g old new at result
+attaches_from files g old now new at result is a = subst (λ k. Attaches files g k new at result) (sym is) a
