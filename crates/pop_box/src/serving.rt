@@ -7,11 +7,10 @@ ghost use Rattle.clap.specs.Words.{takes, fault_of as faults_of};
 ghost use Rattle.command_words.specs.PopOptions.{pop_app};
 ghost use Rattle.command_words.specs.PopWords.{pop_place_in, user_in, box_in, secret_in, IsPopWorded};
 ghost use Rattle.command_words.specs.WellWorded.{place_of};
-ghost use Rattle.keeper_core.specs.Keeping.{IsDurable};
 ghost use Rattle.tap_base.specs.Counts.{Rose};
 ghost use Rattle.tap_rows.specs.declared.tables.Tables.{Tables};
 ghost use Rattle.tap_top.specs.declared.store_fault.StoreFault.{StoreFault as StoreFaultOf};
-ghost use Rattle.tap_top.specs.Premises.{FromStore, FromVersion, IfKnown, IsCalm};
+ghost use Rattle.tap_top.specs.Premises.{FromDurable, FromStore, FromVersion, IfKnown, IsCalm};
 ghost use Rattle.tap_top.specs.Refusals.{fault_of, Refused};
 ghost use Rattle.tap_top.specs.Versions.{VersionAtExit};
 ghost use Rattle.tap_top.specs.Opened.{HasShortTexts};
@@ -82,20 +81,20 @@ fn serve_box<S: Source, K: Sink, P: Keeper, L: Ledger>(
     requires free { P.attached keeper.old ≡ false }
     requires running { P.stopped keeper.old ≡ false }
     requires text { IsUtf8 asked.now.place }
-    ensures session { FromStore (P.honest keeper.new) (P.tells keeper.old) (P.may_leave keeper.old) (λ t.
+    ensures session { FromStore P.Keeper keeper.old keeper.new (λ t.
         Served result (letters_in asked.now.user asked.now.name t) asked.now.user asked.now.secret
         (S.left source.old) (S.left source.new) (K.out sink.old) (K.out sink.new) (P.has_version keeper.old)) }
-    ensures unchanged { (t : Tables) → P.honest keeper.new → IsDurable (P.tells keeper.old) (P.may_leave keeper.old) t →
-        Unchanged result t (P.tells keeper.new) (P.may_leave keeper.new) }
-    ensures version { (t : Tables) → P.honest keeper.new → IsDurable (P.tells keeper.old) (P.may_leave keeper.old) t →
-        VersionAtExit result (P.has_version keeper.old) (P.has_version keeper.new) }
-    ensures refused { FromVersion (P.honest keeper.new) (P.tells keeper.old) (P.may_leave keeper.old) (P.has_version keeper.old) (λ t v.
+    ensures unchanged { FromDurable P.Keeper keeper.old keeper.new (λ t.
+        Unchanged result t (P.tells keeper.new) (P.may_leave keeper.new)) }
+    ensures version { FromDurable P.Keeper keeper.old keeper.new (λ t.
+        VersionAtExit result (P.has_version keeper.old) (P.has_version keeper.new)) }
+    ensures refused { FromVersion P.Keeper keeper.old keeper.new (λ t v.
         (fault : StoreFaultOf) → fault_of v t ≡ Some fault →
         Refused result fault (S.left source.old) (S.left source.new) (K.out sink.old) (K.out sink.new)
         (P.tells keeper.new) (P.may_leave keeper.new) t) }
-    ensures fine { FromVersion (P.honest keeper.new) (P.tells keeper.old) (P.may_leave keeper.old) (P.has_version keeper.old) (λ t v.
+    ensures fine { FromVersion P.Keeper keeper.old keeper.new (λ t v.
         fault_of v t ≡ None → result ≢ 6) }
-    ensures known { FromStore (P.honest keeper.new) (P.tells keeper.old) (P.may_leave keeper.old) (λ t.
+    ensures known { FromStore P.Keeper keeper.old keeper.new (λ t.
         IfKnown (P.has_version keeper.old) (result ≢ 6)) }
     ensures causes { Causes result (S.faults source.old) (S.faults source.new) (K.faults sink.old) (K.faults sink.new)
         (P.faults keeper.old) (P.faults keeper.new) (P.stopped keeper.new) }
@@ -159,24 +158,24 @@ pub fn serve<S: Source, K: Sink, P: Keeper, L: Ledger>(
         (pop_place_in words.now ≡ place_of path) × ((user_in words.now ≡ user) × ((box_in words.now ≡ name) × (secret_in words.now ≡ secret))) }
 
     // A box of a store that a session left: how it was served, by the status.
-    ensures session { FromStore (P.honest keeper.new) (P.tells keeper.old) (P.may_leave keeper.old) (λ t.
+    ensures session { FromStore P.Keeper keeper.old keeper.new (λ t.
         Served result (letters_in (user_in words.now) (box_in words.now) t) (user_in words.now) (secret_in words.now)
         (S.left source.old) (S.left source.new) (K.out sink.old) (K.out sink.new) (P.has_version keeper.old)) }
 
     // Whatever the store holds, its tables are unchanged, and its version is the one before, or 2 if that was 1.
-    ensures unchanged { (t : Tables) → P.honest keeper.new → IsDurable (P.tells keeper.old) (P.may_leave keeper.old) t →
-        Unchanged result t (P.tells keeper.new) (P.may_leave keeper.new) }
-    ensures version { (t : Tables) → P.honest keeper.new → IsDurable (P.tells keeper.old) (P.may_leave keeper.old) t →
-        VersionAtExit result (P.has_version keeper.old) (P.has_version keeper.new) }
+    ensures unchanged { FromDurable P.Keeper keeper.old keeper.new (λ t.
+        Unchanged result t (P.tells keeper.new) (P.may_leave keeper.new)) }
+    ensures version { FromDurable P.Keeper keeper.old keeper.new (λ t.
+        VersionAtExit result (P.has_version keeper.old) (P.has_version keeper.new)) }
 
     // A store is refused if and only if its version isn't known or one of its rows is damaged.
-    ensures refused { FromVersion (P.honest keeper.new) (P.tells keeper.old) (P.may_leave keeper.old) (P.has_version keeper.old) (λ t v.
+    ensures refused { FromVersion P.Keeper keeper.old keeper.new (λ t v.
         (fault : StoreFaultOf) → fault_of v t ≡ Some fault →
         Refused result fault (S.left source.old) (S.left source.new) (K.out sink.old) (K.out sink.new)
         (P.tells keeper.new) (P.may_leave keeper.new) t) }
-    ensures fine { FromVersion (P.honest keeper.new) (P.tells keeper.old) (P.may_leave keeper.old) (P.has_version keeper.old) (λ t v.
+    ensures fine { FromVersion P.Keeper keeper.old keeper.new (λ t v.
         fault_of v t ≡ None → result ≢ 6) }
-    ensures known { FromStore (P.honest keeper.new) (P.tells keeper.old) (P.may_leave keeper.old) (λ t.
+    ensures known { FromStore P.Keeper keeper.old keeper.new (λ t.
         IfKnown (P.has_version keeper.old) (result ≢ 6)) }
 
     // When each status comes.

@@ -3,12 +3,13 @@ use Rattle.std.proofs.Common.{◌≡◌, ◌∙◌, sym, ap, refl, subst, arith,
 use Rattle.std.specs.Prelude.{◌&&◌, option_to_list, Result}
 use Rattle.std.proofs.lemmas.List.{append_assoc, take_more}
 use Rattle.std.proofs.lemmas.Grind.{common_steps}
+use Rattle.keeper_core.specs.declared.keeper.Keeper.{Ghosts}
 use Rattle.tap_rows.specs.declared.tables.Tables.{Tables}
 use Rattle.script_lang.specs.declared.command.Command.{Command}
 use Rattle.script_lang.specs.Script.{Reading, script_from, complete_from}
 use Rattle.tap_model.specs.declared.session.Session.{Session}
 use Rattle.tap_model.specs.Sound.{IsSound}
-use Rattle.tap_top.specs.Points.{KeeperFrame}
+use Rattle.tap_top.specs.Frames.{KeeperFrame}
 use Rattle.tap_top.specs.Answers.{Answered, CutOff, Uncommitted}
 use Rattle.tap_top.specs.Pieces.{PieceAnswered, PieceCut, PieceOutOfMemory}
 use Rattle.tap_top.proofs.Stories.{Answered-none, Answered-then, Answered-less, CutOff-then, Uncommitted-then}
@@ -132,18 +133,20 @@ PieceCut-got piece used given r r1 Cut until ended none last is some within cut 
   front some within = let e : used ≡ used - 1 + 1 = omega arith in ap (λ n. take n piece) e ∙ take_more piece (used - 1) 0 (omega arith)
 
 -- what is left of a keeper after one call and another
-pub KeeperFrame-then : (p p1 p2 : List ℕ) (f f1 f2 : ℕ) (h h1 h2 : Type 0) (b1 b2 : Bool) → b1 ≡ false → KeeperFrame p p1 f f1 h h1 b1 → KeeperFrame p1 p2 f1 f2 h1 h2 b2 → KeeperFrame p p2 f f2 h h2 b2
-KeeperFrame-then p p1 p2 f f1 f2 h h1 h2 b1 b2 running one two = record {
+pub KeeperFrame-then : {K : Type 0} (g : Ghosts K) (k k1 k2 : K) → g.stopped k1 ≡ false → KeeperFrame g k k1 → KeeperFrame g k1 k2 → KeeperFrame g k k2
+KeeperFrame-then g k k1 k2 running one two = record {
   same = two.same ∙ one.same;
-  later = le one.later two.later;
+  later = le (g.faults k) (g.faults k1) (g.faults k2) one.later two.later;
   calm = λ runs. two.calm runs ∙ one.calm running;
   before = λ now. one.before (two.before now);
 } where
-  le : f ≤ f1 → f1 ≤ f2 → f ≤ f2
-  le a b = omega arith
+  le : (a b c : ℕ) → a ≤ b → b ≤ c → a ≤ c
+  le a b c one two = omega arith
 
-pub KeeperFrame-start : (p : List ℕ) (f : ℕ) (h : Type 0) (b : Bool) → KeeperFrame p p f f h h b
-KeeperFrame-start p f h b = record { same = refl; later = omega arith; calm = λ runs. refl; before = λ now. now }
+pub KeeperFrame-start : {K : Type 0} (g : Ghosts K) (k : K) → KeeperFrame g k k
+KeeperFrame-start g k = record { same = refl; later = le (g.faults k); calm = λ runs. refl; before = λ now. now } where
+  le : (a : ℕ) → a ≤ a
+  le a = omega arith
 
 -- an error of one call is that of another
 pub Err-at : {A B E : Type 0} (x y : E) → ◌≡◌ {A = Result A E} (Err x) (Err y) → ◌≡◌ {A = Result B E} (Err x) (Err y)

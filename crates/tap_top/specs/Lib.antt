@@ -1,6 +1,7 @@
 pub mod Points
 pub mod Premises
 pub mod Versions
+pub mod Frames
 pub mod Answers
 pub mod Pieces
 pub mod Statuses

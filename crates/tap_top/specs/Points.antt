@@ -32,11 +32,3 @@ pub record EngineMatchesKeeper (engine : Engine) (tells leaves : Tables → Type
   pub represents : Represents engine tables
   pub sound : IsSound tables engine.session
   pub holds : IsDurable tells leaves tables
-
--- what no call changes of a keeper: its place; its count of faults doesn't fall, and is unchanged unless it has stopped; and
--- if it is honest after, it was before
-pub record KeeperFrame (place place' : List ℕ) (faults faults' : ℕ) (honest honest' : Type 0) (halted' : Bool) : Type 0 where
-  pub same : place' ≡ place
-  pub later : faults ≤ faults'
-  pub calm : halted' ≡ false → faults' ≡ faults
-  pub before : honest' → honest

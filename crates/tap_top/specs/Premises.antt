@@ -1,29 +1,40 @@
 -- The premises and ends of clauses, by name.
 use Rattle.std.specs.Prelude.{ℕ, ℤ, pos, ◌≡◌, ◌≤◌, ◌⊎◌}
 use Rattle.keeper_core.specs.Keeping.{IsDurable}
+use Rattle.keeper_core.specs.declared.keeper.Keeper.{Ghosts}
 use Rattle.tap_base.specs.Counts.{Rose}
 use Rattle.tap_rows.specs.declared.tables.Tables.{Tables}
 use Rattle.tap_model.specs.Sound.{IsStore}
 use Rattle.tap_engine.specs.declared.engine.Engine.{Engine}
 use Rattle.tap_top.specs.Points.{EngineMatchesKeeper}
 
--- if the keeper is honest, this holds of each tables that it told before
-abbrev pub IfTold : (honest : Type 0) (tells : Tables → Type 0) (Ends : Tables → Type 0) → Type 0
-IfTold honest tells Ends = honest → (t : Tables) → tells t → Ends t
+-- the keeper tells these tables, and a crash leaves them alone
+abbrev pub IsDurableIn : {K : Type 0} (g : Ghosts K) (keeper : K) → Tables → Type 0
+IsDurableIn g keeper = IsDurable (g.tells keeper) (g.may_leave keeper)
 
--- if the keeper is honest, this holds of each tables that it told before, if a crash then left these alone, and an engine
--- represented them
-abbrev pub FromEngine : (honest : Type 0) (engine : Engine) (tells leaves : Tables → Type 0) (Ends : Tables → Type 0) → Type 0
-FromEngine honest engine tells leaves Ends = (t : Tables) → honest → EngineMatchesKeeper engine tells leaves t → Ends t
+-- the engine and the keeper agree on these tables: the engine represents them, they are sound in its session and durable in the keeper
+abbrev pub AgreeOn : {K : Type 0} (g : Ghosts K) (engine : Engine) (keeper : K) → Tables → Type 0
+AgreeOn g engine keeper = EngineMatchesKeeper engine (g.tells keeper) (g.may_leave keeper)
 
--- if the keeper is honest, this holds of each tables that it told before, if a crash then left these alone, and a session
--- left them
-abbrev pub FromStore : (honest : Type 0) (tells leaves : Tables → Type 0) (Ends : Tables → Type 0) → Type 0
-FromStore honest tells leaves Ends = (t : Tables) → honest → IsDurable tells leaves t → IsStore t → Ends t
+-- if the keeper is honest after a call, this holds of each tables that it told before
+abbrev pub IfTold : {K : Type 0} (g : Ghosts K) (old new : K) (Ends : Tables → Type 0) → Type 0
+IfTold g old new Ends = g.honest new → (t : Tables) → g.tells old t → Ends t
 
--- if the keeper is honest, this holds of each tables and version that it told before, if a crash then left these tables alone
-abbrev pub FromVersion : (honest : Type 0) (tells leaves : Tables → Type 0) (versions : ℤ → Type 0) (Ends : Tables → ℤ → Type 0) → Type 0
-FromVersion honest tells leaves versions Ends = (t : Tables) → honest → IsDurable tells leaves t → (v : ℤ) → versions v → Ends t v
+-- if the keeper is honest after a call, this holds of each tables on which the engine and the keeper agreed before
+abbrev pub FromEngine : {K : Type 0} (g : Ghosts K) (engine : Engine) (old new : K) (Ends : Tables → Type 0) → Type 0
+FromEngine g engine old new Ends = (t : Tables) → g.honest new → AgreeOn g engine old t → Ends t
+
+-- if the keeper is honest after a call, this holds of each tables that were durable in it before
+abbrev pub FromDurable : {K : Type 0} (g : Ghosts K) (old new : K) (Ends : Tables → Type 0) → Type 0
+FromDurable g old new Ends = (t : Tables) → g.honest new → IsDurableIn g old t → Ends t
+
+-- if the keeper is honest after a call, this holds of each tables that were durable in it before, and that a session left
+abbrev pub FromStore : {K : Type 0} (g : Ghosts K) (old new : K) (Ends : Tables → Type 0) → Type 0
+FromStore g old new Ends = FromDurable g old new (λ t. IsStore t → Ends t)
+
+-- if the keeper is honest after a call, this holds of each tables that were durable in it before, and each version that it told of them
+abbrev pub FromVersion : {K : Type 0} (g : Ghosts K) (old new : K) (Ends : Tables → ℤ → Type 0) → Type 0
+FromVersion g old new Ends = FromDurable g old new (λ t. (v : ℤ) → g.has_version old v → Ends t v)
 
 -- this holds if the store told version 1 or version 2
 abbrev pub IfKnown : (versions : ℤ → Type 0) → Type 0 → Type 0

@@ -1,12 +1,11 @@
 //! Commands one by one: each is performed when its last line is read, and its reply is put before the next one.
 ghost use Rattle.std.specs.Prelude.{◌≡◌, ◌≤◌, ◌<◌, ◌↔◌, [], ◌∷◌, Some, None, true, length, take, drop, OnOk, IfOk, IsErrOf};
-ghost use Rattle.keeper_core.specs.Keeping.{IsDurable};
 ghost use Rattle.tap_base.specs.Counts.{Rose};
 ghost use Rattle.script_lang.specs.Replies.{is_accepted};
 ghost use Rattle.script_lang.specs.Script.{script_from, complete_from};
-ghost use Rattle.tap_top.specs.Points.{CanPerform, EngineMatchesKeeper, KeeperFrame};
-ghost use Rattle.tap_top.specs.Premises.{FromEngine};
-ghost use Rattle.tap_top.specs.Versions.{VersionStays};
+ghost use Rattle.tap_top.specs.Points.{CanPerform};
+ghost use Rattle.tap_top.specs.Frames.{CommandFrame};
+ghost use Rattle.tap_top.specs.Premises.{IsDurableIn, AgreeOn, FromEngine};
 ghost use Rattle.tap_top.specs.Answers.{Answered, CutOff, Uncommitted, ClosedCut};
 ghost use Rattle.tap_top.specs.Pieces.{PieceAnswered, PieceCut, PieceOutOfMemory};
 ghost use Rattle.tap_top.specs.declared.feed.Stop.{Stop};
@@ -51,15 +50,12 @@ pub fn answer<K: Sink, P: Keeper, L: Ledger>(
     sink: &mut K,
 ) -> Result<bool, Stop>
     requires can { CanPerform engine.old (P.attached keeper.old) (P.stopped keeper.old) }
-    ensures ok { IfOk result (λ ok. FromEngine (P.honest keeper.new) engine.old (P.tells keeper.old) (P.may_leave keeper.old) (λ t.
+    ensures ok { IfOk result (λ ok. FromEngine P.Keeper engine.old keeper.old keeper.new (λ t.
         Answered t engine.old.session (command ∷ []) (K.out sink.old) (K.out sink.new)
-        (EngineMatchesKeeper engine.new (P.tells keeper.new) (P.may_leave keeper.new)) engine.new.session ok)) }
-    ensures put { IsErrOf result Stop.Put →
-        FromEngine (P.honest keeper.new) engine.old (P.tells keeper.old) (P.may_leave keeper.old) (λ t.
-        CutOff t engine.old.session [] command (K.out sink.old) (K.out sink.new)
-        (IsDurable (P.tells keeper.new) (P.may_leave keeper.new))) }
-    ensures uncommitted { IsErrOf result Stop.Keeper →
-        FromEngine (P.honest keeper.new) engine.old (P.tells keeper.old) (P.may_leave keeper.old) (λ t.
+        (AgreeOn P.Keeper engine.new keeper.new) engine.new.session ok)) }
+    ensures put { IsErrOf result Stop.Put → FromEngine P.Keeper engine.old keeper.old keeper.new (λ t.
+        CutOff t engine.old.session [] command (K.out sink.old) (K.out sink.new) (IsDurableIn P.Keeper keeper.new)) }
+    ensures uncommitted { IsErrOf result Stop.Keeper → FromEngine P.Keeper engine.old keeper.old keeper.new (λ t.
         Uncommitted t engine.old.session [] command (K.out sink.old) (K.out sink.new) (P.may_leave keeper.new)) }
     ensures able { IsErrOf result Stop.Memory → ⊥ }
     ensures can { OnOk result (CanPerform engine.new (P.attached keeper.new) (P.stopped keeper.new)) }
@@ -67,10 +63,7 @@ pub fn answer<K: Sink, P: Keeper, L: Ledger>(
     ensures cause { IsErrOf result Stop.Put → Rose (K.faults sink.old) (K.faults sink.new) }
     ensures kept_cause { IsErrOf result Stop.Keeper → Rose (P.faults keeper.old) (P.faults keeper.new) }
     ensures calm { (IsErrOf result Stop.Put → ⊥) → K.faults sink.new ≡ K.faults sink.old }
-    ensures frame { KeeperFrame (P.place keeper.old) (P.place keeper.new) (P.faults keeper.old) (P.faults keeper.new)
-        (P.honest keeper.old) (P.honest keeper.new) (P.stopped keeper.new) }
-    ensures version { FromEngine (P.honest keeper.new) engine.old (P.tells keeper.old) (P.may_leave keeper.old) (λ t.
-        VersionStays (P.stopped keeper.new) (P.has_version keeper.old) (P.has_version keeper.new)) }
+    ensures frame { CommandFrame P.Keeper engine.old keeper.old keeper.new }
 {
     let reply = match engine.perform(alloc, keeper, command, steps) {
         Ok(reply) => reply,
@@ -111,27 +104,22 @@ fn take_one<K: Sink, P: Keeper, L: Ledger>(
     requires can { CanPerform engine.old (P.attached keeper.old) (P.stopped keeper.old) }
     ensures within { IfOk result (λ step. (0 < step.used) × (step.used ≤ length piece.now)) }
     ensures open { OnOk result (complete_from reader.new [] ≡ []) }
-    ensures ok { IfOk result (λ step. FromEngine (P.honest keeper.new) engine.old (P.tells keeper.old) (P.may_leave keeper.old) (λ t.
+    ensures ok { IfOk result (λ step. FromEngine P.Keeper engine.old keeper.old keeper.new (λ t.
         PieceAnswered (take step.used piece.now) reader.old reader.new t engine.old.session (K.out sink.old) (K.out sink.new)
-        (EngineMatchesKeeper engine.new (P.tells keeper.new) (P.may_leave keeper.new)) engine.new.session step.ok)) }
-    ensures put { IsErrOf result Stop.Put →
-        FromEngine (P.honest keeper.new) engine.old (P.tells keeper.old) (P.may_leave keeper.old) (λ t.
-        PieceCut piece.now reader.old (λ done last. CutOff t engine.old.session done last (K.out sink.old) (K.out sink.new)
-        (IsDurable (P.tells keeper.new) (P.may_leave keeper.new)))) }
-    ensures uncommitted { IsErrOf result Stop.Keeper →
-        FromEngine (P.honest keeper.new) engine.old (P.tells keeper.old) (P.may_leave keeper.old) (λ t.
-        PieceCut piece.now reader.old (λ done next. Uncommitted t engine.old.session done next (K.out sink.old) (K.out sink.new)
-        (P.may_leave keeper.new))) }
+        (AgreeOn P.Keeper engine.new keeper.new) engine.new.session step.ok)) }
+    ensures put { IsErrOf result Stop.Put → FromEngine P.Keeper engine.old keeper.old keeper.new (λ t.
+        PieceCut piece.now reader.old (λ done last.
+        CutOff t engine.old.session done last (K.out sink.old) (K.out sink.new) (IsDurableIn P.Keeper keeper.new))) }
+    ensures uncommitted { IsErrOf result Stop.Keeper → FromEngine P.Keeper engine.old keeper.old keeper.new (λ t.
+        PieceCut piece.now reader.old (λ done next.
+        Uncommitted t engine.old.session done next (K.out sink.old) (K.out sink.new) (P.may_leave keeper.new))) }
     ensures memory { IsErrOf result Stop.Memory → (keeper.new ≡ keeper.old) × ((engine.new ≡ engine.old) × (K.out sink.new ≡ K.out sink.old)) }
     ensures can { OnOk result (CanPerform engine.new (P.attached keeper.new) (P.stopped keeper.new)) }
     ensures stopped { (P.stopped keeper.new ≡ true) ↔ IsErrOf result Stop.Keeper }
     ensures cause { IsErrOf result Stop.Put → Rose (K.faults sink.old) (K.faults sink.new) }
     ensures kept_cause { IsErrOf result Stop.Keeper → Rose (P.faults keeper.old) (P.faults keeper.new) }
     ensures calm { (IsErrOf result Stop.Put → ⊥) → K.faults sink.new ≡ K.faults sink.old }
-    ensures frame { KeeperFrame (P.place keeper.old) (P.place keeper.new) (P.faults keeper.old) (P.faults keeper.new)
-        (P.honest keeper.old) (P.honest keeper.new) (P.stopped keeper.new) }
-    ensures version { FromEngine (P.honest keeper.new) engine.old (P.tells keeper.old) (P.may_leave keeper.old) (λ t.
-        VersionStays (P.stopped keeper.new) (P.has_version keeper.old) (P.has_version keeper.new)) }
+    ensures frame { CommandFrame P.Keeper engine.old keeper.old keeper.new }
 {
     let got = match reader.take(piece) {
         Ok(got) => got,
@@ -161,30 +149,23 @@ pub fn feed<K: Sink, P: Keeper, L: Ledger>(
     requires open { complete_from reader.old [] ≡ [] }
     requires can { CanPerform engine.old (P.attached keeper.old) (P.stopped keeper.old) }
     ensures open { OnOk result (complete_from reader.new [] ≡ []) }
-    ensures ok { IfOk result (λ ok. FromEngine (P.honest keeper.new) engine.old (P.tells keeper.old) (P.may_leave keeper.old) (λ t.
+    ensures ok { IfOk result (λ ok. FromEngine P.Keeper engine.old keeper.old keeper.new (λ t.
         PieceAnswered piece.now reader.old reader.new t engine.old.session (K.out sink.old) (K.out sink.new)
-        (EngineMatchesKeeper engine.new (P.tells keeper.new) (P.may_leave keeper.new)) engine.new.session ok)) }
-    ensures put { IsErrOf result Stop.Put →
-        FromEngine (P.honest keeper.new) engine.old (P.tells keeper.old) (P.may_leave keeper.old) (λ t.
-        PieceCut piece.now reader.old (λ done last. CutOff t engine.old.session done last (K.out sink.old) (K.out sink.new)
-        (IsDurable (P.tells keeper.new) (P.may_leave keeper.new)))) }
-    ensures uncommitted { IsErrOf result Stop.Keeper →
-        FromEngine (P.honest keeper.new) engine.old (P.tells keeper.old) (P.may_leave keeper.old) (λ t.
-        PieceCut piece.now reader.old (λ done next. Uncommitted t engine.old.session done next (K.out sink.old) (K.out sink.new)
-        (P.may_leave keeper.new))) }
-    ensures memory { IsErrOf result Stop.Memory →
-        FromEngine (P.honest keeper.new) engine.old (P.tells keeper.old) (P.may_leave keeper.old) (λ t.
-        PieceOutOfMemory piece.now reader.old t engine.old.session (K.out sink.old) (K.out sink.new)
-        (IsDurable (P.tells keeper.new) (P.may_leave keeper.new))) }
+        (AgreeOn P.Keeper engine.new keeper.new) engine.new.session ok)) }
+    ensures put { IsErrOf result Stop.Put → FromEngine P.Keeper engine.old keeper.old keeper.new (λ t.
+        PieceCut piece.now reader.old (λ done last.
+        CutOff t engine.old.session done last (K.out sink.old) (K.out sink.new) (IsDurableIn P.Keeper keeper.new))) }
+    ensures uncommitted { IsErrOf result Stop.Keeper → FromEngine P.Keeper engine.old keeper.old keeper.new (λ t.
+        PieceCut piece.now reader.old (λ done next.
+        Uncommitted t engine.old.session done next (K.out sink.old) (K.out sink.new) (P.may_leave keeper.new))) }
+    ensures memory { IsErrOf result Stop.Memory → FromEngine P.Keeper engine.old keeper.old keeper.new (λ t.
+        PieceOutOfMemory piece.now reader.old t engine.old.session (K.out sink.old) (K.out sink.new) (IsDurableIn P.Keeper keeper.new)) }
     ensures can { OnOk result (CanPerform engine.new (P.attached keeper.new) (P.stopped keeper.new)) }
     ensures stopped { (P.stopped keeper.new ≡ true) ↔ IsErrOf result Stop.Keeper }
     ensures cause { IsErrOf result Stop.Put → Rose (K.faults sink.old) (K.faults sink.new) }
     ensures kept_cause { IsErrOf result Stop.Keeper → Rose (P.faults keeper.old) (P.faults keeper.new) }
     ensures calm { (IsErrOf result Stop.Put → ⊥) → K.faults sink.new ≡ K.faults sink.old }
-    ensures frame { KeeperFrame (P.place keeper.old) (P.place keeper.new) (P.faults keeper.old) (P.faults keeper.new)
-        (P.honest keeper.old) (P.honest keeper.new) (P.stopped keeper.new) }
-    ensures version { FromEngine (P.honest keeper.new) engine.old (P.tells keeper.old) (P.may_leave keeper.old) (λ t.
-        VersionStays (P.stopped keeper.new) (P.has_version keeper.old) (P.has_version keeper.new)) }
+    ensures frame { CommandFrame P.Keeper engine.old keeper.old keeper.new }
 {
     let mut all_ok = true;
     let mut rest = piece;
@@ -212,26 +193,21 @@ pub fn finish<K: Sink, P: Keeper, L: Ledger>(
     sink: &mut K,
 ) -> Result<bool, Stop>
     requires can { CanPerform engine.old (P.attached keeper.old) (P.stopped keeper.old) }
-    ensures ok { IfOk result (λ ok. FromEngine (P.honest keeper.new) engine.old (P.tells keeper.old) (P.may_leave keeper.old) (λ t.
+    ensures ok { IfOk result (λ ok. FromEngine P.Keeper engine.old keeper.old keeper.new (λ t.
         Answered t engine.old.session (script_from reader.old []) (K.out sink.old) (K.out sink.new)
-        (EngineMatchesKeeper engine.new (P.tells keeper.new) (P.may_leave keeper.new)) engine.new.session ok)) }
-    ensures put { IsErrOf result Stop.Put →
-        FromEngine (P.honest keeper.new) engine.old (P.tells keeper.old) (P.may_leave keeper.old) (λ t.
-        ClosedCut (script_from reader.old []) (λ done last. CutOff t engine.old.session done last (K.out sink.old) (K.out sink.new)
-        (IsDurable (P.tells keeper.new) (P.may_leave keeper.new)))) }
-    ensures uncommitted { IsErrOf result Stop.Keeper →
-        FromEngine (P.honest keeper.new) engine.old (P.tells keeper.old) (P.may_leave keeper.old) (λ t.
-        ClosedCut (script_from reader.old []) (λ done next. Uncommitted t engine.old.session done next (K.out sink.old) (K.out sink.new)
-        (P.may_leave keeper.new))) }
+        (AgreeOn P.Keeper engine.new keeper.new) engine.new.session ok)) }
+    ensures put { IsErrOf result Stop.Put → FromEngine P.Keeper engine.old keeper.old keeper.new (λ t.
+        ClosedCut (script_from reader.old []) (λ done last.
+        CutOff t engine.old.session done last (K.out sink.old) (K.out sink.new) (IsDurableIn P.Keeper keeper.new))) }
+    ensures uncommitted { IsErrOf result Stop.Keeper → FromEngine P.Keeper engine.old keeper.old keeper.new (λ t.
+        ClosedCut (script_from reader.old []) (λ done next.
+        Uncommitted t engine.old.session done next (K.out sink.old) (K.out sink.new) (P.may_leave keeper.new))) }
     ensures memory { IsErrOf result Stop.Memory → (keeper.new ≡ keeper.old) × ((engine.new ≡ engine.old) × (K.out sink.new ≡ K.out sink.old)) }
     ensures stopped { (P.stopped keeper.new ≡ true) ↔ IsErrOf result Stop.Keeper }
     ensures cause { IsErrOf result Stop.Put → Rose (K.faults sink.old) (K.faults sink.new) }
     ensures kept_cause { IsErrOf result Stop.Keeper → Rose (P.faults keeper.old) (P.faults keeper.new) }
     ensures calm { (IsErrOf result Stop.Put → ⊥) → K.faults sink.new ≡ K.faults sink.old }
-    ensures frame { KeeperFrame (P.place keeper.old) (P.place keeper.new) (P.faults keeper.old) (P.faults keeper.new)
-        (P.honest keeper.old) (P.honest keeper.new) (P.stopped keeper.new) }
-    ensures version { FromEngine (P.honest keeper.new) engine.old (P.tells keeper.old) (P.may_leave keeper.old) (λ t.
-        VersionStays (P.stopped keeper.new) (P.has_version keeper.old) (P.has_version keeper.new)) }
+    ensures frame { CommandFrame P.Keeper engine.old keeper.old keeper.new }
 {
     match reader.finish() {
         Ok(None) => Ok(true),

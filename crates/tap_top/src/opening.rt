@@ -1,14 +1,13 @@
 //! Opens a store: attaches the keeper, checks the tables, and starts an engine over them.
 ghost use Rattle.std.specs.Prelude.{◌≡◌, ◌⊎◌, ◌↔◌, ◌≤◌, ℤ, pos, true, false, Some, None, IfOk, OnOk, IsErrOf};
 ghost use Rattle.std.specs.Str.{IsUtf8};
-ghost use Rattle.keeper_core.specs.Keeping.{IsDurable};
 ghost use Rattle.tap_base.specs.Counts.{Rose};
 ghost use Rattle.tap_rows.specs.declared.tables.Tables.{Tables as TableRows};
 ghost use Rattle.restart_core.specs.Damages.{damage_of};
 ghost use Rattle.tap_model.specs.Sessions.{no_session};
 ghost use Rattle.tap_engine.specs.Standing.{Represents};
 ghost use Rattle.tap_top.specs.Points.{CanPerform};
-ghost use Rattle.tap_top.specs.Premises.{IfTold};
+ghost use Rattle.tap_top.specs.Premises.{IsDurableIn, IfTold};
 ghost use Rattle.tap_top.specs.Versions.{IsMigrated, MayBeMigrated};
 ghost use Rattle.tap_top.specs.Refusals.{row_fault, fault_of};
 ghost use Rattle.tap_top.specs.Opened.{HasShortTexts, IfRefused};
@@ -83,19 +82,19 @@ pub fn open_store<P: Keeper>(
     ensures can { IfOk result (λ engine. CanPerform engine (P.attached keeper.new) (P.stopped keeper.new)) }
     ensures session { IfOk result (λ engine. engine.session ≡ no_session) }
     ensures short { IfOk result HasShortTexts }
-    ensures represents { IfOk result (λ engine. IfTold (P.honest keeper.new) (P.tells keeper.old) (λ t. Represents engine t)) }
-    ensures kept { IfTold (P.honest keeper.new) (P.tells keeper.old) (λ t.
-        P.stopped keeper.new ≡ false → IsDurable (P.tells keeper.new) (P.may_leave keeper.new) t) }
-    ensures crash { IfTold (P.honest keeper.new) (P.tells keeper.old) (λ t. (x : TableRows) → P.may_leave keeper.new x → x ≡ t) }
-    ensures sure { OnOk result (IfTold (P.honest keeper.new) (P.tells keeper.old) (λ t.
+    ensures represents { IfOk result (λ engine. IfTold P.Keeper keeper.old keeper.new (λ t. Represents engine t)) }
+    ensures kept { IfTold P.Keeper keeper.old keeper.new (λ t.
+        P.stopped keeper.new ≡ false → IsDurableIn P.Keeper keeper.new t) }
+    ensures crash { IfTold P.Keeper keeper.old keeper.new (λ t. (x : TableRows) → P.may_leave keeper.new x → x ≡ t) }
+    ensures sure { OnOk result (IfTold P.Keeper keeper.old keeper.new (λ t.
         (v : ℤ) → P.has_version keeper.old v → fault_of v t ≡ None)) }
-    ensures refused { IfRefused result (λ fault. IfTold (P.honest keeper.new) (P.tells keeper.old) (λ t.
+    ensures refused { IfRefused result (λ fault. IfTold P.Keeper keeper.old keeper.new (λ t.
         (v : ℤ) → P.has_version keeper.old v → fault_of v t ≡ Some fault)) }
-    ensures version { OnOk result (IfTold (P.honest keeper.new) (P.tells keeper.old) (λ t. P.has_version keeper.new (pos 2))) }
+    ensures version { OnOk result (IfTold P.Keeper keeper.old keeper.new (λ t. P.has_version keeper.new (pos 2))) }
     ensures known { OnOk result (P.honest keeper.new → (v : ℤ) → P.has_version keeper.old v → (v ≡ pos 1) ⊎ (v ≡ pos 2)) }
-    ensures migrated { IfRefused result (λ fault. IfTold (P.honest keeper.new) (P.tells keeper.old) (λ t.
+    ensures migrated { IfRefused result (λ fault. IfTold P.Keeper keeper.old keeper.new (λ t.
         (v : ℤ) → P.has_version keeper.old v → IsMigrated v (P.has_version keeper.new))) }
-    ensures memory { IsErrOf result OpenFault.Memory → IfTold (P.honest keeper.new) (P.tells keeper.old) (λ t.
+    ensures memory { IsErrOf result OpenFault.Memory → IfTold P.Keeper keeper.old keeper.new (λ t.
         (v : ℤ) → P.has_version keeper.old v → MayBeMigrated v (P.has_version keeper.new)) }
     ensures stopped { (P.stopped keeper.new ≡ true) ↔ IsErrOf result OpenFault.Keeper }
     ensures cause { IsErrOf result OpenFault.Keeper → Rose (P.faults keeper.old) (P.faults keeper.new) }

@@ -3,7 +3,6 @@ ghost use Rattle.std.specs.Prelude.{◌≡◌, ◌≢◌, ◌≤◌, ◌+◌, �
 ghost use Rattle.std.specs.Prelude.{true, false, length, OnOk, IfOk, IfSome, IsErrOf};
 ghost use Rattle.std.specs.Io.KnownBytes.{Appends};
 ghost use Rattle.std.specs.Str.{IsUtf8};
-ghost use Rattle.keeper_core.specs.Keeping.{IsDurable};
 ghost use Rattle.tap_base.specs.Counts.{Rose};
 ghost use Rattle.script_lang.specs.declared.reply.Reply.{Reply as ReplyOf};
 ghost use Rattle.script_lang.specs.declared.refusal.Refusal.{Refusal as RefusalOf};
@@ -12,9 +11,10 @@ ghost use Rattle.tap_model.specs.Sessions.{no_session};
 ghost use Rattle.tap_top.specs.declared.store_fault.StoreFault.{StoreFault as StoreFaultOf};
 ghost use Rattle.tap_top.specs.declared.sampled.Cut.{Cut};
 ghost use Rattle.tap_top.specs.Refusals.{fault_of, Refused};
-ghost use Rattle.tap_top.specs.Points.{CanPerform, EngineMatchesKeeper, KeeperFrame};
-ghost use Rattle.tap_top.specs.Premises.{FromEngine, FromStore, FromVersion, IfKnown};
-ghost use Rattle.tap_top.specs.Versions.{VersionStays, VersionAtExit};
+ghost use Rattle.tap_top.specs.Points.{CanPerform};
+ghost use Rattle.tap_top.specs.Frames.{CommandFrame};
+ghost use Rattle.tap_top.specs.Premises.{IsDurableIn, AgreeOn, FromEngine, FromStore, FromVersion, IfKnown};
+ghost use Rattle.tap_top.specs.Versions.{VersionAtExit};
 ghost use Rattle.tap_top.specs.Ends.{EngineSampleEnds, SampleEnds};
 ghost use Rattle.tap_top.specs.Samples.{refusals_in, hits_in, Performed, Counted, Adds, FirstPerformed, NextUncommitted, FrontPut};
 
@@ -61,22 +61,17 @@ fn perform_one<P: Keeper, L: Ledger>(
     tally: Tally,
 ) -> Result<Tally, Cut>
     requires can { CanPerform engine.old (P.attached keeper.old) (P.stopped keeper.old) }
-    ensures ok { IfOk result (λ counted. FromEngine (P.honest keeper.new) engine.old (P.tells keeper.old) (P.may_leave keeper.old) (λ t.
+    ensures ok { IfOk result (λ counted. FromEngine P.Keeper engine.old keeper.old keeper.new (λ t.
         Performed t engine.old.session (command ∷ [])
-        (λ replies x. EngineMatchesKeeper engine.new (P.tells keeper.new) (P.may_leave keeper.new) x × Adds tally counted replies) engine.new.session)) }
-    ensures memory { IsErrOf result Cut.Memory →
-        FromEngine (P.honest keeper.new) engine.old (P.tells keeper.old) (P.may_leave keeper.old) (λ t.
-        FirstPerformed t engine.old.session (command ∷ []) (IsDurable (P.tells keeper.new) (P.may_leave keeper.new))) }
-    ensures keeper { IsErrOf result Cut.Keeper →
-        FromEngine (P.honest keeper.new) engine.old (P.tells keeper.old) (P.may_leave keeper.old) (λ t.
+        (λ replies x. AgreeOn P.Keeper engine.new keeper.new x × Adds tally counted replies) engine.new.session)) }
+    ensures memory { IsErrOf result Cut.Memory → FromEngine P.Keeper engine.old keeper.old keeper.new (λ t.
+        FirstPerformed t engine.old.session (command ∷ []) (IsDurableIn P.Keeper keeper.new)) }
+    ensures keeper { IsErrOf result Cut.Keeper → FromEngine P.Keeper engine.old keeper.old keeper.new (λ t.
         NextUncommitted t engine.old.session (command ∷ []) (P.may_leave keeper.new)) }
     ensures can { OnOk result (CanPerform engine.new (P.attached keeper.new) (P.stopped keeper.new)) }
     ensures stopped { (P.stopped keeper.new ≡ true) ↔ IsErrOf result Cut.Keeper }
     ensures kept_cause { IsErrOf result Cut.Keeper → Rose (P.faults keeper.old) (P.faults keeper.new) }
-    ensures frame { KeeperFrame (P.place keeper.old) (P.place keeper.new) (P.faults keeper.old) (P.faults keeper.new)
-        (P.honest keeper.old) (P.honest keeper.new) (P.stopped keeper.new) }
-    ensures version { FromEngine (P.honest keeper.new) engine.old (P.tells keeper.old) (P.may_leave keeper.old) (λ t.
-        VersionStays (P.stopped keeper.new) (P.has_version keeper.old) (P.has_version keeper.new)) }
+    ensures frame { CommandFrame P.Keeper engine.old keeper.old keeper.new }
 {
     let reply = match engine.perform(alloc, keeper, command, steps) {
         Ok(reply) => reply,
@@ -97,22 +92,17 @@ fn perform_all<P: Keeper, L: Ledger>(
     steps: &mut Steps<L>,
 ) -> Result<Tally, Cut>
     requires can { CanPerform engine.old (P.attached keeper.old) (P.stopped keeper.old) }
-    ensures ok { IfOk result (λ tally. FromEngine (P.honest keeper.new) engine.old (P.tells keeper.old) (P.may_leave keeper.old) (λ t.
+    ensures ok { IfOk result (λ tally. FromEngine P.Keeper engine.old keeper.old keeper.new (λ t.
         Performed t engine.old.session commands
-        (λ replies x. EngineMatchesKeeper engine.new (P.tells keeper.new) (P.may_leave keeper.new) x × Counted tally replies) engine.new.session)) }
-    ensures memory { IsErrOf result Cut.Memory →
-        FromEngine (P.honest keeper.new) engine.old (P.tells keeper.old) (P.may_leave keeper.old) (λ t.
-        FirstPerformed t engine.old.session commands (IsDurable (P.tells keeper.new) (P.may_leave keeper.new))) }
-    ensures keeper { IsErrOf result Cut.Keeper →
-        FromEngine (P.honest keeper.new) engine.old (P.tells keeper.old) (P.may_leave keeper.old) (λ t.
+        (λ replies x. AgreeOn P.Keeper engine.new keeper.new x × Counted tally replies) engine.new.session)) }
+    ensures memory { IsErrOf result Cut.Memory → FromEngine P.Keeper engine.old keeper.old keeper.new (λ t.
+        FirstPerformed t engine.old.session commands (IsDurableIn P.Keeper keeper.new)) }
+    ensures keeper { IsErrOf result Cut.Keeper → FromEngine P.Keeper engine.old keeper.old keeper.new (λ t.
         NextUncommitted t engine.old.session commands (P.may_leave keeper.new)) }
     ensures can { OnOk result (CanPerform engine.new (P.attached keeper.new) (P.stopped keeper.new)) }
     ensures stopped { (P.stopped keeper.new ≡ true) ↔ IsErrOf result Cut.Keeper }
     ensures kept_cause { IsErrOf result Cut.Keeper → Rose (P.faults keeper.old) (P.faults keeper.new) }
-    ensures frame { KeeperFrame (P.place keeper.old) (P.place keeper.new) (P.faults keeper.old) (P.faults keeper.new)
-        (P.honest keeper.old) (P.honest keeper.new) (P.stopped keeper.new) }
-    ensures version { FromEngine (P.honest keeper.new) engine.old (P.tells keeper.old) (P.may_leave keeper.old) (λ t.
-        VersionStays (P.stopped keeper.new) (P.has_version keeper.old) (P.has_version keeper.new)) }
+    ensures frame { CommandFrame P.Keeper engine.old keeper.old keeper.new }
 {
     let mut tally = Tally::new();
     for command in commands.into_vec() {
@@ -175,7 +165,7 @@ fn run_sample<K: Sink, P: Keeper, L: Ledger>(
     requires few { n ≤ 100000 }
     requires can { CanPerform engine.old (P.attached keeper.old) (P.stopped keeper.old) }
     requires session { engine.old.session ≡ no_session }
-    ensures ends { FromEngine (P.honest keeper.new) engine.old (P.tells keeper.old) (P.may_leave keeper.old) (λ t.
+    ensures ends { FromEngine P.Keeper engine.old keeper.old keeper.new (λ t.
         EngineSampleEnds result t n (K.out sink.old) (K.out sink.new) (P.tells keeper.new) (P.may_leave keeper.new)) }
     ensures silent { (result ≡ 5) ⊎ (result ≡ 7) → K.out sink.new ≡ K.out sink.old }
     ensures statuses { result ≤ 1 ⊎ (result ≡ 4 ⊎ (result ≡ 5 ⊎ result ≡ 7)) }
@@ -183,10 +173,7 @@ fn run_sample<K: Sink, P: Keeper, L: Ledger>(
     ensures cause { result ≡ 4 → Rose (K.faults sink.old) (K.faults sink.new) }
     ensures calm { result ≢ 4 → K.faults sink.new ≡ K.faults sink.old }
     ensures kept_cause { result ≡ 5 → Rose (P.faults keeper.old) (P.faults keeper.new) }
-    ensures frame { KeeperFrame (P.place keeper.old) (P.place keeper.new) (P.faults keeper.old) (P.faults keeper.new)
-        (P.honest keeper.old) (P.honest keeper.new) (P.stopped keeper.new) }
-    ensures version { FromEngine (P.honest keeper.new) engine.old (P.tells keeper.old) (P.may_leave keeper.old) (λ t.
-        VersionStays (P.stopped keeper.new) (P.has_version keeper.old) (P.has_version keeper.new)) }
+    ensures frame { CommandFrame P.Keeper engine.old keeper.old keeper.new }
 {
     let Ok(commands) = sample(alloc, n) else {
         return 7;
@@ -214,7 +201,7 @@ fn sample_with<K: Sink, P: Keeper, L: Ledger>(
     requires few { n ≤ 100000 }
     requires can { CanPerform engine (P.attached keeper.old) (P.stopped keeper.old) }
     requires session { engine.session ≡ no_session }
-    ensures ends { FromEngine (P.honest keeper.new) engine (P.tells keeper.old) (P.may_leave keeper.old) (λ t.
+    ensures ends { FromEngine P.Keeper engine keeper.old keeper.new (λ t.
         EngineSampleEnds result t n (K.out sink.old) (K.out sink.new) (P.tells keeper.new) (P.may_leave keeper.new)) }
     ensures silent { (result ≡ 5) ⊎ (result ≡ 7) → K.out sink.new ≡ K.out sink.old }
     ensures statuses { result ≤ 1 ⊎ (result ≡ 4 ⊎ (result ≡ 5 ⊎ result ≡ 7)) }
@@ -222,10 +209,7 @@ fn sample_with<K: Sink, P: Keeper, L: Ledger>(
     ensures cause { result ≡ 4 → Rose (K.faults sink.old) (K.faults sink.new) }
     ensures calm { result ≢ 4 → K.faults sink.new ≡ K.faults sink.old }
     ensures kept_cause { result ≡ 5 → Rose (P.faults keeper.old) (P.faults keeper.new) }
-    ensures frame { KeeperFrame (P.place keeper.old) (P.place keeper.new) (P.faults keeper.old) (P.faults keeper.new)
-        (P.honest keeper.old) (P.honest keeper.new) (P.stopped keeper.new) }
-    ensures version { FromEngine (P.honest keeper.new) engine (P.tells keeper.old) (P.may_leave keeper.old) (λ t.
-        VersionStays (P.stopped keeper.new) (P.has_version keeper.old) (P.has_version keeper.new)) }
+    ensures frame { CommandFrame P.Keeper engine keeper.old keeper.new }
 {
     run_sample(alloc, n, sink, &mut engine, keeper, steps)
 }
@@ -248,20 +232,20 @@ pub fn sample_store<K: Sink, P: Keeper, L: Ledger>(
     requires text { IsUtf8 place.now }
 
     // How the sample ended over a store that a session left.
-    ensures sample { FromStore (P.honest keeper.new) (P.tells keeper.old) (P.may_leave keeper.old) (λ t.
+    ensures sample { FromStore P.Keeper keeper.old keeper.new (λ t.
         SampleEnds result t n (K.out sink.old) (K.out sink.new)
         (P.has_version keeper.old) (P.tells keeper.new) (P.may_leave keeper.new)) }
     ensures silent { (result ≡ 5) ⊎ (result ≡ 7) → K.out sink.new ≡ K.out sink.old }
-    ensures version { FromStore (P.honest keeper.new) (P.tells keeper.old) (P.may_leave keeper.old) (λ t.
+    ensures version { FromStore P.Keeper keeper.old keeper.new (λ t.
         VersionAtExit result (P.has_version keeper.old) (P.has_version keeper.new)) }
 
     // A store is refused if and only if its version isn't known or one of its rows is damaged.
-    ensures refused { FromVersion (P.honest keeper.new) (P.tells keeper.old) (P.may_leave keeper.old) (P.has_version keeper.old) (λ t v.
+    ensures refused { FromVersion P.Keeper keeper.old keeper.new (λ t v.
         (fault : StoreFaultOf) → fault_of v t ≡ Some fault → (left : Option (List ℕ)) →
         Refused result fault left left (K.out sink.old) (K.out sink.new) (P.tells keeper.new) (P.may_leave keeper.new) t) }
-    ensures fine { FromVersion (P.honest keeper.new) (P.tells keeper.old) (P.may_leave keeper.old) (P.has_version keeper.old) (λ t v.
+    ensures fine { FromVersion P.Keeper keeper.old keeper.new (λ t v.
         fault_of v t ≡ None → result ≢ 6) }
-    ensures known { FromStore (P.honest keeper.new) (P.tells keeper.old) (P.may_leave keeper.old) (λ t.
+    ensures known { FromStore P.Keeper keeper.old keeper.new (λ t.
         IfKnown (P.has_version keeper.old) (result ≢ 6)) }
 
     // When each status comes.

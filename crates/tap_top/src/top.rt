@@ -8,16 +8,16 @@ ghost use Rattle.clap.specs.Words.{takes, fault_of as faults_of};
 ghost use Rattle.command_words.specs.Options.{app};
 ghost use Rattle.command_words.specs.Words.{place_in, sample_in};
 ghost use Rattle.command_words.specs.WellWorded.{IsWellWorded, place_of};
-ghost use Rattle.keeper_core.specs.Keeping.{IsDurable};
 ghost use Rattle.tap_base.specs.Counts.{Rose};
 ghost use Rattle.tap_rows.specs.declared.tables.Tables.{Tables};
 ghost use Rattle.script_lang.specs.Script.{script_from};
 ghost use Rattle.tap_model.specs.Sessions.{no_session};
 ghost use Rattle.tap_model.specs.Sound.{IsStore};
 ghost use Rattle.tap_top.specs.declared.store_fault.StoreFault.{StoreFault as StoreFaultOf};
-ghost use Rattle.tap_top.specs.Points.{CanPerform, KeeperFrame};
-ghost use Rattle.tap_top.specs.Premises.{FromEngine, FromStore, FromVersion, IfKnown, IsCalm, IsUndisturbed};
-ghost use Rattle.tap_top.specs.Versions.{VersionStays, VersionAtExit};
+ghost use Rattle.tap_top.specs.Points.{CanPerform};
+ghost use Rattle.tap_top.specs.Frames.{CommandFrame};
+ghost use Rattle.tap_top.specs.Premises.{IsDurableIn, FromEngine, FromStore, FromVersion, IfKnown, IsCalm, IsUndisturbed};
+ghost use Rattle.tap_top.specs.Versions.{VersionAtExit};
 ghost use Rattle.tap_top.specs.Answers.{CutOff, Uncommitted, Closed, ClosedCut};
 ghost use Rattle.tap_top.specs.Statuses.{TookMany, HoldsScript};
 ghost use Rattle.tap_top.specs.Causes.{Causes};
@@ -70,28 +70,21 @@ fn close<K: Sink, P: Keeper, L: Ledger>(
     all_ok: bool,
 ) -> u8
     requires can { CanPerform engine.old (P.attached keeper.old) (P.stopped keeper.old) }
-    ensures whole { result ≤ 1 →
-        FromEngine (P.honest keeper.new) engine.old (P.tells keeper.old) (P.may_leave keeper.old) (λ t.
-        Closed t engine.old.session (script_from reader.old []) (K.out sink.old) (K.out sink.new)
-        (IsDurable (P.tells keeper.new) (P.may_leave keeper.new)) all_ok (result == 0)) }
-    ensures put { result ≡ 4 →
-        FromEngine (P.honest keeper.new) engine.old (P.tells keeper.old) (P.may_leave keeper.old) (λ t.
-        ClosedCut (script_from reader.old []) (λ done last. CutOff t engine.old.session done last (K.out sink.old) (K.out sink.new)
-        (IsDurable (P.tells keeper.new) (P.may_leave keeper.new)))) }
-    ensures uncommitted { result ≡ 5 →
-        FromEngine (P.honest keeper.new) engine.old (P.tells keeper.old) (P.may_leave keeper.old) (λ t.
-        ClosedCut (script_from reader.old []) (λ done next. Uncommitted t engine.old.session done next (K.out sink.old) (K.out sink.new)
-        (P.may_leave keeper.new))) }
+    ensures whole { result ≤ 1 → FromEngine P.Keeper engine.old keeper.old keeper.new (λ t.
+        Closed t engine.old.session (script_from reader.old []) (K.out sink.old) (K.out sink.new) (IsDurableIn P.Keeper keeper.new) all_ok (result == 0)) }
+    ensures put { result ≡ 4 → FromEngine P.Keeper engine.old keeper.old keeper.new (λ t.
+        ClosedCut (script_from reader.old []) (λ done last.
+        CutOff t engine.old.session done last (K.out sink.old) (K.out sink.new) (IsDurableIn P.Keeper keeper.new))) }
+    ensures uncommitted { result ≡ 5 → FromEngine P.Keeper engine.old keeper.old keeper.new (λ t.
+        ClosedCut (script_from reader.old []) (λ done next.
+        Uncommitted t engine.old.session done next (K.out sink.old) (K.out sink.new) (P.may_leave keeper.new))) }
     ensures memory { result ≡ 7 → (keeper.new ≡ keeper.old) × ((engine.new ≡ engine.old) × (K.out sink.new ≡ K.out sink.old)) }
     ensures statuses { result ≤ 1 ⊎ (result ≡ 4 ⊎ (result ≡ 5 ⊎ result ≡ 7)) }
     ensures stopped { (P.stopped keeper.new ≡ true) ↔ (result ≡ 5) }
     ensures cause { result ≡ 4 → Rose (K.faults sink.old) (K.faults sink.new) }
     ensures kept_cause { result ≡ 5 → Rose (P.faults keeper.old) (P.faults keeper.new) }
     ensures calm { result ≢ 4 → K.faults sink.new ≡ K.faults sink.old }
-    ensures frame { KeeperFrame (P.place keeper.old) (P.place keeper.new) (P.faults keeper.old) (P.faults keeper.new)
-        (P.honest keeper.old) (P.honest keeper.new) (P.stopped keeper.new) }
-    ensures version { FromEngine (P.honest keeper.new) engine.old (P.tells keeper.old) (P.may_leave keeper.old) (λ t.
-        VersionStays (P.stopped keeper.new) (P.has_version keeper.old) (P.has_version keeper.new)) }
+    ensures frame { CommandFrame P.Keeper engine.old keeper.old keeper.new }
 {
     match finish(alloc, reader, engine, keeper, steps, sink) {
         Ok(ok) => status(all_ok && ok),
@@ -112,7 +105,7 @@ fn run<S: Source, K: Sink, P: Keeper, L: Ledger>(
 ) -> u8
     requires can { CanPerform engine.old (P.attached keeper.old) (P.stopped keeper.old) }
     requires session { engine.old.session ≡ no_session }
-    ensures ends { FromEngine (P.honest keeper.new) engine.old (P.tells keeper.old) (P.may_leave keeper.old) (λ t.
+    ensures ends { FromEngine P.Keeper engine.old keeper.old keeper.new (λ t.
         EngineScriptEnds result t (S.left source.old) (S.left source.new) (K.out sink.old) (K.out sink.new)
         (P.tells keeper.new) (P.may_leave keeper.new)) }
     ensures many { result ≡ 8 → TookMany (S.left source.old) (S.left source.new) }
@@ -124,10 +117,7 @@ fn run<S: Source, K: Sink, P: Keeper, L: Ledger>(
     ensures put_calm { result ≢ 4 → K.faults sink.new ≡ K.faults sink.old }
     ensures ended { result ≤ 1 → IsAtEnd (S.left source.new) }
     ensures kept_cause { result ≡ 5 → Rose (P.faults keeper.old) (P.faults keeper.new) }
-    ensures frame { KeeperFrame (P.place keeper.old) (P.place keeper.new) (P.faults keeper.old) (P.faults keeper.new)
-        (P.honest keeper.old) (P.honest keeper.new) (P.stopped keeper.new) }
-    ensures version { FromEngine (P.honest keeper.new) engine.old (P.tells keeper.old) (P.may_leave keeper.old) (λ t.
-        VersionStays (P.stopped keeper.new) (P.has_version keeper.old) (P.has_version keeper.new)) }
+    ensures frame { CommandFrame P.Keeper engine.old keeper.old keeper.new }
 {
     let mut reader = ScriptReader::new(alloc);
     let mut piece = [0u8; PIECE];
@@ -173,7 +163,7 @@ fn run_with<S: Source, K: Sink, P: Keeper, L: Ledger>(
 ) -> u8
     requires can { CanPerform engine (P.attached keeper.old) (P.stopped keeper.old) }
     requires session { engine.session ≡ no_session }
-    ensures ends { FromEngine (P.honest keeper.new) engine (P.tells keeper.old) (P.may_leave keeper.old) (λ t.
+    ensures ends { FromEngine P.Keeper engine keeper.old keeper.new (λ t.
         EngineScriptEnds result t (S.left source.old) (S.left source.new) (K.out sink.old) (K.out sink.new)
         (P.tells keeper.new) (P.may_leave keeper.new)) }
     ensures many { result ≡ 8 → TookMany (S.left source.old) (S.left source.new) }
@@ -185,10 +175,7 @@ fn run_with<S: Source, K: Sink, P: Keeper, L: Ledger>(
     ensures put_calm { result ≢ 4 → K.faults sink.new ≡ K.faults sink.old }
     ensures ended { result ≤ 1 → IsAtEnd (S.left source.new) }
     ensures kept_cause { result ≡ 5 → Rose (P.faults keeper.old) (P.faults keeper.new) }
-    ensures frame { KeeperFrame (P.place keeper.old) (P.place keeper.new) (P.faults keeper.old) (P.faults keeper.new)
-        (P.honest keeper.old) (P.honest keeper.new) (P.stopped keeper.new) }
-    ensures version { FromEngine (P.honest keeper.new) engine (P.tells keeper.old) (P.may_leave keeper.old) (λ t.
-        VersionStays (P.stopped keeper.new) (P.has_version keeper.old) (P.has_version keeper.new)) }
+    ensures frame { CommandFrame P.Keeper engine keeper.old keeper.new }
 {
     run(alloc, source, sink, &mut engine, keeper, steps)
 }
@@ -208,22 +195,22 @@ fn run_store<S: Source, K: Sink, P: Keeper, L: Ledger>(
     requires text { IsUtf8 place.now }
 
     // How the script ended over a store that a session left.
-    ensures script { FromStore (P.honest keeper.new) (P.tells keeper.old) (P.may_leave keeper.old) (λ t.
+    ensures script { FromStore P.Keeper keeper.old keeper.new (λ t.
         ScriptEnds result t (S.left source.old) (S.left source.new) (K.out sink.old) (K.out sink.new)
         (P.has_version keeper.old) (P.tells keeper.new) (P.may_leave keeper.new)) }
-    ensures kept { FromStore (P.honest keeper.new) (P.tells keeper.old) (P.may_leave keeper.old) (λ t.
+    ensures kept { FromStore P.Keeper keeper.old keeper.new (λ t.
         (x : Tables) → P.may_leave keeper.new x → IsStore x) }
-    ensures version { FromStore (P.honest keeper.new) (P.tells keeper.old) (P.may_leave keeper.old) (λ t.
+    ensures version { FromStore P.Keeper keeper.old keeper.new (λ t.
         VersionAtExit result (P.has_version keeper.old) (P.has_version keeper.new)) }
 
     // A store is refused if and only if its version isn't known or one of its rows is damaged.
-    ensures refused { FromVersion (P.honest keeper.new) (P.tells keeper.old) (P.may_leave keeper.old) (P.has_version keeper.old) (λ t v.
+    ensures refused { FromVersion P.Keeper keeper.old keeper.new (λ t v.
         (fault : StoreFaultOf) → fault_of v t ≡ Some fault →
         Refused result fault (S.left source.old) (S.left source.new) (K.out sink.old) (K.out sink.new)
         (P.tells keeper.new) (P.may_leave keeper.new) t) }
-    ensures fine { FromVersion (P.honest keeper.new) (P.tells keeper.old) (P.may_leave keeper.old) (P.has_version keeper.old) (λ t v.
+    ensures fine { FromVersion P.Keeper keeper.old keeper.new (λ t v.
         fault_of v t ≡ None → result ≢ 6) }
-    ensures known { FromStore (P.honest keeper.new) (P.tells keeper.old) (P.may_leave keeper.old) (λ t.
+    ensures known { FromStore P.Keeper keeper.old keeper.new (λ t.
         IfKnown (P.has_version keeper.old) (result ≢ 6)) }
 
     // When each status comes.
@@ -289,13 +276,13 @@ pub fn tapestry<S: Source, K: Sink, P: Keeper, L: Ledger>(
 
     // A script over a store that a session left: how it ended, by the status, and what a crash leaves.
     ensures script { sample_in words.now ≡ None →
-        FromStore (P.honest keeper.new) (P.tells keeper.old) (P.may_leave keeper.old) (λ t.
+        FromStore P.Keeper keeper.old keeper.new (λ t.
         ScriptEnds result t (S.left source.old) (S.left source.new) (K.out sink.old) (K.out sink.new)
         (P.has_version keeper.old) (P.tells keeper.new) (P.may_leave keeper.new)) }
 
     // A sample over such a store: how it ended, by the status, and what a crash leaves; nothing is read.
     ensures sample { (n : ℕ) → sample_in words.now ≡ Some n →
-        FromStore (P.honest keeper.new) (P.tells keeper.old) (P.may_leave keeper.old) (λ t.
+        FromStore P.Keeper keeper.old keeper.new (λ t.
         SampleEnds result t n (K.out sink.old) (K.out sink.new)
         (P.has_version keeper.old) (P.tells keeper.new) (P.may_leave keeper.new)) }
     ensures sample_silent { (n : ℕ) → sample_in words.now ≡ Some n → (result ≡ 5) ⊎ (result ≡ 7) →
@@ -304,23 +291,23 @@ pub fn tapestry<S: Source, K: Sink, P: Keeper, L: Ledger>(
         (S.left source.new ≡ S.left source.old) × ((result ≢ 3) × (result ≢ 8)) }
 
     // Whatever a crash leaves, and what the keeper tells, the next session may begin with it.
-    ensures kept { FromStore (P.honest keeper.new) (P.tells keeper.old) (P.may_leave keeper.old) (λ t.
+    ensures kept { FromStore P.Keeper keeper.old keeper.new (λ t.
         (x : Tables) → P.may_leave keeper.new x → IsStore x) }
-    ensures told { FromStore (P.honest keeper.new) (P.tells keeper.old) (P.may_leave keeper.old) (λ t.
+    ensures told { FromStore P.Keeper keeper.old keeper.new (λ t.
         result ≢ 5 → (x : Tables) → P.tells keeper.new x → IsStore x) }
 
     // The version of the store after.
-    ensures version { FromStore (P.honest keeper.new) (P.tells keeper.old) (P.may_leave keeper.old) (λ t.
+    ensures version { FromStore P.Keeper keeper.old keeper.new (λ t.
         VersionAtExit result (P.has_version keeper.old) (P.has_version keeper.new)) }
 
     // A store is refused if and only if its version isn't known or one of its rows is damaged.
-    ensures refused { FromVersion (P.honest keeper.new) (P.tells keeper.old) (P.may_leave keeper.old) (P.has_version keeper.old) (λ t v.
+    ensures refused { FromVersion P.Keeper keeper.old keeper.new (λ t v.
         (fault : StoreFaultOf) → fault_of v t ≡ Some fault →
         Refused result fault (S.left source.old) (S.left source.new) (K.out sink.old) (K.out sink.new)
         (P.tells keeper.new) (P.may_leave keeper.new) t) }
-    ensures fine { FromVersion (P.honest keeper.new) (P.tells keeper.old) (P.may_leave keeper.old) (P.has_version keeper.old) (λ t v.
+    ensures fine { FromVersion P.Keeper keeper.old keeper.new (λ t v.
         fault_of v t ≡ None → result ≢ 6) }
-    ensures known { FromStore (P.honest keeper.new) (P.tells keeper.old) (P.may_leave keeper.old) (λ t.
+    ensures known { FromStore P.Keeper keeper.old keeper.new (λ t.
         IfKnown (P.has_version keeper.old) (result ≢ 6)) }
 
     // When each status comes.

@@ -1,3 +1,4 @@
+use Rattle.std.proofs.Common.{rules}
 use Rattle.tap_model.specs.Stories.{next_tables}
 use Rattle.tap_model.proofs.SoundLaws.{sound-for, step-sound}
 use Rattle.tap_top.specs.Points.{EngineMatchesKeeper}
@@ -24,11 +25,20 @@ pub returns-clause-put : goal.returns-clause-put
 returns-clause-put g c = λ _ t honest at.
     CutOff-one t _ c.args.command c.in-Ok.reply _ _ _ (next_tables c.args.command c.in-Ok.reply c.args.engine.now.session t) _ c.in-Err.field-0 at.sound (c.in-Ok.ensures.step t at.represents (sound-for c.args.command t c.args.engine.now.session at.sound)) c.in-Err.ensures.err (c.in-Ok.ensures.kept t at.represents (sound-for c.args.command t c.args.engine.now.session at.sound) honest at.holds)
 
-pub returns-in-Err-KeeperFailed-clause-version : goal.returns-in-Err-KeeperFailed-clause-version
-returns-in-Err-KeeperFailed-clause-version g c = λ t honest at. c.in-Err-KeeperFailed.ensures.version t at.represents (sound-for c.args.command t c.args.engine.now.session at.sound) honest at.holds.told
+pub returns-in-Err-KeeperFailed-clause-frame : goal.returns-in-Err-KeeperFailed-clause-frame
+returns-in-Err-KeeperFailed-clause-frame g c = record {
+  keeper = search rules;
+  version = λ t honest at. c.in-Err-KeeperFailed.ensures.version t at.represents (sound-for c.args.command t c.args.engine.now.session at.sound) honest at.holds.told;
+}
 
-pub returns-in-Ok-put_reply-clause-version : goal.returns-in-Ok-put_reply-clause-version
-returns-in-Ok-put_reply-clause-version g c = λ t honest at. c.in-Ok.ensures.version t at.represents (sound-for c.args.command t c.args.engine.now.session at.sound) honest at.holds.told
+pub returns-in-Ok-put_reply-clause-frame : goal.returns-in-Ok-put_reply-clause-frame
+returns-in-Ok-put_reply-clause-frame g c = record {
+  keeper = search rules;
+  version = λ t honest at. c.in-Ok.ensures.version t at.represents (sound-for c.args.command t c.args.engine.now.session at.sound) honest at.holds.told;
+}
 
-pub returns-clause-version : goal.returns-clause-version
-returns-clause-version g c = λ t honest at. c.in-Ok.ensures.version t at.represents (sound-for c.args.command t c.args.engine.now.session at.sound) honest at.holds.told
+pub returns-clause-frame : goal.returns-clause-frame
+returns-clause-frame g c = record {
+  keeper = search rules;
+  version = λ t honest at. c.in-Ok.ensures.version t at.represents (sound-for c.args.command t c.args.engine.now.session at.sound) honest at.holds.told;
+}

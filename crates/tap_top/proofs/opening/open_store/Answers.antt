@@ -15,7 +15,7 @@ use Rattle.tap_top.proofs.opening.open_store.Goals as goal
 pub returns-in-Ok-clause-represents : goal.returns-in-Ok-clause-represents
 returns-in-Ok-clause-represents g c =
     if-ok c.start.result (λ engine. Represents engine c.in-Ok.tables)
-    (λ engine. IfTold (g.P.Keeper.honest c.attach.new.self) (g.P.Keeper.tells c.args.keeper.now) (λ t. Represents engine t))
+    (λ engine. IfTold g.P.Keeper c.args.keeper.now c.attach.new.self (λ t. Represents engine t))
     (λ engine represents. λ honest t told. subst (λ (u : Tables). Represents engine u) (sym (c.in-Ok.ensures.given honest t told)) represents)
     c.start.ensures.represents
 
@@ -27,14 +27,14 @@ returns-in-Ok-clause-short g c =
 pub returns-in-Ok-clause-sure : goal.returns-in-Ok-clause-sure
 returns-in-Ok-clause-sure g c =
     on-ok c.start.result (row_fault c.in-Ok.tables ≡ None)
-    (IfTold (g.P.Keeper.honest c.attach.new.self) (g.P.Keeper.tells c.args.keeper.now) (λ t. (v : ℤ) → g.P.Keeper.has_version c.args.keeper.now v → fault_of v t ≡ None))
+    (IfTold g.P.Keeper c.args.keeper.now c.attach.new.self (λ t. (v : ℤ) → g.P.Keeper.has_version c.args.keeper.now v → fault_of v t ≡ None))
     (λ none. λ honest t told v has. no-fault t c.in-Ok.tables v (c.in-Ok.ensures.given honest t told) none (c.in-Ok.ensures.known honest v has))
     c.start.ensures.sure
 
 pub returns-in-Ok-clause-version : goal.returns-in-Ok-clause-version
 returns-in-Ok-clause-version g c =
     on-ok c.start.result (row_fault c.in-Ok.tables ≡ None)
-    (IfTold (g.P.Keeper.honest c.attach.new.self) (g.P.Keeper.tells c.args.keeper.now) (λ t. g.P.Keeper.has_version c.attach.new.self (pos 2)))
+    (IfTold g.P.Keeper c.args.keeper.now c.attach.new.self (λ t. g.P.Keeper.has_version c.attach.new.self (pos 2)))
     (λ none honest t told. c.in-Ok.ensures.version honest t
     (c.in-Ok.ensures.kept honest t told (not-stopped (g.P.Keeper.stopped c.attach.new.self) c.in-Ok.ensures.stopped.0 (λ e. cc))).told)
     c.start.ensures.sure
@@ -48,7 +48,7 @@ returns-in-Ok-clause-known g c =
 pub returns-in-Ok-clause-migrated : goal.returns-in-Ok-clause-migrated
 returns-in-Ok-clause-migrated g c =
     each-refused c.start.result
-    (IfTold (g.P.Keeper.honest c.attach.new.self) (g.P.Keeper.tells c.args.keeper.now) (λ t. (v : ℤ) → g.P.Keeper.has_version c.args.keeper.now v → IsMigrated v (g.P.Keeper.has_version c.attach.new.self)))
+    (IfTold g.P.Keeper c.args.keeper.now c.attach.new.self (λ t. (v : ℤ) → g.P.Keeper.has_version c.args.keeper.now v → IsMigrated v (g.P.Keeper.has_version c.attach.new.self)))
     (λ honest t told v has. known-migrated v (g.P.Keeper.has_version c.attach.new.self) (c.in-Ok.ensures.known honest v has)
     (c.in-Ok.ensures.version honest t (c.in-Ok.ensures.kept honest t told (not-stopped (g.P.Keeper.stopped c.attach.new.self) c.in-Ok.ensures.stopped.0 (λ e. cc))).told))
 

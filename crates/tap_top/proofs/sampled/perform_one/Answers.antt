@@ -1,3 +1,4 @@
+use Rattle.std.proofs.Common.{rules}
 use Rattle.tap_model.specs.Stories.{next_tables}
 use Rattle.tap_model.proofs.SoundLaws.{sound-for, step-sound}
 use Rattle.tap_top.specs.Points.{EngineMatchesKeeper}
@@ -25,11 +26,20 @@ pub returns-clause-memory : goal.returns-clause-memory
 returns-clause-memory g c = λ _ t honest at.
     FirstPerformed-one t _ c.args.command c.in-Ok.reply _ (next_tables c.args.command c.in-Ok.reply c.args.engine.now.session t) _ at.sound (c.in-Ok.ensures.step t at.represents (sound-for c.args.command t c.args.engine.now.session at.sound)) (c.in-Ok.ensures.kept t at.represents (sound-for c.args.command t c.args.engine.now.session at.sound) honest at.holds)
 
-pub returns-in-Err-KeeperFailed-clause-version : goal.returns-in-Err-KeeperFailed-clause-version
-returns-in-Err-KeeperFailed-clause-version g c = λ t honest at. c.in-Err-KeeperFailed.ensures.version t at.represents (sound-for c.args.command t c.args.engine.now.session at.sound) honest at.holds.told
+pub returns-in-Err-KeeperFailed-clause-frame : goal.returns-in-Err-KeeperFailed-clause-frame
+returns-in-Err-KeeperFailed-clause-frame g c = record {
+  keeper = search rules;
+  version = λ t honest at. c.in-Err-KeeperFailed.ensures.version t at.represents (sound-for c.args.command t c.args.engine.now.session at.sound) honest at.holds.told;
+}
 
-pub returns-in-Some-clause-version : goal.returns-in-Some-clause-version
-returns-in-Some-clause-version g c = λ t honest at. c.in-Ok.ensures.version t at.represents (sound-for c.args.command t c.args.engine.now.session at.sound) honest at.holds.told
+pub returns-in-Some-clause-frame : goal.returns-in-Some-clause-frame
+returns-in-Some-clause-frame g c = record {
+  keeper = search rules;
+  version = λ t honest at. c.in-Ok.ensures.version t at.represents (sound-for c.args.command t c.args.engine.now.session at.sound) honest at.holds.told;
+}
 
-pub returns-clause-version : goal.returns-clause-version
-returns-clause-version g c = λ t honest at. c.in-Ok.ensures.version t at.represents (sound-for c.args.command t c.args.engine.now.session at.sound) honest at.holds.told
+pub returns-clause-frame : goal.returns-clause-frame
+returns-clause-frame g c = record {
+  keeper = search rules;
+  version = λ t honest at. c.in-Ok.ensures.version t at.represents (sound-for c.args.command t c.args.engine.now.session at.sound) honest at.holds.told;
+}

@@ -17,23 +17,23 @@ pieces-init g c = record {
   can = c.requires.can;
   reads = refl;
   puts = refl;
-  keeper = KeeperFrame-start _ _ _ _;
+  keeper = KeeperFrame-start g.P.Keeper _;
   version = λ t honest at v has. has;
 }
 
 pub pieces-preserved : goal.pieces-preserved
 pieces-preserved g c = record {
   taking = Taking-more _ _ _ _ c.in-Ok.n c.piece.new.into c.pieces.invariant.taking c.in-Ok.ensures.bound.0 c.in-Ok.ensures.bytes.0;
-  running = λ t honest at. Running-more _ _ _ _ c.in-Ok.n c.least-room.result c.piece.new.into _ _ t _ _ _ _ _ _ _ _ c.in-Ok-feed.ok (c.pieces.invariant.running t (c.in-Ok-feed.ensures.frame.before honest) at) c.pieces-test.true c.in-Ok.ensures.bound.0 c.in-Ok.ensures.bytes.0 c.least-room.ensures (λ t1 there. c.in-Ok-feed.ensures.ok t1 honest there);
+  running = λ t honest at. Running-more _ _ _ _ c.in-Ok.n c.least-room.result c.piece.new.into _ _ t _ _ _ _ _ _ _ _ c.in-Ok-feed.ok (c.pieces.invariant.running t (c.in-Ok-feed.ensures.frame.keeper.before honest) at) c.pieces-test.true c.in-Ok.ensures.bound.0 c.in-Ok.ensures.bytes.0 c.least-room.ensures (λ t1 there. c.in-Ok-feed.ensures.ok t1 honest there);
   few = few-taken _ c.in-Ok.n c.pieces-test.true (let within : c.in-Ok.n ≤ PIECE = grind (arith, c.in-Ok.ensures.bound) in within);
   ended = c.in-Ok-feed.ensures.open;
   can = c.in-Ok-feed.ensures.can;
   reads = c.in-Ok.ensures.cause.fine ∙ c.pieces.invariant.reads;
   puts = c.in-Ok-feed.ensures.calm (λ e. cc) ∙ c.pieces.invariant.puts;
-  keeper = KeeperFrame-then _ _ _ _ _ _ _ _ _ _ _ c.pieces.invariant.can.keeping c.pieces.invariant.keeper c.in-Ok-feed.ensures.frame;
+  keeper = KeeperFrame-then g.P.Keeper _ _ _ c.pieces.invariant.can.keeping c.pieces.invariant.keeper c.in-Ok-feed.ensures.frame.keeper;
   version = λ t honest at v has.
-      let ran = (c.pieces.invariant.running t (c.in-Ok-feed.ensures.frame.before honest) at).answered_piece.answered in
-      c.in-Ok-feed.ensures.version ran.tables' honest ran.ends c.in-Ok-feed.ensures.can.keeping v (c.pieces.invariant.version t (c.in-Ok-feed.ensures.frame.before honest) at v has);
+      let ran = (c.pieces.invariant.running t (c.in-Ok-feed.ensures.frame.keeper.before honest) at).answered_piece.answered in
+      c.in-Ok-feed.ensures.frame.version ran.tables' honest ran.ends c.in-Ok-feed.ensures.can.keeping v (c.pieces.invariant.version t (c.in-Ok-feed.ensures.frame.keeper.before honest) at v has);
 }
 
 pub returns-in-Err-clause-ends : goal.returns-in-Err-clause-ends
@@ -44,59 +44,77 @@ pub returns-then-n-eq0-clause-ends : goal.returns-then-n-eq0-clause-ends
 returns-then-n-eq0-clause-ends g c = λ t honest at.
     let some : 0 < length c.piece.new.into = grind arith in
     closed-ends t _ _ _ _ _ _ c.close.result c.close.ensures.statuses
-    (λ low. Running-closed _ _ _ _ _ t _ _ _ _ _ _ _ (c.close.result == 0) (c.pieces.invariant.running t (c.close.ensures.frame.before honest) at) c.pieces-test.true (none-taken _ _ c.in-Ok.n c.piece.new.into c.if-n-eq0.true c.in-Ok.ensures.bytes.0) (c.in-Ok.ensures.bytes.1 c.if-n-eq0.true some) (λ t1 there. c.close.ensures.whole low t1 honest there))
-    (λ is. Running-end-cut _ _ _ _ _ t _ _ _ _ _ _ _ (c.pieces.invariant.running t (c.close.ensures.frame.before honest) at) c.pieces-test.true (none-taken _ _ c.in-Ok.n c.piece.new.into c.if-n-eq0.true c.in-Ok.ensures.bytes.0) (c.in-Ok.ensures.bytes.1 c.if-n-eq0.true some) (λ t1 there. c.close.ensures.put is t1 honest there))
-    (λ is. Running-end-uncommitted _ _ _ _ _ t _ _ _ _ _ _ _ (c.pieces.invariant.running t (c.close.ensures.frame.before honest) at) c.pieces-test.true (none-taken _ _ c.in-Ok.n c.piece.new.into c.if-n-eq0.true c.in-Ok.ensures.bytes.0) (c.in-Ok.ensures.bytes.1 c.if-n-eq0.true some) (λ t1 there. c.close.ensures.uncommitted is t1 honest there))
+    (λ low. Running-closed _ _ _ _ _ t _ _ _ _ _ _ _ (c.close.result == 0) (c.pieces.invariant.running t (c.close.ensures.frame.keeper.before honest) at) c.pieces-test.true (none-taken _ _ c.in-Ok.n c.piece.new.into c.if-n-eq0.true c.in-Ok.ensures.bytes.0) (c.in-Ok.ensures.bytes.1 c.if-n-eq0.true some) (λ t1 there. c.close.ensures.whole low t1 honest there))
+    (λ is. Running-end-cut _ _ _ _ _ t _ _ _ _ _ _ _ (c.pieces.invariant.running t (c.close.ensures.frame.keeper.before honest) at) c.pieces-test.true (none-taken _ _ c.in-Ok.n c.piece.new.into c.if-n-eq0.true c.in-Ok.ensures.bytes.0) (c.in-Ok.ensures.bytes.1 c.if-n-eq0.true some) (λ t1 there. c.close.ensures.put is t1 honest there))
+    (λ is. Running-end-uncommitted _ _ _ _ _ t _ _ _ _ _ _ _ (c.pieces.invariant.running t (c.close.ensures.frame.keeper.before honest) at) c.pieces-test.true (none-taken _ _ c.in-Ok.n c.piece.new.into c.if-n-eq0.true c.in-Ok.ensures.bytes.0) (c.in-Ok.ensures.bytes.1 c.if-n-eq0.true some) (λ t1 there. c.close.ensures.uncommitted is t1 honest there))
     (λ is.
     let same = c.close.ensures.memory is in
     OutOfMemory-same t _ _ _ _ _ _ same.1.1
-    (Running-end-short _ _ _ _ _ t _ _ _ _ _ _ (λ x there. subst (λ k. IsDurable (g.P.Keeper.tells k) (g.P.Keeper.may_leave k) x) (sym same.0) there.holds) (c.pieces.invariant.running t (c.close.ensures.frame.before honest) at) c.pieces-test.true (none-taken _ _ c.in-Ok.n c.piece.new.into c.if-n-eq0.true c.in-Ok.ensures.bytes.0)))
+    (Running-end-short _ _ _ _ _ t _ _ _ _ _ _ (λ x there. subst (λ k. IsDurable (g.P.Keeper.tells k) (g.P.Keeper.may_leave k) x) (sym same.0) there.holds) (c.pieces.invariant.running t (c.close.ensures.frame.keeper.before honest) at) c.pieces-test.true (none-taken _ _ c.in-Ok.n c.piece.new.into c.if-n-eq0.true c.in-Ok.ensures.bytes.0)))
 
 pub returns-in-Err-Put-clause-ends : goal.returns-in-Err-Put-clause-ends
 returns-in-Err-Put-clause-ends g c = λ t honest at.
     let within : c.in-Ok.n ≤ PIECE = grind (arith, c.in-Ok.ensures.bound) in
     put-ends t _ _ _ _ _ _
-    (Running-cut _ _ _ _ c.in-Ok.n c.least-room.result c.piece.new.into _ t _ _ _ _ _ _ _ (c.pieces.invariant.running t (c.in-Err-Put.ensures.frame.before honest) at) c.pieces-test.true within c.in-Ok.ensures.bytes.0 c.least-room.ensures (λ t1 there. c.in-Err-Put.ensures.put (ap Err c.in-Err-Put.field-0-is) t1 honest there))
+    (Running-cut _ _ _ _ c.in-Ok.n c.least-room.result c.piece.new.into _ t _ _ _ _ _ _ _ (c.pieces.invariant.running t (c.in-Err-Put.ensures.frame.keeper.before honest) at) c.pieces-test.true within c.in-Ok.ensures.bytes.0 c.least-room.ensures (λ t1 there. c.in-Err-Put.ensures.put (ap Err c.in-Err-Put.field-0-is) t1 honest there))
 
 pub returns-in-Err-Keeper-clause-ends : goal.returns-in-Err-Keeper-clause-ends
 returns-in-Err-Keeper-clause-ends g c = λ t honest at.
     let within : c.in-Ok.n ≤ PIECE = grind (arith, c.in-Ok.ensures.bound) in
     uncommitted-ends t _ _ _ _ _ _
-    (Running-uncommitted _ _ _ _ c.in-Ok.n c.least-room.result c.piece.new.into _ t _ _ _ _ _ _ _ (c.pieces.invariant.running t (c.in-Err-Keeper.ensures.frame.before honest) at) c.pieces-test.true within c.in-Ok.ensures.bytes.0 c.least-room.ensures (λ t1 there. c.in-Err-Keeper.ensures.uncommitted (ap Err c.in-Err-Keeper.field-0-is) t1 honest there))
+    (Running-uncommitted _ _ _ _ c.in-Ok.n c.least-room.result c.piece.new.into _ t _ _ _ _ _ _ _ (c.pieces.invariant.running t (c.in-Err-Keeper.ensures.frame.keeper.before honest) at) c.pieces-test.true within c.in-Ok.ensures.bytes.0 c.least-room.ensures (λ t1 there. c.in-Err-Keeper.ensures.uncommitted (ap Err c.in-Err-Keeper.field-0-is) t1 honest there))
 
 pub returns-in-Err-Memory-clause-ends : goal.returns-in-Err-Memory-clause-ends
 returns-in-Err-Memory-clause-ends g c = λ t honest at.
     let within : c.in-Ok.n ≤ PIECE = grind (arith, c.in-Ok.ensures.bound) in
     memory-ends t _ _ _ _ _ _
-    (Running-short _ _ _ _ c.in-Ok.n c.least-room.result c.piece.new.into _ t _ _ _ _ _ _ _ (c.pieces.invariant.running t (c.in-Err-Memory.ensures.frame.before honest) at) c.pieces-test.true within c.in-Ok.ensures.bytes.0 c.least-room.ensures (λ t1 there. c.in-Err-Memory.ensures.memory (ap Err c.in-Err-Memory.field-0-is) t1 honest there))
+    (Running-short _ _ _ _ c.in-Ok.n c.least-room.result c.piece.new.into _ t _ _ _ _ _ _ _ (c.pieces.invariant.running t (c.in-Err-Memory.ensures.frame.keeper.before honest) at) c.pieces-test.true within c.in-Ok.ensures.bytes.0 c.least-room.ensures (λ t1 there. c.in-Err-Memory.ensures.memory (ap Err c.in-Err-Memory.field-0-is) t1 honest there))
 
 pub returns-clause-ends : goal.returns-clause-ends
 returns-clause-ends g c = λ t honest at.
     long-ends t _ _ _ _ _ _
     (Running-long _ _ _ _ t _ _ _ _ _ _ (λ x there. there.holds) (c.pieces.invariant.running t honest at) (let e = c.pieces-test.false in omega arith) c.pieces.invariant.few)
 
-pub returns-in-Err-clause-version : goal.returns-in-Err-clause-version
-returns-in-Err-clause-version g c = λ t honest at runs v has. c.pieces.invariant.version t honest at v has
+pub returns-in-Err-clause-frame : goal.returns-in-Err-clause-frame
+returns-in-Err-clause-frame g c = record {
+  keeper = c.pieces.invariant.keeper;
+  version = λ t honest at runs v has. c.pieces.invariant.version t honest at v has;
+}
 
-pub returns-then-n-eq0-clause-version : goal.returns-then-n-eq0-clause-version
-returns-then-n-eq0-clause-version g c = λ t honest at runs v has.
-    let ran = (c.pieces.invariant.running t (c.close.ensures.frame.before honest) at).answered_piece.answered in
-    c.close.ensures.version ran.tables' honest ran.ends runs v (c.pieces.invariant.version t (c.close.ensures.frame.before honest) at v has)
+pub returns-then-n-eq0-clause-frame : goal.returns-then-n-eq0-clause-frame
+returns-then-n-eq0-clause-frame g c = record {
+  keeper = KeeperFrame-then g.P.Keeper _ _ _ c.pieces.invariant.can.keeping c.pieces.invariant.keeper c.close.ensures.frame.keeper;
+  version = λ t honest at runs v has.
+      let ran = (c.pieces.invariant.running t (c.close.ensures.frame.keeper.before honest) at).answered_piece.answered in
+      c.close.ensures.frame.version ran.tables' honest ran.ends runs v (c.pieces.invariant.version t (c.close.ensures.frame.keeper.before honest) at v has);
+}
 
-pub returns-in-Err-Put-clause-version : goal.returns-in-Err-Put-clause-version
-returns-in-Err-Put-clause-version g c = λ t honest at runs v has.
-    let ran = (c.pieces.invariant.running t (c.in-Err-Put.ensures.frame.before honest) at).answered_piece.answered in
-    c.in-Err-Put.ensures.version ran.tables' honest ran.ends runs v (c.pieces.invariant.version t (c.in-Err-Put.ensures.frame.before honest) at v has)
+pub returns-in-Err-Put-clause-frame : goal.returns-in-Err-Put-clause-frame
+returns-in-Err-Put-clause-frame g c = record {
+  keeper = KeeperFrame-then g.P.Keeper _ _ _ c.pieces.invariant.can.keeping c.pieces.invariant.keeper c.in-Err-Put.ensures.frame.keeper;
+  version = λ t honest at runs v has.
+      let ran = (c.pieces.invariant.running t (c.in-Err-Put.ensures.frame.keeper.before honest) at).answered_piece.answered in
+      c.in-Err-Put.ensures.frame.version ran.tables' honest ran.ends runs v (c.pieces.invariant.version t (c.in-Err-Put.ensures.frame.keeper.before honest) at v has);
+}
 
-pub returns-in-Err-Keeper-clause-version : goal.returns-in-Err-Keeper-clause-version
-returns-in-Err-Keeper-clause-version g c = λ t honest at runs v has.
-    let ran = (c.pieces.invariant.running t (c.in-Err-Keeper.ensures.frame.before honest) at).answered_piece.answered in
-    c.in-Err-Keeper.ensures.version ran.tables' honest ran.ends runs v (c.pieces.invariant.version t (c.in-Err-Keeper.ensures.frame.before honest) at v has)
+pub returns-in-Err-Keeper-clause-frame : goal.returns-in-Err-Keeper-clause-frame
+returns-in-Err-Keeper-clause-frame g c = record {
+  keeper = KeeperFrame-then g.P.Keeper _ _ _ c.pieces.invariant.can.keeping c.pieces.invariant.keeper c.in-Err-Keeper.ensures.frame.keeper;
+  version = λ t honest at runs v has.
+      let ran = (c.pieces.invariant.running t (c.in-Err-Keeper.ensures.frame.keeper.before honest) at).answered_piece.answered in
+      c.in-Err-Keeper.ensures.frame.version ran.tables' honest ran.ends runs v (c.pieces.invariant.version t (c.in-Err-Keeper.ensures.frame.keeper.before honest) at v has);
+}
 
-pub returns-in-Err-Memory-clause-version : goal.returns-in-Err-Memory-clause-version
-returns-in-Err-Memory-clause-version g c = λ t honest at runs v has.
-    let ran = (c.pieces.invariant.running t (c.in-Err-Memory.ensures.frame.before honest) at).answered_piece.answered in
-    c.in-Err-Memory.ensures.version ran.tables' honest ran.ends runs v (c.pieces.invariant.version t (c.in-Err-Memory.ensures.frame.before honest) at v has)
+pub returns-in-Err-Memory-clause-frame : goal.returns-in-Err-Memory-clause-frame
+returns-in-Err-Memory-clause-frame g c = record {
+  keeper = KeeperFrame-then g.P.Keeper _ _ _ c.pieces.invariant.can.keeping c.pieces.invariant.keeper c.in-Err-Memory.ensures.frame.keeper;
+  version = λ t honest at runs v has.
+      let ran = (c.pieces.invariant.running t (c.in-Err-Memory.ensures.frame.keeper.before honest) at).answered_piece.answered in
+      c.in-Err-Memory.ensures.frame.version ran.tables' honest ran.ends runs v (c.pieces.invariant.version t (c.in-Err-Memory.ensures.frame.keeper.before honest) at v has);
+}
 
-pub returns-clause-version : goal.returns-clause-version
-returns-clause-version g c = λ t honest at runs v has. c.pieces.invariant.version t honest at v has
+pub returns-clause-frame : goal.returns-clause-frame
+returns-clause-frame g c = record {
+  keeper = c.pieces.invariant.keeper;
+  version = λ t honest at runs v has. c.pieces.invariant.version t honest at v has;
+}

@@ -1,22 +1,23 @@
 use Rattle.std.proofs.Common.{◌≡◌, ◌≤◌, ◌-◌, ◌+◌, ℤ, []}
-use Rattle.tap_rows.specs.declared.tables.Tables.{Tables}
 use Rattle.script_lang.specs.Script.{complete_from}
 use Rattle.tap_top.specs.declared.top.TheConstants.{SCRIPT_LIMIT, PIECE}
-use Rattle.tap_top.specs.Points.{CanPerform, EngineMatchesKeeper, KeeperFrame}
+use Rattle.tap_top.specs.Points.{CanPerform}
+use Rattle.tap_top.specs.Premises.{AgreeOn, FromEngine}
+use Rattle.tap_top.specs.Frames.{KeeperFrame}
 use Rattle.tap_top.proofs.Runs.{Taking, Running}
 use Rattle.tap_top.proofs.top.run.Given as goal
 
 abbrev pub invariant-pieces : goal.invariant-pieces
 invariant-pieces g l = record {
   taking : Taking (g.S.Source.left l.fn.source) (g.S.Source.left l.source) l.taken;
-  running : (t : Tables) → g.P.Keeper.honest l.keeper → EngineMatchesKeeper l.fn.engine (g.P.Keeper.tells l.fn.keeper) (g.P.Keeper.may_leave l.fn.keeper) t → Running (g.S.Source.left l.fn.source) (g.S.Source.left l.source) l.taken l.reader t (g.K.Sink.out l.fn.sink) (g.K.Sink.out l.sink) (EngineMatchesKeeper l.engine (g.P.Keeper.tells l.keeper) (g.P.Keeper.may_leave l.keeper)) l.engine.session l.all_ok;
+  running : FromEngine g.P.Keeper l.fn.engine l.fn.keeper l.keeper (λ t. Running (g.S.Source.left l.fn.source) (g.S.Source.left l.source) l.taken l.reader t (g.K.Sink.out l.fn.sink) (g.K.Sink.out l.sink) (AgreeOn g.P.Keeper l.engine l.keeper) l.engine.session l.all_ok);
   few : l.taken ≤ SCRIPT_LIMIT + PIECE;
   ended : complete_from l.reader [] ≡ [];
   can : CanPerform l.engine (g.P.Keeper.attached l.keeper) (g.P.Keeper.stopped l.keeper);
   reads : g.S.Source.faults l.source ≡ g.S.Source.faults l.fn.source;
   puts : g.K.Sink.faults l.sink ≡ g.K.Sink.faults l.fn.sink;
-  keeper : KeeperFrame (g.P.Keeper.place l.fn.keeper) (g.P.Keeper.place l.keeper) (g.P.Keeper.faults l.fn.keeper) (g.P.Keeper.faults l.keeper) (g.P.Keeper.honest l.fn.keeper) (g.P.Keeper.honest l.keeper) (g.P.Keeper.stopped l.keeper);
-  version : (t : Tables) → g.P.Keeper.honest l.keeper → EngineMatchesKeeper l.fn.engine (g.P.Keeper.tells l.fn.keeper) (g.P.Keeper.may_leave l.fn.keeper) t → (v : ℤ) → g.P.Keeper.has_version l.fn.keeper v → g.P.Keeper.has_version l.keeper v;
+  keeper : KeeperFrame g.P.Keeper l.fn.keeper l.keeper;
+  version : FromEngine g.P.Keeper l.fn.engine l.fn.keeper l.keeper (λ t. (v : ℤ) → g.P.Keeper.has_version l.fn.keeper v → g.P.Keeper.has_version l.keeper v);
 }
 
 abbrev pub decreases-pieces : goal.decreases-pieces
