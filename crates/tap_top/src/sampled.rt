@@ -188,32 +188,6 @@ fn run_sample<K: Sink, P: Keeper, L: Ledger>(
     put_summary(summary, sink)
 }
 
-// Runs a sample with an engine of its own. It is dropped here, where nothing else is done, as in `run_with`.
-fn sample_with<K: Sink, P: Keeper, L: Ledger>(
-    alloc: Global,
-    n: u32,
-    sink: &mut K,
-    mut engine: Engine,
-    keeper: &mut P,
-    steps: &mut Steps<L>,
-) -> u8
-    requires some { 1 ≤ n }
-    requires few { n ≤ 100000 }
-    requires can { CanPerform engine (P.attached keeper.old) (P.stopped keeper.old) }
-    requires session { engine.session ≡ no_session }
-    ensures ends { FromEngine P.Keeper engine keeper.old keeper.new (λ t.
-        EngineSampleEnds result t n (K.out sink.old) (K.out sink.new) (P.tells keeper.new) (P.may_leave keeper.new)) }
-    ensures silent { (result ≡ 5) ⊎ (result ≡ 7) → K.out sink.new ≡ K.out sink.old }
-    ensures statuses { result ≤ 1 ⊎ (result ≡ 4 ⊎ (result ≡ 5 ⊎ result ≡ 7)) }
-    ensures stopped { (P.stopped keeper.new ≡ true) ↔ (result ≡ 5) }
-    ensures cause { result ≡ 4 → Rose (K.faults sink.old) (K.faults sink.new) }
-    ensures calm { result ≢ 4 → K.faults sink.new ≡ K.faults sink.old }
-    ensures kept_cause { result ≡ 5 → Rose (P.faults keeper.old) (P.faults keeper.new) }
-    ensures frame { CommandFrame P.Keeper engine keeper.old keeper.new }
-{
-    run_sample(alloc, n, sink, &mut engine, keeper, steps)
-}
-
 /// Attaches the keeper at a place, checks its tables, performs the commands of a sample with `n` messages, and puts its
 /// summary; returns the status of the run. No replies are put.
 pub fn sample_store<K: Sink, P: Keeper, L: Ledger>(
@@ -258,7 +232,11 @@ pub fn sample_store<K: Sink, P: Keeper, L: Ledger>(
     ensures place { (result ≡ 7) ⊎ (P.place keeper.new ≡ place.now) }
 {
     match open_store(alloc, key, place, keeper) {
-        Ok(engine) => sample_with(alloc, n, sink, engine, keeper, steps),
+        Ok(mut engine) => {
+            let status = run_sample(alloc, n, sink, &mut engine, keeper, steps);
+            drop(engine);
+            status
+        }
         Err(OpenFault::Refused(fault)) => refuse(fault, sink),
         Err(OpenFault::Keeper) => 5,
         Err(OpenFault::Memory) => 7,

@@ -151,35 +151,6 @@ fn run<S: Source, K: Sink, P: Keeper, L: Ledger>(
     8
 }
 
-// Runs with an engine of its own. It is dropped here, where nothing else is done: each of its fields is one step more for the
-// search for a proof.
-fn run_with<S: Source, K: Sink, P: Keeper, L: Ledger>(
-    alloc: Global,
-    source: &mut S,
-    sink: &mut K,
-    mut engine: Engine,
-    keeper: &mut P,
-    steps: &mut Steps<L>,
-) -> u8
-    requires can { CanPerform engine (P.attached keeper.old) (P.stopped keeper.old) }
-    requires session { engine.session ≡ no_session }
-    ensures ends { FromEngine P.Keeper engine keeper.old keeper.new (λ t.
-        EngineScriptEnds result t (S.left source.old) (S.left source.new) (K.out sink.old) (K.out sink.new)
-        (P.tells keeper.new) (P.may_leave keeper.new)) }
-    ensures many { result ≡ 8 → TookMany (S.left source.old) (S.left source.new) }
-    ensures statuses { result ≤ 1 ⊎ (result ≡ 3 ⊎ (result ≡ 4 ⊎ (result ≡ 5 ⊎ (result ≡ 7 ⊎ result ≡ 8)))) }
-    ensures stopped { (P.stopped keeper.new ≡ true) ↔ (result ≡ 5) }
-    ensures read_cause { result ≡ 3 → Rose (S.faults source.old) (S.faults source.new) }
-    ensures read_calm { result ≢ 3 → S.faults source.new ≡ S.faults source.old }
-    ensures put_cause { result ≡ 4 → Rose (K.faults sink.old) (K.faults sink.new) }
-    ensures put_calm { result ≢ 4 → K.faults sink.new ≡ K.faults sink.old }
-    ensures ended { result ≤ 1 → IsAtEnd (S.left source.new) }
-    ensures kept_cause { result ≡ 5 → Rose (P.faults keeper.old) (P.faults keeper.new) }
-    ensures frame { CommandFrame P.Keeper engine keeper.old keeper.new }
-{
-    run(alloc, source, sink, &mut engine, keeper, steps)
-}
-
 // Attaches the keeper at a place, checks its tables, and performs the commands of the source; returns the status of the run.
 fn run_store<S: Source, K: Sink, P: Keeper, L: Ledger>(
     alloc: Global,
@@ -227,7 +198,11 @@ fn run_store<S: Source, K: Sink, P: Keeper, L: Ledger>(
     ensures place { (result ≡ 7) ⊎ (P.place keeper.new ≡ place.now) }
 {
     match open_store(alloc, key, place, keeper) {
-        Ok(engine) => run_with(alloc, source, sink, engine, keeper, steps),
+        Ok(mut engine) => {
+            let status = run(alloc, source, sink, &mut engine, keeper, steps);
+            drop(engine);
+            status
+        }
         Err(OpenFault::Refused(fault)) => refuse(fault, sink),
         Err(OpenFault::Keeper) => 5,
         Err(OpenFault::Memory) => 7,

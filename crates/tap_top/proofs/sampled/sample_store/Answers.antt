@@ -8,9 +8,9 @@ use Rattle.tap_top.proofs.sampled.sample_store.Goals as goal
 
 pub returns-in-Ok-clause-sample : goal.returns-in-Ok-clause-sample
 returns-in-Ok-clause-sample g c = λ t honest holds store.
-    let opened = c.sample_with.ensures.frame.keeper.before honest in
+    let opened = c.run_sample-status.ensures.frame.keeper.before honest in
     let at = opened-at c.in-Ok.engine _ _ t c.in-Ok.ensures.session (c.in-Ok.ensures.represents opened t holds.told) (c.in-Ok.ensures.kept opened t holds.told c.in-Ok.ensures.can.keeping) store in
-    sample-ends t c.args.n _ _ (g.P.Keeper.has_version c.args.keeper.now) (g.P.Keeper.tells c.sample_with.new.keeper) (g.P.Keeper.may_leave c.sample_with.new.keeper) c.sample_with.result c.sample_with.ensures.statuses (c.sample_with.ensures.ends t honest at)
+    sample-ends t c.args.n _ _ (g.P.Keeper.has_version c.args.keeper.now) (g.P.Keeper.tells c.run_sample-status.new.keeper) (g.P.Keeper.may_leave c.run_sample-status.new.keeper) c.run_sample-status.result c.run_sample-status.ensures.statuses (c.run_sample-status.ensures.ends t honest at)
 
 pub returns-in-Err-Refused-clause-sample : goal.returns-in-Err-Refused-clause-sample
 returns-in-Err-Refused-clause-sample g c = λ t honest holds store.
@@ -35,11 +35,11 @@ returns-in-Err-Memory-clause-refused g c = λ t honest holds v version fault is 
 
 pub returns-in-Ok-clause-version : goal.returns-in-Ok-clause-version
 returns-in-Ok-clause-version g c = λ t honest holds store.
-    let opened = c.sample_with.ensures.frame.keeper.before honest in
+    let opened = c.run_sample-status.ensures.frame.keeper.before honest in
     let at = opened-at c.in-Ok.engine _ _ t c.in-Ok.ensures.session (c.in-Ok.ensures.represents opened t holds.told) (c.in-Ok.ensures.kept opened t holds.told c.in-Ok.ensures.can.keeping) store in
-    exit-run c.sample_with.result (g.P.Keeper.stopped c.sample_with.new.keeper) (g.P.Keeper.has_version c.args.keeper.now) (g.P.Keeper.has_version c.sample_with.new.keeper)
-    (sample-not-two c.sample_with.result c.sample_with.ensures.statuses) c.sample_with.ensures.stopped.0
-    (λ runs. c.sample_with.ensures.frame.version t honest at runs _ (c.in-Ok.ensures.version opened t holds.told)) (c.in-Ok.ensures.known opened)
+    exit-run c.run_sample-status.result (g.P.Keeper.stopped c.run_sample-status.new.keeper) (g.P.Keeper.has_version c.args.keeper.now) (g.P.Keeper.has_version c.run_sample-status.new.keeper)
+    (sample-not-two c.run_sample-status.result c.run_sample-status.ensures.statuses) c.run_sample-status.ensures.stopped.0
+    (λ runs. c.run_sample-status.ensures.frame.version t honest at runs _ (c.in-Ok.ensures.version opened t holds.told)) (c.in-Ok.ensures.known opened)
 
 pub returns-in-Err-Refused-clause-version : goal.returns-in-Err-Refused-clause-version
 returns-in-Err-Refused-clause-version g c = λ t honest holds store.

@@ -9,9 +9,9 @@ use Rattle.tap_top.proofs.top.run_store.Goals as goal
 
 pub returns-in-Ok-clause-script : goal.returns-in-Ok-clause-script
 returns-in-Ok-clause-script g c = λ t honest holds store.
-    let opened = c.run_with.ensures.frame.keeper.before honest in
+    let opened = c.run-status.ensures.frame.keeper.before honest in
     let at = opened-at c.in-Ok.engine _ _ t c.in-Ok.ensures.session (c.in-Ok.ensures.represents opened t holds.told) (c.in-Ok.ensures.kept opened t holds.told c.in-Ok.ensures.can.keeping) store in
-    script-ends t _ _ _ _ (g.P.Keeper.has_version c.args.keeper.now) (g.P.Keeper.tells c.run_with.new.keeper) (g.P.Keeper.may_leave c.run_with.new.keeper) c.run_with.result c.run_with.ensures.statuses (c.run_with.ensures.ends t honest at)
+    script-ends t _ _ _ _ (g.P.Keeper.has_version c.args.keeper.now) (g.P.Keeper.tells c.run-status.new.keeper) (g.P.Keeper.may_leave c.run-status.new.keeper) c.run-status.result c.run-status.ensures.statuses (c.run-status.ensures.ends t honest at)
 
 pub returns-in-Ok-clause-kept : goal.returns-in-Ok-clause-kept
 returns-in-Ok-clause-kept g c = λ t honest holds store x may. leaves-stores t _ _ _ _ _ _ store (returns-in-Ok-clause-script g c t honest holds store).crash x may
@@ -42,11 +42,11 @@ returns-in-Err-Memory-clause-refused g c = λ t honest holds v version fault is.
 
 pub returns-in-Ok-clause-version : goal.returns-in-Ok-clause-version
 returns-in-Ok-clause-version g c = λ t honest holds store.
-    let opened = c.run_with.ensures.frame.keeper.before honest in
+    let opened = c.run-status.ensures.frame.keeper.before honest in
     let at = opened-at c.in-Ok.engine _ _ t c.in-Ok.ensures.session (c.in-Ok.ensures.represents opened t holds.told) (c.in-Ok.ensures.kept opened t holds.told c.in-Ok.ensures.can.keeping) store in
-    exit-run c.run_with.result (g.P.Keeper.stopped c.run_with.new.keeper) (g.P.Keeper.has_version c.args.keeper.now) (g.P.Keeper.has_version c.run_with.new.keeper)
-    (run-not-two c.run_with.result c.run_with.ensures.statuses) c.run_with.ensures.stopped.0
-    (λ runs. c.run_with.ensures.frame.version t honest at runs _ (c.in-Ok.ensures.version opened t holds.told)) (c.in-Ok.ensures.known opened)
+    exit-run c.run-status.result (g.P.Keeper.stopped c.run-status.new.keeper) (g.P.Keeper.has_version c.args.keeper.now) (g.P.Keeper.has_version c.run-status.new.keeper)
+    (run-not-two c.run-status.result c.run-status.ensures.statuses) c.run-status.ensures.stopped.0
+    (λ runs. c.run-status.ensures.frame.version t honest at runs _ (c.in-Ok.ensures.version opened t holds.told)) (c.in-Ok.ensures.known opened)
 
 pub returns-in-Err-Refused-clause-version : goal.returns-in-Err-Refused-clause-version
 returns-in-Err-Refused-clause-version g c = λ t honest holds store.
