@@ -9,9 +9,8 @@ ghost use Rattle.command_words.specs.PopWords.{pop_place_in, user_in, box_in, se
 ghost use Rattle.command_words.specs.WellWorded.{place_of};
 ghost use Rattle.tap_base.specs.Counts.{Rose};
 ghost use Rattle.tap_rows.specs.declared.tables.Tables.{Tables};
-ghost use Rattle.tap_top.specs.declared.store_fault.StoreFault.{StoreFault as StoreFaultOf};
-ghost use Rattle.tap_top.specs.Premises.{FromDurable, FromStore, FromVersion, IfKnown, IsCalm};
-ghost use Rattle.tap_top.specs.Refusals.{fault_of, Refused};
+ghost use Rattle.tap_top.specs.Premises.{FromDurable, FromStore, IfCalm};
+ghost use Rattle.tap_top.specs.Refusals.{Refusals};
 ghost use Rattle.tap_top.specs.Versions.{VersionAtExit};
 ghost use Rattle.tap_top.specs.Opened.{HasShortTexts};
 ghost use Rattle.tap_top.specs.Causes.{Causes};
@@ -88,23 +87,15 @@ fn serve_box<S: Source, K: Sink, P: Keeper, L: Ledger>(
         Unchanged result t (P.tells keeper.new) (P.may_leave keeper.new)) }
     ensures version { FromDurable P.Keeper keeper.old keeper.new (λ t.
         VersionAtExit result (P.has_version keeper.old) (P.has_version keeper.new)) }
-    ensures refused { FromVersion P.Keeper keeper.old keeper.new (λ t v.
-        (fault : StoreFaultOf) → fault_of v t ≡ Some fault →
-        Refused result fault (S.left source.old) (S.left source.new) (K.out sink.old) (K.out sink.new)
-        (P.tells keeper.new) (P.may_leave keeper.new) t) }
-    ensures fine { FromVersion P.Keeper keeper.old keeper.new (λ t v.
-        fault_of v t ≡ None → result ≢ 6) }
-    ensures known { FromStore P.Keeper keeper.old keeper.new (λ t.
-        IfKnown (P.has_version keeper.old) (result ≢ 6)) }
+    ensures refusals { Refusals P.Keeper keeper.old keeper.new result
+        (S.left source.old) (S.left source.new) (K.out sink.old) (K.out sink.new) }
     ensures causes { Causes result (S.faults source.old) (S.faults source.new) (K.faults sink.old) (K.faults sink.new)
         (P.faults keeper.old) (P.faults keeper.new) (P.stopped keeper.new) }
     ensures many { result ≡ 8 → TookMany (S.left source.old) (S.left source.new) }
     ensures quit { result ≡ 0 → TookQuit asked.now.user asked.now.secret (S.left source.old) (S.left source.new) }
     ensures ended { result ≡ 1 → IsAtEnd (S.left source.new) }
-    ensures complete { IsCalm (S.faults source.old) (S.faults source.new) →
-        IsCalm (K.faults sink.old) (K.faults sink.new) →
-        IsCalm (P.faults keeper.old) (P.faults keeper.new) →
-        IsUndisturbed result }
+    ensures complete { IfCalm (S.faults source.old) (S.faults source.new)
+        (K.faults sink.old) (K.faults sink.new) (P.faults keeper.old) (P.faults keeper.new) (IsUndisturbed result) }
     ensures statuses { (result ≤ 9) × (result ≢ 2) }
     ensures place { (result ≡ 7) ⊎ (P.place keeper.new ≡ asked.now.place) }
 {
@@ -169,14 +160,8 @@ pub fn serve<S: Source, K: Sink, P: Keeper, L: Ledger>(
         VersionAtExit result (P.has_version keeper.old) (P.has_version keeper.new)) }
 
     // A store is refused if and only if its version isn't known or one of its rows is damaged.
-    ensures refused { FromVersion P.Keeper keeper.old keeper.new (λ t v.
-        (fault : StoreFaultOf) → fault_of v t ≡ Some fault →
-        Refused result fault (S.left source.old) (S.left source.new) (K.out sink.old) (K.out sink.new)
-        (P.tells keeper.new) (P.may_leave keeper.new) t) }
-    ensures fine { FromVersion P.Keeper keeper.old keeper.new (λ t v.
-        fault_of v t ≡ None → result ≢ 6) }
-    ensures known { FromStore P.Keeper keeper.old keeper.new (λ t.
-        IfKnown (P.has_version keeper.old) (result ≢ 6)) }
+    ensures refusals { Refusals P.Keeper keeper.old keeper.new result
+        (S.left source.old) (S.left source.new) (K.out sink.old) (K.out sink.new) }
 
     // When each status comes.
     ensures causes { Causes result (S.faults source.old) (S.faults source.new) (K.faults sink.old) (K.faults sink.new)
@@ -185,10 +170,8 @@ pub fn serve<S: Source, K: Sink, P: Keeper, L: Ledger>(
     ensures quit { result ≡ 0 → TookQuit (user_in words.now) (secret_in words.now) (S.left source.old) (S.left source.new) }
     ensures ended { result ≡ 1 → IsAtEnd (S.left source.new) }
     ensures complete { (path : Option (List ℕ)) (user name secret : List ℕ) → IsPopWorded words.now path user name secret →
-        IsCalm (S.faults source.old) (S.faults source.new) →
-        IsCalm (K.faults sink.old) (K.faults sink.new) →
-        IsCalm (P.faults keeper.old) (P.faults keeper.new) →
-        IsUndisturbed result }
+        IfCalm (S.faults source.old) (S.faults source.new) (K.faults sink.old) (K.faults sink.new)
+        (P.faults keeper.old) (P.faults keeper.new) (IsUndisturbed result) }
     ensures statuses { result ≤ 9 }
 {
     let asked = match read_pop_words(alloc, words) {

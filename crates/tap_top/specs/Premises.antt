@@ -44,6 +44,10 @@ IfKnown versions Holds = (v : ℤ) → versions v → (v ≡ pos 1) ⊎ (v ≡ p
 abbrev pub IsCalm : ℕ → ℕ → Type 0
 IsCalm before now = Rose before now → ⊥
 
+-- this holds if no read, no put and no call of the keeper failed, by their counts of faults
+abbrev pub IfCalm : (reads reads' puts puts' keeps keeps' : ℕ) (Holds : Type 0) → Type 0
+IfCalm reads reads' puts puts' keeps keeps' Holds = IsCalm reads reads' → IsCalm puts puts' → IsCalm keeps keeps' → Holds
+
 -- the status of a run that no fault cut off: it ended with its commands, at a refused store, or out of memory
 abbrev pub IsUndisturbed : ℕ → Type 0
 IsUndisturbed status = (status ≤ 1) ⊎ ((status ≡ 6) ⊎ (status ≡ 7))

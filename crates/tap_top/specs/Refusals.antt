@@ -4,6 +4,7 @@ use Rattle.std.specs.Option.{option_or}
 use Rattle.std.specs.Fmt.{decimal, signed_decimal}
 use Rattle.std.specs.Io.KnownBytes.{Appends}
 use Rattle.keeper_core.specs.Stored.{is_known}
+use Rattle.keeper_core.specs.declared.keeper.Keeper.{Ghosts}
 use Rattle.tap_rows.specs.declared.tables.Tables.{Tables}
 use Rattle.script_lang.specs.Replies.{line}
 use Rattle.restart_core.specs.declared.fault.RestartFault.{RestartFault}
@@ -14,6 +15,7 @@ use Rattle.restart_core.specs.declared.fault.Why.{Why}
 use Rattle.restart_core.specs.declared.fault.Why.TheVariants.{Number, Moment, Reference, Name, Twice, Text, Second, Order}
 use Rattle.restart_core.specs.Damages.{damage_of}
 use Rattle.tap_kept.specs.Starting.{first_unread}
+use Rattle.tap_top.specs.Premises.{FromStore, FromVersion, IfKnown}
 use Rattle.tap_top.specs.declared.store_fault.StoreFault.{StoreFault}
 use Rattle.tap_top.specs.declared.store_fault.StoreFault.TheVariants.{Version, Damaged}
 
@@ -77,3 +79,11 @@ pub record Refused (status : ℕ) (fault : StoreFault) (left left' out out' : Op
   pub none : status ≢ 4 → status ≢ 6 → line.n ≡ 0
   pub told : status ≢ 5 → tells tables
   pub alone : (x : Tables) → leaves x → x ≡ tables
+
+-- a store is refused, with status 6, if and only if its version isn't known or one of its rows is damaged; one of a known version
+-- that a session left is not refused
+pub record Refusals {K : Type 0} (g : Ghosts K) (old new : K) (status : ℕ) (left left' out out' : Option (List ℕ)) : Type 0 where
+  pub refused : FromVersion g old new (λ t v. (fault : StoreFault) → fault_of v t ≡ Some fault →
+      Refused status fault left left' out out' (g.tells new) (g.may_leave new) t)
+  pub fine : FromVersion g old new (λ t v. fault_of v t ≡ None → status ≢ 6)
+  pub known : FromStore g old new (λ t. IfKnown (g.has_version old) (status ≢ 6))

@@ -8,12 +8,11 @@ ghost use Rattle.script_lang.specs.declared.reply.Reply.{Reply as ReplyOf};
 ghost use Rattle.script_lang.specs.declared.refusal.Refusal.{Refusal as RefusalOf};
 ghost use Rattle.sample_gen.specs.Summaries.{summary_lines};
 ghost use Rattle.tap_model.specs.Sessions.{no_session};
-ghost use Rattle.tap_top.specs.declared.store_fault.StoreFault.{StoreFault as StoreFaultOf};
 ghost use Rattle.tap_top.specs.declared.sampled.Cut.{Cut};
-ghost use Rattle.tap_top.specs.Refusals.{fault_of, Refused};
+ghost use Rattle.tap_top.specs.Refusals.{Refusals};
 ghost use Rattle.tap_top.specs.Points.{CanPerform};
 ghost use Rattle.tap_top.specs.Frames.{CommandFrame};
-ghost use Rattle.tap_top.specs.Premises.{IsDurableIn, AgreeOn, FromEngine, FromStore, FromVersion, IfKnown};
+ghost use Rattle.tap_top.specs.Premises.{IsDurableIn, AgreeOn, FromEngine, FromStore};
 ghost use Rattle.tap_top.specs.Versions.{VersionAtExit};
 ghost use Rattle.tap_top.specs.Ends.{EngineSampleEnds, SampleEnds};
 ghost use Rattle.tap_top.specs.Samples.{refusals_in, hits_in, Performed, Counted, Adds, FirstPerformed, NextUncommitted, FrontPut};
@@ -214,13 +213,8 @@ pub fn sample_store<K: Sink, P: Keeper, L: Ledger>(
         VersionAtExit result (P.has_version keeper.old) (P.has_version keeper.new)) }
 
     // A store is refused if and only if its version isn't known or one of its rows is damaged.
-    ensures refused { FromVersion P.Keeper keeper.old keeper.new (λ t v.
-        (fault : StoreFaultOf) → fault_of v t ≡ Some fault → (left : Option (List ℕ)) →
-        Refused result fault left left (K.out sink.old) (K.out sink.new) (P.tells keeper.new) (P.may_leave keeper.new) t) }
-    ensures fine { FromVersion P.Keeper keeper.old keeper.new (λ t v.
-        fault_of v t ≡ None → result ≢ 6) }
-    ensures known { FromStore P.Keeper keeper.old keeper.new (λ t.
-        IfKnown (P.has_version keeper.old) (result ≢ 6)) }
+    ensures refusals { (left : Option (List ℕ)) → Refusals P.Keeper keeper.old keeper.new result
+        left left (K.out sink.old) (K.out sink.new) }
 
     // When each status comes.
     ensures cause { result ≡ 4 → Rose (K.faults sink.old) (K.faults sink.new) }

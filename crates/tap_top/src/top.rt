@@ -13,16 +13,15 @@ ghost use Rattle.tap_rows.specs.declared.tables.Tables.{Tables};
 ghost use Rattle.script_lang.specs.Script.{script_from};
 ghost use Rattle.tap_model.specs.Sessions.{no_session};
 ghost use Rattle.tap_model.specs.Sound.{IsStore};
-ghost use Rattle.tap_top.specs.declared.store_fault.StoreFault.{StoreFault as StoreFaultOf};
 ghost use Rattle.tap_top.specs.Points.{CanPerform};
 ghost use Rattle.tap_top.specs.Frames.{CommandFrame};
-ghost use Rattle.tap_top.specs.Premises.{IsDurableIn, FromEngine, FromStore, FromVersion, IfKnown, IsCalm, IsUndisturbed};
+ghost use Rattle.tap_top.specs.Premises.{IsDurableIn, FromEngine, FromStore, IsCalm, IfCalm, IsUndisturbed};
 ghost use Rattle.tap_top.specs.Versions.{VersionAtExit};
 ghost use Rattle.tap_top.specs.Answers.{CutOff, Uncommitted, Closed, ClosedCut};
 ghost use Rattle.tap_top.specs.Statuses.{TookMany, HoldsScript};
 ghost use Rattle.tap_top.specs.Causes.{Causes};
 ghost use Rattle.tap_top.specs.Ends.{EngineScriptEnds, ScriptEnds, SampleEnds};
-ghost use Rattle.tap_top.specs.Refusals.{fault_of, Refused};
+ghost use Rattle.tap_top.specs.Refusals.{Refusals};
 
 use crate::StoreFault;
 use crate::feed::{Stop, feed, finish};
@@ -175,14 +174,8 @@ fn run_store<S: Source, K: Sink, P: Keeper, L: Ledger>(
         VersionAtExit result (P.has_version keeper.old) (P.has_version keeper.new)) }
 
     // A store is refused if and only if its version isn't known or one of its rows is damaged.
-    ensures refused { FromVersion P.Keeper keeper.old keeper.new (λ t v.
-        (fault : StoreFaultOf) → fault_of v t ≡ Some fault →
-        Refused result fault (S.left source.old) (S.left source.new) (K.out sink.old) (K.out sink.new)
-        (P.tells keeper.new) (P.may_leave keeper.new) t) }
-    ensures fine { FromVersion P.Keeper keeper.old keeper.new (λ t v.
-        fault_of v t ≡ None → result ≢ 6) }
-    ensures known { FromStore P.Keeper keeper.old keeper.new (λ t.
-        IfKnown (P.has_version keeper.old) (result ≢ 6)) }
+    ensures refusals { Refusals P.Keeper keeper.old keeper.new result
+        (S.left source.old) (S.left source.new) (K.out sink.old) (K.out sink.new) }
 
     // When each status comes.
     ensures causes { Causes result (S.faults source.old) (S.faults source.new) (K.faults sink.old) (K.faults sink.new)
@@ -190,10 +183,8 @@ fn run_store<S: Source, K: Sink, P: Keeper, L: Ledger>(
     ensures many { result ≡ 8 → TookMany (S.left source.old) (S.left source.new) }
     ensures ended { result ≤ 1 → IsAtEnd (S.left source.new) }
     ensures complete { HoldsScript (S.left source.old) →
-        IsCalm (S.faults source.old) (S.faults source.new) →
-        IsCalm (K.faults sink.old) (K.faults sink.new) →
-        IsCalm (P.faults keeper.old) (P.faults keeper.new) →
-        IsUndisturbed result }
+        IfCalm (S.faults source.old) (S.faults source.new) (K.faults sink.old) (K.faults sink.new)
+        (P.faults keeper.old) (P.faults keeper.new) (IsUndisturbed result) }
     ensures statuses { (result ≤ 8) × (result ≢ 2) }
     ensures place { (result ≡ 7) ⊎ (P.place keeper.new ≡ place.now) }
 {
@@ -250,14 +241,12 @@ pub fn tapestry<S: Source, K: Sink, P: Keeper, L: Ledger>(
         (place_in words.now ≡ place_of path) × (sample_in words.now ≡ number) }
 
     // A script over a store that a session left: how it ended, by the status, and what a crash leaves.
-    ensures script { sample_in words.now ≡ None →
-        FromStore P.Keeper keeper.old keeper.new (λ t.
+    ensures script { sample_in words.now ≡ None → FromStore P.Keeper keeper.old keeper.new (λ t.
         ScriptEnds result t (S.left source.old) (S.left source.new) (K.out sink.old) (K.out sink.new)
         (P.has_version keeper.old) (P.tells keeper.new) (P.may_leave keeper.new)) }
 
     // A sample over such a store: how it ended, by the status, and what a crash leaves; nothing is read.
-    ensures sample { (n : ℕ) → sample_in words.now ≡ Some n →
-        FromStore P.Keeper keeper.old keeper.new (λ t.
+    ensures sample { (n : ℕ) → sample_in words.now ≡ Some n → FromStore P.Keeper keeper.old keeper.new (λ t.
         SampleEnds result t n (K.out sink.old) (K.out sink.new)
         (P.has_version keeper.old) (P.tells keeper.new) (P.may_leave keeper.new)) }
     ensures sample_silent { (n : ℕ) → sample_in words.now ≡ Some n → (result ≡ 5) ⊎ (result ≡ 7) →
@@ -276,14 +265,8 @@ pub fn tapestry<S: Source, K: Sink, P: Keeper, L: Ledger>(
         VersionAtExit result (P.has_version keeper.old) (P.has_version keeper.new)) }
 
     // A store is refused if and only if its version isn't known or one of its rows is damaged.
-    ensures refused { FromVersion P.Keeper keeper.old keeper.new (λ t v.
-        (fault : StoreFaultOf) → fault_of v t ≡ Some fault →
-        Refused result fault (S.left source.old) (S.left source.new) (K.out sink.old) (K.out sink.new)
-        (P.tells keeper.new) (P.may_leave keeper.new) t) }
-    ensures fine { FromVersion P.Keeper keeper.old keeper.new (λ t v.
-        fault_of v t ≡ None → result ≢ 6) }
-    ensures known { FromStore P.Keeper keeper.old keeper.new (λ t.
-        IfKnown (P.has_version keeper.old) (result ≢ 6)) }
+    ensures refusals { Refusals P.Keeper keeper.old keeper.new result
+        (S.left source.old) (S.left source.new) (K.out sink.old) (K.out sink.new) }
 
     // When each status comes.
     ensures causes { Causes result (S.faults source.old) (S.faults source.new) (K.faults sink.old) (K.faults sink.new)
@@ -291,10 +274,8 @@ pub fn tapestry<S: Source, K: Sink, P: Keeper, L: Ledger>(
     ensures many { result ≡ 8 → TookMany (S.left source.old) (S.left source.new) }
     ensures ended { sample_in words.now ≡ None → result ≤ 1 → IsAtEnd (S.left source.new) }
     ensures complete { (path : Option (List ℕ)) → IsWellWorded words.now path None → HoldsScript (S.left source.old) →
-        IsCalm (S.faults source.old) (S.faults source.new) →
-        IsCalm (K.faults sink.old) (K.faults sink.new) →
-        IsCalm (P.faults keeper.old) (P.faults keeper.new) →
-        IsUndisturbed result }
+        IfCalm (S.faults source.old) (S.faults source.new) (K.faults sink.old) (K.faults sink.new)
+        (P.faults keeper.old) (P.faults keeper.new) (IsUndisturbed result) }
     ensures sample_complete { (path : Option (List ℕ)) (n : ℕ) → IsWellWorded words.now path (Some n) →
         IsCalm (K.faults sink.old) (K.faults sink.new) →
         IsCalm (P.faults keeper.old) (P.faults keeper.new) →

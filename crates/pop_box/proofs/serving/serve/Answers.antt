@@ -1,4 +1,4 @@
-use Rattle.std.proofs.Common.{◌≡◌, ◌∙◌, refl, sym, subst, inl, inr, ℕ, List, Option}
+use Rattle.std.proofs.Common.{rules, ◌≡◌, ◌∙◌, refl, sym, subst, inl, inr, ℕ, List, Option}
 use Rattle.command_words.specs.declared.option_fault.OptionFault.{OptionFault}
 use Rattle.command_words.specs.declared.option_fault.OptionFault.TheVariants.{Refused as RefusedWords, Memory}
 use Rattle.command_words.proofs.PopWorded.{worded-pop}
@@ -21,8 +21,12 @@ returns-in-Err-Refused-clause-session g c = λ t honest holds store. unserved 2 
 pub returns-in-Err-Refused-clause-unchanged : goal.returns-in-Err-Refused-clause-unchanged
 returns-in-Err-Refused-clause-unchanged g c = λ t honest holds. record { alone = holds.alone; told = λ _. holds.told }
 
-pub returns-in-Err-Refused-clause-refused : goal.returns-in-Err-Refused-clause-refused
-returns-in-Err-Refused-clause-refused g c = λ t honest holds v version fault is. Refused-none 2 fault _ _ _ _ _ _ t (inl refl) (λ e. cc) refl refl (λ _. holds.told) holds.alone
+pub returns-in-Err-Refused-clause-refusals : goal.returns-in-Err-Refused-clause-refusals
+returns-in-Err-Refused-clause-refusals g c = record {
+  refused = λ t honest holds v version fault is. Refused-none 2 fault _ _ _ _ _ _ t (inl refl) (λ e. cc) refl refl (λ _. holds.told) holds.alone;
+  fine = search rules;
+  known = search rules;
+}
 
 pub returns-in-Err-Refused-clause-complete : goal.returns-in-Err-Refused-clause-complete
 returns-in-Err-Refused-clause-complete g c = λ path user name secret worded reads puts keeps. absurd (not-both c.in-Err-Refused.field-0 c.in-Err-Refused.field-0-is (c.in-Err-Refused.ensures.fine path user name secret worded))
@@ -37,8 +41,12 @@ returns-in-Err-Memory-clause-session g c = λ t honest holds store. unserved 7 _
 pub returns-in-Err-Memory-clause-unchanged : goal.returns-in-Err-Memory-clause-unchanged
 returns-in-Err-Memory-clause-unchanged g c = λ t honest holds. record { alone = holds.alone; told = λ _. holds.told }
 
-pub returns-in-Err-Memory-clause-refused : goal.returns-in-Err-Memory-clause-refused
-returns-in-Err-Memory-clause-refused g c = λ t honest holds v version fault is. Refused-none 7 fault _ _ _ _ _ _ t (inr (inr (inr (inr refl)))) (λ e. cc) refl refl (λ _. holds.told) holds.alone
+pub returns-in-Err-Memory-clause-refusals : goal.returns-in-Err-Memory-clause-refusals
+returns-in-Err-Memory-clause-refusals g c = record {
+  refused = λ t honest holds v version fault is. Refused-none 7 fault _ _ _ _ _ _ t (inr (inr (inr (inr refl)))) (λ e. cc) refl refl (λ _. holds.told) holds.alone;
+  fine = search rules;
+  known = search rules;
+}
 
 pub returns-clause-session : goal.returns-clause-session
 returns-clause-session g c = λ t honest holds store.

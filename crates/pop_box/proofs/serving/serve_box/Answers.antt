@@ -1,4 +1,4 @@
-use Rattle.std.proofs.Common.{refl, sym, ap, subst, Err, inl, inr}
+use Rattle.std.proofs.Common.{rules, refl, sym, ap, subst, Err, inl, inr}
 use Rattle.tap_model.specs.Sound.{IsSound}
 use Rattle.tap_top.specs.Refusals.{fault_of}
 use Rattle.tap_top.proofs.Refusals.{fine-store, some-or-none, Refused-none, refused-for, not-stopped}
@@ -17,6 +17,13 @@ returns-in-Ok-clause-unchanged g c = λ t honest holds. record {
   told = λ _. (c.in-Ok.ensures.kept honest t holds.told c.in-Ok.ensures.can.keeping).told;
 }
 
+pub returns-in-Ok-clause-refusals : goal.returns-in-Ok-clause-refusals
+returns-in-Ok-clause-refusals g c = record {
+  refused = search rules;
+  fine = search rules;
+  known = search rules;
+}
+
 pub returns-in-Err-Refused-clause-session : goal.returns-in-Err-Refused-clause-session
 returns-in-Err-Refused-clause-session g c = λ t honest holds store.
     refused c.refuse.result _ _ _ _ _ _ _ (g.P.Keeper.has_version c.args.keeper.now) c.refuse.ensures.statuses refl
@@ -28,8 +35,12 @@ returns-in-Err-Refused-clause-unchanged g c = λ t honest holds. record {
   told = λ _. (c.in-Err-Refused.ensures.kept honest t holds.told (not-stopped (g.P.Keeper.stopped c.open_store.new.keeper) c.in-Err-Refused.ensures.stopped.0 (λ e. cc))).told;
 }
 
-pub returns-in-Err-Refused-clause-known : goal.returns-in-Err-Refused-clause-known
-returns-in-Err-Refused-clause-known g c = λ t honest holds store v version known _. absurd (some-or-none (fault_of v t) c.in-Err-Refused.fault (refused-for _ _ c.in-Err-Refused.fault c.in-Err-Refused.ensures.refused c.in-Err-Refused.field-0-is honest t holds.told v version) (fine-store t v store known))
+pub returns-in-Err-Refused-clause-refusals : goal.returns-in-Err-Refused-clause-refusals
+returns-in-Err-Refused-clause-refusals g c = record {
+  refused = search rules;
+  fine = search rules;
+  known = λ t honest holds store v version known _. absurd (some-or-none (fault_of v t) c.in-Err-Refused.fault (refused-for _ _ c.in-Err-Refused.fault c.in-Err-Refused.ensures.refused c.in-Err-Refused.field-0-is honest t holds.told v version) (fine-store t v store known));
+}
 
 pub returns-in-Err-Keeper-clause-session : goal.returns-in-Err-Keeper-clause-session
 returns-in-Err-Keeper-clause-session g c = λ t honest holds store. unserved 5 _ _ _ _ _ _ _ _ (inr (inl refl)) (λ e. cc) refl refl
@@ -37,8 +48,12 @@ returns-in-Err-Keeper-clause-session g c = λ t honest holds store. unserved 5 _
 pub returns-in-Err-Keeper-clause-unchanged : goal.returns-in-Err-Keeper-clause-unchanged
 returns-in-Err-Keeper-clause-unchanged g c = λ t honest holds. record { alone = c.in-Err-Keeper.ensures.crash honest t holds.told; told = λ no. absurd (no refl) }
 
-pub returns-in-Err-Keeper-clause-refused : goal.returns-in-Err-Keeper-clause-refused
-returns-in-Err-Keeper-clause-refused g c = λ t honest holds v version fault is. Refused-none 5 fault _ _ _ _ _ _ t (inr (inr (inl refl))) (λ e. cc) refl refl (λ no. absurd (no refl)) (c.in-Err-Keeper.ensures.crash honest t holds.told)
+pub returns-in-Err-Keeper-clause-refusals : goal.returns-in-Err-Keeper-clause-refusals
+returns-in-Err-Keeper-clause-refusals g c = record {
+  refused = λ t honest holds v version fault is. Refused-none 5 fault _ _ _ _ _ _ t (inr (inr (inl refl))) (λ e. cc) refl refl (λ no. absurd (no refl)) (c.in-Err-Keeper.ensures.crash honest t holds.told);
+  fine = search rules;
+  known = search rules;
+}
 
 pub returns-in-Err-Memory-clause-session : goal.returns-in-Err-Memory-clause-session
 returns-in-Err-Memory-clause-session g c = λ t honest holds store. unserved 7 _ _ _ _ _ _ _ _ (inr (inr (inr refl))) (λ e. cc) refl refl
@@ -49,8 +64,12 @@ returns-in-Err-Memory-clause-unchanged g c = λ t honest holds. record {
   told = λ _. (c.in-Err-Memory.ensures.kept honest t holds.told (not-stopped (g.P.Keeper.stopped c.open_store.new.keeper) c.in-Err-Memory.ensures.stopped.0 (λ e. cc))).told;
 }
 
-pub returns-in-Err-Memory-clause-refused : goal.returns-in-Err-Memory-clause-refused
-returns-in-Err-Memory-clause-refused g c = λ t honest holds v version fault is. Refused-none 7 fault _ _ _ _ _ _ t (inr (inr (inr (inr refl)))) (λ e. cc) refl refl (λ _. (c.in-Err-Memory.ensures.kept honest t holds.told (not-stopped (g.P.Keeper.stopped c.open_store.new.keeper) c.in-Err-Memory.ensures.stopped.0 (λ e. cc))).told) (c.in-Err-Memory.ensures.crash honest t holds.told)
+pub returns-in-Err-Memory-clause-refusals : goal.returns-in-Err-Memory-clause-refusals
+returns-in-Err-Memory-clause-refusals g c = record {
+  refused = λ t honest holds v version fault is. Refused-none 7 fault _ _ _ _ _ _ t (inr (inr (inr (inr refl)))) (λ e. cc) refl refl (λ _. (c.in-Err-Memory.ensures.kept honest t holds.told (not-stopped (g.P.Keeper.stopped c.open_store.new.keeper) c.in-Err-Memory.ensures.stopped.0 (λ e. cc))).told) (c.in-Err-Memory.ensures.crash honest t holds.told);
+  fine = search rules;
+  known = search rules;
+}
 
 pub returns-in-Ok-clause-version : goal.returns-in-Ok-clause-version
 returns-in-Ok-clause-version g c = λ t honest holds.

@@ -1,4 +1,4 @@
-use Rattle.std.proofs.Common.{refl, sym, ap, subst, Err, inl, inr}
+use Rattle.std.proofs.Common.{rules, refl, sym, ap, subst, Err, inl, inr}
 use Rattle.tap_model.specs.Sound.{IsStore}
 use Rattle.tap_top.specs.Refusals.{fault_of}
 use Rattle.tap_top.proofs.Refusals.{fine-store, some-or-none, Refused-none, refused-for, not-stopped}
@@ -16,14 +16,25 @@ returns-in-Ok-clause-script g c = λ t honest holds store.
 pub returns-in-Ok-clause-kept : goal.returns-in-Ok-clause-kept
 returns-in-Ok-clause-kept g c = λ t honest holds store x may. leaves-stores t _ _ _ _ _ _ store (returns-in-Ok-clause-script g c t honest holds store).crash x may
 
+pub returns-in-Ok-clause-refusals : goal.returns-in-Ok-clause-refusals
+returns-in-Ok-clause-refusals g c = record {
+  refused = search rules;
+  fine = search rules;
+  known = search rules;
+}
+
 pub returns-in-Err-Refused-clause-script : goal.returns-in-Err-Refused-clause-script
 returns-in-Err-Refused-clause-script g c = λ t honest holds store.
     refused-ends t _ _ _ _ (g.P.Keeper.has_version c.args.keeper.now) _ _ c.refuse.result _ c.refuse.ensures.statuses
     (λ v version known. absurd (some-or-none (fault_of v t) c.in-Err-Refused.fault (refused-for _ _ c.in-Err-Refused.fault c.in-Err-Refused.ensures.refused c.in-Err-Refused.field-0-is honest t holds.told v version) (fine-store t v store known)))
     refl c.refuse.ensures.line.written (c.in-Err-Refused.ensures.crash honest t holds.told)
 
-pub returns-in-Err-Refused-clause-known : goal.returns-in-Err-Refused-clause-known
-returns-in-Err-Refused-clause-known g c = λ t honest holds store v version known _. absurd (some-or-none (fault_of v t) c.in-Err-Refused.fault (refused-for _ _ c.in-Err-Refused.fault c.in-Err-Refused.ensures.refused c.in-Err-Refused.field-0-is honest t holds.told v version) (fine-store t v store known))
+pub returns-in-Err-Refused-clause-refusals : goal.returns-in-Err-Refused-clause-refusals
+returns-in-Err-Refused-clause-refusals g c = record {
+  refused = search rules;
+  fine = search rules;
+  known = λ t honest holds store v version known _. absurd (some-or-none (fault_of v t) c.in-Err-Refused.fault (refused-for _ _ c.in-Err-Refused.fault c.in-Err-Refused.ensures.refused c.in-Err-Refused.field-0-is honest t holds.told v version) (fine-store t v store known));
+}
 
 pub returns-in-Err-Keeper-clause-script : goal.returns-in-Err-Keeper-clause-script
 returns-in-Err-Keeper-clause-script g c = λ t honest holds store. failed-ends t _ _ _ _ _ _ _ refl refl (c.in-Err-Keeper.ensures.crash honest t holds.told)
@@ -31,14 +42,22 @@ returns-in-Err-Keeper-clause-script g c = λ t honest holds store. failed-ends t
 pub returns-in-Err-Keeper-clause-kept : goal.returns-in-Err-Keeper-clause-kept
 returns-in-Err-Keeper-clause-kept g c = λ t honest holds store x may. subst IsStore (sym (c.in-Err-Keeper.ensures.crash honest t holds.told x may)) store
 
-pub returns-in-Err-Keeper-clause-refused : goal.returns-in-Err-Keeper-clause-refused
-returns-in-Err-Keeper-clause-refused g c = λ t honest holds v version fault is. Refused-none 5 fault _ _ _ _ _ _ t (inr (inr (inl refl))) (λ e. cc) refl refl (λ no. absurd (no refl)) (c.in-Err-Keeper.ensures.crash honest t holds.told)
+pub returns-in-Err-Keeper-clause-refusals : goal.returns-in-Err-Keeper-clause-refusals
+returns-in-Err-Keeper-clause-refusals g c = record {
+  refused = λ t honest holds v version fault is. Refused-none 5 fault _ _ _ _ _ _ t (inr (inr (inl refl))) (λ e. cc) refl refl (λ no. absurd (no refl)) (c.in-Err-Keeper.ensures.crash honest t holds.told);
+  fine = search rules;
+  known = search rules;
+}
 
 pub returns-in-Err-Memory-clause-script : goal.returns-in-Err-Memory-clause-script
 returns-in-Err-Memory-clause-script g c = λ t honest holds store. unopened-ends t _ _ _ _ _ _ _ refl refl store (c.in-Err-Memory.ensures.kept honest t holds.told (not-stopped (g.P.Keeper.stopped c.open_store.new.keeper) c.in-Err-Memory.ensures.stopped.0 (λ e. cc)))
 
-pub returns-in-Err-Memory-clause-refused : goal.returns-in-Err-Memory-clause-refused
-returns-in-Err-Memory-clause-refused g c = λ t honest holds v version fault is. Refused-none 7 fault _ _ _ _ _ _ t (inr (inr (inr (inr refl)))) (λ e. cc) refl refl (λ _. (c.in-Err-Memory.ensures.kept honest t holds.told (not-stopped (g.P.Keeper.stopped c.open_store.new.keeper) c.in-Err-Memory.ensures.stopped.0 (λ e. cc))).told) (c.in-Err-Memory.ensures.crash honest t holds.told)
+pub returns-in-Err-Memory-clause-refusals : goal.returns-in-Err-Memory-clause-refusals
+returns-in-Err-Memory-clause-refusals g c = record {
+  refused = λ t honest holds v version fault is. Refused-none 7 fault _ _ _ _ _ _ t (inr (inr (inr (inr refl)))) (λ e. cc) refl refl (λ _. (c.in-Err-Memory.ensures.kept honest t holds.told (not-stopped (g.P.Keeper.stopped c.open_store.new.keeper) c.in-Err-Memory.ensures.stopped.0 (λ e. cc))).told) (c.in-Err-Memory.ensures.crash honest t holds.told);
+  fine = search rules;
+  known = search rules;
+}
 
 pub returns-in-Ok-clause-version : goal.returns-in-Ok-clause-version
 returns-in-Ok-clause-version g c = λ t honest holds store.

@@ -1,4 +1,4 @@
-use Rattle.std.proofs.Common.{◌≡◌, ◌∙◌, refl, sym, subst, inl, inr, ℕ, Option, Some, None}
+use Rattle.std.proofs.Common.{rules, ◌≡◌, ◌∙◌, refl, sym, subst, inl, inr, ℕ, Option, Some, None}
 use Rattle.command_words.specs.declared.option_fault.OptionFault.{OptionFault}
 use Rattle.command_words.specs.declared.option_fault.OptionFault.TheVariants.{Refused as RefusedWords, Memory}
 use Rattle.command_words.specs.Words.{sample_in}
@@ -30,8 +30,12 @@ returns-in-Err-Refused-clause-script g c = λ _ t honest holds store. worded-end
 pub returns-in-Err-Refused-clause-sample : goal.returns-in-Err-Refused-clause-sample
 returns-in-Err-Refused-clause-sample g c = λ n _ t honest holds store. worded-sample t n _ _ _ _ _ holds.alone
 
-pub returns-in-Err-Refused-clause-refused : goal.returns-in-Err-Refused-clause-refused
-returns-in-Err-Refused-clause-refused g c = λ t honest holds v version fault is. Refused-none 2 fault _ _ _ _ _ _ t (inl refl) (λ e. cc) refl refl (λ _. holds.told) holds.alone
+pub returns-in-Err-Refused-clause-refusals : goal.returns-in-Err-Refused-clause-refusals
+returns-in-Err-Refused-clause-refusals g c = record {
+  refused = λ t honest holds v version fault is. Refused-none 2 fault _ _ _ _ _ _ t (inl refl) (λ e. cc) refl refl (λ _. holds.told) holds.alone;
+  fine = search rules;
+  known = search rules;
+}
 
 pub returns-in-Err-Refused-clause-complete : goal.returns-in-Err-Refused-clause-complete
 returns-in-Err-Refused-clause-complete g c = λ path named script reads puts keeps. absurd (not-both c.in-Err-Refused.field-0 c.in-Err-Refused.field-0-is (c.in-Err-Refused.ensures.fine path None named))
@@ -48,8 +52,12 @@ returns-in-Err-Memory-clause-script g c = λ _ t honest holds store. unopened-en
 pub returns-in-Err-Memory-clause-sample : goal.returns-in-Err-Memory-clause-sample
 returns-in-Err-Memory-clause-sample g c = λ n _ t honest holds store. unopened-sample t n _ _ _ _ _ store holds
 
-pub returns-in-Err-Memory-clause-refused : goal.returns-in-Err-Memory-clause-refused
-returns-in-Err-Memory-clause-refused g c = λ t honest holds v version fault is. Refused-none 7 fault _ _ _ _ _ _ t (inr (inr (inr (inr refl)))) (λ e. cc) refl refl (λ _. holds.told) holds.alone
+pub returns-in-Err-Memory-clause-refusals : goal.returns-in-Err-Memory-clause-refusals
+returns-in-Err-Memory-clause-refusals g c = record {
+  refused = λ t honest holds v version fault is. Refused-none 7 fault _ _ _ _ _ _ t (inr (inr (inr (inr refl)))) (λ e. cc) refl refl (λ _. holds.told) holds.alone;
+  fine = search rules;
+  known = search rules;
+}
 
 pub returns-in-Some-clause-script : goal.returns-in-Some-clause-script
 returns-in-Some-clause-script g c = λ none. absurd (some-is (sample_in c.args.words.now) c.in-Some.n (sym c.in-Ok.ensures.sample ∙ c.in-Some.is) none)
@@ -65,8 +73,8 @@ returns-in-Some-clause-sample g c = λ n asked t honest holds store.
 pub returns-in-Some-clause-kept : goal.returns-in-Some-clause-kept
 returns-in-Some-clause-kept g c = λ t honest holds store x may. first-stores t (sample_of c.in-Some.n) _ store (c.sample_store.ensures.sample t honest holds store).crash x may
 
-pub returns-in-Some-clause-refused : goal.returns-in-Some-clause-refused
-returns-in-Some-clause-refused g c = λ t honest holds v version fault is. c.sample_store.ensures.refused t honest holds v version fault is _
+pub returns-in-Some-clause-refusals : goal.returns-in-Some-clause-refusals
+returns-in-Some-clause-refusals g c = c.sample_store.ensures.refusals _
 
 pub returns-clause-sample_complete : goal.returns-clause-sample_complete
 returns-clause-sample_complete g c = λ path n named puts keeps. absurd (some-is c.in-Ok.asked.sample n (c.in-Ok.ensures.named path (Some n) named).1 c.in-None.is)

@@ -23,9 +23,9 @@ returns-clause-ends_over g c = λ t honest holds. record {
   kept = λ store. c.tapestry.ensures.kept t honest holds store;
   told = λ store. c.tapestry.ensures.told t honest holds store;
   version = λ store. c.tapestry.ensures.version t honest holds store;
-  refused = λ v has. c.tapestry.ensures.refused t honest holds v has;
-  fine = λ v has. c.tapestry.ensures.fine t honest holds v has;
-  known = λ store. c.tapestry.ensures.known t honest holds store;
+  refused = λ v has. c.tapestry.ensures.refusals.refused t honest holds v has;
+  fine = λ v has. c.tapestry.ensures.refusals.fine t honest holds v has;
+  known = λ store. c.tapestry.ensures.refusals.known t honest holds store;
 }
 
 pub returns-clause-stopped : goal.returns-clause-stopped

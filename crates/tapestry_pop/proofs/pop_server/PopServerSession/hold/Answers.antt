@@ -20,9 +20,9 @@ returns-clause-ends_over g c = λ t honest holds. record {
   session = λ store. c.serve.ensures.session t honest holds store;
   unchanged = c.serve.ensures.unchanged t honest holds;
   version = c.serve.ensures.version t honest holds;
-  refused = λ v has. c.serve.ensures.refused t honest holds v has;
-  fine = λ v has. c.serve.ensures.fine t honest holds v has;
-  known = λ store. c.serve.ensures.known t honest holds store;
+  refused = λ v has. c.serve.ensures.refusals.refused t honest holds v has;
+  fine = λ v has. c.serve.ensures.refusals.fine t honest holds v has;
+  known = λ store. c.serve.ensures.refusals.known t honest holds store;
 }
 
 pub returns-clause-stopped : goal.returns-clause-stopped
