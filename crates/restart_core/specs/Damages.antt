@@ -172,12 +172,17 @@ filters_damage place low [] = None
 filters_damage place low (filter ∷ filters) =
     option_or (row_damage Filters place (filter_reason place low filter)) (filters_damage (place + 1) filter.arrival filters)
 
+-- the first damaged run, pick or filter
+abbrev pub later_damage : Tables → Option RestartFault
+later_damage tables =
+    option_or (runs_damage tables.queries 1 (pos 0) tables.runs)
+    (option_or (picks_damage tables.runs tables.docs [] 1 None tables.picks)
+    (filters_damage 1 (pos 0) tables.filters))
+
 -- the first damaged row of the tables, with its reason
 unfoldable pub damage_of : Tables → Option RestartFault
 damage_of tables =
     option_or (docs_damage 1 (pos 0) tables.docs)
     (option_or (notes_damage tables.docs 1 (pos 0) tables.notes)
     (option_or (queries_damage [] 1 (pos 0) tables.queries)
-    (option_or (runs_damage tables.queries 1 (pos 0) tables.runs)
-    (option_or (picks_damage tables.runs tables.docs [] 1 None tables.picks)
-    (filters_damage 1 (pos 0) tables.filters)))))
+    (later_damage tables)))

@@ -71,6 +71,27 @@ fn read_query(
     }
 }
 
+// Appends the conditions of the queries, behind none, and their keys.
+fn push_conds(
+    alloc: Global,
+    names: &mut Names,
+    conds: &mut Rows<Cond>,
+    queries: &[QueryRow],
+) -> Result<(), RestartFault>
+    requires names { names.old ≡ [] }
+    requires conds { conds.old ≡ [] }
+    ensures sound { OnOk result (queries_damage [] 1 (pos 0) queries.now ≡ None) }
+    ensures conds { OnOk result (readings_of queries.now ≡ as_read conds.new) }
+    ensures fault { IfErr result (λ fault. (fault ≡ RestartFault.Memory) ⊎ (queries_damage [] 1 (pos 0) queries.now ≡ Some fault)) }
+{
+    let mut low = 0;
+    for (i, query) in queries.iter().enumerate() {
+        conds.push(read_query(alloc, names, i + 1, low, query)?)?;
+        low = query.arrival;
+    }
+    Ok(())
+}
+
 // Reads the conditions of the queries. An error gives the first damaged query, or means out of memory.
 pub(crate) fn read_queries(
     alloc: Global,
@@ -83,10 +104,13 @@ pub(crate) fn read_queries(
 {
     let mut names = Names::new(alloc, key);
     let mut conds = Rows::new(alloc);
-    let mut low = 0;
-    for (i, query) in queries.iter().enumerate() {
-        conds.push(read_query(alloc, &mut names, i + 1, low, query)?)?;
-        low = query.arrival;
+    let read = push_conds(alloc, &mut names, &mut conds, queries);
+    drop(names);
+    match read {
+        Ok(()) => Ok(conds.into_vec()),
+        Err(fault) => {
+            drop(conds);
+            Err(fault)
+        }
     }
-    Ok(conds.into_vec())
 }

@@ -1,7 +1,7 @@
 use Rattle.std.proofs.Common.{◌∙◌, [], pos, take, rules, to_z, w64}
 use Rattle.restart_core.specs.Damages.{queries_damage}
 use Rattle.restart_core.proofs.QueryLaws.{damage-on, damage-here, names-on, conds-on}
-use Rattle.restart_core.proofs.queries.read_queries.Goals as goal
+use Rattle.restart_core.proofs.queries.push_conds.Goals as goal
 
 pub returns-in_err-read_query-clause-fault : goal.returns-in_err-read_query-clause-fault
 returns-in_err-read_query-clause-fault c =

@@ -2,7 +2,7 @@ use Rattle.std.proofs.Common.{◌≡◌, ◌+◌, ◌++◌, pos, [], map, take, 
 use Rattle.restart_core.specs.Damages.{queries_damage}
 use Rattle.restart_core.specs.Earlier.{named_of}
 use Rattle.restart_core.specs.Readings.{readings_of, as_read}
-use Rattle.restart_core.proofs.queries.read_queries.Given as goal
+use Rattle.restart_core.proofs.queries.push_conds.Given as goal
 
 -- the damage of all is that of what is left, behind those seen, whose conditions are there
 abbrev pub invariant-loop-i : goal.invariant-loop-i
