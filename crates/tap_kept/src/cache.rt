@@ -29,25 +29,50 @@ fn cache_query(alloc: Global, row: QueryRow, cond: Cond) -> Result<CachedQuery, 
     requires arrival { IsMoment row.arrival }
     ensures { IfOk result (λ kept. kept ≡ never_run row) }
 {
-    let row = PlannedQuery::new(alloc, row, &cond)?;
-    Ok(CachedQuery::new(alloc, row))
+    let planned = PlannedQuery::new(alloc, row, &cond);
+    drop(cond);
+    Ok(CachedQuery::new(alloc, planned?))
 }
 
-// Caches queries that were never run, each with its condition.
-fn cache_queries(
+// Appends queries that were never run, each with its condition.
+fn push_queries(
     alloc: Global,
+    queries: &mut CachedQueries,
     rows: Rows<QueryRow>,
     conds: Vec<Cond>,
-) -> Result<CachedQueries, Memory>
+) -> Result<(), Memory>
     requires conds { readings_of rows ≡ as_read conds.items }
     requires arrivals { Each (λ row. IsMoment row.arrival) rows }
-    ensures { IfOk result (λ queries. queries ≡ map never_run rows) }
+    ensures { OnOk result (queries.new ≡ queries.old ++ map never_run rows) }
 {
-    let mut queries = CachedQueries::new(alloc);
     for (row, cond) in rows.into_vec().into_iter().zip(conds) {
         queries.push(cache_query(alloc, row, cond)?)?;
     }
-    Ok(queries)
+    Ok(())
+}
+
+// Adds queries with their conditions, their runs and what they have delivered to no queries.
+fn fill_queries(
+    alloc: Global,
+    queries: &mut CachedQueries,
+    rows: Rows<QueryRow>,
+    conds: Vec<Cond>,
+    runs: &[RunRow],
+    picks: &[Pick],
+) -> Result<(), Memory>
+    requires none { queries.old ≡ [] }
+    requires conds { readings_of rows ≡ as_read conds.items }
+    requires arrivals { Each (λ row. IsMoment row.arrival) rows }
+    requires numbered { QueriesFrom 1 rows }
+    requires runs { RunsFrom 1 runs.now }
+    requires owned { Each (λ run. IsOneOf run.query.0 (length rows)) runs.now }
+    requires picked { Each (λ pick. HasRun pick.run pick.query.0 runs.now) picks.now }
+    requires once { PicksAreDistinct [] picks.now }
+    ensures { OnOk result (queries.new ≡ map (cached_query (runs_alone runs.now picks.now)) rows) }
+{
+    push_queries(alloc, queries, rows, conds)?;
+    deliver(alloc, queries, runs, picks)?;
+    Ok(())
 }
 
 /// Caches queries with their conditions, their runs and what they have delivered.
@@ -67,9 +92,14 @@ pub fn cache_delivered(
     requires once { PicksAreDistinct [] picks.now }
     ensures { IfOk result (λ queries. queries ≡ map (cached_query (runs_alone runs.now picks.now)) rows) }
 {
-    let mut queries = cache_queries(alloc, rows, conds)?;
-    deliver(alloc, &mut queries, runs, picks)?;
-    Ok(queries)
+    let mut queries = CachedQueries::new(alloc);
+    match fill_queries(alloc, &mut queries, rows, conds, runs, picks) {
+        Ok(()) => Ok(queries),
+        Err(Memory) => {
+            drop(queries);
+            Err(Memory)
+        }
+    }
 }
 
 // Caches a filter with the rules of its text, or reports its number if the text has a fault.
@@ -86,6 +116,22 @@ fn cache_filter(alloc: Global, row: FilterRow) -> Result<CachedFilter, StartFaul
     }
 }
 
+// Appends filters with the rules of their texts.
+fn push_filters(
+    alloc: Global,
+    kept: &mut Rows<CachedFilter>,
+    filters: Rows<FilterRow>,
+) -> Result<(), StartFault>
+    ensures read { OnOk result (first_unread filters ≡ None) }
+    ensures kept { OnOk result (kept.new ≡ kept.old ++ filters) }
+    ensures fault { IfErr result (λ fault. (fault ≡ Fault.Memory) ⊎ (option_map Fault.Rules (first_unread filters) ≡ Some fault)) }
+{
+    for row in filters.into_vec() {
+        kept.push(cache_filter(alloc, row)?)?;
+    }
+    Ok(())
+}
+
 /// Caches filters with the rules of their texts, or reports the number of the first whose text has a fault.
 pub fn cache_filters(
     alloc: Global,
@@ -96,10 +142,13 @@ pub fn cache_filters(
     ensures fault { IfErr result (λ fault. (fault ≡ Fault.Memory) ⊎ (option_map Fault.Rules (first_unread filters) ≡ Some fault)) }
 {
     let mut kept = Rows::new(alloc);
-    for row in filters.into_vec() {
-        kept.push(cache_filter(alloc, row)?)?;
+    match push_filters(alloc, &mut kept, filters) {
+        Ok(()) => Ok(kept),
+        Err(fault) => {
+            drop(kept);
+            Err(fault)
+        }
     }
-    Ok(kept)
 }
 
 // Appends the owner of each query.

@@ -38,6 +38,32 @@ fn add_notes(index: &mut RowIndex, notes: Rows<Note>) -> Result<(), Memory>
     Ok(())
 }
 
+// Adds documents and notes to an index of no rows, and returns room for a hit of each document.
+fn fill_index(
+    alloc: Global,
+    index: &mut RowIndex,
+    docs: Rows<Doc>,
+    notes: Rows<Note>,
+) -> Result<Hits, Memory>
+    requires none { index.old ≡ rows_alone [] [] }
+    requires docs { FollowInOrder doc_number doc_arrival [] docs }
+    requires short { Each (λ doc. length doc.text ≤ 1048576) docs }
+    requires notes { FollowInOrder note_number note_arrival [] notes }
+    ensures index { OnOk result (index.new ≡ rows_alone docs notes) }
+    ensures room { IfOk result (λ hits. length index.new.docs ≤ hits.room) }
+{
+    match add_docs(alloc, index, docs) {
+        Ok(()) => {}
+        Err(Memory) => {
+            drop(notes);
+            return Err(Memory);
+        }
+    }
+    add_notes(index, notes)?;
+    let hits = Hits::with_room(alloc, index.docs())?;
+    Ok(hits)
+}
+
 /// Builds an index that owns these documents and notes and hashes texts under this key, and room for a hit of each document, so
 /// that no run asks for memory to search.
 pub fn index_rows(
@@ -53,8 +79,11 @@ pub fn index_rows(
     ensures room { IfOk result (λ made. length made.0.docs ≤ made.1.room) }
 {
     let mut index = RowIndex::with_key(alloc, key);
-    add_docs(alloc, &mut index, docs)?;
-    add_notes(&mut index, notes)?;
-    let hits = Hits::with_room(alloc, index.docs())?;
-    Ok((index, hits))
+    match fill_index(alloc, &mut index, docs, notes) {
+        Ok(hits) => Ok((index, hits)),
+        Err(Memory) => {
+            drop(index);
+            Err(Memory)
+        }
+    }
 }

@@ -8,7 +8,7 @@ use Rattle.tql_core.specs.declared.cond.Cond.{Cond}
 use Rattle.tql_core.specs.Condition.{condition}
 use Rattle.restart_core.specs.Readings.{reading_of, readings_of, as_read}
 use Rattle.tap_kept.specs.Keeping.{never_run}
-use Rattle.tap_kept.proofs.cache.cache_queries.Goals as goal
+use Rattle.tap_kept.proofs.cache.push_queries.Goals as goal
 
 -- rows and conditions end together
 none-left : (rows : List QueryRow) (conds : List Cond) → readings_of rows ≡ as_read conds → (length rows ≡ 0) ⊎ (length conds ≡ 0) → rows ≡ []
