@@ -1,12 +1,12 @@
 //! Writes and reads the rows of the table `docs`.
 
-ghost use Rattle.std.specs.Prelude.{◌≡◌, ◌<◌, ◌^◌, [], ◌∷◌, map, IfOk, OnOk};
+ghost use Rattle.std.specs.Prelude.{◌≡◌, ◌<◌, ◌^◌, [], ◌∷◌, map, OnOk};
 ghost use Rattle.sqlite.specs.Values.{bound};
 ghost use Rattle.keeper_sql.specs.RowsAsValues.{given_doc, doc_in, doc_shown, as_kept};
 ghost use Rattle.keeper_sql.specs.Store.{only, RowsWritten};
 ghost use Rattle.keeper_sql.specs.Calls.{AreRowsOf, CommitsNothing, Does, DoesOrUndoes, Reads, ReadsOnly, ReadsOrUndoes};
 
-use crate::reading::{bytes, integer, no_memory, number};
+use crate::reading::{TableRow, bytes, integer, number, read_rows};
 use sqlite::types::ValueRef;
 use sqlite::{Alter, Error, Row, Transaction};
 use std::alloc::Global;
@@ -57,25 +57,15 @@ pub fn insert_docs<S: Alter>(tx: &mut Transaction<'_, S>, docs: &[Doc]) -> Resul
     Ok(())
 }
 
-// Returns a document as a row shows it. `OutOfMemory` if its texts could not be copied.
-fn doc_of(alloc: Global, row: &Row) -> Result<Doc, Error>
-    ensures { IfOk result (λ x. x ≡ doc_shown row.now) }
-{
-    let num = DocNum(number(row, 0)?);
-    let arrival = integer(row, 1)?;
-    let text = bytes(alloc, row, 2)?;
-    Ok(Doc { num, arrival, text })
-}
+impl TableRow for Doc {
+    ghost shown = { doc_shown };
 
-// Returns the documents as the rows of a query show them.
-fn docs_of(alloc: Global, shown: &[Row]) -> Result<Rows<Doc>, Error>
-    ensures { IfOk result (λ rows. rows ≡ map doc_shown shown.now) }
-{
-    let mut rows = Rows::new(alloc);
-    for row in shown {
-        rows.push(doc_of(alloc, row)?).map_err(no_memory)?;
+    fn read(alloc: Global, row: &Row) -> Result<Doc, Error> {
+        let num = DocNum(number(row, 0)?);
+        let arrival = integer(row, 1)?;
+        let text = bytes(alloc, row, 2)?;
+        Ok(Doc { num, arrival, text })
     }
-    Ok(rows)
 }
 
 /// Returns the documents, in order of their numbers.
@@ -87,7 +77,7 @@ pub fn read_docs<S: Alter>(alloc: Global, tx: &mut Transaction<'_, S>) -> Result
     ensures survives { CommitsNothing S.Store tx.old.conn.now tx.new.conn.now }
 {
     match tx.query_all("SELECT num, arrival, body FROM docs ORDER BY num", &[]) {
-        Ok(shown) => docs_of(alloc, shown.as_slice()),
+        Ok(shown) => read_rows(alloc, shown),
         Err(error) => Err(error),
     }
 }

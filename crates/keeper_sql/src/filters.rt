@@ -1,12 +1,12 @@
 //! Writes and reads the rows of the table `filters`.
 
-ghost use Rattle.std.specs.Prelude.{◌≡◌, ◌<◌, ◌^◌, [], ◌∷◌, map, IfOk, OnOk};
+ghost use Rattle.std.specs.Prelude.{◌≡◌, ◌<◌, ◌^◌, [], ◌∷◌, OnOk};
 ghost use Rattle.sqlite.specs.Values.{bound};
 ghost use Rattle.keeper_sql.specs.RowsAsValues.{given_filter, filter_in, filter_shown, as_kept};
 ghost use Rattle.keeper_sql.specs.Store.{only, RowsWritten};
 ghost use Rattle.keeper_sql.specs.Calls.{AreRowsOf, CommitsNothing, Does, DoesOrUndoes, Reads, ReadsOnly, ReadsOrUndoes};
 
-use crate::reading::{bytes, integer, no_memory, number};
+use crate::reading::{TableRow, bytes, integer, number, read_rows};
 use sqlite::types::ValueRef;
 use sqlite::{Alter, Error, Row, Transaction};
 use std::alloc::Global;
@@ -44,31 +44,21 @@ pub fn insert_filter<S: Alter>(tx: &mut Transaction<'_, S>, filter: &FilterRow) 
     }
 }
 
-// Returns a filter as a row shows it. `OutOfMemory` if its texts could not be copied.
-fn filter_of(alloc: Global, row: &Row) -> Result<FilterRow, Error>
-    ensures { IfOk result (λ x. x ≡ filter_shown row.now) }
-{
-    let num = number(row, 0)?;
-    let owner = bytes(alloc, row, 1)?;
-    let source = bytes(alloc, row, 2)?;
-    let arrival = integer(row, 3)?;
-    Ok(FilterRow {
-        num,
-        owner,
-        source,
-        arrival,
-    })
-}
+impl TableRow for FilterRow {
+    ghost shown = { filter_shown };
 
-// Returns the filters as the rows of a query show them.
-fn filters_of(alloc: Global, shown: &[Row]) -> Result<Rows<FilterRow>, Error>
-    ensures { IfOk result (λ rows. rows ≡ map filter_shown shown.now) }
-{
-    let mut rows = Rows::new(alloc);
-    for row in shown {
-        rows.push(filter_of(alloc, row)?).map_err(no_memory)?;
+    fn read(alloc: Global, row: &Row) -> Result<FilterRow, Error> {
+        let num = number(row, 0)?;
+        let owner = bytes(alloc, row, 1)?;
+        let source = bytes(alloc, row, 2)?;
+        let arrival = integer(row, 3)?;
+        Ok(FilterRow {
+            num,
+            owner,
+            source,
+            arrival,
+        })
     }
-    Ok(rows)
 }
 
 /// Returns the filters, in order of their numbers.
@@ -86,7 +76,7 @@ pub fn read_filters<S: Alter>(
         "SELECT num, owner, source, arrival FROM filters ORDER BY num",
         &[],
     ) {
-        Ok(shown) => filters_of(alloc, shown.as_slice()),
+        Ok(shown) => read_rows(alloc, shown),
         Err(error) => Err(error),
     }
 }

@@ -1,12 +1,12 @@
 //! Writes and reads the rows of the table `notes`.
 
-ghost use Rattle.std.specs.Prelude.{◌≡◌, ◌<◌, ◌^◌, [], ◌∷◌, map, IfOk, OnOk};
+ghost use Rattle.std.specs.Prelude.{◌≡◌, ◌<◌, ◌^◌, [], ◌∷◌, OnOk};
 ghost use Rattle.sqlite.specs.Values.{bound};
 ghost use Rattle.keeper_sql.specs.RowsAsValues.{given_note, note_in, note_shown, as_kept};
 ghost use Rattle.keeper_sql.specs.Store.{only, RowsWritten};
 ghost use Rattle.keeper_sql.specs.Calls.{AreRowsOf, CommitsNothing, Does, DoesOrUndoes, Reads, ReadsOnly, ReadsOrUndoes};
 
-use crate::reading::{bytes, integer, no_memory, number};
+use crate::reading::{TableRow, bytes, integer, number, read_rows};
 use sqlite::types::ValueRef;
 use sqlite::{Alter, Error, Row, Transaction};
 use std::alloc::Global;
@@ -47,37 +47,27 @@ pub fn insert_note<S: Alter>(tx: &mut Transaction<'_, S>, note: &Note) -> Result
     }
 }
 
-// Returns a note as a row shows it. `OutOfMemory` if its texts could not be copied.
-fn note_of(alloc: Global, row: &Row) -> Result<Note, Error>
-    ensures { IfOk result (λ x. x ≡ note_shown row.now) }
-{
-    let num = NoteNum(number(row, 0)?);
-    let doc = DocNum(number(row, 1)?);
-    let author = bytes(alloc, row, 2)?;
-    let kind = bytes(alloc, row, 3)?;
-    let value = integer(row, 4)?;
-    let arrival = integer(row, 5)?;
-    let text = bytes(alloc, row, 6)?;
-    Ok(Note {
-        num,
-        doc,
-        author,
-        kind,
-        value,
-        arrival,
-        text,
-    })
-}
+impl TableRow for Note {
+    ghost shown = { note_shown };
 
-// Returns the notes as the rows of a query show them.
-fn notes_of(alloc: Global, shown: &[Row]) -> Result<Rows<Note>, Error>
-    ensures { IfOk result (λ rows. rows ≡ map note_shown shown.now) }
-{
-    let mut rows = Rows::new(alloc);
-    for row in shown {
-        rows.push(note_of(alloc, row)?).map_err(no_memory)?;
+    fn read(alloc: Global, row: &Row) -> Result<Note, Error> {
+        let num = NoteNum(number(row, 0)?);
+        let doc = DocNum(number(row, 1)?);
+        let author = bytes(alloc, row, 2)?;
+        let kind = bytes(alloc, row, 3)?;
+        let value = integer(row, 4)?;
+        let arrival = integer(row, 5)?;
+        let text = bytes(alloc, row, 6)?;
+        Ok(Note {
+            num,
+            doc,
+            author,
+            kind,
+            value,
+            arrival,
+            text,
+        })
     }
-    Ok(rows)
 }
 
 /// Returns the notes, in order of their numbers.
@@ -92,7 +82,7 @@ pub fn read_notes<S: Alter>(alloc: Global, tx: &mut Transaction<'_, S>) -> Resul
         "SELECT num, doc, author, kind, value, arrival, body FROM notes ORDER BY num",
         &[],
     ) {
-        Ok(shown) => notes_of(alloc, shown.as_slice()),
+        Ok(shown) => read_rows(alloc, shown),
         Err(error) => Err(error),
     }
 }

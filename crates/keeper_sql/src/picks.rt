@@ -1,12 +1,12 @@
 //! Writes and reads the rows of the table `picks`.
 
-ghost use Rattle.std.specs.Prelude.{◌≡◌, ◌<◌, ◌^◌, [], ◌∷◌, map, IfOk, OnOk};
+ghost use Rattle.std.specs.Prelude.{◌≡◌, ◌<◌, ◌^◌, [], ◌∷◌, map, OnOk};
 ghost use Rattle.sqlite.specs.Values.{bound};
 ghost use Rattle.keeper_sql.specs.RowsAsValues.{given_pick, pick_in, pick_shown, as_kept};
 ghost use Rattle.keeper_sql.specs.Store.{only, RowsWritten};
 ghost use Rattle.keeper_sql.specs.Calls.{AreRowsOf, CommitsNothing, Does, DoesOrUndoes, Reads, ReadsOnly, ReadsOrUndoes};
 
-use crate::reading::{integer, no_memory, number};
+use crate::reading::{TableRow, integer, number, read_rows};
 use sqlite::types::ValueRef;
 use sqlite::{Alter, Error, Row, Transaction};
 use std::alloc::Global;
@@ -59,33 +59,23 @@ pub fn insert_picks<S: Alter>(tx: &mut Transaction<'_, S>, picks: &[Pick]) -> Re
     Ok(())
 }
 
-// Returns a delivered document as a row shows it.
-fn pick_of(row: &Row) -> Result<Pick, Error>
-    ensures { IfOk result (λ x. x ≡ pick_shown row.now) }
-{
-    let num = number(row, 0)?;
-    let query = QueryNum(number(row, 1)?);
-    let run = number(row, 2)?;
-    let doc = DocNum(number(row, 3)?);
-    let first = integer(row, 4)?;
-    Ok(Pick {
-        num,
-        query,
-        run,
-        doc,
-        first,
-    })
-}
+impl TableRow for Pick {
+    ghost shown = { pick_shown };
 
-// Returns the delivered documents as the rows of a query show them.
-fn picks_of(alloc: Global, shown: &[Row]) -> Result<Rows<Pick>, Error>
-    ensures { IfOk result (λ rows. rows ≡ map pick_shown shown.now) }
-{
-    let mut rows = Rows::new(alloc);
-    for row in shown {
-        rows.push(pick_of(row)?).map_err(no_memory)?;
+    fn read(_alloc: Global, row: &Row) -> Result<Pick, Error> {
+        let num = number(row, 0)?;
+        let query = QueryNum(number(row, 1)?);
+        let run = number(row, 2)?;
+        let doc = DocNum(number(row, 3)?);
+        let first = integer(row, 4)?;
+        Ok(Pick {
+            num,
+            query,
+            run,
+            doc,
+            first,
+        })
     }
-    Ok(rows)
 }
 
 /// Returns the delivered documents, in order of their numbers.
@@ -100,7 +90,7 @@ pub fn read_picks<S: Alter>(alloc: Global, tx: &mut Transaction<'_, S>) -> Resul
         "SELECT num, query, run, doc, second FROM picks ORDER BY num",
         &[],
     ) {
-        Ok(shown) => picks_of(alloc, shown.as_slice()),
+        Ok(shown) => read_rows(alloc, shown),
         Err(error) => Err(error),
     }
 }

@@ -1,12 +1,12 @@
 //! Writes and reads the rows of the table `queries`.
 
-ghost use Rattle.std.specs.Prelude.{◌≡◌, ◌<◌, ◌^◌, [], ◌∷◌, map, IfOk, OnOk};
+ghost use Rattle.std.specs.Prelude.{◌≡◌, ◌<◌, ◌^◌, [], ◌∷◌, OnOk};
 ghost use Rattle.sqlite.specs.Values.{bound};
 ghost use Rattle.keeper_sql.specs.RowsAsValues.{given_query, query_in, query_shown, as_kept};
 ghost use Rattle.keeper_sql.specs.Store.{only, RowsWritten};
 ghost use Rattle.keeper_sql.specs.Calls.{AreRowsOf, CommitsNothing, Does, DoesOrUndoes, Reads, ReadsOnly, ReadsOrUndoes};
 
-use crate::reading::{bytes, integer, no_memory, number};
+use crate::reading::{TableRow, bytes, integer, number, read_rows};
 use sqlite::types::ValueRef;
 use sqlite::{Alter, Error, Row, Transaction};
 use std::alloc::Global;
@@ -45,33 +45,23 @@ pub fn insert_query<S: Alter>(tx: &mut Transaction<'_, S>, query: &QueryRow) -> 
     }
 }
 
-// Returns a query as a row shows it. `OutOfMemory` if its texts could not be copied.
-fn query_of(alloc: Global, row: &Row) -> Result<QueryRow, Error>
-    ensures { IfOk result (λ x. x ≡ query_shown row.now) }
-{
-    let num = QueryNum(number(row, 0)?);
-    let owner = bytes(alloc, row, 1)?;
-    let name = bytes(alloc, row, 2)?;
-    let source = bytes(alloc, row, 3)?;
-    let arrival = integer(row, 4)?;
-    Ok(QueryRow {
-        num,
-        owner,
-        name,
-        source,
-        arrival,
-    })
-}
+impl TableRow for QueryRow {
+    ghost shown = { query_shown };
 
-// Returns the queries as the rows of a query show them.
-fn queries_of(alloc: Global, shown: &[Row]) -> Result<Rows<QueryRow>, Error>
-    ensures { IfOk result (λ rows. rows ≡ map query_shown shown.now) }
-{
-    let mut rows = Rows::new(alloc);
-    for row in shown {
-        rows.push(query_of(alloc, row)?).map_err(no_memory)?;
+    fn read(alloc: Global, row: &Row) -> Result<QueryRow, Error> {
+        let num = QueryNum(number(row, 0)?);
+        let owner = bytes(alloc, row, 1)?;
+        let name = bytes(alloc, row, 2)?;
+        let source = bytes(alloc, row, 3)?;
+        let arrival = integer(row, 4)?;
+        Ok(QueryRow {
+            num,
+            owner,
+            name,
+            source,
+            arrival,
+        })
     }
-    Ok(rows)
 }
 
 /// Returns the queries, in order of their numbers.
@@ -89,7 +79,7 @@ pub fn read_queries<S: Alter>(
         "SELECT num, owner, name, source, arrival FROM queries ORDER BY num",
         &[],
     ) {
-        Ok(shown) => queries_of(alloc, shown.as_slice()),
+        Ok(shown) => read_rows(alloc, shown),
         Err(error) => Err(error),
     }
 }

@@ -1,12 +1,12 @@
 //! Writes and reads the rows of the table `runs`.
 
-ghost use Rattle.std.specs.Prelude.{◌≡◌, ◌<◌, ◌^◌, [], ◌∷◌, map, IfOk, OnOk};
+ghost use Rattle.std.specs.Prelude.{◌≡◌, ◌<◌, ◌^◌, [], ◌∷◌, OnOk};
 ghost use Rattle.sqlite.specs.Values.{bound};
 ghost use Rattle.keeper_sql.specs.RowsAsValues.{given_run, run_in, run_shown, as_kept};
 ghost use Rattle.keeper_sql.specs.Store.{only, RowsWritten};
 ghost use Rattle.keeper_sql.specs.Calls.{AreRowsOf, CommitsNothing, Does, DoesOrUndoes, Reads, ReadsOnly, ReadsOrUndoes};
 
-use crate::reading::{integer, no_memory, number};
+use crate::reading::{TableRow, integer, number, read_rows};
 use sqlite::types::ValueRef;
 use sqlite::{Alter, Error, Row, Transaction};
 use std::alloc::Global;
@@ -43,25 +43,15 @@ pub fn insert_run<S: Alter>(tx: &mut Transaction<'_, S>, run: &RunRow) -> Result
     }
 }
 
-// Returns a run as a row shows it.
-fn run_of(row: &Row) -> Result<RunRow, Error>
-    ensures { IfOk result (λ x. x ≡ run_shown row.now) }
-{
-    let num = number(row, 0)?;
-    let query = QueryNum(number(row, 1)?);
-    let moment = integer(row, 2)?;
-    Ok(RunRow { num, query, moment })
-}
+impl TableRow for RunRow {
+    ghost shown = { run_shown };
 
-// Returns the runs as the rows of a query show them.
-fn runs_of(alloc: Global, shown: &[Row]) -> Result<Rows<RunRow>, Error>
-    ensures { IfOk result (λ rows. rows ≡ map run_shown shown.now) }
-{
-    let mut rows = Rows::new(alloc);
-    for row in shown {
-        rows.push(run_of(row)?).map_err(no_memory)?;
+    fn read(_alloc: Global, row: &Row) -> Result<RunRow, Error> {
+        let num = number(row, 0)?;
+        let query = QueryNum(number(row, 1)?);
+        let moment = integer(row, 2)?;
+        Ok(RunRow { num, query, moment })
     }
-    Ok(rows)
 }
 
 /// Returns the runs, in order of their numbers.
@@ -76,7 +66,7 @@ pub fn read_runs<S: Alter>(
     ensures survives { CommitsNothing S.Store tx.old.conn.now tx.new.conn.now }
 {
     match tx.query_all("SELECT num, query, moment FROM runs ORDER BY num", &[]) {
-        Ok(shown) => runs_of(alloc, shown.as_slice()),
+        Ok(shown) => read_rows(alloc, shown),
         Err(error) => Err(error),
     }
 }

@@ -14,16 +14,16 @@ returns-in-Err-clause-err g c clean has = query_undone (state g.S.Store c.args.t
 
 pub returns-in-Ok-clause-same : goal.returns-in-Ok-clause-same
 returns-in-Ok-clause-same g c clean =
-    always_ok c.queries_of.result (shown_rests select_queries (state g.S.Store c.args.tx.now.conn.now) (state g.S.Store c.query_all.new.self.conn.now) _ queries_asks (c.in-Ok.ensures.ok clean))
+    always_ok c.read_rows.result (shown_rests select_queries (state g.S.Store c.args.tx.now.conn.now) (state g.S.Store c.query_all.new.self.conn.now) _ queries_asks (c.in-Ok.ensures.ok clean))
 
 pub returns-in-Ok-clause-read : goal.returns-in-Ok-clause-read
 returns-in-Ok-clause-read g c clean has =
     let old = state g.S.Store c.args.tx.now.conn.now in
     let new = state g.S.Store c.query_all.new.self.conn.now in
-    IfOk-weaker c.queries_of.result _ _ (λ rows is keyed. is ∙ ap (map query_shown) (c.as_slice.ensures.value ∙ queries_shown old new _ has keyed (c.in-Ok.ensures.ok clean)) ∙ map_twice query_shown show_query (old.now.trees 3)) c.queries_of.ensures
+    IfOk-weaker c.read_rows.result _ _ (λ rows is keyed. is ∙ ap (map query_shown) (queries_shown old new _ has keyed (c.in-Ok.ensures.ok clean)) ∙ map_twice query_shown show_query (old.now.trees 3)) c.read_rows.ensures
 
 pub returns-in-Ok-clause-err : goal.returns-in-Ok-clause-err
 returns-in-Ok-clause-err g c clean has =
     let old = state g.S.Store c.args.tx.now.conn.now in
     let new = state g.S.Store c.query_all.new.self.conn.now in
-    always_err c.queries_of.result (unchanged_undone old new (shown_rests select_queries old new _ queries_asks (c.in-Ok.ensures.ok clean)))
+    always_err c.read_rows.result (unchanged_undone old new (shown_rests select_queries old new _ queries_asks (c.in-Ok.ensures.ok clean)))

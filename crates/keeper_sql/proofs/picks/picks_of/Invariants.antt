@@ -1,7 +1,0 @@
-use Rattle.std.proofs.Common.{◌≡◌, map, take}
-use Rattle.keeper_sql.specs.RowsAsValues.{pick_shown}
-use Rattle.keeper_sql.proofs.picks.picks_of.Given as goal
-
--- the first rows are read
-abbrev pub invariant-loop-row : goal.invariant-loop-row
-invariant-loop-row l = l.rows ≡ map pick_shown (take l.row-index l.shown)
