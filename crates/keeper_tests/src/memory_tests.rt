@@ -9,6 +9,7 @@ ghost use Rattle.tap_base.specs.Counts.{Rose};
 use crate::documents::{TwoDocs, keep, one_doc, two_docs};
 use keeper_core::{AttachFault, CommitFault, KeepPlan, Keeper, MemKeeper, SureKeeper};
 use std::alloc::Global;
+use std::fmt::Display;
 use std::test::Fail;
 use tap_base::Memory;
 use tap_rows::{Change, Tables};
@@ -77,6 +78,11 @@ fn kept(alloc: Global, version: i64, fail: Option<KeepPlan>) -> Result<Kept, Mem
     Ok(kept)
 }
 
+// Returns a plan by which the call of this number fails, with its rows kept or not.
+fn plan_of(fail: Option<(u64, bool)>) -> Option<KeepPlan> {
+    fail.map(|(call, kept)| KeepPlan { call, kept })
+}
+
 #[test]
 fn keepers_fail_by_their_plan(rt: HostRuntime) -> Result<(), Memory> {
     let rows: [(i64, Option<(u64, bool)>, Kept); 7] = [
@@ -89,8 +95,7 @@ fn keepers_fail_by_their_plan(rt: HostRuntime) -> Result<(), Memory> {
         (2, Some((2, true)), (5, 1, 2, 2)),
     ];
     for (version, fail, expected) in rows {
-        let plan = fail.map(|(call, kept)| KeepPlan { call, kept });
-        assert_eq!(rt; kept(rt.alloc(), version, plan)?, expected);
+        assert_eq!(rt; kept(rt.alloc(), version, plan_of(fail))?, expected);
     }
     Ok(())
 }
@@ -125,20 +130,20 @@ fn a_sure_keeper_gives_its_tables(rt: HostRuntime) -> Result<(), Memory> {
     Ok(())
 }
 
+// Does a value show as this text?
+fn shows<T: Display>(alloc: Global, value: &T, text: &str) -> Result<bool, Fail> {
+    let shown = format!(in alloc; "{}", value)?;
+    let is_it = shown.as_str() == text;
+    drop(shown);
+    Ok(is_it)
+}
+
 #[test]
 fn faults_have_texts(rt: HostRuntime) -> Result<(), Fail> {
     let alloc = rt.alloc();
-    assert_eq!(rt;
-        format!(in alloc; "{}", AttachFault::Alien { version: -7 })?.as_str(),
-        "store version -7"
-    );
-    assert_eq!(rt;
-        format!(in alloc; "{}", AttachFault::Failed)?.as_str(),
-        "store failed"
-    );
-    assert_eq!(rt;
-        format!(in alloc; "{}", CommitFault::Memory)?.as_str(),
-        "no memory"
-    );
+    let alien = AttachFault::Alien { version: -7 };
+    assert!(rt; shows(alloc, &alien, "store version -7")?);
+    assert!(rt; shows(alloc, &AttachFault::Failed, "store failed")?);
+    assert!(rt; shows(alloc, &CommitFault::Memory, "no memory")?);
     Ok(())
 }
