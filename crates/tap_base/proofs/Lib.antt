@@ -4,3 +4,4 @@ pub mod Missing
 pub mod Digits
 pub mod Forms
 pub mod WordLaws
+pub mod ShortLaws

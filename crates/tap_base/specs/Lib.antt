@@ -5,3 +5,4 @@ pub mod Numbers
 pub mod Words
 pub mod LineWords
 pub mod Laws
+pub mod Stores

@@ -3,21 +3,26 @@ ghost use Rattle.std.specs.Prelude.{◌≡◌, ◌++◌, ◌<◌, ◌^◌, List,
 ghost use Rattle.std.specs.Str.{str_to_ascii_lowercase};
 
 use crate::Memory;
+use crate::short_bytes::{SHORT_LEN, ShortBytes};
+use crate::text_store::{TextStore, lowered_store, store_of};
 use std::alloc::Global;
 use std::hash::{Hash, Hasher};
 use std::marker::Model;
 
-/// A text: a list of bytes, which need not be UTF-8.
+/// A text: a list of bytes, which need not be UTF-8. A text of at most 30 bytes is no allocation.
 #[derive(Drop)]
 pub struct Text {
-    bytes: Vec<u8>,
+    store: TextStore,
     alloc: Global,
 }
 
 impl Model for Text {
+    ghost use Rattle.std.specs.Prelude.{ℕ, List};
+    ghost use Rattle.tap_base.specs.Stores.{stored};
+
     ghost Value = { List ℕ };
 
-    ghost view = { λ t. t.bytes.items };
+    ghost view = { λ t. stored t.store };
 }
 
 impl PartialEq for Text {
@@ -52,7 +57,6 @@ impl Hash for Text {
 
     // The bytes are given as one run: the hash of a slice takes each byte by itself.
     fn hash<H: Hasher>(&self, state: &mut H) {
-        state.write_usize(self.len());
         state.write(self.as_slice());
     }
 }
@@ -63,7 +67,7 @@ impl Text {
         ensures { result ≡ [] }
     {
         Text {
-            bytes: Vec::new(alloc),
+            store: TextStore::Short(ShortBytes::of(&[])),
             alloc,
         }
     }
@@ -72,15 +76,20 @@ impl Text {
     pub fn from_slice(alloc: Global, bytes: &[u8]) -> Result<Text, Memory>
         ensures { IfOk result (λ text. text ≡ bytes.now) }
     {
-        let bytes = Vec::from_slice(alloc, bytes)?;
-        Ok(Text { bytes, alloc })
+        let store = store_of(alloc, bytes)?;
+        Ok(Text { store, alloc })
     }
 
     /// Returns a text of the bytes of a vector.
     pub fn from_vec(alloc: Global, bytes: Vec<u8>) -> Text
         ensures { result ≡ bytes.items }
     {
-        Text { bytes, alloc }
+        let store = if bytes.len() <= SHORT_LEN {
+            TextStore::Short(ShortBytes::of(&bytes))
+        } else {
+            TextStore::Long(bytes)
+        };
+        Text { store, alloc }
     }
 
     /// Appends these bytes. The text is unchanged if this fails, which it does when out of memory.
@@ -88,49 +97,42 @@ impl Text {
         ensures ok { OnOk result (self.new ≡ self.old ++ bytes.now) }
         ensures err { OnErr result (self.new ≡ self.old) }
     {
-        self.bytes.extend_from_slice(bytes)?;
-        Ok(())
+        self.store.push(self.alloc, bytes)
     }
 
-    // Replaces the text by these bytes with A to Z lowered. Some of it may be left if this fails.
-    pub(crate) fn lower_from(&mut self, bytes: &[u8]) -> Result<(), Memory>
-        ensures { OnOk result (self.new ≡ str_to_ascii_lowercase bytes.now) }
+    // Returns a text of these bytes with A to Z lowered.
+    pub(crate) fn lowered(alloc: Global, bytes: &[u8]) -> Result<Text, Memory>
+        ensures { IfOk result (λ text. text ≡ str_to_ascii_lowercase bytes.now) }
     {
-        self.bytes.clear();
-        self.bytes.extend_from_slice(bytes)?;
-        self.bytes.make_ascii_lowercase();
-        Ok(())
+        let store = lowered_store(alloc, bytes)?;
+        Ok(Text { store, alloc })
     }
 
     /// Returns all bytes.
     pub fn as_slice(&self) -> &[u8]
         ensures { result.now ≡ self.now }
     {
-        &self.bytes
+        self.store.as_slice()
     }
 
     /// Returns how many bytes there are.
     pub fn len(&self) -> usize
         ensures { result ≡ length self.now }
     {
-        self.bytes.len()
+        self.store.as_slice().len()
     }
 
     /// Removes all bytes but the first `len`.
     pub fn cut(&mut self, len: usize)
         ensures { self.new ≡ take len self.old }
     {
-        self.bytes.truncate(len);
+        self.store.cut(len);
     }
 
     /// Returns a copy of the text. Fails with `Memory` when out of memory.
     pub fn copy(&self) -> Result<Text, Memory>
         ensures { IfOk result (λ text. text ≡ self.now) }
     {
-        let bytes = Vec::from_slice(self.alloc, &self.bytes)?;
-        Ok(Text {
-            bytes,
-            alloc: self.alloc,
-        })
+        Text::from_slice(self.alloc, self.as_slice())
     }
 }

@@ -53,7 +53,6 @@ impl<'a> Hash for TextBytes<'a> {
     ghost respects_eq = { (on_Alike (λ x. x.0.now) (same_Alike text_writes bytes_decides)).fed };
 
     fn hash<H: Hasher>(&self, state: &mut H) {
-        state.write_usize(self.0.len());
         state.write(self.0);
     }
 }

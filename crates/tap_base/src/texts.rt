@@ -29,6 +29,14 @@ impl Texts {
         }
     }
 
+    // Returns the empty list, with room for so many texts.
+    pub(crate) fn with_room(alloc: Global, len: usize) -> Result<Texts, Memory>
+        ensures { IfOk result (λ texts. texts ≡ []) }
+    {
+        let items = Vec::with_capacity(alloc, len)?;
+        Ok(Texts { items })
+    }
+
     /// Appends a text. The list is unchanged if this fails, which it does when out of memory.
     pub fn push(&mut self, text: Text) -> Result<(), Memory>
         ensures ok { OnOk result (self.new ≡ self.old ++ text ∷ []) }
@@ -87,7 +95,7 @@ impl Texts {
     pub fn copy(&self) -> Result<Texts, Memory>
         ensures { IfOk result (λ texts. texts ≡ self.now) }
     {
-        let mut texts = Texts::new(*self.items.allocator());
+        let mut texts = Texts::with_room(*self.items.allocator(), self.items.len())?;
         for text in &self.items {
             texts.push(text.copy()?)?;
         }

@@ -1,0 +1,9 @@
+-- What the store of a text has.
+use Rattle.std.specs.Prelude.{ℕ, List}
+use Rattle.tap_base.specs.declared.text_store.TextStore.{TextStore}
+use Rattle.tap_base.specs.declared.text_store.TextStore.TheVariants.{Short, Long}
+
+-- the bytes of a text, wherever they lie
+abbrev pub stored : TextStore → List ℕ
+stored (Short bytes) = bytes
+stored (Long bytes) = bytes.items
