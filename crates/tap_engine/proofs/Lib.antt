@@ -8,7 +8,6 @@ mod StandingLaws
 mod AskLaws
 mod DueLaws
 mod MemoryTurns
-mod SomeRows
 mod PerformLaws
 mod CostLaws
 mod NoteLaws

@@ -20,7 +20,7 @@ use Rattle.tap_model.specs.Stories.{Step, next_tables}
 use Rattle.tap_model.specs.Sound.{IsSoundFor}
 use Rattle.tap_model.proofs.AnswerLaws.{some-none}
 use Rattle.tap_model.proofs.FitLaws.{accepted_fits}
-use Rattle.tap_engine.proofs.SomeRows.{change-rows}
+use Rattle.tap_model.proofs.SomeRows.{change-rows}
 use Rattle.tap_model.proofs.NextLaws.{next-is}
 use Rattle.query_eval.specs.Hits.{HitsWithRoom}
 use Rattle.tap_engine.proofs.MemoryTurns.{first-none}

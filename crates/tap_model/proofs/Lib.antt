@@ -3,6 +3,7 @@ pub mod RowLaws
 pub mod RunFits
 pub mod HeldLaws
 pub mod FitLaws
+pub mod SomeRows
 pub mod TextLaws
 pub mod SoundLaws
 pub mod NextLaws

@@ -1,7 +1,8 @@
 -- Laws of stories.
-use Rattle.std.specs.Prelude.{◌≡◌, ◌↔◌, true, codes, Some, IsOk}
+use Rattle.std.specs.Prelude.{◌≡◌, ◌≢◌, ◌↔◌, true, [], codes, Some, IsOk}
 use Rattle.tap_rows.specs.declared.tables.Tables.{Tables}
 use Rattle.tap_rows.specs.declared.change.Change.{Change}
+use Rattle.tap_rows.specs.declared.change.Change.TheVariants.{Docs}
 use Rattle.tap_rows.specs.Tables.{no_rows}
 use Rattle.tap_rows.specs.Deliveries.{delivered}
 use Rattle.tap_rows.specs.Fits.{fits}
@@ -33,11 +34,12 @@ pub record StepsAreSound : Type 0 where
       → Step tables session command reply tables' session' → IsSoundFor command tables session
       → (other : Command) → IsSoundFor other tables session → IsSoundFor other tables' session'
 
--- at a point that is sound for a command, the rows that it adds stand in order behind those of the tables
+-- the change of an answer has rows; at a point that is sound for the command they stand in order behind those of the tables
 abbrev pub AcceptedChangesFit : Type 0
 AcceptedChangesFit =
     (tables : Tables) (session : Session) (command : Command) (change : Change)
-    → IsSoundFor command tables session → (answer_of command session tables).change ≡ Some change → fits tables change ≡ true
+    → (answer_of command session tables).change ≡ Some change
+    → (change ≢ Docs []) × (IsSoundFor command tables session → fits tables change ≡ true)
 
 -- a point is sound if and only if it is sound for every command
 abbrev pub SoundIsForEachCommand : Type 0

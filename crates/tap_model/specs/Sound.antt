@@ -28,15 +28,19 @@ abbrev pub IsUser : Option (List ℕ) → Type 0
 IsUser None = Unit {0}
 IsUser (Some name) = is_name name ≡ true
 
--- a sound point: each query's deliveries are its box; no row is later than the session's moment; the rows stand in order; the
--- texts of queries and filters can be read; and the session's user is a name
-pub record IsSound (tables : Tables) (session : Session) : Type 0 where
-  pub kept : IsKept truth_of start_of tables
+-- a point at which what is said of deliveries holds; no row is later than the session's moment; the rows stand in order; the texts of
+-- queries and filters can be read; and the session's user is a name
+pub record IsSoundWith (deliveries : Type 0) (tables : Tables) (session : Session) : Type 0 where
+  pub kept : deliveries
   pub now : IsNow session.moment tables
   pub formed : is_well_formed tables ≡ true
   pub sources : Each (λ query. text_fault (condition_text query.source) ≡ None) tables.queries
   pub rules : Each (λ filter. filter_fault filter.source ≡ None) tables.filters
   pub user : IsUser session.user
+
+-- a sound point: each query's deliveries are its box, too
+abbrev pub IsSound : Tables → Session → Type 0
+IsSound tables session = IsSoundWith (IsKept truth_of start_of tables) tables session
 
 -- tables that a session may begin with: those that one left
 abbrev pub IsStore : Tables → Type 0
@@ -62,10 +66,5 @@ asks_deliveries (DigestOf name ordinal) = true
 asks_deliveries (Bad refusal) = false
 
 -- a sound point, but the deliveries need be boxes only if the command looks at them
-pub record IsSoundFor (command : Command) (tables : Tables) (session : Session) : Type 0 where
-  pub kept : asks_deliveries command ≡ true → IsKept truth_of start_of tables
-  pub now : IsNow session.moment tables
-  pub formed : is_well_formed tables ≡ true
-  pub sources : Each (λ query. text_fault (condition_text query.source) ≡ None) tables.queries
-  pub rules : Each (λ filter. filter_fault filter.source ≡ None) tables.filters
-  pub user : IsUser session.user
+abbrev pub IsSoundFor : Command → Tables → Session → Type 0
+IsSoundFor command tables session = IsSoundWith (asks_deliveries command ≡ true → IsKept truth_of start_of tables) tables session

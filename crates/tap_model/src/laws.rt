@@ -12,9 +12,9 @@ pub fn every_step_is_sound()
     ensures { StepsAreSound }
 {}
 
-/// Shows that at a point that is sound for a command, the rows that it adds stand in order behind those of the tables: each
-/// has its place as its number, a moment that is not below the last one, names that are names, and references to rows that
-/// exist. A run delivers each of its documents for the first time. What was delivered before matters to a run alone.
+/// Shows that a command that changes the tables adds rows. At a point that is sound for it, these stand in order behind those of
+/// the tables: each has its place as its number, a moment that is not below the last one, names that are names, and references
+/// to rows that exist. A run delivers each of its documents for the first time. What was delivered before matters to a run alone.
 pub fn accepted_changes_fit()
     ensures { AcceptedChangesFit }
 {}
