@@ -65,6 +65,7 @@ abbrev pub IsSession : ℕ → Type 0
 IsSession status = (status ≤ 1) ⊎ ((status ≡ 3) ⊎ ((status ≡ 4) ⊎ (status ≡ 8)))
 
 -- how a session of this user over these letters ended, from its greeting on
-abbrev pub LettersEnd : ℕ → List ℕ → List ℕ → List Letter → Option (List ℕ) → Option (List ℕ) → Option (List ℕ) → Option (List ℕ) → Type 0
+abbrev pub LettersEnd :
+    ℕ → List ℕ → List ℕ → List Letter → Option (List ℕ) → Option (List ℕ) → Option (List ℕ) → Option (List ℕ) → Type 0
 LettersEnd status user secret letters left left' out out' =
     SessionEnds (λ bytes. pop_replies bytes user secret letters) (λ bytes. has_quit bytes user secret) left left' out out' status greeting

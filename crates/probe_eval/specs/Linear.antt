@@ -48,7 +48,8 @@ path_bound n m (suc k) = rest_bound n (suc k) + m + n * (1 + path_bound n m k)
 -- the bound of a probe is at most so many steps for each driving row that is walked, however many rows the tables have
 abbrev pub ProbesByIndexAreLinear : Type 0
 ProbesByIndexAreLinear =
-    (T : Tables) (w : Window) (p : Probe) (v : Var) (order : List Reach) (n m : ℕ) → IsProbe p → is_bounded p.at ≡ true → seek_var (seek_of p.at) ≡ Some v
+    (T : Tables) (w : Window) (p : Probe) (v : Var) (order : List Reach) (n m : ℕ)
+    → IsProbe p → is_bounded p.at ≡ true → seek_var (seek_of p.at) ≡ Some v
     → HasShortAccesses T p.path v n → HasShortBody T p m
     → seek_cost T w p order (seek_of p.at) (Some v) ≤ length (walked T w p (seek_of p.at) v) * (1 + path_bound n m (length order))
 

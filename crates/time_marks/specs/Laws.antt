@@ -41,7 +41,8 @@ pub record Crossed (T : Tables) (s : ℤ) (scope : List ℕ) (env penv : Env) (m
 -- sign plus, from true to false at one of sign minus
 abbrev pub ChangesAtMarks : Type 0
 ChangesAtMarks =
-    (T : Tables) (u s : ℤ) → s ≡ u +ℤ pos 1 → (c : Condition) (up : Bool) (scope : List ℕ) (env penv : Env) → Scoped scope c → Keeps scope env penv
+    (T : Tables) (u s : ℤ) → s ≡ u +ℤ pos 1 → (c : Condition) (up : Bool) (scope : List ℕ) (env penv : Env)
+    → Scoped scope c → Keeps scope env penv
     → truth (visible T u) u c env ≡ not up → truth (visible T s) s c env ≡ up → Crossed T s scope env penv (marks c up)
 
 -- the body at a mark with the second b is true if and only if the condition holds at b

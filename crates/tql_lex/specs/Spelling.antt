@@ -21,9 +21,11 @@ between_quotes content = flat_map doubled content
 
 -- bytes that a token of this kind may be written in
 pub data Spells : List ℕ → Kind → Type 0 where
-  word_is : (b : ℕ) (rest : List ℕ) → begins_word b ≡ true → list_all is_of_word rest ≡ true → Spells (b ∷ rest) (Word (str_to_ascii_lowercase (b ∷ rest)))
+  word_is : (b : ℕ) (rest : List ℕ)
+      → begins_word b ≡ true → list_all is_of_word rest ≡ true → Spells (b ∷ rest) (Word (str_to_ascii_lowercase (b ∷ rest)))
   number_is : (b : ℕ) (rest : List ℕ)
-      → is_digit b ≡ true → list_all is_digit rest ≡ true → digits_value 10 (b ∷ rest) ≤ most → Spells (b ∷ rest) (Number (pos (digits_value 10 (b ∷ rest))))
+      → is_digit b ≡ true → list_all is_digit rest ≡ true → digits_value 10 (b ∷ rest) ≤ most
+      → Spells (b ∷ rest) (Number (pos (digits_value 10 (b ∷ rest))))
   text_is : (content : List ℕ) → Spells (39 ∷ (between_quotes content ++ 39 ∷ [])) (Str content)
   short_is : (b : ℕ) (sign : Sign) → short_sign b ≡ Some sign → Spells (b ∷ []) (Mark sign)
   long_is : (b c : ℕ) (sign : Sign) → long_sign b c ≡ Some sign → Spells (b ∷ c ∷ []) (Mark sign)

@@ -26,7 +26,8 @@ counted_from kind scores (vote ∷ votes) = counted_from kind (counted_if kind v
 -- each score has at most n votes of 64 bits
 abbrev pub AreSmall : ℕ → List Score → Type 0
 AreSmall n scores =
-    Each (λ score. (score.voters ≤ n) × (neg_ℤ (pos (9223372036854775808 * n)) ≤ℤ score.sum) × (score.sum ≤ℤ pos (9223372036854775808 * n))) scores
+    Each (λ score.
+        (score.voters ≤ n) × (neg_ℤ (pos (9223372036854775808 * n)) ≤ℤ score.sum) × (score.sum ≤ℤ pos (9223372036854775808 * n))) scores
 
 -- no two are of one document
 abbrev pub AreApart : List Score → Type 0
