@@ -51,32 +51,44 @@ def mail(i):
 
 
 def script(name, mails, runs=0):
-    """Writes a script of so many mails, one run, and so many quiet runs, and returns its path and its bytes of mail."""
+    """Writes a script of so many mails, one run, and so many quiet runs, and the same for the peer; returns its path and its bytes
+    of mail."""
     path = os.path.join(SCRATCH, name)
     size = 0
-    with open(path, "w") as out:
-        out.write("at 1000\nas ann\nquery q m.words HAS 'xyzzy'\n")
+    with open(path, "w") as out, open(path + ".peer", "w") as other:
+
+        def put(text):
+            out.write(text)
+            other.write(text)
+
+        put("at 1000\nas ann\n")
+        out.write("query q m.words HAS 'xyzzy'\n")
+        other.write("query q word xyzzy\n")
         for i in range(1, mails + 1):
             text = mail(i)
             size += len(text) - 7
-            out.write(text)
-        out.write("at 2000\nrun q\n")
+            put(text)
+        put("at 2000\nrun q\n")
         for k in range(1, runs + 1):
-            out.write(f"at {2000 + k}\nrun q\n")
-    with open(path) as whole, open(path + ".peer", "w") as out:
-        out.write(whole.read().replace("query q m.words HAS 'xyzzy'", "query q word xyzzy"))
+            put(f"at {2000 + k}\nrun q\n")
     return path, size
 
 
 def run(words, path):
-    """Returns what a program writes for a script, its processor seconds and its peak memory in bytes."""
-    replies = os.path.join(SCRATCH, "replies")
+    """Returns what a program writes for a script, its processor seconds and its peak memory in bytes. GNU time is asked, if it is
+    there: the system counts the memory of the process that starts another as that other's."""
+    replies, times = os.path.join(SCRATCH, "replies"), os.path.join(SCRATCH, "times")
+    timer = ["/usr/bin/time", "-f", "%U %S %M", "-o", times] if os.path.exists("/usr/bin/time") else []
     with open(path, "rb") as source, open(replies, "wb") as sink:
-        child = subprocess.Popen(words, stdin=source, stdout=sink)
+        child = subprocess.Popen([*timer, *words], stdin=source, stdout=sink)
         _, status, usage = os.wait4(child.pid, 0)
         child.returncode = status
+    user, system, peak = usage.ru_utime, usage.ru_stime, usage.ru_maxrss
+    if timer:
+        with open(times) as it:
+            user, system, peak = (float(number) for number in it.read().split("\n")[-2].split())
     with open(replies, "rb") as it:
-        return it.read(), usage.ru_utime + usage.ru_stime, usage.ru_maxrss * 1024
+        return it.read(), user + system, peak * 1024
 
 
 def instructions(words, path):
