@@ -101,7 +101,7 @@ fn serve_box<S: Source, K: Sink, P: Keeper, L: Ledger>(
 {
     match open_store(alloc, key, &asked.place, keeper) {
         Ok(engine) => serve_with(alloc, asked, source, sink, engine, steps),
-        Err(OpenFault::Refused(fault)) => refuse(fault, sink),
+        Err(OpenFault::Refused(fault)) => refuse(fault, sink).code(),
         Err(OpenFault::Keeper) => 5,
         Err(OpenFault::Memory) => 7,
     }

@@ -1,3 +1,4 @@
+pub mod Codes
 mod Stories
 mod Steps
 mod Runs

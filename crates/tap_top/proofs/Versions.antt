@@ -5,9 +5,12 @@ use Rattle.tap_rows.specs.declared.tables.Tables.{Tables}
 use Rattle.keeper_core.specs.declared.fault.AttachFault.{AttachFault}
 use Rattle.keeper_core.specs.declared.fault.AttachFault.TheVariants.{Alien}
 use Rattle.keeper_core.specs.Keeping.{IfAlien}
+use Rattle.tap_top.specs.declared.status.Status.{Status}
+use Rattle.tap_top.specs.Codes.{code_of, IsOfClose, IsOfRun}
 use Rattle.tap_top.specs.declared.opening.OpenFault.{OpenFault}
 use Rattle.tap_top.specs.declared.opening.OpenFault.TheVariants.{Refused as RefusedStore, Keeper, Memory}
 use Rattle.tap_top.specs.Opened.{IfRefused}
+use Rattle.tap_top.proofs.Codes.{run-code, close-code}
 use Rattle.tap_top.specs.Versions.{IsMigrated, MayBeMigrated, MayBeUnopened, VersionAtExit}
 
 -- a store of a known version was attached
@@ -37,11 +40,17 @@ each-refused (Err (RefusedStore fault)) P holds = holds
 each-refused (Err Keeper) P holds = tt
 each-refused (Err Memory) P holds = tt
 
-pub run-not-two : (status : ℕ) → (status ≤ 1 ⊎ (status ≡ 3 ⊎ (status ≡ 4 ⊎ (status ≡ 5 ⊎ (status ≡ 7 ⊎ status ≡ 8))))) → status ≡ 2 → ⊥
-run-not-two status one is = grind (arith, one, is)
+run-not : (n : ℕ) → (n ≤ 1 ⊎ (n ≡ 3 ⊎ (n ≡ 4 ⊎ (n ≡ 5 ⊎ (n ≡ 7 ⊎ n ≡ 8))))) → n ≡ 2 → ⊥
+run-not n one is = grind (arith, one, is)
 
-pub sample-not-two : (status : ℕ) → (status ≤ 1 ⊎ (status ≡ 4 ⊎ (status ≡ 5 ⊎ status ≡ 7))) → status ≡ 2 → ⊥
-sample-not-two status one is = grind (arith, one, is)
+pub run-not-two : (status : Status) → IsOfRun status → code_of status ≡ 2 → ⊥
+run-not-two status one is = run-not (code_of status) (run-code status one) is
+
+sample-not : (n : ℕ) → (n ≤ 1 ⊎ (n ≡ 4 ⊎ (n ≡ 5 ⊎ n ≡ 7))) → n ≡ 2 → ⊥
+sample-not n one is = grind (arith, one, is)
+
+pub sample-not-two : (status : Status) → IsOfClose status → code_of status ≡ 2 → ⊥
+sample-not-two status one is = sample-not (code_of status) (close-code status one) is
 
 -- the store was opened, and has version 2
 pub exit-opened : (status : ℕ) (versions versions' : ℤ → Type 0) → (status ≡ 2 → ⊥) → versions' (pos 2) → ((v : ℤ) → versions v → (v ≡ pos 1) ⊎ (v ≡ pos 2)) → VersionAtExit status versions versions'

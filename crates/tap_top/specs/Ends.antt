@@ -4,20 +4,23 @@ use Rattle.keeper_core.specs.Keeping.{IsDurable}
 use Rattle.tap_rows.specs.declared.tables.Tables.{Tables}
 use Rattle.sample_gen.specs.Samples.{sample_of}
 use Rattle.tap_model.specs.Sessions.{no_session}
+use Rattle.tap_top.specs.declared.status.Status.{Status}
+use Rattle.tap_top.specs.declared.status.Status.TheVariants as s
+use Rattle.tap_top.specs.Codes.{IsDone, is_all_ok}
 use Rattle.tap_top.specs.Premises.{IfKnown}
 use Rattle.tap_top.specs.Statuses.{Whole, ReadCut, PutCut, KeeperCut, Unattached, OutOfMemory, TooLong}
 use Rattle.tap_top.specs.Crashes.{LeavesPrefix}
 use Rattle.tap_top.specs.Samples.{Sampled, SampledCut, FirstPerformed, NextUncommitted, LeavesFirst, LeavesOnly}
 
 -- how a script ended that an engine performed over these tables, by the status
-pub record EngineScriptEnds (status : ℕ) (tables : Tables) (left left' out out' : Option (List ℕ))
+pub record EngineScriptEnds (status : Status) (tables : Tables) (left left' out out' : Option (List ℕ))
     (tells leaves : Tables → Type 0) : Type 0 where
-  pub whole : status ≤ 1 → Whole tables left left' out out' (IsDurable tells leaves) (status == 0)
-  pub read : status ≡ 3 → ReadCut tables left left' out out' (IsDurable tells leaves)
-  pub put : status ≡ 4 → PutCut tables left left' out out' (IsDurable tells leaves)
-  pub uncommitted : status ≡ 5 → KeeperCut tables left left' out out' leaves
-  pub memory : status ≡ 7 → OutOfMemory tables left left' out out' (IsDurable tells leaves)
-  pub long : status ≡ 8 → TooLong tables left left' out out' (IsDurable tells leaves)
+  pub whole : IsDone status → Whole tables left left' out out' (IsDurable tells leaves) (is_all_ok status)
+  pub read : status ≡ s.ReadFailed → ReadCut tables left left' out out' (IsDurable tells leaves)
+  pub put : status ≡ s.PutFailed → PutCut tables left left' out out' (IsDurable tells leaves)
+  pub uncommitted : status ≡ s.KeeperFailed → KeeperCut tables left left' out out' leaves
+  pub memory : status ≡ s.OutOfMemory → OutOfMemory tables left left' out out' (IsDurable tells leaves)
+  pub long : status ≡ s.ScriptTooLong → TooLong tables left left' out out' (IsDurable tells leaves)
 
 -- how a script ended over the store of these tables, by the status; and what a crash leaves, with every status: the tables
 -- after some first commands, all acknowledged ones among them
@@ -32,12 +35,12 @@ pub record ScriptEnds (status : ℕ) (tables : Tables) (left left' out out' : Op
   pub crash : LeavesPrefix tables left left' out out' versions leaves
 
 -- how a sample of n messages ended that an engine performed over these tables, by the status
-pub record EngineSampleEnds (status : ℕ) (tables : Tables) (n : ℕ) (out out' : Option (List ℕ))
+pub record EngineSampleEnds (status : Status) (tables : Tables) (n : ℕ) (out out' : Option (List ℕ))
     (tells leaves : Tables → Type 0) : Type 0 where
-  pub whole : status ≤ 1 → Sampled tables n out out' (IsDurable tells leaves) (status == 0)
-  pub put : status ≡ 4 → SampledCut tables n out out' (IsDurable tells leaves)
-  pub uncommitted : status ≡ 5 → NextUncommitted tables no_session (sample_of n) leaves
-  pub memory : status ≡ 7 → FirstPerformed tables no_session (sample_of n) (IsDurable tells leaves)
+  pub whole : IsDone status → Sampled tables n out out' (IsDurable tells leaves) (is_all_ok status)
+  pub put : status ≡ s.PutFailed → SampledCut tables n out out' (IsDurable tells leaves)
+  pub uncommitted : status ≡ s.KeeperFailed → NextUncommitted tables no_session (sample_of n) leaves
+  pub memory : status ≡ s.OutOfMemory → FirstPerformed tables no_session (sample_of n) (IsDurable tells leaves)
 
 -- how a sample of n messages ended over the store of these tables, by the status; and what a crash leaves, with every status:
 -- the tables after some first commands

@@ -6,11 +6,13 @@ pub mod laws;
 mod opening;
 mod refusing;
 mod sampled;
+mod status;
 mod store_fault;
 mod tally;
 mod top;
 
 pub use opening::{OpenFault, open_store};
 pub use refusing::refuse;
+pub use status::Status;
 pub use store_fault::StoreFault;
 pub use top::{PIECE, SCRIPT_LIMIT, tapestry};

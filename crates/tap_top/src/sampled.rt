@@ -9,6 +9,7 @@ ghost use Rattle.script_lang.specs.declared.refusal.Refusal.{Refusal as RefusalO
 ghost use Rattle.sample_gen.specs.Summaries.{summary_lines};
 ghost use Rattle.tap_model.specs.Sessions.{no_session};
 ghost use Rattle.tap_top.specs.declared.sampled.Cut.{Cut};
+ghost use Rattle.tap_top.specs.Codes.{code_of, IsDone, is_all_ok, IsOfClose};
 ghost use Rattle.tap_top.specs.Refusals.{Refusals};
 ghost use Rattle.tap_top.specs.Points.{CanPerform};
 ghost use Rattle.tap_top.specs.Frames.{CommandFrame};
@@ -19,6 +20,7 @@ ghost use Rattle.tap_top.specs.Samples.{refusals_in, hits_in, Performed, Counted
 
 use crate::opening::{OpenFault, open_store};
 use crate::refusing::refuse;
+use crate::status::Status;
 use crate::tally::Tally;
 use keeper_core::Keeper;
 use sample_gen::{Summary, sample};
@@ -135,19 +137,19 @@ fn sum_up(n: u32, commands: usize, tally: Tally, engine: &Engine) -> Summary
     }
 }
 
-// Puts the lines of a summary; returns the status: 0 if no command was refused, else 1, or 4 if the put failed.
-fn put_summary<K: Sink>(summary: Summary, sink: &mut K) -> u8
-    ensures statuses { result ≤ 1 ⊎ result ≡ 4 }
-    ensures ok { result ≤ 1 → (result == 0) ≡ (summary.refused == 0) }
-    ensures whole { result ≤ 1 → Appends (K.out sink.old) (K.out sink.new) (summary_lines summary) }
-    ensures cut { result ≡ 4 → FrontPut (summary_lines summary) (K.out sink.old) (K.out sink.new) }
-    ensures cause { result ≡ 4 → Rose (K.faults sink.old) (K.faults sink.new) }
-    ensures calm { result ≢ 4 → K.faults sink.new ≡ K.faults sink.old }
+// Puts the lines of a summary; returns the status of the run.
+fn put_summary<K: Sink>(summary: Summary, sink: &mut K) -> Status
+    ensures statuses { IsDone result ⊎ result ≡ Status.PutFailed }
+    ensures ok { IsDone result → is_all_ok result ≡ (summary.refused == 0) }
+    ensures whole { IsDone result → Appends (K.out sink.old) (K.out sink.new) (summary_lines summary) }
+    ensures cut { result ≡ Status.PutFailed → FrontPut (summary_lines summary) (K.out sink.old) (K.out sink.new) }
+    ensures cause { result ≡ Status.PutFailed → Rose (K.faults sink.old) (K.faults sink.new) }
+    ensures calm { result ≢ Status.PutFailed → K.faults sink.new ≡ K.faults sink.old }
 {
     match sink.put(summary.lines().as_slice()) {
-        Ok(()) if summary.refused == 0 => 0,
-        Ok(()) => 1,
-        Err(_) => 4,
+        Ok(()) if summary.refused == 0 => Status::AllOk,
+        Ok(()) => Status::SomeRefused,
+        Err(_) => Status::PutFailed,
     }
 }
 
@@ -159,29 +161,29 @@ fn run_sample<K: Sink, P: Keeper, L: Ledger>(
     engine: &mut Engine,
     keeper: &mut P,
     steps: &mut Steps<L>,
-) -> u8
+) -> Status
     requires some { 1 ≤ n }
     requires few { n ≤ 100000 }
     requires can { CanPerform engine.old (P.attached keeper.old) (P.stopped keeper.old) }
     requires session { engine.old.session ≡ no_session }
     ensures ends { FromEngine P.Keeper engine.old keeper.old keeper.new (λ t.
         EngineSampleEnds result t n (K.out sink.old) (K.out sink.new) (P.tells keeper.new) (P.may_leave keeper.new)) }
-    ensures silent { (result ≡ 5) ⊎ (result ≡ 7) → K.out sink.new ≡ K.out sink.old }
-    ensures statuses { result ≤ 1 ⊎ (result ≡ 4 ⊎ (result ≡ 5 ⊎ result ≡ 7)) }
-    ensures stopped { (P.stopped keeper.new ≡ true) ↔ (result ≡ 5) }
-    ensures cause { result ≡ 4 → Rose (K.faults sink.old) (K.faults sink.new) }
-    ensures calm { result ≢ 4 → K.faults sink.new ≡ K.faults sink.old }
-    ensures kept_cause { result ≡ 5 → Rose (P.faults keeper.old) (P.faults keeper.new) }
+    ensures silent { (result ≡ Status.KeeperFailed) ⊎ (result ≡ Status.OutOfMemory) → K.out sink.new ≡ K.out sink.old }
+    ensures statuses { IsOfClose result }
+    ensures stopped { (P.stopped keeper.new ≡ true) ↔ (result ≡ Status.KeeperFailed) }
+    ensures cause { result ≡ Status.PutFailed → Rose (K.faults sink.old) (K.faults sink.new) }
+    ensures calm { result ≢ Status.PutFailed → K.faults sink.new ≡ K.faults sink.old }
+    ensures kept_cause { result ≡ Status.KeeperFailed → Rose (P.faults keeper.old) (P.faults keeper.new) }
     ensures frame { CommandFrame P.Keeper engine.old keeper.old keeper.new }
 {
     let Ok(commands) = sample(alloc, n) else {
-        return 7;
+        return Status::OutOfMemory;
     };
     let count = commands.len();
     let tally = match perform_all(alloc, engine, keeper, commands, steps) {
         Ok(tally) => tally,
-        Err(Cut::Keeper) => return 5,
-        Err(Cut::Memory) => return 7,
+        Err(Cut::Keeper) => return Status::KeeperFailed,
+        Err(Cut::Memory) => return Status::OutOfMemory,
     };
     let summary = sum_up(n, count, tally, engine);
     put_summary(summary, sink)
@@ -197,7 +199,7 @@ pub fn sample_store<K: Sink, P: Keeper, L: Ledger>(
     sink: &mut K,
     keeper: &mut P,
     steps: &mut Steps<L>,
-) -> u8
+) -> Status
     requires some { 1 ≤ n }
     requires few { n ≤ 100000 }
     requires free { P.attached keeper.old ≡ false }
@@ -206,24 +208,24 @@ pub fn sample_store<K: Sink, P: Keeper, L: Ledger>(
 
     // How the sample ended over a store that a session left.
     ensures sample { FromStore P.Keeper keeper.old keeper.new (λ t.
-        SampleEnds result t n (K.out sink.old) (K.out sink.new)
+        SampleEnds (code_of result) t n (K.out sink.old) (K.out sink.new)
         (P.has_version keeper.old) (P.tells keeper.new) (P.may_leave keeper.new)) }
-    ensures silent { (result ≡ 5) ⊎ (result ≡ 7) → K.out sink.new ≡ K.out sink.old }
+    ensures silent { (result ≡ Status.KeeperFailed) ⊎ (result ≡ Status.OutOfMemory) → K.out sink.new ≡ K.out sink.old }
     ensures version { FromStore P.Keeper keeper.old keeper.new (λ t.
-        VersionAtExit result (P.has_version keeper.old) (P.has_version keeper.new)) }
+        VersionAtExit (code_of result) (P.has_version keeper.old) (P.has_version keeper.new)) }
 
     // A store is refused if and only if its version isn't known or one of its rows is damaged.
-    ensures refusals { (left : Option (List ℕ)) → Refusals P.Keeper keeper.old keeper.new result
+    ensures refusals { (left : Option (List ℕ)) → Refusals P.Keeper keeper.old keeper.new (code_of result)
         left left (K.out sink.old) (K.out sink.new) }
 
     // When each status comes.
-    ensures cause { result ≡ 4 → Rose (K.faults sink.old) (K.faults sink.new) }
-    ensures calm { result ≢ 4 → K.faults sink.new ≡ K.faults sink.old }
-    ensures stopped { (P.stopped keeper.new ≡ true) ↔ (result ≡ 5) }
-    ensures kept_cause { result ≡ 5 → Rose (P.faults keeper.old) (P.faults keeper.new) }
+    ensures cause { result ≡ Status.PutFailed → Rose (K.faults sink.old) (K.faults sink.new) }
+    ensures calm { result ≢ Status.PutFailed → K.faults sink.new ≡ K.faults sink.old }
+    ensures stopped { (P.stopped keeper.new ≡ true) ↔ (result ≡ Status.KeeperFailed) }
+    ensures kept_cause { result ≡ Status.KeeperFailed → Rose (P.faults keeper.old) (P.faults keeper.new) }
     ensures kept_calm { P.stopped keeper.new ≡ false → P.faults keeper.new ≡ P.faults keeper.old }
-    ensures statuses { result ≤ 1 ⊎ (result ≡ 4 ⊎ (result ≡ 5 ⊎ (result ≡ 6 ⊎ result ≡ 7))) }
-    ensures place { (result ≡ 7) ⊎ (P.place keeper.new ≡ place.now) }
+    ensures statuses { IsOfClose result ⊎ (result ≡ Status.StoreRefused) }
+    ensures place { (result ≡ Status.OutOfMemory) ⊎ (P.place keeper.new ≡ place.now) }
 {
     match open_store(alloc, key, place, keeper) {
         Ok(mut engine) => {
@@ -232,7 +234,7 @@ pub fn sample_store<K: Sink, P: Keeper, L: Ledger>(
             status
         }
         Err(OpenFault::Refused(fault)) => refuse(fault, sink),
-        Err(OpenFault::Keeper) => 5,
-        Err(OpenFault::Memory) => 7,
+        Err(OpenFault::Keeper) => Status::KeeperFailed,
+        Err(OpenFault::Memory) => Status::OutOfMemory,
     }
 }

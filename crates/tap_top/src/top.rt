@@ -22,12 +22,14 @@ ghost use Rattle.tap_top.specs.Statuses.{TookMany, HoldsScript};
 ghost use Rattle.tap_top.specs.Causes.{Causes};
 ghost use Rattle.tap_top.specs.Ends.{EngineScriptEnds, ScriptEnds, SampleEnds};
 ghost use Rattle.tap_top.specs.Refusals.{Refusals};
+ghost use Rattle.tap_top.specs.Codes.{code_of, IsDone, is_all_ok, IsOfClose, IsOfRun};
 
 use crate::StoreFault;
 use crate::feed::{Stop, feed, finish};
 use crate::opening::{OpenFault, open_store};
 use crate::refusing::refuse;
 use crate::sampled::sample_store;
+use crate::status::Status;
 use command_words::{OptionFault, read_words};
 use keeper_core::Keeper;
 use script_lang::ScriptReader;
@@ -50,12 +52,16 @@ fn least(a: usize, b: usize) -> usize
     if a < b { a } else { b }
 }
 
-// Returns the status of a run that ended with the input: 0 if every reply begins `ok`, else 1.
-fn status(all_ok: bool) -> u8
-    ensures ok { (result == 0) ≡ all_ok }
-    ensures low { result ≤ 1 }
+// Returns the status of a run that ended with the input.
+fn status(all_ok: bool) -> Status
+    ensures ok { is_all_ok result ≡ all_ok }
+    ensures low { IsDone result }
 {
-    if all_ok { 0 } else { 1 }
+    if all_ok {
+        Status::AllOk
+    } else {
+        Status::SomeRefused
+    }
 }
 
 // Performs the command that the end of input completes; returns the status of the run.
@@ -67,29 +73,30 @@ fn close<K: Sink, P: Keeper, L: Ledger>(
     steps: &mut Steps<L>,
     sink: &mut K,
     all_ok: bool,
-) -> u8
+) -> Status
     requires can { CanPerform engine.old (P.attached keeper.old) (P.stopped keeper.old) }
-    ensures whole { result ≤ 1 → FromEngine P.Keeper engine.old keeper.old keeper.new (λ t.
-        Closed t engine.old.session (script_from reader.old []) (K.out sink.old) (K.out sink.new) (IsDurableIn P.Keeper keeper.new) all_ok (result == 0)) }
-    ensures put { result ≡ 4 → FromEngine P.Keeper engine.old keeper.old keeper.new (λ t.
+    ensures whole { IsDone result → FromEngine P.Keeper engine.old keeper.old keeper.new (λ t.
+        Closed t engine.old.session (script_from reader.old []) (K.out sink.old) (K.out sink.new)
+        (IsDurableIn P.Keeper keeper.new) all_ok (is_all_ok result)) }
+    ensures put { result ≡ Status.PutFailed → FromEngine P.Keeper engine.old keeper.old keeper.new (λ t.
         ClosedCut (script_from reader.old []) (λ done last.
         CutOff t engine.old.session done last (K.out sink.old) (K.out sink.new) (IsDurableIn P.Keeper keeper.new))) }
-    ensures uncommitted { result ≡ 5 → FromEngine P.Keeper engine.old keeper.old keeper.new (λ t.
+    ensures uncommitted { result ≡ Status.KeeperFailed → FromEngine P.Keeper engine.old keeper.old keeper.new (λ t.
         ClosedCut (script_from reader.old []) (λ done next.
         Uncommitted t engine.old.session done next (K.out sink.old) (K.out sink.new) (P.may_leave keeper.new))) }
-    ensures memory { result ≡ 7 → (keeper.new ≡ keeper.old) × ((engine.new ≡ engine.old) × (K.out sink.new ≡ K.out sink.old)) }
-    ensures statuses { result ≤ 1 ⊎ (result ≡ 4 ⊎ (result ≡ 5 ⊎ result ≡ 7)) }
-    ensures stopped { (P.stopped keeper.new ≡ true) ↔ (result ≡ 5) }
-    ensures cause { result ≡ 4 → Rose (K.faults sink.old) (K.faults sink.new) }
-    ensures kept_cause { result ≡ 5 → Rose (P.faults keeper.old) (P.faults keeper.new) }
-    ensures calm { result ≢ 4 → K.faults sink.new ≡ K.faults sink.old }
+    ensures memory { result ≡ Status.OutOfMemory → (keeper.new ≡ keeper.old) × ((engine.new ≡ engine.old) × (K.out sink.new ≡ K.out sink.old)) }
+    ensures statuses { IsOfClose result }
+    ensures stopped { (P.stopped keeper.new ≡ true) ↔ (result ≡ Status.KeeperFailed) }
+    ensures cause { result ≡ Status.PutFailed → Rose (K.faults sink.old) (K.faults sink.new) }
+    ensures kept_cause { result ≡ Status.KeeperFailed → Rose (P.faults keeper.old) (P.faults keeper.new) }
+    ensures calm { result ≢ Status.PutFailed → K.faults sink.new ≡ K.faults sink.old }
     ensures frame { CommandFrame P.Keeper engine.old keeper.old keeper.new }
 {
     match finish(alloc, reader, engine, keeper, steps, sink) {
         Ok(ok) => status(all_ok && ok),
-        Err(Stop::Put) => 4,
-        Err(Stop::Keeper) => 5,
-        Err(Stop::Memory) => 7,
+        Err(Stop::Put) => Status::PutFailed,
+        Err(Stop::Keeper) => Status::KeeperFailed,
+        Err(Stop::Memory) => Status::OutOfMemory,
     }
 }
 
@@ -101,21 +108,21 @@ fn run<S: Source, K: Sink, P: Keeper, L: Ledger>(
     engine: &mut Engine,
     keeper: &mut P,
     steps: &mut Steps<L>,
-) -> u8
+) -> Status
     requires can { CanPerform engine.old (P.attached keeper.old) (P.stopped keeper.old) }
     requires session { engine.old.session ≡ no_session }
     ensures ends { FromEngine P.Keeper engine.old keeper.old keeper.new (λ t.
         EngineScriptEnds result t (S.left source.old) (S.left source.new) (K.out sink.old) (K.out sink.new)
         (P.tells keeper.new) (P.may_leave keeper.new)) }
-    ensures many { result ≡ 8 → TookMany (S.left source.old) (S.left source.new) }
-    ensures statuses { result ≤ 1 ⊎ (result ≡ 3 ⊎ (result ≡ 4 ⊎ (result ≡ 5 ⊎ (result ≡ 7 ⊎ result ≡ 8)))) }
-    ensures stopped { (P.stopped keeper.new ≡ true) ↔ (result ≡ 5) }
-    ensures read_cause { result ≡ 3 → Rose (S.faults source.old) (S.faults source.new) }
-    ensures read_calm { result ≢ 3 → S.faults source.new ≡ S.faults source.old }
-    ensures put_cause { result ≡ 4 → Rose (K.faults sink.old) (K.faults sink.new) }
-    ensures put_calm { result ≢ 4 → K.faults sink.new ≡ K.faults sink.old }
-    ensures ended { result ≤ 1 → IsAtEnd (S.left source.new) }
-    ensures kept_cause { result ≡ 5 → Rose (P.faults keeper.old) (P.faults keeper.new) }
+    ensures many { result ≡ Status.ScriptTooLong → TookMany (S.left source.old) (S.left source.new) }
+    ensures statuses { IsOfRun result }
+    ensures stopped { (P.stopped keeper.new ≡ true) ↔ (result ≡ Status.KeeperFailed) }
+    ensures read_cause { result ≡ Status.ReadFailed → Rose (S.faults source.old) (S.faults source.new) }
+    ensures read_calm { result ≢ Status.ReadFailed → S.faults source.new ≡ S.faults source.old }
+    ensures put_cause { result ≡ Status.PutFailed → Rose (K.faults sink.old) (K.faults sink.new) }
+    ensures put_calm { result ≢ Status.PutFailed → K.faults sink.new ≡ K.faults sink.old }
+    ensures ended { IsDone result → IsAtEnd (S.left source.new) }
+    ensures kept_cause { result ≡ Status.KeeperFailed → Rose (P.faults keeper.old) (P.faults keeper.new) }
     ensures frame { CommandFrame P.Keeper engine.old keeper.old keeper.new }
 {
     let mut reader = ScriptReader::new(alloc);
@@ -125,7 +132,7 @@ fn run<S: Source, K: Sink, P: Keeper, L: Ledger>(
     'pieces: while taken <= SCRIPT_LIMIT {
         let n = match source.piece(&mut piece) {
             Ok(n) => n,
-            Err(_) => return 3,
+            Err(_) => return Status::ReadFailed,
         };
         if n == 0 {
             return close(alloc, &mut reader, engine, keeper, steps, sink, all_ok);
@@ -142,12 +149,12 @@ fn run<S: Source, K: Sink, P: Keeper, L: Ledger>(
             sink,
         ) {
             Ok(ok) => all_ok &= ok,
-            Err(Stop::Put) => return 4,
-            Err(Stop::Keeper) => return 5,
-            Err(Stop::Memory) => return 7,
+            Err(Stop::Put) => return Status::PutFailed,
+            Err(Stop::Keeper) => return Status::KeeperFailed,
+            Err(Stop::Memory) => return Status::OutOfMemory,
         }
     }
-    8
+    Status::ScriptTooLong
 }
 
 // Attaches the keeper at a place, checks its tables, and performs the commands of the source; returns the status of the run.
@@ -159,34 +166,34 @@ fn run_store<S: Source, K: Sink, P: Keeper, L: Ledger>(
     sink: &mut K,
     keeper: &mut P,
     steps: &mut Steps<L>,
-) -> u8
+) -> Status
     requires free { P.attached keeper.old ≡ false }
     requires running { P.stopped keeper.old ≡ false }
     requires text { IsUtf8 place.now }
 
     // How the script ended over a store that a session left.
     ensures script { FromStore P.Keeper keeper.old keeper.new (λ t.
-        ScriptEnds result t (S.left source.old) (S.left source.new) (K.out sink.old) (K.out sink.new)
+        ScriptEnds (code_of result) t (S.left source.old) (S.left source.new) (K.out sink.old) (K.out sink.new)
         (P.has_version keeper.old) (P.tells keeper.new) (P.may_leave keeper.new)) }
     ensures kept { FromStore P.Keeper keeper.old keeper.new (λ t.
         (x : Tables) → P.may_leave keeper.new x → IsStore x) }
     ensures version { FromStore P.Keeper keeper.old keeper.new (λ t.
-        VersionAtExit result (P.has_version keeper.old) (P.has_version keeper.new)) }
+        VersionAtExit (code_of result) (P.has_version keeper.old) (P.has_version keeper.new)) }
 
     // A store is refused if and only if its version isn't known or one of its rows is damaged.
-    ensures refusals { Refusals P.Keeper keeper.old keeper.new result
+    ensures refusals { Refusals P.Keeper keeper.old keeper.new (code_of result)
         (S.left source.old) (S.left source.new) (K.out sink.old) (K.out sink.new) }
 
     // When each status comes.
-    ensures causes { Causes result (S.faults source.old) (S.faults source.new) (K.faults sink.old) (K.faults sink.new)
+    ensures causes { Causes (code_of result) (S.faults source.old) (S.faults source.new) (K.faults sink.old) (K.faults sink.new)
         (P.faults keeper.old) (P.faults keeper.new) (P.stopped keeper.new) }
-    ensures many { result ≡ 8 → TookMany (S.left source.old) (S.left source.new) }
-    ensures ended { result ≤ 1 → IsAtEnd (S.left source.new) }
+    ensures many { result ≡ Status.ScriptTooLong → TookMany (S.left source.old) (S.left source.new) }
+    ensures ended { IsDone result → IsAtEnd (S.left source.new) }
     ensures complete { HoldsScript (S.left source.old) →
         IfCalm (S.faults source.old) (S.faults source.new) (K.faults sink.old) (K.faults sink.new)
-        (P.faults keeper.old) (P.faults keeper.new) (IsUndisturbed result) }
-    ensures statuses { (result ≤ 8) × (result ≢ 2) }
-    ensures place { (result ≡ 7) ⊎ (P.place keeper.new ≡ place.now) }
+        (P.faults keeper.old) (P.faults keeper.new) (IsUndisturbed (code_of result)) }
+    ensures statuses { (code_of result ≤ 8) × (result ≢ Status.WordsRefused) }
+    ensures place { (result ≡ Status.OutOfMemory) ⊎ (P.place keeper.new ≡ place.now) }
 {
     match open_store(alloc, key, place, keeper) {
         Ok(mut engine) => {
@@ -195,8 +202,8 @@ fn run_store<S: Source, K: Sink, P: Keeper, L: Ledger>(
             status
         }
         Err(OpenFault::Refused(fault)) => refuse(fault, sink),
-        Err(OpenFault::Keeper) => 5,
-        Err(OpenFault::Memory) => 7,
+        Err(OpenFault::Keeper) => Status::KeeperFailed,
+        Err(OpenFault::Memory) => Status::OutOfMemory,
     }
 }
 
@@ -284,11 +291,11 @@ pub fn tapestry<S: Source, K: Sink, P: Keeper, L: Ledger>(
 {
     let asked = match read_words(alloc, words) {
         Ok(asked) => asked,
-        Err(OptionFault::Refused) => return 2,
-        Err(OptionFault::Memory) => return 7,
+        Err(OptionFault::Refused) => return Status::WordsRefused.code(),
+        Err(OptionFault::Memory) => return Status::OutOfMemory.code(),
     };
     match asked.sample {
-        Some(n) => sample_store(alloc, key, &asked.place, n, sink, keeper, steps),
-        None => run_store(alloc, key, &asked.place, source, sink, keeper, steps),
+        Some(n) => sample_store(alloc, key, &asked.place, n, sink, keeper, steps).code(),
+        None => run_store(alloc, key, &asked.place, source, sink, keeper, steps).code(),
     }
 }

@@ -1,6 +1,7 @@
 use Rattle.std.proofs.Common.{rules, refl, sym, ap, subst, Err, inl, inr}
 use Rattle.tap_model.specs.Sound.{IsSound}
 use Rattle.tap_top.specs.Refusals.{fault_of}
+use Rattle.tap_top.proofs.Codes.{refusal-number}
 use Rattle.tap_top.proofs.Refusals.{fine-store, some-or-none, Refused-none, refused-for, not-stopped}
 use Rattle.tap_top.proofs.Versions.{exit-opened, exit-failed, exit-refused, exit-memory}
 use Rattle.pop_box.proofs.Served.{served, refused, unserved, served-not-two}
@@ -26,7 +27,7 @@ returns-in-Ok-clause-refusals g c = record {
 
 pub returns-in-Err-Refused-clause-session : goal.returns-in-Err-Refused-clause-session
 returns-in-Err-Refused-clause-session g c = λ t honest holds store.
-    refused c.refuse.result _ _ _ _ _ _ _ (g.P.Keeper.has_version c.args.keeper.now) c.refuse.ensures.statuses refl
+    refused c.code.result _ _ _ _ _ _ _ (g.P.Keeper.has_version c.args.keeper.now) (refusal-number _ c.refuse.result c.code.ensures c.refuse.ensures.statuses) refl
     (λ v version known. some-or-none (fault_of v t) c.in-Err-Refused.fault (refused-for _ _ c.in-Err-Refused.fault c.in-Err-Refused.ensures.refused c.in-Err-Refused.field-0-is honest t holds.told v version) (fine-store t v store known))
 
 pub returns-in-Err-Refused-clause-unchanged : goal.returns-in-Err-Refused-clause-unchanged
@@ -78,7 +79,7 @@ returns-in-Ok-clause-version g c = λ t honest holds.
 
 pub returns-in-Err-Refused-clause-version : goal.returns-in-Err-Refused-clause-version
 returns-in-Err-Refused-clause-version g c = λ t honest holds.
-    exit-refused c.refuse.result (g.P.Keeper.has_version c.args.keeper.now) (g.P.Keeper.has_version c.open_store.new.keeper) c.refuse.ensures.statuses
+    exit-refused c.code.result (g.P.Keeper.has_version c.args.keeper.now) (g.P.Keeper.has_version c.open_store.new.keeper) (refusal-number _ c.refuse.result c.code.ensures c.refuse.ensures.statuses)
     (refused-for _ _ c.in-Err-Refused.fault c.in-Err-Refused.ensures.migrated c.in-Err-Refused.field-0-is honest t holds.told)
 
 pub returns-in-Err-Keeper-clause-version : goal.returns-in-Err-Keeper-clause-version

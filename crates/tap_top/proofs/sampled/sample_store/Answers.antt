@@ -1,5 +1,7 @@
 use Rattle.std.proofs.Common.{rules, refl, ap, Err, inl, inr}
+use Rattle.tap_top.specs.Codes.{code_of}
 use Rattle.tap_top.specs.Refusals.{fault_of}
+use Rattle.tap_top.proofs.Codes.{refusal-code}
 use Rattle.tap_top.proofs.Refusals.{fine-store, some-or-none, Refused-none, refused-for, not-stopped}
 use Rattle.tap_top.proofs.Crashes.{opened-at}
 use Rattle.tap_top.proofs.Ends.{sample-ends, refused-sample, failed-sample, unopened-sample}
@@ -21,7 +23,7 @@ returns-in-Ok-clause-refusals g c = λ left. record {
 
 pub returns-in-Err-Refused-clause-sample : goal.returns-in-Err-Refused-clause-sample
 returns-in-Err-Refused-clause-sample g c = λ t honest holds store.
-    refused-sample t c.args.n _ _ (g.P.Keeper.has_version c.args.keeper.now) _ _ c.refuse.result c.refuse.ensures.statuses
+    refused-sample t c.args.n _ _ (g.P.Keeper.has_version c.args.keeper.now) _ _ (code_of c.refuse.result) (refusal-code c.refuse.result c.refuse.ensures.statuses)
     (λ v version known. absurd (some-or-none (fault_of v t) c.in-Err-Refused.fault (refused-for _ _ c.in-Err-Refused.fault c.in-Err-Refused.ensures.refused c.in-Err-Refused.field-0-is honest t holds.told v version) (fine-store t v store known)))
     (c.in-Err-Refused.ensures.crash honest t holds.told)
 
@@ -56,13 +58,13 @@ pub returns-in-Ok-clause-version : goal.returns-in-Ok-clause-version
 returns-in-Ok-clause-version g c = λ t honest holds store.
     let opened = c.run_sample-status.ensures.frame.keeper.before honest in
     let at = opened-at c.in-Ok.engine _ _ t c.in-Ok.ensures.session (c.in-Ok.ensures.represents opened t holds.told) (c.in-Ok.ensures.kept opened t holds.told c.in-Ok.ensures.can.keeping) store in
-    exit-run c.run_sample-status.result (g.P.Keeper.stopped c.run_sample-status.new.keeper) (g.P.Keeper.has_version c.args.keeper.now) (g.P.Keeper.has_version c.run_sample-status.new.keeper)
-    (sample-not-two c.run_sample-status.result c.run_sample-status.ensures.statuses) c.run_sample-status.ensures.stopped.0
+    exit-run (code_of c.run_sample-status.result) (g.P.Keeper.stopped c.run_sample-status.new.keeper) (g.P.Keeper.has_version c.args.keeper.now) (g.P.Keeper.has_version c.run_sample-status.new.keeper)
+    (sample-not-two c.run_sample-status.result c.run_sample-status.ensures.statuses) (λ halts. ap code_of (c.run_sample-status.ensures.stopped.0 halts))
     (λ runs. c.run_sample-status.ensures.frame.version t honest at runs _ (c.in-Ok.ensures.version opened t holds.told)) (c.in-Ok.ensures.known opened)
 
 pub returns-in-Err-Refused-clause-version : goal.returns-in-Err-Refused-clause-version
 returns-in-Err-Refused-clause-version g c = λ t honest holds store.
-    exit-refused c.refuse.result (g.P.Keeper.has_version c.args.keeper.now) (g.P.Keeper.has_version c.open_store.new.keeper) c.refuse.ensures.statuses
+    exit-refused (code_of c.refuse.result) (g.P.Keeper.has_version c.args.keeper.now) (g.P.Keeper.has_version c.open_store.new.keeper) (refusal-code c.refuse.result c.refuse.ensures.statuses)
     (refused-for _ _ c.in-Err-Refused.fault c.in-Err-Refused.ensures.migrated c.in-Err-Refused.field-0-is honest t holds.told)
 
 pub returns-in-Err-Keeper-clause-version : goal.returns-in-Err-Keeper-clause-version

@@ -1,7 +1,7 @@
 use Rattle.keeper_core.specs.Keeping.{IsDurable}
 use Rattle.std.proofs.Common.{◌∙◌, arith, ap, sym, subst, refl, Err, ◌≤◌, ◌<◌, length}
-use Rattle.std.specs.Prelude.{◌==◌}
 use Rattle.tap_top.specs.declared.top.TheConstants.{PIECE}
+use Rattle.tap_top.specs.Codes.{is_all_ok}
 use Rattle.tap_top.specs.Points.{EngineMatchesKeeper}
 use Rattle.tap_top.proofs.Steps.{KeeperFrame-start, KeeperFrame-then}
 use Rattle.tap_top.proofs.Runs.{Taking-start, Taking-more, Running-start, Running-more, Running-read, Running-cut, Running-uncommitted, Running-short, Running-closed, Running-end-cut, Running-end-uncommitted, Running-end-short, Running-long, none-taken, few-taken, OutOfMemory-same}
@@ -44,7 +44,7 @@ pub returns-then-n-eq0-clause-ends : goal.returns-then-n-eq0-clause-ends
 returns-then-n-eq0-clause-ends g c = λ t honest at.
     let some : 0 < length c.piece.new.into = grind arith in
     closed-ends t _ _ _ _ _ _ c.close.result c.close.ensures.statuses
-    (λ low. Running-closed _ _ _ _ _ t _ _ _ _ _ _ _ (c.close.result == 0) (c.pieces.invariant.running t (c.close.ensures.frame.keeper.before honest) at) c.pieces-test.true (none-taken _ _ c.in-Ok.n c.piece.new.into c.if-n-eq0.true c.in-Ok.ensures.bytes.0) (c.in-Ok.ensures.bytes.1 c.if-n-eq0.true some) (λ t1 there. c.close.ensures.whole low t1 honest there))
+    (λ low. Running-closed _ _ _ _ _ t _ _ _ _ _ _ _ (is_all_ok c.close.result) (c.pieces.invariant.running t (c.close.ensures.frame.keeper.before honest) at) c.pieces-test.true (none-taken _ _ c.in-Ok.n c.piece.new.into c.if-n-eq0.true c.in-Ok.ensures.bytes.0) (c.in-Ok.ensures.bytes.1 c.if-n-eq0.true some) (λ t1 there. c.close.ensures.whole low t1 honest there))
     (λ is. Running-end-cut _ _ _ _ _ t _ _ _ _ _ _ _ (c.pieces.invariant.running t (c.close.ensures.frame.keeper.before honest) at) c.pieces-test.true (none-taken _ _ c.in-Ok.n c.piece.new.into c.if-n-eq0.true c.in-Ok.ensures.bytes.0) (c.in-Ok.ensures.bytes.1 c.if-n-eq0.true some) (λ t1 there. c.close.ensures.put is t1 honest there))
     (λ is. Running-end-uncommitted _ _ _ _ _ t _ _ _ _ _ _ _ (c.pieces.invariant.running t (c.close.ensures.frame.keeper.before honest) at) c.pieces-test.true (none-taken _ _ c.in-Ok.n c.piece.new.into c.if-n-eq0.true c.in-Ok.ensures.bytes.0) (c.in-Ok.ensures.bytes.1 c.if-n-eq0.true some) (λ t1 there. c.close.ensures.uncommitted is t1 honest there))
     (λ is.
