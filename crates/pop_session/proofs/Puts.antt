@@ -1,13 +1,13 @@
 -- What a loop of puts has put so far.
-use Rattle.std.proofs.Common.{◌≡◌, ◌∙◌, sym, ap, refl, subst, arith, ℕ, List, [], ◌++◌, ◌+◌, ◌^◌, get_or, length, take, drop, ◌≤◌, ◌<◌, Option, Some, None, Result, Ok, Err, suc}
-use Rattle.std.specs.Prelude.{IfErr}
-use Rattle.std.specs.List.{flat_map}
+use Rattle.std.proofs.Common.{◌≡◌, ◌∙◌, sym, ap, refl, subst, arith, ℕ, List, [], ◌++◌, ◌+◌, ◌^◌, length, take, ◌≤◌, ◌<◌, Option, Some, None, Result, Ok, Err}
 use Rattle.std.specs.Io.KnownBytes.{Appends}
-use Rattle.std.proofs.Math.Seq.{take-append-add, drop-cons}
+use Rattle.std.proofs.Math.Seq.{take-append-add}
 use Rattle.std.proofs.lemmas.List.{append_assoc, append-nil, length-append}
 use Rattle.std.proofs.lemmas.Grind.{common_steps}
+use Rattle.tap_base.specs.Counts.{Rose}
 use Rattle.tap_edges.specs.declared.edges.PutFailed.{PutFailed}
-use Rattle.pop_session.specs.Puts.{TookSome, counted}
+use Rattle.tap_edges.specs.declared.edges.Sink.{Ghosts}
+use Rattle.pop_session.specs.Puts.{TookSome, counted, PutBehind}
 
 pub Appends-more : (a b c : Option (List ℕ)) (xs ys : List ℕ) → Appends a b xs → Appends b c ys → Appends a c (xs ++ ys)
 Appends-more None b c xs ys one two = tt
@@ -75,32 +75,75 @@ Puts-cut all rest rest' bytes start done old now new failed before next cut = re
   front_is : (front : List ℕ) (n : ℕ) → n ≤ length bytes → all ≡ front ++ (bytes ++ rest') → take (length front + n) all ≡ front ++ take n bytes
   front_is front n le is = ap (λ xs. take (length front + n) xs) is ∙ take-append-add front (bytes ++ rest') n ∙ ap (λ xs. front ++ xs) (within bytes rest' n le)
 
--- the lines of the rows from here on
-pub rows-next : {R : Type 0} (f : R → List ℕ) (rows : List R) (i : ℕ) (d : R) → i < length rows → flat_map f (drop i rows) ≡ f (get_or rows i d) ++ flat_map f (drop (i + 1) rows)
-rows-next f rows i d lt = rw (drop-cons rows i d lt) (ap (λ k. f (get_or rows i d) ++ flat_map f (drop k rows)) (one i)) where
-  one : (i : ℕ) → suc i ≡ i + 1
-  one i = omega arith
-
--- two puts, one after another
-pub TookSome-first : (start : ℕ) (old new : Option (List ℕ)) (bytes more : List ℕ) (failed : PutFailed) → TookSome start old new bytes failed → TookSome start old new (bytes ++ more) failed
+-- a put of more bytes was cut off among the first of them
+TookSome-first : (start : ℕ) (old new : Option (List ℕ)) (bytes more : List ℕ) (failed : PutFailed) → TookSome start old new bytes failed → TookSome start old new (bytes ++ more) failed
 TookSome-first start old new bytes more failed cut = record { n = cut.n; within = fits cut.n cut.within; count = cut.count; written = subst (λ xs. Appends old new xs) (sym (within bytes more cut.n cut.within)) cut.written } where
   fits : (n : ℕ) → n ≤ length bytes → n ≤ length (bytes ++ more)
   fits n le = let l = length-append bytes more in omega arith
 
-pub TookSome-then : (start done : ℕ) (old mid new : Option (List ℕ)) (bytes more : List ℕ) (failed : PutFailed) → done ≡ counted (start + length bytes) → Appends old mid bytes → TookSome done mid new more failed → TookSome start old new (bytes ++ more) failed
+-- or behind them
+TookSome-then : (start done : ℕ) (old mid new : Option (List ℕ)) (bytes more : List ℕ) (failed : PutFailed) → done ≡ counted (start + length bytes) → Appends old mid bytes → TookSome done mid new more failed → TookSome start old new (bytes ++ more) failed
 TookSome-then start done old mid new bytes more failed count one cut = Puts-cut (bytes ++ more) more [] more start done old mid new failed (record { front = bytes; split = refl; count = count; written = one }) (sym (append-nil more)) cut
-
-pub rows-put : {R : Type 0} (f : R → List ℕ) (rows : List R) (i : ℕ) (row : R) (bytes : List ℕ) → i < length rows → row ≡ get_or rows i row → bytes ≡ f row → flat_map f (drop i rows) ≡ bytes ++ flat_map f (drop (i + 1) rows)
-rows-put f rows i row bytes lt is b = rows-next f rows i row lt ∙ ap (λ xs. xs ++ flat_map f (drop (i + 1) rows)) (ap f (sym is) ∙ sym b)
-
-pub on-cut : {T : Type 0} (r : Result T PutFailed) (start done : ℕ) (old mid new : Option (List ℕ)) (bytes more : List ℕ) → done ≡ counted (start + length bytes) → Appends old mid bytes → IfErr r (λ failed. TookSome done mid new more failed) → IfErr r (λ failed. TookSome start old new (bytes ++ more) failed)
-on-cut (Ok x) start done old mid new bytes more count one cut = tt
-on-cut (Err failed) start done old mid new bytes more count one cut = TookSome-then start done old mid new bytes more failed count one cut
-
--- the same of bytes that are those of two puts
-pub on-cut-of : {T : Type 0} (r : Result T PutFailed) (start done : ℕ) (old mid new : Option (List ℕ)) (whole bytes more : List ℕ) → whole ≡ bytes ++ more → done ≡ counted (start + length bytes) → Appends old mid bytes → IfErr r (λ failed. TookSome done mid new more failed) → IfErr r (λ failed. TookSome start old new whole failed)
-on-cut-of (Ok x) start done old mid new whole bytes more is count one cut = tt
-on-cut-of (Err failed) start done old mid new whole bytes more is count one cut = subst (λ xs. TookSome start old new xs failed) (sym is) (TookSome-then start done old mid new bytes more failed count one cut)
 
 pub first-cut-of : (start : ℕ) (old new : Option (List ℕ)) (whole bytes more : List ℕ) (failed : PutFailed) → whole ≡ bytes ++ more → TookSome start old new bytes failed → TookSome start old new whole failed
 first-cut-of start old new whole bytes more failed is cut = subst (λ xs. TookSome start old new xs failed) (sym is) (TookSome-first start old new bytes more failed cut)
+
+at-most : (a b c : ℕ) → a ≤ b → b ≤ c → a ≤ c
+at-most a b c one two = omega arith
+
+no-less : (a b : ℕ) → b ≡ a → a ≤ b
+no-less a b same = omega arith
+
+-- the same put, of bytes that are equal to these
+pub Put-as : {K : Type 0} (g : Ghosts K) (start : ℕ) (bytes whole : List ℕ) (old new : K) (r : Result ℕ PutFailed) → bytes ≡ whole → PutBehind g start bytes old new r → PutBehind g start whole old new r
+Put-as g start bytes whole old new r is put = subst (λ xs. PutBehind g start xs old new r) is put
+
+-- two puts, one after another
+pub Put-then : {K : Type 0} (g : Ghosts K) (start done : ℕ) (whole bytes more : List ℕ) (old mid new : K) (r : Result ℕ PutFailed) → whole ≡ bytes ++ more → PutBehind g start bytes old mid (Ok done) → PutBehind g done more mid new r → PutBehind g start whole old new r
+Put-then g start done whole bytes more old mid new (Ok end) is one two = record {
+  count = longer start done end bytes more one.count two.count ∙ ap (λ xs. counted (start + length xs)) (sym is);
+  ok = subst (λ xs. Appends (g.out old) (g.out new) xs) (sym is) (Appends-more (g.out old) (g.out mid) (g.out new) bytes more one.ok two.ok);
+  err = tt;
+  cause = record { later = at-most (g.faults old) (g.faults mid) (g.faults new) one.cause.later two.cause.later; failed = tt; fine = two.cause.fine ∙ one.cause.fine };
+}
+Put-then g start done whole bytes more old mid new (Err failed) is one two = record {
+  count = tt;
+  ok = tt;
+  err = subst (λ xs. TookSome start (g.out old) (g.out new) xs failed) (sym is) (TookSome-then start done (g.out old) (g.out mid) (g.out new) bytes more failed one.count one.ok two.err);
+  cause = record {
+    later = at-most (g.faults old) (g.faults mid) (g.faults new) one.cause.later two.cause.later;
+    failed = subst (λ n. Rose n (g.faults new)) one.cause.fine two.cause.failed;
+    fine = tt;
+  };
+}
+
+-- the first of two puts failed
+pub Put-cut : {K : Type 0} (g : Ghosts K) (start : ℕ) (whole bytes more : List ℕ) (old new : K) (failed : PutFailed) → whole ≡ bytes ++ more → PutBehind g start bytes old new (Err failed) → PutBehind g start whole old new (Err failed)
+Put-cut g start whole bytes more old new failed is cut = record {
+  count = tt;
+  ok = tt;
+  err = first-cut-of start (g.out old) (g.out new) whole bytes more failed is cut.err;
+  cause = cut.cause;
+}
+
+-- a loop of puts was cut off
+pub Puts-failed : {K : Type 0} (g : Ghosts K) (all rest rest' bytes : List ℕ) (start done : ℕ) (old now new : K) (failed : PutFailed) → Puts all rest start done (g.out old) (g.out now) → g.faults now ≡ g.faults old → rest ≡ bytes ++ rest' → PutBehind g done bytes now new (Err failed) → PutBehind g start all old new (Err failed)
+Puts-failed g all rest rest' bytes start done old now new failed before same next cut = record {
+  count = tt;
+  ok = tt;
+  err = Puts-cut all rest rest' bytes start done (g.out old) (g.out now) (g.out new) failed before next cut.err;
+  cause = record {
+    later = subst (λ n. n ≤ g.faults new) same cut.cause.later;
+    failed = subst (λ n. Rose n (g.faults new)) same cut.cause.failed;
+    fine = tt;
+  };
+}
+
+-- or has put all
+pub Puts-whole : {K : Type 0} (g : Ghosts K) (all rest : List ℕ) (start done : ℕ) (old now : K) → Puts all rest start done (g.out old) (g.out now) → g.faults now ≡ g.faults old → rest ≡ [] → PutBehind g start all old now (Ok done)
+Puts-whole g all rest start done old now before same none = record {
+  count = before.count ∙ ap (λ xs. counted (start + length xs)) (sym (before.split ∙ ap (λ xs. before.front ++ xs) none ∙ append-nil before.front));
+  ok = Puts-end all rest start done (g.out old) (g.out now) before none;
+  err = tt;
+  cause = record { later = no-less (g.faults old) (g.faults now) same; failed = tt; fine = same };
+}

@@ -1,9 +1,11 @@
 -- The rows of letters, from one on.
-use Rattle.std.proofs.Common.{◌≡◌, ◌∙◌, sym, ap, arith, ℕ, suc, List, [], ◌∷◌, ◌++◌, ◌+◌, ◌<◌, drop, length, get_or, true}
+use Rattle.std.proofs.Common.{◌≡◌, ◌∙◌, sym, ap, arith, ℕ, suc, List, [], ◌∷◌, ◌++◌, ◌+◌, ◌<◌, ◌≤◌, drop, length, get_or, true}
 use Rattle.std.specs.Prelude.{◌==◌, slice_index, if◌then◌else◌}
 use Rattle.std.specs.List.{flat_map}
 use Rattle.digest_mail.specs.Digests.{lined}
 use Rattle.std.proofs.Math.Seq.{drop-cons}
+use Rattle.std.proofs.lemmas.Bool.Decides.{Decides-eqb}
+use Rattle.std.proofs.lemmas.List.{at_drop_all, nil_from_length}
 use Rattle.pop_session.specs.declared.letter.Letter.{Letter}
 use Rattle.pop_session.specs.declared.reply.Listing.{Listing}
 use Rattle.pop_session.specs.Letters.{line, stuffed, sent_lines, row_text, rows_from}
@@ -24,3 +26,11 @@ dotted text e = ap (λ b. line (if b then 46 ∷ text else text)) e
 -- the lines of a text are the first and those of the rest
 pub lines-next : (text first rest : List ℕ) → lined text ≡ first ∷ lined rest → sent_lines text ≡ line (stuffed first) ++ sent_lines rest
 lines-next text first rest e = ap (flat_map (λ t. line (stuffed t))) e
+
+-- behind the last letter there is no row
+pub no-rows : (listing : Listing) (letters : List Letter) (i : ℕ) → length letters ≤ i → rows_from listing (i + 1) (drop i letters) ≡ []
+no-rows listing letters i past = at_drop_all (rows_from listing (i + 1)) letters i past
+
+-- and a text without bytes has no line
+pub no-lines : (text : List ℕ) → (length text == 0) ≡ true → sent_lines text ≡ []
+no-lines text none = ap sent_lines (nil_from_length text ((Decides-eqb (length text) 0).0 none))

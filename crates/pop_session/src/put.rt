@@ -1,10 +1,8 @@
 //! Puts replies into a sink.
-ghost use Rattle.std.specs.Prelude.{◌≡◌, ◌≤◌, ◌+◌, ◌++◌, List, [], ◌∷◌, ℕ, Option, None, Some, length, codes, OnOk, IfOk, IfErr, option_copied};
-ghost use Rattle.std.specs.Io.KnownBytes.{Appends};
-ghost use Rattle.tap_edges.specs.Edges.{HasCause};
-ghost use Rattle.pop_session.specs.Letters.{line, stuffed, sent_lines, letter_at, row_text, rows_from};
-ghost use Rattle.pop_session.specs.Puts.{counted, TookSome};
-ghost use Rattle.pop_session.specs.Replies.{refusal_text, rows_head, row_reply, text_reply, reply_bytes};
+ghost use Rattle.std.specs.Prelude.{◌≤◌, ◌++◌, Some, length, codes};
+ghost use Rattle.pop_session.specs.Letters.{line, stuffed, sent_lines, letter_at, rows_from};
+ghost use Rattle.pop_session.specs.Puts.{PutBehind};
+ghost use Rattle.pop_session.specs.Replies.{row_reply, text_reply, reply_bytes};
 ghost use Rattle.pop_session.specs.declared.reply.Reply.TheVariants.{Rows};
 ghost use Rattle.pop_session.specs.Sessions.{AreShort};
 
@@ -23,10 +21,7 @@ pub(crate) fn put_next<K: Sink>(
     start: usize,
     bytes: &[u8],
 ) -> Result<usize, PutFailed>
-    ensures count { IfOk result (λ done. done ≡ counted (start + length bytes.now)) }
-    ensures ok { OnOk result (Appends (K.out sink.old) (K.out sink.new) bytes.now) }
-    ensures err { IfErr result (λ failed. TookSome start (K.out sink.old) (K.out sink.new) bytes.now failed) }
-    ensures cause { HasCause (K.faults sink.old) (K.faults sink.new) result }
+    ensures { PutBehind K.Sink start bytes.now sink.old sink.new result }
 {
     match sink.put(bytes) {
         Ok(()) => Ok(start.saturating_add(bytes.len())),
@@ -38,10 +33,7 @@ pub(crate) fn put_next<K: Sink>(
 
 // Puts a line of a letter: the bytes and the CRLF each by a call, so that no copy is made.
 fn put_line<K: Sink>(sink: &mut K, start: usize, text: &[u8]) -> Result<usize, PutFailed>
-    ensures count { IfOk result (λ done. done ≡ counted (start + length (line text.now))) }
-    ensures ok { OnOk result (Appends (K.out sink.old) (K.out sink.new) (line text.now)) }
-    ensures err { IfErr result (λ failed. TookSome start (K.out sink.old) (K.out sink.new) (line text.now) failed) }
-    ensures cause { HasCause (K.faults sink.old) (K.faults sink.new) result }
+    ensures { PutBehind K.Sink start (line text.now) sink.old sink.new result }
 {
     match put_next(sink, start, text) {
         Ok(done) => put_next(sink, done, b"\r\n"),
@@ -51,10 +43,7 @@ fn put_line<K: Sink>(sink: &mut K, start: usize, text: &[u8]) -> Result<usize, P
 
 // Puts a long line of a letter as it is sent, without a copy.
 fn put_long_line<K: Sink>(sink: &mut K, start: usize, text: &[u8]) -> Result<usize, PutFailed>
-    ensures count { IfOk result (λ done. done ≡ counted (start + length (line (stuffed text.now)))) }
-    ensures ok { OnOk result (Appends (K.out sink.old) (K.out sink.new) (line (stuffed text.now))) }
-    ensures err { IfErr result (λ failed. TookSome start (K.out sink.old) (K.out sink.new) (line (stuffed text.now)) failed) }
-    ensures cause { HasCause (K.faults sink.old) (K.faults sink.new) result }
+    ensures { PutBehind K.Sink start (line (stuffed text.now)) sink.old sink.new result }
 {
     if !has_dot(text) {
         return put_line(sink, start, text);
@@ -67,10 +56,7 @@ fn put_long_line<K: Sink>(sink: &mut K, start: usize, text: &[u8]) -> Result<usi
 
 // Puts a line of a letter as it is sent: a line that isn't long by one call.
 fn put_stuffed<K: Sink>(sink: &mut K, start: usize, text: &[u8]) -> Result<usize, PutFailed>
-    ensures count { IfOk result (λ done. done ≡ counted (start + length (line (stuffed text.now)))) }
-    ensures ok { OnOk result (Appends (K.out sink.old) (K.out sink.new) (line (stuffed text.now))) }
-    ensures err { IfErr result (λ failed. TookSome start (K.out sink.old) (K.out sink.new) (line (stuffed text.now)) failed) }
-    ensures cause { HasCause (K.faults sink.old) (K.faults sink.new) result }
+    ensures { PutBehind K.Sink start (line (stuffed text.now)) sink.old sink.new result }
 {
     if text.len() <= 1000 {
         put_next(sink, start, sent_line(text).as_slice())
@@ -81,10 +67,7 @@ fn put_stuffed<K: Sink>(sink: &mut K, start: usize, text: &[u8]) -> Result<usize
 
 // Puts the lines of a text.
 fn put_lines<K: Sink>(sink: &mut K, start: usize, text: &[u8]) -> Result<usize, PutFailed>
-    ensures count { IfOk result (λ done. done ≡ counted (start + length (sent_lines text.now))) }
-    ensures ok { OnOk result (Appends (K.out sink.old) (K.out sink.new) (sent_lines text.now)) }
-    ensures err { IfErr result (λ failed. TookSome start (K.out sink.old) (K.out sink.new) (sent_lines text.now) failed) }
-    ensures cause { HasCause (K.faults sink.old) (K.faults sink.new) result }
+    ensures { PutBehind K.Sink start (sent_lines text.now) sink.old sink.new result }
 {
     let mut done = start;
     let mut rest = text;
@@ -107,10 +90,7 @@ fn put_rows<K: Sink>(
     letters: &[Letter],
 ) -> Result<usize, PutFailed>
     requires { AreShort letters.now }
-    ensures count { IfOk result (λ done. done ≡ counted (start + length (rows_from listing 1 letters.now))) }
-    ensures ok { OnOk result (Appends (K.out sink.old) (K.out sink.new) (rows_from listing 1 letters.now)) }
-    ensures err { IfErr result (λ failed. TookSome start (K.out sink.old) (K.out sink.new) (rows_from listing 1 letters.now) failed) }
-    ensures cause { HasCause (K.faults sink.old) (K.faults sink.new) result }
+    ensures { PutBehind K.Sink start (rows_from listing 1 letters.now) sink.old sink.new result }
 {
     let mut done = start;
     for (i, letter) in letters.iter().enumerate() {
@@ -134,11 +114,7 @@ fn put_all_rows<K: Sink>(
     letters: &[Letter],
 ) -> Result<usize, PutFailed>
     requires { AreShort letters.now }
-    ensures count { IfOk result (λ done. done ≡ counted (start + length (rows_from listing 1 letters.now ++ line (codes ".")))) }
-    ensures ok { OnOk result (Appends (K.out sink.old) (K.out sink.new) (rows_from listing 1 letters.now ++ line (codes "."))) }
-    ensures err { IfErr result (λ failed.
-        TookSome start (K.out sink.old) (K.out sink.new) (rows_from listing 1 letters.now ++ line (codes ".")) failed) }
-    ensures cause { HasCause (K.faults sink.old) (K.faults sink.new) result }
+    ensures { PutBehind K.Sink start (rows_from listing 1 letters.now ++ line (codes ".")) sink.old sink.new result }
 {
     match put_rows(sink, start, listing, letters) {
         Ok(done) => put_line(sink, done, b"."),
@@ -148,11 +124,7 @@ fn put_all_rows<K: Sink>(
 
 // Puts the lines of a text, and a line of one dot.
 fn put_all_lines<K: Sink>(sink: &mut K, start: usize, text: &[u8]) -> Result<usize, PutFailed>
-    ensures count { IfOk result (λ done. done ≡ counted (start + length (sent_lines text.now ++ line (codes ".")))) }
-    ensures ok { OnOk result (Appends (K.out sink.old) (K.out sink.new) (sent_lines text.now ++ line (codes "."))) }
-    ensures err { IfErr result (λ failed.
-        TookSome start (K.out sink.old) (K.out sink.new) (sent_lines text.now ++ line (codes ".")) failed) }
-    ensures cause { HasCause (K.faults sink.old) (K.faults sink.new) result }
+    ensures { PutBehind K.Sink start (sent_lines text.now ++ line (codes ".")) sink.old sink.new result }
 {
     match put_lines(sink, start, text) {
         Ok(done) => put_line(sink, done, b"."),
@@ -169,11 +141,7 @@ fn put_row<K: Sink>(
     letters: &[Letter],
 ) -> Result<usize, PutFailed>
     requires { AreShort letters.now }
-    ensures count { IfOk result (λ done. done ≡ counted (start + length (row_reply listing number (letter_at letters.now number)))) }
-    ensures ok { OnOk result (Appends (K.out sink.old) (K.out sink.new) (row_reply listing number (letter_at letters.now number))) }
-    ensures err { IfErr result (λ failed.
-        TookSome start (K.out sink.old) (K.out sink.new) (row_reply listing number (letter_at letters.now number)) failed) }
-    ensures cause { HasCause (K.faults sink.old) (K.faults sink.new) result }
+    ensures { PutBehind K.Sink start (row_reply listing number (letter_at letters.now number)) sink.old sink.new result }
 {
     match letter_at(letters, number) {
         None => put_next(sink, start, refusal_line(Refusal::NoMessage).as_slice()),
@@ -188,10 +156,7 @@ fn put_row<K: Sink>(
 // Puts the text of a letter: its size, its lines, and a line of one dot.
 fn put_letter<K: Sink>(sink: &mut K, start: usize, letter: &Letter) -> Result<usize, PutFailed>
     requires { length letter.now.text ≤ 1048576 }
-    ensures count { IfOk result (λ done. done ≡ counted (start + length (text_reply (Some letter.now)))) }
-    ensures ok { OnOk result (Appends (K.out sink.old) (K.out sink.new) (text_reply (Some letter.now))) }
-    ensures err { IfErr result (λ failed. TookSome start (K.out sink.old) (K.out sink.new) (text_reply (Some letter.now)) failed) }
-    ensures cause { HasCause (K.faults sink.old) (K.faults sink.new) result }
+    ensures { PutBehind K.Sink start (text_reply (Some letter.now)) sink.old sink.new result }
 {
     let text = letter.text.as_slice();
     match put_next(sink, start, number_line(size_of(text)).as_slice()) {
@@ -208,10 +173,7 @@ fn put_text<K: Sink>(
     letters: &[Letter],
 ) -> Result<usize, PutFailed>
     requires { AreShort letters.now }
-    ensures count { IfOk result (λ done. done ≡ counted (start + length (text_reply (letter_at letters.now number)))) }
-    ensures ok { OnOk result (Appends (K.out sink.old) (K.out sink.new) (text_reply (letter_at letters.now number))) }
-    ensures err { IfErr result (λ failed. TookSome start (K.out sink.old) (K.out sink.new) (text_reply (letter_at letters.now number)) failed) }
-    ensures cause { HasCause (K.faults sink.old) (K.faults sink.new) result }
+    ensures { PutBehind K.Sink start (text_reply (letter_at letters.now number)) sink.old sink.new result }
 {
     match letter_at(letters, number) {
         None => put_next(sink, start, refusal_line(Refusal::NoMessage).as_slice()),
@@ -227,10 +189,7 @@ fn put_list<K: Sink>(
     letters: &[Letter],
 ) -> Result<usize, PutFailed>
     requires { AreShort letters.now }
-    ensures count { IfOk result (λ done. done ≡ counted (start + length (reply_bytes letters.now (Rows listing)))) }
-    ensures ok { OnOk result (Appends (K.out sink.old) (K.out sink.new) (reply_bytes letters.now (Rows listing))) }
-    ensures err { IfErr result (λ failed. TookSome start (K.out sink.old) (K.out sink.new) (reply_bytes letters.now (Rows listing)) failed) }
-    ensures cause { HasCause (K.faults sink.old) (K.faults sink.new) result }
+    ensures { PutBehind K.Sink start (reply_bytes letters.now (Rows listing)) sink.old sink.new result }
 {
     match put_next(sink, start, head_line(listing, letters.len()).as_slice()) {
         Ok(done) => put_all_rows(sink, done, listing, letters),
@@ -247,10 +206,7 @@ pub(crate) fn put_reply<K: Sink>(
     reply: Reply,
 ) -> Result<usize, PutFailed>
     requires { AreShort letters.now }
-    ensures count { IfOk result (λ done. done ≡ counted (start + length (reply_bytes letters.now reply))) }
-    ensures ok { OnOk result (Appends (K.out sink.old) (K.out sink.new) (reply_bytes letters.now reply)) }
-    ensures err { IfErr result (λ failed. TookSome start (K.out sink.old) (K.out sink.new) (reply_bytes letters.now reply) failed) }
-    ensures cause { HasCause (K.faults sink.old) (K.faults sink.new) result }
+    ensures { PutBehind K.Sink start (reply_bytes letters.now reply) sink.old sink.new result }
 {
     match reply {
         Reply::Accepted => put_next(sink, start, accepted_line().as_slice()),

@@ -4,7 +4,7 @@ ghost use Rattle.std.specs.List.{position_or_len};
 ghost use Rattle.std.specs.Io.KnownBytes.{Appends};
 ghost use Rattle.mail_lines.specs.Lines.{is_end, NoEnd};
 ghost use Rattle.tap_edges.specs.Edges.{HasCause};
-ghost use Rattle.pop_session.specs.Puts.{counted, TookSome};
+ghost use Rattle.pop_session.specs.Puts.{counted, TookSome, PutBehind};
 ghost use Rattle.pop_session.specs.Replies.{greeting, reply_bytes};
 ghost use Rattle.pop_session.specs.Sessions.{Session, new_session, greeted, replies_from, quits_from, IsReady, is_ended, grown, AreShort};
 ghost use Rattle.pop_session.specs.Sessions.{held, open_reply, answered, IsOver};
@@ -163,11 +163,8 @@ impl<'a> PopSession<'a> {
 
     // Puts the reply to the open request, and begins a new one. `start` bytes are put before.
     fn answer<K: Sink>(&mut self, start: usize, sink: &mut K) -> Result<usize, PutFailed>
-        ensures count { IfOk result (λ done. done ≡ counted (start + length (open_reply self.old))) }
-        ensures ok { OnOk result (Appends (K.out sink.old) (K.out sink.new) (open_reply self.old)) }
+        ensures put { PutBehind K.Sink start (open_reply self.old) sink.old sink.new result }
         ensures next { OnOk result (self.new ≡ answered self.old) }
-        ensures err { IfErr result (λ failed. TookSome start (K.out sink.old) (K.out sink.new) (open_reply self.old) failed) }
-        ensures cause { HasCause (K.faults sink.old) (K.faults sink.new) result }
         ensures failed { OnErr result (self.new.failed ≡ true) }
     {
         let outcome = outcome_of(self.user, self.secret, self.phase, self.front.as_slice());

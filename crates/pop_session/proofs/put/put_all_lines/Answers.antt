@@ -1,5 +1,10 @@
-use Rattle.pop_session.proofs.Puts.{on-cut}
+use Rattle.std.proofs.Common.{refl, codes}
+use Rattle.pop_session.specs.Letters.{line}
+use Rattle.pop_session.proofs.Puts.{Put-then, Put-cut}
 use Rattle.pop_session.proofs.put.put_all_lines.Goals as goal
 
-pub returns-in-Ok-clause-err : goal.returns-in-Ok-clause-err
-returns-in-Ok-clause-err g c = on-cut c.put_line.result _ _ _ _ _ _ _ c.in-Ok.ensures.count c.in-Ok.ensures.ok c.put_line.ensures.err
+pub returns-in-Ok : goal.returns-in-Ok
+returns-in-Ok g c = Put-then g.K.Sink _ _ _ _ _ _ _ _ _ refl c.in-Ok.ensures c.put_line.ensures
+
+pub returns-in-Err : goal.returns-in-Err
+returns-in-Err g c = Put-cut g.K.Sink _ _ _ (line (codes ".")) _ _ _ refl c.in-Err.ensures

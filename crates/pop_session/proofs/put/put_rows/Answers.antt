@@ -1,6 +1,6 @@
 use Rattle.std.proofs.Common.{◌∙◌}
-use Rattle.pop_session.proofs.Puts.{Puts-more, Puts-cut}
-use Rattle.pop_session.proofs.Rows.{rows-next}
+use Rattle.pop_session.proofs.Puts.{Puts-more, Puts-failed, Puts-whole}
+use Rattle.pop_session.proofs.Rows.{rows-next, no-rows}
 use Rattle.pop_session.proofs.put.put_rows.Goals as goal
 
 pub loop-i-preserved : goal.loop-i-preserved
@@ -9,6 +9,9 @@ loop-i-preserved g c = record {
   same = c.in-Ok.ensures.cause.fine ∙ c.loop-i.invariant.same;
 }
 
-pub returns-in-Err-clause-err : goal.returns-in-Err-clause-err
-returns-in-Err-clause-err g c =
-    Puts-cut _ _ _ c.as_slice.result.now _ _ _ _ _ c.in-Err.failed c.loop-i.invariant.puts (rows-next c.args.listing c.args.letters.now c.loop-i.i c.index-letters-i.result c.as_slice.result.now c.loop-i-test.true c.index-letters-i.is (c.as_slice.ensures.value ∙ c.row_line.ensures)) c.in-Err.ensures.err
+pub returns-in-Err : goal.returns-in-Err
+returns-in-Err g c =
+    Puts-failed g.K.Sink _ _ _ c.as_slice.result.now _ _ _ _ _ c.in-Err.failed c.loop-i.invariant.puts c.loop-i.invariant.same (rows-next c.args.listing c.args.letters.now c.loop-i.i c.index-letters-i.result c.as_slice.result.now c.loop-i-test.true c.index-letters-i.is (c.as_slice.ensures.value ∙ c.row_line.ensures)) c.in-Err.ensures
+
+pub returns : goal.returns
+returns g c = Puts-whole g.K.Sink _ _ _ _ _ _ c.loop-i.invariant.puts c.loop-i.invariant.same (no-rows c.args.listing c.args.letters.now c.loop-i.i c.loop-i-test.false)

@@ -33,7 +33,7 @@ returns-then-len-piece-clause-quits g c = λ rest.
 
 pub returns-in-Ok-clause-count : goal.returns-in-Ok-clause-count
 returns-in-Ok-clause-count g c =
-    c.in-Ok.ensures.count
+    c.in-Ok.ensures.put.count
     ∙ ap (λ s. counted (c.args.start + length (open_reply s))) c.hold.ensures.next
     ∙ ap (λ xs. counted (c.args.start + length xs))
     (sym (cut-one c.args.self.now c.args.piece.now c.end_of_request-len.result c.hold.ensures.front c.end_of_request-len.ensures.value (grind (arith, c.if-len-piece.false, c.end_of_request-len.ensures.within)) c.requires.ready.not_ended))
@@ -42,7 +42,7 @@ pub returns-in-Ok-clause-ok : goal.returns-in-Ok-clause-ok
 returns-in-Ok-clause-ok g c =
     subst (λ xs. Appends (g.K.Sink.out c.args.sink.now) (g.K.Sink.out c.answer.new.sink) xs)
     (ap open_reply c.hold.ensures.next ∙ sym (cut-one c.args.self.now c.args.piece.now c.end_of_request-len.result c.hold.ensures.front c.end_of_request-len.ensures.value (grind (arith, c.if-len-piece.false, c.end_of_request-len.ensures.within)) c.requires.ready.not_ended))
-    c.in-Ok.ensures.ok
+    c.in-Ok.ensures.put.ok
 
 pub returns-in-Ok-clause-next : goal.returns-in-Ok-clause-next
 returns-in-Ok-clause-next g c = λ rest.
@@ -61,4 +61,4 @@ returns-in-Ok-clause-quits g c = λ rest.
 pub returns-in-Err-clause-err : goal.returns-in-Err-clause-err
 returns-in-Err-clause-err g c =
     cut-failed c.args.self.now c.args.piece.now c.end_of_request-len.result c.args.start _ _ c.in-Err.failed c.hold.ensures.front c.end_of_request-len.ensures.value (grind (arith, c.if-len-piece.false, c.end_of_request-len.ensures.within)) c.requires.ready.not_ended
-    (subst (λ s. TookSome c.args.start (g.K.Sink.out c.args.sink.now) (g.K.Sink.out c.answer.new.sink) (open_reply s) c.in-Err.failed) c.hold.ensures.next c.in-Err.ensures.err)
+    (subst (λ s. TookSome c.args.start (g.K.Sink.out c.args.sink.now) (g.K.Sink.out c.answer.new.sink) (open_reply s) c.in-Err.failed) c.hold.ensures.next c.in-Err.ensures.put.err)
