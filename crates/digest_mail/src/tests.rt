@@ -1,19 +1,9 @@
 //! Tests of digests.
-ghost use Rattle.std.specs.Prelude.{◌≡◌, ◌<◌, ◌+◌, ◌≤ℤ◌, pos, [], ◌∷◌, length, IfOk};
-ghost use Rattle.row_index.specs.Orders.{IsMoment};
-ghost use Rattle.tap_rows.specs.Kept.{Each};
-ghost use Rattle.tap_rows.specs.Tables.{after};
-ghost use Rattle.tap_rows.specs.declared.change.Change.TheVariants.{Docs};
-
-use crate::digest;
 use crate::digests::{header, push_document};
 use mail_lines::cut_mbox;
-use row_index::RowIndex;
 use std::alloc::Global;
-use std::marker::Brand;
-use std::sync::ledger::{Blank, Ledger};
-use tap_base::{DocNum, Memory, Steps, Text, Texts};
-use tap_rows::{Doc, Entry, Fields, KeptDoc};
+use tap_base::{DocNum, Memory, Text, Texts};
+use tap_rows::Entry;
 
 // Returns the entry of a document, first given at the second 100.
 fn entry_of(doc: u32) -> Entry {
@@ -22,31 +12,6 @@ fn entry_of(doc: u32) -> Entry {
         first: 100,
         run: 1,
     }
-}
-
-// Returns a document without a text.
-fn blank_doc(alloc: Global, num: u32) -> KeptDoc
-    ensures { result ≡ record { num = record { 0 = num }; arrival = pos 5; text = [] } }
-{
-    let doc = Doc {
-        num: DocNum(num),
-        arrival: 5,
-        text: Text::new(alloc),
-    };
-    let fields = Fields {
-        date: None,
-        from: None,
-        subject: None,
-        msgid: None,
-        inreplyto: None,
-        to: Texts::new(alloc),
-        cc: Texts::new(alloc),
-        newsgroups: Texts::new(alloc),
-        references: Texts::new(alloc),
-        words: Texts::new(alloc),
-        size: 0,
-    };
-    KeptDoc::new(doc, fields)
 }
 
 // Appends the lines, each with an LF.
@@ -86,66 +51,6 @@ fn digest_of(alloc: Global, texts: &[&[u8]]) -> Result<Text, Memory> {
     drop(lines);
     pushed?;
     text
-}
-
-// Returns the index with a further document.
-fn with_doc(index: RowIndex, doc: KeptDoc) -> Result<RowIndex, Memory>
-    requires number { doc.num.0 ≡ length index.docs + 1 }
-    requires moment { IsMoment doc.arrival }
-    requires after { Each (λ other. other.arrival ≤ℤ doc.arrival) index.docs }
-    ensures { IfOk result (λ new. new ≡ after index (Docs (doc ∷ []))) }
-{
-    let mut index = index;
-    match index.add_doc(doc) {
-        Ok(()) => Ok(index),
-        Err(Memory) => {
-            drop(index);
-            Err(Memory)
-        }
-    }
-}
-
-// Returns two documents without texts.
-fn two_docs(alloc: Global) -> Result<RowIndex, Memory> {
-    let one = with_doc(RowIndex::new(alloc), blank_doc(alloc, 1))?;
-    with_doc(one, blank_doc(alloc, 2))
-}
-
-// Returns the digest of a run over the documents of an index, which an entry without a document comes between.
-fn digest_over<L: Ledger>(alloc: Global, blank: Blank, index: &RowIndex) -> Result<Text, Memory>
-    requires name { blank.name ≡ L.name }
-    requires parts { blank.parts ≡ L.parts }
-    requires some { 0 < blank.parts }
-{
-    let mut steps = Steps::<L>::start(blank);
-    let entries = [entry_of(2), entry_of(3), entry_of(1)];
-    let lines = digest(alloc, b"all", 4294967295, &entries, index, &mut steps)?;
-    let text = joined(alloc, &lines);
-    drop(lines);
-    text
-}
-
-// Returns the digest of a run over two documents without texts, which an entry without a document comes between.
-fn blank_digest<L: Ledger>(alloc: Global, blank: Blank) -> Result<Text, Memory>
-    requires name { blank.name ≡ L.name }
-    requires parts { blank.parts ≡ L.parts }
-    requires some { 0 < blank.parts }
-{
-    let index = two_docs(alloc)?;
-    let text = digest_over::<L>(alloc, blank, &index);
-    drop(index);
-    text
-}
-
-#[test]
-fn documents_stand_in_the_order_of_the_entries(rt: HostRuntime) -> Result<(), Memory> {
-    let text = blank_digest::<Brand>(rt.alloc(), Blank::new(1))?;
-    assert_eq!(rt;
-        text.as_slice(),
-        b"From: tapestry\nSubject: digest all 4294967295\n\nFrom doc 2 first 100\n\nFrom doc 1 first 100\n\n".as_slice()
-    );
-    drop(text);
-    Ok(())
 }
 
 // Returns whether a digest is its header, the line before the document, these lines of it, and an empty line.

@@ -1,10 +1,12 @@
-//! Tests of window queries over documents: the rows that they find, and when a run is next worthwhile.
+//! Tests over documents: what window queries find, when a run is next worthwhile, how a box is listed, and digests.
 #![tactic(auto)]
 
 #[cfg(test)]
 mod documents;
 #[cfg(test)]
 mod index_tests;
+#[cfg(test)]
+mod list_tests;
 #[cfg(test)]
 mod probes;
 #[cfg(test)]

@@ -1,4 +1,4 @@
-use Rattle.restart_tests.proofs.rule_tests.a_box_is_listed_by_priority.Given as goal
+use Rattle.query_tests.proofs.list_tests.a_box_is_listed_by_priority.Given as goal
 
 -- the counter is that of the blank
 abbrev pub ghosts-listed : goal.ghosts-listed
