@@ -266,15 +266,34 @@ const DAMAGED: &str =
 
 #[test]
 fn a_number_that_is_too_large_is_damage(rt: HostRuntime) -> Result<(), Fail> {
-    let Some((ran, _version)) = script_over(rt.alloc(), DAMAGED, b"as ann\n") else {
+    let Some((ran, version)) = script_over(rt.alloc(), DAMAGED, b"as ann\n") else {
         return Err(Fail::from("no store"));
     };
     let (status, written) = ran?;
+    assert_eq!(rt; version, Some(2));
     assert_eq!(rt; status, 6);
     assert_eq!(rt;
         written.as_slice(),
         b"stop 6 damaged docs 1 number\n".as_slice()
     );
+    drop(written);
+    Ok(())
+}
+
+// A store of a version that isn't known.
+const LATER_VERSION: &str =
+    "CREATE TABLE meta (id INTEGER PRIMARY KEY CHECK (id = 1), version INTEGER NOT NULL) STRICT;
+    INSERT INTO meta (id, version) VALUES (1, 7)";
+
+#[test]
+fn another_version_is_refused(rt: HostRuntime) -> Result<(), Fail> {
+    let Some((ran, version)) = script_over(rt.alloc(), LATER_VERSION, b"as ann\n") else {
+        return Err(Fail::from("no store"));
+    };
+    let (status, written) = ran?;
+    assert_eq!(rt; version, Some(7));
+    assert_eq!(rt; status, 6);
+    assert_eq!(rt; written.as_slice(), b"stop 6 version 7\n".as_slice());
     drop(written);
     Ok(())
 }

@@ -1,4 +1,4 @@
-//! Tests of sessions over stores: over the same files, and over stores of an earlier version or with damage.
+//! Tests of sessions over stores: over the same files, and over stores of another version or with damage.
 #![tactic(auto)]
 
 #[cfg(test)]
