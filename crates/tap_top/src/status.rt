@@ -19,7 +19,7 @@ pub enum Status {
     KeeperFailed,
     /// The store is refused; one line says why, and nothing was read.
     StoreRefused,
-    /// Out of memory outside of a command; with a sample in one too.
+    /// Out of memory; with a sample also while a command was performed.
     OutOfMemory,
     /// The script has more bytes than a script may have.
     ScriptTooLong,
