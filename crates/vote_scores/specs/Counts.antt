@@ -27,7 +27,7 @@ counted_from kind scores (vote ∷ votes) = counted_from kind (counted_if kind v
 abbrev pub AreSmall : ℕ → List Score → Type 0
 AreSmall n scores =
     Each (λ score.
-        (score.voters ≤ n) × (neg_ℤ (pos (9223372036854775808 * n)) ≤ℤ score.sum) × (score.sum ≤ℤ pos (9223372036854775808 * n))) scores
+    (score.voters ≤ n) × (neg_ℤ (pos (9223372036854775808 * n)) ≤ℤ score.sum) × (score.sum ≤ℤ pos (9223372036854775808 * n))) scores
 
 -- no two are of one document
 abbrev pub AreApart : List Score → Type 0
