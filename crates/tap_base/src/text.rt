@@ -10,7 +10,6 @@ use std::hash::{Hash, Hasher};
 use std::marker::Model;
 
 /// A text: a list of bytes, which need not be UTF-8. A text of at most 30 bytes is no allocation.
-#[derive(Drop)]
 pub struct Text {
     store: TextStore,
     alloc: Global,
@@ -23,6 +22,13 @@ impl Model for Text {
     ghost Value = { List ℕ };
 
     ghost view = { λ t. stored t.store };
+}
+
+impl Drop for Text {
+    // One call wherever a text is dropped: derived, it would show each caller both places of the bytes.
+    fn drop(self) {
+        let Text { store: _, alloc: _ } = self;
+    }
 }
 
 impl PartialEq for Text {
