@@ -9,13 +9,14 @@ ghost use Rattle.tql_core.specs.Bounds.{is_near};
 ghost use Rattle.time_marks.specs.Seeks.{seek_plus};
 ghost use Rattle.query_eval.specs.Lowest.{keeping};
 ghost use Rattle.query_eval.specs.Placed.{IsReady};
+ghost use Rattle.probe_eval.specs.Nexts.{IsNext};
 ghost use Rattle.probe_eval.specs.Searches.{searched, HasBody, HasSlots};
 ghost use Rattle.probe_eval.specs.Drivers.{seek_var, hits_at, seek_hits, cost_at, seek_cost, walked};
 
 use crate::kept_hits::KeptHits;
 use crate::nested::collect_hits;
 use access_plan::Reach;
-use probe_eval::{Search, mark_in, seek_var, walked};
+use probe_eval::{Next, Search, mark_in, seek_var, walked};
 use std::sync::ledger::Ledger;
 use tap_base::Steps;
 use time_marks::{Seek, Window};
@@ -26,26 +27,29 @@ fn collect_at<'a, L: Ledger>(
     search: &Search<'a>,
     order: &'a [Reach],
     w: Window,
+    next: &mut Next<'a>,
     env: &Env<'a>,
     into: &mut KeptHits,
     steps: &mut Steps<L>,
 )
     requires node { HasBody search.now }
     requires room { HasSlots search.now (length env.now + length order.now) }
+    requires next { IsNext search.now.probe.now.path env.now next.old }
     requires ready { IsReady into.old }
     ensures hits { into.new.hits.items ≡ keeping (length into.old.places.items) into.old.hits.items
         (hits_at search.now.seen.now search.now.index.now w (searched search.now) order.now env.now) }
+    ensures next { IsNext search.now.probe.now.path env.now next.new }
     ensures ready { IsReady into.new }
     ensures places { length into.new.places.items ≡ length into.old.places.items }
     ensures steps { steps.new ≤ steps.old + cost_at search.now.index.now w (searched search.now) order.now env.now }
     ensures more { steps.old ≤ steps.new }
 {
     if let Some(mark) = mark_in(w, value(search.probe.at, env)) {
-        collect_hits(search, order, env, mark, into, steps);
+        collect_hits(search, order, next, env, mark, into, steps);
     }
 }
 
-// Stores the hits at the marks of the driving rows that are walked.
+// Stores the hits at the marks of the driving rows that are walked. The nearest step is found once for all of them.
 fn collect_driven<'a, L: Ledger>(
     search: &Search<'a>,
     order: &'a [Reach],
@@ -71,8 +75,18 @@ fn collect_driven<'a, L: Ledger>(
     ensures more { steps.old ≤ steps.new }
 {
     let mut rows = walked(search, seek, var, w);
+    let free = Env::new();
+    let mut below = Next::Unknown;
     while let Some(row) = rows.next(steps) {
-        collect_at(search, order, w, &Env::new().bind(var, row), into, steps);
+        collect_at(
+            search,
+            order,
+            w,
+            &mut below,
+            &free.bind(var, row),
+            into,
+            steps,
+        );
     }
 }
 
@@ -99,7 +113,15 @@ pub(crate) fn collect_part<'a, L: Ledger>(
     ensures more { steps.old ≤ steps.new }
 {
     match seek_var(seek) {
-        None => collect_at(search, order, w, &Env::new(), into, steps),
+        None => collect_at(
+            search,
+            order,
+            w,
+            &mut Next::Unknown,
+            &Env::new(),
+            into,
+            steps,
+        ),
         Some(var) => collect_driven(search, order, seek, var, w, into, steps),
     }
 }

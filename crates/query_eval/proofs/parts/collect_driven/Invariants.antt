@@ -1,6 +1,8 @@
 use Rattle.std.proofs.Common.{◌≡◌, ◌+◌, ◌≤◌, length, []}
 use Rattle.std.specs.List.{flat_map}
+use Rattle.tql_core.specs.Row.{Row}
 use Rattle.tql_core.specs.Values.{bind}
+use Rattle.probe_eval.specs.Nexts.{IsNext}
 use Rattle.time_marks.specs.Views.{probe_in}
 use Rattle.query_eval.specs.Lowest.{keeping}
 use Rattle.query_eval.specs.Placed.{IsReady}
@@ -15,6 +17,7 @@ invariant-loop-row g l = record {
   places : length l.into.places.items ≡ length l.fn.into.places.items;
   steps : l.steps + total (λ row. 1 + cost_at l.fn.search.index.now l.fn.w (probe_in l.fn.search.pool.now l.fn.search.probe.now) l.fn.order (bind l.fn.var row [])) l.rows ≤ l.fn.steps + total (λ row. 1 + cost_at l.fn.search.index.now l.fn.w (probe_in l.fn.search.pool.now l.fn.search.probe.now) l.fn.order (bind l.fn.var row [])) (walked l.fn.search.index.now l.fn.w (probe_in l.fn.search.pool.now l.fn.search.probe.now) l.fn.seek l.fn.var);
   more : l.fn.steps ≤ l.steps;
+  next : (row : Row) → IsNext l.fn.search.probe.now.path (bind l.fn.var row []) l.below;
 }
 
 abbrev pub decreases-loop-row : goal.decreases-loop-row
