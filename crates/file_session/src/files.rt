@@ -1,8 +1,8 @@
 //! The files of a store, from their open to their close.
-ghost use Rattle.std.specs.Prelude.{◌≡◌, ◌<◌, ◌⊎◌, ◌↔◌, true, None};
+ghost use Rattle.std.specs.Prelude.{◌≡◌, ◌<◌, ◌⊎◌, ◌↔◌, true, Some, None, Ok};
 ghost use Rattle.std.specs.List.{All};
 ghost use Rattle.std.specs.Str.{IsUtf8};
-ghost use Rattle.keeper_file.specs.Cases.{Tells, HasVersion, IsHonest, MayLeave, is_stopped};
+ghost use Rattle.keeper_file.specs.Cases.{Tells, HasVersion, IsHonest, MayLeave, IsInMemory, is_stopped, place_of};
 ghost use Rattle.keeper_file.specs.PathFiles.{path_files};
 ghost use Rattle.keeper_file.specs.Images.{ImageTells, ImageHasVersion};
 ghost use Rattle.sqlite.specs.Files.{over_files};
@@ -42,6 +42,7 @@ pub fn run_on_files<'a, C: Session, I: Source, K: Sink, S: Start, L: Ledger>(
         C.ends_over words.now result.0 (I.left source.old) (I.left source.new) (K.out sink.old) (K.out sink.new)
         t (ImageHasVersion (image_at S.Start)) (HasVersion (path_files S.Start) over_files result.1.inner)
         (Tells (path_files S.Start) over_files result.1.inner) (MayLeave (path_files S.Start) over_files result.1.inner) }
+    ensures placed { (result.0 ≡ 2) ⊎ ((result.0 ≡ 7) ⊎ (place_of result.1.inner ≡ C.place words.now)) }
     ensures stopped { (is_stopped result.1.inner ≡ true) ↔ (result.0 ≡ 5) }
 {
     let mut steps = Steps::<L>::start(blank);
@@ -73,6 +74,9 @@ pub fn run_to_close<C: Session, I: Source, K: Sink, S: Start, L: Ledger>(
     ensures ends { C.ends words.now result.0 (I.left source.old) (I.left source.new) (K.out sink.old) (K.out sink.new)
         (I.faults source.old) (I.faults source.new) (K.faults sink.old) (K.faults sink.new) }
     ensures closes { result.1 ≡ None → (result.0 ≡ 5) ⊎ (result.0 ≡ 6) }
+
+    // No file was open only if nothing was attached, or the words name a place in memory.
+    ensures no_file { result.1 ≡ Some (Ok None) → (result.0 ≡ 2) ⊎ ((result.0 ≡ 7) ⊎ IsInMemory (C.place words.now)) }
 
     // How the call ended over the tables that the files held at first, and what the close left of those that it told.
     ensures end { SessionEnd S.Start (λ t versions tells leaves.

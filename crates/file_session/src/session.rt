@@ -1,5 +1,5 @@
 //! The call that a program makes over its store.
-ghost use Rattle.std.specs.Prelude.{◌≡◌, ◌↔◌, ℕ, ℤ, List, Option, true, false};
+ghost use Rattle.std.specs.Prelude.{◌≡◌, ◌⊎◌, ◌↔◌, ℕ, ℤ, List, Option, true, false};
 ghost use Rattle.std.specs.List.{All};
 ghost use Rattle.std.specs.Str.{IsUtf8};
 ghost use Rattle.keeper_core.specs.Keeping.{IsDurable};
@@ -22,6 +22,9 @@ pub trait Session {
     ghost ends_over: { List (List ℕ) → ℕ → Option (List ℕ) → Option (List ℕ) → Option (List ℕ) → Option (List ℕ)
         → TableRows → (ℤ → Type 0) → (ℤ → Type 0) → (TableRows → Type 0) → (TableRows → Type 0) → Type 0 };
 
+    // The place of the store that the words name.
+    ghost place: { List (List ℕ) → List ℕ };
+
     /// Makes the call over a keeper that isn't attached, with texts hashed under this key; returns the status, which is 5 if and only if the keeper failed.
     fn hold<I: Source, K: Sink, P: Keeper, L: Ledger>(
         alloc: Global,
@@ -40,5 +43,6 @@ pub trait Session {
         ensures ends_over { (t : TableRows) → P.honest keeper.new → IsDurable (P.tells keeper.old) (P.may_leave keeper.old) t →
             ends_over words.now result (I.left source.old) (I.left source.new) (K.out sink.old) (K.out sink.new)
             t (P.has_version keeper.old) (P.has_version keeper.new) (P.tells keeper.new) (P.may_leave keeper.new) }
+        ensures placed { (result ≡ 2) ⊎ ((result ≡ 7) ⊎ (P.place keeper.new ≡ place words.now)) }
         ensures stopped { (P.stopped keeper.new ≡ true) ↔ (result ≡ 5) };
 }

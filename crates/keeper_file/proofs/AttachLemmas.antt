@@ -1,5 +1,6 @@
 -- An attach, from the open of the store and the attach of what is open.
-use Rattle.std.proofs.Common.{◌≡◌, ◌⊎◌, ◌≤◌, ℕ, ℤ, List, true, false, Result, Ok, Err, inl, inr, refl, sym, subst, ◌∙◌}
+use Rattle.std.proofs.Common.{◌≡◌, ◌⊎◌, ◌≤◌, ℕ, ℤ, List, true, false, Option, Some, None, Result, Ok, Err, inl, inr, refl, sym, ap, subst, ◌∙◌}
+use Rattle.std.specs.Prelude.{codes}
 use Rattle.std.proofs.lemmas.Result.{IfOk-weaker}
 use Rattle.tap_base.specs.Counts.{Rose}
 use Rattle.tap_rows.specs.declared.tables.Tables.{Tables}
@@ -9,9 +10,15 @@ use Rattle.keeper_core.specs.declared.fault.AttachFault.TheVariants as fault
 use Rattle.sqlite_trees.specs.declared.store.Store.{Ghosts}
 use Rattle.keeper_file.specs.OpenerFiles.{FilesOf}
 use Rattle.keeper_file.specs.Attaching.{Attaches}
-use Rattle.keeper_file.specs.Cases.{Tells, HasVersion, IsHonest, MayLeave, is_attached, is_stopped, faults_of, place_of}
+use Rattle.keeper_file.specs.Cases.{Tells, HasVersion, IsHonest, MayLeave, is_attached, is_stopped, faults_of, place_of, stopped_with, memory_place}
 use Rattle.keeper_file.specs.declared.inner.Inner.{Inner}
-use Rattle.keeper_file.proofs.UnopenedLemmas.{alien_then}
+use Rattle.keeper_file.specs.declared.inner.Inner.TheVariants.{Memory}
+use Rattle.keeper_file.specs.declared.inner.InMemory.{InMemory}
+use Rattle.keeper_sql.specs.declared.sql_keeper.SqlKeeper.{SqlKeeper}
+use Rattle.sqlite_trees.specs.declared.memory.MemStore.{MemStore}
+use Rattle.sqlite.specs.Steps.{over_memory}
+use Rattle.keeper_file.proofs.DurableLemmas.{alien_then}
+use Rattle.keeper_file.proofs.MemoryLemmas.{not_misplaced, at_memory}
 
 module _ {A O : Type 0} (files : FilesOf O) (g : Ghosts A) (old new : Inner A O g) (at : List ℕ)
     (honest : IsHonest files g new → IsHonest files g old)
@@ -94,3 +101,18 @@ then_attached files g old mid new at result honest told version place faults a =
 pub attaches_from : {A O : Type 0} (files : FilesOf O) (g : Ghosts A) (old now new : Inner A O g) (at : List ℕ) (result : Result Tables AttachFault)
     → old ≡ now → Attaches files g now new at result → Attaches files g old new at result
 attaches_from files g old now new at result is a = subst (λ k. Attaches files g k new at result) (sym is) a
+
+-- ---- a store in memory
+
+pub attaches_with : {A O : Type 0} (files : FilesOf O) (g : Ghosts A) (old : InMemory) (now : SqlKeeper MemStore over_memory) (at : List ℕ) (result : Result Tables AttachFault)
+    → stopped_with old.misplaced_at old.keeper.stopped ≡ false
+    → Attaches {A = A} files g (Memory (record { keeper = old.keeper; misplaced_at = None })) (Memory (record { keeper = now; misplaced_at = None })) at result
+    → Attaches {A = A} files g (Memory old) (Memory (record { keeper = now; misplaced_at = old.misplaced_at })) at result
+attaches_with {A} files g old now at result runs a =
+    subst (λ path. Attaches {A = A} files g (Memory (record { keeper = old.keeper; misplaced_at = path })) (Memory (record { keeper = now; misplaced_at = path })) at result)
+    (sym (not_misplaced old.misplaced_at old.keeper.stopped runs)) a
+
+pub placed_in_memory : (now was at : List ℕ) (result : Result Tables AttachFault) → at ≡ codes ":memory:" → (now ≡ at) ⊎ ((result ≡ Err fault.Memory) × (now ≡ was))
+    → (memory_place now ≡ at) ⊎ ((result ≡ Err fault.Memory) × (memory_place now ≡ memory_place was))
+placed_in_memory now was at result is (inl placed) = inl (at_memory now at is placed)
+placed_in_memory now was at result is (inr out) = inr (out.0, ap memory_place out.1)

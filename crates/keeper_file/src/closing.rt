@@ -8,7 +8,7 @@ ghost use Rattle.sqlite_store.specs.FileStore.{view};
 ghost use Rattle.sqlite_wal.specs.Reads.{AreClean};
 ghost use Rattle.tap_rows.specs.declared.tables.Tables.{Tables as TableRows};
 ghost use Rattle.keeper_sql.specs.Store.{TellsAs};
-ghost use Rattle.keeper_file.specs.Cases.{Tells, IsHonest, has_files};
+ghost use Rattle.keeper_file.specs.Cases.{Tells, IsHonest, IsInMemory, has_files, is_stopped, place_of};
 ghost use Rattle.keeper_file.specs.Closing.{AreWhole, LeavesOnly};
 
 use crate::inner::Inner;
@@ -41,10 +41,12 @@ pub fn closed<D: Disk + Drop>(keeper: SqlKeeper<FileStore<D>>) -> Result<Files<D
 }
 
 /// Closes what is open.
+#[tactic(auto, using(crate::proofs::MemoryLemmas::without_files))]
 pub fn close_inner<D: Disk + Drop, O: Opener<FileStore<D>>>(
     inner: Inner<FileStore<D>, O>,
 ) -> Result<Option<Files<D>>, FileStore<D>>
     ensures none { result ≡ Ok None → has_files inner ≡ false }
+    ensures memory { result ≡ Ok None → is_stopped inner ≡ false → IsInMemory (place_of inner) }
     ensures honest { IfOk result (λ files. IfSome files (λ both. AreClean D.Disk both.log both.db
         → IsHonest O.Opener.files over_files inner)) }
     ensures honest_left { IfErr result (λ store. IsTrue (view store).is_clean → IsHonest O.Opener.files over_files inner) }
@@ -54,10 +56,17 @@ pub fn close_inner<D: Disk + Drop, O: Opener<FileStore<D>>>(
         → (t : TableRows) → Tells O.Opener.files over_files inner t → LeavesOnly D.Disk store t) }
 {
     match inner {
+        Inner::Unopened(unopened) => {
+            drop(unopened);
+            Ok(None)
+        }
+        Inner::Memory(memory) => {
+            drop(memory);
+            Ok(None)
+        }
         Inner::File(keeper) => match closed(keeper) {
             Ok(files) => Ok(Some(files)),
             Err(store) => Err(store),
         },
-        _ => Ok(None),
     }
 }

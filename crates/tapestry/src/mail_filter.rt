@@ -12,11 +12,14 @@ pub struct MailFilter;
 
 impl Session for MailFilter {
     ghost use Rattle.tapestry.specs.Sessions.{Ends, EndsOver};
+    ghost use Rattle.command_words.specs.Words.{place_in};
 
     ghost ends = { λ words status left left' out out' reads reads' puts puts'. Ends words status left left' out out' reads reads' puts puts' };
 
     ghost ends_over = { λ words status left left' out out' tables versions versions' tells leaves.
         EndsOver words status left left' out out' tables versions versions' tells leaves };
+
+    ghost place = { λ words. place_in words };
 
     fn hold<I: Source, K: Sink, P: Keeper, L: Ledger>(
         alloc: Global,

@@ -12,11 +12,14 @@ pub struct PopServer;
 
 impl Session for PopServer {
     ghost use Rattle.tapestry_pop.specs.Sessions.{Ends, EndsOver};
+    ghost use Rattle.command_words.specs.PopWords.{pop_place_in};
 
     ghost ends = { λ words status left left' out out' reads reads' puts puts'. Ends words status left left' out out' reads reads' puts puts' };
 
     ghost ends_over = { λ words status left left' out out' tables versions versions' tells leaves.
         EndsOver words status left left' out out' tables versions versions' tells leaves };
+
+    ghost place = { λ words. pop_place_in words };
 
     fn hold<I: Source, K: Sink, P: Keeper, L: Ledger>(
         alloc: Global,

@@ -1,4 +1,4 @@
-use Rattle.file_session.proofs.CloseLaws.{closed-so}
+use Rattle.file_session.proofs.CloseLaws.{closed-so, no_file}
 use Rattle.file_session.proofs.files.run_to_close.Goals as goal
 
 pub returns-then-status-eq6-clause-end : goal.returns-then-status-eq6-clause-end
@@ -16,3 +16,8 @@ returns-else-status-eq6-clause-end g c = record {
   stopped = c.run_on_files-status.ensures.stopped;
   close = closed-so _ _ c.close.result c.close.ensures.none c.close.ensures.honest c.close.ensures.honest_left c.close.ensures.whole c.close.ensures.alone;
 }
+
+pub returns-else-status-eq6-clause-no_file : goal.returns-else-status-eq6-clause-no_file
+returns-else-status-eq6-clause-no_file g c =
+    no_file c.run_on_files-status.result.1.inner _ _ c.close.result c.close.ensures.memory
+    c.run_on_files-status.ensures.stopped c.run_on_files-status.ensures.placed c.if-status-eq6.false.0

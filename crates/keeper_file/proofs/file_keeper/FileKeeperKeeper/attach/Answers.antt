@@ -1,5 +1,5 @@
 use Rattle.keeper_file.proofs.AttachLemmas.{not_opened, then_attached}
-use Rattle.keeper_file.proofs.UnopenedLemmas.{unopened_durable}
+use Rattle.keeper_file.proofs.DurableLemmas.{told_durable}
 use Rattle.keeper_file.proofs.file_keeper.FileKeeperKeeper.attach.Goals as goal
 
 pub returns-in-Ok-clause-attaches : goal.returns-in-Ok-clause-attaches
@@ -12,9 +12,15 @@ pub returns-in-Err-clause-attaches : goal.returns-in-Err-clause-attaches
 returns-in-Err-clause-attaches g c =
     let files = g.O.Opener.files in
     not_opened files g.A.Store _ c.ready.new.inner _ c.ready.ensures.honest c.ready.ensures.version
-    (λ clean t told. unopened_durable files g.A.Store g.met.O.Opener.alone c.ready.new.inner t c.in-Err.ensures.closed.0 clean (c.ready.ensures.told clean t told))
-    c.in-Err.ensures.closed.1 c.ready.ensures.later _ c.in-Err.ensures.kind
+    (λ clean t told. told_durable files g.A.Store g.met.O.Opener.alone g.met.A.Store.settled c.ready.new.inner t clean (c.ready.ensures.told clean t told))
+    c.in-Err.ensures.free c.ready.ensures.later _ c.in-Err.ensures.kind
 
 pub returns-in-Err-clause-spared : goal.returns-in-Err-clause-spared
 returns-in-Err-clause-spared g c shut clean t told =
-    unopened_durable g.O.Opener.files g.A.Store g.met.O.Opener.alone c.ready.new.inner t shut clean (c.ready.ensures.told clean t told)
+    told_durable g.O.Opener.files g.A.Store g.met.O.Opener.alone g.met.A.Store.settled c.ready.new.inner t clean (c.ready.ensures.told clean t told)
+
+pub returns-in-Err-clause-at_place : goal.returns-in-Err-clause-at_place
+returns-in-Err-clause-at_place g c = record {
+  memory = λ was now. absurd (let a = c.in-Err.ensures.shut was in let b = now in cc);
+  same = c.ready.ensures.same_store;
+}

@@ -30,3 +30,6 @@ returns-clause-ends_over g c = λ t honest holds. record {
 
 pub returns-clause-stopped : goal.returns-clause-stopped
 returns-clause-stopped g c = c.tapestry.ensures.causes.stopped
+
+pub returns-clause-placed : goal.returns-clause-placed
+returns-clause-placed g c = c.tapestry.ensures.place

@@ -27,3 +27,6 @@ returns-clause-ends_over g c = λ t honest holds. record {
 
 pub returns-clause-stopped : goal.returns-clause-stopped
 returns-clause-stopped g c = c.serve.ensures.causes.stopped
+
+pub returns-clause-placed : goal.returns-clause-placed
+returns-clause-placed g c = c.serve.ensures.place
