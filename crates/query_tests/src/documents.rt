@@ -10,7 +10,7 @@ use little_box::LittleBox;
 use row_index::RowIndex;
 use std::alloc::Global;
 use tap_base::{DocNum, Memory, Text, Texts};
-use tap_rows::{Doc, Entry, Fields, KeptDoc};
+use tap_rows::{Doc, Entry, Fields, KeptDoc, PackedTexts};
 
 /// Returns a document without a text.
 pub fn blank_doc(alloc: Global, num: u32, arrival: i64) -> KeptDoc
@@ -31,7 +31,7 @@ pub fn blank_doc(alloc: Global, num: u32, arrival: i64) -> KeptDoc
         cc: Texts::new(alloc),
         newsgroups: Texts::new(alloc),
         references: Texts::new(alloc),
-        words: Texts::new(alloc),
+        words: PackedTexts::new(alloc),
         size: 0,
     };
     KeptDoc::new(doc, fields)

@@ -2,6 +2,7 @@ pub mod Halves
 pub mod InPlaces
 pub mod Entries
 pub mod PostLaws
+mod PackedPosts
 pub mod TextLaws
 pub mod DateLaws
 pub mod PlaceLists

@@ -191,7 +191,7 @@ module _ {K : Type 0} (eq : K → K → Bool) (sound : (x y : K) → eq x y ≡ 
           ]
 
 module _ {K : Type 0} (eq : K → K → Bool) where
-  posted_onto : (keys : List K) (key : K) (p : ℕ) (es : List (K × List ℕ)) → posted_all eq (keys ++ key ∷ []) p es ≡ posted eq key p (posted_all eq keys p es)
+  pub posted_onto : (keys : List K) (key : K) (p : ℕ) (es : List (K × List ℕ)) → posted_all eq (keys ++ key ∷ []) p es ≡ posted eq key p (posted_all eq keys p es)
   posted_onto [] key p es = refl
   posted_onto (k ∷ keys) key p es = posted_onto keys key p (posted eq k p es)
 

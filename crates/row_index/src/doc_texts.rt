@@ -72,7 +72,7 @@ impl DocTexts {
         self.sender.add_some(&fields.from, place)?;
         self.subject.add_some(&fields.subject, place)?;
         self.reference.add_all(fields.references.as_slice(), place)?;
-        self.word.add_all(fields.words.as_slice(), place)
+        self.word.add_packed(&fields.words, place)
     }
 
     // Removes the place from under each text of the document.
@@ -86,7 +86,7 @@ impl DocTexts {
         self.subject.forget_some(&fields.subject, place);
         self.reference
             .forget_all(fields.references.as_slice(), place);
-        self.word.forget_all(fields.words.as_slice(), place);
+        self.word.forget_packed(&fields.words, place);
     }
 
     /// Adds the document under its texts, at the place after those of `docs`. After an error they are found as before.

@@ -10,6 +10,7 @@ use indexmap::IndexMap;
 use std::alloc::Global;
 use std::marker::Model;
 use tap_base::{HashKey, Memory, Text, TextBytes};
+use tap_rows::PackedTexts;
 
 /// The places under each text, in order.
 #[derive(Drop)]
@@ -97,6 +98,28 @@ impl Postings {
     {
         for key in keys {
             self.forget(key.as_slice(), place);
+        }
+    }
+
+    /// Puts the place under each of the texts. After `Memory` it is under the first few of them.
+    pub(crate) fn add_packed(&mut self, keys: &PackedTexts, place: u32) -> Result<(), Memory>
+        ensures ok { OnOk result (self.new ≡ posted_all bytes_eq keys.now place self.old) }
+        ensures err { OnErr result (IsPartlyPosted keys.now place self.old self.new) }
+    {
+        let mut rest = keys.walk();
+        while let Some(key) = rest.next() {
+            self.add(key, place)?;
+        }
+        Ok(())
+    }
+
+    /// Removes the place from under each of the texts.
+    pub(crate) fn forget_packed(&mut self, keys: &PackedTexts, place: u32)
+        ensures { self.new ≡ unposted_all bytes_eq keys.now place self.old }
+    {
+        let mut rest = keys.walk();
+        while let Some(key) = rest.next() {
+            self.forget(key, place);
         }
     }
 

@@ -1,5 +1,5 @@
 //! The values of expressions and the truth of atoms, for some bound rows.
-ghost use Rattle.std.specs.Prelude.{◌≡◌, Option, option_copied};
+ghost use Rattle.std.specs.Prelude.{◌≡◌, Option, Some, option_copied};
 ghost use Rattle.std.specs.List.{list_any};
 ghost use Rattle.std.specs.declared.cmp.Ordering.{Ordering};
 ghost use Rattle.std.specs.Ordering.{is_eq};
@@ -11,7 +11,8 @@ use crate::row_ref::fields;
 use crate::values::value;
 use crate::{Atom, Env, ListField, NumExpr, NumField, RowRef, TextExpr, TextField, Var};
 use std::cmp::Ordering;
-use tap_base::{Op, Text, Texts};
+use tap_base::{Op, Text};
+use tap_rows::PackedTexts;
 
 /// Returns whether the comparison of the two numbers holds.
 pub fn compares(op: Op, x: i128, y: i128) -> bool
@@ -151,22 +152,6 @@ fn both_texts(op: Op, x: Option<&[u8]>, y: Option<&[u8]>) -> bool
     }
 }
 
-// Returns a list of the row, if its table has this field.
-fn list_field(field: ListField, row: RowRef<'_>) -> Option<&Texts>
-    ensures { option_copied result ≡ list_field field (row_of row.entry) }
-{
-    match row {
-        RowRef::OfDoc(doc) => match field {
-            ListField::To => Some(&fields(doc).to),
-            ListField::Cc => Some(&fields(doc).cc),
-            ListField::Newsgroups => Some(&fields(doc).newsgroups),
-            ListField::References => Some(&fields(doc).references),
-            ListField::Words => Some(&fields(doc).words),
-        },
-        RowRef::OfNote(_) => None,
-    }
-}
-
 // Returns whether the text is one of these.
 fn holds_text(texts: &[Text], text: &[u8]) -> bool
     ensures { result ≡ list_any (λ x. is_eq (text_cmp x text.now)) texts.now }
@@ -179,23 +164,42 @@ fn holds_text(texts: &[Text], text: &[u8]) -> bool
     false
 }
 
-// Returns whether the list has the text, which it doesn't if a side is absent.
-fn has(texts: Option<&Texts>, text: Option<&[u8]>) -> bool
-    ensures { result ≡ has (option_copied texts.entry) (option_copied text.entry) }
+// Returns whether the text is one of these that lie one after the other.
+fn holds_packed(texts: &PackedTexts, text: &[u8]) -> bool
+    ensures { result ≡ list_any (λ x. is_eq (text_cmp x text.now)) texts.now }
 {
-    match (texts, text) {
-        (Some(texts), Some(text)) => holds_text(texts.as_slice(), text),
-        _ => false,
+    let mut rest = texts.walk();
+    while let Some(held) = rest.next() {
+        if is_same(held, text) {
+            return true;
+        }
+    }
+    false
+}
+
+// Returns whether a list of the row has the text, which it doesn't if its table has no such field.
+fn row_has(field: ListField, row: RowRef<'_>, text: &[u8]) -> bool
+    ensures { result ≡ has (list_field field (row_of row.entry)) (Some text.now) }
+{
+    match row {
+        RowRef::OfDoc(doc) => match field {
+            ListField::To => holds_text(fields(doc).to.as_slice(), text),
+            ListField::Cc => holds_text(fields(doc).cc.as_slice(), text),
+            ListField::Newsgroups => holds_text(fields(doc).newsgroups.as_slice(), text),
+            ListField::References => holds_text(fields(doc).references.as_slice(), text),
+            ListField::Words => holds_packed(&fields(doc).words, text),
+        },
+        RowRef::OfNote(_) => false,
     }
 }
 
-// Returns a list of the variable's row, if it is bound and has the field.
-fn list_of<'a>(v: Var, f: ListField, env: &Env<'a>) -> Option<&'a Texts>
-    ensures { option_copied result ≡ on_row (lookup v.0 env.now) (list_field f) }
+// Returns whether a list of the variable's row has the text, which it doesn't if a side is absent.
+fn has<'a>(v: Var, f: ListField, text: Option<&[u8]>, env: &Env<'a>) -> bool
+    ensures { result ≡ has (on_row (lookup v.0 env.now) (list_field f)) (option_copied text.entry) }
 {
-    match env.get(v) {
-        None => None,
-        Some(row) => list_field(f, row),
+    match (env.get(v), text) {
+        (Some(row), Some(text)) => row_has(f, row, text),
+        _ => false,
     }
 }
 
@@ -207,6 +211,6 @@ pub fn true_atom<'a>(atom: &'a Atom, env: &Env<'a>) -> bool
         Atom::Numbers(x, op, y) => both(*op, number(*x, env), number(*y, env)),
         Atom::Texts(x, op, y) => both_texts(*op, text(x, env), text(y, env)),
         Atom::Times(x, op, y) => both(*op, value(*x, env), value(*y, env)),
-        Atom::Has(v, f, y) => has(list_of(*v, *f, env), text(y, env)),
+        Atom::Has(v, f, y) => has(*v, *f, text(y, env), env),
     }
 }

@@ -1,0 +1,8 @@
+use Rattle.std.proofs.Common.{rules}
+use Rattle.tap_rows.proofs.PackedLaws.{pieces-count}
+use Rattle.tap_rows.proofs.packed_texts.PackedTexts.len.Goals as goal
+
+pub returns : goal.returns
+returns c =
+    let by = pieces-count c.self.inside.lens.items c.self.inside.bytes.items in
+    search (rules, by)

@@ -1,0 +1,12 @@
+-- Texts that lie one after the other in some bytes.
+use Rattle.std.specs.Prelude.{ℕ, List, [], ◌∷◌, ◌+◌, take, drop}
+
+-- the texts of these lengths, one after the other
+abbrev pub pieces : List ℕ → List ℕ → List (List ℕ)
+pieces [] bytes = []
+pieces (len ∷ lens) bytes = take len bytes ∷ pieces lens (drop len bytes)
+
+-- the bytes of all texts of these lengths
+abbrev pub total : List ℕ → ℕ
+total [] = 0
+total (len ∷ lens) = len + total lens
