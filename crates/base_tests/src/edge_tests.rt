@@ -5,9 +5,7 @@ use std::io;
 use std::io::ErrorKind;
 use std::test::Fail;
 use tap_base::{Memory, Text};
-use tap_edges::{
-    PutFailed, ReadFailed, Sink, Source, StdSink, StdSource, SureSource, put_next,
-};
+use tap_edges::{PutFailed, ReadFailed, Sink, Source, StdSink, StdSource, SureSource, put_next};
 
 // What a call of the fake reader or writer does.
 #[derive(Clone, Copy, Debug, PartialEq, Eq)]
