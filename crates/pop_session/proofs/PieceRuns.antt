@@ -43,7 +43,7 @@ pub Taking-start : (left : Option (List ℕ)) → Taking left left 0
 Taking-start left = record { bytes = []; consumed = Consumes-none left; count = refl }
 
 pub Taking-more : (left mid new : Option (List ℕ)) (taken n : ℕ) (piece : List ℕ)
-  → Taking left mid taken → n ≤ length piece → Consumes mid new (take n piece) → Taking left new (taken + n)
+    → Taking left mid taken → n ≤ length piece → Consumes mid new (take n piece) → Taking left new (taken + n)
 Taking-more left mid new taken n piece before within took = record {
   bytes = before.bytes ++ take n piece;
   consumed = Consumes-more left mid new before.bytes (take n piece) before.consumed took;
@@ -57,7 +57,7 @@ take-none n = grind (arith, common_steps)
 
 -- the bytes that a session looks at, of those taken so far and the next piece
 fits : (limit : ℕ) (bytes piece : List ℕ) (n room : ℕ)
-  → length bytes ≤ limit → room ≡ min n (limit - length bytes) → take limit (bytes ++ take n piece) ≡ bytes ++ take room piece
+    → length bytes ≤ limit → room ≡ min n (limit - length bytes) → take limit (bytes ++ take n piece) ≡ bytes ++ take room piece
 fits limit bytes piece n room le is =
     ap (λ k. take k (bytes ++ take n piece)) (whole (length bytes) le) ∙ take-append-add bytes (take n piece) (limit - length bytes) ∙ ap (λ xs. bytes ++ xs) (two (limit - length bytes) n piece ∙ ap (λ k. take k piece) (sym is)) where
       whole : (m : ℕ) → m ≤ limit → limit ≡ m + (limit - m)
@@ -83,20 +83,20 @@ record Seen (seen : List ℕ) (f g : List ℕ → List ℕ) (q p : List ℕ → 
   written : Appends out out' (f seen)
 
 seen-now : (left left' : Option (List ℕ)) (taken : ℕ) (f g : List ℕ → List ℕ) (q p : List ℕ → Bool) (out out' : Option (List ℕ))
-  → (a : Answering left left' taken f g q p out out') → taken ≤ SESSION_LIMIT → Seen a.taking.bytes f g q p out out'
+    → (a : Answering left left' taken f g q p out out') → taken ≤ SESSION_LIMIT → Seen a.taking.bytes f g q p out out'
 seen-now left left' taken f g q p out out' a le =
     subst (λ xs. Seen xs f g q p out out') (take_all SESSION_LIMIT a.taking.bytes (subst (λ n. n ≤ SESSION_LIMIT) a.taking.count le))
     (record { replied = a.replied; quits = a.quits; no_quit = a.no_quit; written = a.written })
 
 answering : (left left' : Option (List ℕ)) (taken : ℕ) (f g : List ℕ → List ℕ) (q p : List ℕ → Bool) (out out' : Option (List ℕ))
-  → (t : Taking left left' taken) → (seen : List ℕ) → take SESSION_LIMIT t.bytes ≡ seen → Seen seen f g q p out out'
-  → Answering left left' taken f g q p out out'
+    → (t : Taking left left' taken) → (seen : List ℕ) → take SESSION_LIMIT t.bytes ≡ seen → Seen seen f g q p out out'
+    → Answering left left' taken f g q p out out'
 answering left left' taken f g q p out out' t seen is s =
     let now = subst (λ xs. Seen xs f g q p out out') (sym is) s in
     record { taking = t; replied = now.replied; quits = now.quits; no_quit = now.no_quit; written = now.written }
 
 pub Answering-start : (left out : Option (List ℕ)) (f : List ℕ → List ℕ) (q : List ℕ → Bool)
-  → f [] ≡ [] → q [] ≡ false → Answering left left 0 f f q q out out
+    → f [] ≡ [] → q [] ≡ false → Answering left left 0 f f q q out out
 unfolding Taking-start
 Answering-start left out f q none no_quit =
     answering left left 0 f f q q out out (Taking-start left) [] (take-none SESSION_LIMIT)
@@ -104,15 +104,15 @@ Answering-start left out f q none no_quit =
 
 -- replies to bytes, and to some after them
 joined : (f g h : List ℕ → List ℕ) (a b : List ℕ)
-  → ((rest : List ℕ) → f (a ++ rest) ≡ f a ++ g rest) → ((rest : List ℕ) → g (b ++ rest) ≡ g b ++ h rest) → (rest : List ℕ)
-  → f ((a ++ b) ++ rest) ≡ f (a ++ b) ++ h rest
+    → ((rest : List ℕ) → f (a ++ rest) ≡ f a ++ g rest) → ((rest : List ℕ) → g (b ++ rest) ≡ g b ++ h rest) → (rest : List ℕ)
+    → f ((a ++ b) ++ rest) ≡ f (a ++ b) ++ h rest
 joined f g h a b one two rest =
     ap f (append_assoc a b rest) ∙ one (b ++ rest) ∙ ap (λ xs. f a ++ xs) (two rest) ∙ sym (append_assoc (f a) (g b) (h rest)) ∙ ap (λ xs. xs ++ h rest) (sym (one b))
 
 -- the bytes that the session looks at, with one more piece
 looked : (left left' : Option (List ℕ)) (taken n room : ℕ) (piece : List ℕ)
-  → (t : Taking left left' taken) → taken ≤ SESSION_LIMIT → room ≡ min n (SESSION_LIMIT - taken)
-  → take SESSION_LIMIT (t.bytes ++ take n piece) ≡ t.bytes ++ take room piece
+    → (t : Taking left left' taken) → taken ≤ SESSION_LIMIT → room ≡ min n (SESSION_LIMIT - taken)
+    → take SESSION_LIMIT (t.bytes ++ take n piece) ≡ t.bytes ++ take room piece
 looked left left' taken n room piece t le is =
     fits SESSION_LIMIT t.bytes piece n room (subst (λ k. k ≤ SESSION_LIMIT) t.count le) (is ∙ ap (λ k. min n (SESSION_LIMIT - k)) t.count)
 
@@ -136,7 +136,7 @@ room-le n k room is = grind (arith, is)
 
 -- the piece was answered
 pub Answering-more : (left mid new : Option (List ℕ)) (taken n room : ℕ) (piece : List ℕ) (f g h : List ℕ → List ℕ) (q p r : List ℕ → Bool) (out out1 out2 : Option (List ℕ))
-  → Answering left mid taken f g q p out out1 → taken ≤ SESSION_LIMIT → n ≤ length piece
+    → Answering left mid taken f g q p out out1 → taken ≤ SESSION_LIMIT → n ≤ length piece
     → Consumes mid new (take n piece) → room ≡ min n (SESSION_LIMIT - taken) → Appends out1 out2 (g (take room piece)) → ((rest : List ℕ) → g (take room piece ++ rest) ≡ g (take room piece) ++ h rest)
     → ((rest : List ℕ) → p (take room piece ++ rest) ≡ r rest) → (b : Bool) → b ≡ false → b ≡ p (take room piece) → Answering left new (taken + n) f h q r out out2
 unfolding Taking-more
@@ -153,7 +153,7 @@ Answering-more left mid new taken n room piece f g h q p r out out1 out2 before 
 
 -- status 0
 pub Answering-quit : (left mid new : Option (List ℕ)) (taken n room : ℕ) (piece : List ℕ) (f g h : List ℕ → List ℕ) (q p : List ℕ → Bool) (out out1 out2 : Option (List ℕ))
-  → Answering left mid taken f g q p out out1 → taken ≤ SESSION_LIMIT → n ≤ length piece
+    → Answering left mid taken f g q p out out1 → taken ≤ SESSION_LIMIT → n ≤ length piece
     → n ≤ PIECE → Consumes mid new (take n piece) → room ≡ min n (SESSION_LIMIT - taken) → Appends out1 out2 (g (take room piece)) → ((rest : List ℕ) → g (take room piece ++ rest) ≡ g (take room piece) ++ h rest)
     → ((rest : List ℕ) → h rest ≡ []) → (b : Bool) → b ≡ true → b ≡ p (take room piece) → QuitEnd f q left new out out2
 unfolding Taking-more taken-of
@@ -173,7 +173,7 @@ Answering-quit left mid new taken n room piece f g h q p out out1 out2 before le
 
 -- status 3
 pub Answering-read : (left mid new : Option (List ℕ)) (taken : ℕ) (f g : List ℕ → List ℕ) (q p : List ℕ → Bool) (out out1 : Option (List ℕ))
-  → Answering left mid taken f g q p out out1 → taken ≤ SESSION_LIMIT → Keeps mid new → OpenEnd f q left new out out1
+    → Answering left mid taken f g q p out out1 → taken ≤ SESSION_LIMIT → Keeps mid new → OpenEnd f q left new out out1
 Answering-read left mid new taken f g q p out out1 before le same =
     let s = seen-now left mid taken f g q p out out1 before le in
     let fits : length before.taking.bytes ≤ SESSION_LIMIT = subst (λ n. n ≤ SESSION_LIMIT) before.taking.count le in
@@ -186,7 +186,7 @@ Answering-read left mid new taken f g q p out out1 before le same =
 
 -- status 1
 pub Answering-end : (left mid new : Option (List ℕ)) (taken : ℕ) (f g : List ℕ → List ℕ) (q p : List ℕ → Bool) (out out1 : Option (List ℕ))
-  → Answering left mid taken f g q p out out1 → taken ≤ SESSION_LIMIT → Consumes mid new [] → OpenEnd f q left new out out1
+    → Answering left mid taken f g q p out out1 → taken ≤ SESSION_LIMIT → Consumes mid new [] → OpenEnd f q left new out out1
 Answering-end left mid new taken f g q p out out1 before le took =
     let s = seen-now left mid taken f g q p out out1 before le in
     let fits : length before.taking.bytes ≤ SESSION_LIMIT = subst (λ n. n ≤ SESSION_LIMIT) before.taking.count le in
@@ -203,13 +203,13 @@ none-taken a b n piece e took = subst (λ k. Consumes a b (take k piece)) e took
 
 -- more bytes were taken than a session looks at
 pub many-taken : (left mid : Option (List ℕ)) (taken : ℕ)
-  → Taking left mid taken → SESSION_LIMIT < taken → taken ≤ SESSION_LIMIT + PIECE → TookMany left mid
+    → Taking left mid taken → SESSION_LIMIT < taken → taken ≤ SESSION_LIMIT + PIECE → TookMany left mid
 unfolding taken-of
 many-taken left mid taken t many few = record { taken = taken-of left mid taken t few; many = subst (λ n. SESSION_LIMIT < n) t.count many }
 
 -- status 8
 pub Answering-long : (left mid : Option (List ℕ)) (taken : ℕ) (f g : List ℕ → List ℕ) (q p : List ℕ → Bool) (out out1 : Option (List ℕ))
-  → Answering left mid taken f g q p out out1 → SESSION_LIMIT < taken → taken ≤ SESSION_LIMIT + PIECE → LongEnd f q left mid out out1
+    → Answering left mid taken f g q p out out1 → SESSION_LIMIT < taken → taken ≤ SESSION_LIMIT + PIECE → LongEnd f q left mid out out1
 unfolding many-taken taken-of
 Answering-long left mid taken f g q p out out1 before many few = record {
   long = many-taken left mid taken before.taking many few;
@@ -223,7 +223,7 @@ Grows f = (a b : List ℕ) → (more : List ℕ) × (f (a ++ b) ≡ f a ++ more)
 
 -- the bytes without the last piece are the first of those before the last read
 front-before : (bytes last : List ℕ)
-  → length last ≤ PIECE → bytes ≡ take (length (bytes ++ last) - PIECE) (bytes ++ last) ++ drop (length (bytes ++ last) - PIECE) bytes
+    → length last ≤ PIECE → bytes ≡ take (length (bytes ++ last) - PIECE) (bytes ++ last) ++ drop (length (bytes ++ last) - PIECE) bytes
 front-before bytes last few = sym (take-append-drop (length (bytes ++ last) - PIECE) bytes) ∙ ap (λ xs. xs ++ drop (length (bytes ++ last) - PIECE) bytes) (sym (same (length (bytes ++ last) - PIECE) (le bytes last few (length-append bytes last)))) where
   same : (k : ℕ) → k ≤ length bytes → take k (bytes ++ last) ≡ take k bytes
   same k le = grind (arith, common_steps)
@@ -233,7 +233,7 @@ front-before bytes last few = sym (take-append-drop (length (bytes ++ last) - PI
 
 -- status 4
 pub Answering-cut : (left mid new : Option (List ℕ)) (taken n room : ℕ) (piece : List ℕ) (f g : List ℕ → List ℕ) (q p : List ℕ → Bool) (out out1 out2 : Option (List ℕ)) (failed : PutFailed)
-  → Grows f → Answering left mid taken f g q p out out1 → taken ≤ SESSION_LIMIT
+    → Grows f → Answering left mid taken f g q p out out1 → taken ≤ SESSION_LIMIT
     → n ≤ length piece → n ≤ PIECE → Consumes mid new (take n piece) → room ≡ min n (SESSION_LIMIT - taken) → TookSome 0 out1 out2 (g (take room piece)) failed → PutEnd f q left new out out2 []
 unfolding Taking-more taken-of
 Answering-cut left mid new taken n room piece f g q p out out1 out2 failed grows before le within few took is cut =
@@ -269,28 +269,28 @@ Answering-cut left mid new taken n room piece f g q p out out1 out2 failed grows
 
 -- how a session ended with each status
 pub quit-ends : (f : List ℕ → List ℕ) (q : List ℕ → Bool) (left new out out' : Option (List ℕ)) (first : List ℕ)
-  → QuitEnd f q left new out out' → SessionEnds f q left new out out' 0 first
+    → QuitEnd f q left new out out' → SessionEnds f q left new out out' 0 first
 quit-ends f q left new out out' first end = record { quit = λ _. end; ended = λ e. absurd (cc); read = λ e. absurd (cc); put = λ e. absurd (cc); long = λ e. absurd (cc) }
 
 pub end-ends : (f : List ℕ → List ℕ) (q : List ℕ → Bool) (left new out out' : Option (List ℕ)) (first : List ℕ)
-  → OpenEnd f q left new out out' → IsAtEnd new → SessionEnds f q left new out out' 1 first
+    → OpenEnd f q left new out out' → IsAtEnd new → SessionEnds f q left new out out' 1 first
 end-ends f q left new out out' first end at = record { quit = λ e. absurd (cc); ended = λ _. (end, at); read = λ e. absurd (cc); put = λ e. absurd (cc); long = λ e. absurd (cc) }
 
 pub read-ends : (f : List ℕ → List ℕ) (q : List ℕ → Bool) (left new out out' : Option (List ℕ)) (first : List ℕ)
-  → OpenEnd f q left new out out' → SessionEnds f q left new out out' 3 first
+    → OpenEnd f q left new out out' → SessionEnds f q left new out out' 3 first
 read-ends f q left new out out' first end = record { quit = λ e. absurd (cc); ended = λ e. absurd (cc); read = λ _. end; put = λ e. absurd (cc); long = λ e. absurd (cc) }
 
 pub put-ends : (f : List ℕ → List ℕ) (q : List ℕ → Bool) (left new out out' : Option (List ℕ)) (first : List ℕ)
-  → PutEnd f q left new out out' first → SessionEnds f q left new out out' 4 first
+    → PutEnd f q left new out out' first → SessionEnds f q left new out out' 4 first
 put-ends f q left new out out' first end = record { quit = λ e. absurd (cc); ended = λ e. absurd (cc); read = λ e. absurd (cc); put = λ _. end; long = λ e. absurd (cc) }
 
 pub long-ends : (f : List ℕ → List ℕ) (q : List ℕ → Bool) (left new out out' : Option (List ℕ)) (first : List ℕ)
-  → LongEnd f q left new out out' → SessionEnds f q left new out out' 8 first
+    → LongEnd f q left new out out' → SessionEnds f q left new out out' 8 first
 long-ends f q left new out out' first end = record { quit = λ e. absurd (cc); ended = λ e. absurd (cc); read = λ e. absurd (cc); put = λ e. absurd (cc); long = λ _. end }
 
 -- a session with the bytes that were put before it
 pub greeted-ends : (f h : List ℕ → List ℕ) (q r : List ℕ → Bool) (left new out out1 out2 : Option (List ℕ)) (first : List ℕ) (status : ℕ)
-  → ((bytes : List ℕ) → h bytes ≡ first ++ f bytes) → ((bytes : List ℕ) → r bytes ≡ q bytes)
+    → ((bytes : List ℕ) → h bytes ≡ first ++ f bytes) → ((bytes : List ℕ) → r bytes ≡ q bytes)
     → Appends out out1 first → SessionEnds f q left new out1 out2 status [] → SessionEnds h r left new out out2 status first
 greeted-ends f h q r left new out out1 out2 first status replies quits before ends = record {
   quit = λ is. let end = ends.quit is in record { taken = end.taken; quit = quits (take SESSION_LIMIT end.taken.bytes) ∙ end.quit; written = put end.taken.bytes end.written };
@@ -321,7 +321,7 @@ greeted-ends f h q r left new out out1 out2 first status replies quits before en
 
 -- the greeting was cut off
 pub greeting-cut : (h : List ℕ → List ℕ) (r : List ℕ → Bool) (left out out' : Option (List ℕ)) (first : List ℕ) (failed : PutFailed)
-  → h [] ≡ first → TookSome 0 out out' first failed → PutEnd h r left left out out' first
+    → h [] ≡ first → TookSome 0 out out' first failed → PutEnd h r left left out out' first
 greeting-cut h r left out out' first failed none cut = record {
   taken = record { bytes = []; taken = Consumes-none left; few = omega arith };
   put = take cut.n first;
@@ -340,8 +340,8 @@ cancel (x ∷ xs) ys zs e = cancel xs ys zs (tail e) where
 
 -- the replies of a session that begins, and whether it ends
 begun-replies : (s : Session)
-  → s.front ≡ [] → s.phase ≡ Authorization → (rest : List ℕ)
-  → replies_from s rest ≡ replies_to s.user s.secret s.letters Authorization (requests rest)
+    → s.front ≡ [] → s.phase ≡ Authorization → (rest : List ℕ)
+    → replies_from s rest ≡ replies_to s.user s.secret s.letters Authorization (requests rest)
 begun-replies s front phase rest =
     ap (λ xs. replies_to s.user s.secret s.letters s.phase (requests (xs ++ rest))) front ∙ ap (λ p. replies_to s.user s.secret s.letters p (requests rest)) phase
 
