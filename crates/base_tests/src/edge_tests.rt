@@ -5,7 +5,7 @@ use std::io;
 use std::io::ErrorKind;
 use std::test::Fail;
 use tap_base::{Memory, Text};
-use tap_edges::{PutFailed, ReadFailed, Sink, Source, StdSink, StdSource, SureSource};
+use tap_edges::{PutFailed, ReadFailed, Sink, Source, StdSink, StdSource, SureSource, put_next};
 
 // What a call of the fake reader or writer does.
 #[derive(Clone, Copy, Debug, PartialEq, Eq)]
@@ -133,6 +133,26 @@ fn an_interrupted_write_is_tried_again(rt: HostRuntime) -> Result<(), Fail> {
     assert_eq!(rt; sink.put(b"ab"), Err(PutFailed { out: 1 }));
     assert_eq!(rt; sink.put(b"ab"), Err(PutFailed { out: 2 }));
     assert_eq!(rt; sink.put(b"ab"), Err(PutFailed { out: 0 }));
+    Ok(())
+}
+
+#[test]
+fn the_next_put_counts_the_bytes_before(rt: HostRuntime) -> Result<(), Fail> {
+    let plan = Vec::from_slice(
+        rt.alloc(),
+        &[
+            // two bytes, one a call, and a flush
+            Call::OneByte,
+            Call::OneByte,
+            Call::Nothing,
+            // one byte, and a write that fails
+            Call::OneByte,
+            Call::Broken,
+        ],
+    )?;
+    let mut sink = StdSink::new(PlannedWriter { plan, calls: 0 });
+    assert_eq!(rt; put_next(&mut sink, 7, b"ab"), Ok(9));
+    assert_eq!(rt; put_next(&mut sink, 9, b"ab"), Err(PutFailed { out: 10 }));
     Ok(())
 }
 

@@ -123,7 +123,9 @@ fn a_session_is_served(rt: HostRuntime) -> Result<(), Memory> {
     let bytes: &[u8] =
         b"USER ann\r\nPASS no\r\nSTAT\r\nuser ann\r\nPASS pw\r\nSTAT\r\nLIST 2\r\nUIDL\r\nRETR 2\r\nDELE 1\r\nRETR 3\r\nTOP 1 0\r\nQUIT\r\nSTAT\r\n";
     let want: &[u8] =
-        b"+OK tapestry\r\n+OK\r\n-ERR denied\r\n-ERR state\r\n+OK\r\n+OK\r\n+OK 2 36\r\n+OK 2 21\r\n+OK\r\n1 d1\r\n2 d20\r\n.\r\n+OK 21\r\nSubject: dots\r\n\r\n..a\r\n.\r\n-ERR kept\r\n-ERR message\r\n-ERR unknown\r\n+OK\r\nquit";
+        b"+OK tapestry\r\n+OK\r\n-ERR denied\r\n-ERR state\r\n+OK\r\n+OK\r\n+OK 2 36\r\n+OK 2 21\r\n+OK\r\n1 d1\r\n\
+          2 d20\r\n.\r\n+OK 21\r\nSubject: dots\r\n\r\n..a\r\n.\r\n-ERR kept\r\n-ERR message\r\n-ERR unknown\r\n+OK\r\n\
+          quit";
     let sizes: [usize; 4] = [1, 2, 7, 4096];
     for size in sizes {
         if size > 0 {

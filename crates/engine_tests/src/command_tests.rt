@@ -16,7 +16,8 @@ use tap_rows::Tables;
 // A script of each command that is built. `mail`, `note`, `query`, `filter` and `run` add rows; the mailbox file has no message,
 // so that `mbox` adds none.
 const SCRIPT: &[u8] =
-    b"at 100\nas ann\nmail\nSubject: hi\n\n.\nnote 1 tag 1 good\nquery q m.words HAS 'hi'\nfilter\n.\nmbox\n.\nat 101\nrun q\nbox q\nlist q\nexplain q\nask 100 TRUE\n";
+    b"at 100\nas ann\nmail\nSubject: hi\n\n.\nnote 1 tag 1 good\nquery q m.words HAS 'hi'\nfilter\n.\nmbox\n.\nat 101\n\
+      run q\nbox q\nlist q\nexplain q\nask 100 TRUE\n";
 
 // Appends a command, if there is one.
 fn push_some(commands: &mut Rows<Command>, command: Option<Command>) -> Result<(), Memory> {

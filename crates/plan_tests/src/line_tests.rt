@@ -113,7 +113,9 @@ fn a_row_that_is_missing_has_its_own_line(rt: HostRuntime) -> Result<(), Memory>
     );
     assert_eq!(rt;
         lines.as_slice()[1].as_slice(),
-        b"OVER m: DOC, p1: NOTE [p1.doc = m.id] AT p1.ts + 5 WHERE NOT EXISTS (v1: NOTE WHERE v1.ts <= p1.ts + 5 AND (v1.doc = m.id AND p1.ts + 5 < v1.ts + 5))".as_slice()
+        b"OVER m: DOC, p1: NOTE [p1.doc = m.id] AT p1.ts + 5 WHERE NOT EXISTS (v1: NOTE WHERE v1.ts <= p1.ts + 5 AND \
+          (v1.doc = m.id AND p1.ts + 5 < v1.ts + 5))"
+            .as_slice()
     );
     drop(lines);
     Ok(())

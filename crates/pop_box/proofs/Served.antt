@@ -10,7 +10,9 @@ use Rattle.pop_box.specs.Letters.{letters_in}
 use Rattle.pop_box.specs.Served.{BoxLine, BoxServed, LettersServed, IsUnserved, Served, TookQuit}
 
 -- nothing was served, and nothing written
-pub unserved : (status : ℕ) (found : Option (List Letter)) (user secret : List ℕ) (left left' out out' : Option (List ℕ)) (versions : ℤ → Type 0) → IsUnserved status → (status ≡ 4 → ⊥) → left' ≡ left → out' ≡ out → Served status found user secret left left' out out' versions
+pub unserved : (status : ℕ) (found : Option (List Letter)) (user secret : List ℕ) (left left' out out' : Option (List ℕ)) (versions : ℤ → Type 0)
+    → IsUnserved status → (status ≡ 4 → ⊥) → left' ≡ left → out' ≡ out
+    → Served status found user secret left left' out out' versions
 unserved status found user secret left left' out out' versions is four unread silent = record {
   unread = λ _. unread;
   silent = λ _. silent;
@@ -19,7 +21,8 @@ unserved status found user secret left left' out out' versions is four unread si
 }
 
 -- the store was refused
-pub refused : (status : ℕ) (found : Option (List Letter)) (user secret : List ℕ) (left left' out out' : Option (List ℕ)) (versions : ℤ → Type 0) → (status ≡ 6) ⊎ (status ≡ 4) → left' ≡ left → IfKnown versions ⊥ → Served status found user secret left left' out out' versions
+pub refused : (status : ℕ) (found : Option (List Letter)) (user secret : List ℕ) (left left' out out' : Option (List ℕ)) (versions : ℤ → Type 0)
+    → (status ≡ 6) ⊎ (status ≡ 4) → left' ≡ left → IfKnown versions ⊥ → Served status found user secret left left' out out' versions
 refused status found user secret left left' out out' versions is unread never = record {
   unread = λ _. unread;
   silent = λ quiet. absurd (loud is quiet);
@@ -34,7 +37,9 @@ refused status found user secret left left' out out' versions is unread never = 
   six (inr e) four = absurd (four e)
 
 -- the box was served
-pub box-served : (status : ℕ) (found : Option (List Letter)) (user secret : List ℕ) (left left' out out' : Option (List ℕ)) (versions : ℤ → Type 0) → (IsUnserved status → ⊥) → BoxServed status found user secret left left' out out' → Served status found user secret left left' out out' versions
+pub box-served : (status : ℕ) (found : Option (List Letter)) (user secret : List ℕ) (left left' out out' : Option (List ℕ)) (versions : ℤ → Type 0)
+    → (IsUnserved status → ⊥) → BoxServed status found user secret left left' out out'
+    → Served status found user secret left left' out out' versions
 box-served status found user secret left left' out out' versions not box = record {
   unread = λ is. absurd (not is);
   silent = λ is. absurd (not (quiet is));
@@ -53,17 +58,20 @@ pub line-serves : (status : ℕ) → (status ≡ 9) ⊎ (status ≡ 4) → IsUns
 line-serves status line is = grind (arith, line, is)
 
 -- over the letters of the box
-pub letters-served : (status : ℕ) (letters : List Letter) (found : Option (List Letter)) (user secret : List ℕ) (left left' out out' : Option (List ℕ)) → Some letters ≡ found → IsSession status → LettersEnd status user secret letters left left' out out'
+pub letters-served : (status : ℕ) (letters : List Letter) (found : Option (List Letter)) (user secret : List ℕ) (left left' out out' : Option (List ℕ))
+    → Some letters ≡ found → IsSession status → LettersEnd status user secret letters left left' out out'
     → LettersServed status found user secret left left' out out'
 letters-served status letters found user secret left left' out out' is session ends = subst (λ f. LettersServed status f user secret left left' out out') is (inr (session, ends))
 
 -- without such a box
-pub none-served : (status : ℕ) (found : Option (List Letter)) (user secret : List ℕ) (left left' out out' : Option (List ℕ)) → None ≡ found → (status ≡ 9) ⊎ (status ≡ 4) → left' ≡ left → BoxLine status out out'
+pub none-served : (status : ℕ) (found : Option (List Letter)) (user secret : List ℕ) (left left' out out' : Option (List ℕ))
+    → None ≡ found → (status ≡ 9) ⊎ (status ≡ 4) → left' ≡ left → BoxLine status out out'
     → LettersServed status found user secret left left' out out'
 none-served status found user secret left left' out out' is statuses unread line = subst (λ f. LettersServed status f user secret left left' out out') is (inr (record { statuses = statuses; unread = unread; line = line }))
 
 -- over the letters of the box of this user and name
-pub letters-served-as : (status : ℕ) (letters letters' : List Letter) (t : Tables) (user user' name name' secret secret' : List ℕ) (left left' out out' : Option (List ℕ)) → user ≡ user' → name ≡ name' → secret ≡ secret' → letters' ≡ letters
+pub letters-served-as : (status : ℕ) (letters letters' : List Letter) (t : Tables) (user user' name name' secret secret' : List ℕ) (left left' out out' : Option (List ℕ))
+    → user ≡ user' → name ≡ name' → secret ≡ secret' → letters' ≡ letters
     → Some letters ≡ letters_in user name t → IsSession status → LettersEnd status user secret letters' left left' out out' → LettersServed status (letters_in user' name' t) user' secret' left left' out out'
 letters-served-as status letters letters' t user user' name name' secret secret' left left' out out' u n s same is session ends =
     subst (λ x. LettersServed status (letters_in user' name' t) user' x left left' out out') s
@@ -72,19 +80,22 @@ letters-served-as status letters letters' t user user' name name' secret secret'
     (letters-served status letters (letters_in user name t) user secret left left' out out' is session (subst (λ x. LettersEnd status user secret x left left' out out') same ends))))
 
 -- without a box of this user and name
-pub none-served-as : (status : ℕ) (t : Tables) (user user' name name' secret : List ℕ) (left out out' : Option (List ℕ)) → user ≡ user' → name ≡ name'
+pub none-served-as : (status : ℕ) (t : Tables) (user user' name name' secret : List ℕ) (left out out' : Option (List ℕ))
+    → user ≡ user' → name ≡ name'
     → None ≡ letters_in user name t → (status ≡ 9) ⊎ (status ≡ 4) → BoxLine status out out' → LettersServed status (letters_in user' name' t) user' secret left left out out'
 none-served-as status t user user' name name' secret left out out' u n is statuses line =
     subst (λ x. LettersServed status (letters_in user' x t) user' secret left left out out') n
     (subst (λ x. LettersServed status (letters_in x name t) x secret left left out out') u
     (none-served status (letters_in user name t) user secret left left out out' is statuses refl line))
 
-box-serves : (status : ℕ) (found : Option (List Letter)) (user secret : List ℕ) (left left' out out' : Option (List ℕ)) → BoxServed status found user secret left left' out out' → IsUnserved status → ⊥
+box-serves : (status : ℕ) (found : Option (List Letter)) (user secret : List ℕ) (left left' out out' : Option (List ℕ))
+    → BoxServed status found user secret left left' out out' → IsUnserved status → ⊥
 box-serves status None user secret left left' out out' box is = line-serves status box.statuses is
 box-serves status (Some letters) user secret left left' out out' box is = session-serves status box.0 is
 
 -- the box was served, or memory ran out
-pub served : (status : ℕ) (found : Option (List Letter)) (user secret : List ℕ) (left left' out out' : Option (List ℕ)) (versions : ℤ → Type 0) → LettersServed status found user secret left left' out out'
+pub served : (status : ℕ) (found : Option (List Letter)) (user secret : List ℕ) (left left' out out' : Option (List ℕ)) (versions : ℤ → Type 0)
+    → LettersServed status found user secret left left' out out'
     → Served status found user secret left left' out out' versions
 served status found user secret left left' out out' versions (inl (e, same)) =
     unserved status found user secret left left' out out' versions (inr (inr (inr e))) (λ four. not e four) same.0 same.1 where
@@ -94,7 +105,8 @@ served status found user secret left left' out out' versions (inr box) =
     box-served status found user secret left left' out out' versions (box-serves status found user secret left left' out out' box) box
 
 -- the words' own user, box and secret
-pub served-words : (status : ℕ) (t : Tables) (user user' name name' secret secret' : List ℕ) (left left' out out' : Option (List ℕ)) (versions : ℤ → Type 0) → user ≡ user' → name ≡ name' → secret ≡ secret'
+pub served-words : (status : ℕ) (t : Tables) (user user' name name' secret secret' : List ℕ) (left left' out out' : Option (List ℕ)) (versions : ℤ → Type 0)
+    → user ≡ user' → name ≡ name' → secret ≡ secret'
     → Served status (letters_in user name t) user secret left left' out out' versions → Served status (letters_in user' name' t) user' secret' left left' out out' versions
 served-words status t user user' name name' secret secret' left left' out out' versions u n s served =
     subst (λ x. Served status (letters_in user' name' t) user' x left left' out out' versions) s
@@ -102,17 +114,22 @@ served-words status t user user' name name' secret secret' left left' out out' v
     (subst (λ x. Served status (letters_in x name t) x secret left left' out out' versions) u served))
 
 -- a session that ended by QUIT took one, and one that ended with the input is at its end
-pub took-quit : (status : ℕ) (letters : List Letter) (user user' secret secret' : List ℕ) (left left' out out' : Option (List ℕ)) → user ≡ user' → secret ≡ secret' → LettersEnd status user secret letters left left' out out' → status ≡ 0 → TookQuit user' secret' left left'
+pub took-quit : (status : ℕ) (letters : List Letter) (user user' secret secret' : List ℕ) (left left' out out' : Option (List ℕ))
+    → user ≡ user' → secret ≡ secret' → LettersEnd status user secret letters left left' out out' → status ≡ 0
+    → TookQuit user' secret' left left'
 took-quit status letters user user' secret secret' left left' out out' u s ends is =
     let quit = ends.quit is in
     subst (λ x. TookQuit user' x left left') s (subst (λ x. TookQuit x secret left left') u (record { taken = quit.taken; quit = quit.quit }))
 
 -- a QUIT of the words' own user and secret
-pub took-quit-words : (status : ℕ) (user user' secret secret' : List ℕ) (left left' : Option (List ℕ)) → user ≡ user' → secret ≡ secret' → (status ≡ 0 → TookQuit user secret left left') → status ≡ 0 → TookQuit user' secret' left left'
+pub took-quit-words : (status : ℕ) (user user' secret secret' : List ℕ) (left left' : Option (List ℕ))
+    → user ≡ user' → secret ≡ secret' → (status ≡ 0 → TookQuit user secret left left') → status ≡ 0
+    → TookQuit user' secret' left left'
 took-quit-words status user user' secret secret' left left' u s quit is =
     subst (λ x. TookQuit user' x left left') s (subst (λ x. TookQuit x secret left left') u (quit is))
 
-pub at-end : (status : ℕ) (letters : List Letter) (user secret : List ℕ) (left left' out out' : Option (List ℕ)) → LettersEnd status user secret letters left left' out out' → status ≡ 1 → IsAtEnd left'
+pub at-end : (status : ℕ) (letters : List Letter) (user secret : List ℕ) (left left' out out' : Option (List ℕ))
+    → LettersEnd status user secret letters left left' out out' → status ≡ 1 → IsAtEnd left'
 at-end status letters user secret left left' out out' ends is = (ends.ended is).1
 
 pub served-not-two : (status : ℕ) → IsSession status ⊎ ((status ≡ 7) ⊎ (status ≡ 9)) → status ≡ 2 → ⊥

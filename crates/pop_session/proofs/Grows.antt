@@ -27,7 +27,8 @@ requests-more a b =
     )
 
 -- the replies to some requests stay
-replies-more : (user secret : List ℕ) (letters : List Letter) (phase : Phase) (rs ss : List (List ℕ)) → (more : List ℕ) × (replies_to user secret letters phase (rs ++ ss) ≡ replies_to user secret letters phase rs ++ more)
+replies-more : (user secret : List ℕ) (letters : List Letter) (phase : Phase) (rs ss : List (List ℕ))
+    → (more : List ℕ) × (replies_to user secret letters phase (rs ++ ss) ≡ replies_to user secret letters phase rs ++ more)
 replies-more user secret letters phase [] ss = (replies_to user secret letters phase ss, refl)
 replies-more user secret letters phase (r ∷ rs) ss = go (is_ended phase) (replies-more user secret letters (outcome_of user secret phase r).phase rs ss) where
   go : (b : Bool) → (more : List ℕ) × (replies_to user secret letters (outcome_of user secret phase r).phase (rs ++ ss) ≡ replies_to user secret letters (outcome_of user secret phase r).phase rs ++ more) → (more : List ℕ) × ((if b then [] else reply_bytes letters (outcome_of user secret phase r).reply ++ replies_to user secret letters (outcome_of user secret phase r).phase (rs ++ ss)) ≡ (if b then [] else reply_bytes letters (outcome_of user secret phase r).reply ++ replies_to user secret letters (outcome_of user secret phase r).phase rs) ++ more)

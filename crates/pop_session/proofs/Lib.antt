@@ -1,4 +1,3 @@
-pub mod Puts
 pub mod Sizes
 pub mod Rows
 pub mod Pieces

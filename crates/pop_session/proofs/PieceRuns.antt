@@ -6,8 +6,8 @@ use Rattle.std.proofs.lemmas.List.{append_assoc, append-nil, length-append, take
 use Rattle.std.proofs.Math.Seq.{take-append-add}
 use Rattle.std.proofs.lemmas.Grind.{common_steps}
 use Rattle.tap_edges.specs.declared.edges.PutFailed.{PutFailed}
-use Rattle.pop_session.specs.Puts.{TookSome}
-use Rattle.pop_session.proofs.Puts.{Appends-more, Appends-none}
+use Rattle.tap_edges.specs.Puts.{TookSome}
+use Rattle.tap_edges.proofs.Puts.{Appends-more, Appends-none}
 use Rattle.pop_session.specs.declared.hold.TheConstants.{SESSION_LIMIT, PIECE}
 use Rattle.pop_session.specs.declared.letter.Letter.{Letter}
 use Rattle.pop_session.specs.Replies.{greeting}
@@ -42,7 +42,8 @@ Consumes-keeps (Some us) (Some vs) None xs one same = absurd same
 pub Taking-start : (left : Option (List ℕ)) → Taking left left 0
 Taking-start left = record { bytes = []; consumed = Consumes-none left; count = refl }
 
-pub Taking-more : (left mid new : Option (List ℕ)) (taken n : ℕ) (piece : List ℕ) → Taking left mid taken → n ≤ length piece → Consumes mid new (take n piece) → Taking left new (taken + n)
+pub Taking-more : (left mid new : Option (List ℕ)) (taken n : ℕ) (piece : List ℕ)
+    → Taking left mid taken → n ≤ length piece → Consumes mid new (take n piece) → Taking left new (taken + n)
 Taking-more left mid new taken n piece before within took = record {
   bytes = before.bytes ++ take n piece;
   consumed = Consumes-more left mid new before.bytes (take n piece) before.consumed took;
@@ -55,7 +56,8 @@ take-none : (n : ℕ) → ◌≡◌ {A = List ℕ} (take n []) []
 take-none n = grind (arith, common_steps)
 
 -- the bytes that a session looks at, of those taken so far and the next piece
-fits : (limit : ℕ) (bytes piece : List ℕ) (n room : ℕ) → length bytes ≤ limit → room ≡ min n (limit - length bytes) → take limit (bytes ++ take n piece) ≡ bytes ++ take room piece
+fits : (limit : ℕ) (bytes piece : List ℕ) (n room : ℕ)
+    → length bytes ≤ limit → room ≡ min n (limit - length bytes) → take limit (bytes ++ take n piece) ≡ bytes ++ take room piece
 fits limit bytes piece n room le is =
     ap (λ k. take k (bytes ++ take n piece)) (whole (length bytes) le) ∙ take-append-add bytes (take n piece) (limit - length bytes) ∙ ap (λ xs. bytes ++ xs) (two (limit - length bytes) n piece ∙ ap (λ k. take k piece) (sym is)) where
       whole : (m : ℕ) → m ≤ limit → limit ≡ m + (limit - m)
@@ -80,29 +82,37 @@ record Seen (seen : List ℕ) (f g : List ℕ → List ℕ) (q p : List ℕ → 
   no_quit : q seen ≡ false
   written : Appends out out' (f seen)
 
-seen-now : (left left' : Option (List ℕ)) (taken : ℕ) (f g : List ℕ → List ℕ) (q p : List ℕ → Bool) (out out' : Option (List ℕ)) → (a : Answering left left' taken f g q p out out') → taken ≤ SESSION_LIMIT → Seen a.taking.bytes f g q p out out'
+seen-now : (left left' : Option (List ℕ)) (taken : ℕ) (f g : List ℕ → List ℕ) (q p : List ℕ → Bool) (out out' : Option (List ℕ))
+    → (a : Answering left left' taken f g q p out out') → taken ≤ SESSION_LIMIT → Seen a.taking.bytes f g q p out out'
 seen-now left left' taken f g q p out out' a le =
     subst (λ xs. Seen xs f g q p out out') (take_all SESSION_LIMIT a.taking.bytes (subst (λ n. n ≤ SESSION_LIMIT) a.taking.count le))
     (record { replied = a.replied; quits = a.quits; no_quit = a.no_quit; written = a.written })
 
-answering : (left left' : Option (List ℕ)) (taken : ℕ) (f g : List ℕ → List ℕ) (q p : List ℕ → Bool) (out out' : Option (List ℕ)) → (t : Taking left left' taken) → (seen : List ℕ) → take SESSION_LIMIT t.bytes ≡ seen → Seen seen f g q p out out' → Answering left left' taken f g q p out out'
+answering : (left left' : Option (List ℕ)) (taken : ℕ) (f g : List ℕ → List ℕ) (q p : List ℕ → Bool) (out out' : Option (List ℕ))
+    → (t : Taking left left' taken) → (seen : List ℕ) → take SESSION_LIMIT t.bytes ≡ seen → Seen seen f g q p out out'
+    → Answering left left' taken f g q p out out'
 answering left left' taken f g q p out out' t seen is s =
     let now = subst (λ xs. Seen xs f g q p out out') (sym is) s in
     record { taking = t; replied = now.replied; quits = now.quits; no_quit = now.no_quit; written = now.written }
 
-pub Answering-start : (left out : Option (List ℕ)) (f : List ℕ → List ℕ) (q : List ℕ → Bool) → f [] ≡ [] → q [] ≡ false → Answering left left 0 f f q q out out
+pub Answering-start : (left out : Option (List ℕ)) (f : List ℕ → List ℕ) (q : List ℕ → Bool)
+    → f [] ≡ [] → q [] ≡ false → Answering left left 0 f f q q out out
 unfolding Taking-start
 Answering-start left out f q none no_quit =
     answering left left 0 f f q q out out (Taking-start left) [] (take-none SESSION_LIMIT)
     (record { replied = λ rest. ap (λ xs. xs ++ f rest) (sym none); quits = λ rest. refl; no_quit = no_quit; written = subst (Appends out out) (sym none) (Appends-none out) })
 
 -- replies to bytes, and to some after them
-joined : (f g h : List ℕ → List ℕ) (a b : List ℕ) → ((rest : List ℕ) → f (a ++ rest) ≡ f a ++ g rest) → ((rest : List ℕ) → g (b ++ rest) ≡ g b ++ h rest) → (rest : List ℕ) → f ((a ++ b) ++ rest) ≡ f (a ++ b) ++ h rest
+joined : (f g h : List ℕ → List ℕ) (a b : List ℕ)
+    → ((rest : List ℕ) → f (a ++ rest) ≡ f a ++ g rest) → ((rest : List ℕ) → g (b ++ rest) ≡ g b ++ h rest) → (rest : List ℕ)
+    → f ((a ++ b) ++ rest) ≡ f (a ++ b) ++ h rest
 joined f g h a b one two rest =
     ap f (append_assoc a b rest) ∙ one (b ++ rest) ∙ ap (λ xs. f a ++ xs) (two rest) ∙ sym (append_assoc (f a) (g b) (h rest)) ∙ ap (λ xs. xs ++ h rest) (sym (one b))
 
 -- the bytes that the session looks at, with one more piece
-looked : (left left' : Option (List ℕ)) (taken n room : ℕ) (piece : List ℕ) → (t : Taking left left' taken) → taken ≤ SESSION_LIMIT → room ≡ min n (SESSION_LIMIT - taken) → take SESSION_LIMIT (t.bytes ++ take n piece) ≡ t.bytes ++ take room piece
+looked : (left left' : Option (List ℕ)) (taken n room : ℕ) (piece : List ℕ)
+    → (t : Taking left left' taken) → taken ≤ SESSION_LIMIT → room ≡ min n (SESSION_LIMIT - taken)
+    → take SESSION_LIMIT (t.bytes ++ take n piece) ≡ t.bytes ++ take room piece
 looked left left' taken n room piece t le is =
     fits SESSION_LIMIT t.bytes piece n room (subst (λ k. k ≤ SESSION_LIMIT) t.count le) (is ∙ ap (λ k. min n (SESSION_LIMIT - k)) t.count)
 
@@ -125,7 +135,8 @@ room-le : (n k room : ℕ) → room ≡ min n k → room ≤ n
 room-le n k room is = grind (arith, is)
 
 -- the piece was answered
-pub Answering-more : (left mid new : Option (List ℕ)) (taken n room : ℕ) (piece : List ℕ) (f g h : List ℕ → List ℕ) (q p r : List ℕ → Bool) (out out1 out2 : Option (List ℕ)) → Answering left mid taken f g q p out out1 → taken ≤ SESSION_LIMIT → n ≤ length piece
+pub Answering-more : (left mid new : Option (List ℕ)) (taken n room : ℕ) (piece : List ℕ) (f g h : List ℕ → List ℕ) (q p r : List ℕ → Bool) (out out1 out2 : Option (List ℕ))
+    → Answering left mid taken f g q p out out1 → taken ≤ SESSION_LIMIT → n ≤ length piece
     → Consumes mid new (take n piece) → room ≡ min n (SESSION_LIMIT - taken) → Appends out1 out2 (g (take room piece)) → ((rest : List ℕ) → g (take room piece ++ rest) ≡ g (take room piece) ++ h rest)
     → ((rest : List ℕ) → p (take room piece ++ rest) ≡ r rest) → (b : Bool) → b ≡ false → b ≡ p (take room piece) → Answering left new (taken + n) f h q r out out2
 unfolding Taking-more
@@ -141,7 +152,8 @@ Answering-more left mid new taken n room piece f g h q p r out out1 out2 before 
     })
 
 -- status 0
-pub Answering-quit : (left mid new : Option (List ℕ)) (taken n room : ℕ) (piece : List ℕ) (f g h : List ℕ → List ℕ) (q p : List ℕ → Bool) (out out1 out2 : Option (List ℕ)) → Answering left mid taken f g q p out out1 → taken ≤ SESSION_LIMIT → n ≤ length piece
+pub Answering-quit : (left mid new : Option (List ℕ)) (taken n room : ℕ) (piece : List ℕ) (f g h : List ℕ → List ℕ) (q p : List ℕ → Bool) (out out1 out2 : Option (List ℕ))
+    → Answering left mid taken f g q p out out1 → taken ≤ SESSION_LIMIT → n ≤ length piece
     → n ≤ PIECE → Consumes mid new (take n piece) → room ≡ min n (SESSION_LIMIT - taken) → Appends out1 out2 (g (take room piece)) → ((rest : List ℕ) → g (take room piece ++ rest) ≡ g (take room piece) ++ h rest)
     → ((rest : List ℕ) → h rest ≡ []) → (b : Bool) → b ≡ true → b ≡ p (take room piece) → QuitEnd f q left new out out2
 unfolding Taking-more taken-of
@@ -160,7 +172,8 @@ Answering-quit left mid new taken n room piece f g h q p out out1 out2 before le
     }
 
 -- status 3
-pub Answering-read : (left mid new : Option (List ℕ)) (taken : ℕ) (f g : List ℕ → List ℕ) (q p : List ℕ → Bool) (out out1 : Option (List ℕ)) → Answering left mid taken f g q p out out1 → taken ≤ SESSION_LIMIT → Keeps mid new → OpenEnd f q left new out out1
+pub Answering-read : (left mid new : Option (List ℕ)) (taken : ℕ) (f g : List ℕ → List ℕ) (q p : List ℕ → Bool) (out out1 : Option (List ℕ))
+    → Answering left mid taken f g q p out out1 → taken ≤ SESSION_LIMIT → Keeps mid new → OpenEnd f q left new out out1
 Answering-read left mid new taken f g q p out out1 before le same =
     let s = seen-now left mid taken f g q p out out1 before le in
     let fits : length before.taking.bytes ≤ SESSION_LIMIT = subst (λ n. n ≤ SESSION_LIMIT) before.taking.count le in
@@ -172,7 +185,8 @@ Answering-read left mid new taken f g q p out out1 before le same =
     }
 
 -- status 1
-pub Answering-end : (left mid new : Option (List ℕ)) (taken : ℕ) (f g : List ℕ → List ℕ) (q p : List ℕ → Bool) (out out1 : Option (List ℕ)) → Answering left mid taken f g q p out out1 → taken ≤ SESSION_LIMIT → Consumes mid new [] → OpenEnd f q left new out out1
+pub Answering-end : (left mid new : Option (List ℕ)) (taken : ℕ) (f g : List ℕ → List ℕ) (q p : List ℕ → Bool) (out out1 : Option (List ℕ))
+    → Answering left mid taken f g q p out out1 → taken ≤ SESSION_LIMIT → Consumes mid new [] → OpenEnd f q left new out out1
 Answering-end left mid new taken f g q p out out1 before le took =
     let s = seen-now left mid taken f g q p out out1 before le in
     let fits : length before.taking.bytes ≤ SESSION_LIMIT = subst (λ n. n ≤ SESSION_LIMIT) before.taking.count le in
@@ -188,12 +202,14 @@ pub none-taken : (a b : Option (List ℕ)) (n : ℕ) (piece : List ℕ) → n �
 none-taken a b n piece e took = subst (λ k. Consumes a b (take k piece)) e took
 
 -- more bytes were taken than a session looks at
-pub many-taken : (left mid : Option (List ℕ)) (taken : ℕ) → Taking left mid taken → SESSION_LIMIT < taken → taken ≤ SESSION_LIMIT + PIECE → TookMany left mid
+pub many-taken : (left mid : Option (List ℕ)) (taken : ℕ)
+    → Taking left mid taken → SESSION_LIMIT < taken → taken ≤ SESSION_LIMIT + PIECE → TookMany left mid
 unfolding taken-of
 many-taken left mid taken t many few = record { taken = taken-of left mid taken t few; many = subst (λ n. SESSION_LIMIT < n) t.count many }
 
 -- status 8
-pub Answering-long : (left mid : Option (List ℕ)) (taken : ℕ) (f g : List ℕ → List ℕ) (q p : List ℕ → Bool) (out out1 : Option (List ℕ)) → Answering left mid taken f g q p out out1 → SESSION_LIMIT < taken → taken ≤ SESSION_LIMIT + PIECE → LongEnd f q left mid out out1
+pub Answering-long : (left mid : Option (List ℕ)) (taken : ℕ) (f g : List ℕ → List ℕ) (q p : List ℕ → Bool) (out out1 : Option (List ℕ))
+    → Answering left mid taken f g q p out out1 → SESSION_LIMIT < taken → taken ≤ SESSION_LIMIT + PIECE → LongEnd f q left mid out out1
 unfolding many-taken taken-of
 Answering-long left mid taken f g q p out out1 before many few = record {
   long = many-taken left mid taken before.taking many few;
@@ -206,7 +222,8 @@ abbrev pub Grows : (List ℕ → List ℕ) → Type 0
 Grows f = (a b : List ℕ) → (more : List ℕ) × (f (a ++ b) ≡ f a ++ more)
 
 -- the bytes without the last piece are the first of those before the last read
-front-before : (bytes last : List ℕ) → length last ≤ PIECE → bytes ≡ take (length (bytes ++ last) - PIECE) (bytes ++ last) ++ drop (length (bytes ++ last) - PIECE) bytes
+front-before : (bytes last : List ℕ)
+    → length last ≤ PIECE → bytes ≡ take (length (bytes ++ last) - PIECE) (bytes ++ last) ++ drop (length (bytes ++ last) - PIECE) bytes
 front-before bytes last few = sym (take-append-drop (length (bytes ++ last) - PIECE) bytes) ∙ ap (λ xs. xs ++ drop (length (bytes ++ last) - PIECE) bytes) (sym (same (length (bytes ++ last) - PIECE) (le bytes last few (length-append bytes last)))) where
   same : (k : ℕ) → k ≤ length bytes → take k (bytes ++ last) ≡ take k bytes
   same k le = grind (arith, common_steps)
@@ -215,7 +232,8 @@ front-before bytes last few = sym (take-append-drop (length (bytes ++ last) - PI
   le bytes last few e = omega (arith, e, few)
 
 -- status 4
-pub Answering-cut : (left mid new : Option (List ℕ)) (taken n room : ℕ) (piece : List ℕ) (f g : List ℕ → List ℕ) (q p : List ℕ → Bool) (out out1 out2 : Option (List ℕ)) (failed : PutFailed) → Grows f → Answering left mid taken f g q p out out1 → taken ≤ SESSION_LIMIT
+pub Answering-cut : (left mid new : Option (List ℕ)) (taken n room : ℕ) (piece : List ℕ) (f g : List ℕ → List ℕ) (q p : List ℕ → Bool) (out out1 out2 : Option (List ℕ)) (failed : PutFailed)
+    → Grows f → Answering left mid taken f g q p out out1 → taken ≤ SESSION_LIMIT
     → n ≤ length piece → n ≤ PIECE → Consumes mid new (take n piece) → room ≡ min n (SESSION_LIMIT - taken) → TookSome 0 out1 out2 (g (take room piece)) failed → PutEnd f q left new out out2 []
 unfolding Taking-more taken-of
 Answering-cut left mid new taken n room piece f g q p out out1 out2 failed grows before le within few took is cut =
@@ -250,23 +268,29 @@ Answering-cut left mid new taken n room piece f g q p out out1 out2 failed grows
       short n xs le = grind (arith, common_steps)
 
 -- how a session ended with each status
-pub quit-ends : (f : List ℕ → List ℕ) (q : List ℕ → Bool) (left new out out' : Option (List ℕ)) (first : List ℕ) → QuitEnd f q left new out out' → SessionEnds f q left new out out' 0 first
+pub quit-ends : (f : List ℕ → List ℕ) (q : List ℕ → Bool) (left new out out' : Option (List ℕ)) (first : List ℕ)
+    → QuitEnd f q left new out out' → SessionEnds f q left new out out' 0 first
 quit-ends f q left new out out' first end = record { quit = λ _. end; ended = λ e. absurd (cc); read = λ e. absurd (cc); put = λ e. absurd (cc); long = λ e. absurd (cc) }
 
-pub end-ends : (f : List ℕ → List ℕ) (q : List ℕ → Bool) (left new out out' : Option (List ℕ)) (first : List ℕ) → OpenEnd f q left new out out' → IsAtEnd new → SessionEnds f q left new out out' 1 first
+pub end-ends : (f : List ℕ → List ℕ) (q : List ℕ → Bool) (left new out out' : Option (List ℕ)) (first : List ℕ)
+    → OpenEnd f q left new out out' → IsAtEnd new → SessionEnds f q left new out out' 1 first
 end-ends f q left new out out' first end at = record { quit = λ e. absurd (cc); ended = λ _. (end, at); read = λ e. absurd (cc); put = λ e. absurd (cc); long = λ e. absurd (cc) }
 
-pub read-ends : (f : List ℕ → List ℕ) (q : List ℕ → Bool) (left new out out' : Option (List ℕ)) (first : List ℕ) → OpenEnd f q left new out out' → SessionEnds f q left new out out' 3 first
+pub read-ends : (f : List ℕ → List ℕ) (q : List ℕ → Bool) (left new out out' : Option (List ℕ)) (first : List ℕ)
+    → OpenEnd f q left new out out' → SessionEnds f q left new out out' 3 first
 read-ends f q left new out out' first end = record { quit = λ e. absurd (cc); ended = λ e. absurd (cc); read = λ _. end; put = λ e. absurd (cc); long = λ e. absurd (cc) }
 
-pub put-ends : (f : List ℕ → List ℕ) (q : List ℕ → Bool) (left new out out' : Option (List ℕ)) (first : List ℕ) → PutEnd f q left new out out' first → SessionEnds f q left new out out' 4 first
+pub put-ends : (f : List ℕ → List ℕ) (q : List ℕ → Bool) (left new out out' : Option (List ℕ)) (first : List ℕ)
+    → PutEnd f q left new out out' first → SessionEnds f q left new out out' 4 first
 put-ends f q left new out out' first end = record { quit = λ e. absurd (cc); ended = λ e. absurd (cc); read = λ e. absurd (cc); put = λ _. end; long = λ e. absurd (cc) }
 
-pub long-ends : (f : List ℕ → List ℕ) (q : List ℕ → Bool) (left new out out' : Option (List ℕ)) (first : List ℕ) → LongEnd f q left new out out' → SessionEnds f q left new out out' 8 first
+pub long-ends : (f : List ℕ → List ℕ) (q : List ℕ → Bool) (left new out out' : Option (List ℕ)) (first : List ℕ)
+    → LongEnd f q left new out out' → SessionEnds f q left new out out' 8 first
 long-ends f q left new out out' first end = record { quit = λ e. absurd (cc); ended = λ e. absurd (cc); read = λ e. absurd (cc); put = λ e. absurd (cc); long = λ _. end }
 
 -- a session with the bytes that were put before it
-pub greeted-ends : (f h : List ℕ → List ℕ) (q r : List ℕ → Bool) (left new out out1 out2 : Option (List ℕ)) (first : List ℕ) (status : ℕ) → ((bytes : List ℕ) → h bytes ≡ first ++ f bytes) → ((bytes : List ℕ) → r bytes ≡ q bytes)
+pub greeted-ends : (f h : List ℕ → List ℕ) (q r : List ℕ → Bool) (left new out out1 out2 : Option (List ℕ)) (first : List ℕ) (status : ℕ)
+    → ((bytes : List ℕ) → h bytes ≡ first ++ f bytes) → ((bytes : List ℕ) → r bytes ≡ q bytes)
     → Appends out out1 first → SessionEnds f q left new out1 out2 status [] → SessionEnds h r left new out out2 status first
 greeted-ends f h q r left new out out1 out2 first status replies quits before ends = record {
   quit = λ is. let end = ends.quit is in record { taken = end.taken; quit = quits (take SESSION_LIMIT end.taken.bytes) ∙ end.quit; written = put end.taken.bytes end.written };
@@ -296,7 +320,8 @@ greeted-ends f h q r left new out out1 out2 first status replies quits before en
       }
 
 -- the greeting was cut off
-pub greeting-cut : (h : List ℕ → List ℕ) (r : List ℕ → Bool) (left out out' : Option (List ℕ)) (first : List ℕ) (failed : PutFailed) → h [] ≡ first → TookSome 0 out out' first failed → PutEnd h r left left out out' first
+pub greeting-cut : (h : List ℕ → List ℕ) (r : List ℕ → Bool) (left out out' : Option (List ℕ)) (first : List ℕ) (failed : PutFailed)
+    → h [] ≡ first → TookSome 0 out out' first failed → PutEnd h r left left out out' first
 greeting-cut h r left out out' first failed none cut = record {
   taken = record { bytes = []; taken = Consumes-none left; few = omega arith };
   put = take cut.n first;
@@ -314,7 +339,9 @@ cancel (x ∷ xs) ys zs e = cancel xs ys zs (tail e) where
   tail e = cc
 
 -- the replies of a session that begins, and whether it ends
-begun-replies : (s : Session) → s.front ≡ [] → s.phase ≡ Authorization → (rest : List ℕ) → replies_from s rest ≡ replies_to s.user s.secret s.letters Authorization (requests rest)
+begun-replies : (s : Session)
+    → s.front ≡ [] → s.phase ≡ Authorization → (rest : List ℕ)
+    → replies_from s rest ≡ replies_to s.user s.secret s.letters Authorization (requests rest)
 begun-replies s front phase rest =
     ap (λ xs. replies_to s.user s.secret s.letters s.phase (requests (xs ++ rest))) front ∙ ap (λ p. replies_to s.user s.secret s.letters p (requests rest)) phase
 

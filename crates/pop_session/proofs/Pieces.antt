@@ -28,7 +28,8 @@ pub requests-line : (line rest : List ℕ) → NoEnd line → requests (line ++ 
 requests-line line rest none = let h = has_first rest in rw (parts-line line rest none, h.is) refl
 
 -- a request that is too long
-outcome-long : (user secret : List ℕ) (phase : Phase) (part more : List ℕ) → 512 < length part → outcome_of user secret phase (part ++ more) ≡ refused phase Long
+outcome-long : (user secret : List ℕ) (phase : Phase) (part more : List ℕ)
+    → 512 < length part → outcome_of user secret phase (part ++ more) ≡ refused phase Long
 outcome-long user secret phase part more lt = let e : nat_le (length (part ++ more)) 512 ≡ false = grind (arith, common_steps) in rw e refl
 
 -- what is said of requests and doesn't tell two that are too long
@@ -43,7 +44,9 @@ same-phases : (user secret : List ℕ) (phase : Phase) → Same (phase_after use
 same-phases user secret phase a b more rest la lb =
     ap (λ o. if is_ended phase then phase else phase_after user secret o.phase rest) (outcome-long user secret phase a more la ∙ sym (outcome-long user secret phase b more lb))
 
-long-same : {A : Type 0} (f : List (List ℕ) → A) → Same f → (a b rest : List ℕ) → NoEnd a → NoEnd b → 512 < length a → 512 < length b → f (requests (a ++ rest)) ≡ f (requests (b ++ rest))
+long-same : {A : Type 0} (f : List (List ℕ) → A)
+    → Same f → (a b rest : List ℕ) → NoEnd a → NoEnd b → 512 < length a → 512 < length b
+    → f (requests (a ++ rest)) ≡ f (requests (b ++ rest))
 unfolding glue
 long-same f same a b rest na nb la lb =
     let h = has_first rest in
@@ -59,18 +62,24 @@ whole-long : (front bytes : List ℕ) → 513 - length front < length bytes → 
 whole-long front bytes lt = grind (arith, common_steps)
 
 -- the front that a session holds serves as the open request does
-grown-same : {A : Type 0} (f : List (List ℕ) → A) → Same f → (front bytes rest : List ℕ) → NoEnd front → NoEnd bytes → f (requests (front ++ bytes ++ rest)) ≡ f (requests (grown front bytes ++ rest))
+grown-same : {A : Type 0} (f : List (List ℕ) → A)
+    → Same f → (front bytes rest : List ℕ) → NoEnd front → NoEnd bytes
+    → f (requests (front ++ bytes ++ rest)) ≡ f (requests (grown front bytes ++ rest))
 grown-same f same front bytes rest nf nb = go (cases_lt (513 - length front) (length bytes)) where
   go : (513 - length front < length bytes) ⊎ (length bytes ≤ 513 - length front) → f (requests ((front ++ bytes) ++ rest)) ≡ f (requests (grown front bytes ++ rest))
   go (inl lt) = long-same f same (front ++ bytes) (grown front bytes) rest (NoEnd-append front bytes nf nb) (NoEnd-grown front bytes nf nb) (whole-long front bytes lt) (grown-long front bytes lt)
   go (inr le) = rw (take_all (513 - length front) bytes le) refl
 
-pub grown-replies : (user secret : List ℕ) (letters : List Letter) (phase : Phase) (front bytes rest : List ℕ) → NoEnd front → NoEnd bytes → replies_to user secret letters phase (requests (front ++ (bytes ++ rest))) ≡ replies_to user secret letters phase (requests (grown front bytes ++ rest))
+pub grown-replies : (user secret : List ℕ) (letters : List Letter) (phase : Phase) (front bytes rest : List ℕ)
+    → NoEnd front → NoEnd bytes
+    → replies_to user secret letters phase (requests (front ++ (bytes ++ rest))) ≡ replies_to user secret letters phase (requests (grown front bytes ++ rest))
 grown-replies user secret letters phase front bytes rest nf nb =
     ap (λ xs. replies_to user secret letters phase (requests xs)) (sym (append_assoc front bytes rest))
     ∙ grown-same (replies_to user secret letters phase) (same-replies user secret letters phase) front bytes rest nf nb
 
-pub grown-phases : (user secret : List ℕ) (phase : Phase) (front bytes rest : List ℕ) → NoEnd front → NoEnd bytes → phase_after user secret phase (requests (front ++ (bytes ++ rest))) ≡ phase_after user secret phase (requests (grown front bytes ++ rest))
+pub grown-phases : (user secret : List ℕ) (phase : Phase) (front bytes rest : List ℕ)
+    → NoEnd front → NoEnd bytes
+    → phase_after user secret phase (requests (front ++ (bytes ++ rest))) ≡ phase_after user secret phase (requests (grown front bytes ++ rest))
 grown-phases user secret phase front bytes rest nf nb =
     ap (λ xs. phase_after user secret phase (requests xs)) (sym (append_assoc front bytes rest))
     ∙ grown-same (phase_after user secret phase) (same-phases user secret phase) front bytes rest nf nb
@@ -81,18 +90,23 @@ with_end piece n e lt = take_more piece n 0 lt ∙ ap (λ x. take n piece ++ x �
   at_end : (x : ℕ) → is_end x ≡ true → x ≡ 10
   at_end x e = grind arith
 
-sides : (piece rest : List ℕ) (n : ℕ) → n ≡ position_or_len is_end piece → n < length piece → take (n + 1) piece ++ rest ≡ take n piece ++ 10 ∷ rest
+sides : (piece rest : List ℕ) (n : ℕ)
+    → n ≡ position_or_len is_end piece → n < length piece → take (n + 1) piece ++ rest ≡ take n piece ++ 10 ∷ rest
 sides piece rest n e lt = ap (λ xs. xs ++ rest) (with_end piece n e lt) ∙ append_assoc (take n piece) (10 ∷ []) rest
 
 -- the replies to a piece up to its first LF: one reply, and those to what follows
-pub cut-replies : (user secret : List ℕ) (letters : List Letter) (phase : Phase) (front piece rest : List ℕ) (n : ℕ) → NoEnd front → n ≡ position_or_len is_end piece → n < length piece → is_ended phase ≡ false → replies_to user secret letters phase (requests (front ++ (take (n + 1) piece ++ rest))) ≡ reply_bytes letters (outcome_of user secret phase (grown front (take n piece))).reply ++ replies_to user secret letters (outcome_of user secret phase (grown front (take n piece))).phase (requests rest)
+pub cut-replies : (user secret : List ℕ) (letters : List Letter) (phase : Phase) (front piece rest : List ℕ) (n : ℕ)
+    → NoEnd front → n ≡ position_or_len is_end piece → n < length piece → is_ended phase ≡ false
+    → replies_to user secret letters phase (requests (front ++ (take (n + 1) piece ++ rest))) ≡ reply_bytes letters (outcome_of user secret phase (grown front (take n piece))).reply ++ replies_to user secret letters (outcome_of user secret phase (grown front (take n piece))).phase (requests rest)
 cut-replies user secret letters phase front piece rest n none e lt going =
     ap (λ xs. replies_to user secret letters phase (requests (front ++ xs))) (sides piece rest n e lt)
     ∙ grown-replies user secret letters phase front (take n piece) (10 ∷ rest) none (NoEnd-front piece n e)
     ∙ ap (replies_to user secret letters phase) (requests-line (grown front (take n piece)) rest (NoEnd-grown front (take n piece) none (NoEnd-front piece n e)))
     ∙ ap (λ b. if b then [] else reply_bytes letters (outcome_of user secret phase (grown front (take n piece))).reply ++ replies_to user secret letters (outcome_of user secret phase (grown front (take n piece))).phase (requests rest)) going
 
-pub cut-phases : (user secret : List ℕ) (phase : Phase) (front piece rest : List ℕ) (n : ℕ) → NoEnd front → n ≡ position_or_len is_end piece → n < length piece → is_ended phase ≡ false → phase_after user secret phase (requests (front ++ (take (n + 1) piece ++ rest))) ≡ phase_after user secret (outcome_of user secret phase (grown front (take n piece))).phase (requests rest)
+pub cut-phases : (user secret : List ℕ) (phase : Phase) (front piece rest : List ℕ) (n : ℕ)
+    → NoEnd front → n ≡ position_or_len is_end piece → n < length piece → is_ended phase ≡ false
+    → phase_after user secret phase (requests (front ++ (take (n + 1) piece ++ rest))) ≡ phase_after user secret (outcome_of user secret phase (grown front (take n piece))).phase (requests rest)
 cut-phases user secret phase front piece rest n none e lt going =
     ap (λ xs. phase_after user secret phase (requests (front ++ xs))) (sides piece rest n e lt)
     ∙ grown-phases user secret phase front (take n piece) (10 ∷ rest) none (NoEnd-front piece n e)
@@ -100,14 +114,17 @@ cut-phases user secret phase front piece rest n none e lt going =
     ∙ ap (λ b. if b then phase else phase_after user secret (outcome_of user secret phase (grown front (take n piece))).phase (requests rest)) going
 
 -- the one reply to a piece up to its first LF
-pub cut-reply : (user secret : List ℕ) (letters : List Letter) (phase : Phase) (front piece : List ℕ) (n : ℕ) → NoEnd front → n ≡ position_or_len is_end piece → n < length piece → is_ended phase ≡ false → replies_to user secret letters phase (requests (front ++ take (n + 1) piece)) ≡ reply_bytes letters (outcome_of user secret phase (grown front (take n piece))).reply
+pub cut-reply : (user secret : List ℕ) (letters : List Letter) (phase : Phase) (front piece : List ℕ) (n : ℕ)
+    → NoEnd front → n ≡ position_or_len is_end piece → n < length piece → is_ended phase ≡ false
+    → replies_to user secret letters phase (requests (front ++ take (n + 1) piece)) ≡ reply_bytes letters (outcome_of user secret phase (grown front (take n piece))).reply
 cut-reply user secret letters phase front piece n none e lt going =
     ap (λ xs. replies_to user secret letters phase (requests (front ++ xs))) (sym (append-nil (take (n + 1) piece)))
     ∙ cut-replies user secret letters phase front piece [] n none e lt going
     ∙ append-nil (reply_bytes letters (outcome_of user secret phase (grown front (take n piece))).reply)
 
 -- a session that has ended replies nothing
-pub ended-replies : (user secret : List ℕ) (letters : List Letter) (phase : Phase) (rs : List (List ℕ)) → is_ended phase ≡ true → replies_to user secret letters phase rs ≡ []
+pub ended-replies : (user secret : List ℕ) (letters : List Letter) (phase : Phase) (rs : List (List ℕ))
+    → is_ended phase ≡ true → replies_to user secret letters phase rs ≡ []
 ended-replies user secret letters phase [] e = refl
 ended-replies user secret letters phase (r ∷ rs) e = rw e refl
 

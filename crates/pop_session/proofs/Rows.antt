@@ -11,7 +11,9 @@ use Rattle.pop_session.specs.declared.reply.Listing.{Listing}
 use Rattle.pop_session.specs.Letters.{line, stuffed, sent_lines, row_text, rows_from}
 
 -- the row of the next letter, and those of the letters after it
-pub rows-next : (listing : Listing) (letters : List Letter) (i : ℕ) (letter : Letter) (bytes : List ℕ) → i < length letters → letter ≡ get_or letters i letter → bytes ≡ line (row_text listing (i + 1) letter) → rows_from listing (i + 1) (drop i letters) ≡ bytes ++ rows_from listing (i + 1 + 1) (drop (i + 1) letters)
+pub rows-next : (listing : Listing) (letters : List Letter) (i : ℕ) (letter : Letter) (bytes : List ℕ)
+    → i < length letters → letter ≡ get_or letters i letter → bytes ≡ line (row_text listing (i + 1) letter)
+    → rows_from listing (i + 1) (drop i letters) ≡ bytes ++ rows_from listing (i + 1 + 1) (drop (i + 1) letters)
 rows-next listing letters i letter bytes lt is row =
     let one : suc i ≡ i + 1 = omega arith in
     ap (rows_from listing (i + 1)) (drop-cons letters i letter lt)

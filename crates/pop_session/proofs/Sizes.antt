@@ -89,7 +89,9 @@ total-within (l ∷ letters) short =
     omega arith
 
 -- the letters from here on
-pub total-next : (letters : List Letter) (i : ℕ) (letter : Letter) → i < length letters → letter ≡ get_or letters i letter → total_size (drop i letters) ≡ size_of letter.text + total_size (drop (i + 1) letters)
+pub total-next : (letters : List Letter) (i : ℕ) (letter : Letter)
+    → i < length letters → letter ≡ get_or letters i letter
+    → total_size (drop i letters) ≡ size_of letter.text + total_size (drop (i + 1) letters)
 total-next letters i letter lt is =
     let one : suc i ≡ i + 1 = omega arith in
     ap total_size (drop-cons letters i letter lt)

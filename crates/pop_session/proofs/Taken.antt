@@ -7,9 +7,9 @@ use Rattle.std.specs.List.{position_or_len}
 use Rattle.mail_lines.specs.Lines.{NoEnd, is_end}
 use Rattle.mail_lines.proofs.Ends.{NoEnd-append}
 use Rattle.pop_session.specs.Requests.{requests}
-use Rattle.pop_session.specs.Puts.{counted, TookSome}
+use Rattle.tap_edges.specs.Puts.{counted, TookSome}
 use Rattle.pop_session.specs.Sessions.{Session, replies_from, quits_from, replies_to, phase_after, is_ended, held, open_reply, answered, IsOver}
-use Rattle.pop_session.proofs.Puts.{Puts, Puts-cut, Puts-more, Appends-none, first-cut-of}
+use Rattle.tap_edges.proofs.Puts.{Puts, Puts-cut, Puts-more, Appends-none, counted-start, first-cut-of}
 use Rattle.pop_session.proofs.Pieces.{requests-none, ended-replies, ended-phases, grown-replies, grown-phases, cut-replies, cut-phases, cut-reply}
 
 -- more bytes of the open request
@@ -24,25 +24,31 @@ held-none s bytes nf nb = ap (replies_to s.user s.secret s.letters s.phase) (req
 
 -- no reply is put
 pub open-count : (start : ℕ) (bytes : List ℕ) → start < 2 ^ 64 → bytes ≡ [] → start ≡ counted (start + length bytes)
-open-count start bytes small none = at start small ∙ ap (λ xs. counted (start + length xs)) (sym none) where
-  at : (start : ℕ) → start < 2 ^ 64 → start ≡ counted (start + 0)
-  at start small = grind arith
+open-count start bytes small none = counted-start start small ∙ ap (λ xs. counted (start + length xs)) (sym none)
 
 pub open-put : (out : Option (List ℕ)) (bytes : List ℕ) → bytes ≡ [] → Appends out out bytes
 open-put out bytes none = subst (λ xs. Appends out out xs) (sym none) (Appends-none out)
 
 -- a piece up to its first LF
-pub cut-next : (s : Session) (piece rest : List ℕ) (n : ℕ) → NoEnd s.front → n ≡ position_or_len is_end piece → n < length piece → is_ended s.phase ≡ false → replies_from s (take (n + 1) piece ++ rest) ≡ open_reply (held s (take n piece)) ++ replies_from (answered (held s (take n piece))) rest
+pub cut-next : (s : Session) (piece rest : List ℕ) (n : ℕ)
+    → NoEnd s.front → n ≡ position_or_len is_end piece → n < length piece → is_ended s.phase ≡ false
+    → replies_from s (take (n + 1) piece ++ rest) ≡ open_reply (held s (take n piece)) ++ replies_from (answered (held s (take n piece))) rest
 cut-next s piece rest n none e lt going = cut-replies s.user s.secret s.letters s.phase s.front piece rest n none e lt going
 
-pub cut-quits : (s : Session) (piece rest : List ℕ) (n : ℕ) → NoEnd s.front → n ≡ position_or_len is_end piece → n < length piece → is_ended s.phase ≡ false → quits_from s (take (n + 1) piece ++ rest) ≡ quits_from (answered (held s (take n piece))) rest
+pub cut-quits : (s : Session) (piece rest : List ℕ) (n : ℕ)
+    → NoEnd s.front → n ≡ position_or_len is_end piece → n < length piece → is_ended s.phase ≡ false
+    → quits_from s (take (n + 1) piece ++ rest) ≡ quits_from (answered (held s (take n piece))) rest
 cut-quits s piece rest n none e lt going = ap is_ended (cut-phases s.user s.secret s.phase s.front piece rest n none e lt going)
 
-pub cut-one : (s : Session) (piece : List ℕ) (n : ℕ) → NoEnd s.front → n ≡ position_or_len is_end piece → n < length piece → is_ended s.phase ≡ false → replies_from s (take (n + 1) piece) ≡ open_reply (held s (take n piece))
+pub cut-one : (s : Session) (piece : List ℕ) (n : ℕ)
+    → NoEnd s.front → n ≡ position_or_len is_end piece → n < length piece → is_ended s.phase ≡ false
+    → replies_from s (take (n + 1) piece) ≡ open_reply (held s (take n piece))
 cut-one s piece n none e lt going = cut-reply s.user s.secret s.letters s.phase s.front piece n none e lt going
 
 -- a step whose put was cut off
-pub cut-failed : (s : Session) (piece : List ℕ) (n start : ℕ) (before after : Option (List ℕ)) (failed : PutFailed) → NoEnd s.front → n ≡ position_or_len is_end piece → n < length piece → is_ended s.phase ≡ false → TookSome start before after (open_reply (held s (take n piece))) failed → TookSome start before after (replies_from s piece) failed
+pub cut-failed : (s : Session) (piece : List ℕ) (n start : ℕ) (before after : Option (List ℕ)) (failed : PutFailed)
+    → NoEnd s.front → n ≡ position_or_len is_end piece → n < length piece → is_ended s.phase ≡ false
+    → TookSome start before after (open_reply (held s (take n piece))) failed → TookSome start before after (replies_from s piece) failed
 cut-failed s piece n start before after failed none e lt going cut =
     first-cut-of start before after (replies_from s piece) (open_reply (held s (take n piece))) (replies_from (answered (held s (take n piece))) (drop (n + 1) piece)) failed
     (ap (replies_from s) (sym (take-append-drop (n + 1) piece)) ∙ cut-next s piece (drop (n + 1) piece) n none e lt going)
@@ -71,7 +77,12 @@ parted rest left more used is =
     ∙ ap (λ xs. take used rest ++ (xs ++ more)) (sym is)
 
 -- one more step
-pub Taken-more : (old now new : Session) (piece rest left : List ℕ) (used done done' : ℕ) (before mid after : Option (List ℕ)) → Taken old now piece rest done before mid → left ≡ drop used rest → ((more : List ℕ) → replies_from now (take used rest ++ more) ≡ replies_from now (take used rest) ++ replies_from new more) → ((more : List ℕ) → quits_from now (take used rest ++ more) ≡ quits_from new more) → done' ≡ counted (done + length (replies_from now (take used rest))) → Appends mid after (replies_from now (take used rest)) → Taken old new piece left done' before after
+pub Taken-more : (old now new : Session) (piece rest left : List ℕ) (used done done' : ℕ) (before mid after : Option (List ℕ))
+    → Taken old now piece rest done before mid → left ≡ drop used rest
+    → ((more : List ℕ) → replies_from now (take used rest ++ more) ≡ replies_from now (take used rest) ++ replies_from new more)
+    → ((more : List ℕ) → quits_from now (take used rest ++ more) ≡ quits_from new more)
+    → done' ≡ counted (done + length (replies_from now (take used rest))) → Appends mid after (replies_from now (take used rest))
+    → Taken old new piece left done' before after
 Taken-more old now new piece rest left used done done' before mid after taken is next quits count one = record {
   front = taken.front ++ replies_from now (take used rest);
   replies = λ more.
@@ -111,27 +122,33 @@ open-quits : (now : Session) → NoEnd now.front → quits_from now [] ≡ is_en
 open-quits now none = ap (λ xs. is_ended (phase_after now.user now.secret now.phase (requests xs))) (append-nil now.front) ∙ ap (λ rs. is_ended (phase_after now.user now.secret now.phase rs)) (requests-none now.front none)
 
 -- at the end the bytes that were put are the replies to the piece
-taken-all : (old now : Session) (piece rest : List ℕ) (done : ℕ) (before after : Option (List ℕ)) → (taken : Taken old now piece rest done before after) → NoEnd now.front → IsOver now rest → replies_from old piece ≡ taken.front
+taken-all : (old now : Session) (piece rest : List ℕ) (done : ℕ) (before after : Option (List ℕ))
+    → (taken : Taken old now piece rest done before after) → NoEnd now.front → IsOver now rest → replies_from old piece ≡ taken.front
 taken-all old now piece rest done before after taken none over =
     ap (replies_from old) (sym (append-nil piece))
     ∙ taken.replies []
     ∙ ap (λ xs. taken.front ++ xs) (over-replies now rest [] over ∙ open-replies now none)
     ∙ append-nil taken.front
 
-pub end-put : (old now : Session) (piece rest : List ℕ) (done : ℕ) (before after : Option (List ℕ)) → Taken old now piece rest done before after → NoEnd now.front → IsOver now rest → Appends before after (replies_from old piece)
+pub end-put : (old now : Session) (piece rest : List ℕ) (done : ℕ) (before after : Option (List ℕ))
+    → Taken old now piece rest done before after → NoEnd now.front → IsOver now rest → Appends before after (replies_from old piece)
 end-put old now piece rest done before after taken none over =
     subst (λ xs. Appends before after xs) (sym (taken-all old now piece rest done before after taken none over ∙ taken.puts.split ∙ append-nil taken.puts.front)) taken.puts.written
 
-pub end-next : (old now : Session) (piece rest : List ℕ) (done : ℕ) (before after : Option (List ℕ)) → Taken old now piece rest done before after → NoEnd now.front → IsOver now rest → (more : List ℕ) → replies_from old (piece ++ more) ≡ replies_from old piece ++ replies_from now more
+pub end-next : (old now : Session) (piece rest : List ℕ) (done : ℕ) (before after : Option (List ℕ))
+    → Taken old now piece rest done before after → NoEnd now.front → IsOver now rest → (more : List ℕ)
+    → replies_from old (piece ++ more) ≡ replies_from old piece ++ replies_from now more
 end-next old now piece rest done before after taken none over more =
     taken.replies more
     ∙ ap (λ xs. taken.front ++ xs) (over-replies now rest more over)
     ∙ ap (λ xs. xs ++ replies_from now more) (sym (taken-all old now piece rest done before after taken none over))
 
-pub end-quits : (old now : Session) (piece rest : List ℕ) (done : ℕ) (before after : Option (List ℕ)) → Taken old now piece rest done before after → IsOver now rest → (more : List ℕ) → quits_from old (piece ++ more) ≡ quits_from now more
+pub end-quits : (old now : Session) (piece rest : List ℕ) (done : ℕ) (before after : Option (List ℕ))
+    → Taken old now piece rest done before after → IsOver now rest → (more : List ℕ) → quits_from old (piece ++ more) ≡ quits_from now more
 end-quits old now piece rest done before after taken over more = taken.quits more ∙ over-quits now rest more over
 
-pub end-quit : (old now : Session) (piece rest : List ℕ) (done : ℕ) (before after : Option (List ℕ)) → Taken old now piece rest done before after → NoEnd now.front → IsOver now rest → is_ended now.phase ≡ quits_from old piece
+pub end-quit : (old now : Session) (piece rest : List ℕ) (done : ℕ) (before after : Option (List ℕ))
+    → Taken old now piece rest done before after → NoEnd now.front → IsOver now rest → is_ended now.phase ≡ quits_from old piece
 end-quit old now piece rest done before after taken none over =
     sym (open-quits now none)
     ∙ sym (end-quits old now piece rest done before after taken over [])
@@ -142,7 +159,9 @@ pub ended-silent : (now : Session) (quit : Bool) → quit ≡ is_ended now.phase
 ended-silent now quit is e rest = ended-replies now.user now.secret now.letters now.phase (requests (now.front ++ rest)) (sym is ∙ e)
 
 -- a put was cut off
-pub taken-cut : (old now : Session) (piece rest : List ℕ) (done : ℕ) (before mid after : Option (List ℕ)) (failed : PutFailed) → Taken old now piece rest done before mid → TookSome done mid after (replies_from now rest) failed → TookSome 0 before after (replies_from old piece) failed
+pub taken-cut : (old now : Session) (piece rest : List ℕ) (done : ℕ) (before mid after : Option (List ℕ)) (failed : PutFailed)
+    → Taken old now piece rest done before mid → TookSome done mid after (replies_from now rest) failed
+    → TookSome 0 before after (replies_from old piece) failed
 taken-cut old now piece rest done before mid after failed taken cut =
     Puts-cut (replies_from old piece) (replies_from now rest) [] (replies_from now rest) 0 done before mid after failed
     (record {

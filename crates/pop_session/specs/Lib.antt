@@ -2,6 +2,5 @@ pub mod Letters
 pub mod Requests
 pub mod Replies
 pub mod Sessions
-pub mod Puts
 pub mod Laws
 pub mod Ends

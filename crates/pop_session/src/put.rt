@@ -1,7 +1,7 @@
 //! Puts replies into a sink.
 ghost use Rattle.std.specs.Prelude.{◌≤◌, ◌++◌, Some, length, codes};
+ghost use Rattle.tap_edges.specs.Puts.{PutBehind};
 ghost use Rattle.pop_session.specs.Letters.{line, stuffed, sent_lines, letter_at, rows_from};
-ghost use Rattle.pop_session.specs.Puts.{PutBehind};
 ghost use Rattle.pop_session.specs.Replies.{row_reply, text_reply, reply_bytes};
 ghost use Rattle.pop_session.specs.declared.reply.Reply.TheVariants.{Rows};
 ghost use Rattle.pop_session.specs.Sessions.{AreShort};
@@ -13,23 +13,7 @@ use crate::buffer::{
 use crate::letter::{Letter, letter_at, size_of, total_size};
 use crate::reply::{Listing, Refusal, Reply};
 use digest_mail::first_lined;
-use tap_edges::{PutFailed, Sink};
-
-/// Puts bytes behind the first `start` bytes of a reply, and returns how many bytes of the reply are put then.
-pub(crate) fn put_next<K: Sink>(
-    sink: &mut K,
-    start: usize,
-    bytes: &[u8],
-) -> Result<usize, PutFailed>
-    ensures { PutBehind K.Sink start bytes.now sink.old sink.new result }
-{
-    match sink.put(bytes) {
-        Ok(()) => Ok(start.saturating_add(bytes.len())),
-        Err(failed) => Err(PutFailed {
-            out: start.saturating_add(failed.out),
-        }),
-    }
-}
+use tap_edges::{PutFailed, Sink, put_next};
 
 // Puts a line of a letter: the bytes and the CRLF each by a call, so that no copy is made.
 fn put_line<K: Sink>(sink: &mut K, start: usize, text: &[u8]) -> Result<usize, PutFailed>

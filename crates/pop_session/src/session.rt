@@ -1,10 +1,11 @@
 //! A session: the client's bytes in pieces, and the replies to them.
-ghost use Rattle.std.specs.Prelude.{◌≡◌, ◌≤◌, ◌<◌, ◌+◌, ◌-◌, ◌++◌, List, [], ℕ, Bool, true, false, length, take, drop, OnOk, OnErr, IfOk, IfErr};
+ghost use Rattle.std.specs.Prelude.{◌≡◌, ◌≤◌, ◌<◌, ◌+◌, ◌-◌, ◌++◌, List, [], ℕ, Bool, true, false, length, take, drop};
+ghost use Rattle.std.specs.Prelude.{OnOk, OnErr, IfOk, IfErr};
 ghost use Rattle.std.specs.List.{position_or_len};
 ghost use Rattle.std.specs.Io.KnownBytes.{Appends};
 ghost use Rattle.mail_lines.specs.Lines.{is_end, NoEnd};
 ghost use Rattle.tap_edges.specs.Edges.{HasCause};
-ghost use Rattle.pop_session.specs.Puts.{counted, TookSome, PutBehind};
+ghost use Rattle.tap_edges.specs.Puts.{counted, TookSome, PutBehind};
 ghost use Rattle.pop_session.specs.Replies.{greeting, reply_bytes};
 ghost use Rattle.pop_session.specs.Sessions.{Session, new_session, greeted, replies_from, quits_from, IsReady, is_ended, grown, AreShort};
 ghost use Rattle.pop_session.specs.Sessions.{held, open_reply, answered, IsOver};
@@ -12,12 +13,12 @@ ghost use Rattle.pop_session.specs.Sessions.{held, open_reply, answered, IsOver}
 use crate::buffer::greeting_line;
 use crate::letter::Letter;
 use crate::outcome::Phase;
-use crate::put::{put_next, put_reply};
+use crate::put::put_reply;
 use crate::request::outcome_of;
 use arrayvec::ArrayVec;
 use memchr::memchr;
 use std::marker::Model;
-use tap_edges::{PutFailed, Sink};
+use tap_edges::{PutFailed, Sink, put_next};
 
 /// A session of RFC 1939 over a list of letters. It takes the client's bytes in pieces of any size, and puts the reply to each
 /// request before it looks at the next. It takes no memory.

@@ -12,4 +12,6 @@ sample_probe id at = record { path = record { var = document_var; table = Docs; 
 
 -- five seconds after the arrival, a second after the date, and the second 130
 abbrev pub sample_marks : List Term
-sample_marks = record { base = Arrival document_var; plus = pos 5 } ∷ record { base = Date document_var; plus = pos 1 } ∷ record { base = Fixed; plus = pos 130 } ∷ []
+sample_marks =
+    record { base = Arrival document_var; plus = pos 5 } ∷ record { base = Date document_var; plus = pos 1 }
+    ∷ record { base = Fixed; plus = pos 130 } ∷ []

@@ -31,7 +31,11 @@ fn document_path(alloc: Global) -> Result<Rows<Step>, Memory>
 
 /// Returns the probe that finds a document with this mark, with its seek.
 pub fn part_at(alloc: Global, at: Term, body: NodeId) -> Result<Ranged, Memory>
-    ensures { IfOk result (λ part. part.probe ≡ record { path = record { var = record { 0 = 0 }; table = Docs; guards = [] } ∷ []; at = at; body = body }) }
+    ensures { IfOk result (λ part. part.probe ≡ record {
+      path = record { var = record { 0 = 0 }; table = Docs; guards = [] } ∷ [];
+      at = at;
+      body = body;
+    }) }
 {
     let path = document_path(alloc)?;
     let probe = Probe { path, at, body };

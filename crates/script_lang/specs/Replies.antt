@@ -1,11 +1,9 @@
 -- The bytes of each reply.
-use Rattle.std.specs.Prelude.{ℕ, ℤ, ◌≡◌, ◌≤◌, ◌-◌, ◌+◌, ◌^◌, min, List, [], ◌∷◌, ◌++◌, length, take, Bool, true, false}
+use Rattle.std.specs.Prelude.{ℕ, ℤ, ◌≤◌, List, [], ◌∷◌, ◌++◌, length, Bool, true, false}
 use Rattle.std.specs.Prelude.{Option, Some, None, codes}
 use Rattle.std.specs.List.{flat_map, All}
 use Rattle.std.specs.Fmt.{decimal, signed_decimal}
-use Rattle.std.specs.Io.KnownBytes.{Appends}
 use Rattle.tap_base.specs.declared.numbers.DocNum.{DocNum}
-use Rattle.tap_edges.specs.declared.edges.PutFailed.{PutFailed}
 use Rattle.tap_rows.specs.declared.results.Hit.{Hit}
 use Rattle.tap_rows.specs.declared.results.Entry.{Entry}
 use Rattle.tap_rows.specs.declared.results.Listed.{Listed}
@@ -198,14 +196,3 @@ HasShortNames (Ran ordinal moment hits) = Unit {0}
 HasShortNames (Filter rules) = Unit {0}
 HasShortNames (Asked moment docs) = Unit {0}
 HasShortNames (No refusal) = Unit {0}
-
--- a count of 64 bits, which stays at its greatest value
-abbrev pub counted : ℕ → ℕ
-counted n = min n (2 ^ 64 - 1)
-
--- a failed put appended the first n of these bytes; its count is of these n and the `start` bytes before them
-pub record TookSome (start : ℕ) (old new : Option (List ℕ)) (bytes : List ℕ) (failed : PutFailed) : Type 0 where
-  pub n : ℕ
-  pub within : n ≤ length bytes
-  pub count : failed.out ≡ counted (start + n)
-  pub written : Appends old new (take n bytes)

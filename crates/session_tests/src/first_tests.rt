@@ -147,7 +147,8 @@ fn a_run_finds_the_first_seconds_that_asking_finds(rt: HostRuntime) -> Result<()
         ),
         // no answer within ten days
         (
-            b"as ann\nat 100\nmail\nMessage-ID: <a@x>\n\n.\nat 105\nmail\nMessage-ID: <b@x>\nIn-Reply-To: <a@x>\n\n.\nat 110\nmail\nMessage-ID: <c@x>\n\n.\nat 900000\n",
+            b"as ann\nat 100\nmail\nMessage-ID: <a@x>\n\n.\nat 105\nmail\nMessage-ID: <b@x>\nIn-Reply-To: <a@x>\n\n.\n\
+              at 110\nmail\nMessage-ID: <c@x>\n\n.\nat 900000\n",
             b"now > m.ts + 10 DAYS AND NOT EXISTS (r: DOC WHERE r.inreplyto = m.msgid)",
             864095,
             864120,

@@ -140,7 +140,8 @@ fn runs_of_each_shape_deliver_what_asking_gives(rt: HostRuntime) -> Result<(), M
         // no note yet
         (
             b"NOT EXISTS (a: NOTE WHERE a.doc = m.id)",
-            b"doc 1 first 259150\ndoc 2 first 259152\ndoc 3 first 259155\ndoc 4 first 259155\ndoc 5 first 259160\ndoc 6 first 259170\ndoc 7 first 259180\ndoc 8 first 259190\ndoc 9 first 259203\n",
+            b"doc 1 first 259150\ndoc 2 first 259152\ndoc 3 first 259155\ndoc 4 first 259155\ndoc 5 first 259160\n\
+              doc 6 first 259170\ndoc 7 first 259180\ndoc 8 first 259190\ndoc 9 first 259203\n",
         ),
         // a reply that has a note
         (
@@ -150,7 +151,8 @@ fn runs_of_each_shape_deliver_what_asking_gives(rt: HostRuntime) -> Result<(), M
         // the day after
         (
             b"TODAY > m.ts",
-            b"doc 1 first 259200\ndoc 2 first 259200\ndoc 3 first 259200\ndoc 4 first 259200\ndoc 5 first 259200\ndoc 6 first 259200\ndoc 7 first 259200\ndoc 8 first 259200\n",
+            b"doc 1 first 259200\ndoc 2 first 259200\ndoc 3 first 259200\ndoc 4 first 259200\ndoc 5 first 259200\n\
+              doc 6 first 259200\ndoc 7 first 259200\ndoc 8 first 259200\n",
         ),
         // three days after the date
         (
@@ -190,7 +192,8 @@ fn runs_of_each_shape_deliver_what_asking_gives(rt: HostRuntime) -> Result<(), M
         // a cross product
         (
             b"EXISTS (a: DOC WHERE EXISTS (b: DOC WHERE a.size = 1))",
-            b"doc 1 first 259155\ndoc 2 first 259155\ndoc 3 first 259155\ndoc 4 first 259155\ndoc 5 first 259160\ndoc 6 first 259170\ndoc 7 first 259180\ndoc 8 first 259190\ndoc 9 first 259203\n",
+            b"doc 1 first 259155\ndoc 2 first 259155\ndoc 3 first 259155\ndoc 4 first 259155\ndoc 5 first 259160\n\
+              doc 6 first 259170\ndoc 7 first 259180\ndoc 8 first 259190\ndoc 9 first 259203\n",
         ),
         // a cross product with marks that never come
         (
@@ -200,7 +203,8 @@ fn runs_of_each_shape_deliver_what_asking_gives(rt: HostRuntime) -> Result<(), M
         // a cross product with marks
         (
             b"EXISTS (x: DOC WHERE EXISTS (g: DOC WHERE NOW = g.ts + 7 SECONDS) AND x.id > m.id)",
-            b"doc 1 first 259157\ndoc 2 first 259157\ndoc 3 first 259157\ndoc 4 first 259162\ndoc 5 first 259177\ndoc 6 first 259187\ndoc 7 first 259197\ndoc 8 first 259210\n",
+            b"doc 1 first 259157\ndoc 2 first 259157\ndoc 3 first 259157\ndoc 4 first 259162\ndoc 5 first 259177\n\
+              doc 6 first 259187\ndoc 7 first 259197\ndoc 8 first 259210\n",
         ),
     ];
     for (condition, want) in rows {

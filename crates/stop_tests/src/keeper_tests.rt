@@ -98,7 +98,9 @@ fn sessions_go_on_over_a_store(rt: HostRuntime) -> Result<(), Memory> {
         assert_eq!(rt; status, 0);
         assert_eq!(rt;
             written.as_slice(),
-            b"ok 0 as ann\nok 0 at 111\nok 0 at 120\nok 0 doc 3\nok 0 at 121\nok 1 run 3 before 121\ndoc 3 first 120\nok 3 box q\ndoc 1 first 100 run 1\ndoc 2 first 110 run 2\ndoc 3 first 120 run 3\n".as_slice()
+            b"ok 0 as ann\nok 0 at 111\nok 0 at 120\nok 0 doc 3\nok 0 at 121\nok 1 run 3 before 121\ndoc 3 first 120\n\
+              ok 3 box q\ndoc 1 first 100 run 1\ndoc 2 first 110 run 2\ndoc 3 first 120 run 3\n"
+                .as_slice()
         );
         drop(written);
         assert_eq!(rt; version, 2);

@@ -1,5 +1,6 @@
 -- The limits, how much is stored, and which limit a command would pass.
-use Rattle.std.specs.Prelude.{◌≡◌, ℕ, ◌+◌, List, [], ◌∷◌, ◌++◌, length, map, filter, ◌==◌, ◌||◌, nat_le, Option, Some, None, sum_by}
+use Rattle.std.specs.Prelude.{◌≡◌, ℕ, ◌+◌, List, [], ◌∷◌, ◌++◌, length, map, filter, ◌==◌, ◌||◌, nat_le, Option, Some}
+use Rattle.std.specs.Prelude.{None, sum_by}
 use Rattle.std.specs.Prelude.{if◌then◌else◌}
 use Rattle.std.specs.Str.{bytes_eq}
 use Rattle.tap_base.specs.Words.{holds}

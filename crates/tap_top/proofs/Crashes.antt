@@ -11,7 +11,7 @@ use Rattle.script_lang.specs.declared.command.Command.{Command}
 use Rattle.script_lang.specs.declared.reply.Reply.{Reply}
 use Rattle.script_lang.specs.Replies.{reply_bytes, first_text, rest_lines}
 use Rattle.script_lang.specs.Script.{script, complete}
-use Rattle.script_lang.proofs.Puts.{Appends-none}
+use Rattle.tap_edges.proofs.Puts.{Appends-none}
 use Rattle.tap_model.specs.declared.session.Session.{Session}
 use Rattle.tap_model.specs.Sessions.{no_session}
 use Rattle.tap_model.specs.Sound.{IsSound, IsStore}

@@ -8,8 +8,9 @@ use Rattle.std.proofs.lemmas.List.Concat.{flat_map-append}
 use Rattle.tap_rows.specs.declared.tables.Tables.{Tables}
 use Rattle.script_lang.specs.declared.command.Command.{Command}
 use Rattle.script_lang.specs.declared.reply.Reply.{Reply}
-use Rattle.script_lang.specs.Replies.{reply_bytes, TookSome, is_accepted}
-use Rattle.script_lang.proofs.Puts.{Appends-more, Appends-none}
+use Rattle.script_lang.specs.Replies.{reply_bytes, is_accepted}
+use Rattle.tap_edges.specs.Puts.{TookSome}
+use Rattle.tap_edges.proofs.Puts.{Appends-more, Appends-none}
 use Rattle.tap_edges.specs.declared.edges.PutFailed.{PutFailed}
 use Rattle.tap_model.specs.declared.session.Session.{Session}
 use Rattle.tap_model.specs.Sound.{IsSound}

@@ -1,5 +1,6 @@
 -- The values of expressions and the truth of atoms, for some variables bound to rows.
-use Rattle.std.specs.Prelude.{ℕ, ℤ, pos, ◌+ℤ◌, neg_ℤ, Option, Some, None, Bool, false, not, List, [], ◌∷◌, int_le, int_lt, nat_eq, if◌then◌else◌}
+use Rattle.std.specs.Prelude.{ℕ, ℤ, pos, ◌+ℤ◌, neg_ℤ, Option, Some, None, Bool, false, not, List, [], ◌∷◌, int_le}
+use Rattle.std.specs.Prelude.{int_lt, nat_eq, if◌then◌else◌}
 use Rattle.std.specs.declared.cmp.Ordering.{Ordering}
 use Rattle.std.specs.List.{list_any}
 use Rattle.std.specs.Int.{int_rem_euclid}

@@ -1,5 +1,6 @@
 -- Reading from left to right, with the first fault that is met.
-use Rattle.std.specs.Prelude.{◌≡◌, ℕ, zero, suc, pos, ◌-ℤ◌, List, [], ◌∷◌, length, Bool, true, false, Option, Some, None, Result, Ok, Err, if◌then◌else◌}
+use Rattle.std.specs.Prelude.{◌≡◌, ℕ, zero, suc, pos, ◌-ℤ◌, List, [], ◌∷◌, length, Bool, true, false, Option, Some}
+use Rattle.std.specs.Prelude.{None, Result, Ok, Err, if◌then◌else◌}
 use Rattle.tql_lex.specs.declared.sign.Sign.TheVariants as S
 use Rattle.tql_lex.specs.declared.kind.Kind.{Kind}
 use Rattle.tql_lex.specs.declared.token.Token.{Token}

@@ -1,5 +1,6 @@
 -- What is left of each probe's driving rows.
-use Rattle.std.specs.Prelude.{◌≡◌, ℕ, ◌+◌, ◌≤ℤ◌, ℤ, Bool, true, false, Option, Some, None, List, [], ◌∷◌, ◌++◌, drop, length, map, filter}
+use Rattle.std.specs.Prelude.{◌≡◌, ℕ, ◌+◌, ◌≤ℤ◌, ℤ, Bool, true, false, Option, Some, None, List, [], ◌∷◌, ◌++◌, drop}
+use Rattle.std.specs.Prelude.{length, map, filter}
 use Rattle.std.specs.List.{flat_map}
 use Rattle.std.specs.Option.{option_map}
 use Rattle.tap_rows.specs.declared.results.Hit.{Hit}

@@ -1,6 +1,6 @@
 use Rattle.std.proofs.Common.{refl, codes}
 use Rattle.pop_session.specs.Letters.{line}
-use Rattle.pop_session.proofs.Puts.{Put-then, Put-cut}
+use Rattle.tap_edges.proofs.Puts.{Put-then, Put-cut}
 use Rattle.pop_session.proofs.put.put_all_lines.Goals as goal
 
 pub returns-in-Ok : goal.returns-in-Ok

@@ -1,7 +1,7 @@
 use Rattle.std.proofs.Common.{◌∙◌, sym, ap, ◌++◌, codes}
 use Rattle.std.specs.Fmt.{decimal}
 use Rattle.pop_session.specs.Letters.{line, size_of, sent_lines}
-use Rattle.pop_session.proofs.Puts.{Put-then, Put-cut}
+use Rattle.tap_edges.proofs.Puts.{Put-then, Put-cut}
 use Rattle.pop_session.proofs.put.put_letter.Goals as goal
 
 pub returns-in-Ok : goal.returns-in-Ok

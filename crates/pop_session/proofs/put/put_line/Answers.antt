@@ -1,5 +1,5 @@
 use Rattle.std.proofs.Common.{refl, [], ◌∷◌}
-use Rattle.pop_session.proofs.Puts.{Put-then, Put-cut}
+use Rattle.tap_edges.proofs.Puts.{Put-then, Put-cut}
 use Rattle.pop_session.proofs.put.put_line.Goals as goal
 
 pub returns-in-Ok : goal.returns-in-Ok

@@ -1,6 +1,6 @@
 use Rattle.std.proofs.Common.{◌∙◌, sym}
 use Rattle.pop_session.specs.Letters.{line, stuffed}
-use Rattle.pop_session.proofs.Puts.{Puts-more, Puts-failed, Puts-whole}
+use Rattle.tap_edges.proofs.Puts.{Puts-more, Puts-failed, Puts-whole}
 use Rattle.pop_session.proofs.Rows.{lines-next, no-lines}
 use Rattle.pop_session.proofs.put.put_lines.Goals as goal
 

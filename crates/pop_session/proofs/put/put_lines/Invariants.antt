@@ -1,6 +1,6 @@
 use Rattle.std.proofs.Common.{◌≡◌, length}
 use Rattle.pop_session.specs.Letters.{sent_lines}
-use Rattle.pop_session.proofs.Puts.{Puts}
+use Rattle.tap_edges.proofs.Puts.{Puts}
 use Rattle.pop_session.proofs.put.put_lines.Given as goal
 
 -- the lines so far were put, and those of the rest follow

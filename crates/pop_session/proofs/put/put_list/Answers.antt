@@ -1,6 +1,6 @@
 use Rattle.std.proofs.Common.{◌∙◌, sym, ap, ◌++◌, codes}
 use Rattle.pop_session.specs.Letters.{line, rows_from}
-use Rattle.pop_session.proofs.Puts.{Put-then, Put-cut}
+use Rattle.tap_edges.proofs.Puts.{Put-then, Put-cut}
 use Rattle.pop_session.proofs.put.put_list.Goals as goal
 
 pub returns-in-Ok : goal.returns-in-Ok

@@ -1,6 +1,6 @@
 use Rattle.std.proofs.Common.{◌∙◌, sym, [], ◌∷◌}
 use Rattle.pop_session.specs.Letters.{line}
-use Rattle.pop_session.proofs.Puts.{Put-then, Put-cut}
+use Rattle.tap_edges.proofs.Puts.{Put-then, Put-cut}
 use Rattle.pop_session.proofs.Rows.{dotted}
 use Rattle.pop_session.proofs.put.put_long_line.Goals as goal
 

@@ -1,5 +1,5 @@
 use Rattle.std.proofs.Common.{◌∙◌}
-use Rattle.pop_session.proofs.Puts.{Puts-more, Puts-failed, Puts-whole}
+use Rattle.tap_edges.proofs.Puts.{Puts-more, Puts-failed, Puts-whole}
 use Rattle.pop_session.proofs.Rows.{rows-next, no-rows}
 use Rattle.pop_session.proofs.put.put_rows.Goals as goal
 

@@ -1,6 +1,6 @@
 use Rattle.std.proofs.Common.{◌≡◌, ◌+◌, drop}
 use Rattle.pop_session.specs.Letters.{rows_from}
-use Rattle.pop_session.proofs.Puts.{Puts}
+use Rattle.tap_edges.proofs.Puts.{Puts}
 use Rattle.pop_session.proofs.put.put_rows.Given as goal
 
 -- the rows so far were put, and those of the other letters follow

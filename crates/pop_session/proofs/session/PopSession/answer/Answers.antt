@@ -2,7 +2,7 @@ use Rattle.std.proofs.Common.{◌∙◌, ap}
 use Rattle.pop_session.specs.Requests.{outcome_of}
 use Rattle.pop_session.specs.Replies.{reply_bytes}
 use Rattle.pop_session.specs.Sessions.{open_reply}
-use Rattle.pop_session.proofs.Puts.{Put-as}
+use Rattle.tap_edges.proofs.Puts.{Put-as}
 use Rattle.pop_session.proofs.session.PopSession.answer.Goals as goal
 
 pub returns-in-Ok-clause-put : goal.returns-in-Ok-clause-put

@@ -1,7 +1,7 @@
 use Rattle.std.proofs.Common.{◌∙◌, sym, ap, subst, arith, length, take, ◌+◌, ◌++◌}
 use Rattle.std.specs.Io.KnownBytes.{Appends}
 use Rattle.mail_lines.proofs.Ends.{NoEnd-front}
-use Rattle.pop_session.specs.Puts.{counted, TookSome}
+use Rattle.tap_edges.specs.Puts.{counted, TookSome}
 use Rattle.pop_session.specs.Sessions.{replies_from, quits_from, open_reply, answered}
 use Rattle.pop_session.proofs.Taken.{held-next, held-quits, held-none, open-count, open-put, cut-next, cut-quits, cut-one, cut-failed}
 use Rattle.pop_session.proofs.session.PopSession.take_one.Goals as goal
