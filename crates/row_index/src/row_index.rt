@@ -29,7 +29,6 @@ use tap_base::{DocNum, HashKey, Memory, Steps};
 use tap_rows::{KeptDoc, Note};
 
 /// All documents and notes, with their indexes. Its value is the tables with these rows and no others.
-#[derive(Drop)]
 pub struct RowIndex {
     docs: Vec<KeptDoc>,
     places: DocPlaces,
@@ -48,6 +47,19 @@ impl Model for RowIndex {
     ghost view = { λ index. rows_alone index.docs.items index.notes.items };
 
     ghost invariant = { λ index. IsHeld index.docs.items index.places index.notes.items index.on_doc };
+}
+
+impl Drop for RowIndex {
+    // One call wherever an index is dropped: derived, it would show each caller all rows and indexes.
+    fn drop(self) {
+        let RowIndex {
+            docs: _,
+            places: _,
+            notes: _,
+            on_doc: _,
+            key: _,
+        } = self;
+    }
 }
 
 impl RowIndex {
