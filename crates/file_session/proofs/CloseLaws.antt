@@ -1,5 +1,6 @@
 -- What a close gave, from its clauses.
-use Rattle.std.proofs.Common.{◌≡◌, ◌≢◌, ◌⊎◌, ◌↔◌, ℕ, List, Bool, true, false, Option, Some, None, Result, Ok, Err, IsTrue, inl, inr, refl, subst}
+use Rattle.std.proofs.Common.{◌≡◌, ◌≢◌, ◌⊎◌, ◌↔◌, ℕ, List, Bool, true, false}
+use Rattle.std.proofs.Common.{Option, Some, None, Result, Ok, Err, IsTrue, inl, inr, refl, subst}
 use Rattle.std.specs.Prelude.{IfOk, IfErr, IfSome}
 use Rattle.sqlite.specs.Files.{over_files}
 use Rattle.sqlite_disk.specs.declared.Disk.{Ghosts}
@@ -10,7 +11,7 @@ use Rattle.sqlite_wal.specs.Reads.{AreClean}
 use Rattle.tap_rows.specs.declared.tables.Tables.{Tables}
 use Rattle.keeper_file.specs.declared.inner.Inner.{Inner}
 use Rattle.keeper_file.specs.OpenerFiles.{FilesOf}
-use Rattle.keeper_file.specs.Cases.{Tells, IsHonest, IsInMemory, has_files, is_stopped, place_of}
+use Rattle.keeper_file.specs.Cases.{Tells, IsHonest, IsInMemory, has_files}
 use Rattle.keeper_file.specs.Closing.{AreWhole, LeavesOnly}
 use Rattle.file_session.specs.Closes.{IsClosedAs}
 
@@ -29,14 +30,28 @@ running : (b : Bool) (status : ℕ) → (b ≡ true) ↔ (status ≡ 5) → stat
 running true status stopped other = absurd (other (stopped.0 refl))
 running false status stopped other = refl
 
--- no file was open
-pub no_file : {D O : Type 0} {g : Ghosts D} (inner : Inner (FileStore D g) O over_files) (status : ℕ) (place : List ℕ) (given : Result (Option (Files D)) (FileStore D g))
-    → (given ≡ Ok None → is_stopped inner ≡ false → IsInMemory (place_of inner)) → (is_stopped inner ≡ true) ↔ (status ≡ 5)
-    → (status ≡ 2) ⊎ ((status ≡ 7) ⊎ (place_of inner ≡ place)) → status ≢ 5
-    → Some given ≡ Some (Ok None) → (status ≡ 2) ⊎ ((status ≡ 7) ⊎ IsInMemory place)
-no_file inner status place given memory stopped (inl refused) other is = inl refused
-no_file inner status place given memory stopped (inr (inl out)) other is = inr (inl out)
-no_file inner status place (Ok None) memory stopped (inr (inr placed)) other is =
-    inr (inr (subst IsInMemory placed (memory refl (running (is_stopped inner) status stopped other))))
-no_file inner status place (Ok (Some files)) memory stopped (inr (inr placed)) other is = absurd (let e = is in cc)
-no_file inner status place (Err store) memory stopped (inr (inr placed)) other is = absurd (let e = is in cc)
+-- a keeper that neither failed nor was refused is closed
+neither : (status : ℕ) → status ≢ 5 → status ≢ 6 → (status ≡ 5) ⊎ (status ≡ 6) → ⊥
+neither status five six (inl is) = five is
+neither status five six (inr is) = six is
+
+pub is_closed : {T : Type 0} (given : T) (status : ℕ) → status ≢ 5 → status ≢ 6 → (Some given ≡ None) ↔ ((status ≡ 5) ⊎ (status ≡ 6))
+is_closed given status five six = (λ is. absurd (let e = is in cc), λ either. absurd (neither status five six either))
+
+-- a keeper that was closed had a file open
+pub had_file : {D : Type 0} {g : Ghosts D} (given : Result (Option (Files D)) (FileStore D g)) (b : Bool) → (given ≡ Ok None → b ≡ false)
+    → b ≡ true → (Some given ≡ Some (Ok None)) ↔ (false ≡ true)
+had_file (Ok None) b none has = absurd (let e = none refl in cc)
+had_file (Ok (Some files)) b none has = (λ is. absurd (let e = is in cc), λ is. absurd (let e = is in cc))
+had_file (Err store) b none has = (λ is. absurd (let e = is in cc), λ is. absurd (let e = is in cc))
+
+pub differ : false ≡ true → ⊥
+differ is = let e = is in cc
+
+-- a keeper that runs and has no file open is attached nowhere, or in memory
+pub in_memory : (stopped : Bool) (status : ℕ) (now named : List ℕ) → (stopped ≡ false → IsInMemory now)
+    → (stopped ≡ true) ↔ (status ≡ 5) → status ≢ 5 → (status ≡ 2) ⊎ ((status ≡ 7) ⊎ (now ≡ named))
+    → (status ≡ 2) ⊎ ((status ≡ 7) ⊎ IsInMemory named)
+in_memory stopped status now named memory is other (inl refused) = inl refused
+in_memory stopped status now named memory is other (inr (inl out)) = inr (inl out)
+in_memory stopped status now named memory is other (inr (inr placed)) = inr (inr (subst IsInMemory placed (memory (running stopped status is other))))

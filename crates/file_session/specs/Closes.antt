@@ -31,12 +31,15 @@ module _ {D O : Type 0} {g : Ghosts D} (first : FilesOf O) where
   IsClosedAs inner (Some (Ok (Some files))) = AreClean g files.log files.db → ToldTablesAre inner (AreWhole g files)
   IsClosedAs inner (Some (Err store)) = IsTrue (view store).is_clean → ToldTablesAre inner (LeavesOnly g store)
 
--- the end of a session over files that held this at first: the keeper, over which the call ended so, and what its close gave
+-- the end of a session over files that held this at first: the keeper, over which the call ended so, what its close gave, and
+-- whether it comes back
 pub record SessionEnd {S D : Type 0} {g : Ghosts D} (held : start.Ghosts S)
     (Ends : Tables → (ℤ → Type 0) → (Tables → Type 0) → (Tables → Type 0) → Type 0)
-    (status : ℕ) (closed : Option (Result (Option (Files D)) (FileStore D g))) : Type 0 where
+    (status : ℕ) (closed : Option (Result (Option (Files D)) (FileStore D g)))
+    (ComesBack : Inner (FileStore D g) (PathOpener S D held g) over_files → Type 0) : Type 0 where
   pub inner : Inner (FileStore D g) (PathOpener S D held g) over_files
   pub ends : IsHonest (path_files held) over_files inner → (t : Tables) → ImageTells (image_at held) t →
       Ends t (HasVersion (path_files held) over_files inner) (Tells (path_files held) over_files inner) (MayLeave (path_files held) over_files inner)
   pub stopped : (is_stopped inner ≡ true) ↔ (status ≡ 5)
   pub close : IsClosedAs (path_files held) inner closed
+  pub back : ComesBack inner

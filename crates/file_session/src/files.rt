@@ -1,8 +1,8 @@
 //! The files of a store, from their open to their close.
-ghost use Rattle.std.specs.Prelude.{◌≡◌, ◌<◌, ◌⊎◌, ◌↔◌, true, Some, None, Ok};
+ghost use Rattle.std.specs.Prelude.{◌≡◌, ◌<◌, ◌⊎◌, ◌↔◌, true, false, Some, None, Ok, IfSome, is_some};
 ghost use Rattle.std.specs.List.{All};
 ghost use Rattle.std.specs.Str.{IsUtf8};
-ghost use Rattle.keeper_file.specs.Cases.{Tells, HasVersion, IsHonest, MayLeave, IsInMemory, is_stopped, place_of};
+ghost use Rattle.keeper_file.specs.Cases.{Tells, HasVersion, IsHonest, MayLeave, IsInMemory, has_files, is_stopped, place_of};
 ghost use Rattle.keeper_file.specs.PathFiles.{path_files};
 ghost use Rattle.keeper_file.specs.Images.{ImageTells, ImageHasVersion};
 ghost use Rattle.sqlite.specs.Files.{over_files};
@@ -55,9 +55,10 @@ pub fn run_on_files<'a, C: Session, I: Source, K: Sink, S: Start, L: Ledger>(
 }
 
 /// Makes the call over the files that the words name, and closes them unless the keeper failed or the store was refused. Returns
-/// the status, and what the close gave: both files, none if no file was open, or what is left of the store if it failed.
-pub fn run_to_close<C: Session, I: Source, K: Sink, S: Start, L: Ledger>(
-    rt: &HostRuntime,
+/// the status; what the close gave, which is both files, none if no file was open, or what is left of the store if it failed;
+/// and the keeper, if it has no file open.
+pub fn run_to_close<'a, C: Session, I: Source, K: Sink, S: Start, L: Ledger>(
+    rt: &'a HostRuntime,
     words: &Texts,
     source: &mut I,
     sink: &mut K,
@@ -66,6 +67,7 @@ pub fn run_to_close<C: Session, I: Source, K: Sink, S: Start, L: Ledger>(
 ) -> (
     u8,
     Option<Result<Option<Files<FileFrom<S>>>, FileStore<FileFrom<S>>>>,
+    Option<FileKeeper<FileStore<FileFrom<S>>, PathOpener<'a, S, FileFrom<S>>>>,
 )
     requires name { blank.name ≡ L.name }
     requires parts { blank.parts ≡ L.parts }
@@ -73,22 +75,32 @@ pub fn run_to_close<C: Session, I: Source, K: Sink, S: Start, L: Ledger>(
     requires texts { All IsUtf8 words.now }
     ensures ends { C.ends words.now result.0 (I.left source.old) (I.left source.new) (K.out sink.old) (K.out sink.new)
         (I.faults source.old) (I.faults source.new) (K.faults sink.old) (K.faults sink.new) }
-    ensures closes { result.1 ≡ None → (result.0 ≡ 5) ⊎ (result.0 ≡ 6) }
 
-    // No file was open only if nothing was attached, or the words name a place in memory.
-    ensures no_file { result.1 ≡ Some (Ok None) → (result.0 ≡ 2) ⊎ ((result.0 ≡ 7) ⊎ IsInMemory (C.place words.now)) }
+    // Nothing is closed if and only if the keeper failed or the store was refused.
+    ensures closes { (result.1 ≡ None) ↔ ((result.0 ≡ 5) ⊎ (result.0 ≡ 6)) }
+
+    // No file was open if and only if the keeper comes back, which has none open.
+    ensures no_file { (result.1 ≡ Some (Ok None)) ↔ (is_some result.2 ≡ true) }
+    ensures unopened { IfSome result.2 (λ keeper. has_files keeper.inner ≡ false) }
+
+    // Then nothing was attached, or the words name a place in memory.
+    ensures placed { result.1 ≡ Some (Ok None) → (result.0 ≡ 2) ⊎ ((result.0 ≡ 7) ⊎ IsInMemory (C.place words.now)) }
 
     // How the call ended over the tables that the files held at first, and what the close left of those that it told.
     ensures end { SessionEnd S.Start (λ t versions tells leaves.
         C.ends_over words.now result.0 (I.left source.old) (I.left source.new) (K.out sink.old) (K.out sink.new)
-        t (ImageHasVersion (image_at S.Start)) versions tells leaves) result.0 result.1 }
+        t (ImageHasVersion (image_at S.Start)) versions tells leaves) result.0 result.1
+        (λ inner. IfSome result.2 (λ keeper. keeper.inner ≡ inner)) }
 {
     let (status, keeper) = run_on_files::<C, _, _, _, L>(rt, words, source, sink, start, blank);
     if status == 5 || status == 6 {
         drop(keeper);
-        (status, None)
+        return (status, None, None);
+    }
+    if keeper.has_files() {
+        (status, Some(keeper.close()), None)
     } else {
-        (status, Some(keeper.close()))
+        (status, Some(Ok(None)), Some(keeper))
     }
 }
 
@@ -109,8 +121,11 @@ pub fn run_session<C: Session, I: Source, K: Sink, S: Start, L: Ledger>(
     ensures { C.ends words.now result (I.left source.old) (I.left source.new) (K.out sink.old) (K.out sink.new)
         (I.faults source.old) (I.faults source.new) (K.faults sink.old) (K.faults sink.new) }
 {
-    let (status, closed) = run_to_close::<C, _, _, _, L>(rt, words, source, sink, start, blank);
+    let (status, closed, unopened) = run_to_close::<C, _, _, _, L>(
+        rt, words, source, sink, start, blank,
+    );
     // A close that fails loses no committed row, and changes no status.
     drop(closed);
+    drop(unopened);
     status
 }

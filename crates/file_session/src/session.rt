@@ -15,7 +15,8 @@ use tap_edges::{Sink, Source};
 pub trait Session {
     // How it ended, whatever the store: by the words and the status; by the bytes that were left in the source before and
     // after, and those that were written to the sink; and by the counts of faults of both.
-    ghost ends: { List (List ℕ) → ℕ → Option (List ℕ) → Option (List ℕ) → Option (List ℕ) → Option (List ℕ) → ℕ → ℕ → ℕ → ℕ → Type 0 };
+    ghost ends: { List (List ℕ) → ℕ → Option (List ℕ) → Option (List ℕ) → Option (List ℕ) → Option (List ℕ)
+        → ℕ → ℕ → ℕ → ℕ → Type 0 };
 
     // How it ended over a store with these tables and this version: by the words, the status and the bytes, and by the version
     // and the tables that the store tells after and what a crash leaves then.
@@ -25,7 +26,8 @@ pub trait Session {
     // The place of the store that the words name.
     ghost place: { List (List ℕ) → List ℕ };
 
-    /// Makes the call over a keeper that isn't attached, with texts hashed under this key; returns the status, which is 5 if and only if the keeper failed.
+    /// Makes the call over a keeper that isn't attached, with texts hashed under this key. Returns the status, which is 5 if
+    /// and only if the keeper failed.
     fn hold<I: Source, K: Sink, P: Keeper, L: Ledger>(
         alloc: Global,
         key: HashKey,
