@@ -123,8 +123,9 @@ pub fn run_session<C: Session, I: Source, K: Sink, S: Start, L: Ledger>(
     ensures { C.ends words.now result (I.left source.old) (I.left source.new) (K.out sink.old) (K.out sink.new)
         (I.faults source.old) (I.faults source.new) (K.faults sink.old) (K.faults sink.new) }
 {
-    let (status, closed, unopened) =
-        run_to_close::<C, _, _, _, L>(rt, words, source, sink, start, blank);
+    let (status, closed, unopened) = run_to_close::<C, _, _, _, L>(
+        rt, words, source, sink, start, blank,
+    );
     // A close that fails loses no committed row, and changes no status.
     drop(closed);
     drop(unopened);
