@@ -1,5 +1,5 @@
 -- What a close gave, from its clauses.
-use Rattle.std.proofs.Common.{◌≡◌, ◌≢◌, ◌⊎◌, ◌↔◌, ℕ, List, Bool, true, false}
+use Rattle.std.proofs.Common.{◌≡◌, ◌≢◌, ◌⊎◌, ◌↔◌, ◌∙◌, ℕ, List, [], Bool, true, false}
 use Rattle.std.proofs.Common.{Option, Some, None, Result, Ok, Err, IsTrue, inl, inr, refl, subst}
 use Rattle.std.specs.Prelude.{IfOk, IfErr, IfSome}
 use Rattle.sqlite.specs.Files.{over_files}
@@ -30,6 +30,11 @@ running : (b : Bool) (status : ℕ) → (b ≡ true) ↔ (status ≡ 5) → stat
 running true status stopped other = absurd (other (stopped.0 refl))
 running false status stopped other = refl
 
+-- nothing was attached at first
+pub at_first : (A : Type 0) (now old named : List ℕ) → old ≡ [] → (A × (now ≡ old)) ⊎ (now ≡ named) → (A × (now ≡ [])) ⊎ (now ≡ named)
+at_first A now old named none (inl (a, stays)) = inl (a, stays ∙ none)
+at_first A now old named none (inr placed) = inr placed
+
 -- a keeper that neither failed nor was refused is closed
 neither : (status : ℕ) → status ≢ 5 → status ≢ 6 → (status ≡ 5) ⊎ (status ≡ 6) → ⊥
 neither status five six (inl is) = five is
@@ -49,9 +54,7 @@ pub differ : false ≡ true → ⊥
 differ is = let e = is in cc
 
 -- a keeper that runs and has no file open is attached nowhere, or in memory
-pub in_memory : (stopped : Bool) (status : ℕ) (now named : List ℕ) → (stopped ≡ false → IsInMemory now)
-    → (stopped ≡ true) ↔ (status ≡ 5) → status ≢ 5 → (status ≡ 2) ⊎ ((status ≡ 7) ⊎ (now ≡ named))
-    → (status ≡ 2) ⊎ ((status ≡ 7) ⊎ IsInMemory named)
-in_memory stopped status now named memory is other (inl refused) = inl refused
-in_memory stopped status now named memory is other (inr (inl out)) = inr (inl out)
-in_memory stopped status now named memory is other (inr (inr placed)) = inr (inr (subst IsInMemory placed (memory (running stopped status is other))))
+pub in_memory : (A : Type 0) (stopped : Bool) (status : ℕ) (now named : List ℕ) → (stopped ≡ false → IsInMemory now)
+    → (stopped ≡ true) ↔ (status ≡ 5) → status ≢ 5 → (A × (now ≡ [])) ⊎ (now ≡ named) → (A × (now ≡ [])) ⊎ IsInMemory named
+in_memory A stopped status now named memory is other (inl nowhere) = inl nowhere
+in_memory A stopped status now named memory is other (inr placed) = inr (subst IsInMemory placed (memory (running stopped status is other)))

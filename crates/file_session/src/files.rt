@@ -1,5 +1,5 @@
 //! The files of a store, from their open to their close.
-ghost use Rattle.std.specs.Prelude.{◌≡◌, ◌<◌, ◌⊎◌, ◌↔◌, true, false, Some, None, Ok, IfSome, is_some};
+ghost use Rattle.std.specs.Prelude.{◌≡◌, ◌<◌, ◌⊎◌, ◌↔◌, [], true, false, Some, None, Ok, IfSome, is_some};
 ghost use Rattle.std.specs.List.{All};
 ghost use Rattle.std.specs.Str.{IsUtf8};
 ghost use Rattle.keeper_file.specs.Cases.{Tells, HasVersion, IsHonest, MayLeave, IsInMemory, has_files, is_stopped, place_of};
@@ -42,7 +42,8 @@ pub fn run_on_files<'a, C: Session, I: Source, K: Sink, S: Start, L: Ledger>(
         C.ends_over words.now result.0 (I.left source.old) (I.left source.new) (K.out sink.old) (K.out sink.new)
         t (ImageHasVersion (image_at S.Start)) (HasVersion (path_files S.Start) over_files result.1.inner)
         (Tells (path_files S.Start) over_files result.1.inner) (MayLeave (path_files S.Start) over_files result.1.inner) }
-    ensures placed { (result.0 ≡ 2) ⊎ ((result.0 ≡ 7) ⊎ (place_of result.1.inner ≡ C.place words.now)) }
+    ensures placed { (((result.0 ≡ 2) ⊎ (result.0 ≡ 7)) × (place_of result.1.inner ≡ [])) ⊎ (place_of result.1.inner ≡ C.place words.now) }
+    ensures unopened { result.0 ≡ 2 → has_files result.1.inner ≡ false }
     ensures stopped { (is_stopped result.1.inner ≡ true) ↔ (result.0 ≡ 5) }
 {
     let mut steps = Steps::<L>::start(blank);
@@ -79,12 +80,13 @@ pub fn run_to_close<'a, C: Session, I: Source, K: Sink, S: Start, L: Ledger>(
     // Nothing is closed if and only if the keeper failed or the store was refused.
     ensures closes { (result.1 ≡ None) ↔ ((result.0 ≡ 5) ⊎ (result.0 ≡ 6)) }
 
-    // No file was open if and only if the keeper comes back, which has none open.
+    // No file was open if and only if the keeper comes back. It has none open, and is attached nowhere, as words are refused
+    // or it is out of memory, or the words name a place in memory.
     ensures no_file { (result.1 ≡ Some (Ok None)) ↔ (is_some result.2 ≡ true) }
     ensures unopened { IfSome result.2 (λ keeper. has_files keeper.inner ≡ false) }
-
-    // Then nothing was attached, or the words name a place in memory.
-    ensures placed { result.1 ≡ Some (Ok None) → (result.0 ≡ 2) ⊎ ((result.0 ≡ 7) ⊎ IsInMemory (C.place words.now)) }
+    ensures placed { IfSome result.2 (λ keeper.
+        (((result.0 ≡ 2) ⊎ (result.0 ≡ 7)) × (place_of keeper.inner ≡ [])) ⊎ IsInMemory (C.place words.now)) }
+    ensures refused { result.0 ≡ 2 → result.1 ≡ Some (Ok None) }
 
     // How the call ended over the tables that the files held at first, and what the close left of those that it told.
     ensures end { SessionEnd S.Start (λ t versions tells leaves.

@@ -26,8 +26,8 @@ pub trait Session {
     // The place of the store that the words name.
     ghost place: { List (List ℕ) → List ℕ };
 
-    /// Makes the call over a keeper that isn't attached, with texts hashed under this key. Returns the status, which is 5 if
-    /// and only if the keeper failed.
+    /// Makes the call over a keeper that isn't attached, with texts hashed under this key. Returns the status: 5 if and only
+    /// if the keeper failed, and 2 only if the keeper is unchanged.
     fn hold<I: Source, K: Sink, P: Keeper, L: Ledger>(
         alloc: Global,
         key: HashKey,
@@ -45,6 +45,7 @@ pub trait Session {
         ensures ends_over { (t : TableRows) → P.honest keeper.new → IsDurable (P.tells keeper.old) (P.may_leave keeper.old) t →
             ends_over words.now result (I.left source.old) (I.left source.new) (K.out sink.old) (K.out sink.new)
             t (P.has_version keeper.old) (P.has_version keeper.new) (P.tells keeper.new) (P.may_leave keeper.new) }
-        ensures placed { (result ≡ 2) ⊎ ((result ≡ 7) ⊎ (P.place keeper.new ≡ place words.now)) }
+        ensures unchanged { result ≡ 2 → keeper.new ≡ keeper.old }
+        ensures placed { (((result ≡ 2) ⊎ (result ≡ 7)) × (P.place keeper.new ≡ P.place keeper.old)) ⊎ (P.place keeper.new ≡ place words.now) }
         ensures stopped { (P.stopped keeper.new ≡ true) ↔ (result ≡ 5) };
 }

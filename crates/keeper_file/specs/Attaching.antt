@@ -28,7 +28,8 @@ module _ {A O : Type 0} (files : FilesOf O) (g : Ghosts A) where
     pub calm : is_stopped new ≡ false → faults_of new ≡ faults_of old
     pub honest : IsHonest files g new → IsHonest files g old
     pub given : IfOk result (λ given. IsHonest files g new → (s : Tables) → Tells files g old s → s ≡ given)
-    pub kept : IsHonest files g new → (s : Tables) → Tells files g old s → is_stopped new ≡ false → IsDurable (Tells files g new) (MayLeave files g new) s
+    pub kept : IsHonest files g new → (s : Tables) → Tells files g old s → is_stopped new ≡ false
+        → IsDurable (Tells files g new) (MayLeave files g new) s
     pub crash : IsHonest files g new → (s : Tables) → Tells files g old s → (x : Tables) → MayLeave files g new x → x ≡ s
     pub answered : IfOk result (λ given. IsHonest files g new → (t : Tables) → Tells files g new t → t ≡ given)
     pub version : OnOk result (IsHonest files g new → (t : Tables) → Tells files g new t → HasVersion files g new (pos 2))
@@ -40,4 +41,5 @@ module _ {A O : Type 0} (files : FilesOf O) (g : Ghosts A) where
 
   -- while no store is open after it, the keeper tells what it told before, and a crash leaves that alone
   abbrev pub SparesFiles : Inner A O g → Inner A O g → Type 0
-  SparesFiles old new = is_open new ≡ false → IsHonest files g new → (t : Tables) → Tells files g old t → IsDurable (Tells files g new) (MayLeave files g new) t
+  SparesFiles old new = is_open new ≡ false → IsHonest files g new → (t : Tables) → Tells files g old t
+      → IsDurable (Tells files g new) (MayLeave files g new) t

@@ -1,5 +1,7 @@
 -- Pages that are a whole file, as two files that stand for them: no log, and the pages in a row.
-use Rattle.std.proofs.Common.{◌≡◌, ◌↔◌, ℕ, zero, suc, ◌+◌, ◌-◌, ◌*◌, ◌/◌, ◌<◌, ◌≤◌, ◌&&◌, leb, true≢false, List, [], ◌∷◌, ◌++◌, length, take, drop, option_map, Option, Some, None, IsSome, unwrap_or, inl, inr, refl, sym, ap, subst, ◌∙◌, arith, take_at, length-append, mul-le-mul_right}
+use Rattle.std.proofs.Common.{◌≡◌, ◌↔◌, ℕ, zero, suc, ◌+◌, ◌-◌, ◌*◌, ◌/◌, ◌<◌, ◌≤◌, ◌&&◌, leb, true≢false}
+use Rattle.std.proofs.Common.{List, [], ◌∷◌, ◌++◌, length, take, drop, option_map, Option, Some, None, IsSome, unwrap_or}
+use Rattle.std.proofs.Common.{inl, inr, refl, sym, ap, subst, ◌∙◌, arith, take_at, length-append, mul-le-mul_right}
 use Rattle.std.proofs.lemmas.Bool.{cases_Bool, cond-true, cond-false, and_parts, and_from, leb-true, le-leb}
 use Rattle.std.proofs.lemmas.Nat.{div-mul-add}
 use Rattle.std.proofs.Math.Path.{fun_ext}
@@ -29,7 +31,8 @@ module _ (whole : ℕ) where
       let rest = flat_length (λ k. page (suc k)) n (λ k h. sized (suc k) (omega arith)) in
       omega (arith, length-append (page 0) (flat (λ k. page (suc k)) n), sized 0 (omega arith), rest)
 
-  flat_part : (page : ℕ → List ℕ) (n k : ℕ) → ((i : ℕ) → i < n → length (page i) ≡ whole) → k < n → part (flat page n) (k * whole) whole ≡ page k
+  flat_part : (page : ℕ → List ℕ) (n k : ℕ) → ((i : ℕ) → i < n → length (page i) ≡ whole) → k < n
+      → part (flat page n) (k * whole) whole ≡ page k
   unfolding part
   flat_part page zero k sized h = absurd (omega arith)
   flat_part page (suc n) zero sized h =
@@ -41,7 +44,8 @@ module _ (whole : ℕ) where
       ap (take whole) (drop_past (page 0) (flat (λ i. page (suc i)) n) (suc k * whole) (k * whole) past)
       ∙ flat_part (λ i. page (suc i)) n k (λ i low. sized (suc i) (omega arith)) (omega arith)
 
-module _ (size : ℕ) (pages : PageMap) (some : 0 < size) (all : AreWhole size pages) (count : ℕ) (counted : (n : ℕ) → IsSome (pages n) ↔ ((1 ≤ n) × (n ≤ count))) where
+module _ (size : ℕ) (pages : PageMap) (some : 0 < size) (all : AreWhole size pages) (count : ℕ)
+    (counted : (n : ℕ) → IsSome (pages n) ↔ ((1 ≤ n) × (n ≤ count))) where
   -- each page with its sum
   abbrev page : ℕ → List ℕ
   page k = sealed (bytes_of pages (suc k))
@@ -57,15 +61,19 @@ module _ (size : ℕ) (pages : PageMap) (some : 0 < size) (all : AreWhole size p
       let (bytes, is) = some_value (pages (suc k)) ((counted (suc k)).1 (omega arith, omega arith)) in
       length-sealed (bytes_of pages (suc k)) ∙ ap stored_size (ap (λ (o : Option (List ℕ)). length (unwrap_or o [])) is ∙ all.sized (suc k) bytes is)
 
-  at_page : (n : ℕ) → (o : Option (List ℕ)) → pages n ≡ o → IsSome o → 1 ≤ n → n ≤ count → Some (part row.db ((n - 1) * stored_size size) (stored_size size)) ≡ option_map sealed o
+  at_page : (n : ℕ) → (o : Option (List ℕ)) → pages n ≡ o → IsSome o → 1 ≤ n → n ≤ count
+      → Some (part row.db ((n - 1) * stored_size size) (stored_size size)) ≡ option_map sealed o
   at_page zero o is there low high = absurd (omega arith)
   at_page (suc k) None is there low high = absurd (let e = there in cc)
   at_page (suc k) (Some bytes) is there low high =
       let e : suc k - 1 ≡ k = omega arith in
-      ap Some (ap (λ i. part row.db (i * stored_size size) (stored_size size)) e ∙ flat_part (stored_size size) page count k sized (omega arith) ∙ ap (λ (x : Option (List ℕ)). sealed (unwrap_or x [])) is)
+      ap Some (ap (λ i. part row.db (i * stored_size size) (stored_size size)) e
+          ∙ flat_part (stored_size size) page count k sized (omega arith)
+          ∙ ap (λ (x : Option (List ℕ)). sealed (unwrap_or x [])) is)
 
   pages_count : length row.db / stored_size size ≡ count
-  pages_count = ap (λ n. n / stored_size size) (flat_length (stored_size size) page count sized ∙ (omega arith)) ∙ div-mul-add count (stored_size size) 0 (omega arith)
+  pages_count = ap (λ n. n / stored_size size) (flat_length (stored_size size) page count sized ∙ (omega arith))
+      ∙ div-mul-add count (stored_size size) 0 (omega arith)
 
   none_unless : (o : Option (List ℕ)) → ¬ IsSome o → None ≡ option_map sealed o
   none_unless None h = refl
@@ -89,7 +97,8 @@ module _ (size : ℕ) (pages : PageMap) (some : 0 < size) (all : AreWhole size p
   at_trimmed None is = refl
   at_trimmed (Some b) is = ap Some (ap (λ k. take k (sealed b)) (sym (is b refl)) ∙ take_sealed b)
 
-  is_sealed : (o : Option (List ℕ)) (b : List ℕ) → ((x : List ℕ) → o ≡ Some x → length x ≡ size) → option_map sealed o ≡ Some b → (b ≡ sealed (take size b)) × (length b ≡ stored_size size)
+  is_sealed : (o : Option (List ℕ)) (b : List ℕ) → ((x : List ℕ) → o ≡ Some x → length x ≡ size) → option_map sealed o ≡ Some b
+      → (b ≡ sealed (take size b)) × (length b ≡ stored_size size)
   is_sealed None b is e = absurd (cc)
   is_sealed (Some x) b is e =
       let here : sealed x ≡ b = cc in

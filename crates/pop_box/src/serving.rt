@@ -97,7 +97,7 @@ fn serve_box<S: Source, K: Sink, P: Keeper, L: Ledger>(
     ensures complete { IfCalm (S.faults source.old) (S.faults source.new)
         (K.faults sink.old) (K.faults sink.new) (P.faults keeper.old) (P.faults keeper.new) (IsUndisturbed result) }
     ensures statuses { (result ≤ 9) × (result ≢ 2) }
-    ensures place { (result ≡ 7) ⊎ (P.place keeper.new ≡ asked.now.place) }
+    ensures place { ((result ≡ 7) × (P.place keeper.new ≡ P.place keeper.old)) ⊎ (P.place keeper.new ≡ asked.now.place) }
 {
     match open_store(alloc, key, &asked.place, keeper) {
         Ok(engine) => serve_with(alloc, asked, source, sink, engine, steps),
@@ -144,7 +144,7 @@ pub fn serve<S: Source, K: Sink, P: Keeper, L: Ledger>(
     ensures faulty { (result ≡ 2) ⊎ ((result ≡ 7) ⊎ (faults_of pop_app words.now ≡ [])) }
     ensures nothing { result ≡ 2 →
         (keeper.new ≡ keeper.old) × ((K.out sink.new ≡ K.out sink.old) × (S.left source.new ≡ S.left source.old)) }
-    ensures place { (result ≡ 2) ⊎ ((result ≡ 7) ⊎ (P.place keeper.new ≡ pop_place_in words.now)) }
+    ensures place { (((result ≡ 2) ⊎ (result ≡ 7)) × (P.place keeper.new ≡ P.place keeper.old)) ⊎ (P.place keeper.new ≡ pop_place_in words.now) }
     ensures named { (path : Option (List ℕ)) (user name secret : List ℕ) → IsPopWorded words.now path user name secret →
         (pop_place_in words.now ≡ place_of path) × ((user_in words.now ≡ user) × ((box_in words.now ≡ name) × (secret_in words.now ≡ secret))) }
 

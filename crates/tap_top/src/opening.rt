@@ -98,7 +98,7 @@ pub fn open_store<P: Keeper>(
         (v : ℤ) → P.has_version keeper.old v → MayBeMigrated v (P.has_version keeper.new)) }
     ensures stopped { (P.stopped keeper.new ≡ true) ↔ IsErrOf result OpenFault.Keeper }
     ensures cause { IsErrOf result OpenFault.Keeper → Rose (P.faults keeper.old) (P.faults keeper.new) }
-    ensures placed { (P.place keeper.new ≡ place.now) ⊎ IsErrOf result OpenFault.Memory }
+    ensures placed { (P.place keeper.new ≡ place.now) ⊎ (IsErrOf result OpenFault.Memory × (P.place keeper.new ≡ P.place keeper.old)) }
     ensures later { P.faults keeper.old ≤ P.faults keeper.new }
     ensures calm { P.stopped keeper.new ≡ false → P.faults keeper.new ≡ P.faults keeper.old }
     ensures honest { P.honest keeper.new → P.honest keeper.old }

@@ -225,7 +225,7 @@ pub fn sample_store<K: Sink, P: Keeper, L: Ledger>(
     ensures kept_cause { result ≡ Status.KeeperFailed → Rose (P.faults keeper.old) (P.faults keeper.new) }
     ensures kept_calm { P.stopped keeper.new ≡ false → P.faults keeper.new ≡ P.faults keeper.old }
     ensures statuses { IsOfClose result ⊎ (result ≡ Status.StoreRefused) }
-    ensures place { (result ≡ Status.OutOfMemory) ⊎ (P.place keeper.new ≡ place.now) }
+    ensures place { ((result ≡ Status.OutOfMemory) × (P.place keeper.new ≡ P.place keeper.old)) ⊎ (P.place keeper.new ≡ place.now) }
 {
     match open_store(alloc, key, place, keeper) {
         Ok(mut engine) => {

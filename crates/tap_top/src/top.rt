@@ -193,7 +193,7 @@ fn run_store<S: Source, K: Sink, P: Keeper, L: Ledger>(
         IfCalm (S.faults source.old) (S.faults source.new) (K.faults sink.old) (K.faults sink.new)
         (P.faults keeper.old) (P.faults keeper.new) (IsUndisturbed (code_of result)) }
     ensures statuses { (code_of result ≤ 8) × (result ≢ Status.WordsRefused) }
-    ensures place { (result ≡ Status.OutOfMemory) ⊎ (P.place keeper.new ≡ place.now) }
+    ensures place { ((result ≡ Status.OutOfMemory) × (P.place keeper.new ≡ P.place keeper.old)) ⊎ (P.place keeper.new ≡ place.now) }
 {
     match open_store(alloc, key, place, keeper) {
         Ok(mut engine) => {
@@ -243,7 +243,7 @@ pub fn tapestry<S: Source, K: Sink, P: Keeper, L: Ledger>(
     ensures faulty { (result ≡ 2) ⊎ ((result ≡ 7) ⊎ (faults_of app words.now ≡ [])) }
     ensures nothing { result ≡ 2 →
         (keeper.new ≡ keeper.old) × ((K.out sink.new ≡ K.out sink.old) × (S.left source.new ≡ S.left source.old)) }
-    ensures place { (result ≡ 2) ⊎ ((result ≡ 7) ⊎ (P.place keeper.new ≡ place_in words.now)) }
+    ensures place { (((result ≡ 2) ⊎ (result ≡ 7)) × (P.place keeper.new ≡ P.place keeper.old)) ⊎ (P.place keeper.new ≡ place_in words.now) }
     ensures named { (path : Option (List ℕ)) (number : Option ℕ) → IsWellWorded words.now path number →
         (place_in words.now ≡ place_of path) × (sample_in words.now ≡ number) }
 

@@ -20,10 +20,10 @@ returns-then-has_files-clause-no_file g c =
     let has : has_files c.run_on_files-status.result.1.inner ≡ true = sym c.has_files.ensures.value ∙ c.if-has_files.true in
     had_file c.close.result _ c.close.ensures.none has
 
-pub returns-then-has_files-clause-placed : goal.returns-then-has_files-clause-placed
-returns-then-has_files-clause-placed g c = λ none.
+pub returns-then-has_files-clause-refused : goal.returns-then-has_files-clause-refused
+returns-then-has_files-clause-refused g c = λ refused.
     let has : has_files c.run_on_files-status.result.1.inner ≡ true = sym c.has_files.ensures.value ∙ c.if-has_files.true in
-    absurd (differ ((had_file c.close.result _ c.close.ensures.none has).0 none))
+    absurd (differ (sym (c.run_on_files-status.ensures.unopened refused) ∙ has))
 
 pub returns-then-has_files-clause-end : goal.returns-then-has_files-clause-end
 returns-then-has_files-clause-end g c = record {
@@ -38,8 +38,8 @@ pub returns-else-has_files-clause-closes : goal.returns-else-has_files-clause-cl
 returns-else-has_files-clause-closes g c = is_closed _ _ c.if-status-eq5.false c.if-status-eq6.false
 
 pub returns-else-has_files-clause-placed : goal.returns-else-has_files-clause-placed
-returns-else-has_files-clause-placed g c = λ _.
-    in_memory _ _ _ _ (c.has_files.ensures.memory c.if-has_files.false) c.run_on_files-status.ensures.stopped c.if-status-eq5.false
+returns-else-has_files-clause-placed g c =
+    in_memory _ _ _ _ _ (c.has_files.ensures.memory c.if-has_files.false) c.run_on_files-status.ensures.stopped c.if-status-eq5.false
     c.run_on_files-status.ensures.placed
 
 pub returns-else-has_files-clause-end : goal.returns-else-has_files-clause-end

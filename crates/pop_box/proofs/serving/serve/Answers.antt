@@ -1,4 +1,4 @@
-use Rattle.std.proofs.Common.{rules, ◌≡◌, ◌∙◌, refl, sym, subst, inl, inr, ℕ, List, Option}
+use Rattle.std.proofs.Common.{rules, ◌≡◌, ◌⊎◌, ◌∙◌, refl, sym, subst, inl, inr, ℕ, List, Option}
 use Rattle.command_words.specs.declared.option_fault.OptionFault.{OptionFault}
 use Rattle.command_words.specs.declared.option_fault.OptionFault.TheVariants.{Refused as RefusedWords, Memory}
 use Rattle.command_words.proofs.PopWorded.{worded-pop}
@@ -11,6 +11,15 @@ use Rattle.pop_box.proofs.serving.serve.Goals as goal
 
 not-both : (x : OptionFault) → x ≡ RefusedWords → x ≡ Memory → ⊥
 not-both x one two = cc
+
+-- the place, once the words were read
+placed-by : (status : ℕ) (now old at named : List ℕ) → at ≡ named → ((status ≡ 7) × (now ≡ old)) ⊎ (now ≡ at)
+    → (((status ≡ 2) ⊎ (status ≡ 7)) × (now ≡ old)) ⊎ (now ≡ named)
+placed-by status now old at named same (inl (out, stays)) = inl (inr out, stays)
+placed-by status now old at named same (inr placed) = inr (placed ∙ same)
+
+pub returns-clause-place : goal.returns-clause-place
+returns-clause-place g c = placed-by _ _ _ _ _ c.in-Ok.ensures.place c.serve_box.ensures.place
 
 pub returns-in-Err-Refused-clause-exact : goal.returns-in-Err-Refused-clause-exact
 returns-in-Err-Refused-clause-exact g c = λ _. c.in-Err-Refused.ensures.refused c.in-Err-Refused.field-0-is

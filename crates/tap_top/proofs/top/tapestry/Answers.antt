@@ -1,4 +1,4 @@
-use Rattle.std.proofs.Common.{rules, ◌≡◌, ◌∙◌, refl, sym, ap, subst, inl, inr, ℕ, Option, Some, None}
+use Rattle.std.proofs.Common.{rules, ◌≡◌, ◌⊎◌, ◌∙◌, refl, sym, ap, subst, inl, inr, ℕ, List, Option, Some, None}
 use Rattle.command_words.specs.declared.option_fault.OptionFault.{OptionFault}
 use Rattle.command_words.specs.declared.option_fault.OptionFault.TheVariants.{Refused as RefusedWords, Memory}
 use Rattle.command_words.specs.Words.{sample_in}
@@ -6,6 +6,8 @@ use Rattle.command_words.proofs.Worded.{worded}
 use Rattle.sample_gen.specs.Samples.{sample_of}
 use Rattle.tap_model.specs.Sound.{IsStore}
 use Rattle.tap_top.specs.Codes.{code_of}
+use Rattle.tap_top.specs.declared.status.Status.{Status}
+use Rattle.tap_top.specs.declared.status.Status.TheVariants.{OutOfMemory}
 use Rattle.tap_top.specs.Ends.{SampleEnds}
 use Rattle.tap_top.proofs.Refusals.{Refused-none, not-stopped}
 use Rattle.tap_top.proofs.Versions.{exit-words, exit-unopened}
@@ -21,6 +23,18 @@ some-is found n one two = cc
 
 same-number : (found : Option ℕ) (m n : ℕ) → found ≡ Some m → found ≡ Some n → m ≡ n
 same-number found m n one two = cc
+
+-- the place, once the words were read
+placed-by : (status : Status) (code : ℕ) (now old at named : List ℕ) → code ≡ code_of status → at ≡ named
+    → ((status ≡ OutOfMemory) × (now ≡ old)) ⊎ (now ≡ at) → (((code ≡ 2) ⊎ (code ≡ 7)) × (now ≡ old)) ⊎ (now ≡ named)
+placed-by status code now old at named is same (inl (out, stays)) = inl (inr (is ∙ ap code_of out), stays)
+placed-by status code now old at named is same (inr placed) = inr (placed ∙ same)
+
+pub returns-in-Some-clause-place : goal.returns-in-Some-clause-place
+returns-in-Some-clause-place g c = placed-by c.sample_store.result _ _ _ _ _ c.code-in-Some.ensures c.in-Ok.ensures.place c.sample_store.ensures.place
+
+pub returns-clause-place : goal.returns-clause-place
+returns-clause-place g c = placed-by c.run_store.result _ _ _ _ _ c.code-in-None.ensures c.in-Ok.ensures.place c.run_store.ensures.place
 
 pub returns-in-Err-Refused-clause-exact : goal.returns-in-Err-Refused-clause-exact
 returns-in-Err-Refused-clause-exact g c = λ _. c.in-Err-Refused.ensures.refused c.in-Err-Refused.field-0-is
