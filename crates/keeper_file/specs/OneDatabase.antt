@@ -33,7 +33,7 @@ module _ (image : Image) (a b : Trees) (p : HoldsDatabase image a) (q : HoldsDat
     | inl same ↦ same
     | inr other ↦
         let seen : ¬ (¬ IsIgnored image.log) =
-            λ read. other (sym (size_by_log p.0 image p.2.pages p.2.found read) ∙ size_by_log q.0 image q.2.pages q.2.found read) in
+        λ read. other (sym (size_by_log p.0 image p.2.pages p.2.found read) ∙ size_by_log q.0 image q.2.pages q.2.found read) in
         absurd (seen (λ ignored. other (sym (size_by_file p.0 image p.2.pages p.2.found (large p.0 p.1) p.2.ours.file.sound ignored)
         ∙ size_by_file q.0 image q.2.pages q.2.found (large q.0 q.1) q.2.ours.file.sound ignored)))
   ]
@@ -75,9 +75,9 @@ module _ (size : ℕ) (image : Image) (big : 504 ≤ size) (a b : Trees) (p : Ho
   one_at : a ≡ b
   one_at =
       let x : HoldsAt size left a =
-          record { pages = pages; wanted = p.wanted; schema = p.schema; found = found; ours = p.ours; reads = p.reads; sound = p.sound } in
+      record { pages = pages; wanted = p.wanted; schema = p.schema; found = found; ours = p.ours; reads = p.reads; sound = p.sound } in
       let y : HoldsAt size left b =
-          record { pages = pages; wanted = q.wanted; schema = q.schema; found = found; ours = ours; reads = reads; sound = q.sound } in
+      record { pages = pages; wanted = q.wanted; schema = q.schema; found = found; ours = ours; reads = reads; sound = q.sound } in
       let listed = listed_once p.schema q.schema p.wanted q.wanted _ _ (meets x) (meets y) in
       let same = same_file size p.wanted q.wanted pages (sym listed) p.ours in
       p.reads ∙ ap (λ trees. with_version trees (version_in pages)) (sym same.1) ∙ sym reads

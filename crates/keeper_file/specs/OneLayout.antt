@@ -75,13 +75,13 @@ module _ (v w : View) (schema : Schema) (p : AreShaped v schema) (q : AreShaped 
       let both : Some a.1.0 ≡ Some b.1.0 = sym a.1.1 ∙ b.1.1 in
       let owner : a.1.0 ≡ b.1.0 = cc in
       subst (λ n. layout_at v n ≡ layout_at w n) i.2
-          (ap₂ (λ x y. (x, y)) (a.0 ∙ sym b.0) (a.1.2 ∙ ap (λ (t : Table). index_reals (table_reals t) i.0.columns) owner ∙ sym b.1.2))
+      (ap₂ (λ x y. (x, y)) (a.0 ∙ sym b.0) (a.1.2 ∙ ap (λ (t : Table). index_reals (table_reals t) i.0.columns) owner ∙ sym b.1.2))
   layouts_same tree alike (inr x) =
       let a = all_has (IsViewShaped v) schema.views x.0 p.views x.1 in
       let b = all_has (IsViewShaped w) schema.views x.0 q.views x.1 in
       let alike_too = subst (λ n. unsorted (v.shape n) ≡ unsorted (w.shape n)) (sym x.2) alike in
       subst (λ n. layout_at v n ≡ layout_at w n) x.2
-          (ap₂ (λ x y. (x, y)) (sym (unsorted_plain _ a.1) ∙ alike_too ∙ unsorted_plain _ b.1) (a.0 ∙ sym b.0))
+      (ap₂ (λ x y. (x, y)) (sym (unsorted_plain _ a.1) ∙ alike_too ∙ unsorted_plain _ b.1) (a.0 ∙ sym b.0))
 
 module _ (s t : Schema) (a b : List Wanted) (rows : List Row) (roots : List Bool) (m : Meets s a rows roots) (n : Meets t b rows roots) where
   shapes_same : (at : ℕ) (d : Row) → at < length rows → shape_of m.shown (get_or rows at d) ≡ shape_of n.shown (get_or rows at d)
@@ -93,7 +93,7 @@ module _ (s t : Schema) (a b : List Wanted) (rows : List Row) (roots : List Bool
   coded_same : map (coded_by m.shown.shape) rows ≡ map (coded_by n.shown.shape) rows
   coded_same = same_map rows _ _ (λ at d low. let row = get_or rows at d in
       ap (λ code. column row 0 ∷ column row 1 ∷ column row 2 ∷ column row 3 ∷ column row 4 ∷ Int (pos code) ∷ [])
-          (codes_same _ _ (shapes_same at d low)))
+      (codes_same _ _ (shapes_same at d low)))
 
   schemas_same : s ≡ t
   schemas_same =

@@ -68,8 +68,8 @@ module _ (size : ℕ) (pages : PageMap) (some : 0 < size) (all : AreWhole size p
   at_page (suc k) (Some bytes) is there low high =
       let e : suc k - 1 ≡ k = omega arith in
       ap Some (ap (λ i. part row.db (i * stored_size size) (stored_size size)) e
-          ∙ flat_part (stored_size size) page count k sized (omega arith)
-          ∙ ap (λ (x : Option (List ℕ)). sealed (unwrap_or x [])) is)
+      ∙ flat_part (stored_size size) page count k sized (omega arith)
+      ∙ ap (λ (x : Option (List ℕ)). sealed (unwrap_or x [])) is)
 
   pages_count : length row.db / stored_size size ≡ count
   pages_count = ap (λ n. n / stored_size size) (flat_length (stored_size size) page count sized ∙ (omega arith))
