@@ -1,5 +1,5 @@
 -- An engine that was started over the tables that a keeper gave.
-use Rattle.std.proofs.Common.{◌≤◌, length, ◌≡◌, ◌∙◌, sym, ap, subst, refl, inl, inr, ℤ, pos, true, Option, Some, None, Result, Ok, Err, if◌then◌else◌}
+use Rattle.std.proofs.Common.{◌≤◌, length, ◌≡◌, ◌∙◌, sym, ap, subst, refl, inl, inr, ℤ, pos, true, Some, None, Result, Ok, Err, if◌then◌else◌}
 use Rattle.std.specs.Prelude.{◌⊎◌, IfOk, OnOk}
 use Rattle.keeper_core.specs.Stored.{is_known}
 use Rattle.tap_rows.specs.declared.tables.Tables.{Tables}
@@ -9,7 +9,6 @@ use Rattle.restart_core.proofs.DamageLaws as damages
 use Rattle.tap_engine.specs.declared.engine.Engine.{Engine}
 use Rattle.tap_engine.specs.Standing.{Represents}
 use Rattle.tap_engine.proofs.FormedLaws.{formed}
-use Rattle.tap_top.specs.declared.store_fault.StoreFault.{StoreFault}
 use Rattle.tap_top.specs.declared.store_fault.StoreFault.TheVariants.{Version}
 use Rattle.tap_top.specs.Refusals.{row_fault, fault_of}
 use Rattle.tap_top.specs.Opened.{HasShortTexts}

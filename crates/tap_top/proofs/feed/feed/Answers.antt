@@ -1,4 +1,4 @@
-use Rattle.std.proofs.Common.{◌≡◌, ◌∙◌, refl, Err, ap, sym, subst}
+use Rattle.std.proofs.Common.{◌∙◌, refl, Err, ap, sym, subst}
 use Rattle.keeper_core.specs.Keeping.{IsDurable}
 use Rattle.tap_top.specs.Points.{EngineMatchesKeeper}
 use Rattle.tap_top.proofs.Steps.{Feeding-start, Feeding-more, Feeding-cut, Feeding-uncommitted, Feeding-short, KeeperFrame-start, KeeperFrame-then}
