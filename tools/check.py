@@ -11,7 +11,8 @@
 A library is proved once for each text of its files and of what it stands on, into a folder of the user's cache, where any checkout
 finds it. A change of a proof alone gives the same library, so the crates above aren't built again. LENDER=FOLDER names a checkout
 in which `rt ci` runs: its libraries are taken if their files are the same, also those that it builds now. At most LANES processes of
-the compiler run at a time (4 if it isn't set), each with JOBS jobs (2)."""
+the compiler run at a time (4 if it isn't set), each with JOBS jobs (2). PLANT_SECONDS is the longest that one check of plants may take (the
+kit's limit is 240, which passes on a busy machine)."""
 import fcntl
 import functools
 import hashlib
@@ -251,6 +252,7 @@ def plant(name, flags):
     kit = types.ModuleType("rt_plant")
     kit.__file__ = f"{KIT}/bin/rt-plant"
     importlib.machinery.SourceFileLoader("rt_plant", kit.__file__).exec_module(kit)
+    kit.SECONDS = int(os.environ.get("PLANT_SECONDS", kit.SECONDS))
     for used in below(name):
         folder = f"{TOP}/crates/{used}/out/rlib"
         os.makedirs(folder, exist_ok=True)
