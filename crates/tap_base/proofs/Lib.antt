@@ -5,3 +5,4 @@ pub mod Digits
 pub mod Forms
 pub mod WordLaws
 pub mod ShortLaws
+mod PackedLaws

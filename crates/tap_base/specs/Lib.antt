@@ -5,4 +5,6 @@ pub mod Numbers
 pub mod Words
 pub mod LineWords
 pub mod Laws
+pub mod Ledgers
 pub mod Stores
+pub mod Packed

@@ -3,7 +3,7 @@ ghost use Rattle.std.specs.Prelude.{◌≡◌, ◌++◌, ◌∷◌, ◌<◌, ◌
 ghost use Rattle.tap_base.specs.Words.{holds};
 ghost use Rattle.std.specs.Option.{option_copied};
 
-use crate::{Memory, Text};
+use crate::{Memory, Rows, SharedText, Text};
 use std::alloc::Global;
 use std::marker::Model;
 
@@ -89,6 +89,18 @@ impl Texts {
         ensures { self.new ≡ take len self.old }
     {
         self.items.truncate(len);
+    }
+
+    /// Returns the texts, each with one owner so far. No byte is copied. Fails with `Memory` when out of memory.
+    pub fn into_shared(self, alloc: Global) -> Result<Rows<SharedText>, Memory>
+        ensures { IfOk result (λ shared. shared ≡ self) }
+    {
+        let Texts { items } = self;
+        let mut shared = Vec::with_capacity(alloc, items.len())?;
+        for text in items {
+            shared.push(SharedText::of(alloc, text)?)?;
+        }
+        Ok(Rows::from_vec(shared))
     }
 
     /// Returns a copy of all texts. Fails with `Memory` when out of memory.

@@ -6,6 +6,5 @@ pub mod UnionLaws
 pub mod RunLaws
 pub mod LaterLaws
 pub mod PlaceLaws
-mod PackedLaws
 pub mod KeptLaws
 pub mod FitsLaws

@@ -4,7 +4,6 @@ pub mod Headers
 pub mod Entries
 pub mod Dates
 pub mod Fields
-pub mod Packed
 pub mod Seconds
 pub mod Results
 pub mod Deliveries

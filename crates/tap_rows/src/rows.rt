@@ -1,13 +1,13 @@
 //! The rows of the tables.
-use tap_base::{DocNum, NoteNum, QueryNum, Text};
+use tap_base::{DocNum, NoteNum, QueryNum, SharedText, Text};
 
 /// A stored document. A number is a row's place in its table, from 1; an arrival is in seconds since 1970-01-01T00:00:00Z, as
-/// every moment of a row.
+/// every moment of a row. Copies of a row share its text.
 #[derive(Drop)]
 pub struct Doc {
     pub num: DocNum,
     pub arrival: i64,
-    pub text: Text,
+    pub text: SharedText,
 }
 
 /// A note of an author on a document, of a kind, with a value.

@@ -11,8 +11,7 @@ use crate::row_ref::fields;
 use crate::values::value;
 use crate::{Atom, Env, ListField, NumExpr, NumField, RowRef, TextExpr, TextField, Var};
 use std::cmp::Ordering;
-use tap_base::{Op, Text};
-use tap_rows::PackedTexts;
+use tap_base::{Op, PackedTexts, Text};
 
 /// Returns whether the comparison of the two numbers holds.
 pub fn compares(op: Op, x: i128, y: i128) -> bool

@@ -1,6 +1,6 @@
 use Rattle.std.proofs.Common.{rules}
-use Rattle.tap_rows.proofs.PackedLaws.{pieces-behind, totals-behind}
-use Rattle.tap_rows.proofs.packed_texts.PackedTexts.push.Goals as goal
+use Rattle.tap_base.proofs.PackedLaws.{pieces-behind, totals-behind}
+use Rattle.tap_base.proofs.packed_texts.PackedTexts.push.Goals as goal
 
 pub invariant_of-self-2 : goal.invariant_of-self-2
 invariant_of-self-2 c =

@@ -1,6 +1,6 @@
 use Rattle.std.proofs.Common.{rules}
-use Rattle.tap_rows.proofs.PackedLaws.{pieces-count}
-use Rattle.tap_rows.proofs.packed_texts.PackedTexts.len.Goals as goal
+use Rattle.tap_base.proofs.PackedLaws.{pieces-count}
+use Rattle.tap_base.proofs.packed_texts.PackedTexts.len.Goals as goal
 
 pub returns : goal.returns
 returns c =

@@ -1,7 +1,7 @@
 -- A text behind others in some bytes.
 use Rattle.std.proofs.Common.{◌≡◌, ◌∙◌, sym, ap, refl, arith, ℕ, suc, ◌+◌, ◌-◌, ◌≤◌, List, [], ◌∷◌, ◌++◌, length, take, drop}
 use Rattle.std.proofs.lemmas.List.{take_all, take-append-le, drop-append-le, length-drop, length-append}
-use Rattle.tap_rows.specs.Packed.{pieces, total}
+use Rattle.tap_base.specs.Packed.{pieces, total}
 
 -- nothing has the length of an empty list
 none-long : (bytes : List ℕ) → 0 ≡ length bytes → bytes ≡ []

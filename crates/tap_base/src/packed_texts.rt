@@ -1,10 +1,10 @@
 //! A list of texts that takes little memory.
 ghost use Rattle.std.specs.Prelude.{◌≡◌, ◌++◌, ◌∷◌, [], IfOk, OnOk, OnErr, None, length, option_to_list, option_copied};
-ghost use Rattle.tap_rows.specs.Packed.{pieces, total};
+ghost use Rattle.tap_base.specs.Packed.{pieces, total};
 
+use crate::Memory;
 use std::alloc::Global;
 use std::marker::Model;
-use tap_base::{Memory, Text, Texts};
 
 // The longest text that fits a list.
 const LONGEST: usize = 4_294_967_295;
@@ -18,7 +18,7 @@ pub struct PackedTexts {
 
 impl Model for PackedTexts {
     ghost use Rattle.std.specs.Prelude.{ℕ, List, ◌≡◌, length};
-    ghost use Rattle.tap_rows.specs.Packed.{pieces, total};
+    ghost use Rattle.tap_base.specs.Packed.{pieces, total};
 
     ghost Value = { List (List ℕ) };
 
@@ -36,22 +36,13 @@ pub struct PackedWalk<'a> {
 
 impl<'a> Model for PackedWalk<'a> {
     ghost use Rattle.std.specs.Prelude.{ℕ, List, ◌≡◌, length};
-    ghost use Rattle.tap_rows.specs.Packed.{pieces, total};
+    ghost use Rattle.tap_base.specs.Packed.{pieces, total};
 
     ghost Value = { List (List ℕ) };
 
     ghost view = { λ w. pieces w.lens.now w.bytes.now };
 
     ghost invariant = { λ w. total w.lens.now ≡ length w.bytes.now };
-}
-
-// Returns how many bytes the texts have in all, for which room is taken at once.
-fn bytes_in(texts: &[Text]) -> usize {
-    let mut bytes: usize = 0;
-    for text in texts {
-        bytes = bytes.saturating_add(text.len());
-    }
-    bytes
 }
 
 impl PackedTexts {
@@ -66,7 +57,7 @@ impl PackedTexts {
     }
 
     // Returns the empty list, with room for so many texts and for so many bytes. Fails with `Memory` when out of memory.
-    fn with_room(alloc: Global, lens: usize, bytes: usize) -> Result<PackedTexts, Memory>
+    pub(crate) fn with_room(alloc: Global, lens: usize, bytes: usize) -> Result<PackedTexts, Memory>
         ensures { IfOk result (λ packed. packed ≡ []) }
     {
         let lens = Vec::with_capacity(alloc, lens)?;
@@ -75,7 +66,7 @@ impl PackedTexts {
     }
 
     // Appends a text. The list is unchanged if this fails, which it does when out of memory, and for a text of 4 GiB or more.
-    fn push(&mut self, text: &[u8]) -> Result<(), Memory>
+    pub(crate) fn push(&mut self, text: &[u8]) -> Result<(), Memory>
         ensures ok { OnOk result (self.new ≡ self.old ++ text.now ∷ []) }
         ensures err { OnErr result (self.new ≡ self.old) }
     {
@@ -87,17 +78,6 @@ impl PackedTexts {
         self.bytes.extend_from_slice(text)?;
         self.lens.push(text.len() as u32)?;
         Ok(())
-    }
-
-    /// Returns these texts. Fails with `Memory` when out of memory, and for a text of 4 GiB or more.
-    pub fn of(alloc: Global, texts: &Texts) -> Result<PackedTexts, Memory>
-        ensures { IfOk result (λ packed. packed ≡ texts.now) }
-    {
-        let mut packed = PackedTexts::with_room(alloc, texts.len(), bytes_in(texts.as_slice()))?;
-        for text in texts.as_slice() {
-            packed.push(text.as_slice())?;
-        }
-        Ok(packed)
     }
 
     /// Returns how many texts there are.
