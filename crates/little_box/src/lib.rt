@@ -64,6 +64,14 @@ impl LittleBox {
         }
     }
 
+    /// Makes room for `more` more entries. `Memory` comes if memory runs out.
+    pub fn reserve(&mut self, more: usize) -> Result<(), Memory>
+        ensures { self.new ≡ self.old }
+    {
+        self.entries.reserve(more)?;
+        Ok(())
+    }
+
     /// Appends an entry. `Memory` comes if memory runs out, and then nothing has changed.
     pub fn add(&mut self, entry: Entry) -> Result<(), Memory>
         requires unseen { is_in entry.doc.0 self.old ≡ false }

@@ -9,8 +9,7 @@ use crate::places::{drop_place, put_place};
 use indexmap::IndexMap;
 use std::alloc::Global;
 use std::marker::Model;
-use tap_base::{HashKey, Memory, Text, TextBytes};
-use tap_rows::PackedTexts;
+use tap_base::{HashKey, Memory, PackedTexts, Text, TextBytes};
 
 /// The places under each text, in order.
 #[derive(Drop)]

@@ -236,6 +236,15 @@ impl RowIndex {
         &self.notes
     }
 
+    /// Takes room for so many more documents and notes at once. `Memory` comes if memory runs out.
+    pub fn reserve(&mut self, docs: usize, notes: usize) -> Result<(), Memory>
+        ensures { self.new ≡ self.old }
+    {
+        self.docs.reserve(docs)?;
+        self.notes.reserve(notes)?;
+        Ok(())
+    }
+
     /// Appends a document. `Memory` comes if memory runs out, and then nothing has changed.
     pub fn add_doc(&mut self, doc: KeptDoc) -> Result<(), Memory>
         requires number { doc.num.0 ≡ length self.old.docs + 1 }
