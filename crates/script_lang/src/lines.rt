@@ -23,94 +23,92 @@ pub trait RowLine {
     // The line, with its LF.
     ghost line: { Self → List ℕ };
 
-    /// Returns the line that shows the row.
-    fn show(&self) -> ArrayVec<u8, 512>
-        ensures { result.items ≡ line self.now };
+    /// Writes the line that shows the row into a buffer, in place of what it holds.
+    fn show(&self, buffer: &mut ArrayVec<u8, 512>)
+        ensures { buffer.new.items ≡ line self.now };
 }
 
 impl RowLine for Hit {
     ghost line = { hit_line };
 
-    fn show(&self) -> ArrayVec<u8, 512>
-        ensures { result.items ≡ hit_line self.now }
+    fn show(&self, buffer: &mut ArrayVec<u8, 512>)
+        ensures { buffer.new.items ≡ hit_line self.now }
     {
-        let mut buffer = ArrayVec::new();
-        push_bytes(&mut buffer, b"doc ");
-        push_number(&mut buffer, self.doc.0);
-        push_bytes(&mut buffer, b" first ");
-        push_number(&mut buffer, self.first);
-        push_bytes(&mut buffer, b"\n");
-        buffer
+        buffer.clear();
+        push_bytes(buffer, b"doc ");
+        push_number(buffer, self.doc.0);
+        push_bytes(buffer, b" first ");
+        push_number(buffer, self.first);
+        push_bytes(buffer, b"\n");
     }
 }
 
-// Returns the text of an entry, without an LF.
-fn entry_buffer(entry: &Entry) -> ArrayVec<u8, 512>
-    ensures bytes { result.items ≡ entry_text entry.now }
-    ensures short { array_vec_len result ≤ 140 }
+// Writes the text of an entry, without an LF, into a buffer, in place of what it holds.
+fn show_entry(entry: &Entry, buffer: &mut ArrayVec<u8, 512>)
+    ensures bytes { buffer.new.items ≡ entry_text entry.now }
+    ensures short { array_vec_len buffer.new ≤ 140 }
 {
-    let mut buffer = ArrayVec::new();
-    push_bytes(&mut buffer, b"doc ");
-    push_number(&mut buffer, entry.doc.0);
-    push_bytes(&mut buffer, b" first ");
-    push_number(&mut buffer, entry.first);
-    push_bytes(&mut buffer, b" run ");
-    push_number(&mut buffer, entry.run);
-    buffer
+    buffer.clear();
+    push_bytes(buffer, b"doc ");
+    push_number(buffer, entry.doc.0);
+    push_bytes(buffer, b" first ");
+    push_number(buffer, entry.first);
+    push_bytes(buffer, b" run ");
+    push_number(buffer, entry.run);
 }
 
 impl RowLine for Entry {
     ghost line = { entry_line };
 
-    fn show(&self) -> ArrayVec<u8, 512>
-        ensures { result.items ≡ entry_line self.now }
+    fn show(&self, buffer: &mut ArrayVec<u8, 512>)
+        ensures { buffer.new.items ≡ entry_line self.now }
     {
-        let mut buffer = entry_buffer(self);
-        push_bytes(&mut buffer, b"\n");
-        buffer
+        show_entry(self, buffer);
+        push_bytes(buffer, b"\n");
     }
 }
 
 impl RowLine for DocNum {
     ghost line = { doc_line };
 
-    fn show(&self) -> ArrayVec<u8, 512>
-        ensures { result.items ≡ doc_line self.now }
+    fn show(&self, buffer: &mut ArrayVec<u8, 512>)
+        ensures { buffer.new.items ≡ doc_line self.now }
     {
-        number_line(b"doc ", self.0)
+        buffer.clear();
+        push_bytes(buffer, b"doc ");
+        push_number(buffer, self.0);
+        push_bytes(buffer, b"\n");
     }
 }
 
 impl RowLine for Score {
     ghost line = { score_line };
 
-    fn show(&self) -> ArrayVec<u8, 512>
-        ensures { result.items ≡ score_line self.now }
+    fn show(&self, buffer: &mut ArrayVec<u8, 512>)
+        ensures { buffer.new.items ≡ score_line self.now }
     {
-        let mut buffer = ArrayVec::new();
-        push_bytes(&mut buffer, b"doc ");
-        push_number(&mut buffer, self.doc.0);
-        push_bytes(&mut buffer, b" voters ");
-        push_number(&mut buffer, self.voters);
-        push_bytes(&mut buffer, b" sum ");
-        push_number(&mut buffer, self.sum);
-        push_bytes(&mut buffer, b"\n");
-        buffer
+        buffer.clear();
+        push_bytes(buffer, b"doc ");
+        push_number(buffer, self.doc.0);
+        push_bytes(buffer, b" voters ");
+        push_number(buffer, self.voters);
+        push_bytes(buffer, b" sum ");
+        push_number(buffer, self.sum);
+        push_bytes(buffer, b"\n");
     }
 }
 
-/// Returns the line of a listed document.
-pub fn listed(row: &Listed) -> ArrayVec<u8, 512>
+/// Writes the line of a listed document into a buffer, in place of what it holds.
+pub fn show_listed(row: &Listed, buffer: &mut ArrayVec<u8, 512>)
     requires { IsShort row.now.class }
-    ensures { result.items ≡ listed_line row.now }
+    ensures { buffer.new.items ≡ listed_line row.now }
 {
-    let mut buffer = entry_buffer(&row.entry);
-    push_bytes(&mut buffer, b" priority ");
-    push_number(&mut buffer, row.priority);
-    push_bytes(&mut buffer, b" class ");
-    push_bytes(&mut buffer, row.class.as_slice());
-    push_bytes(&mut buffer, b"\n");
-    buffer
+    show_entry(&row.entry, buffer);
+    push_bytes(buffer, b" priority ");
+    push_number(buffer, row.priority);
+    push_bytes(buffer, b" class ");
+    push_bytes(buffer, row.class.as_slice());
+    push_bytes(buffer, b"\n");
 }
 
 // Returns the line of a fault of tokens.

@@ -148,11 +148,10 @@ fn texts_until(alloc: Global, call: u64) -> Result<Text, Memory> {
 
 #[test]
 fn short_lines_are_one_put(rt: HostRuntime) -> Result<(), Fail> {
-    let rows: [(u64, &[u8]); 3] = [
+    let rows: [(u64, &[u8]); 2] = [
         (0, b""),
-        (1, b"ok 2 box \n"),
         (
-            2,
+            1,
             b"ok 2 box \ndoc 1 first 100 run 1\ndoc 20 first 110 run 2\n",
         ),
     ];
