@@ -3,7 +3,7 @@
 ghost use Rattle.std.specs.Prelude.{◌≡◌, ◌<◌, length, Option};
 ghost use Rattle.tql_core.specs.Trees.{tree_at};
 ghost use Rattle.time_marks.specs.Marks.{guards_of};
-ghost use Rattle.access_plan.specs.Accesses.{first_some, is_other, guard_access, near_access, inner_access};
+ghost use Rattle.access_plan.specs.Accesses.{first_some, is_other, guard_access, near_access, inner_access, is_of_times, compares_times, behind_times};
 ghost use Rattle.access_plan.specs.Views.{access_at, option_access};
 
 use crate::access_ref::whole;
@@ -11,7 +11,7 @@ use crate::guards::guard_access;
 use crate::kind::near_kinds;
 use crate::{AccessRef, Kind, Known};
 use node_pool::{NodeId, Pool};
-use tql_core::{TNode, Var, node_at};
+use tql_core::{Atom, TNode, Var, node_at};
 use tql_tree::Table;
 
 // Returns the access of this kind that the first such guard of the condition at the number gives.
@@ -47,13 +47,47 @@ fn inner_index<'a>(
     None
 }
 
+// Returns whether a guard compares times.
+fn is_of_times(guard: &Atom) -> bool
+    ensures { result ≡ is_of_times guard.now }
+{
+    match guard {
+        Atom::Times(_, _, _) => true,
+        _ => false,
+    }
+}
+
+// Returns whether the condition at the number compares times.
+fn compares_times(pool: &Pool<TNode>, id: NodeId) -> bool
+    requires { id.0 < length pool.now }
+    ensures { result ≡ compares_times (tree_at pool.now id.0) }
+{
+    match node_at(pool, id) {
+        TNode::Plain(guard) => is_of_times(guard),
+        _ => false,
+    }
+}
+
+// Returns the second part of a conjunction whose first part compares times, else the condition itself. Such a guard gives no
+// access, and the condition of a rewritten EXISTS begins with one: without it each kind of access is tried once, not twice.
+fn behind_times(pool: &Pool<TNode>, id: NodeId) -> NodeId
+    requires { id.0 < length pool.now }
+    ensures node { result.0 < length pool.now }
+    ensures condition { tree_at pool.now result.0 ≡ behind_times (tree_at pool.now id.0) }
+{
+    match node_at(pool, id) {
+        TNode::All(l, r) => { if compares_times(pool, *l) { *r } else { id } }
+        _ => id,
+    }
+}
+
 /// Returns the access to the rows of an EXISTS whose inner condition is at the number: by the index if a guard of the inner
 /// condition gives one, else all rows of the table. The rows of all other variables are known there. It takes no memory.
 pub fn inner_access<'a>(pool: &'a Pool<TNode>, id: NodeId, var: Var, table: Table) -> AccessRef<'a>
     requires { id.0 < length pool.now }
     ensures { access_at result ≡ inner_access var table (tree_at pool.now id.0) }
 {
-    match inner_index(pool, id, var, table) {
+    match inner_index(pool, behind_times(pool, id), var, table) {
         None => whole(table),
         Some(access) => access,
     }

@@ -1,7 +1,9 @@
 -- The window query of a condition.
-use Rattle.std.specs.Prelude.{ℤ, Bool, not, List, map}
+use Rattle.std.specs.Prelude.{◌≡◌, ℤ, pos, ◌≤ℤ◌, Bool, true, not, List, map}
 use Rattle.std.specs.List.{filter}
+use Rattle.tql_core.specs.Bounds.{are_bounded}
 use Rattle.tql_core.specs.Condition.{Condition}
+use Rattle.tql_core.specs.Scope.{IsQuery}
 use Rattle.time_marks.specs.declared.mark.Mark.{Mark}
 use Rattle.time_marks.specs.Marks.{rising_from, body}
 use Rattle.time_marks.specs.Probes.{Probe}
@@ -26,3 +28,14 @@ unfolded c a = map (probe_of c) (rising_from c a)
 -- the window query: folded, and without the probes whose body folded to false
 abbrev pub window : Condition → ℤ → List Probe
 window c a = filter can_find (map fold_probe (unfolded c a))
+
+-- the condition is a query as typing gives it: it names no variable but m and those that its EXISTS bind, and its times are bounded
+pub record CanRewrite (c : Condition) : Type 0 where
+  pub scoped : IsQuery c
+  pub bounded : are_bounded c ≡ true
+
+-- the condition can be rewritten for the seconds from the start on, which is a moment
+pub record CanRewriteFrom (c : Condition) (start : ℤ) : Type 0 where
+  pub query : CanRewrite c
+  pub from_zero : pos 0 ≤ℤ start
+  pub to_last : start ≤ℤ pos 250000000000

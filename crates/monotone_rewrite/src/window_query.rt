@@ -1,15 +1,14 @@
 //! The window query of a condition: a probe for each rising mark.
 
-ghost use Rattle.std.specs.Prelude.{◌≡◌, ◌<◌, pos, ◌≤ℤ◌, [], ◌∷◌, ◌++◌, IfOk, OnOk, not, true, length};
+ghost use Rattle.std.specs.Prelude.{◌≡◌, ◌<◌, pos, [], ◌∷◌, ◌++◌, IfOk, OnOk, not, true, length};
 ghost use Rattle.std.specs.List.{filter};
-ghost use Rattle.tql_core.specs.Bounds.{are_bounded, is_bounded};
+ghost use Rattle.tql_core.specs.Bounds.{is_bounded};
 ghost use Rattle.tql_core.specs.Condition.{condition};
-ghost use Rattle.tql_core.specs.Scope.{IsQuery};
 ghost use Rattle.tql_core.specs.Trees.{tree_at};
 ghost use Rattle.time_marks.specs.Kept.{are_kept};
 ghost use Rattle.time_marks.specs.Views.{probes_in, probes_of};
 ghost use Rattle.monotone_rewrite.specs.Folding.{known, is_no};
-ghost use Rattle.monotone_rewrite.specs.Query.{can_find, fold_probe, probe_of, window};
+ghost use Rattle.monotone_rewrite.specs.Query.{can_find, fold_probe, probe_of, window, CanRewrite, CanRewriteFrom};
 ghost use Rattle.monotone_rewrite.specs.Laws.{IsUnionOf, AreProbes};
 
 use crate::folded::folded_body;
@@ -76,10 +75,7 @@ fn add_probe(
 
 // Returns the window query of the condition.
 fn window_query(alloc: Global, cond: &Cond, start: i64) -> Result<WindowQuery, Memory>
-    requires scoped { IsQuery (condition cond.now) }
-    requires bounded { are_bounded (condition cond.now) ≡ true }
-    requires start { start ≤ℤ pos 250000000000 }
-    requires from_zero { pos 0 ≤ℤ start }
+    requires { CanRewriteFrom (condition cond.now) start }
     ensures { IfOk result (λ query. probes_of query ≡ window (condition cond.now) start) }
 {
     let marks = rising_from(alloc, cond, start)?;
@@ -98,10 +94,7 @@ fn window_query(alloc: Global, cond: &Cond, start: i64) -> Result<WindowQuery, M
 /// gives them. Times are in seconds since 1970-01-01T00:00:00Z. `Memory` comes if memory runs out or the bodies have
 /// more than 4,294,967,295 nodes.
 pub fn monotone_from(alloc: Global, cond: &Cond, start: i64) -> Result<WindowQuery, Memory>
-    requires scoped { IsQuery (condition cond.now) }
-    requires bounded { are_bounded (condition cond.now) ≡ true }
-    requires from_zero { pos 0 ≤ℤ start }
-    requires start { start ≤ℤ pos 250000000000 }
+    requires { CanRewriteFrom (condition cond.now) start }
     ensures is_window { IfOk result (λ query. probes_of query ≡ window (condition cond.now) start) }
     ensures is_union { IfOk result (λ query. IsUnionOf (condition cond.now) start (probes_of query)) }
     ensures scopes { IfOk result (λ query. AreProbes (probes_of query)) }
@@ -112,8 +105,7 @@ pub fn monotone_from(alloc: Global, cond: &Cond, start: i64) -> Result<WindowQue
 
 /// Returns the window query of a condition for all seconds from 0. `Memory` comes as in `monotone_from`.
 pub fn monotone(alloc: Global, cond: &Cond) -> Result<WindowQuery, Memory>
-    requires scoped { IsQuery (condition cond.now) }
-    requires bounded { are_bounded (condition cond.now) ≡ true }
+    requires { CanRewrite (condition cond.now) }
     ensures is_window { IfOk result (λ query. probes_of query ≡ window (condition cond.now) (pos 0)) }
     ensures is_union { IfOk result (λ query. IsUnionOf (condition cond.now) (pos 0) (probes_of query)) }
     ensures scopes { IfOk result (λ query. AreProbes (probes_of query)) }

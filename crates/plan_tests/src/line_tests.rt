@@ -1,6 +1,6 @@
 //! Tests of the lines of window queries.
 
-ghost use Rattle.std.specs.Prelude.{◌≡◌, ◌≤ℤ◌, IfOk, pos, true, codes};
+ghost use Rattle.std.specs.Prelude.{◌≡◌, IfOk, pos, codes};
 ghost use Rattle.tap_base.specs.declared.numbers.Op.TheVariants.{Eq};
 ghost use Rattle.tql_tree.specs.declared.table.Table.TheVariants.{Notes};
 ghost use Rattle.tql_core.specs.declared.term.Base.TheVariants as B;
@@ -9,9 +9,8 @@ ghost use Rattle.tql_core.specs.declared.atom.NumExpr.TheVariants.{Field};
 ghost use Rattle.tql_core.specs.declared.atom.ListField.TheVariants.{Words};
 ghost use Rattle.tql_core.specs.declared.atom.TextExpr.TheVariants as X;
 ghost use Rattle.tql_core.specs.declared.atom.Atom.TheVariants.{Numbers, Has};
-ghost use Rattle.tql_core.specs.Bounds.{are_bounded};
 ghost use Rattle.tql_core.specs.Condition.{condition, Plain, All, Not, Exists, NowAtLeast, NowBefore};
-ghost use Rattle.tql_core.specs.Scope.{IsQuery};
+ghost use Rattle.monotone_rewrite.specs.Query.{CanRewriteFrom};
 
 use crate::conditions::{arrival, both, for_no_note};
 use incremental_rewrite::{incremental, render};
@@ -23,20 +22,14 @@ use tql_core::{Atom, Base, Cond, ListField, NumExpr, NumField, Term, TextExpr, V
 
 // Returns the window query of a condition for the seconds from the start on.
 fn rewritten(alloc: Global, cond: &Cond, start: i64) -> Result<RangedQuery, Memory>
-    requires scoped { IsQuery (condition cond.now) }
-    requires bounded { are_bounded (condition cond.now) ≡ true }
-    requires from_zero { pos 0 ≤ℤ start }
-    requires start { start ≤ℤ pos 250000000000 }
+    requires { CanRewriteFrom (condition cond.now) start }
 {
     incremental(alloc, monotone_from(alloc, cond, start)?)
 }
 
 // Returns the lines of a condition for the seconds from the start on.
 fn explained(alloc: Global, cond: Cond, start: i64) -> Result<Texts, Memory>
-    requires scoped { IsQuery (condition cond) }
-    requires bounded { are_bounded (condition cond) ≡ true }
-    requires from_zero { pos 0 ≤ℤ start }
-    requires start { start ≤ℤ pos 250000000000 }
+    requires { CanRewriteFrom (condition cond) start }
 {
     let ranged = rewritten(alloc, &cond, start);
     drop(cond);

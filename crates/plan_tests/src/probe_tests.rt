@@ -1,15 +1,14 @@
 //! Tests of window queries.
 
-ghost use Rattle.std.specs.Prelude.{◌≡◌, IfOk, pos, true};
+ghost use Rattle.std.specs.Prelude.{◌≡◌, IfOk, pos};
 ghost use Rattle.tap_base.specs.declared.numbers.Op.TheVariants.{Eq};
 ghost use Rattle.tql_tree.specs.declared.table.Table.TheVariants.{Docs, Notes};
 ghost use Rattle.tql_core.specs.declared.atom.TextField.TheVariants.{MsgId, InReplyTo};
 ghost use Rattle.tql_core.specs.declared.atom.TextExpr.TheVariants.{Field};
 ghost use Rattle.tql_core.specs.declared.atom.Atom.TheVariants.{Texts};
 ghost use Rattle.tql_core.specs.declared.term.Base.TheVariants.{Arrival};
-ghost use Rattle.tql_core.specs.Bounds.{are_bounded};
-ghost use Rattle.tql_core.specs.Scope.{IsQuery};
 ghost use Rattle.tql_core.specs.Condition.{condition, Not, Exists, Plain, NowBefore, Always, Never, All};
+ghost use Rattle.monotone_rewrite.specs.Query.{CanRewrite};
 
 use crate::conditions::{arrival, both, for_no_note, not};
 use monotone_rewrite::monotone;
@@ -37,8 +36,7 @@ fn never(alloc: Global) -> Result<Cond, Memory>
 
 // Returns the window query of a condition.
 fn rewritten(alloc: Global, cond: Cond) -> Result<WindowQuery, Memory>
-    requires scoped { IsQuery (condition cond) }
-    requires bounded { are_bounded (condition cond) ≡ true }
+    requires { CanRewrite (condition cond) }
 {
     let query = monotone(alloc, &cond);
     drop(cond);

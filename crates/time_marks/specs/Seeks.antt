@@ -3,13 +3,13 @@ use Rattle.std.specs.Prelude.{◌≡◌, ℤ, pos, ◌+ℤ◌, neg_ℤ, Bool, tr
 use Rattle.tql_core.specs.declared.term.Base.{Base}
 use Rattle.tql_core.specs.declared.term.Base.TheVariants as B
 use Rattle.tql_core.specs.declared.term.Term.{Term}
-use Rattle.tql_core.specs.Bounds.{is_bounded}
+use Rattle.tql_core.specs.Bounds.{is_bounded, is_near}
 use Rattle.tql_core.specs.Row.{arrival, date}
 use Rattle.tql_core.specs.Values.{Env, lookup, on_row, round_up_to_day, value}
 use Rattle.time_marks.specs.declared.seek.Seek.{Seek}
 use Rattle.time_marks.specs.declared.seek.Seek.TheVariants.{Arrived, Dated, Fixed, ArrivedDay, DatedDay}
 use Rattle.time_marks.specs.declared.window.Window.{Window}
-use Rattle.time_marks.specs.Windows.{is_within, moved, days_window}
+use Rattle.time_marks.specs.Windows.{is_within, moved, days_window, WindowFits}
 
 -- the seek of a mark with this base
 abbrev pub seek_from : Base → ℤ → Seek
@@ -54,6 +54,11 @@ seek_window w (Dated v n) = moved w (neg_ℤ n)
 seek_window w (Fixed moment) = w
 seek_window w (ArrivedDay v n) = moved (days_window w) (neg_ℤ n)
 seek_window w (DatedDay v n) = moved (days_window w) (neg_ℤ n)
+
+-- what solving a window for a seek needs: the seconds that are added are those of typed times, and the window fits
+pub record CanSeek (seek : Seek) (w : Window) : Type 0 where
+  pub plus : is_near (seek_plus seek) ≡ true
+  pub window : WindowFits w
 
 -- is the second there, and in the window?
 abbrev pub lies_in : Window → Option ℤ → Bool

@@ -2,8 +2,8 @@
 ghost use Rattle.std.specs.Prelude.{◌≡◌, ℤ, true, neg_ℤ};
 ghost use Rattle.jiff_core.specs.Calendar.{IsWithin};
 ghost use Rattle.tql_core.specs.Bounds.{is_near};
-ghost use Rattle.time_marks.specs.Windows.{is_within, moved, days_window};
-ghost use Rattle.time_marks.specs.Seeks.{seek_of, seek_plus, seek_window, marked_at};
+ghost use Rattle.time_marks.specs.Windows.{is_within, moved, days_window, WindowFits};
+ghost use Rattle.time_marks.specs.Seeks.{seek_of, seek_window, marked_at, CanSeek};
 
 use crate::Window;
 use tql_core::{Base, Term, Var};
@@ -32,8 +32,7 @@ fn moved_back(w: Window, by: i64) -> Window
 
 // Returns the window of the seconds whose next start of a day is in the window.
 fn window_of_days(w: Window) -> Window
-    requires low { IsWithin 500000000000 w.low }
-    requires high { IsWithin 500000000000 w.high }
+    requires window { WindowFits w }
     ensures ends { result ≡ days_window w }
     ensures low { IsWithin 510000000000 result.low }
     ensures high { IsWithin 510000000000 result.high }
@@ -57,9 +56,7 @@ impl Seek {
 
     // Returns the window of the stored seconds, by its ends.
     fn solved(self, w: Window) -> Window
-        requires plus { is_near (seek_plus self) ≡ true }
-        requires low { IsWithin 500000000000 w.low }
-        requires high { IsWithin 500000000000 w.high }
+        requires window { CanSeek self w }
         ensures { result ≡ seek_window w self }
     {
         match self {
@@ -75,9 +72,7 @@ impl Seek {
     /// moved back by `plus`. Of a fixed mark it is the window itself.
     #[tactic(auto, using(crate::proofs::SeekLaws::seek_found))]
     pub fn window(self, w: Window) -> Window
-        requires plus { is_near (seek_plus self) ≡ true }
-        requires low { IsWithin 500000000000 w.low }
-        requires high { IsWithin 500000000000 w.high }
+        requires window { CanSeek self w }
         ensures ends { result ≡ seek_window w self }
         ensures seconds { (x : ℤ) → is_within result x ≡ is_within w (marked_at self x) }
     {

@@ -10,7 +10,7 @@ use Rattle.monotone_rewrite.proofs.window_query.window_query.Goals as goal
 pub loop-mark-init : goal.loop-mark-init
 loop-mark-init c =
     let m : c.as_slice-mark-items.result.now ≡ rising_from (condition c.args.cond.now) c.args.start = search rules in
-    let bounded : bounded_marks c.as_slice-mark-items.result.now ≡ true = subst (λ ms. bounded_marks ms ≡ true) (sym m) (rising_bounded (condition c.args.cond.now) c.args.start c.requires.bounded c.requires.from_zero c.requires.start) in
+    let bounded : bounded_marks c.as_slice-mark-items.result.now ≡ true = subst (λ ms. bounded_marks ms ≡ true) (sym m) (rising_bounded (condition c.args.cond.now) c.args.start c.requires.query.bounded c.requires.from_zero c.requires.to_last) in
     record { probes = rw c.new-probes.ensures refl; kept = rw c.new-probes.ensures refl; bounded = bounded }
 
 pub loop-mark-preserved : goal.loop-mark-preserved
