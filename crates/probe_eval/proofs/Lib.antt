@@ -13,6 +13,7 @@ pub mod Inner
 pub mod LeastSeconds
 pub mod LevelLaws
 pub mod LinearLaws
+pub mod ListedRows
 pub mod LiteralLaws
 pub mod Meant
 pub mod Members

@@ -18,6 +18,7 @@ use Rattle.tap_rows.specs.declared.results.Entry.{Entry}
 use Rattle.probe_eval.specs.Found.{AreFound}
 use Rattle.probe_eval.specs.Drivers.{seek_var, driving, walked, hits_at, seek_hits}
 use Rattle.probe_eval.specs.Tables.{table_in}
+use Rattle.probe_eval.specs.Listed.{goes_by_list, listed_hits}
 use Rattle.probe_eval.specs.Nested.{was_seen}
 use Rattle.probe_eval.specs.Open.{path_apart, may_go}
 use Rattle.probe_eval.specs.Rests.{Rest, left_of, InTables, rest_of}
@@ -60,3 +61,9 @@ RestsAreAlike =
     (T : Tables) (path : List Step) (b : ℤ) (order : List Reach) (env : Env) (v : Var) (row other : Row) → path_apart path env v ≡ true
     → may_go path b (bind v row env) ≡ true → may_go path b (bind v other env) ≡ true
     → rest_of T path b order (bind v row env) ≡ rest_of T path b order (bind v other env)
+
+-- a probe that goes by a posting list finds each row that is walked, at each mark that isn't before it
+abbrev pub ListsNeedNoTest : Type 0
+ListsNeedNoTest =
+    (entries : List Entry) (T : Tables) (w : Window) (p : Probe) (order : List Reach) (seek : Seek) (v : Var) → goes_by_list p seek v ≡ true
+    → flat_map (λ row. hits_at entries T w p order (bind v row [])) (walked T w p seek v) ≡ flat_map (listed_hits entries w p v) (walked T w p seek v)

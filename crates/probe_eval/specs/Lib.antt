@@ -9,8 +9,10 @@ pub mod Nexts
 pub mod Nested
 pub mod Levels
 pub mod Searches
+pub mod Walks
 pub mod Literals
 pub mod Drivers
+pub mod Listed
 pub mod Found
 pub mod Runs
 pub mod Pairs

@@ -21,6 +21,7 @@ use Rattle.time_marks.specs.Found.{IsProbe, nested}
 use Rattle.time_marks.specs.Probes.{Probe}
 use Rattle.time_marks.specs.Seeks.{seek_of, seek_plus, lies_in}
 use Rattle.time_marks.specs.Views.{probe_in, ranged_probes}
+use Rattle.time_marks.specs.Windows.{WindowFits}
 use Rattle.access_plan.specs.declared.reach.Reach.{Reach}
 use Rattle.access_plan.specs.Orders.{order_of}
 use Rattle.probe_eval.specs.Work.{total, work}
@@ -48,6 +49,11 @@ query_cost T w q = total (part_cost T w q.pool) q.parts
 -- each of them finds a document in the form that every window query has
 abbrev pub HasValidProbes : RangedQuery → Type 0
 HasValidProbes q = (p : Probe) → In p (ranged_probes q) → IsProbe p
+
+-- what a run needs: the window fits, and each probe finds a document
+pub record CanRun (q : RangedQuery) (w : Window) : Type 0 where
+  pub window : WindowFits w
+  pub probes : HasValidProbes q
 
 -- what the evaluation of a part needs: its body is a node, its mark can be solved, and there is room for its variables
 pub record IsFit (nodes : List TNode) (part : Ranged) : Type 0 where

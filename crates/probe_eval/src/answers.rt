@@ -1,17 +1,17 @@
 //! The truth of a body beside one row of a variable, and whether it is false beside all of them.
 
-ghost use Rattle.std.specs.Prelude.{◌≡◌, ◌+◌, ◌<◌, ◌≤◌, suc, pos, length, false};
+ghost use Rattle.std.specs.Prelude.{◌≡◌, ◌+◌, ◌<◌, ◌≤◌, pos, length, false};
 ghost use Rattle.std.specs.List.{list_any};
 ghost use Rattle.tql_core.specs.Condition.{Exists};
 ghost use Rattle.tql_tree.specs.declared.table.Table.{Table};
 ghost use Rattle.tql_core.specs.Trees.{tree_at};
 ghost use Rattle.tql_core.specs.Holds.{truth};
 ghost use Rattle.tql_core.specs.Values.{bind};
-ghost use Rattle.time_marks.specs.Found.{nested};
 ghost use Rattle.probe_eval.specs.declared.answer.Answer.TheVariants.{Never};
 ghost use Rattle.probe_eval.specs.Answers.{is_true, IsNever};
 ghost use Rattle.probe_eval.specs.Conjuncts.{names, fixed_part};
 ghost use Rattle.probe_eval.specs.Work.{work, total};
+ghost use Rattle.probe_eval.specs.Searches.{CanEvaluate, CanEvaluateInner};
 
 use crate::access_rows::inner_rows;
 use crate::bodies::{any_own, body_holds, own_holds};
@@ -46,8 +46,7 @@ fn whole_answer<'a, L: Ledger>(
     index: &'a RowIndex,
     steps: &mut Steps<L>,
 ) -> Answer
-    requires node { body.0 < length pool.now }
-    requires room { length env.now + nested (tree_at pool.now body.0) ≤ 16 }
+    requires { CanEvaluate pool.now body.0 env.now }
     ensures truth { is_true result ≡ truth index.now (pos 0) (tree_at pool.now body.0) env.now }
     ensures never { result ≡ Never → IsNever index.now var (tree_at pool.now body.0) env.now }
     ensures steps { steps.new ≤ steps.old + work index.now (tree_at pool.now body.0) env.now }
@@ -70,8 +69,7 @@ fn fixed_answer<'a, L: Ledger>(
     index: &'a RowIndex,
     steps: &mut Steps<L>,
 ) -> Answer
-    requires node { body.0 < length pool.now }
-    requires room { length env.now + nested (tree_at pool.now body.0) ≤ 16 }
+    requires { CanEvaluate pool.now body.0 env.now }
     ensures truth { is_true result ≡ truth index.now (pos 0) (fixed_part of (tree_at pool.now body.0)) env.now }
     ensures never { result ≡ Never → IsNever index.now var (fixed_part of (tree_at pool.now body.0)) env.now }
     ensures steps { steps.new ≤ steps.old + work index.now (fixed_part of (tree_at pool.now body.0)) env.now }
@@ -104,8 +102,7 @@ fn later_answer<'a, L: Ledger>(
     index: &'a RowIndex,
     steps: &mut Steps<L>,
 ) -> Answer
-    requires node { inner.0 < length pool.now }
-    requires room { length env.now + suc (nested (tree_at pool.now inner.0)) ≤ 16 }
+    requires { CanEvaluateInner pool.now inner.0 env.now }
     ensures truth { is_true result ≡ list_any (λ row. truth index.now (pos 0) (tree_at pool.now inner.0) (bind of row env.now)) rows.entry }
     ensures never { (table : Table) → result ≡ Never → IsNever index.now var (Exists of table (tree_at pool.now inner.0)) env.now }
     ensures steps { steps.new ≤ steps.old + total (λ row. 1 + work index.now (tree_at pool.now inner.0) (bind of row env.now)) rows.entry }
@@ -144,8 +141,7 @@ fn rows_answer<'a, L: Ledger>(
     index: &'a RowIndex,
     steps: &mut Steps<L>,
 ) -> Answer
-    requires node { inner.0 < length pool.now }
-    requires room { length env.now + suc (nested (tree_at pool.now inner.0)) ≤ 16 }
+    requires { CanEvaluateInner pool.now inner.0 env.now }
     ensures truth { is_true result ≡ truth index.now (pos 0) (Exists of table (tree_at pool.now inner.0)) env.now }
     ensures never { result ≡ Never → IsNever index.now var (Exists of table (tree_at pool.now inner.0)) env.now }
     ensures steps { steps.new ≤ steps.old + work index.now (Exists of table (tree_at pool.now inner.0)) env.now }
@@ -175,8 +171,7 @@ fn exists_answer<'a, L: Ledger>(
     index: &'a RowIndex,
     steps: &mut Steps<L>,
 ) -> Answer
-    requires node { inner.0 < length pool.now }
-    requires room { length env.now + suc (nested (tree_at pool.now inner.0)) ≤ 16 }
+    requires { CanEvaluateInner pool.now inner.0 env.now }
     ensures truth { is_true result ≡ truth index.now (pos 0) (Exists of table (tree_at pool.now inner.0)) env.now }
     ensures never { result ≡ Never → IsNever index.now var (Exists of table (tree_at pool.now inner.0)) env.now }
     ensures steps { steps.new ≤ steps.old + work index.now (Exists of table (tree_at pool.now inner.0)) env.now }
@@ -200,8 +195,7 @@ pub(crate) fn body_answer<'a, L: Ledger>(
     index: &'a RowIndex,
     steps: &mut Steps<L>,
 ) -> Answer
-    requires node { body.0 < length pool.now }
-    requires room { length env.now + nested (tree_at pool.now body.0) ≤ 16 }
+    requires { CanEvaluate pool.now body.0 env.now }
     ensures truth { is_true result ≡ truth index.now (pos 0) (tree_at pool.now body.0) env.now }
     ensures never { result ≡ Never → IsNever index.now var (tree_at pool.now body.0) env.now }
     ensures steps { steps.new ≤ steps.old + work index.now (tree_at pool.now body.0) env.now }

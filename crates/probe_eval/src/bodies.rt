@@ -1,14 +1,14 @@
 //! The truth of a body.
 
-ghost use Rattle.std.specs.Prelude.{◌≡◌, ◌+◌, ◌<◌, ◌≤◌, suc, pos, length, ◌&&◌, ◌||◌};
+ghost use Rattle.std.specs.Prelude.{◌≡◌, ◌+◌, ◌≤◌, pos, ◌&&◌, ◌||◌};
 ghost use Rattle.std.specs.List.{list_any};
 ghost use Rattle.tql_core.specs.Condition.{Exists};
 ghost use Rattle.tql_core.specs.Trees.{tree_at};
 ghost use Rattle.tql_core.specs.Holds.{truth};
 ghost use Rattle.tql_core.specs.Values.{bind};
-ghost use Rattle.time_marks.specs.Found.{nested};
 ghost use Rattle.probe_eval.specs.Work.{work, total};
 ghost use Rattle.probe_eval.specs.Conjuncts.{fixed_part, own_part};
+ghost use Rattle.probe_eval.specs.Searches.{CanEvaluate, CanEvaluateInner};
 
 use crate::RowWalk;
 use crate::access_rows::inner_rows;
@@ -30,8 +30,7 @@ pub(crate) fn body_holds<'a, L: Ledger>(
     index: &'a RowIndex,
     steps: &mut Steps<L>,
 ) -> bool
-    requires node { body.0 < length pool.now }
-    requires room { length env.now + nested (tree_at pool.now body.0) ≤ 16 }
+    requires { CanEvaluate pool.now body.0 env.now }
     ensures truth { result ≡ truth index.now (pos 0) (tree_at pool.now body.0) env.now }
     ensures steps { steps.new ≤ steps.old + work index.now (tree_at pool.now body.0) env.now }
     ensures more { steps.old ≤ steps.new }
@@ -62,8 +61,7 @@ fn exists_holds<'a, L: Ledger>(
     index: &'a RowIndex,
     steps: &mut Steps<L>,
 ) -> bool
-    requires node { inner.0 < length pool.now }
-    requires room { length env.now + suc (nested (tree_at pool.now inner.0)) ≤ 16 }
+    requires { CanEvaluateInner pool.now inner.0 env.now }
     ensures truth { result ≡ truth index.now (pos 0) (Exists var table (tree_at pool.now inner.0)) env.now }
     ensures steps { steps.new ≤ steps.old + work index.now (Exists var table (tree_at pool.now inner.0)) env.now }
     ensures more { steps.old ≤ steps.new }
@@ -90,8 +88,7 @@ fn any_later<'a, L: Ledger>(
     index: &'a RowIndex,
     steps: &mut Steps<L>,
 ) -> bool
-    requires node { inner.0 < length pool.now }
-    requires room { length env.now + suc (nested (tree_at pool.now inner.0)) ≤ 16 }
+    requires { CanEvaluateInner pool.now inner.0 env.now }
     ensures truth { result ≡ list_any (λ row. truth index.now (pos 0) (tree_at pool.now inner.0) (bind var row env.now)) rows.entry }
     ensures steps { steps.new ≤ steps.old + total (λ row. 1 + work index.now (tree_at pool.now inner.0) (bind var row env.now)) rows.entry }
     ensures more { steps.old ≤ steps.new }
@@ -118,8 +115,7 @@ pub(crate) fn any_own<'a, L: Ledger>(
     index: &'a RowIndex,
     steps: &mut Steps<L>,
 ) -> bool
-    requires node { inner.0 < length pool.now }
-    requires room { length env.now + suc (nested (tree_at pool.now inner.0)) ≤ 16 }
+    requires { CanEvaluateInner pool.now inner.0 env.now }
     ensures truth { result ≡ list_any (λ row. truth index.now (pos 0) (own_part var (tree_at pool.now inner.0)) (bind var row env.now)) rows.entry }
     ensures steps { steps.new ≤ steps.old + total (λ row. 1 + work index.now (own_part var (tree_at pool.now inner.0)) (bind var row env.now)) rows.entry }
     ensures more { steps.old ≤ steps.new }
@@ -142,8 +138,7 @@ fn fixed_holds<'a, L: Ledger>(
     index: &'a RowIndex,
     steps: &mut Steps<L>,
 ) -> bool
-    requires node { body.0 < length pool.now }
-    requires room { length env.now + nested (tree_at pool.now body.0) ≤ 16 }
+    requires { CanEvaluate pool.now body.0 env.now }
     ensures truth { result ≡ truth index.now (pos 0) (fixed_part var (tree_at pool.now body.0)) env.now }
     ensures steps { steps.new ≤ steps.old + work index.now (fixed_part var (tree_at pool.now body.0)) env.now }
     ensures more { steps.old ≤ steps.new }
@@ -167,8 +162,7 @@ pub(crate) fn own_holds<'a, L: Ledger>(
     index: &'a RowIndex,
     steps: &mut Steps<L>,
 ) -> bool
-    requires node { body.0 < length pool.now }
-    requires room { length env.now + nested (tree_at pool.now body.0) ≤ 16 }
+    requires { CanEvaluate pool.now body.0 env.now }
     ensures truth { result ≡ truth index.now (pos 0) (own_part var (tree_at pool.now body.0)) env.now }
     ensures steps { steps.new ≤ steps.old + work index.now (own_part var (tree_at pool.now body.0)) env.now }
     ensures more { steps.old ≤ steps.new }

@@ -1,9 +1,7 @@
 //! The rows that drive a probe: those whose mark lies in the window, and which of them are walked.
 
-ghost use Rattle.std.specs.Prelude.{◌≡◌, true};
-ghost use Rattle.jiff_core.specs.Calendar.{IsWithin};
-ghost use Rattle.tql_core.specs.Bounds.{is_near};
-ghost use Rattle.time_marks.specs.Seeks.{seek_plus};
+ghost use Rattle.std.specs.Prelude.{◌≡◌};
+ghost use Rattle.time_marks.specs.Seeks.{CanSeek};
 ghost use Rattle.probe_eval.specs.Drivers.{seek_var, arrived_rows, dated_rows, stored_rows, walked, mark_in};
 ghost use Rattle.probe_eval.specs.Searches.{searched};
 ghost use Rattle.probe_eval.specs.Tables.{table_in};
@@ -78,9 +76,7 @@ fn stored_rows(seek: Seek, table: Table, w: Window, index: &RowIndex) -> RowWalk
 /// arrival, and a guard of its path compares a text of them with a literal by which the index finds documents, these are the
 /// documents of its posting list: of several such guards of the one with the shortest list.
 pub fn walked<'a>(search: &Search<'a>, seek: Seek, var: Var, w: Window) -> RowWalk<'a>
-    requires plus { is_near (seek_plus seek) ≡ true }
-    requires low { IsWithin 500000000000 w.low }
-    requires high { IsWithin 500000000000 w.high }
+    requires window { CanSeek seek w }
     ensures { result ≡ walked search.now.index.now w (searched search.now) seek var }
 {
     let path = search.probe.path.as_slice();

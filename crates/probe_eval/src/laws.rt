@@ -1,6 +1,6 @@
 //! Laws of what probes find.
 
-ghost use Rattle.probe_eval.specs.Laws.{DrivingRowsAreMarked, WalkedRowsAreEnough};
+ghost use Rattle.probe_eval.specs.Laws.{DrivingRowsAreMarked, WalkedRowsAreEnough, ListsNeedNoTest};
 ghost use Rattle.probe_eval.specs.Laws.{WalksFindWhatProbesFind, RestsAreFound, RestsAreAlike};
 ghost use Rattle.probe_eval.specs.Linear.{ProbesByIndexAreLinear, RepliesTakeThreeSteps};
 ghost use Rattle.probe_eval.specs.Pairs.{ProbesTestPairs};
@@ -14,6 +14,12 @@ pub fn driving_rows_are_marked()
 /// left out has a guard of the path that is false.
 pub fn walked_rows_are_enough()
     ensures { WalkedRowsAreEnough }
+{}
+
+/// States that a probe which compares one text of the query's document with a literal and asks for nothing else finds each
+/// row that is walked, at each mark that isn't before the row: neither its guard nor its body is tested again.
+pub fn lists_need_no_test()
+    ensures { ListsNeedNoTest }
 {}
 
 /// States that walks from each driving row over the rows that accesses give find the unseen documents and marks that the

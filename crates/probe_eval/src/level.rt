@@ -1,11 +1,12 @@
 //! The rows that are walked next on the way from a driving row to the document that the query is about.
 
-ghost use Rattle.std.specs.Prelude.{◌≡◌, ◌+◌, ◌≤◌, [], length, Bool, None, IfSome};
+ghost use Rattle.std.specs.Prelude.{◌≡◌, ◌+◌, ◌≤◌, [], Bool, None, IfSome};
 ghost use Rattle.tql_core.specs.Values.{lookup};
 ghost use Rattle.probe_eval.specs.Nexts.{IsNext};
-ghost use Rattle.probe_eval.specs.Searches.{searched, HasSlots};
+ghost use Rattle.probe_eval.specs.Searches.{searched};
 ghost use Rattle.probe_eval.specs.Nested.{has_more, is_once, is_walked, once_cost, hits_over, work_over};
 ghost use Rattle.probe_eval.specs.Levels.{IsLevel, level_cost};
+ghost use Rattle.probe_eval.specs.Walks.{CanWalk};
 
 use crate::open::path_apart;
 use crate::rests::{further_once, rest_exists};
@@ -52,8 +53,7 @@ fn is_walked<'a, L: Ledger>(
     mark: i64,
     steps: &mut Steps<L>,
 ) -> bool
-    requires room { HasSlots search.now (length env.now + length order.now) }
-    requires next { IsNext search.now.probe.now.path env.now next.old }
+    requires { CanWalk search.now order.now next.old env.now }
     ensures walked { result ≡ is_walked search.now.index.now (searched search.now) mark once order.now env.now }
     ensures next { IsNext search.now.probe.now.path env.now next.new }
     ensures steps { steps.new ≤ steps.old + once_cost search.now.index.now (searched search.now) mark once order.now env.now 0 }
@@ -85,8 +85,7 @@ pub fn next_level<'a, L: Ledger>(
     mark: i64,
     steps: &mut Steps<L>,
 ) -> Option<Level<'a>>
-    requires room { HasSlots search.now (length env.now + length order.now) }
-    requires next { IsNext search.now.probe.now.path env.now next.old }
+    requires walk { CanWalk search.now order.now next.old env.now }
     requires fresh { lookup 0 env.now ≡ None }
     ensures some { IfSome result (λ level. IsLevel search.now.seen.now search.now.index.now (searched search.now) mark order.now env.now level) }
     ensures none { result ≡ None → hits_over search.now.seen.now search.now.index.now (searched search.now) mark order.now env.now ≡ [] }

@@ -46,9 +46,9 @@ fn kind_if(var: Var, of: Var, kind: Option<TextKind>) -> Option<TextKind>
     if of.0 == var.0 { kind } else { None }
 }
 
-// Returns the kind of text that a guard asks of the variable's document by a literal. `None` comes if and only if the guard
-// isn't such a comparison or the index doesn't find documents by the field.
-fn literal_kind(var: Var, guard: &Atom) -> Option<TextKind>
+/// Returns the kind of text that a guard asks of the variable's document by a literal. `None` comes if and only if the guard
+/// isn't such a comparison or the index doesn't find documents by the field.
+pub(crate) fn literal_kind(var: Var, guard: &Atom) -> Option<TextKind>
     ensures { result ≡ literal_kind var guard.now }
 {
     match guard {

@@ -1,15 +1,16 @@
 //! A search for what a probe finds.
 
-ghost use Rattle.std.specs.Prelude.{◌≡◌, ◌+◌, ◌≤◌, length, slice_get, Some, if◌then◌else◌};
+ghost use Rattle.std.specs.Prelude.{◌≡◌, ◌+◌, ◌≤◌, slice_get, Some, if◌then◌else◌};
 ghost use Rattle.time_marks.specs.declared.ranged.Ranged.{Ranged};
 ghost use Rattle.probe_eval.specs.declared.answer.Answer.TheVariants.{Never};
 ghost use Rattle.probe_eval.specs.Answers.{is_true, IsNever, query_var};
 ghost use Rattle.probe_eval.specs.Runs.{part_order};
-ghost use Rattle.probe_eval.specs.Searches.{searched, HasBody, HasSlots};
+ghost use Rattle.probe_eval.specs.Searches.{searched};
 ghost use Rattle.probe_eval.specs.Nexts.{IsNext};
 ghost use Rattle.probe_eval.specs.Rests.{rest_of, rest_cost};
 ghost use Rattle.probe_eval.specs.Levels.{IsSure};
 ghost use Rattle.probe_eval.specs.Nested.{new_doc, holds_here, cost_here};
+ghost use Rattle.probe_eval.specs.Walks.{CanWalk, CanAnswer};
 
 use crate::answers::body_answer;
 use crate::bodies::body_holds;
@@ -53,8 +54,7 @@ fn has_rest<'a, L: Ledger>(
     mark: i64,
     steps: &mut Steps<L>,
 ) -> bool
-    requires room { HasSlots search.now (length env.now + length order.now) }
-    requires next { IsNext search.now.probe.now.path env.now next.old }
+    requires walk { CanWalk search.now order.now next.old env.now }
     requires sure { IsSure search.now.index.now search.now.probe.now.path mark order.now env.now sure }
     ensures rest { result ≡ rest_of search.now.index.now search.now.probe.now.path mark order.now env.now }
     ensures next { IsNext search.now.probe.now.path env.now next.new }
@@ -81,10 +81,7 @@ pub fn answer_here<'a, L: Ledger>(
     mark: i64,
     steps: &mut Steps<L>,
 ) -> Answer
-    requires node { HasBody search.now }
-    requires room { HasSlots search.now (length env.now + length order.now) }
-    requires next { IsNext search.now.probe.now.path env.now next.old }
-    requires sure { IsSure search.now.index.now search.now.probe.now.path mark order.now env.now sure }
+    requires { CanAnswer search.now order.now next.old sure env.now mark }
     ensures holds { is_true result ≡ holds_here search.now.index.now (searched search.now) mark order.now env.now }
     ensures never { result ≡ Never → IsNever search.now.index.now query_var (searched search.now).body env.now }
     ensures next { IsNext search.now.probe.now.path env.now next.new }
@@ -110,10 +107,7 @@ pub fn holds_here<'a, L: Ledger>(
     mark: i64,
     steps: &mut Steps<L>,
 ) -> bool
-    requires node { HasBody search.now }
-    requires room { HasSlots search.now (length env.now + length order.now) }
-    requires next { IsNext search.now.probe.now.path env.now next.old }
-    requires sure { IsSure search.now.index.now search.now.probe.now.path mark order.now env.now sure }
+    requires { CanAnswer search.now order.now next.old sure env.now mark }
     ensures holds { result ≡ holds_here search.now.index.now (searched search.now) mark order.now env.now }
     ensures next { IsNext search.now.probe.now.path env.now next.new }
     ensures steps { steps.new ≤ steps.old + cost_here search.now.index.now (searched search.now) mark sure order.now env.now }

@@ -1,22 +1,21 @@
 //! The hits of one probe.
 
-ghost use Rattle.std.specs.Prelude.{◌≡◌, ◌+◌, ◌<◌, ◌≤◌, [], length, true, option_to_list};
+ghost use Rattle.std.specs.Prelude.{◌≡◌, ◌+◌, ◌≤◌, [], length, option_to_list};
 ghost use Rattle.std.specs.List.{flat_map};
 ghost use Rattle.tql_core.specs.Values.{bind};
 ghost use Rattle.probe_eval.specs.Work.{total};
-ghost use Rattle.jiff_core.specs.Calendar.{IsWithin};
-ghost use Rattle.tql_core.specs.Bounds.{is_near};
-ghost use Rattle.time_marks.specs.Seeks.{seek_plus};
+ghost use Rattle.time_marks.specs.Seeks.{CanSeek};
 ghost use Rattle.query_eval.specs.Lowest.{keeping};
 ghost use Rattle.query_eval.specs.Placed.{IsReady};
 ghost use Rattle.probe_eval.specs.Nexts.{IsNext};
-ghost use Rattle.probe_eval.specs.Searches.{searched, HasBody, HasSlots};
+ghost use Rattle.probe_eval.specs.Searches.{searched, CanSearch};
 ghost use Rattle.probe_eval.specs.Drivers.{seek_var, hits_at, seek_hits, cost_at, seek_cost, walked};
 
 use crate::kept_hits::KeptHits;
+use crate::listed::collect_listed;
 use crate::nested::collect_hits;
 use access_plan::Reach;
-use probe_eval::{Next, Search, mark_in, seek_var, walked};
+use probe_eval::{Next, Search, goes_by_list, mark_in, seek_var, walked};
 use std::sync::ledger::Ledger;
 use tap_base::Steps;
 use time_marks::{Seek, Window};
@@ -32,8 +31,7 @@ fn collect_at<'a, L: Ledger>(
     into: &mut KeptHits,
     steps: &mut Steps<L>,
 )
-    requires node { HasBody search.now }
-    requires room { HasSlots search.now (length env.now + length order.now) }
+    requires search { CanSearch search.now (length env.now + length order.now) }
     requires next { IsNext search.now.probe.now.path env.now next.old }
     requires ready { IsReady into.old }
     ensures hits { into.new.hits.items ≡ keeping (length into.old.places.items) into.old.hits.items
@@ -59,11 +57,8 @@ fn collect_driven<'a, L: Ledger>(
     into: &mut KeptHits,
     steps: &mut Steps<L>,
 )
-    requires plus { is_near (seek_plus seek) ≡ true }
-    requires low { IsWithin 500000000000 w.low }
-    requires high { IsWithin 500000000000 w.high }
-    requires node { HasBody search.now }
-    requires room { HasSlots search.now (1 + length order.now) }
+    requires window { CanSeek seek w }
+    requires search { CanSearch search.now (1 + length order.now) }
     requires ready { IsReady into.old }
     ensures hits { into.new.hits.items ≡ keeping (length into.old.places.items) into.old.hits.items
         (flat_map (λ row. hits_at search.now.seen.now search.now.index.now w (searched search.now) order.now (bind var row []))
@@ -90,6 +85,36 @@ fn collect_driven<'a, L: Ledger>(
     }
 }
 
+// Stores the hits at the marks of the driving rows that are walked. If these are a posting list beside which nothing is asked
+// for, their marks alone are tested.
+fn collect_walked<'a, L: Ledger>(
+    search: &Search<'a>,
+    order: &'a [Reach],
+    seek: Seek,
+    var: Var,
+    w: Window,
+    into: &mut KeptHits,
+    steps: &mut Steps<L>,
+)
+    requires window { CanSeek seek w }
+    requires search { CanSearch search.now (1 + length order.now) }
+    requires ready { IsReady into.old }
+    ensures hits { into.new.hits.items ≡ keeping (length into.old.places.items) into.old.hits.items
+        (flat_map (λ row. hits_at search.now.seen.now search.now.index.now w (searched search.now) order.now (bind var row []))
+        (walked search.now.index.now w (searched search.now) seek var)) }
+    ensures ready { IsReady into.new }
+    ensures places { length into.new.places.items ≡ length into.old.places.items }
+    ensures steps { steps.new ≤ steps.old + total (λ row. 1 + cost_at search.now.index.now w (searched search.now) order.now (bind var row []))
+        (walked search.now.index.now w (searched search.now) seek var) }
+    ensures more { steps.old ≤ steps.new }
+{
+    if goes_by_list(search, seek, var) {
+        collect_listed(search, seek, var, w, into, steps);
+    } else {
+        collect_driven(search, order, seek, var, w, into, steps);
+    }
+}
+
 /// Stores the hits of a probe: at its fixed mark, or at those of all driving rows.
 pub(crate) fn collect_part<'a, L: Ledger>(
     search: &Search<'a>,
@@ -99,11 +124,8 @@ pub(crate) fn collect_part<'a, L: Ledger>(
     into: &mut KeptHits,
     steps: &mut Steps<L>,
 )
-    requires plus { is_near (seek_plus seek) ≡ true }
-    requires low { IsWithin 500000000000 w.low }
-    requires high { IsWithin 500000000000 w.high }
-    requires node { HasBody search.now }
-    requires room { HasSlots search.now (length (option_to_list (seek_var seek)) + length order.now) }
+    requires window { CanSeek seek w }
+    requires search { CanSearch search.now (length (option_to_list (seek_var seek)) + length order.now) }
     requires ready { IsReady into.old }
     ensures hits { into.new.hits.items ≡ keeping (length into.old.places.items) into.old.hits.items
         (seek_hits search.now.seen.now search.now.index.now w (searched search.now) order.now seek (seek_var seek)) }
@@ -122,6 +144,6 @@ pub(crate) fn collect_part<'a, L: Ledger>(
             into,
             steps,
         ),
-        Some(var) => collect_driven(search, order, seek, var, w, into, steps),
+        Some(var) => collect_walked(search, order, seek, var, w, into, steps),
     }
 }

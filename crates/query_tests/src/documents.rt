@@ -9,17 +9,17 @@ ghost use Rattle.tap_rows.specs.declared.change.Change.TheVariants.{Docs};
 use little_box::LittleBox;
 use row_index::RowIndex;
 use std::alloc::Global;
-use tap_base::{DocNum, Memory, Text, Texts};
-use tap_rows::{Doc, Entry, Fields, KeptDoc, PackedTexts};
+use tap_base::{DocNum, Memory, PackedTexts, SharedText, Text, Texts};
+use tap_rows::{Doc, Entry, Fields, KeptDoc};
 
 /// Returns a document without a text.
-pub fn blank_doc(alloc: Global, num: u32, arrival: i64) -> KeptDoc
-    ensures { result ≡ record { num = record { 0 = num }; arrival = arrival; text = [] } }
+pub fn blank_doc(alloc: Global, num: u32, arrival: i64) -> Result<KeptDoc, Memory>
+    ensures { IfOk result (λ doc. doc ≡ record { num = record { 0 = num }; arrival = arrival; text = [] }) }
 {
     let doc = Doc {
         num: DocNum(num),
         arrival,
-        text: Text::new(alloc),
+        text: SharedText::of(alloc, Text::new(alloc))?,
     };
     let fields = Fields {
         date: None,
@@ -34,7 +34,7 @@ pub fn blank_doc(alloc: Global, num: u32, arrival: i64) -> KeptDoc
         words: PackedTexts::new(alloc),
         size: 0,
     };
-    KeptDoc::new(doc, fields)
+    Ok(KeptDoc::new(doc, fields))
 }
 
 /// Returns the index with a further document.
@@ -56,8 +56,8 @@ pub fn with_doc(index: RowIndex, doc: KeptDoc) -> Result<RowIndex, Memory>
 
 /// Returns two documents of second 100.
 pub fn two_docs(alloc: Global) -> Result<RowIndex, Memory> {
-    let one = with_doc(RowIndex::new(alloc), blank_doc(alloc, 1, 100))?;
-    with_doc(one, blank_doc(alloc, 2, 100))
+    let one = with_doc(RowIndex::new(alloc), blank_doc(alloc, 1, 100)?)?;
+    with_doc(one, blank_doc(alloc, 2, 100)?)
 }
 
 /// Returns a box with the second document.

@@ -1,6 +1,7 @@
 //! Tests of adding, walking and removing rows.
 
 ghost use Rattle.std.specs.Prelude.{◌≡◌, ◌+◌, ◌<◌, ◌≤ℤ◌, pos, [], length};
+ghost use Rattle.tap_base.specs.Ledgers.{IsBlankOf};
 ghost use Rattle.row_index.specs.Orders.{IsMoment};
 ghost use Rattle.tap_rows.specs.Kept.{Each};
 
@@ -55,8 +56,8 @@ fn with_note(index: RowIndex, note: Note) -> Result<RowIndex, Memory>
 
 // Returns two documents, and a note on the second.
 fn three_rows(alloc: Global) -> Result<RowIndex, Memory> {
-    let one = with_doc(RowIndex::new(alloc), blank_doc(alloc, 1, 5))?;
-    let two = with_doc(one, blank_doc(alloc, 2, 9))?;
+    let one = with_doc(RowIndex::new(alloc), blank_doc(alloc, 1, 5)?)?;
+    let two = with_doc(one, blank_doc(alloc, 2, 9)?)?;
     with_note(two, blank_note(alloc, 1, 2, 9))
 }
 
@@ -81,9 +82,7 @@ fn left(index: &mut RowIndex) -> u32 {
 
 // Returns those counts, and how many documents are left without the last.
 fn counted<L: Ledger>(alloc: Global, blank: Blank) -> Result<([usize; 5], u32), Memory>
-    requires name { blank.name ≡ L.name }
-    requires parts { blank.parts ≡ L.parts }
-    requires some { 0 < blank.parts }
+    requires blank { IsBlankOf L.name L.parts blank }
 {
     let mut index = three_rows(alloc)?;
     let mut steps = Steps::<L>::start(blank);

@@ -1,6 +1,7 @@
 //! Tests of what is shown of two documents: a box by priority, and a digest.
 
 ghost use Rattle.std.specs.Prelude.{◌≡◌, ◌<◌};
+ghost use Rattle.tap_base.specs.Ledgers.{IsBlankOf};
 
 use crate::documents::two_docs;
 use appraiser::{Rules, listing, read_rules};
@@ -44,9 +45,7 @@ fn listed_by<L: Ledger>(
     blank: Blank,
     rules: &Rules,
 ) -> Result<Option<[(u32, u32); 2]>, Memory>
-    requires name { blank.name ≡ L.name }
-    requires parts { blank.parts ≡ L.parts }
-    requires some { 0 < blank.parts }
+    requires blank { IsBlankOf L.name L.parts blank }
 {
     let index = two_docs(alloc)?;
     let mut steps = Steps::<L>::start(blank);
@@ -57,9 +56,7 @@ fn listed_by<L: Ledger>(
 
 // Returns the numbers and priorities of a box of two documents, rated by a rule for the second.
 fn listed<L: Ledger>(alloc: Global, blank: Blank) -> Result<Option<[(u32, u32); 2]>, Memory>
-    requires name { blank.name ≡ L.name }
-    requires parts { blank.parts ≡ L.parts }
-    requires some { 0 < blank.parts }
+    requires blank { IsBlankOf L.name L.parts blank }
 {
     match read_rules(alloc, b"WHEN m.id = 2 PRIORITY 5 CLASS 'a'\n") {
         Ok(rules) => {
@@ -80,9 +77,7 @@ fn a_box_is_listed_by_priority(rt: HostRuntime) -> Result<(), Memory> {
 
 // Returns the lines of the digest of a run over two documents without texts, which an entry without a document comes between.
 fn digested<L: Ledger>(alloc: Global, blank: Blank) -> Result<Texts, Memory>
-    requires name { blank.name ≡ L.name }
-    requires parts { blank.parts ≡ L.parts }
-    requires some { 0 < blank.parts }
+    requires blank { IsBlankOf L.name L.parts blank }
 {
     let index = two_docs(alloc)?;
     let mut steps = Steps::<L>::start(blank);

@@ -1,6 +1,7 @@
 //! Tests of runs over two documents, and of the room for hits.
 
 ghost use Rattle.std.specs.Prelude.{◌≡◌, ◌<◌, pos, [], ◌∷◌, map, IfOk};
+ghost use Rattle.tap_base.specs.Ledgers.{IsBlankOf};
 ghost use Rattle.jiff_core.specs.Calendar.{IsWithin};
 ghost use Rattle.tql_tree.specs.declared.table.Table.TheVariants.{Docs};
 ghost use Rattle.tql_core.specs.declared.term.Base.TheVariants.{Arrival};
@@ -70,9 +71,7 @@ fn found_in<L: Ledger>(
     index: &RowIndex,
     high: i64,
 ) -> Result<Rows<Hit>, Memory>
-    requires name { blank.name ≡ L.name }
-    requires parts { blank.parts ≡ L.parts }
-    requires some { 0 < blank.parts }
+    requires blank { IsBlankOf L.name L.parts blank }
     requires high { IsWithin 500000000000 high }
     requires probes { HasValidProbes plan.now.query }
 {
@@ -91,9 +90,7 @@ fn found_by<L: Ledger>(
     plan: &Plan,
     high: i64,
 ) -> Result<Rows<Hit>, Memory>
-    requires name { blank.name ≡ L.name }
-    requires parts { blank.parts ≡ L.parts }
-    requires some { 0 < blank.parts }
+    requires blank { IsBlankOf L.name L.parts blank }
     requires high { IsWithin 500000000000 high }
     requires probes { HasValidProbes plan.now.query }
 {
@@ -105,9 +102,7 @@ fn found_by<L: Ledger>(
 
 // Returns what the plan of the probe gives below this second of two documents, one of which is in the box.
 fn found<L: Ledger>(alloc: Global, blank: Blank, high: i64) -> Result<Rows<Hit>, Memory>
-    requires name { blank.name ≡ L.name }
-    requires parts { blank.parts ≡ L.parts }
-    requires some { 0 < blank.parts }
+    requires blank { IsBlankOf L.name L.parts blank }
     requires high { IsWithin 500000000000 high }
 {
     let plan = old_plan(alloc)?;

@@ -1,6 +1,7 @@
 //! Tests of moments over two documents.
 
 ghost use Rattle.std.specs.Prelude.{◌≡◌, ◌<◌, map, IfOk};
+ghost use Rattle.tap_base.specs.Ledgers.{IsBlankOf};
 ghost use Rattle.row_index.specs.Orders.{IsMoment};
 ghost use Rattle.probe_eval.specs.Runs.{HasValidProbes};
 ghost use Rattle.query_tests.specs.Samples.{sample_probe, sample_marks};
@@ -68,9 +69,7 @@ fn planned_in<L: Ledger>(
     last: i64,
     now: i64,
 ) -> Result<Option<i64>, Memory>
-    requires name { blank.name ≡ L.name }
-    requires parts { blank.parts ≡ L.parts }
-    requires some { 0 < blank.parts }
+    requires blank { IsBlankOf L.name L.parts blank }
     requires last { IsMoment last }
     requires now { IsMoment now }
     requires probes { HasValidProbes plan.now.query }
@@ -90,9 +89,7 @@ fn planned_by<L: Ledger>(
     last: i64,
     now: i64,
 ) -> Result<Option<i64>, Memory>
-    requires name { blank.name ≡ L.name }
-    requires parts { blank.parts ≡ L.parts }
-    requires some { 0 < blank.parts }
+    requires blank { IsBlankOf L.name L.parts blank }
     requires last { IsMoment last }
     requires now { IsMoment now }
     requires probes { HasValidProbes plan.now.query }
@@ -110,9 +107,7 @@ fn planned<L: Ledger>(
     last: i64,
     now: i64,
 ) -> Result<Option<i64>, Memory>
-    requires name { blank.name ≡ L.name }
-    requires parts { blank.parts ≡ L.parts }
-    requires some { 0 < blank.parts }
+    requires blank { IsBlankOf L.name L.parts blank }
     requires last { IsMoment last }
     requires now { IsMoment now }
 {

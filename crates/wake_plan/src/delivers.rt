@@ -1,7 +1,7 @@
 //! Whether a probe finds a document beside a driving row.
 
 ghost use Rattle.std.specs.Prelude.{◌≡◌, ◌+◌, ◌≤◌, length, option_to_list};
-ghost use Rattle.probe_eval.specs.Searches.{searched, HasBody, HasSlots};
+ghost use Rattle.probe_eval.specs.Searches.{searched, CanSearch};
 ghost use Rattle.probe_eval.specs.Levels.{IsSure};
 ghost use Rattle.probe_eval.specs.Nested.{new_doc, hit_if, holds_here, cost_here, hits_over, work_over};
 ghost use Rattle.wake_plan.specs.Turns.{has_hit};
@@ -23,8 +23,7 @@ fn delivers_pair<'a, L: Ledger>(
     mark: i64,
     steps: &mut Steps<L>,
 ) -> bool
-    requires node { HasBody search.now }
-    requires room { HasSlots search.now (length env.now + length order.now) }
+    requires search { CanSearch search.now (length env.now + length order.now) }
     requires sure { IsSure search.now.index.now search.now.probe.now.path mark order.now env.now sure }
     ensures hits { result ≡ has_hit (option_to_list (hit_if (holds_here search.now.index.now (searched search.now) mark order.now env.now) mark
         (new_doc search.now.seen.now doc.now))) }
@@ -48,8 +47,7 @@ pub(crate) fn delivers<'a, L: Ledger>(
     mark: i64,
     steps: &mut Steps<L>,
 ) -> bool
-    requires node { HasBody search.now }
-    requires room { HasSlots search.now (length env.now + length order.now) }
+    requires search { CanSearch search.now (length env.now + length order.now) }
     requires sure { IsSure search.now.index.now search.now.probe.now.path mark order.now env.now sure }
     ensures hits { result ≡ has_hit (hits_over search.now.seen.now search.now.index.now (searched search.now) mark order.now env.now) }
     ensures steps { steps.new ≤ steps.old + work_over search.now.index.now (searched search.now) mark sure order.now env.now }

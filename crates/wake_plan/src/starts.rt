@@ -1,15 +1,14 @@
 //! The turns of a plan's probes before a row has been looked at.
 
-ghost use Rattle.std.specs.Prelude.{◌≡◌, ◌+◌, ◌≤◌, ◌≤ℤ◌, length, Some, None, true, option_to_list, IfOk, OnErr};
+ghost use Rattle.std.specs.Prelude.{◌≡◌, ◌+◌, ◌≤◌, length, Some, None, true, option_to_list, IfOk, OnErr};
 ghost use Rattle.std.specs.List.{flat_map};
-ghost use Rattle.jiff_core.specs.Calendar.{IsWithin};
 ghost use Rattle.tap_rows.specs.Kept.{Each};
-ghost use Rattle.tql_core.specs.Bounds.{is_bounded, is_near};
+ghost use Rattle.tql_core.specs.Bounds.{is_bounded};
 ghost use Rattle.time_marks.specs.declared.window.Window.{Window};
-ghost use Rattle.time_marks.specs.Seeks.{seek_of, seek_plus};
+ghost use Rattle.time_marks.specs.Seeks.{seek_of, CanSeek};
 ghost use Rattle.probe_eval.specs.Drivers.{seek_var, seek_hits, seek_cost};
-ghost use Rattle.probe_eval.specs.Runs.{query_hits, query_cost, HasValidProbes};
-ghost use Rattle.probe_eval.specs.Searches.{searched, HasBody, HasSlots};
+ghost use Rattle.probe_eval.specs.Runs.{query_hits, query_cost, CanRun};
+ghost use Rattle.probe_eval.specs.Searches.{searched, CanSearch};
 ghost use Rattle.probe_eval.specs.Work.{total};
 ghost use Rattle.wake_plan.specs.Turns.{hits_left, cost_left, IsTurn};
 ghost use Rattle.wake_plan.specs.Wakes.{IsUpTo};
@@ -28,8 +27,7 @@ use tql_core::{Env, Var};
 
 // Returns the turn of a probe with a fixed mark.
 fn fixed<'a>(search: Search<'a>, order: &'a [Reach], w: Window) -> Turn<'a>
-    requires node { HasBody search }
-    requires room { HasSlots search (length order.now) }
+    requires search { CanSearch search (length order.now) }
     ensures turn { IsTurn w result }
     ensures hits { hits_left w result
         ≡ seek_hits search.entry.seen.now search.entry.index.now w (searched search.entry) order.now (seek_of search.entry.probe.now.at) None }
@@ -59,14 +57,11 @@ fn driven<'a, L: Ledger>(
     w: Window,
     steps: &mut Steps<L>,
 ) -> Turn<'a>
-    requires node { HasBody search }
+    requires search { CanSearch search (1 + length order.now) }
     requires bounded { is_bounded search.probe.now.at ≡ true }
     requires seek { seek ≡ seek_of search.probe.now.at }
-    requires plus { is_near (seek_plus seek) ≡ true }
-    requires low { IsWithin 500000000000 w.low }
-    requires high { IsWithin 500000000000 w.high }
+    requires window { CanSeek seek w }
     requires var { seek_var seek ≡ Some var }
-    requires room { HasSlots search (1 + length order.now) }
     ensures turn { IsTurn w result }
     ensures hits { hits_left w result ≡ seek_hits search.entry.seen.now search.entry.index.now w (searched search.entry) order.now seek (Some var) }
     ensures cost { (u : Window) → IsUpTo w u → steps.new + cost_left u result
@@ -95,13 +90,10 @@ fn start<'a, L: Ledger>(
     w: Window,
     steps: &mut Steps<L>,
 ) -> Turn<'a>
-    requires node { HasBody search }
+    requires search { CanSearch search (length (option_to_list (seek_var seek)) + length order.now) }
     requires bounded { is_bounded search.probe.now.at ≡ true }
     requires seek { seek ≡ seek_of search.probe.now.at }
-    requires plus { is_near (seek_plus seek) ≡ true }
-    requires low { IsWithin 500000000000 w.low }
-    requires high { IsWithin 500000000000 w.high }
-    requires room { HasSlots search (length (option_to_list (seek_var seek)) + length order.now) }
+    requires window { CanSeek seek w }
     ensures turn { IsTurn w result }
     ensures hits { hits_left w result ≡ seek_hits search.entry.seen.now search.entry.index.now w (searched search.entry) order.now seek (seek_var seek) }
     ensures cost { (u : Window) → IsUpTo w u → steps.new + cost_left u result
@@ -123,9 +115,7 @@ pub(crate) fn starts<'a, L: Ledger>(
     w: Window,
     steps: &mut Steps<L>,
 ) -> Result<Vec<Turn<'a>>, Memory>
-    requires low { IsWithin 500000000000 w.low }
-    requires high { IsWithin 500000000000 w.high }
-    requires probes { HasValidProbes plan.now.query }
+    requires { CanRun plan.now.query w }
     ensures turns { IfOk result (λ turns. Each (IsTurn w) turns.items) }
     ensures hits { IfOk result (λ turns. flat_map (hits_left w) turns.items ≡ query_hits seen.now index.now w plan.now.query) }
     ensures cost { (u : Window) → IsUpTo w u → IfOk result (λ turns. steps.new + total (cost_left u) turns.items

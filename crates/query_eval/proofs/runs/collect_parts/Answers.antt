@@ -12,16 +12,19 @@ use Rattle.probe_eval.proofs.Steps.{part_step, rest_at, item_at}
 use Rattle.query_eval.proofs.Steps.{hits_step}
 use Rattle.query_eval.proofs.runs.collect_parts.Goals as goal
 
-pub collect_part-requires-clause-room : goal.collect_part-requires-clause-room
-collect_part-requires-clause-room g c =
+pub collect_part-requires-clause-search : goal.collect_part-requires-clause-search
+collect_part-requires-clause-search g c =
     let q = c.args.plan.now.query in
     let part = c.part-item.result in
     let below : c.loop-place.place < length q.parts = search rules in
     let is : part ≡ slice_index_or q.parts c.loop-place.place part = search rules in
     let s : slice_get q.parts c.loop-place.place ≡ Some part = item_at q.parts c.loop-place.place part part below is in
     let o : c.order_at.result.now ≡ part_order part = c.order_at.ensures part s in
-    let f = part_fits q c.requires.probes part (get_in q.parts c.loop-place.place part s) in
-    subst (λ z. length (option_to_list (seek_var part.seek)) + length z + nested (tree_at q.pool part.probe.body.0) ≤ 16) (sym o) f.room
+    let f = part_fits q c.requires.run.probes part (get_in q.parts c.loop-place.place part s) in
+    record {
+      node = f.node;
+      room = subst (λ z. length (option_to_list (seek_var part.seek)) + length z + nested (tree_at q.pool part.probe.body.0) ≤ 16) (sym o) f.room;
+    }
 
 pub loop-place-preserved : goal.loop-place-preserved
 loop-place-preserved g c =

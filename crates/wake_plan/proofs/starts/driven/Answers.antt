@@ -11,7 +11,7 @@ returns-clause-turn g c =
     let t : Turn = record { search = c.args.search; order = c.args.order; var = c.args.var; rows = c.read_ahead-next.new.rows; next = c.read_ahead-next.result } in
     let e : seek_var (seek_of (searched c.args.search).at) ≡ Some c.args.var = search rules in
     let a : c.walked-rows.result ≡ walked c.args.search.index.now c.args.w (searched c.args.search) (seek_of (searched c.args.search).at) c.args.var = search rules in
-    started_turn c.args.w t c.walked-rows.result e c.requires.bounded c.docs-docs.ensures.places c.notes-notes.ensures.places a c.read_ahead-next.ensures.rows c.read_ahead-next.ensures.due c.requires.node c.requires.room
+    started_turn c.args.w t c.walked-rows.result e c.requires.bounded c.docs-docs.ensures.places c.notes-notes.ensures.places a c.read_ahead-next.ensures.rows c.read_ahead-next.ensures.due c.requires.search.node c.requires.search.room
 
 pub returns-clause-hits : goal.returns-clause-hits
 returns-clause-hits g c =

@@ -13,8 +13,8 @@ use Rattle.wake_plan.specs.Wakes.{IsUpTo}
 use Rattle.wake_plan.proofs.PartLaws.{each_pushed, pushed_hits, all_pushed, pushed_cost, pushed_room}
 use Rattle.wake_plan.proofs.starts.starts.Goals as goal
 
-pub start-requires-clause-room : goal.start-requires-clause-room
-start-requires-clause-room g c =
+pub start-requires-clause-search : goal.start-requires-clause-search
+start-requires-clause-search g c =
     let q = c.args.plan.now.query in
     let part = c.index-parts-place.result in
     let below : c.loop-place.place < length q.parts = search rules in
@@ -22,7 +22,10 @@ start-requires-clause-room g c =
     let s : slice_get q.parts c.loop-place.place ≡ Some part = item_at q.parts c.loop-place.place part part below is in
     let o : c.order_at.result.now ≡ part_order part = c.order_at.ensures part s in
     let f = part_fits q c.requires.probes part (get_in q.parts c.loop-place.place part s) in
-    subst (λ z. length (option_to_list (seek_var part.seek)) + length z + nested (tree_at q.pool part.probe.body.0) ≤ 16) (sym o) f.room
+    record {
+      node = f.node;
+      room = subst (λ z. length (option_to_list (seek_var part.seek)) + length z + nested (tree_at q.pool part.probe.body.0) ≤ 16) (sym o) f.room;
+    }
 
 pub loop-place-preserved : goal.loop-place-preserved
 loop-place-preserved g c =
