@@ -24,3 +24,5 @@ pub mod InsertQuery
 pub mod InsertRun
 pub mod InsertPick
 pub mod InsertFilter
+pub mod FailingLemmas
+pub mod TakingLemmas

@@ -4,3 +4,4 @@ pub mod Store
 pub mod Calls
 pub mod Telling
 pub mod Opening
+pub mod Failing

@@ -14,6 +14,8 @@ use Rattle.tap_rows.specs.Tables.{no_rows}
 use Rattle.sqlite_value.specs.declared.value.Value.{Value}
 use Rattle.sqlite_value.specs.declared.value.Value.TheVariants.{Null, Int, Real, Text, Blob}
 use Rattle.sqlite_value.specs.Order.{Row, column}
+use Rattle.sqlite.specs.declared.types.Type.{«Type» as SqlType}
+use Rattle.sqlite.specs.declared.types.Type.TheVariants as kind
 use Rattle.sqlite_trees.specs.Tree.{Trees}
 use Rattle.sqlite_trees.specs.Objects.{catalog_tree}
 use Rattle.sqlite_catalog.specs.Listing.{is_table_row}
@@ -137,6 +139,31 @@ show_pick r = column r 0 ∷ column r 2 ∷ column r 3 ∷ column r 4 ∷ column
 
 abbrev pub show_filter : Row → Row
 show_filter r = column r 0 ∷ column r 2 ∷ column r 3 ∷ column r 4 ∷ []
+
+-- ---- the types of their columns
+
+abbrev pub version_kinds : List SqlType
+version_kinds = kind.Integer ∷ kind.Integer ∷ []
+
+abbrev pub doc_kinds : List SqlType
+doc_kinds = kind.Integer ∷ kind.Integer ∷ kind.Blob ∷ []
+
+abbrev pub note_kinds : List SqlType
+note_kinds = kind.Integer ∷ kind.Integer ∷ kind.Blob ∷ kind.Blob ∷ kind.Integer ∷ kind.Integer ∷ kind.Blob ∷ []
+
+abbrev pub query_kinds : List SqlType
+query_kinds = kind.Integer ∷ kind.Blob ∷ kind.Blob ∷ kind.Blob ∷ kind.Integer ∷ []
+
+abbrev pub run_kinds : List SqlType
+run_kinds = kind.Integer ∷ kind.Integer ∷ kind.Integer ∷ []
+
+abbrev pub pick_kinds : List SqlType
+pick_kinds = kind.Integer ∷ kind.Integer ∷ kind.Integer ∷ kind.Integer ∷ kind.Integer ∷ []
+
+abbrev pub filter_kinds : List SqlType
+filter_kinds = kind.Integer ∷ kind.Blob ∷ kind.Blob ∷ kind.Integer ∷ []
+
+-- ---- as they are read from what a query shows
 
 abbrev pub doc_shown : Row → Doc
 doc_shown r = record { num = record { 0 = number_of (column r 0) }; arrival = integer_of (column r 1); text = bytes_of (column r 2) }

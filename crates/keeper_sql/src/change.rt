@@ -1,11 +1,12 @@
 //! Commits the rows of a change, in one transaction.
 
-ghost use Rattle.std.specs.Prelude.{◌≡◌, [], ◌∷◌, map, false, OnOk, OnErr};
+ghost use Rattle.std.specs.Prelude.{◌≡◌, [], ◌∷◌, map, false, IfErr, OnOk, OnErr};
 ghost use Rattle.sqlite.specs.Held.{state};
 ghost use Rattle.sqlite.specs.State.{HasCleanDisk, Survives};
 ghost use Rattle.keeper_sql.specs.RowsAsValues.{rows_of, IsReadBack, only, both, as_kept, given_run, given_pick, run_in, pick_in};
 ghost use Rattle.keeper_sql.specs.Store.{RowsWritten, Commits, IsAfter};
 ghost use Rattle.keeper_sql.specs.Calls.{CommitsNothing, Does, DoesOrUndoes, IsRolledBack, LeavesItsTrees, WasOpen};
+ghost use Rattle.keeper_sql.specs.Failing.{FailsToInsertRows, FailsWhole, FailsWithin};
 
 use crate::docs::insert_docs;
 use crate::filters::insert_filter;
@@ -27,10 +28,13 @@ fn insert_run_done<S: Alter>(
         (RowsWritten (both (only 4 (as_kept (given_run run.now) ∷ [])) (only 5 (map (λ p. as_kept (given_pick p)) picks.now)))) }
     ensures err { DoesOrUndoes S.Store tx.old.conn.now tx.new.conn.now result }
     ensures survives { CommitsNothing S.Store tx.old.conn.now tx.new.conn.now }
+    ensures fails { FailsWithin S.Store tx.old.conn.now tx.new.conn.now result (FailsToInsertRows (Change.RunDone run.now picks.now)) }
     ensures read { OnOk result ((run_in (as_kept (given_run run.now)) ≡ run.now)
         × (map pick_in (map (λ p. as_kept (given_pick p)) picks.now) ≡ picks.now)) }
 {
-    insert_run(tx, run)?;
+    if let Err(error) = insert_run(tx, run) {
+        return Err(error);
+    }
     insert_picks(tx, picks)
 }
 
@@ -40,6 +44,7 @@ fn insert_change<S: Alter>(tx: &mut Transaction<'_, S>, change: &Change) -> Resu
     ensures ok { Does S.Store tx.old.conn.now tx.new.conn.now result (RowsWritten (rows_of change.now)) }
     ensures err { DoesOrUndoes S.Store tx.old.conn.now tx.new.conn.now result }
     ensures survives { CommitsNothing S.Store tx.old.conn.now tx.new.conn.now }
+    ensures fails { FailsWithin S.Store tx.old.conn.now tx.new.conn.now result (FailsToInsertRows change.now) }
     ensures read { OnOk result (IsReadBack change.now) }
 {
     match change {
@@ -60,6 +65,7 @@ pub fn commit_change<S: Alter>(conn: &mut Connection<S>, change: &Change) -> Res
     ensures was_open { HasCleanDisk (state S.Store conn.new) → OnErr result (WasOpen (state S.Store conn.old) (state S.Store conn.new)) }
     ensures undone { HasCleanDisk (state S.Store conn.new) → OnErr result (IsRolledBack (state S.Store conn.old) (state S.Store conn.new)) }
     ensures survives { Survives (state S.Store conn.old) (state S.Store conn.new) (IsAfter change.now (state S.Store conn.old)) }
+    ensures fails { HasCleanDisk (state S.Store conn.new) → IfErr result (FailsWhole S.Store conn.old conn.new (FailsToInsertRows change.now)) }
     ensures read { OnOk result (IsReadBack change.now) }
 {
     let mut tx = conn.transaction();

@@ -1,10 +1,12 @@
 //! Makes the tables of a store that aren't there.
 
-ghost use Rattle.std.specs.Prelude.{◌≡◌};
+ghost use Rattle.std.specs.Prelude.{◌≡◌, []};
 ghost use Rattle.keeper_sql.specs.Schema.{schema_prefix_0, schema_prefix_1, schema_prefix_2, schema_prefix_3};
 ghost use Rattle.keeper_sql.specs.Schema.{schema_prefix_4, schema_prefix_5, schema_prefix_6, schema_prefix_7};
 ghost use Rattle.keeper_sql.specs.Store.{Makes};
 ghost use Rattle.keeper_sql.specs.Calls.{CommitsNothing, Does, DoesOrUndoes};
+ghost use Rattle.keeper_sql.specs.Schema.{create_meta, create_docs, create_notes, create_queries, create_runs, create_picks, create_filters};
+ghost use Rattle.keeper_sql.specs.Failing.{FailsAmong, FailsBy, FailsToWrite, FailsWithin, create_texts};
 
 use sqlite::{Alter, Error, Transaction};
 
@@ -14,6 +16,7 @@ fn create_meta<S: Alter>(tx: &mut Transaction<'_, S>) -> Result<(), Error>
     ensures ok { Does S.Store tx.old.conn.now tx.new.conn.now result (Makes schema_prefix_0 0 schema_prefix_1 1) }
     ensures err { DoesOrUndoes S.Store tx.old.conn.now tx.new.conn.now result }
     ensures survives { CommitsNothing S.Store tx.old.conn.now tx.new.conn.now }
+    ensures fails { FailsBy S.Store tx.old.conn.now tx.new.conn.now result (FailsToWrite create_meta []) }
 {
     match tx.execute(
         "CREATE TABLE IF NOT EXISTS meta (id INTEGER PRIMARY KEY CHECK (id = 1), version INTEGER NOT NULL) STRICT",
@@ -29,6 +32,7 @@ fn create_docs<S: Alter>(tx: &mut Transaction<'_, S>) -> Result<(), Error>
     ensures ok { Does S.Store tx.old.conn.now tx.new.conn.now result (Makes schema_prefix_1 1 schema_prefix_2 2) }
     ensures err { DoesOrUndoes S.Store tx.old.conn.now tx.new.conn.now result }
     ensures survives { CommitsNothing S.Store tx.old.conn.now tx.new.conn.now }
+    ensures fails { FailsBy S.Store tx.old.conn.now tx.new.conn.now result (FailsToWrite create_docs []) }
 {
     match tx.execute(
         "CREATE TABLE IF NOT EXISTS docs (num INTEGER PRIMARY KEY, arrival INTEGER NOT NULL, body BLOB NOT NULL) STRICT",
@@ -44,6 +48,7 @@ fn create_notes<S: Alter>(tx: &mut Transaction<'_, S>) -> Result<(), Error>
     ensures ok { Does S.Store tx.old.conn.now tx.new.conn.now result (Makes schema_prefix_2 2 schema_prefix_3 3) }
     ensures err { DoesOrUndoes S.Store tx.old.conn.now tx.new.conn.now result }
     ensures survives { CommitsNothing S.Store tx.old.conn.now tx.new.conn.now }
+    ensures fails { FailsBy S.Store tx.old.conn.now tx.new.conn.now result (FailsToWrite create_notes []) }
 {
     match tx.execute(
         "CREATE TABLE IF NOT EXISTS notes (num INTEGER PRIMARY KEY, doc INTEGER NOT NULL, \
@@ -60,6 +65,7 @@ fn create_queries<S: Alter>(tx: &mut Transaction<'_, S>) -> Result<(), Error>
     ensures ok { Does S.Store tx.old.conn.now tx.new.conn.now result (Makes schema_prefix_3 3 schema_prefix_4 4) }
     ensures err { DoesOrUndoes S.Store tx.old.conn.now tx.new.conn.now result }
     ensures survives { CommitsNothing S.Store tx.old.conn.now tx.new.conn.now }
+    ensures fails { FailsBy S.Store tx.old.conn.now tx.new.conn.now result (FailsToWrite create_queries []) }
 {
     match tx.execute(
         "CREATE TABLE IF NOT EXISTS queries (num INTEGER PRIMARY KEY, owner BLOB NOT NULL, name BLOB NOT NULL, \
@@ -76,6 +82,7 @@ fn create_runs<S: Alter>(tx: &mut Transaction<'_, S>) -> Result<(), Error>
     ensures ok { Does S.Store tx.old.conn.now tx.new.conn.now result (Makes schema_prefix_4 4 schema_prefix_5 5) }
     ensures err { DoesOrUndoes S.Store tx.old.conn.now tx.new.conn.now result }
     ensures survives { CommitsNothing S.Store tx.old.conn.now tx.new.conn.now }
+    ensures fails { FailsBy S.Store tx.old.conn.now tx.new.conn.now result (FailsToWrite create_runs []) }
 {
     match tx.execute(
         "CREATE TABLE IF NOT EXISTS runs (num INTEGER PRIMARY KEY, query INTEGER NOT NULL, moment INTEGER NOT NULL) STRICT",
@@ -91,6 +98,7 @@ fn create_picks<S: Alter>(tx: &mut Transaction<'_, S>) -> Result<(), Error>
     ensures ok { Does S.Store tx.old.conn.now tx.new.conn.now result (Makes schema_prefix_5 5 schema_prefix_6 6) }
     ensures err { DoesOrUndoes S.Store tx.old.conn.now tx.new.conn.now result }
     ensures survives { CommitsNothing S.Store tx.old.conn.now tx.new.conn.now }
+    ensures fails { FailsBy S.Store tx.old.conn.now tx.new.conn.now result (FailsToWrite create_picks []) }
 {
     match tx.execute(
         "CREATE TABLE IF NOT EXISTS picks (num INTEGER PRIMARY KEY, query INTEGER NOT NULL, run INTEGER NOT NULL, \
@@ -107,6 +115,7 @@ fn create_filters<S: Alter>(tx: &mut Transaction<'_, S>) -> Result<(), Error>
     ensures ok { Does S.Store tx.old.conn.now tx.new.conn.now result (Makes schema_prefix_6 6 schema_prefix_7 7) }
     ensures err { DoesOrUndoes S.Store tx.old.conn.now tx.new.conn.now result }
     ensures survives { CommitsNothing S.Store tx.old.conn.now tx.new.conn.now }
+    ensures fails { FailsBy S.Store tx.old.conn.now tx.new.conn.now result (FailsToWrite create_filters []) }
 {
     match tx.execute(
         "CREATE TABLE IF NOT EXISTS filters (num INTEGER PRIMARY KEY, owner BLOB NOT NULL, source BLOB NOT NULL, arrival INTEGER NOT NULL) STRICT",
@@ -123,8 +132,11 @@ fn create_two<S: Alter>(tx: &mut Transaction<'_, S>) -> Result<(), Error>
     ensures ok { Does S.Store tx.old.conn.now tx.new.conn.now result (Makes schema_prefix_0 0 schema_prefix_2 2) }
     ensures err { DoesOrUndoes S.Store tx.old.conn.now tx.new.conn.now result }
     ensures survives { CommitsNothing S.Store tx.old.conn.now tx.new.conn.now }
+    ensures fails { FailsWithin S.Store tx.old.conn.now tx.new.conn.now result (FailsAmong create_texts) }
 {
-    create_meta(tx)?;
+    if let Err(error) = create_meta(tx) {
+        return Err(error);
+    }
     create_docs(tx)
 }
 
@@ -134,9 +146,14 @@ fn create_four<S: Alter>(tx: &mut Transaction<'_, S>) -> Result<(), Error>
     ensures ok { Does S.Store tx.old.conn.now tx.new.conn.now result (Makes schema_prefix_0 0 schema_prefix_4 4) }
     ensures err { DoesOrUndoes S.Store tx.old.conn.now tx.new.conn.now result }
     ensures survives { CommitsNothing S.Store tx.old.conn.now tx.new.conn.now }
+    ensures fails { FailsWithin S.Store tx.old.conn.now tx.new.conn.now result (FailsAmong create_texts) }
 {
-    create_two(tx)?;
-    create_notes(tx)?;
+    if let Err(error) = create_two(tx) {
+        return Err(error);
+    }
+    if let Err(error) = create_notes(tx) {
+        return Err(error);
+    }
     create_queries(tx)
 }
 
@@ -146,9 +163,14 @@ fn create_six<S: Alter>(tx: &mut Transaction<'_, S>) -> Result<(), Error>
     ensures ok { Does S.Store tx.old.conn.now tx.new.conn.now result (Makes schema_prefix_0 0 schema_prefix_6 6) }
     ensures err { DoesOrUndoes S.Store tx.old.conn.now tx.new.conn.now result }
     ensures survives { CommitsNothing S.Store tx.old.conn.now tx.new.conn.now }
+    ensures fails { FailsWithin S.Store tx.old.conn.now tx.new.conn.now result (FailsAmong create_texts) }
 {
-    create_four(tx)?;
-    create_runs(tx)?;
+    if let Err(error) = create_four(tx) {
+        return Err(error);
+    }
+    if let Err(error) = create_runs(tx) {
+        return Err(error);
+    }
     create_picks(tx)
 }
 
@@ -158,7 +180,10 @@ pub fn create_all<S: Alter>(tx: &mut Transaction<'_, S>) -> Result<(), Error>
     ensures ok { Does S.Store tx.old.conn.now tx.new.conn.now result (Makes schema_prefix_0 0 schema_prefix_7 7) }
     ensures err { DoesOrUndoes S.Store tx.old.conn.now tx.new.conn.now result }
     ensures survives { CommitsNothing S.Store tx.old.conn.now tx.new.conn.now }
+    ensures fails { FailsWithin S.Store tx.old.conn.now tx.new.conn.now result (FailsAmong create_texts) }
 {
-    create_six(tx)?;
+    if let Err(error) = create_six(tx) {
+        return Err(error);
+    }
     create_filters(tx)
 }

@@ -2,9 +2,11 @@
 
 ghost use Rattle.std.specs.Prelude.{◌≡◌, ◌<◌, ◌^◌, [], ◌∷◌, OnOk};
 ghost use Rattle.sqlite.specs.Values.{bound};
-ghost use Rattle.keeper_sql.specs.RowsAsValues.{given_filter, filter_in, filter_shown, as_kept};
+ghost use Rattle.keeper_sql.specs.RowsAsValues.{given_filter, filter_in, filter_kinds, filter_shown, as_kept};
 ghost use Rattle.keeper_sql.specs.Store.{only, RowsWritten};
 ghost use Rattle.keeper_sql.specs.Calls.{AreRowsOf, CommitsNothing, Does, DoesOrUndoes, Reads, ReadsOnly, ReadsOrUndoes};
+ghost use Rattle.keeper_sql.specs.Schema.{insert_filter, select_filters};
+ghost use Rattle.keeper_sql.specs.Failing.{FailsBy, FailsToRead, FailsToWrite};
 
 use crate::reading::{TableRow, bytes, integer, number, read_rows};
 use sqlite::types::ValueRef;
@@ -32,6 +34,7 @@ pub fn insert_filter<S: Alter>(tx: &mut Transaction<'_, S>, filter: &FilterRow) 
     ensures ok { Does S.Store tx.old.conn.now tx.new.conn.now result (RowsWritten (only 6 (as_kept (given_filter filter.now) ∷ []))) }
     ensures err { DoesOrUndoes S.Store tx.old.conn.now tx.new.conn.now result }
     ensures survives { CommitsNothing S.Store tx.old.conn.now tx.new.conn.now }
+    ensures fails { FailsBy S.Store tx.old.conn.now tx.new.conn.now result (FailsToWrite insert_filter (given_filter filter.now)) }
     ensures read { OnOk result (filter_in (as_kept (given_filter filter.now)) ≡ filter.now) }
 {
     let values = filter_values(filter);
@@ -46,6 +49,8 @@ pub fn insert_filter<S: Alter>(tx: &mut Transaction<'_, S>, filter: &FilterRow) 
 
 impl TableRow for FilterRow {
     ghost shown = { filter_shown };
+
+    ghost kinds = { filter_kinds };
 
     fn read(alloc: Global, row: &Row) -> Result<FilterRow, Error> {
         let num = number(row, 0)?;
@@ -71,6 +76,7 @@ pub fn read_filters<S: Alter>(
     ensures read { Reads S.Store tx.old.conn.now tx.new.conn.now result (AreRowsOf 6 filter_in) }
     ensures err { ReadsOrUndoes S.Store tx.old.conn.now tx.new.conn.now result }
     ensures survives { CommitsNothing S.Store tx.old.conn.now tx.new.conn.now }
+    ensures fails { FailsBy S.Store tx.old.conn.now tx.new.conn.now result (FailsToRead select_filters filter_kinds) }
 {
     match tx.query_all(
         "SELECT num, owner, source, arrival FROM filters ORDER BY num",

@@ -1,11 +1,12 @@
 //! Commits a change, and finds out what an error left.
 
-ghost use Rattle.std.specs.Prelude.{◌≡◌, ◌↔◌, false, IsTrue, OnOk, Err};
+ghost use Rattle.std.specs.Prelude.{◌≡◌, ◌↔◌, false, IsTrue, IfErr, OnOk, Err};
 ghost use Rattle.sqlite.specs.Held.{state};
 ghost use Rattle.sqlite.specs.State.{HasCleanDisk, Survives, IsUnchanged, IsLive};
 ghost use Rattle.keeper_sql.specs.RowsAsValues.{rows_of, IsReadBack};
 ghost use Rattle.keeper_sql.specs.Store.{Commits, IsAfter};
 ghost use Rattle.keeper_sql.specs.Calls.{IsRefused, IsSettled, LeavesItsTrees, LeavesOldOr};
+ghost use Rattle.keeper_sql.specs.Failing.{FailsToKeep};
 
 use crate::change::commit_change;
 use keeper_core::CommitFault;
@@ -54,6 +55,7 @@ pub fn is_still_open<S: Alter>(conn: &mut Connection<S>) -> bool
 pub fn is_only_memory<S: Alter>(conn: &mut Connection<S>, error: &Error) -> bool
     requires { (state S.Store conn.old).in_transaction ≡ false }
     ensures ended { (state S.Store conn.new).in_transaction ≡ false }
+    ensures memory { IsTrue result → error.now ≡ Error.SqliteFailure ErrorCode.OutOfMemory }
     ensures same { HasCleanDisk (state S.Store conn.new) → IsTrue result → IsUnchanged (state S.Store conn.old) (state S.Store conn.new) }
     ensures alone { HasCleanDisk (state S.Store conn.new) → IsTrue result → LeavesItsTrees (state S.Store conn.new) }
     ensures survives { Survives (state S.Store conn.old) (state S.Store conn.new) (λ _. ⊥) }
@@ -74,6 +76,7 @@ pub fn keep<S: Alter>(conn: &mut Connection<S>, change: &Change) -> Result<(), C
         × LeavesItsTrees (state S.Store conn.new) }
     ensures crash { HasCleanDisk (state S.Store conn.new) → IsTrue (state S.Store conn.old).is_open
         → LeavesOldOr (IsAfter change.now (state S.Store conn.old)) (state S.Store conn.old) (state S.Store conn.new) }
+    ensures fails { HasCleanDisk (state S.Store conn.new) → IfErr result (FailsToKeep S.Store conn.old conn.new change.now) }
 {
     // For its clauses, which the error needs.
     let _settled = is_settled(conn);

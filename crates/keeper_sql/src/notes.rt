@@ -2,9 +2,11 @@
 
 ghost use Rattle.std.specs.Prelude.{◌≡◌, ◌<◌, ◌^◌, [], ◌∷◌, OnOk};
 ghost use Rattle.sqlite.specs.Values.{bound};
-ghost use Rattle.keeper_sql.specs.RowsAsValues.{given_note, note_in, note_shown, as_kept};
+ghost use Rattle.keeper_sql.specs.RowsAsValues.{given_note, note_in, note_kinds, note_shown, as_kept};
 ghost use Rattle.keeper_sql.specs.Store.{only, RowsWritten};
 ghost use Rattle.keeper_sql.specs.Calls.{AreRowsOf, CommitsNothing, Does, DoesOrUndoes, Reads, ReadsOnly, ReadsOrUndoes};
+ghost use Rattle.keeper_sql.specs.Schema.{insert_note, select_notes};
+ghost use Rattle.keeper_sql.specs.Failing.{FailsBy, FailsToRead, FailsToWrite};
 
 use crate::reading::{TableRow, bytes, integer, number, read_rows};
 use sqlite::types::ValueRef;
@@ -35,6 +37,7 @@ pub fn insert_note<S: Alter>(tx: &mut Transaction<'_, S>, note: &Note) -> Result
     ensures ok { Does S.Store tx.old.conn.now tx.new.conn.now result (RowsWritten (only 2 (as_kept (given_note note.now) ∷ []))) }
     ensures err { DoesOrUndoes S.Store tx.old.conn.now tx.new.conn.now result }
     ensures survives { CommitsNothing S.Store tx.old.conn.now tx.new.conn.now }
+    ensures fails { FailsBy S.Store tx.old.conn.now tx.new.conn.now result (FailsToWrite insert_note (given_note note.now)) }
     ensures read { OnOk result (note_in (as_kept (given_note note.now)) ≡ note.now) }
 {
     let values = note_values(note);
@@ -49,6 +52,8 @@ pub fn insert_note<S: Alter>(tx: &mut Transaction<'_, S>, note: &Note) -> Result
 
 impl TableRow for Note {
     ghost shown = { note_shown };
+
+    ghost kinds = { note_kinds };
 
     fn read(alloc: Global, row: &Row) -> Result<Note, Error> {
         let num = NoteNum(number(row, 0)?);
@@ -77,6 +82,7 @@ pub fn read_notes<S: Alter>(alloc: Global, tx: &mut Transaction<'_, S>) -> Resul
     ensures read { Reads S.Store tx.old.conn.now tx.new.conn.now result (AreRowsOf 2 note_in) }
     ensures err { ReadsOrUndoes S.Store tx.old.conn.now tx.new.conn.now result }
     ensures survives { CommitsNothing S.Store tx.old.conn.now tx.new.conn.now }
+    ensures fails { FailsBy S.Store tx.old.conn.now tx.new.conn.now result (FailsToRead select_notes note_kinds) }
 {
     match tx.query_all(
         "SELECT num, doc, author, kind, value, arrival, body FROM notes ORDER BY num",

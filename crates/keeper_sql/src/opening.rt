@@ -4,6 +4,7 @@ ghost use Rattle.std.specs.Prelude.{◌≡◌, map};
 ghost use Rattle.keeper_sql.specs.RowsAsValues.{tables_in, doc_in, note_in, query_in, run_in, pick_in, filter_in};
 ghost use Rattle.keeper_sql.specs.Store.{AreAllKeyed};
 ghost use Rattle.keeper_sql.specs.Calls.{CommitsNothing, Reads, ReadsOnly, ReadsOrUndoes};
+ghost use Rattle.keeper_sql.specs.Failing.{FailsToReadTables, FailsWithin};
 
 use crate::docs::read_docs;
 use crate::filters::read_filters;
@@ -43,6 +44,7 @@ fn read_written<S: Alter>(
         → (all.docs ≡ map doc_in (db.trees 1)) × (all.notes ≡ map note_in (db.trees 2)) × (all.queries ≡ map query_in (db.trees 3))) }
     ensures err { ReadsOrUndoes S.Store tx.old.conn.now tx.new.conn.now result }
     ensures survives { CommitsNothing S.Store tx.old.conn.now tx.new.conn.now }
+    ensures fails { FailsWithin S.Store tx.old.conn.now tx.new.conn.now result FailsToReadTables }
 {
     let docs = match read_docs(alloc, tx) {
         Ok(docs) => docs,
@@ -70,6 +72,7 @@ fn read_derived<S: Alter>(alloc: Global, tx: &mut Transaction<'_, S>) -> Result<
         → (all.runs ≡ map run_in (db.trees 4)) × (all.picks ≡ map pick_in (db.trees 5)) × (all.filters ≡ map filter_in (db.trees 6))) }
     ensures err { ReadsOrUndoes S.Store tx.old.conn.now tx.new.conn.now result }
     ensures survives { CommitsNothing S.Store tx.old.conn.now tx.new.conn.now }
+    ensures fails { FailsWithin S.Store tx.old.conn.now tx.new.conn.now result FailsToReadTables }
 {
     let runs = match read_runs(alloc, tx) {
         Ok(runs) => runs,
@@ -96,6 +99,7 @@ pub fn read_tables<S: Alter>(alloc: Global, tx: &mut Transaction<'_, S>) -> Resu
     ensures read { Reads S.Store tx.old.conn.now tx.new.conn.now result (λ db tables. AreAllKeyed db → tables ≡ tables_in db.trees) }
     ensures err { ReadsOrUndoes S.Store tx.old.conn.now tx.new.conn.now result }
     ensures survives { CommitsNothing S.Store tx.old.conn.now tx.new.conn.now }
+    ensures fails { FailsWithin S.Store tx.old.conn.now tx.new.conn.now result FailsToReadTables }
 {
     let written = match read_written(alloc, tx) {
         Ok(written) => written,

@@ -2,9 +2,11 @@
 
 ghost use Rattle.std.specs.Prelude.{◌≡◌, ◌<◌, ◌^◌, [], ◌∷◌, map, OnOk};
 ghost use Rattle.sqlite.specs.Values.{bound};
-ghost use Rattle.keeper_sql.specs.RowsAsValues.{given_pick, pick_in, pick_shown, as_kept};
+ghost use Rattle.keeper_sql.specs.RowsAsValues.{given_pick, pick_in, pick_kinds, pick_shown, as_kept};
 ghost use Rattle.keeper_sql.specs.Store.{only, RowsWritten};
 ghost use Rattle.keeper_sql.specs.Calls.{AreRowsOf, CommitsNothing, Does, DoesOrUndoes, Reads, ReadsOnly, ReadsOrUndoes};
+ghost use Rattle.keeper_sql.specs.Schema.{insert_pick, select_picks};
+ghost use Rattle.keeper_sql.specs.Failing.{FailsBy, FailsToInsert, FailsToRead, FailsToWrite, FailsWithin};
 
 use crate::reading::{TableRow, integer, number, read_rows};
 use sqlite::types::ValueRef;
@@ -33,6 +35,7 @@ pub fn insert_pick<S: Alter>(tx: &mut Transaction<'_, S>, pick: &Pick) -> Result
     ensures ok { Does S.Store tx.old.conn.now tx.new.conn.now result (RowsWritten (only 5 (as_kept (given_pick pick.now) ∷ []))) }
     ensures err { DoesOrUndoes S.Store tx.old.conn.now tx.new.conn.now result }
     ensures survives { CommitsNothing S.Store tx.old.conn.now tx.new.conn.now }
+    ensures fails { FailsBy S.Store tx.old.conn.now tx.new.conn.now result (FailsToWrite insert_pick (given_pick pick.now)) }
     ensures read { OnOk result (pick_in (as_kept (given_pick pick.now)) ≡ pick.now) }
 {
     let values = pick_values(pick);
@@ -51,16 +54,21 @@ pub fn insert_picks<S: Alter>(tx: &mut Transaction<'_, S>, picks: &[Pick]) -> Re
     ensures ok { Does S.Store tx.old.conn.now tx.new.conn.now result (RowsWritten (only 5 (map (λ x. as_kept (given_pick x)) picks.now))) }
     ensures err { DoesOrUndoes S.Store tx.old.conn.now tx.new.conn.now result }
     ensures survives { CommitsNothing S.Store tx.old.conn.now tx.new.conn.now }
+    ensures fails { FailsWithin S.Store tx.old.conn.now tx.new.conn.now result (FailsToInsert insert_pick given_pick picks.now) }
     ensures read { OnOk result (map pick_in (map (λ x. as_kept (given_pick x)) picks.now) ≡ picks.now) }
 {
     'adds: for pick in picks {
-        insert_pick(tx, pick)?;
+        if let Err(error) = insert_pick(tx, pick) {
+            return Err(error);
+        }
     }
     Ok(())
 }
 
 impl TableRow for Pick {
     ghost shown = { pick_shown };
+
+    ghost kinds = { pick_kinds };
 
     fn read(_alloc: Global, row: &Row) -> Result<Pick, Error> {
         let num = number(row, 0)?;
@@ -85,6 +93,7 @@ pub fn read_picks<S: Alter>(alloc: Global, tx: &mut Transaction<'_, S>) -> Resul
     ensures read { Reads S.Store tx.old.conn.now tx.new.conn.now result (AreRowsOf 5 pick_in) }
     ensures err { ReadsOrUndoes S.Store tx.old.conn.now tx.new.conn.now result }
     ensures survives { CommitsNothing S.Store tx.old.conn.now tx.new.conn.now }
+    ensures fails { FailsBy S.Store tx.old.conn.now tx.new.conn.now result (FailsToRead select_picks pick_kinds) }
 {
     match tx.query_all(
         "SELECT num, query, run, doc, second FROM picks ORDER BY num",

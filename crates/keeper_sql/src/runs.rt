@@ -2,9 +2,11 @@
 
 ghost use Rattle.std.specs.Prelude.{◌≡◌, ◌<◌, ◌^◌, [], ◌∷◌, OnOk};
 ghost use Rattle.sqlite.specs.Values.{bound};
-ghost use Rattle.keeper_sql.specs.RowsAsValues.{given_run, run_in, run_shown, as_kept};
+ghost use Rattle.keeper_sql.specs.RowsAsValues.{given_run, run_in, run_kinds, run_shown, as_kept};
 ghost use Rattle.keeper_sql.specs.Store.{only, RowsWritten};
 ghost use Rattle.keeper_sql.specs.Calls.{AreRowsOf, CommitsNothing, Does, DoesOrUndoes, Reads, ReadsOnly, ReadsOrUndoes};
+ghost use Rattle.keeper_sql.specs.Schema.{insert_run, select_runs};
+ghost use Rattle.keeper_sql.specs.Failing.{FailsBy, FailsToRead, FailsToWrite};
 
 use crate::reading::{TableRow, integer, number, read_rows};
 use sqlite::types::ValueRef;
@@ -31,6 +33,7 @@ pub fn insert_run<S: Alter>(tx: &mut Transaction<'_, S>, run: &RunRow) -> Result
     ensures ok { Does S.Store tx.old.conn.now tx.new.conn.now result (RowsWritten (only 4 (as_kept (given_run run.now) ∷ []))) }
     ensures err { DoesOrUndoes S.Store tx.old.conn.now tx.new.conn.now result }
     ensures survives { CommitsNothing S.Store tx.old.conn.now tx.new.conn.now }
+    ensures fails { FailsBy S.Store tx.old.conn.now tx.new.conn.now result (FailsToWrite insert_run (given_run run.now)) }
     ensures read { OnOk result (run_in (as_kept (given_run run.now)) ≡ run.now) }
 {
     let values = run_values(run);
@@ -45,6 +48,8 @@ pub fn insert_run<S: Alter>(tx: &mut Transaction<'_, S>, run: &RunRow) -> Result
 
 impl TableRow for RunRow {
     ghost shown = { run_shown };
+
+    ghost kinds = { run_kinds };
 
     fn read(_alloc: Global, row: &Row) -> Result<RunRow, Error> {
         let num = number(row, 0)?;
@@ -64,6 +69,7 @@ pub fn read_runs<S: Alter>(
     ensures read { Reads S.Store tx.old.conn.now tx.new.conn.now result (AreRowsOf 4 run_in) }
     ensures err { ReadsOrUndoes S.Store tx.old.conn.now tx.new.conn.now result }
     ensures survives { CommitsNothing S.Store tx.old.conn.now tx.new.conn.now }
+    ensures fails { FailsBy S.Store tx.old.conn.now tx.new.conn.now result (FailsToRead select_runs run_kinds) }
 {
     match tx.query_all("SELECT num, query, moment FROM runs ORDER BY num", &[]) {
         Ok(shown) => read_rows(alloc, shown),

@@ -1,18 +1,21 @@
 //! Reads and raises the version of a store.
 
-ghost use Rattle.std.specs.Prelude.{◌≡◌, ◌≢◌, pos, IfOk, OnOk, OnErr};
+ghost use Rattle.std.specs.Prelude.{◌≡◌, [], ◌≢◌, pos, IfOk, IfErr, OnOk, OnErr};
 ghost use Rattle.sqlite.specs.Held.{state};
 ghost use Rattle.sqlite.specs.State.{HasCleanDisk};
-ghost use Rattle.keeper_sql.specs.RowsAsValues.{version_in, version_shown};
+ghost use Rattle.keeper_sql.specs.RowsAsValues.{version_in, version_kinds, version_shown};
 ghost use Rattle.keeper_sql.specs.Store.{Undone, Raises, Settles, AreKeyed, IsMeta, IsAtVersion};
 ghost use Rattle.keeper_sql.specs.Calls.{CommitsNothing, Does, DoesOrUndoes, Gives, InStore, Reads, ReadsOnly, ReadsOrUndoes};
+ghost use Rattle.keeper_sql.specs.Schema.{replace_meta, select_meta};
+ghost use Rattle.keeper_sql.specs.Failing.{FailsBy, FailsToRead, FailsToSettle, FailsToTakeRows, FailsToWrite, FailsWithin};
 
 use crate::reading::integer;
 use sqlite::{Alter, Error, Row, Transaction};
 
 // Returns the version that the rows of `meta` show, if there is one.
 fn version_of(shown: &[Row]) -> Result<Option<i64>, Error>
-    ensures { IfOk result (λ version. version ≡ version_shown shown.now) }
+    ensures ok { IfOk result (λ version. version ≡ version_shown shown.now) }
+    ensures fails { IfErr result (FailsToTakeRows version_kinds shown.now) }
 {
     match shown.first() {
         None => Ok(None),
@@ -27,6 +30,7 @@ pub fn read_version<S: Alter>(tx: &mut Transaction<'_, S>) -> Result<Option<i64>
     ensures read { Reads S.Store tx.old.conn.now tx.new.conn.now result (λ db version. AreKeyed (db.trees 0) → version ≡ version_in (db.trees 0)) }
     ensures err { ReadsOrUndoes S.Store tx.old.conn.now tx.new.conn.now result }
     ensures survives { CommitsNothing S.Store tx.old.conn.now tx.new.conn.now }
+    ensures fails { FailsBy S.Store tx.old.conn.now tx.new.conn.now result (FailsToRead select_meta version_kinds) }
 {
     match tx.query_all("SELECT id, version FROM meta ORDER BY id", &[]) {
         Ok(shown) => version_of(shown.as_slice()),
@@ -41,6 +45,7 @@ pub fn write_version<S: Alter>(tx: &mut Transaction<'_, S>) -> Result<(), Error>
     ensures at { HasCleanDisk (state S.Store tx.new.conn.now) → OnOk result (IsAtVersion (state S.Store tx.new.conn.now).now (pos 2)) }
     ensures err { DoesOrUndoes S.Store tx.old.conn.now tx.new.conn.now result }
     ensures survives { CommitsNothing S.Store tx.old.conn.now tx.new.conn.now }
+    ensures fails { FailsBy S.Store tx.old.conn.now tx.new.conn.now result (FailsToWrite replace_meta []) }
 {
     match tx.execute(
         "INSERT OR REPLACE INTO meta (id, version) VALUES (1, 2)",
@@ -59,6 +64,7 @@ fn raise_version<S: Alter>(tx: &mut Transaction<'_, S>) -> Result<i64, Error>
     ensures at { HasCleanDisk (state S.Store tx.new.conn.now) → IfOk result (IsAtVersion (state S.Store tx.new.conn.now).now) }
     ensures err { DoesOrUndoes S.Store tx.old.conn.now tx.new.conn.now result }
     ensures survives { CommitsNothing S.Store tx.old.conn.now tx.new.conn.now }
+    ensures fails { FailsBy S.Store tx.old.conn.now tx.new.conn.now result (FailsToWrite replace_meta []) }
 {
     match write_version(tx) {
         Ok(()) => Ok(2),
@@ -75,6 +81,7 @@ pub fn settle_version<S: Alter>(tx: &mut Transaction<'_, S>) -> Result<i64, Erro
     ensures at { HasCleanDisk (state S.Store tx.new.conn.now) → IfOk result (IsAtVersion (state S.Store tx.new.conn.now).now) }
     ensures err { InStore S.Store tx.old.conn.now tx.new.conn.now (OnErr result (Undone (state S.Store tx.old.conn.now) (state S.Store tx.new.conn.now))) }
     ensures survives { CommitsNothing S.Store tx.old.conn.now tx.new.conn.now }
+    ensures fails { FailsWithin S.Store tx.old.conn.now tx.new.conn.now result FailsToSettle }
 {
     match read_version(tx) {
         Err(error) => Err(error),

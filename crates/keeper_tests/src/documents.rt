@@ -1,15 +1,15 @@
 //! Documents that tests keep, and a session that keeps one.
 
-ghost use Rattle.std.specs.Prelude.{◌≡◌, false};
+ghost use Rattle.keeper_core.specs.States.{IsFree};
 
 use keeper_core::Keeper;
 use std::alloc::Global;
-use tap_base::{DocNum, Memory, Rows, Text};
+use tap_base::{DocNum, Memory, Rows, SharedText, Text};
 use tap_rows::{Change, Doc};
 
 /// Returns a change that adds a document of this number.
 pub fn one_doc(alloc: Global, num: u32) -> Result<Change, Memory> {
-    let text = Text::from_slice(alloc, b"Subject: hi\n\n")?;
+    let text = SharedText::of(alloc, Text::from_slice(alloc, b"Subject: hi\n\n")?)?;
     let doc = Doc {
         num: DocNum(num),
         arrival: 100,
@@ -39,8 +39,7 @@ pub fn two_docs(alloc: Global) -> Result<TwoDocs, Memory> {
 
 /// Attaches a keeper and commits a change; how many documents there were before.
 pub fn keep<P: Keeper>(alloc: Global, keeper: &mut P, at: &str, change: &Change) -> Option<usize>
-    requires free { P.attached keeper.old ≡ false }
-    requires running { P.stopped keeper.old ≡ false }
+    requires free { IsFree P.Keeper keeper.old }
 {
     match keeper.attach(alloc, at) {
         Ok(tables) => {

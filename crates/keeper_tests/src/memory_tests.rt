@@ -1,10 +1,11 @@
 //! Keepers in memory, and what a caller of any keeper knows.
 
-ghost use Rattle.std.specs.Prelude.{◌≡◌, ◌≢◌, ◌⊎◌, ◌↔◌, ℤ, pos, true, false, codes};
+ghost use Rattle.std.specs.Prelude.{◌≡◌, ◌≢◌, ◌⊎◌, ◌↔◌, ℤ, pos, true, codes};
 ghost use Rattle.tap_rows.specs.Tables.{after};
 ghost use Rattle.tap_rows.specs.declared.tables.Tables.{Tables as TableRows};
 ghost use Rattle.keeper_core.specs.Keeping.{IsDurable, Extends};
 ghost use Rattle.tap_base.specs.Counts.{Rose};
+ghost use Rattle.keeper_core.specs.States.{IsFree};
 
 use crate::documents::{TwoDocs, keep, one_doc, two_docs};
 use keeper_core::{AttachFault, CommitFault, KeepPlan, Keeper, MemKeeper, SureKeeper};
@@ -17,8 +18,7 @@ use tap_rows::{Change, Tables};
 // Attaches any keeper and commits two changes. Returns 0 if both were committed, 5 if the keeper failed, 6 if its store
 // has another version, 7 if a call was out of memory.
 fn keep_two<P: Keeper>(alloc: Global, keeper: &mut P, one: &Change, two: &Change) -> u8
-    requires free { P.attached keeper.old ≡ false }
-    requires running { P.stopped keeper.old ≡ false }
+    requires free { IsFree P.Keeper keeper.old }
     ensures stopped { (P.stopped keeper.new ≡ true) ↔ (result ≡ 5) }
     ensures cause { result ≡ 5 → Rose (P.faults keeper.old) (P.faults keeper.new) }
     ensures placed { (P.place keeper.new ≡ codes "store") ⊎ (result ≡ 7) }

@@ -8,6 +8,7 @@ use Rattle.sqlite.proofs.StateLemmas.{survives_then}
 use Rattle.tap_rows.specs.declared.rows.Doc.{Doc}
 use Rattle.keeper_sql.specs.RowsAsValues.{given_doc, doc_in, as_kept, only}
 use Rattle.keeper_sql.proofs.Steps.{went_then, only_both}
+use Rattle.keeper_sql.proofs.FailingLemmas.{reaches_rows}
 use Rattle.keeper_sql.proofs.ReadBack.{read_more}
 use Rattle.keeper_sql.proofs.docs.insert_docs.Goals as goal
 
@@ -27,6 +28,13 @@ adds-preserved g c =
       λ clean inside.
           let early : HasCleanDisk mid = omega (arith, c.insert_doc.ensures.survives.clean) in
           let was = c.adds.invariant.2 early inside in
-          went_then (only 1 (map f first)) (only 1 (f item ∷ [])) _ old mid new (only_both 1 (map f first) (f item ∷ []) _ rows) was (c.in_ok-insert_doc.ensures.ok clean was.mode),
-      read_more doc_in f first item _ _ rows more c.adds.invariant.3 c.in_ok-insert_doc.ensures.read,
+          went_then (only 1 (map f first)) (only 1 (f item ∷ [])) _ old mid new (only_both 1 (map f first) (f item ∷ []) _ rows) was (c.in_default.ensures.ok clean was.mode),
+      read_more doc_in f first item _ _ rows more c.adds.invariant.3 c.in_default.ensures.read,
     )
+
+pub returns-in-Err-clause-fails : goal.returns-in-Err-clause-fails
+returns-in-Err-clause-fails g c clean inside =
+    let mid = c.adds.tx.conn.now in
+    let early : HasCleanDisk (state g.S.Store mid) = omega (arith, c.insert_doc.ensures.survives.clean) in
+    let reached = reaches_rows g.S.Store _ c.args.tx.now.conn.now mid c.adds.invariant.1 (c.adds.invariant.2 early inside) in
+    (mid, reached, (c.doc-item.result, (c.adds.doc-index, omega arith, c.doc-item.is), c.in-Err.ensures.fails clean reached.mode))

@@ -1,6 +1,6 @@
-use Rattle.std.proofs.Common.{◌≡◌, ◌+◌, List, [], ◌∷◌, ◌++◌, map, take, arith, ap, ◌∙◌, slice_index_or, pos}
+use Rattle.std.proofs.Common.{◌≡◌, ◌+◌, ◌<◌, length, List, [], ◌∷◌, ◌++◌, map, take, arith, ap, ◌∙◌, slice_index_or, pos}
 use Rattle.std.proofs.lemmas.Grind.{common_steps}
-use Rattle.std.proofs.lemmas.List.{map-append}
+use Rattle.std.proofs.lemmas.List.{map-append, get_or_default}
 use Rattle.sqlite_value.specs.Order.{Row}
 use Rattle.sqlite.specs.Held.{state}
 use Rattle.sqlite.specs.State.{HasCleanDisk, Survives}
@@ -8,6 +8,7 @@ use Rattle.sqlite.proofs.StateLemmas.{survives_then}
 use Rattle.tap_rows.specs.declared.rows.Pick.{Pick}
 use Rattle.keeper_sql.specs.RowsAsValues.{given_pick, pick_in, as_kept, only}
 use Rattle.keeper_sql.proofs.Steps.{went_then, only_both}
+use Rattle.keeper_sql.proofs.FailingLemmas.{reaches_rows}
 use Rattle.keeper_sql.proofs.ReadBack.{read_more}
 use Rattle.keeper_sql.proofs.picks.insert_picks.Goals as goal
 
@@ -27,6 +28,16 @@ adds-preserved g c =
       λ clean inside.
           let early : HasCleanDisk mid = omega (arith, c.insert_pick.ensures.survives.clean) in
           let was = c.adds.invariant.2 early inside in
-          went_then (only 5 (map f first)) (only 5 (f item ∷ [])) _ old mid new (only_both 5 (map f first) (f item ∷ []) _ rows) was (c.in_ok-insert_pick.ensures.ok clean was.mode),
-      read_more pick_in f first item _ _ rows more c.adds.invariant.3 c.in_ok-insert_pick.ensures.read,
+          went_then (only 5 (map f first)) (only 5 (f item ∷ [])) _ old mid new (only_both 5 (map f first) (f item ∷ []) _ rows) was (c.in_default.ensures.ok clean was.mode),
+      read_more pick_in f first item _ _ rows more c.adds.invariant.3 c.in_default.ensures.read,
     )
+
+pub returns-in-Err-clause-fails : goal.returns-in-Err-clause-fails
+returns-in-Err-clause-fails g c clean inside =
+    let mid = c.adds.tx.conn.now in
+    let early : HasCleanDisk (state g.S.Store mid) = omega (arith, c.insert_pick.ensures.survives.clean) in
+    let reached = reaches_rows g.S.Store _ c.args.tx.now.conn.now mid c.adds.invariant.1 (c.adds.invariant.2 early inside) in
+    let at = c.adds.pick-index in
+    let item : Pick = slice_index_or c.args.picks.now at (record { num = 0; query = record { 0 = 0 }; run = 0; doc = record { 0 = 0 }; first = pos 0 }) in
+    let within : at < length c.args.picks.now = omega arith in
+    (mid, reached, (item, (at, within, get_or_default c.args.picks.now at _ item within), c.in-Err.ensures.fails clean reached.mode))

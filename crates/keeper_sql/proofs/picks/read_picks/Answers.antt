@@ -2,11 +2,13 @@ use Rattle.std.proofs.Common.{ap, ◌∙◌}
 use Rattle.std.proofs.lemmas.Result.{IfOk-weaker}
 use Rattle.sqlite.specs.Held.{state}
 use Rattle.keeper_sql.specs.Schema.{select_picks}
-use Rattle.keeper_sql.specs.RowsAsValues.{show_pick, pick_shown}
-use Rattle.std.proofs.Common.{map}
+use Rattle.keeper_sql.specs.RowsAsValues.{show_pick, pick_kinds, pick_shown}
+use Rattle.std.proofs.Common.{inl, map}
 use Rattle.keeper_sql.proofs.AnySchema.{picks_asks}
 use Rattle.keeper_sql.proofs.ShownRows.{picks_shown}
 use Rattle.keeper_sql.proofs.QueryLemmas.{query_undone, unchanged_undone, shown_rests, always_ok, always_err, map_twice}
+use Rattle.keeper_sql.specs.Failing.{FailsToRead}
+use Rattle.keeper_sql.proofs.TakingLemmas.{shown_fails}
 use Rattle.keeper_sql.proofs.picks.read_picks.Goals as goal
 
 pub returns-in-Err-clause-err : goal.returns-in-Err-clause-err
@@ -20,10 +22,20 @@ pub returns-in-Ok-clause-read : goal.returns-in-Ok-clause-read
 returns-in-Ok-clause-read g c clean has =
     let old = state g.S.Store c.args.tx.now.conn.now in
     let new = state g.S.Store c.query_all.new.self.conn.now in
-    IfOk-weaker c.read_rows.result _ _ (λ rows is keyed. is ∙ ap (map pick_shown) (picks_shown old new _ has keyed (c.in-Ok.ensures.ok clean)) ∙ map_twice pick_shown show_pick (old.now.trees 5)) c.read_rows.ensures
+    IfOk-weaker c.read_rows.result _ _ (λ rows is keyed. is ∙ ap (map pick_shown) (picks_shown old new _ has keyed (c.in-Ok.ensures.ok clean)) ∙ map_twice pick_shown show_pick (old.now.trees 5)) c.read_rows.ensures.ok
 
 pub returns-in-Ok-clause-err : goal.returns-in-Ok-clause-err
 returns-in-Ok-clause-err g c clean has =
     let old = state g.S.Store c.args.tx.now.conn.now in
     let new = state g.S.Store c.query_all.new.self.conn.now in
     always_err c.read_rows.result (unchanged_undone old new (shown_rests select_picks old new _ picks_asks (c.in-Ok.ensures.ok clean)))
+
+pub returns-in-Err-clause-fails : goal.returns-in-Err-clause-fails
+returns-in-Err-clause-fails g c clean inside =
+    let by : FailsToRead select_picks pick_kinds (state g.S.Store c.args.tx.now.conn.now) (state g.S.Store c.query_all.new.self.conn.now) c.in-Err.error = inl (c.in-Err.ensures.err clean) in by
+
+pub returns-in-Ok-clause-fails : goal.returns-in-Ok-clause-fails
+returns-in-Ok-clause-fails g c clean inside =
+    let old = state g.S.Store c.args.tx.now.conn.now in
+    let new = state g.S.Store c.query_all.new.self.conn.now in
+    shown_fails select_picks pick_kinds old new c.in-Ok.shown.items c.read_rows.result (c.in-Ok.ensures.ok clean) c.read_rows.ensures.fails

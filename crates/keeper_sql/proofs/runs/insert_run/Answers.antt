@@ -2,6 +2,7 @@ use Rattle.sqlite.specs.Held.{state}
 use Rattle.keeper_sql.specs.RowsAsValues.{given_run}
 use Rattle.keeper_sql.specs.Schema.{insert_run}
 use Rattle.keeper_sql.proofs.Steps.{went_by}
+use Rattle.keeper_sql.proofs.FailingLemmas.{fails_by}
 use Rattle.keeper_sql.proofs.ReadBack.{read_run}
 use Rattle.keeper_sql.proofs.InsertRun.{puts_run}
 use Rattle.keeper_sql.proofs.runs.insert_run.Goals as goal
@@ -14,3 +15,9 @@ returns-in-Ok-clause-ok g c clean inside =
 
 pub returns-in-Ok-clause-read : goal.returns-in-Ok-clause-read
 returns-in-Ok-clause-read g c = read_run c.args.run.now c.run_values-values.ensures.range
+
+pub returns-in-Err-clause-fails : goal.returns-in-Err-clause-fails
+returns-in-Err-clause-fails g c clean inside =
+    let old = state g.S.Store c.args.tx.now.conn.now in
+    let new = state g.S.Store c.execute.new.self.conn.now in
+    fails_by old new insert_run _ (given_run c.args.run.now) c.in-Err.error c.run_values-values.ensures.given (c.in-Err.ensures.runs clean inside)

@@ -1,10 +1,13 @@
-use Rattle.std.proofs.Common.{rules, ◌≡◌, ◌∙◌, sym, ap, subst, arith, ℤ, pos, Option, Some, None}
+use Rattle.std.proofs.Common.{rules, ◌≡◌, ◌∙◌, sym, ap, subst, arith, ℤ, pos, inl, inr, [], Option, Some, None}
 use Rattle.std.proofs.lemmas.Result.{IfOk-weaker}
 use Rattle.sqlite.specs.Held.{state}
 use Rattle.sqlite.specs.State.{HasCleanDisk, IsUnchanged}
 use Rattle.keeper_sql.specs.RowsAsValues.{version_in}
 use Rattle.keeper_sql.specs.Store.{Settles}
 use Rattle.keeper_sql.proofs.Settling.{meta_keyed, settle_same, settle_raised, read_at}
+use Rattle.keeper_sql.specs.Schema.{replace_meta}
+use Rattle.keeper_sql.specs.Failing.{FailsToSettle, FailsToWrite}
+use Rattle.keeper_sql.proofs.FailingLemmas.{at_once, reaches_read, step_fails}
 use Rattle.keeper_sql.proofs.version.settle_version.Goals as goal
 
 pub returns-in-Ok-None-clause-ok : goal.returns-in-Ok-None-clause-ok
@@ -44,3 +47,25 @@ returns-in-Ok-Some-clause-at g c clean =
     let new = state g.S.Store c.read_version.new.tx.conn.now in
     let by = read_at c.in-Ok-Some.version old new (c.in-Ok-Some.ensures.same clean) (λ has keyed. sym c.in-Ok-Some.field-0-is ∙ c.in-Ok-Some.ensures.read clean has keyed) in
     search (rules, by)
+
+pub returns-in-Err-clause-fails : goal.returns-in-Err-clause-fails
+returns-in-Err-clause-fails g c clean inside =
+    at_once g.S.Store FailsToSettle c.args.tx.now.conn.now c.read_version.new.tx.conn.now c.in-Err.error inside (inl (c.in-Err.ensures.fails clean inside))
+
+pub returns-in-Ok-None-clause-fails : goal.returns-in-Ok-None-clause-fails
+returns-in-Ok-None-clause-fails g c clean inside =
+    let old = c.args.tx.now.conn.now in
+    let mid = c.read_version.new.tx.conn.now in
+    let new = c.raise_version.new.tx.conn.now in
+    let early : HasCleanDisk (state g.S.Store mid) = omega (arith, c.raise_version.ensures.survives.clean) in
+    let reached = reaches_read g.S.Store old mid c.read_version.ensures.survives inside (c.in-Ok-None.ensures.same early) in
+    step_fails g.S.Store (FailsToWrite replace_meta []) FailsToSettle old mid new c.raise_version.result reached (λ e h. inr h) clean c.raise_version.ensures.fails
+
+pub returns-in-Ok-Some-eq1-clause-fails : goal.returns-in-Ok-Some-eq1-clause-fails
+returns-in-Ok-Some-eq1-clause-fails g c clean inside =
+    let old = c.args.tx.now.conn.now in
+    let mid = c.read_version.new.tx.conn.now in
+    let new = c.raise_version-in-Ok-Some-eq1.new.tx.conn.now in
+    let early : HasCleanDisk (state g.S.Store mid) = omega (arith, c.raise_version-in-Ok-Some-eq1.ensures.survives.clean) in
+    let reached = reaches_read g.S.Store old mid c.read_version.ensures.survives inside (c.in-Ok-Some-eq1.ensures.same early) in
+    step_fails g.S.Store (FailsToWrite replace_meta []) FailsToSettle old mid new c.raise_version-in-Ok-Some-eq1.result reached (λ e h. inr h) clean c.raise_version-in-Ok-Some-eq1.ensures.fails
