@@ -1,7 +1,9 @@
 //! The files of a store, from their open to their close.
-ghost use Rattle.std.specs.Prelude.{◌≡◌, ◌<◌, ◌⊎◌, ◌↔◌, [], true, false, Some, None, Ok, IfSome, is_some};
+ghost use Rattle.std.specs.Prelude.{◌≡◌, ◌⊎◌, ◌↔◌, [], true, false, Some, None, Ok, IfSome, is_some};
 ghost use Rattle.std.specs.List.{All};
 ghost use Rattle.std.specs.Str.{IsUtf8};
+ghost use Rattle.tap_base.specs.Ledgers.{IsBlankOf};
+ghost use Rattle.keeper_core.specs.States.{IsPlacedBy};
 ghost use Rattle.keeper_file.specs.Cases.{Tells, HasVersion, IsHonest, MayLeave, IsInMemory, has_files, is_stopped, place_of};
 ghost use Rattle.keeper_file.specs.PathFiles.{path_files};
 ghost use Rattle.keeper_file.specs.Images.{ImageTells, ImageHasVersion};
@@ -30,9 +32,7 @@ pub fn run_on_files<'a, C: Session, I: Source, K: Sink, S: Start, L: Ledger>(
     u8,
     FileKeeper<FileStore<FileFrom<S>>, PathOpener<'a, S, FileFrom<S>>>,
 )
-    requires name { blank.name ≡ L.name }
-    requires parts { blank.parts ≡ L.parts }
-    requires some { 0 < blank.parts }
+    requires blank { IsBlankOf L.name L.parts blank }
     requires texts { All IsUtf8 words.now }
     ensures ends { C.ends words.now result.0 (I.left source.old) (I.left source.new) (K.out sink.old) (K.out sink.new)
         (I.faults source.old) (I.faults source.new) (K.faults sink.old) (K.faults sink.new) }
@@ -42,7 +42,7 @@ pub fn run_on_files<'a, C: Session, I: Source, K: Sink, S: Start, L: Ledger>(
         C.ends_over words.now result.0 (I.left source.old) (I.left source.new) (K.out sink.old) (K.out sink.new)
         t (ImageHasVersion (image_at S.Start)) (HasVersion (path_files S.Start) over_files result.1.inner)
         (Tells (path_files S.Start) over_files result.1.inner) (MayLeave (path_files S.Start) over_files result.1.inner) }
-    ensures placed { (((result.0 ≡ 2) ⊎ (result.0 ≡ 7)) × (place_of result.1.inner ≡ [])) ⊎ (place_of result.1.inner ≡ C.place words.now) }
+    ensures placed { IsPlacedBy result.0 [] (place_of result.1.inner) (C.place words.now) }
     ensures unopened { result.0 ≡ 2 → has_files result.1.inner ≡ false }
     ensures stopped { (is_stopped result.1.inner ≡ true) ↔ (result.0 ≡ 5) }
 {
@@ -70,9 +70,7 @@ pub fn run_to_close<'a, C: Session, I: Source, K: Sink, S: Start, L: Ledger>(
     Option<Result<Option<Files<FileFrom<S>>>, FileStore<FileFrom<S>>>>,
     Option<FileKeeper<FileStore<FileFrom<S>>, PathOpener<'a, S, FileFrom<S>>>>,
 )
-    requires name { blank.name ≡ L.name }
-    requires parts { blank.parts ≡ L.parts }
-    requires some { 0 < blank.parts }
+    requires blank { IsBlankOf L.name L.parts blank }
     requires texts { All IsUtf8 words.now }
     ensures ends { C.ends words.now result.0 (I.left source.old) (I.left source.new) (K.out sink.old) (K.out sink.new)
         (I.faults source.old) (I.faults source.new) (K.faults sink.old) (K.faults sink.new) }
@@ -116,9 +114,7 @@ pub fn run_session<C: Session, I: Source, K: Sink, S: Start, L: Ledger>(
     start: S,
     blank: Blank,
 ) -> u8
-    requires name { blank.name ≡ L.name }
-    requires parts { blank.parts ≡ L.parts }
-    requires some { 0 < blank.parts }
+    requires blank { IsBlankOf L.name L.parts blank }
     requires texts { All IsUtf8 words.now }
     ensures { C.ends words.now result (I.left source.old) (I.left source.new) (K.out sink.old) (K.out sink.new)
         (I.faults source.old) (I.faults source.new) (K.faults sink.old) (K.faults sink.new) }

@@ -1,8 +1,9 @@
 //! The call that a program makes over its store.
-ghost use Rattle.std.specs.Prelude.{◌≡◌, ◌⊎◌, ◌↔◌, ℕ, ℤ, List, Option, true, false};
+ghost use Rattle.std.specs.Prelude.{◌≡◌, ◌↔◌, ℕ, ℤ, List, Option, true};
 ghost use Rattle.std.specs.List.{All};
 ghost use Rattle.std.specs.Str.{IsUtf8};
 ghost use Rattle.keeper_core.specs.Keeping.{IsDurable};
+ghost use Rattle.keeper_core.specs.States.{IsFree, IsPlacedBy};
 ghost use Rattle.tap_rows.specs.declared.tables.Tables.{Tables as TableRows};
 
 use keeper_core::Keeper;
@@ -37,8 +38,7 @@ pub trait Session {
         keeper: &mut P,
         steps: &mut Steps<L>,
     ) -> u8
-        requires free { P.attached keeper.old ≡ false }
-        requires running { P.stopped keeper.old ≡ false }
+        requires free { IsFree P.Keeper keeper.old }
         requires texts { All IsUtf8 words.now }
         ensures ends { ends words.now result (I.left source.old) (I.left source.new) (K.out sink.old) (K.out sink.new)
             (I.faults source.old) (I.faults source.new) (K.faults sink.old) (K.faults sink.new) }
@@ -46,6 +46,6 @@ pub trait Session {
             ends_over words.now result (I.left source.old) (I.left source.new) (K.out sink.old) (K.out sink.new)
             t (P.has_version keeper.old) (P.has_version keeper.new) (P.tells keeper.new) (P.may_leave keeper.new) }
         ensures unchanged { result ≡ 2 → keeper.new ≡ keeper.old }
-        ensures placed { (((result ≡ 2) ⊎ (result ≡ 7)) × (P.place keeper.new ≡ P.place keeper.old)) ⊎ (P.place keeper.new ≡ place words.now) }
+        ensures placed { IsPlacedBy result (P.place keeper.old) (P.place keeper.new) (place words.now) }
         ensures stopped { (P.stopped keeper.new ≡ true) ↔ (result ≡ 5) };
 }

@@ -1,7 +1,8 @@
 //! A store whose machine stops at each call of a file in turn: what is found again has the rows that were acknowledged, or
 //! those of one commit more.
 
-ghost use Rattle.std.specs.Prelude.{◌≡◌, true, false};
+ghost use Rattle.std.specs.Prelude.{◌≡◌, false};
+ghost use Rattle.keeper_core.specs.States.{IsFree, IsAttached};
 
 use crate::session_tests::{TwoSessions, apply_all, new_files, same_tables, session, two_sessions};
 use keeper_core::Keeper;
@@ -25,8 +26,7 @@ fn fused(files: Files<MemoryFile>, log: u64, db: u64) -> Files<Fuse<MemoryFile>>
 
 // Commits the changes up to the first that fails; returns how many were committed.
 fn committed<P: Keeper>(keeper: &mut P, changes: &[Change]) -> usize
-    requires ready { P.attached keeper.old ≡ true }
-    requires running { P.stopped keeper.old ≡ false }
+    requires ready { IsAttached P.Keeper keeper.old }
 {
     let mut done = 0usize;
     'commits: for change in changes {
@@ -40,8 +40,7 @@ fn committed<P: Keeper>(keeper: &mut P, changes: &[Change]) -> usize
 
 // Attaches a keeper and commits the changes up to the first that fails; returns how many were committed.
 fn attached<P: Keeper>(alloc: Global, keeper: &mut P, changes: &[Change]) -> usize
-    requires free { P.attached keeper.old ≡ false }
-    requires running { P.stopped keeper.old ≡ false }
+    requires free { IsFree P.Keeper keeper.old }
 {
     match keeper.attach(alloc, "store") {
         Ok(found) => {

@@ -1,5 +1,5 @@
 -- What a close leaves of a store.
-use Rattle.std.specs.Prelude.{◌≡◌, []}
+use Rattle.std.specs.Prelude.{◌≡◌, [], IsTrue}
 use Rattle.sqlite_disk.specs.declared.Disk.{Ghosts}
 use Rattle.sqlite_disk.specs.declared.Files.{Files}
 use Rattle.sqlite_trees.specs.Tree.{Trees}
@@ -22,6 +22,11 @@ pub record HoldsWhole (image : Image) (t : Tables) : Type 0 where
   pub tables : t ≡ tables_of db.trees
 
 module _ {D : Type 0} (g : Ghosts D) where
+  -- both files can be used
+  pub record AreUsable (files : Files D) : Type 0 where
+    pub log : IsTrue (g.is_usable files.log)
+    pub db : IsTrue (g.is_usable files.db)
+
   -- the files hold these tables whole, as they read now and after a crash
   pub record AreWhole (files : Files D) (t : Tables) : Type 0 where
     pub now : HoldsWhole (image_of g files) t

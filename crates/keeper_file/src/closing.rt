@@ -9,7 +9,7 @@ ghost use Rattle.sqlite_wal.specs.Reads.{AreClean};
 ghost use Rattle.tap_rows.specs.declared.tables.Tables.{Tables as TableRows};
 ghost use Rattle.keeper_sql.specs.Store.{TellsAs};
 ghost use Rattle.keeper_file.specs.Cases.{Tells, IsHonest, IsInMemory, has_files, is_stopped, place_of};
-ghost use Rattle.keeper_file.specs.Closing.{AreWhole, LeavesOnly};
+ghost use Rattle.keeper_file.specs.Closing.{AreUsable, AreWhole, LeavesOnly};
 
 use crate::inner::Inner;
 use crate::opener::Opener;
@@ -20,7 +20,7 @@ use sqlite_disk::Disk;
 /// Closes the files of a keeper: copies the log into the database file, and returns both files, or what is left of the
 /// store if that failed.
 pub fn closed<D: Disk + Drop>(keeper: SqlKeeper<FileStore<D>>) -> Result<Files<D>, FileStore<D>>
-    ensures usable { IfOk result (λ files. IsTrue (D.Disk.is_usable files.log) × IsTrue (D.Disk.is_usable files.db)) }
+    ensures usable { IfOk result (λ files. AreUsable D.Disk files) }
     ensures settled { IsTrue (file_state keeper.connection).is_open
         → (file_state keeper.connection).now ≡ (file_state keeper.connection).committed }
     ensures honest { IfOk result (λ files. AreClean D.Disk files.log files.db → HasCleanDisk (file_state keeper.connection)) }

@@ -1,6 +1,6 @@
-use Rattle.std.proofs.Common.{◌≡◌, true, false}
+use Rattle.keeper_core.specs.States.{IsAttached}
 use Rattle.file_tests.proofs.fuse_tests.committed.Given as goal
 
--- it is attached and not stopped
+-- it may commit
 abbrev pub invariant-commits : goal.invariant-commits
-invariant-commits g l = (g.P.Keeper.attached l.keeper ≡ true) × (g.P.Keeper.stopped l.keeper ≡ false)
+invariant-commits g l = IsAttached g.P.Keeper l.keeper
