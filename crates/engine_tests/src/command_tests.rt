@@ -1,7 +1,9 @@
 //! Sessions over a keeper whose commits succeed or fail.
 
-ghost use Rattle.std.specs.Prelude.{◌≡◌, ◌<◌, true, false, OnOk};
+ghost use Rattle.std.specs.Prelude.{◌≡◌, true, false, OnOk};
+ghost use Rattle.tap_base.specs.Ledgers.{IsBlankOf};
 ghost use Rattle.tap_engine.specs.Ready.{IsReady};
+ghost use Rattle.keeper_core.specs.States.{IsAttached, IsFreeInMemory};
 
 use keeper_core::{KeepPlan, Keeper, MemKeeper};
 use script_lang::{Command, Reply, ScriptReader};
@@ -79,12 +81,10 @@ fn say<P: Keeper, L: Ledger>(
 ) -> Result<usize, EngineFault>
     requires running { engine.old.stopped ≡ false }
     requires ready { IsReady engine.old }
-    requires attached { P.attached keeper.old ≡ true }
-    requires keeping { P.stopped keeper.old ≡ false }
+    requires attached { IsAttached P.Keeper keeper.old }
     ensures running { OnOk result (engine.new.stopped ≡ false) }
     ensures ready { OnOk result (IsReady engine.new) }
-    ensures attached { OnOk result (P.attached keeper.new ≡ true) }
-    ensures keeping { OnOk result (P.stopped keeper.new ≡ false) }
+    ensures attached { OnOk result (IsAttached P.Keeper keeper.new) }
 {
     let reply = engine.perform(alloc, keeper, command, steps)?;
     let rows = shown(&reply);
@@ -103,8 +103,7 @@ fn perform_all<P: Keeper, L: Ledger>(
 ) -> Result<(), Memory>
     requires running { engine.old.stopped ≡ false }
     requires ready { IsReady engine.old }
-    requires attached { P.attached keeper.old ≡ true }
-    requires keeping { P.stopped keeper.old ≡ false }
+    requires attached { IsAttached P.Keeper keeper.old }
 {
     for command in commands.into_vec() {
         match say(alloc, engine, keeper, steps, command) {
@@ -129,8 +128,7 @@ fn counts(tables: &Tables) -> [usize; 6] {
 
 // Attaches a keeper; returns whether it is attached.
 fn attach(alloc: Global, keeper: &mut MemKeeper) -> bool
-    requires free { keeper.old.attached ≡ false }
-    requires running { keeper.old.stopped ≡ false }
+    requires free { IsFreeInMemory keeper.old }
     ensures attached { result ≡ true → keeper.new.attached ≡ true }
     ensures keeping { result ≡ true → keeper.new.stopped ≡ false }
 {
@@ -176,11 +174,8 @@ fn performed_over<L: Ledger>(
     keeper: &mut MemKeeper,
     shown: &mut Vec<usize>,
 ) -> Result<([u32; 2], bool), Memory>
-    requires name { blank.name ≡ L.name }
-    requires parts { blank.parts ≡ L.parts }
-    requires some { 0 < blank.parts }
-    requires free { keeper.old.attached ≡ false }
-    requires running { keeper.old.stopped ≡ false }
+    requires blank { IsBlankOf L.name L.parts blank }
+    requires free { IsFreeInMemory keeper.old }
 {
     let mut steps = Steps::<L>::start(blank);
     let commands = commands_of(alloc, SCRIPT)?;
@@ -194,9 +189,7 @@ fn performed_over<L: Ledger>(
 
 // Performs the script over a keeper without rows, of which this call fails.
 fn session<L: Ledger>(alloc: Global, blank: Blank, call: u64) -> Result<Left, Memory>
-    requires name { blank.name ≡ L.name }
-    requires parts { blank.parts ≡ L.parts }
-    requires some { 0 < blank.parts }
+    requires blank { IsBlankOf L.name L.parts blank }
 {
     let fails = vec![in alloc; KeepPlan { call, kept: false }]?;
     let mut keeper = MemKeeper::new(alloc, Tables::empty(alloc), 2, fails);

@@ -2,14 +2,14 @@
 
 use restart_core::{Sound, check_tables};
 use std::alloc::Global;
-use tap_base::{DocNum, HashKey, Memory, NoteNum, QueryNum, Text};
+use tap_base::{DocNum, HashKey, Memory, NoteNum, QueryNum, SharedText, Text};
 use tap_engine::Engine;
 use tap_kept::StartFault;
 use tap_rows::{Doc, FilterRow, Note, Pick, QueryRow, RunRow, Tables};
 
 // Adds a document.
 fn add_doc(alloc: Global, tables: &mut Tables) -> Result<(), Memory> {
-    let text = Text::from_slice(alloc, b"Subject: hi\n\n")?;
+    let text = SharedText::of(alloc, Text::from_slice(alloc, b"Subject: hi\n\n")?)?;
     tables.docs.push(Doc {
         num: DocNum(1),
         arrival: 100,

@@ -3,7 +3,7 @@
 use restart_core::{RestartFault, TableName, Why, check_tables, cut_start};
 use std::alloc::Global;
 use std::test::Fail;
-use tap_base::{DocNum, HashKey, Memory, NoteNum, QueryNum, Rows, Text};
+use tap_base::{DocNum, HashKey, Memory, NoteNum, QueryNum, Rows, SharedText, Text};
 use tap_rows::{Doc, FilterRow, Note, Pick, QueryRow, RunRow, Tables};
 
 #[test]
@@ -79,7 +79,7 @@ fn doc(alloc: Global, num: u32, long: bool) -> Result<Doc, Memory> {
     Ok(Doc {
         num: DocNum(num),
         arrival: 100,
-        text: Text::from_vec(alloc, bytes),
+        text: SharedText::of(alloc, Text::from_vec(alloc, bytes))?,
     })
 }
 

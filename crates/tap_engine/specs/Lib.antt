@@ -1,3 +1,4 @@
+pub mod Arriving
 pub mod Standing
 pub mod Ready
 pub mod Answering

@@ -1,11 +1,11 @@
 //! The command that adds a message.
 
-ghost use Rattle.std.specs.Prelude.{◌≡◌, true, ◌≤◌, ◌<◌, ◌+◌, ◌^◌, ◌≤ℤ◌, [], ◌∷◌, length, Some, OnOk, OnErr, IfOk, IfErr};
+ghost use Rattle.std.specs.Prelude.{◌≡◌, true, ◌≤◌, ◌<◌, ◌+◌, ◌^◌, [], ◌∷◌, length, Some, OnOk, OnErr, IfOk, IfErr};
 ghost use Rattle.std.specs.Result.{result_err};
 ghost use Rattle.tap_rows.specs.declared.change.Change.{Change as RowChange};
-ghost use Rattle.tap_rows.specs.Kept.{Each};
 ghost use Rattle.tap_rows.specs.Tables.{after};
-ghost use Rattle.row_index.specs.Orders.{IsMoment};
+ghost use Rattle.row_index.specs.Orders.{doc_arrival};
+ghost use Rattle.tap_engine.specs.Arriving.{MayArrive};
 ghost use Rattle.script_lang.specs.declared.command.Command.{Command};
 ghost use Rattle.script_lang.specs.Replies.{HasShortNames, is_accepted};
 ghost use Rattle.tap_model.specs.Verdicts.{too_long, text_of};
@@ -19,7 +19,7 @@ use crate::undo::Undo;
 use mail_lines::Block;
 use script_lang::{LimitName, MESSAGE_LIMIT, Refusal, Reply};
 use std::alloc::Global;
-use tap_base::{DocNum, Memory, Rows, Text};
+use tap_base::{DocNum, Memory, Rows, SharedText, Text};
 use tap_model::{DOCUMENT_LIMIT, STORE_LIMIT};
 use tap_rows::{Change, Doc};
 
@@ -36,7 +36,7 @@ fn message_of(block: Block) -> Result<Text, Refusal>
 }
 
 // Makes a list of one document.
-fn make_row(alloc: Global, num: DocNum, moment: i64, text: Text) -> Result<Rows<Doc>, Memory>
+fn make_row(alloc: Global, num: DocNum, moment: i64, text: SharedText) -> Result<Rows<Doc>, Memory>
     ensures { IfOk result (λ rows. rows ≡ record { num = num; arrival = moment; text = text } ∷ []) }
 {
     let mut rows = Rows::new(alloc);
@@ -61,8 +61,7 @@ impl Engine {
         text: Text,
     ) -> Result<(DocNum, Change), Memory>
         requires few { length self.old.index.docs < DOCUMENT_LIMIT }
-        requires moment { IsMoment moment }
-        requires after { Each (λ other. other.arrival ≤ℤ moment) self.old.index.docs }
+        requires arrives { MayArrive doc_arrival moment self.old.index.docs }
         requires text { length text ≤ MESSAGE_LIMIT }
         requires bytes { self.old.bytes + length text < 2 ^ 64 }
         ensures num { IfOk result (λ made. made.0.0 ≡ length self.old.index.docs + 1) }
@@ -78,10 +77,11 @@ impl Engine {
     {
         let len = text.len();
         let num = DocNum(self.index.docs() + 1);
-        let copy = text.copy()?;
-        let rows = make_row(alloc, num, moment, text)?;
+        // The row and the index own the same bytes.
+        let shared = SharedText::of(alloc, text)?;
+        let rows = make_row(alloc, num, moment, shared.copy()?)?;
         self.hits.grow(num.0)?;
-        push_doc(alloc, &mut self.index, moment, &copy)?;
+        push_doc(alloc, &mut self.index, moment, &shared)?;
         self.bytes += len;
         Ok((num, Change::Docs(rows)))
     }

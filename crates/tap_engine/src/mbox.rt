@@ -1,12 +1,12 @@
 //! The command that adds the messages of a mailbox file.
 
-ghost use Rattle.std.specs.Prelude.{◌≡◌, ◌≤◌, ◌<◌, ◌+◌, ◌^◌, ◌≤ℤ◌, [], ◌∷◌};
+ghost use Rattle.std.specs.Prelude.{◌≡◌, ◌≤◌, ◌<◌, ◌+◌, ◌^◌, [], ◌∷◌};
 ghost use Rattle.std.specs.Prelude.{length, take, max, None, true, OnOk, OnErr, IfOk, IfErr};
 ghost use Rattle.std.specs.Result.{result_err};
 ghost use Rattle.tap_rows.specs.declared.change.Change.{Change as RowChange};
-ghost use Rattle.tap_rows.specs.Kept.{Each};
 ghost use Rattle.tap_rows.specs.Tables.{after};
-ghost use Rattle.row_index.specs.Orders.{IsMoment};
+ghost use Rattle.row_index.specs.Orders.{doc_arrival};
+ghost use Rattle.tap_engine.specs.Arriving.{MayArrive};
 ghost use Rattle.script_lang.specs.declared.command.Command.{Command};
 ghost use Rattle.script_lang.specs.Replies.{HasShortNames, is_accepted};
 ghost use Rattle.tap_model.specs.Sessions.{moment_or_zero};
@@ -23,7 +23,7 @@ use mail_lines::{Block, cut_mbox};
 use row_index::RowIndex;
 use script_lang::{LimitName, MESSAGE_LIMIT, Refusal, Reply};
 use std::alloc::Global;
-use tap_base::{DocNum, Memory, Rows, Text, Texts};
+use tap_base::{DocNum, Memory, Rows, SharedText, Texts};
 use tap_model::{DOCUMENT_LIMIT, STORE_LIMIT};
 use tap_rows::{Change, Doc};
 
@@ -38,7 +38,7 @@ fn cut_block(alloc: Global, block: &Block) -> Result<Texts, Memory>
 }
 
 // Checks that no message is longer than MESSAGE_LIMIT bytes.
-fn are_short(texts: &[Text]) -> bool
+fn are_short(texts: &[SharedText]) -> bool
     ensures { result ≡ are_short texts.now }
 {
     texts
@@ -47,7 +47,7 @@ fn are_short(texts: &[Text]) -> bool
 }
 
 // Refuses messages if one of them is too long.
-fn refuse_long_message(texts: &[Text]) -> Result<(), Refusal>
+fn refuse_long_message(texts: &[SharedText]) -> Result<(), Refusal>
     ensures value { result_err result ≡ long_message texts.now }
     ensures short { OnOk result (are_short texts.now ≡ true) }
 {
@@ -69,7 +69,7 @@ fn refuse_long_block(block: &Block) -> Result<(), Refusal>
 }
 
 // Sums the lengths of the messages, in bytes.
-fn total(texts: &[Text]) -> usize
+fn total(texts: &[SharedText]) -> usize
     requires { bytes_of texts.now < 2 ^ 64 }
     ensures { result ≡ bytes_of texts.now }
 {
@@ -81,7 +81,12 @@ fn total(texts: &[Text]) -> usize
 }
 
 // Makes documents with these texts that arrive at this moment, numbered from `first` on.
-fn make_rows(alloc: Global, first: usize, moment: i64, texts: &[Text]) -> Result<Rows<Doc>, Memory>
+fn make_rows(
+    alloc: Global,
+    first: usize,
+    moment: i64,
+    texts: &[SharedText],
+) -> Result<Rows<Doc>, Memory>
     requires { first + length texts.now < 2 ^ 32 }
     ensures { IfOk result (λ rows. rows ≡ docs_from first moment texts.now) }
 {
@@ -103,11 +108,10 @@ pub(crate) fn push_doc(
     alloc: Global,
     index: &mut RowIndex,
     moment: i64,
-    text: &Text,
+    text: &SharedText,
 ) -> Result<(), Memory>
     requires few { length index.old.docs + 1 < 2 ^ 32 }
-    requires moment { IsMoment moment }
-    requires after { Each (λ other. other.arrival ≤ℤ moment) index.old.docs }
+    requires arrives { MayArrive doc_arrival moment index.old.docs }
     requires short { length text.now ≤ MESSAGE_LIMIT }
     ensures ok { OnOk result (index.new ≡ after index.old (RowChange.Docs (docs_from (length index.old.docs + 1) moment (text.now ∷ [])))) }
     ensures err { OnErr result (index.new ≡ index.old) }
@@ -121,10 +125,14 @@ pub(crate) fn push_doc(
 }
 
 // Adds documents with these texts after the others. At Err the first of them may have been added.
-fn push_docs(alloc: Global, index: &mut RowIndex, moment: i64, texts: &[Text]) -> Result<(), Memory>
+fn push_docs(
+    alloc: Global,
+    index: &mut RowIndex,
+    moment: i64,
+    texts: &[SharedText],
+) -> Result<(), Memory>
     requires few { length index.old.docs + length texts.now < 2 ^ 32 }
-    requires moment { IsMoment moment }
-    requires after { Each (λ other. other.arrival ≤ℤ moment) index.old.docs }
+    requires arrives { MayArrive doc_arrival moment index.old.docs }
     requires short { are_short texts.now ≡ true }
     ensures ok { OnOk result (index.new ≡ after index.old (RowChange.Docs (docs_from (length index.old.docs + 1) moment texts.now))) }
     ensures err { OnErr result (record index.new { docs = take (length index.old.docs) index.new.docs } ≡ index.old) }
@@ -136,10 +144,14 @@ fn push_docs(alloc: Global, index: &mut RowIndex, moment: i64, texts: &[Text]) -
 }
 
 // Adds documents with these texts after the others, all or none: at Err those that were added are removed again.
-fn add_all(alloc: Global, index: &mut RowIndex, moment: i64, texts: &[Text]) -> Result<(), Memory>
+fn add_all(
+    alloc: Global,
+    index: &mut RowIndex,
+    moment: i64,
+    texts: &[SharedText],
+) -> Result<(), Memory>
     requires few { length index.old.docs + length texts.now < 2 ^ 32 }
-    requires moment { IsMoment moment }
-    requires after { Each (λ other. other.arrival ≤ℤ moment) index.old.docs }
+    requires arrives { MayArrive doc_arrival moment index.old.docs }
     requires short { are_short texts.now ≡ true }
     ensures ok { OnOk result (index.new ≡ after index.old (RowChange.Docs (docs_from (length index.old.docs + 1) moment texts.now))) }
     ensures err { OnErr result (index.new ≡ index.old) }
@@ -159,7 +171,7 @@ impl Engine {
 
     // Refuses messages of a mailbox file that pass a limit.
     #[tactic(auto, unfolding(crate::specs::Standing::mbox_bounds))]
-    fn refuse_messages(&self, block: &Block, texts: &[Text]) -> Result<(), Refusal>
+    fn refuse_messages(&self, block: &Block, texts: &[SharedText]) -> Result<(), Refusal>
         ensures value { result_err result ≡ mbox_bounds self.now block.now texts.now }
         ensures short { OnOk result (are_short texts.now ≡ true) }
         ensures few { OnOk result (length self.now.index.docs + length texts.now ≤ max (length self.now.index.docs) DOCUMENT_LIMIT) }
@@ -177,7 +189,7 @@ impl Engine {
     }
 
     // Gives the messages of a mailbox file and the moment at which they arrive, or the first refusal.
-    fn new_messages(&self, alloc: Global, block: &Block) -> Result<(i64, Texts), Refusal>
+    fn new_messages(&self, alloc: Global, block: &Block) -> Result<(i64, Rows<SharedText>), Refusal>
         ensures checks { OnOk result (mbox_refusal self.now block.now ≡ None) }
         ensures moment { IfOk result (λ made. made.0 ≡ moment_or_zero self.now.session) }
         ensures texts { IfOk result (λ made. made.1 ≡ messages_of block.now) }
@@ -189,7 +201,7 @@ impl Engine {
         let Some(moment) = self.session.moment else {
             return Err(Refusal::NoMoment);
         };
-        let texts = cut_block(alloc, block)?;
+        let texts = cut_block(alloc, block)?.into_shared(alloc)?;
         self.refuse_messages(block, texts.as_slice())?;
         Ok((moment, texts))
     }
@@ -200,13 +212,12 @@ impl Engine {
         &mut self,
         alloc: Global,
         moment: i64,
-        texts: &[Text],
+        texts: &[SharedText],
     ) -> Result<Option<Change>, Memory>
         requires few { length self.old.index.docs + length texts.now ≤ max (length self.old.index.docs) DOCUMENT_LIMIT }
         requires short { are_short texts.now ≡ true }
         requires bytes { self.old.bytes + bytes_of texts.now < 2 ^ 64 }
-        requires moment { IsMoment moment }
-        requires after { Each (λ other. other.arrival ≤ℤ moment) self.old.index.docs }
+        requires arrives { MayArrive doc_arrival moment self.old.index.docs }
         requires room { length self.old.index.docs ≤ self.old.hits.room }
         ensures change { IfOk result (λ change. change ≡ some_docs (docs_from (length self.old.index.docs + 1) moment texts.now)) }
         ensures engine { OnOk result (self.new ≡ record self.old {

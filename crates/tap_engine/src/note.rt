@@ -1,11 +1,11 @@
 //! The command that adds a note on a document.
 
-ghost use Rattle.std.specs.Prelude.{◌≡◌, ◌<◌, ◌+◌, ◌^◌, ◌≤ℤ◌, length, None, true, OnOk, OnErr, IfOk, IfErr};
+ghost use Rattle.std.specs.Prelude.{◌≡◌, ◌<◌, ◌+◌, ◌^◌, length, None, true, OnOk, OnErr, IfOk, IfErr};
 ghost use Rattle.std.specs.Result.{result_err};
 ghost use Rattle.tap_rows.specs.declared.change.Change.{Change as RowChange};
-ghost use Rattle.tap_rows.specs.Kept.{Each};
 ghost use Rattle.tap_rows.specs.Tables.{after};
-ghost use Rattle.row_index.specs.Orders.{IsMoment};
+ghost use Rattle.row_index.specs.Orders.{note_arrival};
+ghost use Rattle.tap_engine.specs.Arriving.{MayArrive};
 ghost use Rattle.script_lang.specs.declared.command.Command.{Command};
 ghost use Rattle.script_lang.specs.Replies.{HasShortNames, is_accepted};
 ghost use Rattle.tap_model.specs.Sessions.{moment_or_zero, user_of};
@@ -104,8 +104,7 @@ impl Engine {
     // Adds a note with its vote, and gives its row as a change, and what undoes the vote. At Err nothing has changed.
     fn add_note(&mut self, note: Note) -> Result<(Change, VoteUndo), Memory>
         requires number { note.num.0 ≡ length self.old.index.notes + 1 }
-        requires moment { IsMoment note.arrival }
-        requires after { Each (λ other. other.arrival ≤ℤ note.arrival) self.old.index.notes }
+        requires arrives { MayArrive note_arrival note.arrival self.old.index.notes }
         requires bytes { self.old.bytes + length note.text < 2 ^ 64 }
         ensures change { IfOk result (λ made. made.0 ≡ RowChange.OneNote note) }
         ensures engine { OnOk result (self.new ≡ record self.old {

@@ -3,6 +3,7 @@
 ghost use Rattle.std.specs.Prelude.{◌≡◌, ◌⊎◌, ◌↔◌, ◌≤◌, ℤ, None, true, false, OnOk, OnErr, IsErr, IfOk, IfErr};
 ghost use Rattle.tap_rows.specs.declared.tables.Tables.{Tables};
 ghost use Rattle.keeper_core.specs.Keeping.{IsDurable};
+ghost use Rattle.keeper_core.specs.States.{IsAttached};
 ghost use Rattle.tap_base.specs.Counts.{Rose};
 ghost use Rattle.script_lang.specs.Replies.{HasShortNames, is_accepted};
 ghost use Rattle.tap_model.specs.Replies.{answer_of, tables_after};
@@ -105,8 +106,7 @@ impl Engine {
     ) -> Result<Reply, EngineFault>
         requires running { self.old.stopped ≡ false }
         requires ready { IsReady self.old }
-        requires attached { P.attached keeper.old ≡ true }
-        requires keeping { P.stopped keeper.old ≡ false }
+        requires attached { IsAttached P.Keeper keeper.old }
 
         // The reply and the step, over the tables that the engine represents. What was delivered matters only to a command
         // that looks at it.

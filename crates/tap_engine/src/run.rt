@@ -42,7 +42,7 @@ fn picks_after(
     requires { before + length hits.now ≤ max before PICK_LIMIT }
     ensures { IfOk result (λ picks. picks ≡ pick_rows (before + 1) query run hits.now) }
 {
-    let mut picks = Rows::new(alloc);
+    let mut picks = Rows::from_vec(Vec::with_capacity(alloc, hits.len())?);
     let mut count = before;
     for hit in hits {
         count += 1;

@@ -1,3 +1,4 @@
 pub mod Keeping
 pub mod Starting
+pub mod StoredRows
 pub mod Costs

@@ -3,13 +3,14 @@
 ghost use Rattle.std.specs.Prelude.{◌≡◌, ◌⊎◌, ◌++◌, [], map, length, false, true, None, Some, Ok, OnOk, IfOk, IfErr};
 ghost use Rattle.std.specs.Option.{option_map};
 ghost use Rattle.tap_base.specs.Words.{with_new};
-ghost use Rattle.tap_rows.specs.Kept.{Each, HasRun, RunsFrom, QueriesFrom};
+ghost use Rattle.tap_rows.specs.Kept.{Each, QueriesFrom};
 ghost use Rattle.tql_core.specs.Condition.{condition};
-ghost use Rattle.restart_core.specs.Readings.{reading_of, readings_of, as_read};
+ghost use Rattle.restart_core.specs.Readings.{reading_of};
 ghost use Rattle.tap_model.specs.Sound.{IsMoment};
 ghost use Rattle.tap_kept.specs.declared.start_fault.StartFault.{StartFault as Fault};
 ghost use Rattle.tap_kept.specs.Keeping.{cached_query, never_run};
-ghost use Rattle.tap_kept.specs.Starting.{is_unread, first_unread, runs_alone, IsOneOf, PicksAreDistinct};
+ghost use Rattle.tap_kept.specs.Starting.{is_unread, first_unread, runs_alone, IsOneOf};
+ghost use Rattle.tap_kept.specs.StoredRows.{AreRead, AreDeliveries};
 
 use crate::cached_filter::CachedFilter;
 use crate::cached_queries::CachedQueries;
@@ -41,8 +42,7 @@ fn push_queries(
     rows: Rows<QueryRow>,
     conds: Vec<Cond>,
 ) -> Result<(), Memory>
-    requires conds { readings_of rows ≡ as_read conds.items }
-    requires arrivals { Each (λ row. IsMoment row.arrival) rows }
+    requires read { AreRead rows conds.items }
     ensures { OnOk result (queries.new ≡ queries.old ++ map never_run rows) }
 {
     for (row, cond) in rows.into_vec().into_iter().zip(conds) {
@@ -61,13 +61,10 @@ fn fill_queries(
     picks: &[Pick],
 ) -> Result<(), Memory>
     requires none { queries.old ≡ [] }
-    requires conds { readings_of rows ≡ as_read conds.items }
-    requires arrivals { Each (λ row. IsMoment row.arrival) rows }
+    requires read { AreRead rows conds.items }
     requires numbered { QueriesFrom 1 rows }
-    requires runs { RunsFrom 1 runs.now }
     requires owned { Each (λ run. IsOneOf run.query.0 (length rows)) runs.now }
-    requires picked { Each (λ pick. HasRun pick.run pick.query.0 runs.now) picks.now }
-    requires once { PicksAreDistinct [] picks.now }
+    requires deliveries { AreDeliveries runs.now picks.now }
     ensures { OnOk result (queries.new ≡ map (cached_query (runs_alone runs.now picks.now)) rows) }
 {
     push_queries(alloc, queries, rows, conds)?;
@@ -83,13 +80,10 @@ pub fn cache_delivered(
     runs: &[RunRow],
     picks: &[Pick],
 ) -> Result<CachedQueries, Memory>
-    requires conds { readings_of rows ≡ as_read conds.items }
-    requires arrivals { Each (λ row. IsMoment row.arrival) rows }
+    requires read { AreRead rows conds.items }
     requires numbered { QueriesFrom 1 rows }
-    requires runs { RunsFrom 1 runs.now }
     requires owned { Each (λ run. IsOneOf run.query.0 (length rows)) runs.now }
-    requires picked { Each (λ pick. HasRun pick.run pick.query.0 runs.now) picks.now }
-    requires once { PicksAreDistinct [] picks.now }
+    requires deliveries { AreDeliveries runs.now picks.now }
     ensures { IfOk result (λ queries. queries ≡ map (cached_query (runs_alone runs.now picks.now)) rows) }
 {
     let mut queries = CachedQueries::new(alloc);

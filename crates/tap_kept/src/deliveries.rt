@@ -2,9 +2,10 @@
 
 ghost use Rattle.std.specs.Prelude.{◌≡◌, ◌+◌, ◌-◌, ◌^◌, ◌<◌, ◌≤◌, [], false, map, length, slice_index_or, OnOk, IfOk};
 ghost use Rattle.little_box.specs.Boxes.{is_in};
-ghost use Rattle.tap_rows.specs.Kept.{Each, HasRun, RunsFrom, QueriesFrom};
+ghost use Rattle.tap_rows.specs.Kept.{Each, RunsFrom, QueriesFrom};
 ghost use Rattle.tap_kept.specs.Keeping.{cached_query, never_run, after_run, HoldsAt, ChangesAt};
-ghost use Rattle.tap_kept.specs.Starting.{rows_in, runs_alone, ordinal_in, with_entry, IsOneOf, PicksAreDistinct};
+ghost use Rattle.tap_kept.specs.Starting.{rows_in, runs_alone, ordinal_in, with_entry, IsOneOf};
+ghost use Rattle.tap_kept.specs.StoredRows.{AreDeliveries};
 
 use crate::cached_queries::CachedQueries;
 use std::alloc::Global;
@@ -81,10 +82,8 @@ pub(crate) fn deliver(
 ) -> Result<(), Memory>
     requires numbered { QueriesFrom 1 (rows_in queries.old) }
     requires fresh { queries.old ≡ map never_run (rows_in queries.old) }
-    requires runs { RunsFrom 1 runs.now }
     requires owned { Each (λ run. IsOneOf run.query.0 (length queries.old)) runs.now }
-    requires picked { Each (λ pick. HasRun pick.run pick.query.0 runs.now) picks.now }
-    requires once { PicksAreDistinct [] picks.now }
+    requires deliveries { AreDeliveries runs.now picks.now }
     ensures { OnOk result (queries.new ≡ map (cached_query (runs_alone runs.now picks.now)) (rows_in queries.old)) }
 {
     let ordinals = add_runs(alloc, queries, runs)?;

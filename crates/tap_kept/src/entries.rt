@@ -98,12 +98,13 @@ fn push_hits(entries: &mut LittleBox, run: u32, hits: &[Hit]) -> Result<(), Memo
     Ok(())
 }
 
-// Adds the hits of a run. At Err nothing has changed.
+// Adds the hits of a run, for which room is made at once. At Err nothing has changed.
 pub(crate) fn add_hits(entries: &mut LittleBox, run: u32, hits: &[Hit]) -> Result<(), Memory>
     requires { AreNew entries.old hits.now }
     ensures ok { OnOk result (entries.new ≡ entries.old ++ map (entry_at run) hits.now) }
     ensures err { OnErr result (entries.new ≡ entries.old) }
 {
+    entries.reserve(hits.len())?;
     let len = entries.len();
     let done = push_hits(entries, run, hits);
     if done.is_err() {

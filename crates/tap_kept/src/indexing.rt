@@ -2,11 +2,11 @@
 
 ghost use Rattle.std.specs.Prelude.{◌≡◌, ◌≤◌, [], length, OnOk, IfOk};
 ghost use Rattle.tap_rows.specs.declared.change.Change.{Change};
-ghost use Rattle.tap_rows.specs.Kept.{Each};
 ghost use Rattle.tap_rows.specs.Tables.{after};
 ghost use Rattle.row_index.specs.Orders.{doc_number, doc_arrival, note_number, note_arrival};
 ghost use Rattle.row_index.specs.Rows.{rows_alone};
 ghost use Rattle.tap_kept.specs.Starting.{FollowInOrder, with_notes};
+ghost use Rattle.tap_kept.specs.StoredRows.{AreShortDocs};
 
 use mail_fields::keep;
 use query_eval::Hits;
@@ -18,9 +18,11 @@ use tap_rows::{Doc, Note};
 // Adds documents after the others, with the values of their fields.
 fn add_docs(alloc: Global, index: &mut RowIndex, docs: Rows<Doc>) -> Result<(), Memory>
     requires left { FollowInOrder doc_number doc_arrival index.old.docs docs }
-    requires short { Each (λ doc. length doc.text ≤ 1048576) docs }
+    requires short { AreShortDocs docs }
     ensures { OnOk result (index.new ≡ after index.old (Change.Docs docs)) }
 {
+    // Taken at once: rows that grow are copied each time their room doubles.
+    index.reserve(docs.len(), 0)?;
     for doc in docs.into_vec() {
         index.add_doc(keep(alloc, index.key(), doc)?)?;
     }
@@ -32,6 +34,7 @@ fn add_notes(index: &mut RowIndex, notes: Rows<Note>) -> Result<(), Memory>
     requires { FollowInOrder note_number note_arrival index.old.notes notes }
     ensures { OnOk result (index.new ≡ with_notes index.old notes) }
 {
+    index.reserve(0, notes.len())?;
     for note in notes.into_vec() {
         index.add_note(note)?;
     }
@@ -47,7 +50,7 @@ fn fill_index(
 ) -> Result<Hits, Memory>
     requires none { index.old ≡ rows_alone [] [] }
     requires docs { FollowInOrder doc_number doc_arrival [] docs }
-    requires short { Each (λ doc. length doc.text ≤ 1048576) docs }
+    requires short { AreShortDocs docs }
     requires notes { FollowInOrder note_number note_arrival [] notes }
     ensures index { OnOk result (index.new ≡ rows_alone docs notes) }
     ensures room { IfOk result (λ hits. length index.new.docs ≤ hits.room) }
@@ -73,7 +76,7 @@ pub fn index_rows(
     notes: Rows<Note>,
 ) -> Result<(RowIndex, Hits), Memory>
     requires docs { FollowInOrder doc_number doc_arrival [] docs }
-    requires short { Each (λ doc. length doc.text ≤ 1048576) docs }
+    requires short { AreShortDocs docs }
     requires notes { FollowInOrder note_number note_arrival [] notes }
     ensures index { IfOk result (λ made. made.0 ≡ rows_alone docs notes) }
     ensures room { IfOk result (λ made. length made.0.docs ≤ made.1.room) }

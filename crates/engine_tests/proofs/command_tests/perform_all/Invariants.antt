@@ -1,5 +1,6 @@
-use Rattle.std.proofs.Common.{◌≡◌, length, true, false}
+use Rattle.std.proofs.Common.{◌≡◌, length, false}
 use Rattle.std.specs.Vec.Iter.{into_iter_items, into_iter_len}
+use Rattle.keeper_core.specs.States.{IsAttached}
 use Rattle.tap_engine.specs.Ready.{IsReady}
 use Rattle.engine_tests.proofs.command_tests.perform_all.Given as goal
 
@@ -9,6 +10,5 @@ invariant-loop-command g l = record {
   len : into_iter_len l.command-iterator ≡ length (into_iter_items l.command-iterator);
   running : l.engine.stopped ≡ false;
   ready : IsReady l.engine;
-  attached : g.P.Keeper.attached l.keeper ≡ true;
-  keeping : g.P.Keeper.stopped l.keeper ≡ false;
+  attached : IsAttached g.P.Keeper l.keeper;
 }

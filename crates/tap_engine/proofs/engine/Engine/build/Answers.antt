@@ -3,6 +3,7 @@ use Rattle.tap_base.specs.Words.{with_new}
 use Rattle.tap_rows.specs.declared.tables.Tables.{Tables}
 use Rattle.tap_rows.specs.Kept.{Each, HasRun, RunsFrom}
 use Rattle.tap_rows.specs.WellFormed.{is_well_formed}
+use Rattle.restart_core.specs.Readings.{readings_of}
 use Rattle.tap_engine.specs.declared.engine.Engine.{Engine}
 use Rattle.tap_kept.specs.Keeping.{cached_query}
 use Rattle.tap_engine.specs.Standing.{Represents}
@@ -15,16 +16,14 @@ use Rattle.tap_engine.proofs.engine.Engine.build.Goals as goal
 from-sound : (tables sound : Tables) → tables ≡ sound → is_well_formed sound ≡ true → Formed tables
 from-sound tables sound same e = formed tables (subst (λ t. is_well_formed t ≡ true) (sym same) e)
 
-pub cache_delivered-requires-clause-arrivals : goal.cache_delivered-requires-clause-arrivals
-cache_delivered-requires-clause-arrivals c = (from-sound c.into_parts-tables.result.0 c.args.sound c.into_parts-tables.ensures.tables c.into_parts-tables.ensures.formed).moments
+pub cache_delivered-requires-clause-read : goal.cache_delivered-requires-clause-read
+cache_delivered-requires-clause-read c = record {
+  conds = ap (λ (u : Tables). readings_of u.queries) c.into_parts-tables.ensures.tables ∙ c.into_parts-tables.ensures.conds;
+  arrivals = (from-sound c.into_parts-tables.result.0 c.args.sound c.into_parts-tables.ensures.tables c.into_parts-tables.ensures.formed).moments;
+}
 
 pub cache_delivered-requires-clause-numbered : goal.cache_delivered-requires-clause-numbered
 cache_delivered-requires-clause-numbered c = (from-sound c.into_parts-tables.result.0 c.args.sound c.into_parts-tables.ensures.tables c.into_parts-tables.ensures.formed).queries
-
-pub cache_delivered-requires-clause-runs : goal.cache_delivered-requires-clause-runs
-cache_delivered-requires-clause-runs c =
-    let f = from-sound c.into_parts-tables.result.0 c.args.sound c.into_parts-tables.ensures.tables c.into_parts-tables.ensures.formed in
-    subst (λ runs. RunsFrom 1 runs) (sym c.as_slice-3.ensures) f.runs
 
 pub cache_delivered-requires-clause-owned : goal.cache_delivered-requires-clause-owned
 cache_delivered-requires-clause-owned c =
@@ -32,17 +31,15 @@ cache_delivered-requires-clause-owned c =
     let f = from-sound t c.args.sound c.into_parts-tables.ensures.tables c.into_parts-tables.ensures.formed in
     subst (λ runs. Each (λ run. IsOneOf run.query.0 (length t.queries)) runs) (sym c.as_slice-3.ensures) f.owned
 
-pub cache_delivered-requires-clause-picked : goal.cache_delivered-requires-clause-picked
-cache_delivered-requires-clause-picked c =
+pub cache_delivered-requires-clause-deliveries : goal.cache_delivered-requires-clause-deliveries
+cache_delivered-requires-clause-deliveries c =
     let t = c.into_parts-tables.result.0 in
-    let f = from-sound t c.args.sound c.into_parts-tables.ensures.tables c.into_parts-tables.ensures.formed in
-    subst (λ picks. Each (λ pick. HasRun pick.run pick.query.0 c.as_slice-3.result.now) picks) (sym c.as_slice-4.ensures)
-    (subst (λ runs. Each (λ pick. HasRun pick.run pick.query.0 runs) t.picks) (sym c.as_slice-3.ensures) f.picked)
-
-pub cache_delivered-requires-clause-once : goal.cache_delivered-requires-clause-once
-cache_delivered-requires-clause-once c =
-    let f = from-sound c.into_parts-tables.result.0 c.args.sound c.into_parts-tables.ensures.tables c.into_parts-tables.ensures.formed in
-    subst (PicksAreDistinct []) (sym c.as_slice-4.ensures) f.once
+    let f = from-sound t c.args.sound c.into_parts-tables.ensures.tables c.into_parts-tables.ensures.formed in record {
+      numbered = subst (λ runs. RunsFrom 1 runs) (sym c.as_slice-3.ensures) f.runs;
+      picked = subst (λ picks. Each (λ pick. HasRun pick.run pick.query.0 c.as_slice-3.result.now) picks) (sym c.as_slice-4.ensures)
+          (subst (λ runs. Each (λ pick. HasRun pick.run pick.query.0 runs) t.picks) (sym c.as_slice-3.ensures) f.picked);
+      once = subst (PicksAreDistinct []) (sym c.as_slice-4.ensures) f.once;
+    }
 
 pub index_rows-requires-clause-docs : goal.index_rows-requires-clause-docs
 index_rows-requires-clause-docs c = (from-sound c.into_parts-tables.result.0 c.args.sound c.into_parts-tables.ensures.tables c.into_parts-tables.ensures.formed).docs

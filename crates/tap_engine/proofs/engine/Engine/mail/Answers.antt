@@ -21,16 +21,13 @@ returns-clause-ready c =
     (ready-docs c.args.self.now c.add_doc.new.self.hits (c.in_ok-text.text ∷ []) (c.args.self.now.bytes + length c.in_ok-text.text) c.requires.ready (some-moment c.args.self.now.session.moment c.in-Some.moment there)
     (subst (λ m. length (c.args.self.now.index.docs ++ docs_from (length c.args.self.now.index.docs + 1) m (c.in_ok-text.text ∷ [])) ≤ c.add_doc.new.self.hits.room) at room)))
 
-pub add_doc-requires-clause-moment : goal.add_doc-requires-clause-moment
-add_doc-requires-clause-moment c =
+pub add_doc-requires-clause-arrives : goal.add_doc-requires-clause-arrives
+add_doc-requires-clause-arrives c =
     let there : c.args.self.now.session.moment ≡ Some c.in-Some.moment = search rules in
     let same : to_z w64 (of_z w64 c.in-Some.moment) ≡ c.in-Some.moment = search rules in
     let at : c.in-Some.moment ≡ moment_or_zero c.args.self.now.session = search rules in
-    subst IsMoment (sym (same ∙ at)) (index-moment c.args.self.now c.requires.ready (some-moment c.args.self.now.session.moment c.in-Some.moment there))
-
-pub add_doc-requires-clause-after : goal.add_doc-requires-clause-after
-add_doc-requires-clause-after c =
-    let there : c.args.self.now.session.moment ≡ Some c.in-Some.moment = search rules in
-    let same : to_z w64 (of_z w64 c.in-Some.moment) ≡ c.in-Some.moment = search rules in
-    let at : c.in-Some.moment ≡ moment_or_zero c.args.self.now.session = search rules in
-    subst (λ m. Each (λ other. other.arrival ≤ℤ m) c.args.self.now.index.docs) (sym (same ∙ at)) (rows-by doc_arrival c.args.self.now c.args.self.now.index.docs c.requires.ready.docs (some-moment c.args.self.now.session.moment c.in-Some.moment there))
+    let some = some-moment c.args.self.now.session.moment c.in-Some.moment there in
+    record {
+      moment = subst IsMoment (sym (same ∙ at)) (index-moment c.args.self.now c.requires.ready some);
+      after = subst (λ m. Each (λ other. other.arrival ≤ℤ m) c.args.self.now.index.docs) (sym (same ∙ at)) (rows-by doc_arrival c.args.self.now c.args.self.now.index.docs c.requires.ready.docs some);
+    }

@@ -51,12 +51,11 @@ returns-clause-ready c =
     (ready-docs c.args.self.now c.add_docs.new.self.hits c.in_ok-moment.texts (c.args.self.now.bytes + bytes_of c.in_ok-moment.texts) c.requires.ready (mbox-moment c.args.self.now c.args.block c.in_ok-moment.ensures.checks)
     (subst (λ m. length (c.args.self.now.index.docs ++ docs_from (length c.args.self.now.index.docs + 1) m c.in_ok-moment.texts) ≤ c.add_docs.new.self.hits.room) c.in_ok-moment.ensures.moment room)))
 
-pub add_docs-requires-clause-moment : goal.add_docs-requires-clause-moment
-add_docs-requires-clause-moment c =
+pub add_docs-requires-clause-arrives : goal.add_docs-requires-clause-arrives
+add_docs-requires-clause-arrives c =
     let same : to_z w64 (of_z w64 c.in_ok-moment.moment) ≡ c.in_ok-moment.moment = search rules in
-    subst IsMoment (sym (same ∙ c.in_ok-moment.ensures.moment)) (index-moment c.args.self.now c.requires.ready (mbox-moment c.args.self.now c.args.block c.in_ok-moment.ensures.checks))
-
-pub add_docs-requires-clause-after : goal.add_docs-requires-clause-after
-add_docs-requires-clause-after c =
-    let same : to_z w64 (of_z w64 c.in_ok-moment.moment) ≡ c.in_ok-moment.moment = search rules in
-    subst (λ m. Each (λ other. other.arrival ≤ℤ m) c.args.self.now.index.docs) (sym (same ∙ c.in_ok-moment.ensures.moment)) (rows-by doc_arrival c.args.self.now c.args.self.now.index.docs c.requires.ready.docs (mbox-moment c.args.self.now c.args.block c.in_ok-moment.ensures.checks))
+    let at = mbox-moment c.args.self.now c.args.block c.in_ok-moment.ensures.checks in
+    record {
+      moment = subst IsMoment (sym (same ∙ c.in_ok-moment.ensures.moment)) (index-moment c.args.self.now c.requires.ready at);
+      after = subst (λ m. Each (λ other. other.arrival ≤ℤ m) c.args.self.now.index.docs) (sym (same ∙ c.in_ok-moment.ensures.moment)) (rows-by doc_arrival c.args.self.now c.args.self.now.index.docs c.requires.ready.docs at);
+    }

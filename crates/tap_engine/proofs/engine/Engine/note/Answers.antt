@@ -42,10 +42,11 @@ returns-clause-undo c =
 pub returns-clause-ready : goal.returns-clause-ready
 returns-clause-ready c = rw c.in_ok-change.ensures.engine (ready-note c.args.self.now c.in_ok-note.note (with_vote c.in_ok-note.note c.args.self.now.votes) (c.args.self.now.bytes + length c.in_ok-note.note.text) c.requires.ready (ap (λ n. n.arrival) c.in_ok-note.ensures.row) (note-moment c.args.self.now c.args.doc c.args.kind c.args.text c.in_ok-note.ensures.checks))
 
-pub add_note-requires-clause-moment : goal.add_note-requires-clause-moment
-add_note-requires-clause-moment c = subst IsMoment (sym (ap (λ n. n.arrival) c.in_ok-note.ensures.row)) (index-moment c.args.self.now c.requires.ready (note-moment c.args.self.now c.args.doc c.args.kind c.args.text c.in_ok-note.ensures.checks))
-
-pub add_note-requires-clause-after : goal.add_note-requires-clause-after
-add_note-requires-clause-after c =
-    subst (λ m. Each (λ other. other.arrival ≤ℤ m) c.args.self.now.index.notes) (sym (ap (λ n. n.arrival) c.in_ok-note.ensures.row))
-    (rows-by note_arrival c.args.self.now c.args.self.now.index.notes c.requires.ready.notes (note-moment c.args.self.now c.args.doc c.args.kind c.args.text c.in_ok-note.ensures.checks))
+pub add_note-requires-clause-arrives : goal.add_note-requires-clause-arrives
+add_note-requires-clause-arrives c =
+    let at = note-moment c.args.self.now c.args.doc c.args.kind c.args.text c.in_ok-note.ensures.checks in
+    record {
+      moment = subst IsMoment (sym (ap (λ n. n.arrival) c.in_ok-note.ensures.row)) (index-moment c.args.self.now c.requires.ready at);
+      after = subst (λ m. Each (λ other. other.arrival ≤ℤ m) c.args.self.now.index.notes) (sym (ap (λ n. n.arrival) c.in_ok-note.ensures.row))
+          (rows-by note_arrival c.args.self.now c.args.self.now.index.notes c.requires.ready.notes at);
+    }

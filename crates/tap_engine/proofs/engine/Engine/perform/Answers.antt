@@ -5,7 +5,7 @@ use Rattle.tap_engine.proofs.PerformLaws.{memory-step, rows-fit, rows-next, faul
 use Rattle.tap_engine.proofs.engine.Engine.perform.Goals as goal
 
 pub returns-in_default-clause-halted : goal.returns-in_default-clause-halted
-returns-in_default-clause-halted g c = c.in-Ok.ensures.running ∙ c.requires.running ∙ sym c.requires.keeping
+returns-in_default-clause-halted g c = c.in-Ok.ensures.running ∙ c.requires.running ∙ sym c.requires.attached.running
 
 pub returns-in-Ok-commit-clause-kept : goal.returns-in-Ok-commit-clause-kept
 returns-in-Ok-commit-clause-kept g c = λ t represents sound honest holds.
