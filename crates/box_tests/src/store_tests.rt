@@ -1,8 +1,9 @@
 //! Sessions over a store in memory: the worked session, in pieces of each size, and each way in which none begins.
 
-ghost use Rattle.std.specs.Prelude.{◌≡◌, ◌<◌, false};
 ghost use Rattle.std.specs.List.{All};
 ghost use Rattle.std.specs.Str.{IsUtf8};
+ghost use Rattle.tap_base.specs.Ledgers.{IsBlankOf};
+ghost use Rattle.keeper_core.specs.States.{IsFreeInMemory};
 
 use keeper_core::MemKeeper;
 use pop_box::serve;
@@ -33,12 +34,9 @@ fn serve_with<L: Ledger>(
     sink: &mut MemSink,
     keeper: &mut MemKeeper,
 ) -> u8
-    requires name { blank.name ≡ L.name }
-    requires parts { blank.parts ≡ L.parts }
-    requires some { 0 < blank.parts }
+    requires blank { IsBlankOf L.name L.parts blank }
     requires texts { All IsUtf8 words.now }
-    requires free { keeper.old.attached ≡ false }
-    requires running { keeper.old.stopped ≡ false }
+    requires free { IsFreeInMemory keeper.old }
 {
     let mut steps = Steps::<L>::start(blank);
     serve(
@@ -61,8 +59,7 @@ fn serve_over(
     keeper: &mut MemKeeper,
 ) -> Result<(u8, Text), Memory>
     requires texts { All IsUtf8 words.now }
-    requires free { keeper.old.attached ≡ false }
-    requires running { keeper.old.stopped ≡ false }
+    requires free { IsFreeInMemory keeper.old }
 {
     let status = serve_with::<Brand>(alloc, Blank::new(1), words, &mut source, &mut sink, keeper);
     let written = Text::from_slice(alloc, sink.written());
@@ -80,8 +77,7 @@ fn serve_requests(
     keeper: &mut MemKeeper,
 ) -> Result<(u8, Text), Memory>
     requires texts { All IsUtf8 words.now }
-    requires free { keeper.old.attached ≡ false }
-    requires running { keeper.old.stopped ≡ false }
+    requires free { IsFreeInMemory keeper.old }
 {
     let (source, sink) = edges_of(
         alloc,

@@ -8,7 +8,9 @@ ghost use Rattle.command_words.specs.PopOptions.{pop_app};
 ghost use Rattle.command_words.specs.PopWords.{pop_place_in, user_in, box_in, secret_in, IsPopWorded};
 ghost use Rattle.command_words.specs.WellWorded.{place_of};
 ghost use Rattle.tap_base.specs.Counts.{Rose};
+ghost use Rattle.keeper_core.specs.States.{IsFree, IsPlacedUnless, IsPlacedBy};
 ghost use Rattle.tap_rows.specs.declared.tables.Tables.{Tables};
+ghost use Rattle.tap_top.specs.Points.{CanOpen};
 ghost use Rattle.tap_top.specs.Premises.{FromDurable, FromStore, IfCalm};
 ghost use Rattle.tap_top.specs.Refusals.{Refusals};
 ghost use Rattle.tap_top.specs.Versions.{VersionAtExit};
@@ -77,9 +79,7 @@ fn serve_box<S: Source, K: Sink, P: Keeper, L: Ledger>(
     keeper: &mut P,
     steps: &mut Steps<L>,
 ) -> u8
-    requires free { P.attached keeper.old ≡ false }
-    requires running { P.stopped keeper.old ≡ false }
-    requires text { IsUtf8 asked.now.place }
+    requires can { CanOpen P.Keeper keeper.old asked.now.place }
     ensures session { FromStore P.Keeper keeper.old keeper.new (λ t.
         Served result (letters_in asked.now.user asked.now.name t) asked.now.user asked.now.secret
         (S.left source.old) (S.left source.new) (K.out sink.old) (K.out sink.new) (P.has_version keeper.old)) }
@@ -97,7 +97,7 @@ fn serve_box<S: Source, K: Sink, P: Keeper, L: Ledger>(
     ensures complete { IfCalm (S.faults source.old) (S.faults source.new)
         (K.faults sink.old) (K.faults sink.new) (P.faults keeper.old) (P.faults keeper.new) (IsUndisturbed result) }
     ensures statuses { (result ≤ 9) × (result ≢ 2) }
-    ensures place { ((result ≡ 7) × (P.place keeper.new ≡ P.place keeper.old)) ⊎ (P.place keeper.new ≡ asked.now.place) }
+    ensures place { IsPlacedUnless (result ≡ 7) (P.place keeper.old) (P.place keeper.new) asked.now.place }
 {
     match open_store(alloc, key, &asked.place, keeper) {
         Ok(engine) => serve_with(alloc, asked, source, sink, engine, steps),
@@ -133,8 +133,7 @@ pub fn serve<S: Source, K: Sink, P: Keeper, L: Ledger>(
     keeper: &mut P,
     steps: &mut Steps<L>,
 ) -> u8
-    requires free { P.attached keeper.old ≡ false }
-    requires running { P.stopped keeper.old ≡ false }
+    requires free { IsFree P.Keeper keeper.old }
     requires texts { All IsUtf8 words.now }
 
     // The words of the command line.
@@ -144,7 +143,7 @@ pub fn serve<S: Source, K: Sink, P: Keeper, L: Ledger>(
     ensures faulty { (result ≡ 2) ⊎ ((result ≡ 7) ⊎ (faults_of pop_app words.now ≡ [])) }
     ensures nothing { result ≡ 2 →
         (keeper.new ≡ keeper.old) × ((K.out sink.new ≡ K.out sink.old) × (S.left source.new ≡ S.left source.old)) }
-    ensures place { (((result ≡ 2) ⊎ (result ≡ 7)) × (P.place keeper.new ≡ P.place keeper.old)) ⊎ (P.place keeper.new ≡ pop_place_in words.now) }
+    ensures place { IsPlacedBy result (P.place keeper.old) (P.place keeper.new) (pop_place_in words.now) }
     ensures named { (path : Option (List ℕ)) (user name secret : List ℕ) → IsPopWorded words.now path user name secret →
         (pop_place_in words.now ≡ place_of path) × ((user_in words.now ≡ user) × ((box_in words.now ≡ name) × (secret_in words.now ≡ secret))) }
 

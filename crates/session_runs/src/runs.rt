@@ -1,8 +1,10 @@
 //! Runs over sources, sinks and keepers in memory.
 
-ghost use Rattle.std.specs.Prelude.{◌≡◌, ◌<◌, false, IfOk};
+ghost use Rattle.std.specs.Prelude.{◌<◌, IfOk};
 ghost use Rattle.std.specs.List.{All};
 ghost use Rattle.std.specs.Str.{IsUtf8};
+ghost use Rattle.tap_base.specs.Ledgers.{IsBlankOf};
+ghost use Rattle.keeper_core.specs.States.{IsFreeInMemory};
 
 use itoa::Buffer;
 use keeper_core::MemKeeper;
@@ -23,12 +25,9 @@ fn run<L: Ledger>(
     sink: &mut MemSink,
     keeper: &mut MemKeeper,
 ) -> u8
-    requires name { blank.name ≡ L.name }
-    requires parts { blank.parts ≡ L.parts }
-    requires some { 0 < blank.parts }
+    requires blank { IsBlankOf L.name L.parts blank }
     requires texts { All IsUtf8 words.now }
-    requires free { keeper.old.attached ≡ false }
-    requires running { keeper.old.stopped ≡ false }
+    requires free { IsFreeInMemory keeper.old }
 {
     let mut steps = Steps::<L>::start(blank);
     tapestry(
@@ -51,8 +50,7 @@ fn status_of(
     keeper: &mut MemKeeper,
 ) -> u8
     requires texts { All IsUtf8 words.now }
-    requires free { keeper.old.attached ≡ false }
-    requires running { keeper.old.stopped ≡ false }
+    requires free { IsFreeInMemory keeper.old }
 {
     run::<Brand>(alloc, Blank::new(1), words, source, sink, keeper)
 }
@@ -115,8 +113,7 @@ pub fn words_over(
     mut sink: MemSink,
 ) -> Result<(u8, Text), Memory>
     requires texts { All IsUtf8 words.now }
-    requires free { keeper.old.attached ≡ false }
-    requires running { keeper.old.stopped ≡ false }
+    requires free { IsFreeInMemory keeper.old }
 {
     let status = status_of(alloc, words, &mut source, &mut sink, keeper);
     let written = Text::from_slice(alloc, sink.written());
@@ -132,8 +129,7 @@ pub fn written_over(
     source: MemSource,
     sink: MemSink,
 ) -> Result<(u8, Text), Memory>
-    requires free { keeper.old.attached ≡ false }
-    requires running { keeper.old.stopped ≡ false }
+    requires free { IsFreeInMemory keeper.old }
 {
     let words = Texts::new(alloc);
     let ended = words_over(alloc, &words, keeper, source, sink);

@@ -2,7 +2,7 @@
 
 use crate::sessions::{Failure, Left, left_by};
 use std::alloc::Global;
-use tap_base::{DocNum, Memory, NoteNum, QueryNum, Text};
+use tap_base::{DocNum, Memory, NoteNum, QueryNum, SharedText, Text};
 use tap_rows::{Doc, FilterRow, MESSAGE_LIMIT, Note, Pick, QueryRow, RunRow, Tables};
 
 // A damage of the store with one row in each table.
@@ -37,27 +37,22 @@ fn push_bytes(text: &mut Text, len: usize) -> Result<(), Memory> {
 }
 
 // Gives a document its text.
-fn fill_doc(doc: &mut Doc, damage: Damage) -> Result<(), Memory> {
+fn fill_text(text: &mut Text, damage: Damage) -> Result<(), Memory> {
     match damage {
-        Damage::DocText => push_bytes(&mut doc.text, MESSAGE_LIMIT.saturating_add(1)),
-        _ => doc.text.push_slice(b"Subject: hi\n\n"),
+        Damage::DocText => push_bytes(text, MESSAGE_LIMIT.saturating_add(1)),
+        _ => text.push_slice(b"Subject: hi\n\n"),
     }
 }
 
 // Returns a document.
 fn doc(alloc: Global, num: u32, damage: Damage) -> Result<Doc, Memory> {
-    let mut doc = Doc {
+    let mut text = Text::new(alloc);
+    fill_text(&mut text, damage)?;
+    Ok(Doc {
         num: DocNum(num),
         arrival: 100,
-        text: Text::new(alloc),
-    };
-    match fill_doc(&mut doc, damage) {
-        Ok(()) => Ok(doc),
-        Err(Memory) => {
-            drop(doc);
-            Err(Memory)
-        }
-    }
+        text: SharedText::of(alloc, text)?,
+    })
 }
 
 // Adds the documents: one, or two equal ones.

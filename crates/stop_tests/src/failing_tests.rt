@@ -169,7 +169,7 @@ fn each_failing_read_leaves_the_commands_before(rt: HostRuntime) -> Result<(), M
 #[test]
 fn each_failing_put_leaves_what_was_answered(rt: HostRuntime) -> Result<(), Memory> {
     let alloc = rt.alloc();
-    let rows: [(u8, u64); 3] = [(0, 12), (1, 9), (2, 17)];
+    let rows: [(u8, u64); 3] = [(0, 10), (1, 7), (2, 15)];
     for (number, want) in rows {
         assert_eq!(rt; right_ends(alloc, number, Calls::Puts(0))?, want);
         assert_eq!(rt; right_ends(alloc, number, Calls::Puts(1))?, want);

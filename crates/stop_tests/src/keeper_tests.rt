@@ -1,6 +1,6 @@
 //! Sessions over a keeper that fails, and over stores of each version.
 
-ghost use Rattle.std.specs.Prelude.{◌≡◌, false};
+ghost use Rattle.keeper_core.specs.States.{IsFreeInMemory};
 
 use keeper_core::{KeepPlan, MemKeeper};
 use session_runs::{edges_of, tables_after, written_over};
@@ -16,8 +16,7 @@ fn cut_session(
     script: &[u8],
     puts: Vec<PutPlan>,
 ) -> Result<(u8, Text), Memory>
-    requires free { keeper.old.attached ≡ false }
-    requires running { keeper.old.stopped ≡ false }
+    requires free { IsFreeInMemory keeper.old }
 {
     let (source, sink) = edges_of(alloc, script, 4096, Vec::new(alloc), 4096, puts)?;
     written_over(alloc, keeper, source, sink)
@@ -25,8 +24,7 @@ fn cut_session(
 
 // Runs a session over a keeper; returns its status and what was written.
 fn session(alloc: Global, keeper: &mut MemKeeper, script: &[u8]) -> Result<(u8, Text), Memory>
-    requires free { keeper.old.attached ≡ false }
-    requires running { keeper.old.stopped ≡ false }
+    requires free { IsFreeInMemory keeper.old }
 {
     cut_session(alloc, keeper, script, Vec::new(alloc))
 }

@@ -1,6 +1,6 @@
 //! Sessions over keepers in memory, with a call that fails.
 
-ghost use Rattle.std.specs.Prelude.{◌≡◌, false};
+ghost use Rattle.keeper_core.specs.States.{IsFreeInMemory};
 
 use crate::scripts::PROBE;
 use keeper_core::{KeepPlan, MemKeeper};
@@ -61,8 +61,7 @@ fn run_over(
     size: usize,
     failure: Failure,
 ) -> Result<(u8, Text), Memory>
-    requires free { keeper.old.attached ≡ false }
-    requires running { keeper.old.stopped ≡ false }
+    requires free { IsFreeInMemory keeper.old }
 {
     let reads = reads_of(alloc, failure)?;
     let puts = puts_of(alloc, failure)?;

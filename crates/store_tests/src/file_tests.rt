@@ -1,7 +1,9 @@
 //! Sessions over files in memory, and over stores that statements make.
 
-ghost use Rattle.std.specs.Prelude.{◌≡◌, ◌<◌, false, IsTrue, IfSome};
-ghost use Rattle.sqlite_disk.specs.Memory.{memory_is_usable};
+ghost use Rattle.std.specs.Prelude.{◌≡◌, false, IfSome};
+ghost use Rattle.tap_base.specs.Ledgers.{IsBlankOf};
+ghost use Rattle.keeper_core.specs.States.{IsFree};
+ghost use Rattle.store_tests.specs.Usable.{AreUsable};
 
 use keeper_core::Keeper;
 use keeper_sql::SqlKeeper;
@@ -23,11 +25,8 @@ fn run_between<P: Keeper, L: Ledger>(
     mut source: MemSource,
     mut sink: MemSink,
 ) -> Result<(u8, Text), Memory>
-    requires name { blank.name ≡ L.name }
-    requires parts { blank.parts ≡ L.parts }
-    requires some { 0 < blank.parts }
-    requires free { P.attached keeper.old ≡ false }
-    requires running { P.stopped keeper.old ≡ false }
+    requires blank { IsBlankOf L.name L.parts blank }
+    requires free { IsFree P.Keeper keeper.old }
 {
     let mut steps = Steps::<L>::start(blank);
     let words = Texts::new(alloc);
@@ -54,11 +53,8 @@ fn run<P: Keeper, L: Ledger>(
     keeper: &mut P,
     script: &[u8],
 ) -> Result<(u8, Text), Memory>
-    requires name { blank.name ≡ L.name }
-    requires parts { blank.parts ≡ L.parts }
-    requires some { 0 < blank.parts }
-    requires free { P.attached keeper.old ≡ false }
-    requires running { P.stopped keeper.old ≡ false }
+    requires blank { IsBlankOf L.name L.parts blank }
+    requires free { IsFree P.Keeper keeper.old }
 {
     let text = Text::from_slice(alloc, script)?;
     let source = MemSource::new(text, Vec::new(alloc), Vec::new(alloc));
@@ -73,8 +69,7 @@ fn run<P: Keeper, L: Ledger>(
 
 // Opens the files of a store, and adopts the connection.
 fn adopted(alloc: Global, files: Files<MemoryFile>) -> Option<SqlKeeper<FileStore<MemoryFile>>>
-    requires log { IsTrue (memory_is_usable files.log) }
-    requires db { IsTrue (memory_is_usable files.db) }
+    requires usable { AreUsable files }
     ensures free { IfSome result (λ keeper. (keeper.attached ≡ false) × (keeper.stopped ≡ false)) }
 {
     match Connection::open_files(alloc, files, Options::new(1)) {
@@ -85,7 +80,7 @@ fn adopted(alloc: Global, files: Files<MemoryFile>) -> Option<SqlKeeper<FileStor
 
 // Hands the connection back, and closes its files.
 fn closed(keeper: SqlKeeper<FileStore<MemoryFile>>) -> Option<Files<MemoryFile>>
-    ensures usable { IfSome result (λ files. IsTrue (memory_is_usable files.log) × IsTrue (memory_is_usable files.db)) }
+    ensures usable { IfSome result AreUsable }
 {
     match keeper.into_connection().close_files() {
         Ok(files) => Some(files),
@@ -101,8 +96,8 @@ fn joined(
     ran: Result<(u8, Text), Memory>,
     files: Option<Files<MemoryFile>>,
 ) -> Option<(u8, Text, Files<MemoryFile>)>
-    requires usable { IfSome files (λ left. IsTrue (memory_is_usable left.log) × IsTrue (memory_is_usable left.db)) }
-    ensures usable { IfSome result (λ left. IsTrue (memory_is_usable left.2.log) × IsTrue (memory_is_usable left.2.db)) }
+    requires usable { IfSome files AreUsable }
+    ensures usable { IfSome result (λ left. AreUsable left.2) }
 {
     match files {
         Some(files) => match ran {
@@ -125,9 +120,8 @@ fn session(
     files: Files<MemoryFile>,
     script: &[u8],
 ) -> Option<(u8, Text, Files<MemoryFile>)>
-    requires log { IsTrue (memory_is_usable files.log) }
-    requires db { IsTrue (memory_is_usable files.db) }
-    ensures usable { IfSome result (λ left. IsTrue (memory_is_usable left.2.log) × IsTrue (memory_is_usable left.2.db)) }
+    requires usable { AreUsable files }
+    ensures usable { IfSome result (λ left. AreUsable left.2) }
 {
     let mut keeper = adopted(alloc, files)?;
     let ran = run::<_, Brand>(alloc, Blank::new(1), &mut keeper, script);
@@ -136,8 +130,7 @@ fn session(
 
 // Returns files without bytes.
 fn new_files(alloc: Global) -> Files<MemoryFile>
-    ensures log { IsTrue (memory_is_usable result.log) }
-    ensures db { IsTrue (memory_is_usable result.db) }
+    ensures { AreUsable result }
 {
     Files {
         log: MemoryFile::new(alloc),
@@ -152,9 +145,8 @@ fn next_session(
     script: &[u8],
     want: &[u8],
 ) -> Option<Files<MemoryFile>>
-    requires log { IsTrue (memory_is_usable files.log) }
-    requires db { IsTrue (memory_is_usable files.db) }
-    ensures usable { IfSome result (λ left. IsTrue (memory_is_usable left.log) × IsTrue (memory_is_usable left.db)) }
+    requires usable { AreUsable files }
+    ensures usable { IfSome result AreUsable }
 {
     let (status, written, files) = session(alloc, files, script)?;
     let is_right = status == 0 && written.as_slice() == want;

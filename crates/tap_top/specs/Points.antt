@@ -1,6 +1,9 @@
 -- What holds at each point of a story, of the engine and of the keeper.
-use Rattle.std.specs.Prelude.{◌≡◌, List, [], ◌∷◌, Bool, true, false}
+use Rattle.std.specs.Prelude.{ℕ, ◌≡◌, List, [], ◌∷◌, false}
+use Rattle.std.specs.Str.{IsUtf8}
 use Rattle.keeper_core.specs.Keeping.{IsDurable}
+use Rattle.keeper_core.specs.States.{IsFree, IsAttached}
+use Rattle.keeper_core.specs.declared.keeper.Keeper.{Ghosts}
 use Rattle.tap_rows.specs.declared.tables.Tables.{Tables}
 use Rattle.script_lang.specs.declared.command.Command.{Command}
 use Rattle.script_lang.specs.declared.reply.Reply.{Reply}
@@ -20,12 +23,16 @@ SoundAlong tables session (command ∷ commands) (reply ∷ replies) tables' ses
 SoundAlong tables session [] (reply ∷ replies) tables' session' story = ⊥
 SoundAlong tables session (command ∷ commands) [] tables' session' story = ⊥
 
+-- a keeper can be attached at a place
+pub record CanOpen {K : Type 0} (g : Ghosts K) (keeper : K) (place : List ℕ) : Type 0 where
+  pub free : IsFree g keeper
+  pub text : IsUtf8 place
+
 -- an engine and its keeper can perform a command
-pub record CanPerform (engine : Engine) (attached stopped : Bool) : Type 0 where
+pub record CanPerform {K : Type 0} (g : Ghosts K) (engine : Engine) (keeper : K) : Type 0 where
   pub ready : IsReady engine
   pub running : engine.stopped ≡ false
-  pub reachable : attached ≡ true
-  pub keeping : stopped ≡ false
+  pub attached : IsAttached g keeper
 
 -- the engine represents these tables, which are sound in its session; the keeper tells them, and a crash leaves these alone
 pub record EngineMatchesKeeper (engine : Engine) (tells leaves : Tables → Type 0) (tables : Tables) : Type 0 where

@@ -1,5 +1,5 @@
 -- What a sample did: its commands in place of a script's, and at the end the lines that sum them up.
-use Rattle.std.specs.Prelude.{ℕ, ◌≡◌, ◌≢◌, ◌≤◌, ◌+◌, List, [], ◌∷◌, ◌++◌, length, take, Bool, Option, if◌then◌else◌}
+use Rattle.std.specs.Prelude.{ℕ, ◌≡◌, ◌≢◌, ◌≤◌, ◌+◌, ◌^◌, ◌⊎◌, List, [], ◌∷◌, ◌++◌, length, take, Bool, Option, if◌then◌else◌}
 use Rattle.std.specs.List.{list_all}
 use Rattle.std.specs.Io.KnownBytes.{Appends}
 use Rattle.tap_rows.specs.declared.tables.Tables.{Tables}
@@ -29,6 +29,10 @@ refusals_in reply = if is_accepted reply then 0 else 1
 abbrev pub hits_in : Reply → ℕ
 hits_in (Ran ordinal moment hits) = length hits
 hits_in reply = 0
+
+-- with this reply a count would pass the end of its type
+abbrev pub PassesEnd : Tally → Reply → Type 0
+PassesEnd tally reply = (2 ^ 64 ≤ tally.refused + refusals_in reply) ⊎ (2 ^ 64 ≤ tally.delivered + hits_in reply)
 
 -- the sum over all replies
 abbrev pub total : (Reply → ℕ) → List Reply → ℕ

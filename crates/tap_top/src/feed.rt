@@ -49,7 +49,7 @@ pub fn answer<K: Sink, P: Keeper, L: Ledger>(
     steps: &mut Steps<L>,
     sink: &mut K,
 ) -> Result<bool, Stop>
-    requires can { CanPerform engine.old (P.attached keeper.old) (P.stopped keeper.old) }
+    requires can { CanPerform P.Keeper engine.old keeper.old }
     ensures ok { IfOk result (λ ok. FromEngine P.Keeper engine.old keeper.old keeper.new (λ t.
         Answered t engine.old.session (command ∷ []) (K.out sink.old) (K.out sink.new)
         (AgreeOn P.Keeper engine.new keeper.new) engine.new.session ok)) }
@@ -58,7 +58,7 @@ pub fn answer<K: Sink, P: Keeper, L: Ledger>(
     ensures uncommitted { IsErrOf result Stop.Keeper → FromEngine P.Keeper engine.old keeper.old keeper.new (λ t.
         Uncommitted t engine.old.session [] command (K.out sink.old) (K.out sink.new) (P.may_leave keeper.new)) }
     ensures able { IsErrOf result Stop.Memory → ⊥ }
-    ensures can { OnOk result (CanPerform engine.new (P.attached keeper.new) (P.stopped keeper.new)) }
+    ensures can { OnOk result (CanPerform P.Keeper engine.new keeper.new) }
     ensures stopped { (P.stopped keeper.new ≡ true) ↔ IsErrOf result Stop.Keeper }
     ensures cause { IsErrOf result Stop.Put → Rose (K.faults sink.old) (K.faults sink.new) }
     ensures kept_cause { IsErrOf result Stop.Keeper → Rose (P.faults keeper.old) (P.faults keeper.new) }
@@ -101,7 +101,7 @@ fn take_one<K: Sink, P: Keeper, L: Ledger>(
     sink: &mut K,
 ) -> Result<LineTaken, Stop>
     requires some { 0 < length piece.now }
-    requires can { CanPerform engine.old (P.attached keeper.old) (P.stopped keeper.old) }
+    requires can { CanPerform P.Keeper engine.old keeper.old }
     ensures within { IfOk result (λ step. (0 < step.used) × (step.used ≤ length piece.now)) }
     ensures open { OnOk result (complete_from reader.new [] ≡ []) }
     ensures ok { IfOk result (λ step. FromEngine P.Keeper engine.old keeper.old keeper.new (λ t.
@@ -114,7 +114,7 @@ fn take_one<K: Sink, P: Keeper, L: Ledger>(
         PieceCut piece.now reader.old (λ done next.
         Uncommitted t engine.old.session done next (K.out sink.old) (K.out sink.new) (P.may_leave keeper.new))) }
     ensures memory { IsErrOf result Stop.Memory → (keeper.new ≡ keeper.old) × ((engine.new ≡ engine.old) × (K.out sink.new ≡ K.out sink.old)) }
-    ensures can { OnOk result (CanPerform engine.new (P.attached keeper.new) (P.stopped keeper.new)) }
+    ensures can { OnOk result (CanPerform P.Keeper engine.new keeper.new) }
     ensures stopped { (P.stopped keeper.new ≡ true) ↔ IsErrOf result Stop.Keeper }
     ensures cause { IsErrOf result Stop.Put → Rose (K.faults sink.old) (K.faults sink.new) }
     ensures kept_cause { IsErrOf result Stop.Keeper → Rose (P.faults keeper.old) (P.faults keeper.new) }
@@ -147,7 +147,7 @@ pub fn feed<K: Sink, P: Keeper, L: Ledger>(
     sink: &mut K,
 ) -> Result<bool, Stop>
     requires open { complete_from reader.old [] ≡ [] }
-    requires can { CanPerform engine.old (P.attached keeper.old) (P.stopped keeper.old) }
+    requires can { CanPerform P.Keeper engine.old keeper.old }
     ensures open { OnOk result (complete_from reader.new [] ≡ []) }
     ensures ok { IfOk result (λ ok. FromEngine P.Keeper engine.old keeper.old keeper.new (λ t.
         PieceAnswered piece.now reader.old reader.new t engine.old.session (K.out sink.old) (K.out sink.new)
@@ -160,7 +160,7 @@ pub fn feed<K: Sink, P: Keeper, L: Ledger>(
         Uncommitted t engine.old.session done next (K.out sink.old) (K.out sink.new) (P.may_leave keeper.new))) }
     ensures memory { IsErrOf result Stop.Memory → FromEngine P.Keeper engine.old keeper.old keeper.new (λ t.
         PieceOutOfMemory piece.now reader.old t engine.old.session (K.out sink.old) (K.out sink.new) (IsDurableIn P.Keeper keeper.new)) }
-    ensures can { OnOk result (CanPerform engine.new (P.attached keeper.new) (P.stopped keeper.new)) }
+    ensures can { OnOk result (CanPerform P.Keeper engine.new keeper.new) }
     ensures stopped { (P.stopped keeper.new ≡ true) ↔ IsErrOf result Stop.Keeper }
     ensures cause { IsErrOf result Stop.Put → Rose (K.faults sink.old) (K.faults sink.new) }
     ensures kept_cause { IsErrOf result Stop.Keeper → Rose (P.faults keeper.old) (P.faults keeper.new) }
@@ -192,7 +192,7 @@ pub fn finish<K: Sink, P: Keeper, L: Ledger>(
     steps: &mut Steps<L>,
     sink: &mut K,
 ) -> Result<bool, Stop>
-    requires can { CanPerform engine.old (P.attached keeper.old) (P.stopped keeper.old) }
+    requires can { CanPerform P.Keeper engine.old keeper.old }
     ensures ok { IfOk result (λ ok. FromEngine P.Keeper engine.old keeper.old keeper.new (λ t.
         Answered t engine.old.session (script_from reader.old []) (K.out sink.old) (K.out sink.new)
         (AgreeOn P.Keeper engine.new keeper.new) engine.new.session ok)) }

@@ -2,11 +2,13 @@
 ghost use Rattle.std.specs.Prelude.{◌≡◌, ◌⊎◌, ◌↔◌, ◌≤◌, ℤ, pos, true, false, Some, None, IfOk, OnOk, IsErrOf};
 ghost use Rattle.std.specs.Str.{IsUtf8};
 ghost use Rattle.tap_base.specs.Counts.{Rose};
+ghost use Rattle.keeper_core.specs.States.{IsPlacedUnless};
 ghost use Rattle.tap_rows.specs.declared.tables.Tables.{Tables as TableRows};
 ghost use Rattle.restart_core.specs.Damages.{damage_of};
 ghost use Rattle.tap_model.specs.Sessions.{no_session};
 ghost use Rattle.tap_engine.specs.Standing.{Represents};
-ghost use Rattle.tap_top.specs.Points.{CanPerform};
+ghost use Rattle.tap_engine.specs.Ready.{IsReady};
+ghost use Rattle.tap_top.specs.Points.{CanOpen, CanPerform};
 ghost use Rattle.tap_top.specs.Premises.{IsDurableIn, IfTold};
 ghost use Rattle.tap_top.specs.Versions.{IsMigrated, MayBeMigrated};
 ghost use Rattle.tap_top.specs.Refusals.{row_fault, fault_of};
@@ -42,7 +44,7 @@ fn as_str(text: &Text) -> &str
 
 // Checks the tables of a store, and starts an engine over them.
 fn start(alloc: Global, key: HashKey, tables: Tables) -> Result<Engine, OpenFault>
-    ensures can { IfOk result (λ engine. CanPerform engine true false) }
+    ensures can { IfOk result (λ engine. IsReady engine × (engine.stopped ≡ false)) }
     ensures session { IfOk result (λ engine. engine.session ≡ no_session) }
     ensures represents { IfOk result (λ engine. Represents engine tables) }
     ensures sure { OnOk result (row_fault tables ≡ None) }
@@ -76,10 +78,8 @@ pub fn open_store<P: Keeper>(
     place: &Text,
     keeper: &mut P,
 ) -> Result<Engine, OpenFault>
-    requires text { IsUtf8 place.now }
-    requires free { P.attached keeper.old ≡ false }
-    requires running { P.stopped keeper.old ≡ false }
-    ensures can { IfOk result (λ engine. CanPerform engine (P.attached keeper.new) (P.stopped keeper.new)) }
+    requires can { CanOpen P.Keeper keeper.old place.now }
+    ensures can { IfOk result (λ engine. CanPerform P.Keeper engine keeper.new) }
     ensures session { IfOk result (λ engine. engine.session ≡ no_session) }
     ensures short { IfOk result HasShortTexts }
     ensures represents { IfOk result (λ engine. IfTold P.Keeper keeper.old keeper.new (λ t. Represents engine t)) }
@@ -98,7 +98,7 @@ pub fn open_store<P: Keeper>(
         (v : ℤ) → P.has_version keeper.old v → MayBeMigrated v (P.has_version keeper.new)) }
     ensures stopped { (P.stopped keeper.new ≡ true) ↔ IsErrOf result OpenFault.Keeper }
     ensures cause { IsErrOf result OpenFault.Keeper → Rose (P.faults keeper.old) (P.faults keeper.new) }
-    ensures placed { (P.place keeper.new ≡ place.now) ⊎ (IsErrOf result OpenFault.Memory × (P.place keeper.new ≡ P.place keeper.old)) }
+    ensures placed { IsPlacedUnless (IsErrOf result OpenFault.Memory) (P.place keeper.old) (P.place keeper.new) place.now }
     ensures later { P.faults keeper.old ≤ P.faults keeper.new }
     ensures calm { P.stopped keeper.new ≡ false → P.faults keeper.new ≡ P.faults keeper.old }
     ensures honest { P.honest keeper.new → P.honest keeper.old }

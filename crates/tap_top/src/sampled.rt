@@ -2,8 +2,8 @@
 ghost use Rattle.std.specs.Prelude.{◌≡◌, ◌≢◌, ◌≤◌, ◌+◌, ◌⊎◌, ◌↔◌, ◌==◌, ℕ, List, [], ◌∷◌, Option, Some, None};
 ghost use Rattle.std.specs.Prelude.{true, false, length, OnOk, IfOk, IfSome, IsErrOf};
 ghost use Rattle.std.specs.Io.KnownBytes.{Appends};
-ghost use Rattle.std.specs.Str.{IsUtf8};
 ghost use Rattle.tap_base.specs.Counts.{Rose};
+ghost use Rattle.keeper_core.specs.States.{IsPlacedUnless};
 ghost use Rattle.script_lang.specs.declared.reply.Reply.{Reply as ReplyOf};
 ghost use Rattle.script_lang.specs.declared.refusal.Refusal.{Refusal as RefusalOf};
 ghost use Rattle.sample_gen.specs.Summaries.{summary_lines};
@@ -11,12 +11,12 @@ ghost use Rattle.tap_model.specs.Sessions.{no_session};
 ghost use Rattle.tap_top.specs.declared.sampled.Cut.{Cut};
 ghost use Rattle.tap_top.specs.Codes.{code_of, IsDone, is_all_ok, IsOfClose};
 ghost use Rattle.tap_top.specs.Refusals.{Refusals};
-ghost use Rattle.tap_top.specs.Points.{CanPerform};
+ghost use Rattle.tap_top.specs.Points.{CanOpen, CanPerform};
 ghost use Rattle.tap_top.specs.Frames.{CommandFrame};
 ghost use Rattle.tap_top.specs.Premises.{IsDurableIn, AgreeOn, FromEngine, FromStore};
 ghost use Rattle.tap_top.specs.Versions.{VersionAtExit};
 ghost use Rattle.tap_top.specs.Ends.{EngineSampleEnds, SampleEnds};
-ghost use Rattle.tap_top.specs.Samples.{refusals_in, hits_in, Performed, Counted, Adds, FirstPerformed, NextUncommitted, FrontPut};
+ghost use Rattle.tap_top.specs.Samples.{refusals_in, hits_in, PassesEnd, Performed, Counted, Adds, FirstPerformed, NextUncommitted, FrontPut};
 
 use crate::opening::{OpenFault, open_store};
 use crate::refusing::refuse;
@@ -45,6 +45,7 @@ fn count(tally: Tally, reply: &Reply) -> Option<Tally>
     ensures refused { IfSome result (λ counted. counted.refused ≡ tally.refused + refusals_in reply.now) }
     ensures delivered { IfSome result (λ counted. counted.delivered ≡ tally.delivered + hits_in reply.now) }
     ensures able { IfSome result (λ counted. reply.now ≢ ReplyOf.No RefusalOf.Memory) }
+    ensures none { result ≡ None → (reply.now ≡ ReplyOf.No RefusalOf.Memory) ⊎ PassesEnd tally reply.now }
 {
     match reply {
         Reply::No(Refusal::Memory) => None,
@@ -61,7 +62,7 @@ fn perform_one<P: Keeper, L: Ledger>(
     steps: &mut Steps<L>,
     tally: Tally,
 ) -> Result<Tally, Cut>
-    requires can { CanPerform engine.old (P.attached keeper.old) (P.stopped keeper.old) }
+    requires can { CanPerform P.Keeper engine.old keeper.old }
     ensures ok { IfOk result (λ counted. FromEngine P.Keeper engine.old keeper.old keeper.new (λ t.
         Performed t engine.old.session (command ∷ [])
         (λ replies x. AgreeOn P.Keeper engine.new keeper.new x × Adds tally counted replies) engine.new.session)) }
@@ -69,7 +70,7 @@ fn perform_one<P: Keeper, L: Ledger>(
         FirstPerformed t engine.old.session (command ∷ []) (IsDurableIn P.Keeper keeper.new)) }
     ensures keeper { IsErrOf result Cut.Keeper → FromEngine P.Keeper engine.old keeper.old keeper.new (λ t.
         NextUncommitted t engine.old.session (command ∷ []) (P.may_leave keeper.new)) }
-    ensures can { OnOk result (CanPerform engine.new (P.attached keeper.new) (P.stopped keeper.new)) }
+    ensures can { OnOk result (CanPerform P.Keeper engine.new keeper.new) }
     ensures stopped { (P.stopped keeper.new ≡ true) ↔ IsErrOf result Cut.Keeper }
     ensures kept_cause { IsErrOf result Cut.Keeper → Rose (P.faults keeper.old) (P.faults keeper.new) }
     ensures frame { CommandFrame P.Keeper engine.old keeper.old keeper.new }
@@ -92,7 +93,7 @@ fn perform_all<P: Keeper, L: Ledger>(
     commands: Rows<Command>,
     steps: &mut Steps<L>,
 ) -> Result<Tally, Cut>
-    requires can { CanPerform engine.old (P.attached keeper.old) (P.stopped keeper.old) }
+    requires can { CanPerform P.Keeper engine.old keeper.old }
     ensures ok { IfOk result (λ tally. FromEngine P.Keeper engine.old keeper.old keeper.new (λ t.
         Performed t engine.old.session commands
         (λ replies x. AgreeOn P.Keeper engine.new keeper.new x × Counted tally replies) engine.new.session)) }
@@ -100,7 +101,7 @@ fn perform_all<P: Keeper, L: Ledger>(
         FirstPerformed t engine.old.session commands (IsDurableIn P.Keeper keeper.new)) }
     ensures keeper { IsErrOf result Cut.Keeper → FromEngine P.Keeper engine.old keeper.old keeper.new (λ t.
         NextUncommitted t engine.old.session commands (P.may_leave keeper.new)) }
-    ensures can { OnOk result (CanPerform engine.new (P.attached keeper.new) (P.stopped keeper.new)) }
+    ensures can { OnOk result (CanPerform P.Keeper engine.new keeper.new) }
     ensures stopped { (P.stopped keeper.new ≡ true) ↔ IsErrOf result Cut.Keeper }
     ensures kept_cause { IsErrOf result Cut.Keeper → Rose (P.faults keeper.old) (P.faults keeper.new) }
     ensures frame { CommandFrame P.Keeper engine.old keeper.old keeper.new }
@@ -164,7 +165,7 @@ fn run_sample<K: Sink, P: Keeper, L: Ledger>(
 ) -> Status
     requires some { 1 ≤ n }
     requires few { n ≤ 100000 }
-    requires can { CanPerform engine.old (P.attached keeper.old) (P.stopped keeper.old) }
+    requires can { CanPerform P.Keeper engine.old keeper.old }
     requires session { engine.old.session ≡ no_session }
     ensures ends { FromEngine P.Keeper engine.old keeper.old keeper.new (λ t.
         EngineSampleEnds result t n (K.out sink.old) (K.out sink.new) (P.tells keeper.new) (P.may_leave keeper.new)) }
@@ -202,9 +203,7 @@ pub fn sample_store<K: Sink, P: Keeper, L: Ledger>(
 ) -> Status
     requires some { 1 ≤ n }
     requires few { n ≤ 100000 }
-    requires free { P.attached keeper.old ≡ false }
-    requires running { P.stopped keeper.old ≡ false }
-    requires text { IsUtf8 place.now }
+    requires can { CanOpen P.Keeper keeper.old place.now }
 
     // How the sample ended over a store that a session left.
     ensures sample { FromStore P.Keeper keeper.old keeper.new (λ t.
@@ -225,7 +224,7 @@ pub fn sample_store<K: Sink, P: Keeper, L: Ledger>(
     ensures kept_cause { result ≡ Status.KeeperFailed → Rose (P.faults keeper.old) (P.faults keeper.new) }
     ensures kept_calm { P.stopped keeper.new ≡ false → P.faults keeper.new ≡ P.faults keeper.old }
     ensures statuses { IsOfClose result ⊎ (result ≡ Status.StoreRefused) }
-    ensures place { ((result ≡ Status.OutOfMemory) × (P.place keeper.new ≡ P.place keeper.old)) ⊎ (P.place keeper.new ≡ place.now) }
+    ensures place { IsPlacedUnless (result ≡ Status.OutOfMemory) (P.place keeper.old) (P.place keeper.new) place.now }
 {
     match open_store(alloc, key, place, keeper) {
         Ok(mut engine) => {

@@ -1,6 +1,6 @@
 //! Counts what the replies to a sample's commands come to.
-ghost use Rattle.std.specs.Prelude.{◌≡◌, ◌+◌, IfSome};
-ghost use Rattle.tap_top.specs.Samples.{refusals_in, hits_in};
+ghost use Rattle.std.specs.Prelude.{◌≡◌, ◌+◌, None, IfSome};
+ghost use Rattle.tap_top.specs.Samples.{refusals_in, hits_in, PassesEnd};
 
 use script_lang::Reply;
 
@@ -23,10 +23,11 @@ impl Tally {
         }
     }
 
-    /// Adds a reply; returns `None` if a count would pass the end of its type.
+    /// Adds a reply; returns `None` if and only if a count would pass the end of its type.
     pub fn with(self, reply: &Reply) -> Option<Tally>
         ensures refused { IfSome result (λ tally. tally.refused ≡ self.refused + refusals_in reply.now) }
         ensures delivered { IfSome result (λ tally. tally.delivered ≡ self.delivered + hits_in reply.now) }
+        ensures none { result ≡ None → PassesEnd self reply.now }
     {
         match reply {
             Reply::No(_) => Some(Tally {

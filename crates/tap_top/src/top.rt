@@ -9,11 +9,12 @@ ghost use Rattle.command_words.specs.Options.{app};
 ghost use Rattle.command_words.specs.Words.{place_in, sample_in};
 ghost use Rattle.command_words.specs.WellWorded.{IsWellWorded, place_of};
 ghost use Rattle.tap_base.specs.Counts.{Rose};
+ghost use Rattle.keeper_core.specs.States.{IsFree, IsPlacedUnless, IsPlacedBy};
 ghost use Rattle.tap_rows.specs.declared.tables.Tables.{Tables};
 ghost use Rattle.script_lang.specs.Script.{script_from};
 ghost use Rattle.tap_model.specs.Sessions.{no_session};
 ghost use Rattle.tap_model.specs.Sound.{IsStore};
-ghost use Rattle.tap_top.specs.Points.{CanPerform};
+ghost use Rattle.tap_top.specs.Points.{CanOpen, CanPerform};
 ghost use Rattle.tap_top.specs.Frames.{CommandFrame};
 ghost use Rattle.tap_top.specs.Premises.{IsDurableIn, FromEngine, FromStore, IsCalm, IfCalm, IsUndisturbed};
 ghost use Rattle.tap_top.specs.Versions.{VersionAtExit};
@@ -74,7 +75,7 @@ fn close<K: Sink, P: Keeper, L: Ledger>(
     sink: &mut K,
     all_ok: bool,
 ) -> Status
-    requires can { CanPerform engine.old (P.attached keeper.old) (P.stopped keeper.old) }
+    requires can { CanPerform P.Keeper engine.old keeper.old }
     ensures whole { IsDone result → FromEngine P.Keeper engine.old keeper.old keeper.new (λ t.
         Closed t engine.old.session (script_from reader.old []) (K.out sink.old) (K.out sink.new)
         (IsDurableIn P.Keeper keeper.new) all_ok (is_all_ok result)) }
@@ -109,7 +110,7 @@ fn run<S: Source, K: Sink, P: Keeper, L: Ledger>(
     keeper: &mut P,
     steps: &mut Steps<L>,
 ) -> Status
-    requires can { CanPerform engine.old (P.attached keeper.old) (P.stopped keeper.old) }
+    requires can { CanPerform P.Keeper engine.old keeper.old }
     requires session { engine.old.session ≡ no_session }
     ensures ends { FromEngine P.Keeper engine.old keeper.old keeper.new (λ t.
         EngineScriptEnds result t (S.left source.old) (S.left source.new) (K.out sink.old) (K.out sink.new)
@@ -167,9 +168,7 @@ fn run_store<S: Source, K: Sink, P: Keeper, L: Ledger>(
     keeper: &mut P,
     steps: &mut Steps<L>,
 ) -> Status
-    requires free { P.attached keeper.old ≡ false }
-    requires running { P.stopped keeper.old ≡ false }
-    requires text { IsUtf8 place.now }
+    requires can { CanOpen P.Keeper keeper.old place.now }
 
     // How the script ended over a store that a session left.
     ensures script { FromStore P.Keeper keeper.old keeper.new (λ t.
@@ -193,7 +192,7 @@ fn run_store<S: Source, K: Sink, P: Keeper, L: Ledger>(
         IfCalm (S.faults source.old) (S.faults source.new) (K.faults sink.old) (K.faults sink.new)
         (P.faults keeper.old) (P.faults keeper.new) (IsUndisturbed (code_of result)) }
     ensures statuses { (code_of result ≤ 8) × (result ≢ Status.WordsRefused) }
-    ensures place { ((result ≡ Status.OutOfMemory) × (P.place keeper.new ≡ P.place keeper.old)) ⊎ (P.place keeper.new ≡ place.now) }
+    ensures place { IsPlacedUnless (result ≡ Status.OutOfMemory) (P.place keeper.old) (P.place keeper.new) place.now }
 {
     match open_store(alloc, key, place, keeper) {
         Ok(mut engine) => {
@@ -232,8 +231,7 @@ pub fn tapestry<S: Source, K: Sink, P: Keeper, L: Ledger>(
     keeper: &mut P,
     steps: &mut Steps<L>,
 ) -> u8
-    requires free { P.attached keeper.old ≡ false }
-    requires running { P.stopped keeper.old ≡ false }
+    requires free { IsFree P.Keeper keeper.old }
     requires texts { All IsUtf8 words.now }
 
     // The words of the command line.
@@ -243,7 +241,7 @@ pub fn tapestry<S: Source, K: Sink, P: Keeper, L: Ledger>(
     ensures faulty { (result ≡ 2) ⊎ ((result ≡ 7) ⊎ (faults_of app words.now ≡ [])) }
     ensures nothing { result ≡ 2 →
         (keeper.new ≡ keeper.old) × ((K.out sink.new ≡ K.out sink.old) × (S.left source.new ≡ S.left source.old)) }
-    ensures place { (((result ≡ 2) ⊎ (result ≡ 7)) × (P.place keeper.new ≡ P.place keeper.old)) ⊎ (P.place keeper.new ≡ place_in words.now) }
+    ensures place { IsPlacedBy result (P.place keeper.old) (P.place keeper.new) (place_in words.now) }
     ensures named { (path : Option (List ℕ)) (number : Option ℕ) → IsWellWorded words.now path number →
         (place_in words.now ≡ place_of path) × (sample_in words.now ≡ number) }
 

@@ -15,7 +15,7 @@ returns-in-Ok-clause-session g c = λ t honest holds store.
 pub returns-in-Ok-clause-unchanged : goal.returns-in-Ok-clause-unchanged
 returns-in-Ok-clause-unchanged g c = λ t honest holds. record {
   alone = c.in-Ok.ensures.crash honest t holds.told;
-  told = λ _. (c.in-Ok.ensures.kept honest t holds.told c.in-Ok.ensures.can.keeping).told;
+  told = λ _. (c.in-Ok.ensures.kept honest t holds.told c.in-Ok.ensures.can.attached.running).told;
 }
 
 pub returns-in-Ok-clause-refusals : goal.returns-in-Ok-clause-refusals

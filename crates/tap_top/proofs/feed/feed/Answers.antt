@@ -20,10 +20,10 @@ loop-rest-preserved g c = record {
   ended = c.in-Ok.ensures.open;
   can = c.in-Ok.ensures.can;
   same = c.in-Ok.ensures.calm (λ e. cc) ∙ c.loop-rest.invariant.same;
-  keeper = KeeperFrame-then g.P.Keeper _ _ _ c.loop-rest.invariant.can.keeping c.loop-rest.invariant.keeper c.in-Ok.ensures.frame.keeper;
+  keeper = KeeperFrame-then g.P.Keeper _ _ _ c.loop-rest.invariant.can.attached.running c.loop-rest.invariant.keeper c.in-Ok.ensures.frame.keeper;
   version = λ t honest at v has.
       let fed = (c.loop-rest.invariant.feeding t (c.in-Ok.ensures.frame.keeper.before honest) at).answered_piece.answered in
-      c.in-Ok.ensures.frame.version fed.tables' honest fed.ends c.in-Ok.ensures.can.keeping v (c.loop-rest.invariant.version t (c.in-Ok.ensures.frame.keeper.before honest) at v has);
+      c.in-Ok.ensures.frame.version fed.tables' honest fed.ends c.in-Ok.ensures.can.attached.running v (c.loop-rest.invariant.version t (c.in-Ok.ensures.frame.keeper.before honest) at v has);
 }
 
 pub returns-in-Err-Put-clause-put : goal.returns-in-Err-Put-clause-put
@@ -41,7 +41,7 @@ returns-in-Err-Memory-clause-memory g c = λ _ t honest at.
 
 pub returns-in-Err-Put-clause-frame : goal.returns-in-Err-Put-clause-frame
 returns-in-Err-Put-clause-frame g c = record {
-  keeper = KeeperFrame-then g.P.Keeper _ _ _ c.loop-rest.invariant.can.keeping c.loop-rest.invariant.keeper c.in-Err-Put.ensures.frame.keeper;
+  keeper = KeeperFrame-then g.P.Keeper _ _ _ c.loop-rest.invariant.can.attached.running c.loop-rest.invariant.keeper c.in-Err-Put.ensures.frame.keeper;
   version = λ t honest at runs v has.
       let fed = (c.loop-rest.invariant.feeding t (c.in-Err-Put.ensures.frame.keeper.before honest) at).answered_piece.answered in
       c.in-Err-Put.ensures.frame.version fed.tables' honest fed.ends runs v (c.loop-rest.invariant.version t (c.in-Err-Put.ensures.frame.keeper.before honest) at v has);
@@ -49,7 +49,7 @@ returns-in-Err-Put-clause-frame g c = record {
 
 pub returns-in-Err-Keeper-clause-frame : goal.returns-in-Err-Keeper-clause-frame
 returns-in-Err-Keeper-clause-frame g c = record {
-  keeper = KeeperFrame-then g.P.Keeper _ _ _ c.loop-rest.invariant.can.keeping c.loop-rest.invariant.keeper c.in-Err-Keeper.ensures.frame.keeper;
+  keeper = KeeperFrame-then g.P.Keeper _ _ _ c.loop-rest.invariant.can.attached.running c.loop-rest.invariant.keeper c.in-Err-Keeper.ensures.frame.keeper;
   version = λ t honest at runs v has.
       let fed = (c.loop-rest.invariant.feeding t (c.in-Err-Keeper.ensures.frame.keeper.before honest) at).answered_piece.answered in
       c.in-Err-Keeper.ensures.frame.version fed.tables' honest fed.ends runs v (c.loop-rest.invariant.version t (c.in-Err-Keeper.ensures.frame.keeper.before honest) at v has);
@@ -57,7 +57,7 @@ returns-in-Err-Keeper-clause-frame g c = record {
 
 pub returns-in-Err-Memory-clause-frame : goal.returns-in-Err-Memory-clause-frame
 returns-in-Err-Memory-clause-frame g c = record {
-  keeper = KeeperFrame-then g.P.Keeper _ _ _ c.loop-rest.invariant.can.keeping c.loop-rest.invariant.keeper c.in-Err-Memory.ensures.frame.keeper;
+  keeper = KeeperFrame-then g.P.Keeper _ _ _ c.loop-rest.invariant.can.attached.running c.loop-rest.invariant.keeper c.in-Err-Memory.ensures.frame.keeper;
   version = λ t honest at runs v has.
       let fed = (c.loop-rest.invariant.feeding t (c.in-Err-Memory.ensures.frame.keeper.before honest) at).answered_piece.answered in
       c.in-Err-Memory.ensures.frame.version fed.tables' honest fed.ends runs v (c.loop-rest.invariant.version t (c.in-Err-Memory.ensures.frame.keeper.before honest) at v has);

@@ -1,8 +1,10 @@
-use Rattle.std.proofs.Common.{◌≡◌, sym, subst, None, ℤ, pos}
+use Rattle.std.proofs.Common.{◌≡◌, refl, sym, subst, None, false, ℤ, pos}
 use Rattle.std.specs.Prelude.{◌⊎◌}
 use Rattle.tap_rows.specs.declared.tables.Tables.{Tables}
 use Rattle.restart_core.specs.Damages.{damage_of}
 use Rattle.tap_engine.specs.Standing.{Represents}
+use Rattle.tap_engine.specs.Ready.{IsReady}
+use Rattle.tap_top.specs.Points.{CanPerform}
 use Rattle.tap_top.specs.Premises.{IfTold}
 use Rattle.tap_top.specs.Refusals.{row_fault, fault_of}
 use Rattle.tap_top.specs.Opened.{HasShortTexts}
@@ -11,6 +13,18 @@ use Rattle.tap_top.proofs.OpenLaws.{if-ok, if-ok-on, on-ok, no-fault, short-text
 use Rattle.tap_top.specs.Versions.{IsMigrated}
 use Rattle.tap_top.proofs.Versions.{known-migrated, known-may, alien-migrated, each-refused}
 use Rattle.tap_top.proofs.opening.open_store.Goals as goal
+
+pub returns-in-Ok-clause-can : goal.returns-in-Ok-clause-can
+returns-in-Ok-clause-can g c =
+    if-ok c.start.result (λ engine. IsReady engine × (engine.stopped ≡ false)) (λ engine. CanPerform g.P.Keeper engine c.attach.new.self)
+    (λ engine can. record {
+      ready = can.0;
+      running = can.1;
+      attached = record {
+        reachable = c.in-Ok.ensures.attached.1 refl;
+        running = not-stopped (g.P.Keeper.stopped c.attach.new.self) c.in-Ok.ensures.stopped.0 (λ e. cc);
+      };
+    }) c.start.ensures.can
 
 pub returns-in-Ok-clause-represents : goal.returns-in-Ok-clause-represents
 returns-in-Ok-clause-represents g c =

@@ -22,10 +22,10 @@ loop-command-preserved g c = record {
   len = (let a = ap length c.in-Some.ensures.steps.0 in let b = c.in-Some.ensures.steps.1 in let d = c.loop-command.invariant.len in omega arith);
   performing = λ t honest at. Performing-more c.args.commands _ c.in-Some.command _ t _ _ c.loop-command.tally _ (EngineMatchesKeeper c.perform_one.new.engine (g.P.Keeper.tells c.perform_one.new.keeper) (g.P.Keeper.may_leave c.perform_one.new.keeper)) c.in-Ok.counted _ (c.loop-command.invariant.performing t (c.in-Ok.ensures.frame.keeper.before honest) at) c.in-Some.ensures.steps.0 (λ x there. c.in-Ok.ensures.ok x honest there);
   can = c.in-Ok.ensures.can;
-  keeper = KeeperFrame-then g.P.Keeper _ _ _ c.loop-command.invariant.can.keeping c.loop-command.invariant.keeper c.in-Ok.ensures.frame.keeper;
+  keeper = KeeperFrame-then g.P.Keeper _ _ _ c.loop-command.invariant.can.attached.running c.loop-command.invariant.keeper c.in-Ok.ensures.frame.keeper;
   version = λ t honest at v has.
       let done = (c.loop-command.invariant.performing t (c.in-Ok.ensures.frame.keeper.before honest) at).performed in
-      c.in-Ok.ensures.frame.version done.tables' honest done.ends.0 c.in-Ok.ensures.can.keeping v (c.loop-command.invariant.version t (c.in-Ok.ensures.frame.keeper.before honest) at v has);
+      c.in-Ok.ensures.frame.version done.tables' honest done.ends.0 c.in-Ok.ensures.can.attached.running v (c.loop-command.invariant.version t (c.in-Ok.ensures.frame.keeper.before honest) at v has);
 }
 
 pub returns-in-Err-Keeper-clause-keeper : goal.returns-in-Err-Keeper-clause-keeper
@@ -42,7 +42,7 @@ returns-clause-ok g c = λ t honest at.
 
 pub returns-in-Err-Keeper-clause-frame : goal.returns-in-Err-Keeper-clause-frame
 returns-in-Err-Keeper-clause-frame g c = record {
-  keeper = KeeperFrame-then g.P.Keeper _ _ _ c.loop-command.invariant.can.keeping c.loop-command.invariant.keeper c.in-Err-Keeper.ensures.frame.keeper;
+  keeper = KeeperFrame-then g.P.Keeper _ _ _ c.loop-command.invariant.can.attached.running c.loop-command.invariant.keeper c.in-Err-Keeper.ensures.frame.keeper;
   version = λ t honest at runs v has.
       let done = (c.loop-command.invariant.performing t (c.in-Err-Keeper.ensures.frame.keeper.before honest) at).performed in
       c.in-Err-Keeper.ensures.frame.version done.tables' honest done.ends.0 runs v (c.loop-command.invariant.version t (c.in-Err-Keeper.ensures.frame.keeper.before honest) at v has);
@@ -50,7 +50,7 @@ returns-in-Err-Keeper-clause-frame g c = record {
 
 pub returns-in-Err-Memory-clause-frame : goal.returns-in-Err-Memory-clause-frame
 returns-in-Err-Memory-clause-frame g c = record {
-  keeper = KeeperFrame-then g.P.Keeper _ _ _ c.loop-command.invariant.can.keeping c.loop-command.invariant.keeper c.in-Err-Memory.ensures.frame.keeper;
+  keeper = KeeperFrame-then g.P.Keeper _ _ _ c.loop-command.invariant.can.attached.running c.loop-command.invariant.keeper c.in-Err-Memory.ensures.frame.keeper;
   version = λ t honest at runs v has.
       let done = (c.loop-command.invariant.performing t (c.in-Err-Memory.ensures.frame.keeper.before honest) at).performed in
       c.in-Err-Memory.ensures.frame.version done.tables' honest done.ends.0 runs v (c.loop-command.invariant.version t (c.in-Err-Memory.ensures.frame.keeper.before honest) at v has);

@@ -30,10 +30,10 @@ pieces-preserved g c = record {
   can = c.in-Ok-feed.ensures.can;
   reads = c.in-Ok.ensures.cause.fine ∙ c.pieces.invariant.reads;
   puts = c.in-Ok-feed.ensures.calm (λ e. cc) ∙ c.pieces.invariant.puts;
-  keeper = KeeperFrame-then g.P.Keeper _ _ _ c.pieces.invariant.can.keeping c.pieces.invariant.keeper c.in-Ok-feed.ensures.frame.keeper;
+  keeper = KeeperFrame-then g.P.Keeper _ _ _ c.pieces.invariant.can.attached.running c.pieces.invariant.keeper c.in-Ok-feed.ensures.frame.keeper;
   version = λ t honest at v has.
       let ran = (c.pieces.invariant.running t (c.in-Ok-feed.ensures.frame.keeper.before honest) at).answered_piece.answered in
-      c.in-Ok-feed.ensures.frame.version ran.tables' honest ran.ends c.in-Ok-feed.ensures.can.keeping v (c.pieces.invariant.version t (c.in-Ok-feed.ensures.frame.keeper.before honest) at v has);
+      c.in-Ok-feed.ensures.frame.version ran.tables' honest ran.ends c.in-Ok-feed.ensures.can.attached.running v (c.pieces.invariant.version t (c.in-Ok-feed.ensures.frame.keeper.before honest) at v has);
 }
 
 pub returns-in-Err-clause-ends : goal.returns-in-Err-clause-ends
@@ -83,7 +83,7 @@ returns-in-Err-clause-frame g c = record {
 
 pub returns-then-n-eq0-clause-frame : goal.returns-then-n-eq0-clause-frame
 returns-then-n-eq0-clause-frame g c = record {
-  keeper = KeeperFrame-then g.P.Keeper _ _ _ c.pieces.invariant.can.keeping c.pieces.invariant.keeper c.close.ensures.frame.keeper;
+  keeper = KeeperFrame-then g.P.Keeper _ _ _ c.pieces.invariant.can.attached.running c.pieces.invariant.keeper c.close.ensures.frame.keeper;
   version = λ t honest at runs v has.
       let ran = (c.pieces.invariant.running t (c.close.ensures.frame.keeper.before honest) at).answered_piece.answered in
       c.close.ensures.frame.version ran.tables' honest ran.ends runs v (c.pieces.invariant.version t (c.close.ensures.frame.keeper.before honest) at v has);
@@ -91,7 +91,7 @@ returns-then-n-eq0-clause-frame g c = record {
 
 pub returns-in-Err-Put-clause-frame : goal.returns-in-Err-Put-clause-frame
 returns-in-Err-Put-clause-frame g c = record {
-  keeper = KeeperFrame-then g.P.Keeper _ _ _ c.pieces.invariant.can.keeping c.pieces.invariant.keeper c.in-Err-Put.ensures.frame.keeper;
+  keeper = KeeperFrame-then g.P.Keeper _ _ _ c.pieces.invariant.can.attached.running c.pieces.invariant.keeper c.in-Err-Put.ensures.frame.keeper;
   version = λ t honest at runs v has.
       let ran = (c.pieces.invariant.running t (c.in-Err-Put.ensures.frame.keeper.before honest) at).answered_piece.answered in
       c.in-Err-Put.ensures.frame.version ran.tables' honest ran.ends runs v (c.pieces.invariant.version t (c.in-Err-Put.ensures.frame.keeper.before honest) at v has);
@@ -99,7 +99,7 @@ returns-in-Err-Put-clause-frame g c = record {
 
 pub returns-in-Err-Keeper-clause-frame : goal.returns-in-Err-Keeper-clause-frame
 returns-in-Err-Keeper-clause-frame g c = record {
-  keeper = KeeperFrame-then g.P.Keeper _ _ _ c.pieces.invariant.can.keeping c.pieces.invariant.keeper c.in-Err-Keeper.ensures.frame.keeper;
+  keeper = KeeperFrame-then g.P.Keeper _ _ _ c.pieces.invariant.can.attached.running c.pieces.invariant.keeper c.in-Err-Keeper.ensures.frame.keeper;
   version = λ t honest at runs v has.
       let ran = (c.pieces.invariant.running t (c.in-Err-Keeper.ensures.frame.keeper.before honest) at).answered_piece.answered in
       c.in-Err-Keeper.ensures.frame.version ran.tables' honest ran.ends runs v (c.pieces.invariant.version t (c.in-Err-Keeper.ensures.frame.keeper.before honest) at v has);
@@ -107,7 +107,7 @@ returns-in-Err-Keeper-clause-frame g c = record {
 
 pub returns-in-Err-Memory-clause-frame : goal.returns-in-Err-Memory-clause-frame
 returns-in-Err-Memory-clause-frame g c = record {
-  keeper = KeeperFrame-then g.P.Keeper _ _ _ c.pieces.invariant.can.keeping c.pieces.invariant.keeper c.in-Err-Memory.ensures.frame.keeper;
+  keeper = KeeperFrame-then g.P.Keeper _ _ _ c.pieces.invariant.can.attached.running c.pieces.invariant.keeper c.in-Err-Memory.ensures.frame.keeper;
   version = λ t honest at runs v has.
       let ran = (c.pieces.invariant.running t (c.in-Err-Memory.ensures.frame.keeper.before honest) at).answered_piece.answered in
       c.in-Err-Memory.ensures.frame.version ran.tables' honest ran.ends runs v (c.pieces.invariant.version t (c.in-Err-Memory.ensures.frame.keeper.before honest) at v has);

@@ -13,7 +13,7 @@ invariant-pieces g l = record {
   running : FromEngine g.P.Keeper l.fn.engine l.fn.keeper l.keeper (λ t. Running (g.S.Source.left l.fn.source) (g.S.Source.left l.source) l.taken l.reader t (g.K.Sink.out l.fn.sink) (g.K.Sink.out l.sink) (AgreeOn g.P.Keeper l.engine l.keeper) l.engine.session l.all_ok);
   few : l.taken ≤ SCRIPT_LIMIT + PIECE;
   ended : complete_from l.reader [] ≡ [];
-  can : CanPerform l.engine (g.P.Keeper.attached l.keeper) (g.P.Keeper.stopped l.keeper);
+  can : CanPerform g.P.Keeper l.engine l.keeper;
   reads : g.S.Source.faults l.source ≡ g.S.Source.faults l.fn.source;
   puts : g.K.Sink.faults l.sink ≡ g.K.Sink.faults l.fn.sink;
   keeper : KeeperFrame g.P.Keeper l.fn.keeper l.keeper;

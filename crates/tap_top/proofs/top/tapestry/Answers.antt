@@ -107,10 +107,10 @@ pub returns-in-Err-Memory-clause-version : goal.returns-in-Err-Memory-clause-ver
 returns-in-Err-Memory-clause-version g c = λ t honest holds store. rw c.code-in-Err-Memory.ensures (exit-unopened _)
 
 pub returns-in-Err-Refused-clause-told : goal.returns-in-Err-Refused-clause-told
-returns-in-Err-Refused-clause-told g c = λ t honest holds store _ x tells. subst IsStore (sym (holds.alone x (g.met.P.Keeper.left c.args.keeper.now x honest c.requires.running tells))) store
+returns-in-Err-Refused-clause-told g c = λ t honest holds store _ x tells. subst IsStore (sym (holds.alone x (g.met.P.Keeper.left c.args.keeper.now x honest c.requires.free.running tells))) store
 
 pub returns-in-Err-Memory-clause-told : goal.returns-in-Err-Memory-clause-told
-returns-in-Err-Memory-clause-told g c = λ t honest holds store _ x tells. subst IsStore (sym (holds.alone x (g.met.P.Keeper.left c.args.keeper.now x honest c.requires.running tells))) store
+returns-in-Err-Memory-clause-told g c = λ t honest holds store _ x tells. subst IsStore (sym (holds.alone x (g.met.P.Keeper.left c.args.keeper.now x honest c.requires.free.running tells))) store
 
 pub returns-in-Some-clause-told : goal.returns-in-Some-clause-told
 returns-in-Some-clause-told g c = λ t honest holds store runs x tells.
