@@ -1,7 +1,8 @@
 /* The work of three kinds of query in plain C, to compare with: bench/shapes.sh and bench/costs.sh measure it beside the program.
  *
  * It reads `at`, `mail` and `run` as the program does, and writes the same replies; it passes over notes. It stores each mail's
- * text, and indexes its words, sender and In-Reply-To. A query is `query q word W`, `query q sender A` or
+ * text, and indexes its words, sender and In-Reply-To. Each reply is put before the next command is read, as the program does; with
+ * TOGETHER in the environment replies wait until 64 KiB are full. A query is `query q word W`, `query q sender A` or
  * `query q silence SECONDS` (no reply for so long). Any other line gets `no 1`. It checks no form and no limit. Built with
  * -DSQLITE it takes the path of a store, whose documents it reads first. */
 #include <stdint.h>
@@ -189,6 +190,7 @@ int main(int count, char **args) {
   char *line = NULL;
   size_t room = 0;
   ssize_t len;
+  int together = getenv("TOGETHER") != NULL;
   setvbuf(stdin, in, _IOFBF, sizeof in);
   setvbuf(stdout, out, _IOFBF, sizeof out);
 #ifdef SQLITE
@@ -219,6 +221,7 @@ int main(int count, char **args) {
       printf("no 1\n");
       fflush(stdout);
     }
+    if (!together) fflush(stdout);
   }
   return 0;
 }
