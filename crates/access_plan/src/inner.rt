@@ -1,6 +1,7 @@
 //! The access to the rows of an EXISTS in a body.
 
-ghost use Rattle.std.specs.Prelude.{◌≡◌, ◌<◌, length, Option};
+ghost use Rattle.std.specs.Prelude.{◌≡◌, Option};
+ghost use Rattle.tap_base.specs.Bytes.{IsPlaceOf};
 ghost use Rattle.tql_core.specs.Trees.{tree_at};
 ghost use Rattle.time_marks.specs.Marks.{guards_of};
 ghost use Rattle.access_plan.specs.Accesses.{first_some, is_other, guard_access, near_access, inner_access, is_of_times, compares_times, behind_times};
@@ -16,7 +17,7 @@ use tql_tree::Table;
 
 // Returns the access of this kind that the first such guard of the condition at the number gives.
 fn first_inner<'a>(pool: &'a Pool<TNode>, id: NodeId, var: Var, kind: Kind) -> Option<AccessRef<'a>>
-    requires { id.0 < length pool.now }
+    requires { IsPlaceOf pool.now id.0 }
     ensures { option_access result ≡ first_some (guard_access (is_other var) var kind) (guards_of (tree_at pool.now id.0)) }
 {
     match node_at(pool, id) {
@@ -36,7 +37,7 @@ fn inner_index<'a>(
     var: Var,
     table: Table,
 ) -> Option<AccessRef<'a>>
-    requires { id.0 < length pool.now }
+    requires { IsPlaceOf pool.now id.0 }
     ensures { option_access result ≡ near_access (is_other var) var table (guards_of (tree_at pool.now id.0)) }
 {
     for kind in near_kinds(table) {
@@ -59,7 +60,7 @@ fn is_of_times(guard: &Atom) -> bool
 
 // Returns whether the condition at the number compares times.
 fn compares_times(pool: &Pool<TNode>, id: NodeId) -> bool
-    requires { id.0 < length pool.now }
+    requires { IsPlaceOf pool.now id.0 }
     ensures { result ≡ compares_times (tree_at pool.now id.0) }
 {
     match node_at(pool, id) {
@@ -71,8 +72,8 @@ fn compares_times(pool: &Pool<TNode>, id: NodeId) -> bool
 // Returns the second part of a conjunction whose first part compares times, else the condition itself. Such a guard gives no
 // access, and the condition of a rewritten EXISTS begins with one: without it each kind of access is tried once, not twice.
 fn behind_times(pool: &Pool<TNode>, id: NodeId) -> NodeId
-    requires { id.0 < length pool.now }
-    ensures node { result.0 < length pool.now }
+    requires { IsPlaceOf pool.now id.0 }
+    ensures node { IsPlaceOf pool.now result.0 }
     ensures condition { tree_at pool.now result.0 ≡ behind_times (tree_at pool.now id.0) }
 {
     match node_at(pool, id) {
@@ -84,7 +85,7 @@ fn behind_times(pool: &Pool<TNode>, id: NodeId) -> NodeId
 /// Returns the access to the rows of an EXISTS whose inner condition is at the number: by the index if a guard of the inner
 /// condition gives one, else all rows of the table. The rows of all other variables are known there. It takes no memory.
 pub fn inner_access<'a>(pool: &'a Pool<TNode>, id: NodeId, var: Var, table: Table) -> AccessRef<'a>
-    requires { id.0 < length pool.now }
+    requires { IsPlaceOf pool.now id.0 }
     ensures { access_at result ≡ inner_access var table (tree_at pool.now id.0) }
 {
     match inner_index(pool, behind_times(pool, id), var, table) {

@@ -1,5 +1,6 @@
 //! The lines of a document's text.
 ghost use Rattle.std.specs.Prelude.{◌≡◌, ◌<◌, ◌∷◌, length};
+ghost use Rattle.tap_base.specs.Bytes.{IsNonEmpty};
 ghost use Rattle.digest_mail.specs.Digests.{lined, without_returns};
 
 use mail_lines::{FirstLine, first_line};
@@ -18,7 +19,7 @@ fn without_returns(line: &[u8]) -> &[u8]
 /// Returns the first line of a text that isn't empty, without its LF and without all CRs before it, and the text after it. A last
 /// line without an LF has no CRs at its end either.
 pub fn first_lined(text: &[u8]) -> FirstLine<'_>
-    requires { 0 < length text.now }
+    requires { IsNonEmpty text.now }
     ensures lines { lined text.now ≡ result.line.now ∷ lined result.rest.now }
     ensures shorter { length result.rest.now < length text.now }
 {

@@ -1,6 +1,7 @@
 //! Bodies of a pool in the syntax of a query.
 
-ghost use Rattle.std.specs.Prelude.{◌≡◌, ◌<◌, ◌++◌, codes, OnOk, length, nat_lt, Some};
+ghost use Rattle.std.specs.Prelude.{◌≡◌, ◌++◌, codes, OnOk, nat_lt, Some};
+ghost use Rattle.tap_base.specs.Bytes.{IsPlaceOf};
 ghost use Rattle.tql_core.specs.Trees.{node_tree, tree_at};
 ghost use Rattle.tql_tree.specs.Canonical.{text_of_table, within};
 ghost use Rattle.incremental_rewrite.specs.Lines.{var_text, strength, body_text};
@@ -43,7 +44,7 @@ pub(crate) fn put_body(
     least: u8,
     into: &mut Text,
 ) -> Result<(), Memory>
-    requires { id.0 < length pool.now }
+    requires { IsPlaceOf pool.now id.0 }
     ensures { OnOk result (into.new ≡ into.old ++ within (nat_lt (strength (tree_at pool.now id.0)) least) (body_text (tree_at pool.now id.0))) }
 {
     let node = node_at(pool, id);

@@ -1,7 +1,8 @@
 //! Window queries as lines of text.
 
-ghost use Rattle.std.specs.Prelude.{◌≡◌, ◌<◌, ◌++◌, codes, map, IfOk, OnOk, length, true};
+ghost use Rattle.std.specs.Prelude.{◌≡◌, ◌++◌, codes, map, IfOk, OnOk, true};
 ghost use Rattle.std.specs.List.{flat_map};
+ghost use Rattle.tap_base.specs.Bytes.{IsPlaceOf};
 ghost use Rattle.time_marks.specs.KeptParts.{parts_kept};
 ghost use Rattle.time_marks.specs.Views.{probe_in, ranged_probes};
 ghost use Rattle.incremental_rewrite.specs.Lines.{joined, atom_text, guards_text, step_text, line_of, explain_lines};
@@ -77,7 +78,7 @@ fn put_path(alloc: Global, path: &[Step], into: &mut Text) -> Result<(), Memory>
 
 // Returns the line of a probe.
 fn line_of(alloc: Global, pool: &Pool<TNode>, probe: &Probe) -> Result<Text, Memory>
-    requires { probe.now.body.0 < length pool.now }
+    requires { IsPlaceOf pool.now probe.now.body.0 }
     ensures { IfOk result (λ line. line ≡ line_of (probe_in pool.now probe.now)) }
 {
     let mut line = Text::new(alloc);

@@ -25,3 +25,7 @@ IsPlacedUnless Unplaced old new place = (Unplaced × (new ≡ old)) ⊎ (new ≡
 -- the place after a program with this status is the one that was asked for, or at 2 and 7 the one before
 abbrev pub IsPlacedBy : (status : ℕ) (old new place : List ℕ) → Type 0
 IsPlacedBy status old new place = IsPlacedUnless ((status ≡ 2) ⊎ (status ≡ 7)) old new place
+
+-- the keeper in memory hasn't stopped
+abbrev pub IsRunning : Stored → Type 0
+IsRunning keeper = keeper.stopped ≡ false

@@ -2,6 +2,7 @@
 
 ghost use Rattle.std.specs.Prelude.{◌≡◌, ◌≢◌, ◌⊎◌, ◌↔◌, ◌≤◌, ◌<◌, ℕ, ℤ, pos};
 ghost use Rattle.std.specs.Prelude.{List, [], Bool, true, false, Option, Some, None, Err, IsOk, IfOk, OnOk, OnErr, unwrap_or, is_some};
+ghost use Rattle.keeper_core.specs.States.{IsRunning};
 ghost use Rattle.tap_rows.specs.Tables.{after};
 ghost use Rattle.keeper_core.specs.Stored.{Stored, planned, left_now, stopped_with, attached_at, attach_answer, committed, commit_answer};
 ghost use Rattle.tap_base.specs.Counts.{next_count};
@@ -130,7 +131,7 @@ impl MemKeeper {
 
     // Stops at a failure. A crash then leaves these tables, or its own if there are none.
     fn stop(&mut self, left: Option<Tables>)
-        requires { self.old.stopped ≡ false }
+        requires { IsRunning self.old }
         ensures { self.new ≡ stopped_with (unwrap_or left self.old.tables) self.old }
     {
         self.left = left;
@@ -164,7 +165,7 @@ impl Keeper for MemKeeper {
 
     fn attach(&mut self, alloc: Global, at: &str) -> Result<Tables, AttachFault>
         requires free { self.old.attached ≡ false }
-        requires running { self.old.stopped ≡ false }
+        requires running { IsRunning self.old }
         ensures later { self.old.faults ≤ self.new.faults }
         ensures alone { self.old.left ≡ self.old.tables }
 
@@ -194,7 +195,7 @@ impl Keeper for MemKeeper {
 
     fn commit(&mut self, change: &Change) -> Result<(), CommitFault>
         requires ready { self.old.attached ≡ true }
-        requires running { self.old.stopped ≡ false }
+        requires running { IsRunning self.old }
         ensures later { self.old.faults ≤ self.new.faults }
         ensures alone { self.old.left ≡ self.old.tables }
 

@@ -216,3 +216,7 @@ pub record HasVersion (s : State) (v : ℤ) : Type 0 where
   pub clean : HasCleanDisk s
   pub is_open : IsTrue s.is_open
   pub row : ((s.now.schema ≡ no_schema) × (v ≡ pos 2)) ⊎ ((s.now.schema ≡ store_schema) × (s.now.trees 0 ≡ meta_row v ∷ []))
+
+-- no transaction is open
+abbrev pub IsIdle : State → Type 0
+IsIdle s = s.in_transaction ≡ false

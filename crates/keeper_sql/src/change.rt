@@ -1,10 +1,10 @@
 //! Commits the rows of a change, in one transaction.
 
-ghost use Rattle.std.specs.Prelude.{◌≡◌, [], ◌∷◌, map, false, IfErr, OnOk, OnErr};
+ghost use Rattle.std.specs.Prelude.{◌≡◌, [], ◌∷◌, map, IfErr, OnOk, OnErr};
 ghost use Rattle.sqlite.specs.Held.{state};
 ghost use Rattle.sqlite.specs.State.{HasCleanDisk, Survives};
 ghost use Rattle.keeper_sql.specs.RowsAsValues.{rows_of, IsReadBack, only, both, as_kept, given_run, given_pick, run_in, pick_in};
-ghost use Rattle.keeper_sql.specs.Store.{RowsWritten, Commits, IsAfter};
+ghost use Rattle.keeper_sql.specs.Store.{RowsWritten, Commits, IsAfter, IsIdle};
 ghost use Rattle.keeper_sql.specs.Calls.{CommitsNothing, Does, DoesOrUndoes, IsRolledBack, LeavesItsTrees, WasOpen};
 ghost use Rattle.keeper_sql.specs.Failing.{FailsToInsertRows, FailsWhole, FailsWithin};
 
@@ -58,8 +58,8 @@ fn insert_change<S: Alter>(tx: &mut Transaction<'_, S>, change: &Change) -> Resu
 
 /// Inserts and commits the rows of a change in one transaction, which is rolled back if an insert fails.
 pub fn commit_change<S: Alter>(conn: &mut Connection<S>, change: &Change) -> Result<(), Error>
-    requires { (state S.Store conn.old).in_transaction ≡ false }
-    ensures ended { (state S.Store conn.new).in_transaction ≡ false }
+    requires { IsIdle (state S.Store conn.old) }
+    ensures ended { IsIdle (state S.Store conn.new) }
     ensures ok { HasCleanDisk (state S.Store conn.new) → OnOk result (Commits (rows_of change.now) (state S.Store conn.old) (state S.Store conn.new)) }
     ensures settled { HasCleanDisk (state S.Store conn.new) → OnOk result (LeavesItsTrees (state S.Store conn.new)) }
     ensures was_open { HasCleanDisk (state S.Store conn.new) → OnErr result (WasOpen (state S.Store conn.old) (state S.Store conn.new)) }

@@ -1,10 +1,10 @@
 //! Commits a change, and finds out what an error left.
 
-ghost use Rattle.std.specs.Prelude.{◌≡◌, ◌↔◌, false, IsTrue, IfErr, OnOk, Err};
+ghost use Rattle.std.specs.Prelude.{◌≡◌, ◌↔◌, IsTrue, IfErr, OnOk, Err};
 ghost use Rattle.sqlite.specs.Held.{state};
 ghost use Rattle.sqlite.specs.State.{HasCleanDisk, Survives, IsUnchanged, IsLive};
 ghost use Rattle.keeper_sql.specs.RowsAsValues.{rows_of, IsReadBack};
-ghost use Rattle.keeper_sql.specs.Store.{Commits, IsAfter};
+ghost use Rattle.keeper_sql.specs.Store.{Commits, IsAfter, IsIdle};
 ghost use Rattle.keeper_sql.specs.Calls.{IsRefused, IsSettled, LeavesItsTrees, LeavesOldOr};
 ghost use Rattle.keeper_sql.specs.Failing.{FailsToKeep};
 
@@ -22,7 +22,7 @@ pub fn is_memory(error: &Error) -> bool
 
 // Only for its clauses: between two calls a crash leaves what the connection shows.
 pub fn is_settled<S: Alter>(conn: &Connection<S>) -> bool
-    requires { (state S.Store conn.now).in_transaction ≡ false }
+    requires { IsIdle (state S.Store conn.now) }
     ensures live { IsLive (state S.Store conn.now) }
     ensures committed { IsTrue (state S.Store conn.now).is_open → (state S.Store conn.now).now ≡ (state S.Store conn.now).committed }
     ensures settled { IsSettled (state S.Store conn.now) }
@@ -42,8 +42,8 @@ fn is_refused(answer: Result<Statement, Error>) -> bool
 
 // Is the store still open? A connection doesn't say so itself. One that is open refuses this text, which takes no memory.
 pub fn is_still_open<S: Alter>(conn: &mut Connection<S>) -> bool
-    requires { (state S.Store conn.old).in_transaction ≡ false }
-    ensures ended { (state S.Store conn.new).in_transaction ≡ false }
+    requires { IsIdle (state S.Store conn.old) }
+    ensures ended { IsIdle (state S.Store conn.new) }
     ensures same { HasCleanDisk (state S.Store conn.new) → IsTrue result → IsUnchanged (state S.Store conn.old) (state S.Store conn.new) }
     ensures alone { HasCleanDisk (state S.Store conn.new) → IsTrue result → LeavesItsTrees (state S.Store conn.new) }
     ensures survives { Survives (state S.Store conn.old) (state S.Store conn.new) (λ _. ⊥) }
@@ -53,8 +53,8 @@ pub fn is_still_open<S: Alter>(conn: &mut Connection<S>) -> bool
 
 // Was the call out of memory, and is the store unchanged?
 pub fn is_only_memory<S: Alter>(conn: &mut Connection<S>, error: &Error) -> bool
-    requires { (state S.Store conn.old).in_transaction ≡ false }
-    ensures ended { (state S.Store conn.new).in_transaction ≡ false }
+    requires { IsIdle (state S.Store conn.old) }
+    ensures ended { IsIdle (state S.Store conn.new) }
     ensures memory { IsTrue result → error.now ≡ Error.SqliteFailure ErrorCode.OutOfMemory }
     ensures same { HasCleanDisk (state S.Store conn.new) → IsTrue result → IsUnchanged (state S.Store conn.old) (state S.Store conn.new) }
     ensures alone { HasCleanDisk (state S.Store conn.new) → IsTrue result → LeavesItsTrees (state S.Store conn.new) }
@@ -65,8 +65,8 @@ pub fn is_only_memory<S: Alter>(conn: &mut Connection<S>, error: &Error) -> bool
 
 /// Commits all rows of a change, or none. `Memory` if the commit was out of memory and the store is open, else `Failed`.
 pub fn keep<S: Alter>(conn: &mut Connection<S>, change: &Change) -> Result<(), CommitFault>
-    requires { (state S.Store conn.old).in_transaction ≡ false }
-    ensures ended { (state S.Store conn.new).in_transaction ≡ false }
+    requires { IsIdle (state S.Store conn.old) }
+    ensures ended { IsIdle (state S.Store conn.new) }
     ensures honest { HasCleanDisk (state S.Store conn.new) → HasCleanDisk (state S.Store conn.old) }
     ensures ok { HasCleanDisk (state S.Store conn.new) → OnOk result (Commits (rows_of change.now) (state S.Store conn.old) (state S.Store conn.new)) }
     ensures read { OnOk result (IsReadBack change.now) }

@@ -1,11 +1,11 @@
 //! Opens a store, in a transaction.
 
-ghost use Rattle.std.specs.Prelude.{◌≡◌, ◌≢◌, pos, false, IsTrue, IfOk, OnOk, OnErr};
+ghost use Rattle.std.specs.Prelude.{◌≡◌, ◌≢◌, pos, IsTrue, IfOk, OnOk, OnErr};
 ghost use Rattle.keeper_core.specs.Keeping.{IfAlien};
 ghost use Rattle.sqlite.specs.Effect.{Database};
 ghost use Rattle.sqlite.specs.Held.{state};
 ghost use Rattle.sqlite.specs.State.{HasCleanDisk, Survives, IsLive};
-ghost use Rattle.keeper_sql.specs.Store.{Undone, OpensTo, OpensAt, IsAfterOpen, IsAtVersion};
+ghost use Rattle.keeper_sql.specs.Store.{Undone, OpensTo, OpensAt, IsAfterOpen, IsAtVersion, IsIdle};
 ghost use Rattle.keeper_sql.specs.Opening.{IsOpened, IsRead, AreRead, IsRefusedAt, IsStored, IsHeld, UnlessHeld, UnlessFailed};
 ghost use Rattle.keeper_sql.specs.Calls.{CommitsNothing, InOurs, IsRolledBack, LeavesItsTrees, LeavesOldOr, OverOurs, ShowsTheSame, WasOpen};
 
@@ -62,8 +62,8 @@ pub fn open_within<S: Alter>(alloc: Global, tx: &mut Transaction<'_, S>) -> Resu
 
 /// Opens a store in one transaction. It is committed if the tables are returned, else rolled back.
 pub fn open_store<S: Alter>(alloc: Global, conn: &mut Connection<S>) -> Result<Opened, Error>
-    requires { (state S.Store conn.old).in_transaction ≡ false }
-    ensures ended { (state S.Store conn.new).in_transaction ≡ false }
+    requires { IsIdle (state S.Store conn.old) }
+    ensures ended { IsIdle (state S.Store conn.new) }
     ensures never { IfOk result IsRefusedAt }
     ensures ok { OverOurs S.Store conn.old conn.new (IfOk result (IsStored (state S.Store conn.old) (state S.Store conn.new))) }
     ensures read { HasCleanDisk (state S.Store conn.new) → IfOk result (IsRead (state S.Store conn.new).now) }
@@ -85,8 +85,8 @@ pub fn open_store<S: Alter>(alloc: Global, conn: &mut Connection<S>) -> Result<O
 /// Opens a store in one transaction, and returns its tables. After `Alien` and `Memory` the store is open and unchanged.
 /// `Failed` if a call failed.
 pub fn open_kept<S: Alter>(alloc: Global, conn: &mut Connection<S>) -> Result<Tables, AttachFault>
-    requires { (state S.Store conn.old).in_transaction ≡ false }
-    ensures ended { (state S.Store conn.new).in_transaction ≡ false }
+    requires { IsIdle (state S.Store conn.old) }
+    ensures ended { IsIdle (state S.Store conn.new) }
     ensures honest { HasCleanDisk (state S.Store conn.new) → HasCleanDisk (state S.Store conn.old) }
     ensures never { IfAlien result (λ v. (v ≢ pos 1) × (v ≢ pos 2)) }
     ensures ok { OverOurs S.Store conn.old conn.new (IfOk result (IsHeld (state S.Store conn.old) (state S.Store conn.new))) }

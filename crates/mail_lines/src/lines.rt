@@ -3,6 +3,7 @@ ghost use Rattle.std.specs.Prelude.{◌≡◌, ◌≤◌, ◌<◌, ◌+◌, ◌=
 ghost use Rattle.std.specs.Prelude.{IfSome, IfNone, OnSome, slice_index, if◌then◌else◌};
 ghost use Rattle.std.specs.List.{position_or_len, slice_range};
 ghost use Rattle.std.specs.Str.Lines.{lines, strip_carriage_return};
+ghost use Rattle.tap_base.specs.Bytes.{IsNonEmpty, IsPlaceOrEnd};
 ghost use Rattle.mail_lines.specs.Lines.{is_end};
 
 use memchr::memchr;
@@ -48,7 +49,7 @@ fn without_carriage_return(line: &[u8]) -> usize
 /// Returns the place of the line from `at` on, without its LF and without a CR directly before that LF. A last line without
 /// an LF has all its bytes. Returns `None` if and only if `at` is the end of the text.
 pub fn next_line(text: &[u8], at: usize) -> Option<LineAt>
-    requires { at ≤ length text.now }
+    requires { IsPlaceOrEnd text.now at }
     ensures some { IfSome result (λ l.
         lines (drop at text.now) ≡ slice_range text.now l.start l.end ∷ lines (drop l.next text.now)) }
     ensures within { IfSome result (λ l.
@@ -77,7 +78,7 @@ pub fn next_line(text: &[u8], at: usize) -> Option<LineAt>
 /// Returns the first line of a text that isn't empty, without its LF and without a CR directly before that LF, and the text
 /// after it. A last line without an LF has all its bytes.
 pub fn first_line(text: &[u8]) -> FirstLine<'_>
-    requires { 0 < length text.now }
+    requires { IsNonEmpty text.now }
     ensures lines { lines text.now ≡ result.line.now ∷ lines result.rest.now }
     ensures shorter { length result.rest.now < length text.now }
 {

@@ -1,6 +1,7 @@
 //! Nodes of folded bodies, interned in the pool: equal nodes share one number.
 
 ghost use Rattle.std.specs.Prelude.{◌≡◌, ◌<◌, length, true, Some, IfOk, OnOk};
+ghost use Rattle.tap_base.specs.Bytes.{IsPlaceOf};
 ghost use Rattle.node_pool.specs.Pools.{are_below};
 ghost use Rattle.tql_core.specs.Trees.{kids_of, node_tree, tree_at, IsTreeAt, KeepsTrees};
 ghost use Rattle.monotone_rewrite.specs.Folding.{known, constant, fold_all, fold_either, fold_not, fold_exists};
@@ -34,7 +35,7 @@ pub(crate) fn shared(pool: &mut Pool<TNode>, node: TNode) -> Result<NodeId, Memo
 
 // Returns what is known of the node of this number.
 pub(crate) fn kind_of(pool: &Pool<TNode>, id: NodeId) -> Kind
-    requires { id.0 < length pool.now }
+    requires { IsPlaceOf pool.now id.0 }
     ensures { kind_is result ≡ known (tree_at pool.now id.0) }
 {
     match pool.get(id) {

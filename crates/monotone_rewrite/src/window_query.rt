@@ -1,7 +1,8 @@
 //! The window query of a condition: a probe for each rising mark.
 
-ghost use Rattle.std.specs.Prelude.{◌≡◌, ◌<◌, pos, [], ◌∷◌, ◌++◌, IfOk, OnOk, not, true, length};
+ghost use Rattle.std.specs.Prelude.{◌≡◌, pos, [], ◌∷◌, ◌++◌, IfOk, OnOk, not, true};
 ghost use Rattle.std.specs.List.{filter};
+ghost use Rattle.tap_base.specs.Bytes.{IsPlaceOf};
 ghost use Rattle.tql_core.specs.Bounds.{is_bounded};
 ghost use Rattle.tql_core.specs.Condition.{condition};
 ghost use Rattle.tql_core.specs.Trees.{tree_at};
@@ -21,7 +22,7 @@ use tql_core::{Cond, TNode};
 
 // Returns whether the body is anything but False.
 fn can_find(pool: &Pool<TNode>, body: NodeId) -> bool
-    requires { body.0 < length pool.now }
+    requires { IsPlaceOf pool.now body.0 }
     ensures { result ≡ not (is_no (known (tree_at pool.now body.0))) }
 {
     match kind_of(pool, body) {
@@ -37,7 +38,7 @@ fn push_probe(
     body: NodeId,
     probes: &mut Rows<Probe>,
 ) -> Result<(), Memory>
-    requires within { body.0 < length pool.now }
+    requires within { IsPlaceOf pool.now body.0 }
     requires bounded { is_bounded mark.now.at ≡ true }
     requires kept { are_kept pool.now probes.old ≡ true }
     ensures kept { OnOk result (are_kept pool.now probes.new ≡ true) }

@@ -1,5 +1,6 @@
 //! A pool of nodes.
 ghost use Rattle.std.specs.Prelude.{◌≡◌, ◌<◌, ◌^◌, List, [], length, slice_get, Some, true, IfOk, OnOk, OnErr};
+ghost use Rattle.tap_base.specs.Bytes.{IsPlaceOf};
 ghost use Rattle.node_pool.specs.Pools.{are_below, IsPool, with_node, number_of, Extends};
 
 use crate::{NodeId, PoolNode};
@@ -56,7 +57,7 @@ impl<N: PoolNode + Drop> Pool<N> {
 
     /// Returns the node of this number.
     pub fn get(&self, id: NodeId) -> &N
-        requires { id.0 < length self.now }
+        requires { IsPlaceOf self.now id.0 }
         ensures node { slice_get self.now id.0 ≡ Some result.now }
         ensures is_pool { IsPool N.kids self.now }
     {

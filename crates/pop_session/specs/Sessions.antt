@@ -80,9 +80,13 @@ IsOver s rest = (length rest ≡ 0) ⊎ (is_ended s.phase ≡ true)
 abbrev pub grown : List ℕ → List ℕ → List ℕ
 grown front bytes = front ++ take (513 - length front) bytes
 
+-- a letter as long as a message may be, whose size has at most seven digits
+abbrev pub IsShort : Letter → Type 0
+IsShort letter = length letter.text ≤ 1048576
+
 -- the text of each letter has at most 1,048,576 bytes
 abbrev pub AreShort : List Letter → Type 0
-AreShort letters = All (λ letter. length letter.text ≤ 1048576) letters
+AreShort letters = All IsShort letters
 
 -- a session that holds more bytes of its open request
 abbrev pub held : Session → List ℕ → Session
@@ -101,3 +105,7 @@ open_reply s = reply_bytes s.letters (open_outcome s).reply
 abbrev pub answered : Session → Session
 answered s =
     record { user = s.user; secret = s.secret; letters = s.letters; front = []; phase = (open_outcome s).phase; greeted = s.greeted; failed = s.failed }
+
+-- the line has room for a row: no more than `+OK ` is before it
+abbrev pub HasRowRoom : ℕ → Type 0
+HasRowRoom used = used ≤ 4

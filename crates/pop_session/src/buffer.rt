@@ -1,6 +1,7 @@
 //! Lines of replies in a buffer of fixed size, made without memory.
 ghost use Rattle.std.specs.Prelude.{◌≡◌, ◌≤◌, ◌+◌, ◌++◌, List, ℕ, ◌==◌, slice_index, length, codes};
 ghost use Rattle.std.specs.Fmt.{decimal};
+ghost use Rattle.pop_session.specs.Sessions.{HasRowRoom, IsShort};
 ghost use Rattle.arrayvec.specs.ArrayVec.{array_vec_len};
 ghost use Rattle.pop_session.specs.Letters.{line, stuffed, size_of, row_text};
 ghost use Rattle.pop_session.specs.Replies.{rows_head, refusal_text};
@@ -105,8 +106,8 @@ pub(crate) fn head_line(listing: Listing, count: usize) -> ArrayVec<u8, 128>
 
 // Appends the row of a letter: its number, and its size.
 fn push_size(buffer: &mut ArrayVec<u8, 128>, number: u64, letter: &Letter)
-    requires room { array_vec_len buffer.old ≤ 4 }
-    requires short { length letter.now.text ≤ 1048576 }
+    requires room { HasRowRoom (array_vec_len buffer.old) }
+    requires short { IsShort letter.now }
     ensures row { buffer.new.items ≡ buffer.old.items ++ row_text Sizes number letter.now }
     ensures short { array_vec_len buffer.new ≤ array_vec_len buffer.old + 81 }
 {
@@ -117,7 +118,7 @@ fn push_size(buffer: &mut ArrayVec<u8, 128>, number: u64, letter: &Letter)
 
 // Appends the row of a letter: its number, and its document's number.
 fn push_id(buffer: &mut ArrayVec<u8, 128>, number: u64, letter: &Letter)
-    requires room { array_vec_len buffer.old ≤ 4 }
+    requires room { HasRowRoom (array_vec_len buffer.old) }
     ensures row { buffer.new.items ≡ buffer.old.items ++ row_text Ids number letter.now }
     ensures short { array_vec_len buffer.new ≤ array_vec_len buffer.old + 82 }
 {
@@ -128,8 +129,8 @@ fn push_id(buffer: &mut ArrayVec<u8, 128>, number: u64, letter: &Letter)
 
 // Appends the row of a letter.
 fn push_row(buffer: &mut ArrayVec<u8, 128>, listing: Listing, number: u64, letter: &Letter)
-    requires room { array_vec_len buffer.old ≤ 4 }
-    requires short { length letter.now.text ≤ 1048576 }
+    requires room { HasRowRoom (array_vec_len buffer.old) }
+    requires short { IsShort letter.now }
     ensures row { buffer.new.items ≡ buffer.old.items ++ row_text listing number letter.now }
     ensures short { array_vec_len buffer.new ≤ array_vec_len buffer.old + 82 }
 {
@@ -141,7 +142,7 @@ fn push_row(buffer: &mut ArrayVec<u8, 128>, listing: Listing, number: u64, lette
 
 /// Returns the row of a letter in a list.
 pub(crate) fn row_line(listing: Listing, number: u64, letter: &Letter) -> ArrayVec<u8, 128>
-    requires { length letter.now.text ≤ 1048576 }
+    requires { IsShort letter.now }
     ensures { result.items ≡ line (row_text listing number letter.now) }
 {
     let mut buffer = ArrayVec::new();
@@ -152,7 +153,7 @@ pub(crate) fn row_line(listing: Listing, number: u64, letter: &Letter) -> ArrayV
 
 /// Returns the reply that is the row of a letter.
 pub(crate) fn one_row_line(listing: Listing, number: u64, letter: &Letter) -> ArrayVec<u8, 128>
-    requires { length letter.now.text ≤ 1048576 }
+    requires { IsShort letter.now }
     ensures { result.items ≡ line (codes "+OK " ++ row_text listing number letter.now) }
 {
     let mut buffer = ArrayVec::new();

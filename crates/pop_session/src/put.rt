@@ -1,10 +1,10 @@
 //! Puts replies into a sink.
-ghost use Rattle.std.specs.Prelude.{◌≤◌, ◌++◌, Some, length, codes};
+ghost use Rattle.std.specs.Prelude.{◌++◌, Some, codes};
 ghost use Rattle.tap_edges.specs.Puts.{PutBehind};
 ghost use Rattle.pop_session.specs.Letters.{line, stuffed, sent_lines, letter_at, rows_from};
 ghost use Rattle.pop_session.specs.Replies.{row_reply, text_reply, reply_bytes};
 ghost use Rattle.pop_session.specs.declared.reply.Reply.TheVariants.{Rows};
-ghost use Rattle.pop_session.specs.Sessions.{AreShort};
+ghost use Rattle.pop_session.specs.Sessions.{AreShort, IsShort};
 
 use crate::buffer::{
     accepted_line, has_dot, head_line, number_line, one_row_line, refusal_line, row_line,
@@ -139,7 +139,7 @@ fn put_row<K: Sink>(
 
 // Puts the text of a letter: its size, its lines, and a line of one dot.
 fn put_letter<K: Sink>(sink: &mut K, start: usize, letter: &Letter) -> Result<usize, PutFailed>
-    requires { length letter.now.text ≤ 1048576 }
+    requires { IsShort letter.now }
     ensures { PutBehind K.Sink start (text_reply (Some letter.now)) sink.old sink.new result }
 {
     let text = letter.text.as_slice();

@@ -25,6 +25,7 @@ is_by_arrival (Arrived v n) = true
 is_by_arrival (ArrivedDay v n) = true
 is_by_arrival _ = false
 
+-- are the rows documents?
 abbrev pub is_docs : Table → Bool
 is_docs Docs = true
 is_docs Notes = false
@@ -39,11 +40,13 @@ is_implied a _ = false
 abbrev pub asks_literal : Var → Step → Atom → Bool
 asks_literal v step a = ((is_docs step.table && nat_eq step.var.0 0) && nat_eq v.0 0) && is_some (literal_kind v a)
 
+-- is the step's only guard such a comparison, which implies the body?
 abbrev pub guard_goes_by_list : Var → Condition → Step → List Atom → Bool
 guard_goes_by_list v body step [] = false
 guard_goes_by_list v body step (a ∷ []) = asks_literal v step a && is_implied a body
 guard_goes_by_list v body step (a ∷ b ∷ guards) = false
 
+-- has the path one step, and its only guard is such a comparison?
 abbrev pub path_goes_by_list : Var → Condition → List Step → Bool
 path_goes_by_list v body [] = false
 path_goes_by_list v body (step ∷ []) = guard_goes_by_list v body step step.guards
@@ -59,6 +62,7 @@ module _ (entries : List Entry) where
   listed_hit b (OfDoc d) = option_to_list (hit_if (int_le d.arrival b) b (new_doc entries d))
   listed_hit b (OfNote n) = []
 
+  -- the hit of a row with this mark, if it has one
   abbrev pub marked_hit : Row → Option ℤ → List Hit
   marked_hit row None = []
   marked_hit row (Some b) = listed_hit b row

@@ -1,7 +1,8 @@
 //! The truth of a body beside one row of a variable, and whether it is false beside all of them.
 
-ghost use Rattle.std.specs.Prelude.{◌≡◌, ◌+◌, ◌<◌, ◌≤◌, pos, length, false};
+ghost use Rattle.std.specs.Prelude.{◌≡◌, ◌+◌, ◌≤◌, pos, false};
 ghost use Rattle.std.specs.List.{list_any};
+ghost use Rattle.tap_base.specs.Bytes.{IsPlaceOf};
 ghost use Rattle.tql_core.specs.Condition.{Exists};
 ghost use Rattle.tql_tree.specs.declared.table.Table.{Table};
 ghost use Rattle.tql_core.specs.Trees.{tree_at};
@@ -26,7 +27,7 @@ use tql_tree::Table;
 
 // Returns the answer of a condition that is false: it is never true if it doesn't name the variable.
 fn false_answer(pool: &Pool<TNode>, body: NodeId, var: Var) -> Answer
-    requires { body.0 < length pool.now }
+    requires { IsPlaceOf pool.now body.0 }
     ensures truth { is_true result ≡ false }
     ensures never { result ≡ Never → names var (tree_at pool.now body.0) ≡ false }
 {

@@ -1,6 +1,7 @@
 //! Probes that compare one text of the query's document with a literal and ask for nothing else.
 
-ghost use Rattle.std.specs.Prelude.{◌≡◌, ◌<◌, length, true};
+ghost use Rattle.std.specs.Prelude.{◌≡◌, true};
+ghost use Rattle.tap_base.specs.Bytes.{IsPlaceOf};
 ghost use Rattle.tql_core.specs.Trees.{tree_at};
 ghost use Rattle.probe_eval.specs.Listed.{is_by_arrival, is_docs, is_implied, asks_literal, guard_goes_by_list, path_goes_by_list, goes_by_list};
 ghost use Rattle.probe_eval.specs.Searches.{searched, HasBody};
@@ -35,7 +36,7 @@ fn is_docs(table: Table) -> bool
 
 // Returns whether a body is the guard itself, or always true.
 fn is_implied(pool: &Pool<TNode>, guard: &Atom, body: NodeId) -> bool
-    requires { body.0 < length pool.now }
+    requires { IsPlaceOf pool.now body.0 }
     ensures { result ≡ is_implied guard.now (tree_at pool.now body.0) }
 {
     match node_at(pool, body) {

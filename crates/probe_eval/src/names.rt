@@ -1,6 +1,7 @@
 //! Whether a body names a variable.
 
-ghost use Rattle.std.specs.Prelude.{◌≡◌, ◌<◌, length};
+ghost use Rattle.std.specs.Prelude.{◌≡◌};
+ghost use Rattle.tap_base.specs.Bytes.{IsPlaceOf};
 ghost use Rattle.tql_core.specs.Trees.{tree_at};
 ghost use Rattle.probe_eval.specs.Conjuncts.{names};
 
@@ -11,7 +12,7 @@ use tql_core::{TNode, Var, node_at};
 
 /// Returns whether the body at the number names the variable.
 pub(crate) fn names(pool: &Pool<TNode>, body: NodeId, var: Var) -> bool
-    requires { body.0 < length pool.now }
+    requires { IsPlaceOf pool.now body.0 }
     ensures { result ≡ names var (tree_at pool.now body.0) }
 {
     match node_at(pool, body) {

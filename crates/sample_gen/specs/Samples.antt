@@ -1,5 +1,5 @@
 -- The commands of a sample: two queries, messages that answer one another, notes and runs.
-use Rattle.std.specs.Prelude.{ℕ, zero, suc, pos, ◌+◌, ◌-◌, ◌*◌, ◌/◌, ◌%◌, List, [], ◌∷◌, ◌++◌, Bool, ◌&&◌, ◌==◌}
+use Rattle.std.specs.Prelude.{ℕ, zero, suc, pos, ◌≤◌, ◌+◌, ◌-◌, ◌*◌, ◌/◌, ◌%◌, List, [], ◌∷◌, ◌++◌, Bool, ◌&&◌, ◌==◌}
 use Rattle.std.specs.Prelude.{nat_lt, codes, if◌then◌else◌}
 use Rattle.std.specs.Fmt.{decimal}
 use Rattle.mail_lines.specs.declared.block.Block.TheVariants.{Whole}
@@ -81,3 +81,8 @@ opening =
 -- the sample with n messages
 abbrev pub sample_of : ℕ → List Command
 sample_of n = opening ++ commands_of_messages n ++ At (decimal (1000 + 10 * n + 1000)) ∷ both_runs
+
+-- a sample has this many messages: at least one, and not too many
+pub record IsSampleSize (n : ℕ) : Type 0 where
+  pub some : 1 ≤ n
+  pub few : n ≤ 100000

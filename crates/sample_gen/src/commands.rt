@@ -4,7 +4,7 @@ ghost use Rattle.std.specs.Fmt.{decimal};
 ghost use Rattle.std.specs.List.{list_all};
 ghost use Rattle.script_lang.specs.declared.command.Command.{Command};
 ghost use Rattle.script_lang.specs.Proper.{is_proper};
-ghost use Rattle.sample_gen.specs.Samples.{commands_of_message, commands_of_messages, opening, both_runs, note_after, runs_after, sample_of};
+ghost use Rattle.sample_gen.specs.Samples.{commands_of_message, commands_of_messages, opening, both_runs, note_after, runs_after, sample_of, IsSampleSize};
 
 use crate::generator::next_state;
 use crate::message::message_text;
@@ -124,8 +124,7 @@ fn open_sample(alloc: Global) -> Result<Rows<Command>, Memory>
 /// Returns the commands of a sample with `n` messages, some of which answer earlier ones, with notes, two queries and their
 /// runs. The same `n` gives the same commands. `Memory` means out of memory.
 pub fn sample(alloc: Global, n: u32) -> Result<Rows<Command>, Memory>
-    requires some { 1 ≤ n }
-    requires few { n ≤ SAMPLE_LIMIT }
+    requires { IsSampleSize n }
     ensures value { IfOk result (λ commands. commands ≡ sample_of n) }
     ensures proper { IfOk result (λ commands. list_all is_proper commands ≡ true) }
 {

@@ -1,8 +1,8 @@
 //! The lines that sum up a sample.
-ghost use Rattle.std.specs.Prelude.{◌≡◌, ◌≤◌, ◌+◌, ◌++◌, length, codes};
+ghost use Rattle.std.specs.Prelude.{◌≡◌, ◌≤◌, ◌+◌, ◌++◌, codes};
 ghost use Rattle.std.specs.Fmt.{decimal};
 ghost use Rattle.arrayvec.specs.ArrayVec.{array_vec_len};
-ghost use Rattle.script_lang.specs.Replies.{line};
+ghost use Rattle.script_lang.specs.Replies.{line, IsShortWord};
 ghost use Rattle.sample_gen.specs.Summaries.{count_line, summary_lines};
 
 use arrayvec::ArrayVec;
@@ -26,7 +26,7 @@ pub struct Summary {
 
 // Appends a line of a name and a number.
 fn push_count<I: Integer>(buffer: &mut ArrayVec<u8, 512>, name: &[u8], n: I)
-    requires short { length name.now ≤ 10 }
+    requires short { IsShortWord name.now }
     requires room { array_vec_len buffer.old + 51 ≤ 512 }
     ensures bytes { buffer.new.items ≡ buffer.old.items ++ line (name.now ++ I.text n) }
     ensures short { array_vec_len buffer.new ≤ array_vec_len buffer.old + 51 }

@@ -196,3 +196,7 @@ HasShortNames (Ran ordinal moment hits) = Unit {0}
 HasShortNames (Filter rules) = Unit {0}
 HasShortNames (Asked moment docs) = Unit {0}
 HasShortNames (No refusal) = Unit {0}
+
+-- a word that begins a reply's first line has at most 10 bytes
+abbrev pub IsShortWord : List ℕ → Type 0
+IsShortWord name = length name ≤ 10

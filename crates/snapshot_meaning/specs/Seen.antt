@@ -1,5 +1,5 @@
 -- Rows that a condition is asked of.
-use Rattle.std.specs.Prelude.{ℕ, ◌+◌, ℤ, List, [], map, filter}
+use Rattle.std.specs.Prelude.{ℕ, ◌+◌, ◌≤◌, ℤ, List, [], map, filter}
 use Rattle.tap_base.specs.declared.numbers.DocNum.{DocNum}
 use Rattle.tap_rows.specs.declared.rows.Doc.{Doc}
 use Rattle.tap_rows.specs.declared.rows.Note.{Note}
@@ -27,3 +27,7 @@ exists_in (Exists v t x) = 1 + exists_in x
 -- the numbers of those of these documents that are given at a second
 abbrev pub given_nums : Condition → Tables → ℤ → List Doc → List DocNum
 given_nums c tables s docs = map (λ doc. doc.num) (filter (λ doc. is_given (truth_of c) tables doc s) docs)
+
+-- the variables of its EXISTS and `m` have places in an environment
+abbrev pub FitsEnv : Condition → Type 0
+FitsEnv c = exists_in c ≤ 15

@@ -5,7 +5,7 @@ ghost use Rattle.tap_rows.specs.Results.{snapshot, is_given};
 ghost use Rattle.tql_core.specs.Condition.{condition};
 ghost use Rattle.tql_core.specs.Values.{both, value};
 ghost use Rattle.tql_core.specs.Holds.{holds, truth_of};
-ghost use Rattle.snapshot_meaning.specs.Seen.{seen, exists_in, given_nums};
+ghost use Rattle.snapshot_meaning.specs.Seen.{seen, exists_in, given_nums, FitsEnv};
 
 use std::alloc::Global;
 use tap_base::{DocNum, Memory, Rows};
@@ -102,7 +102,7 @@ pub fn is_doc_given<'a>(
     notes: &'a [Note],
     s: i64,
 ) -> bool
-    requires { exists_in (condition cond.now) ≤ 15 }
+    requires { FitsEnv (condition cond.now) }
     ensures { result ≡ is_given (truth_of (condition cond.now)) (seen docs.now notes.now) doc.now s }
 {
     if !has_doc_come(doc, s) {
@@ -121,7 +121,7 @@ fn add_given<'a>(
     s: i64,
     nums: &mut Rows<DocNum>,
 ) -> Result<(), Memory>
-    requires { exists_in (condition cond.now) ≤ 15 }
+    requires { FitsEnv (condition cond.now) }
     ensures { OnOk result (nums.new ≡ nums.old ++ given_nums (condition cond.now) (seen docs.now notes.now) s (doc.now ∷ [])) }
 {
     if is_doc_given(cond, doc, docs, notes, s) {
@@ -139,7 +139,7 @@ pub fn gives<'a>(
     notes: &'a [Note],
     s: i64,
 ) -> Result<Rows<DocNum>, Memory>
-    requires { exists_in (condition cond.now) ≤ 15 }
+    requires { FitsEnv (condition cond.now) }
     ensures { IfOk result (λ nums. nums ≡ map (λ doc. doc.num) (snapshot (truth_of (condition cond.now)) (seen docs.now notes.now) s)) }
 {
     let mut nums = Rows::new(alloc);

@@ -1,5 +1,5 @@
--- Kinds of bytes.
-use Rattle.std.specs.Prelude.{ℕ, Bool, ◌||◌, ◌==◌, List, [], ◌∷◌}
+-- Kinds of bytes, and places in texts and lists.
+use Rattle.std.specs.Prelude.{ℕ, Bool, ◌||◌, ◌==◌, ◌<◌, ◌≤◌, List, [], ◌∷◌, length}
 
 -- a blank: a space or a tab
 abbrev pub is_blank : ℕ → Bool
@@ -8,3 +8,15 @@ is_blank b = b == 32 || b == 9
 -- what a text gives a hasher: its bytes as one run
 abbrev pub text_writes : List ℕ → List (List ℕ)
 text_writes bytes = bytes ∷ []
+
+-- a text that isn't empty
+abbrev pub IsNonEmpty : List ℕ → Type 0
+IsNonEmpty text = 0 < length text
+
+-- a place in the text, or its end
+abbrev pub IsPlaceOrEnd : List ℕ → ℕ → Type 0
+IsPlaceOrEnd text at = at ≤ length text
+
+-- a place of the list
+abbrev pub IsPlaceOf : {A : Type 0} → List A → ℕ → Type 0
+IsPlaceOf items place = place < length items

@@ -1,5 +1,5 @@
 -- The words of a line: its longest runs of bytes that aren't blanks.
-use Rattle.std.specs.Prelude.{ℕ, zero, suc, ◌-◌, List, length, take, drop, Bool, not, ◌==◌, ◌&&◌, ◌||◌, slice_index}
+use Rattle.std.specs.Prelude.{ℕ, zero, suc, ◌-◌, ◌<◌, List, length, take, drop, Bool, not, ◌==◌, ◌&&◌, ◌||◌, slice_index}
 use Rattle.std.specs.List.{prefix_len, position_or_len}
 use Rattle.tap_base.specs.Bytes.{is_blank}
 
@@ -35,3 +35,7 @@ is_skipped line = not (is_some (word 0 line)) || (slice_index (word 0 line) 0 ==
 -- has the line exactly n words? (n is at least 1)
 abbrev pub has_words : ℕ → List ℕ → Bool
 has_words n line = is_some (word (n - 1) line) && not (is_some (word n line))
+
+-- fewer words of a line than this are read by their places
+abbrev pub IsWordPlace : ℕ → Type 0
+IsWordPlace n = n < 8

@@ -2,7 +2,7 @@
 ghost use Rattle.std.specs.Prelude.{◌≡◌, ◌≤◌, ◌<◌, length, IsTrue};
 ghost use Rattle.std.specs.List.{position_or_len, prefix_len};
 ghost use Rattle.tap_base.specs.Bytes.{is_blank};
-ghost use Rattle.tap_base.specs.LineWords.{after_blanks, after_word, after_words, first_word, word, is_skipped, has_words};
+ghost use Rattle.tap_base.specs.LineWords.{after_blanks, after_word, after_words, first_word, word, is_skipped, has_words, IsWordPlace};
 
 /// Returns whether the byte is a blank: a space or a tab.
 pub fn is_blank_byte(b: u8) -> bool
@@ -54,7 +54,7 @@ fn skip_word(text: &[u8]) -> &[u8]
 /// Returns what follows the first `n` words of a line and the blanks after them. A line of the script language has fewer
 /// than 8 words that are read by their places, which bounds the recursion.
 pub fn skip_words(line: &[u8], n: usize) -> &[u8]
-    requires { n < 8 }
+    requires { IsWordPlace n }
     ensures { result.now ≡ after_words n line.now }
 {
     if n == 0 {
@@ -66,7 +66,7 @@ pub fn skip_words(line: &[u8], n: usize) -> &[u8]
 
 /// Returns the word of place `n`, from 0, in a line. It is empty if there is none.
 pub fn nth_word(line: &[u8], n: usize) -> &[u8]
-    requires { n < 8 }
+    requires { IsWordPlace n }
     ensures { result.now ≡ word n line.now }
 {
     let text = skip_words(line, n);
@@ -76,7 +76,7 @@ pub fn nth_word(line: &[u8], n: usize) -> &[u8]
 /// Returns whether the line has exactly `n` words.
 pub fn has_words(line: &[u8], n: usize) -> bool
     requires some { 0 < n }
-    requires few { n < 8 }
+    requires few { IsWordPlace n }
     ensures { result ≡ has_words n line.now }
 {
     !nth_word(line, n - 1).is_empty() && nth_word(line, n).is_empty()

@@ -1,9 +1,14 @@
 -- When rows may be added.
-use Rattle.std.specs.Prelude.{ℤ, ◌≤ℤ◌, List}
+use Rattle.std.specs.Prelude.{ℕ, ℤ, ◌≡◌, ◌≤ℤ◌, List, true}
 use Rattle.tap_rows.specs.Kept.{Each}
 use Rattle.row_index.specs.Orders.{IsMoment}
+use Rattle.tap_model.specs.Verdicts.{are_short}
 
 -- a row may arrive at this second: it is a moment, and no row arrived after it
 pub record MayArrive {A : Type 0} (arrival : A → ℤ) (second : ℤ) (rows : List A) : Type 0 where
   pub moment : IsMoment second
   pub after : Each (λ row. arrival row ≤ℤ second) rows
+
+-- no text is longer than a message may be
+abbrev pub AreShort : List (List ℕ) → Type 0
+AreShort texts = are_short texts ≡ true

@@ -2,6 +2,7 @@
 
 ghost use Rattle.std.specs.Prelude.{◌≡◌, ◌<◌, ◌+◌, ◌^◌, ◌++◌, [], ◌∷◌, List, false, length, map, take, slice_index_or, OnOk, OnErr};
 ghost use Rattle.std.specs.Option.{option_copied};
+ghost use Rattle.tap_base.specs.Bytes.{IsPlaceOf};
 ghost use Rattle.little_box.specs.Boxes.{is_in};
 ghost use Rattle.tap_rows.specs.Results.{entry_at};
 ghost use Rattle.tap_rows.specs.WellFormed.{is_query_of};
@@ -107,7 +108,7 @@ impl CachedQueries {
         ordinal: u32,
         hits: &[Hit],
     ) -> Result<(), Memory>
-        requires place { place < length self.old }
+        requires place { IsPlaceOf self.old place }
         requires runs { HoldsAt place (λ query. query.runs + 1 < 2 ^ 64) self.old }
         requires new { HoldsAt place (λ query. AreNew query.entries hits.now) self.old }
         ensures kept { OnOk result (ChangesAt place (after_run moment (map (entry_at ordinal) hits.now)) self.old self.new) }
@@ -118,7 +119,7 @@ impl CachedQueries {
 
     /// Undoes the last run of the query at this place. It takes no memory.
     pub fn undo_run(&mut self, place: usize, covered: i64, runs: usize, entries: u32)
-        requires { place < length self.old }
+        requires { IsPlaceOf self.old place }
         ensures { self.new ≡ without_run place covered runs entries self.old }
     {
         self.items[place].undo_run(covered, runs, entries);
@@ -126,7 +127,7 @@ impl CachedQueries {
 
     // Adds an entry, of a document that isn't in its box, to the box of the query at this place.
     pub(crate) fn add_entry(&mut self, place: usize, entry: Entry) -> Result<(), Memory>
-        requires place { place < length self.old }
+        requires place { IsPlaceOf self.old place }
         requires unseen { HoldsAt place (λ query. is_in entry.doc.0 query.entries ≡ false) self.old }
         ensures kept { OnOk result (ChangesAt place (with_entry entry) self.old self.new) }
         ensures err { OnErr result (self.new ≡ self.old) }

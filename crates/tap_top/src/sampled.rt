@@ -1,7 +1,8 @@
 //! A sample: its commands are performed without replies, and the lines of its summary are put at the end.
-ghost use Rattle.std.specs.Prelude.{◌≡◌, ◌≢◌, ◌≤◌, ◌+◌, ◌⊎◌, ◌↔◌, ◌==◌, ℕ, List, [], ◌∷◌, Option, Some, None};
+ghost use Rattle.std.specs.Prelude.{◌≡◌, ◌≢◌, ◌+◌, ◌⊎◌, ◌↔◌, ◌==◌, ℕ, List, [], ◌∷◌, Option, Some, None};
 ghost use Rattle.std.specs.Prelude.{true, false, length, OnOk, IfOk, IfSome, IsErrOf};
 ghost use Rattle.std.specs.Io.KnownBytes.{Appends};
+ghost use Rattle.sample_gen.specs.Samples.{IsSampleSize};
 ghost use Rattle.tap_base.specs.Counts.{Rose};
 ghost use Rattle.keeper_core.specs.States.{IsPlacedUnless};
 ghost use Rattle.script_lang.specs.declared.reply.Reply.{Reply as ReplyOf};
@@ -163,8 +164,7 @@ fn run_sample<K: Sink, P: Keeper, L: Ledger>(
     keeper: &mut P,
     steps: &mut Steps<L>,
 ) -> Status
-    requires some { 1 ≤ n }
-    requires few { n ≤ 100000 }
+    requires size { IsSampleSize n }
     requires can { CanPerform P.Keeper engine.old keeper.old }
     requires session { engine.old.session ≡ no_session }
     ensures ends { FromEngine P.Keeper engine.old keeper.old keeper.new (λ t.
@@ -201,8 +201,7 @@ pub fn sample_store<K: Sink, P: Keeper, L: Ledger>(
     keeper: &mut P,
     steps: &mut Steps<L>,
 ) -> Status
-    requires some { 1 ≤ n }
-    requires few { n ≤ 100000 }
+    requires size { IsSampleSize n }
     requires can { CanOpen P.Keeper keeper.old place.now }
 
     // How the sample ended over a store that a session left.

@@ -1,5 +1,6 @@
 //! Nodes in a pool.
-ghost use Rattle.std.specs.Prelude.{◌≡◌, ◌<◌, length, true, Some};
+ghost use Rattle.std.specs.Prelude.{◌≡◌, true, Some};
+ghost use Rattle.tap_base.specs.Bytes.{IsPlaceOf};
 ghost use Rattle.node_pool.specs.Pools.{are_below};
 ghost use Rattle.tql_core.specs.Trees.{kids_of, node_tree, tree_at};
 
@@ -26,7 +27,7 @@ impl PoolNode for TNode {
 /// Returns the node of this number. Its condition is that of the number, and its parts have lower numbers. It takes no
 /// memory.
 pub fn node_at(pool: &Pool<TNode>, id: NodeId) -> &TNode
-    requires { id.0 < length pool.now }
+    requires { IsPlaceOf pool.now id.0 }
     ensures says { tree_at pool.now id.0 ≡ node_tree (Some result.now) (tree_at pool.now) }
     ensures parts { are_below id.0 (kids_of result.now) ≡ true }
 {

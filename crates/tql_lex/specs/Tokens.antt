@@ -1,5 +1,5 @@
 -- The tokens of a text.
-use Rattle.std.specs.Prelude.{ℕ, zero, suc, pos, List, [], ◌∷◌, ◌++◌, ◌+◌, ◌-◌, ◌^◌, length, take, drop, get_or}
+use Rattle.std.specs.Prelude.{ℕ, zero, suc, pos, ◌<◌, List, [], ◌∷◌, ◌++◌, ◌+◌, ◌-◌, ◌^◌, length, take, drop, get_or}
 use Rattle.std.specs.Prelude.{Bool, ◌||◌, ◌&&◌, not, nat_le, nat_lt, ◌==◌, Option, Some, None, Result, Ok, Err, if◌then◌else◌}
 use Rattle.std.specs.List.{position_or_len}
 use Rattle.std.specs.Str.{str_to_ascii_lowercase}
@@ -138,3 +138,7 @@ tokens_from zero place (b ∷ rest) =
 -- the tokens of a text, or its first fault
 abbrev pub lexed : List ℕ → Result (List Token) LexFault
 lexed text = if nat_lt 4096 (length text) then Err (TooLong (length text)) else tokens_from 0 0 text
+
+-- a text from this place on ends at a place that a `u32` can tell
+abbrev pub EndFits : ℕ → List ℕ → Type 0
+EndFits place text = place + length text < 2 ^ 32
