@@ -3,6 +3,7 @@ use Rattle.std.specs.Prelude.{◌≡◌, ℕ, ◌-◌, ◌<◌, ◌≤◌, Bool,
 use Rattle.std.specs.Prelude.{Some, None, List, length, nat_eq, slice_get, vec_capacity, ◌^◌}
 use Rattle.query_eval.specs.declared.kept_hits.KeptHits.{KeptHits}
 use Rattle.tap_rows.specs.declared.results.Hit.{Hit}
+use Rattle.query_eval.specs.Lowest.{keeping}
 
 -- is the hit there, and of this document?
 abbrev pub is_of : ℕ → Option Hit → Bool
@@ -27,3 +28,7 @@ pub record HasRoom (kept : KeptHits) : Type 0 where
 pub record IsReady (kept : KeptHits) : Type 0 where
   pub placed : IsPlaced kept.hits.items kept.places.items
   pub room : HasRoom kept
+
+-- after these hits were stored
+abbrev pub Stores : KeptHits → KeptHits → List Hit → Type 0
+Stores old new hits = new.hits.items ≡ keeping (length old.places.items) old.hits.items hits

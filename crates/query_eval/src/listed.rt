@@ -8,8 +8,7 @@ ghost use Rattle.time_marks.specs.Seeks.{CanSeek};
 ghost use Rattle.probe_eval.specs.Drivers.{walked};
 ghost use Rattle.probe_eval.specs.Listed.{listed_hit, marked_hit, listed_hits};
 ghost use Rattle.probe_eval.specs.Searches.{searched};
-ghost use Rattle.query_eval.specs.Lowest.{keeping};
-ghost use Rattle.query_eval.specs.Placed.{IsReady};
+ghost use Rattle.query_eval.specs.Placed.{IsReady, Stores};
 
 use crate::kept_hits::KeptHits;
 use probe_eval::{Search, mark_in, new_doc, walked};
@@ -22,8 +21,7 @@ use tql_core::{Env, RowRef, Var, value};
 // Stores the hit of the document with the mark, if the mark isn't before it and it isn't in the box.
 fn collect_doc(search: &Search, doc: &KeptDoc, mark: i64, into: &mut KeptHits)
     requires { IsReady into.old }
-    ensures hits { into.new.hits.items ≡ keeping (length into.old.places.items) into.old.hits.items
-        (listed_hit search.now.seen.now mark (OfDoc doc.now)) }
+    ensures hits { Stores into.old into.new (listed_hit search.now.seen.now mark (OfDoc doc.now)) }
     ensures ready { IsReady into.new }
     ensures places { length into.new.places.items ≡ length into.old.places.items }
 {
@@ -41,8 +39,7 @@ fn collect_doc(search: &Search, doc: &KeptDoc, mark: i64, into: &mut KeptHits)
 // the box.
 fn collect_marked(search: &Search, row: RowRef<'_>, mark: Option<i64>, into: &mut KeptHits)
     requires { IsReady into.old }
-    ensures hits { into.new.hits.items ≡ keeping (length into.old.places.items) into.old.hits.items
-        (marked_hit search.now.seen.now (row_of row.entry) mark) }
+    ensures hits { Stores into.old into.new (marked_hit search.now.seen.now (row_of row.entry) mark) }
     ensures ready { IsReady into.new }
     ensures places { length into.new.places.items ≡ length into.old.places.items }
 {
@@ -63,7 +60,7 @@ pub(crate) fn collect_listed<'a, L: Ledger>(
 )
     requires window { CanSeek seek w }
     requires ready { IsReady into.old }
-    ensures hits { into.new.hits.items ≡ keeping (length into.old.places.items) into.old.hits.items
+    ensures hits { Stores into.old into.new
         (flat_map (listed_hits search.now.seen.now w (searched search.now) var) (walked search.now.index.now w (searched search.now) seek var)) }
     ensures ready { IsReady into.new }
     ensures places { length into.new.places.items ≡ length into.old.places.items }

@@ -1,15 +1,12 @@
 //! The hits of one probe.
 
 ghost use Rattle.std.specs.Prelude.{◌≡◌, ◌+◌, ◌≤◌, [], length, option_to_list};
-ghost use Rattle.std.specs.List.{flat_map};
-ghost use Rattle.tql_core.specs.Values.{bind};
-ghost use Rattle.probe_eval.specs.Work.{total};
 ghost use Rattle.time_marks.specs.Seeks.{CanSeek};
-ghost use Rattle.query_eval.specs.Lowest.{keeping};
-ghost use Rattle.query_eval.specs.Placed.{IsReady};
+ghost use Rattle.query_eval.specs.Placed.{IsReady, Stores};
 ghost use Rattle.probe_eval.specs.Nexts.{IsNext};
 ghost use Rattle.probe_eval.specs.Searches.{searched, CanSearch};
-ghost use Rattle.probe_eval.specs.Drivers.{seek_var, hits_at, seek_hits, cost_at, seek_cost, walked};
+ghost use Rattle.probe_eval.specs.Drivers.{seek_var, hits_at, seek_hits, cost_at, seek_cost};
+ghost use Rattle.query_eval.specs.Driven.{driven_hits, driven_cost};
 
 use crate::kept_hits::KeptHits;
 use crate::listed::collect_listed;
@@ -34,7 +31,7 @@ fn collect_at<'a, L: Ledger>(
     requires search { CanSearch search.now (length env.now + length order.now) }
     requires next { IsNext search.now.probe.now.path env.now next.old }
     requires ready { IsReady into.old }
-    ensures hits { into.new.hits.items ≡ keeping (length into.old.places.items) into.old.hits.items
+    ensures hits { Stores into.old into.new
         (hits_at search.now.seen.now search.now.index.now w (searched search.now) order.now env.now) }
     ensures next { IsNext search.now.probe.now.path env.now next.new }
     ensures ready { IsReady into.new }
@@ -60,13 +57,11 @@ fn collect_driven<'a, L: Ledger>(
     requires window { CanSeek seek w }
     requires search { CanSearch search.now (1 + length order.now) }
     requires ready { IsReady into.old }
-    ensures hits { into.new.hits.items ≡ keeping (length into.old.places.items) into.old.hits.items
-        (flat_map (λ row. hits_at search.now.seen.now search.now.index.now w (searched search.now) order.now (bind var row []))
-        (walked search.now.index.now w (searched search.now) seek var)) }
+    ensures hits { Stores into.old into.new
+        (driven_hits search.now.seen.now search.now.index.now w (searched search.now) order.now seek var) }
     ensures ready { IsReady into.new }
     ensures places { length into.new.places.items ≡ length into.old.places.items }
-    ensures steps { steps.new ≤ steps.old + total (λ row. 1 + cost_at search.now.index.now w (searched search.now) order.now (bind var row []))
-        (walked search.now.index.now w (searched search.now) seek var) }
+    ensures steps { steps.new ≤ steps.old + driven_cost search.now.index.now w (searched search.now) order.now seek var }
     ensures more { steps.old ≤ steps.new }
 {
     let mut rows = walked(search, seek, var, w);
@@ -99,13 +94,11 @@ fn collect_walked<'a, L: Ledger>(
     requires window { CanSeek seek w }
     requires search { CanSearch search.now (1 + length order.now) }
     requires ready { IsReady into.old }
-    ensures hits { into.new.hits.items ≡ keeping (length into.old.places.items) into.old.hits.items
-        (flat_map (λ row. hits_at search.now.seen.now search.now.index.now w (searched search.now) order.now (bind var row []))
-        (walked search.now.index.now w (searched search.now) seek var)) }
+    ensures hits { Stores into.old into.new
+        (driven_hits search.now.seen.now search.now.index.now w (searched search.now) order.now seek var) }
     ensures ready { IsReady into.new }
     ensures places { length into.new.places.items ≡ length into.old.places.items }
-    ensures steps { steps.new ≤ steps.old + total (λ row. 1 + cost_at search.now.index.now w (searched search.now) order.now (bind var row []))
-        (walked search.now.index.now w (searched search.now) seek var) }
+    ensures steps { steps.new ≤ steps.old + driven_cost search.now.index.now w (searched search.now) order.now seek var }
     ensures more { steps.old ≤ steps.new }
 {
     if goes_by_list(search, seek, var) {
@@ -127,7 +120,7 @@ pub(crate) fn collect_part<'a, L: Ledger>(
     requires window { CanSeek seek w }
     requires search { CanSearch search.now (length (option_to_list (seek_var seek)) + length order.now) }
     requires ready { IsReady into.old }
-    ensures hits { into.new.hits.items ≡ keeping (length into.old.places.items) into.old.hits.items
+    ensures hits { Stores into.old into.new
         (seek_hits search.now.seen.now search.now.index.now w (searched search.now) order.now seek (seek_var seek)) }
     ensures ready { IsReady into.new }
     ensures places { length into.new.places.items ≡ length into.old.places.items }
