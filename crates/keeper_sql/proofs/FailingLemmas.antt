@@ -1,6 +1,6 @@
 -- How the calls of a transaction fail one after another.
 use Rattle.std.proofs.lemmas.Result.{IfErr-weaker}
-use Rattle.std.proofs.Common.{◌≡◌, ◌∙◌, ℕ, List, IsTrue, refl, subst, arith, inl, Result, Err, IfErr}
+use Rattle.std.proofs.Common.{◌≡◌, ◌∙◌, ℕ, List, IsTrue, refl, subst, arith, inl, Result, Ok, Err, IfOk, OnOk, IfErr}
 use Rattle.sqlite_value.specs.Order.{Row}
 use Rattle.sqlite_trees.specs.declared.store.Store.{Ghosts}
 use Rattle.sqlite_schema.specs.declared.schema.Schema.{Schema}
@@ -8,7 +8,7 @@ use Rattle.sqlite.specs.declared.error.Error.{Error}
 use Rattle.sqlite.specs.Held.{Held, state}
 use Rattle.sqlite.specs.State.{State, HasCleanDisk, Survives, IsUnchanged, ExecutesInside}
 use Rattle.sqlite.proofs.StateLemmas.{survives_then}
-use Rattle.keeper_sql.specs.Store.{RowsWritten, Makes}
+use Rattle.keeper_sql.specs.Store.{RowsWritten, Makes, Raises}
 use Rattle.keeper_sql.specs.Failing.{FailsToWrite, Reaches, FailsLater, FailsBy, FailsWithin}
 
 -- the parameters of a statement are these
@@ -46,6 +46,13 @@ module _ {S : Type 0} (g : Ghosts S) where
 
   pub reaches_read : (old mid : Held S) → Survives (state g old) (state g mid) (λ _. ⊥) → IsTrue (state g old).in_transaction → IsUnchanged (state g old) (state g mid) → Reaches g old mid
   reaches_read old mid s inside h = record { survives = s; mode = h.0.mode ∙ inside; is_open = λ _. h.0.is_open; committed = h.0.committed_is }
+
+  -- the version was raised, after calls that succeeded
+  pub reaches_raised : {T : Type 0} (old mid new : Held S) (r : Result T Error) (P : T → Type 0) → Reaches g old mid → Survives (state g mid) (state g new) (λ _. ⊥)
+      → IfOk r (λ x. P x × Raises (state g mid) (state g new)) → OnOk r (Reaches g old new)
+  reaches_raised old mid new (Ok x) P p s h =
+      reaches_then old mid new p (record { survives = s; mode = h.1.mode; is_open = h.1.is_open; committed = h.1.committed })
+  reaches_raised old mid new (Err e) P p s h = tt
 
   -- what failed later failed after the calls before
   pub later : (How : State → State → Error → Type 0) (old mid new : Held S) (e : Error) → Reaches g old mid → FailsLater g mid new How e → FailsLater g old new How e

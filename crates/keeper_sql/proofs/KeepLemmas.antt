@@ -1,5 +1,5 @@
 -- What a commit makes of the tables that a store tells.
-use Rattle.std.proofs.Common.{◌≡◌, ◌⊎◌, inl, inr, ℤ, [], Bool, true, false, IsTrue, refl, sym, ap, subst, ◌∙◌}
+use Rattle.std.proofs.Common.{◌≡◌, ◌⊎◌, inl, inr, ℤ, [], Bool, true, false, IsTrue, refl, sym, ap, subst, ◌∙◌, arith}
 use Rattle.tap_rows.specs.declared.tables.Tables.{Tables}
 use Rattle.tap_rows.specs.declared.change.Change.{Change}
 use Rattle.tap_rows.specs.declared.change.Change.TheVariants.{Docs, OneNote, OneQuery, RunDone, OneFilter}
@@ -10,10 +10,11 @@ use Rattle.keeper_core.specs.Keeping.{IsDurable}
 use Rattle.sqlite_trees.specs.Tree.{Trees}
 use Rattle.sqlite_schema.specs.declared.schema.Schema.{Schema}
 use Rattle.sqlite.specs.Effect.{Database}
-use Rattle.sqlite.specs.State.{State, HasCleanDisk}
+use Rattle.sqlite.specs.State.{State, HasCleanDisk, Survives}
 use Rattle.keeper_sql.specs.Schema.{store_schema, no_schema}
 use Rattle.keeper_sql.specs.RowsAsValues.{rows_of, IsReadBack, tables_of}
 use Rattle.keeper_sql.specs.Store.{Commits, IsAfter, LeavesOnlyTrees, HoldsStore, Tells, TellsAs, MayLeave, HasVersion, put_all}
+use Rattle.keeper_sql.specs.Calls.{LeavesItsTrees, LeavesOldOr}
 use Rattle.keeper_sql.proofs.TablesAfter.{tables_after}
 
 pub as_told : (b : Bool) (s : State) (t : Tables) → b ≡ true → TellsAs b s t → Tells s t
@@ -72,3 +73,15 @@ version_after change old new s v clean told done has =
 
 pub version_still : (old new : State) (v : ℤ) → HasCleanDisk new → IsTrue new.is_open → new.now ≡ old.now → HasVersion old v → HasVersion new v
 version_still old new v clean now same has = record { clean = clean; is_open = now; row = rw same has.row }
+
+-- what a crash leaves after a transaction, and after a call that commits nothing
+pub left_old_or : (P : Trees → Type 0) (old mid new : State) → LeavesItsTrees old → Survives old mid P → Survives mid new (λ _. ⊥) → HasCleanDisk new → LeavesOldOr P old new
+left_old_or P old mid new alone p q clean db left =
+    let early : HasCleanDisk mid = omega (arith, q.clean) in
+    elim (q.crash clean db left) [
+      | inl stays ↦ elim (p.crash early db stays) [
+        | inl was ↦ inl (alone db was)
+        | inr made ↦ inr made
+      ]
+      | inr none ↦ absurd none
+    ]

@@ -1,17 +1,17 @@
 -- How values of their types are taken from rows.
-use Rattle.std.proofs.Common.{Bool, true, false, nat_lt, ◌≡◌, ◌≢◌, ◌∙◌, ◌↔◌, ◌⊎◌, inl, inr, ℕ, ◌<◌, ◌≤◌, suc, List, [], ◌∷◌, length, slice_get, Option, Some, None, Result, Ok, Err, IfErr, refl, sym, ap, arith, ltb-false, ltb-true, ◌++◌, map, append_assoc}
+use Rattle.std.proofs.Common.{Bool, true, false, nat_lt, ◌≡◌, ◌≢◌, ◌∙◌, ◌↔◌, inl, inr, ℕ, ◌<◌, ◌≤◌, suc, List, [], ◌∷◌, length, slice_get, Option, Some, None, Result, Ok, Err, IfErr, refl, sym, ap, arith, ltb-false, ltb-true, ◌++◌, map, append_assoc}
 use Rattle.std.proofs.lemmas.Result.{IfErr-weaker}
 use Rattle.sqlite_value.specs.declared.value.Value.{Value}
 use Rattle.sqlite_value.specs.declared.value.Value.TheVariants.{Null, Int, Real, Text, Blob}
 use Rattle.sqlite_value.specs.Order.{Row, column}
 use Rattle.sqlite.specs.declared.error.Error.{Error}
 use Rattle.sqlite.specs.declared.error.ErrorCode.TheVariants.{OutOfMemory}
-use Rattle.sqlite.specs.declared.error.Error.TheVariants.{SqliteFailure, InvalidColumnIndex, InvalidColumnType, IntegralValueOutOfRange, Utf8Error}
+use Rattle.sqlite.specs.declared.error.Error.TheVariants.{SqliteFailure, InvalidColumnIndex, InvalidColumnType}
 use Rattle.sqlite.specs.declared.types.Type.{«Type» as SqlType}
 use Rattle.sqlite.specs.declared.types.Type.TheVariants as kind
 use Rattle.sqlite.specs.Reading.{IsReadError}
 use Rattle.sqlite.specs.Values.{IsInt, type_of}
-use Rattle.keeper_sql.specs.Failing.{IsShortage, Lacks, LacksOne, FailsToTake, FailsToTakeRow, FailsToTakeRows, FailsToRead, IsOneOf}
+use Rattle.keeper_sql.specs.Failing.{Lacks, FailsToTake, FailsToTakeRow, FailsToTakeRows, FailsToRead, IsOneOf}
 use Rattle.sqlite.specs.State.{State, Shown}
 
 pub is_integer : (v : Value) → type_of v ≡ kind.Integer → IsInt v

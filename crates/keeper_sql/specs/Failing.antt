@@ -1,5 +1,5 @@
 -- How the calls of this crate fail: by which statement, and between which states.
-use Rattle.std.specs.Prelude.{◌≡◌, ◌≢◌, ◌⊎◌, ℕ, ◌<◌, ◌≤◌, true, List, [], ◌∷◌, length, get_or, slice_get, Some, IsTrue, IfErr, Result, Err}
+use Rattle.std.specs.Prelude.{◌≡◌, ◌≢◌, ◌⊎◌, ℕ, ℤ, pos, ◌<◌, ◌≤◌, true, List, [], ◌∷◌, length, get_or, slice_get, Some, IsTrue, OnOk, IfErr, Result, Err}
 use Rattle.sqlite_value.specs.Order.{Row, column}
 use Rattle.sqlite_trees.specs.declared.store.Store.{Ghosts}
 use Rattle.sqlite.specs.declared.error.Error.{Error}
@@ -8,12 +8,16 @@ use Rattle.sqlite.specs.declared.error.Error.TheVariants.{SqliteFailure, Invalid
 use Rattle.sqlite.specs.declared.types.Type.{«Type» as SqlType}
 use Rattle.sqlite.specs.Values.{type_of}
 use Rattle.sqlite.specs.Held.{Held, state}
-use Rattle.sqlite.specs.State.{State, HasCleanDisk, Survives, IsRolledBack, IsUnchanged, ExecutesInside, FailsToQuery, IsTooLate, Shown}
+use Rattle.sqlite.specs.Effect.{Database}
+use Rattle.sqlite.specs.State.{State, HasCleanDisk, Survives, IsRolledBack, IsUnchanged, Fails, ExecutesInside, FailsToQuery, IsTooLate, Shown}
 use Rattle.sqlite.specs.Steps.{FailsToCommit}
 use Rattle.tap_rows.specs.declared.change.Change.{Change}
 use Rattle.tap_rows.specs.declared.change.Change.TheVariants.{Docs, OneNote, OneQuery, RunDone, OneFilter}
 use Rattle.keeper_core.specs.declared.fault.CommitFault.{CommitFault}
 use Rattle.keeper_core.specs.declared.fault.CommitFault.TheVariants.{Memory, Failed}
+use Rattle.keeper_core.specs.declared.fault.AttachFault.{AttachFault}
+use Rattle.keeper_core.specs.declared.fault.AttachFault.TheVariants as attach
+use Rattle.keeper_sql.specs.Store.{IsOurs, OpensTo, IsAfterOpen}
 use Rattle.keeper_sql.specs.Schema.{create_meta, create_docs, create_notes, create_queries, create_runs, create_picks, create_filters}
 use Rattle.keeper_sql.specs.Schema.{select_docs, select_notes, select_queries, select_runs, select_picks, select_filters}
 use Rattle.keeper_sql.specs.Schema.{select_meta, replace_meta, insert_doc, insert_note, insert_query, insert_run, insert_pick, insert_filter}
@@ -97,6 +101,14 @@ table_reads =
 abbrev pub FailsToReadTables : State → State → Error → Type 0
 FailsToReadTables old new e = (sql : List ℕ) × (kinds : List SqlType) × IsOneOf table_reads (sql, kinds) × FailsToRead sql kinds old new e
 
+-- a table was not made, or the version was not settled
+abbrev pub FailsToPrepare : State → State → Error → Type 0
+FailsToPrepare old new e = FailsAmong create_texts old new e ⊎ FailsToSettle old new e
+
+-- the store was not prepared, or one of its tables was not read
+abbrev pub FailsToOpenStore : State → State → Error → Type 0
+FailsToOpenStore old new e = FailsToPrepare old new e ⊎ FailsToReadTables old new e
+
 -- ---- several statements, in one transaction
 
 -- the transaction goes on from one state to the other, and commits nothing
@@ -107,6 +119,10 @@ pub record Reaches {S : Type 0} (g : Ghosts S) (old mid : Held S) : Type 0 where
   pub committed : (state g mid).committed ≡ (state g old).committed
 
 module _ {S : Type 0} (g : Ghosts S) (old new : Held S) where
+  -- after a call that succeeds the transaction goes on
+  abbrev pub GoesOn : {T : Type 0} → Result T Error → Type 0
+  GoesOn result = HasCleanDisk (state g new) → IsTrue (state g old).in_transaction → OnOk result (Reaches g old new)
+
   -- a call in a transaction that fails does so by this, between the states before and after it
   abbrev pub FailsBy : {T : Type 0} → Result T Error → (State → State → Error → Type 0) → Type 0
   FailsBy result How = HasCleanDisk (state g new) → IsTrue (state g old).in_transaction → IfErr result (How (state g old) (state g new))
@@ -139,9 +155,44 @@ module _ {S : Type 0} (g : Ghosts S) (old new : Held S) where
   abbrev pub FailsWhole : (State → State → Error → Type 0) → Error → Type 0
   FailsWhole How e = FailsInside How e ⊎ FailsAtCommit e
 
+-- ---- an error, and whether the store is open after it
+
+-- the store failed as it was tested whether it is open
+abbrev pub FailsAtTest : State → State → Type 0
+FailsAtTest old new = (e : Error) × Fails old new ⊥ e
+
+-- the error is another than that of memory, or the store failed at the test after it
+abbrev pub IsNotOnlyMemory : State → State → Error → Type 0
+IsNotOnlyMemory old new e = (e ≢ SqliteFailure OutOfMemory) ⊎ FailsAtTest old new
+
+-- this version isn't known, and a database of this program has it
+abbrev pub HasUnknownVersion : Database → ℤ → Type 0
+HasUnknownVersion db version = (version ≢ pos 1) × (version ≢ pos 2) × (IsOurs db → (to : Database) × OpensTo version db to)
+
+module _ {S : Type 0} (g : Ghosts S) (old new : Held S) where
+  -- a transaction failed by memory, and the store is unchanged since
+  abbrev pub FailsByMemory : (State → State → Error → Type 0) → Type 0
+  FailsByMemory How = (end : Held S) × FailsWhole g old end How (SqliteFailure OutOfMemory) × IsUnchanged (state g end) (state g new)
+
+  -- a transaction failed, and not by memory alone
+  abbrev pub FailsOtherwise : (State → State → Error → Type 0) → Type 0
+  FailsOtherwise How =
+      (end : Held S) × (e : Error) × FailsWhole g old end How e
+      × IsNotOnlyMemory (state g end) (state g new) e × Survives (state g end) (state g new) (λ _. ⊥)
+
+  -- a version that isn't known was found, and then the test failed
+  abbrev pub FailsAfterAlien : Type 0
+  FailsAfterAlien =
+      (end : Held S) × (version : ℤ) × HasUnknownVersion (state g old).now version
+      × Survives (state g old) (state g end) (IsAfterOpen (state g old)) × FailsAtTest (state g end) (state g new)
+
 -- a commit of a change failed: by memory, and the store is unchanged since; or otherwise
 abbrev pub FailsToKeep : {S : Type 0} → Ghosts S → Held S → Held S → Change → CommitFault → Type 0
-FailsToKeep {S} g old new change Memory =
-    (end : Held S) × FailsWhole g old end (FailsToInsertRows change) (SqliteFailure OutOfMemory) × IsUnchanged (state g end) (state g new)
-FailsToKeep {S} g old new change Failed =
-    (end : Held S) × (e : Error) × FailsWhole g old end (FailsToInsertRows change) e × Survives (state g end) (state g new) (λ _. ⊥)
+FailsToKeep g old new change Memory = FailsByMemory g old new (FailsToInsertRows change)
+FailsToKeep g old new change Failed = FailsOtherwise g old new (FailsToInsertRows change)
+
+-- an open failed: by memory, and the store is unchanged since; or otherwise, or after it had found a version that isn't known
+abbrev pub FailsToAttach : {S : Type 0} → Ghosts S → Held S → Held S → AttachFault → Type 0
+FailsToAttach g old new attach.Memory = FailsByMemory g old new FailsToOpenStore
+FailsToAttach g old new attach.Failed = FailsOtherwise g old new FailsToOpenStore ⊎ FailsAfterAlien g old new
+FailsToAttach g old new (attach.Alien version) = Unit {0}

@@ -1,12 +1,12 @@
 //! Commits a change, and finds out what an error left.
 
-ghost use Rattle.std.specs.Prelude.{◌≡◌, ◌↔◌, IsTrue, IfErr, OnOk, Err};
+ghost use Rattle.std.specs.Prelude.{◌≡◌, ◌↔◌, false, IsTrue, IfErr, OnOk, Err};
 ghost use Rattle.sqlite.specs.Held.{state};
 ghost use Rattle.sqlite.specs.State.{HasCleanDisk, Survives, IsUnchanged, IsLive};
 ghost use Rattle.keeper_sql.specs.RowsAsValues.{rows_of, IsReadBack};
 ghost use Rattle.keeper_sql.specs.Store.{Commits, IsAfter, IsIdle};
 ghost use Rattle.keeper_sql.specs.Calls.{IsRefused, IsSettled, LeavesItsTrees, LeavesOldOr};
-ghost use Rattle.keeper_sql.specs.Failing.{FailsToKeep};
+ghost use Rattle.keeper_sql.specs.Failing.{FailsAtTest, FailsToKeep, IsNotOnlyMemory};
 
 use crate::change::commit_change;
 use keeper_core::CommitFault;
@@ -26,6 +26,7 @@ pub fn is_settled<S: Alter>(conn: &Connection<S>) -> bool
     ensures live { IsLive (state S.Store conn.now) }
     ensures committed { IsTrue (state S.Store conn.now).is_open → (state S.Store conn.now).now ≡ (state S.Store conn.now).committed }
     ensures settled { IsSettled (state S.Store conn.now) }
+    ensures holds { IsTrue result }
     ensures alone { IsTrue (state S.Store conn.now).is_open → LeavesItsTrees (state S.Store conn.now) }
 {
     // For the clause `live`.
@@ -35,7 +36,7 @@ pub fn is_settled<S: Alter>(conn: &Connection<S>) -> bool
 
 // Was a text refused, and not by a failure?
 fn is_refused(answer: Result<Statement, Error>) -> bool
-    ensures { IsTrue result → IsRefused answer }
+    ensures { IsTrue result ↔ IsRefused answer }
 {
     matches!(answer, Err(Error::SqlInputError(_)))
 }
@@ -47,6 +48,7 @@ pub fn is_still_open<S: Alter>(conn: &mut Connection<S>) -> bool
     ensures same { HasCleanDisk (state S.Store conn.new) → IsTrue result → IsUnchanged (state S.Store conn.old) (state S.Store conn.new) }
     ensures alone { HasCleanDisk (state S.Store conn.new) → IsTrue result → LeavesItsTrees (state S.Store conn.new) }
     ensures survives { Survives (state S.Store conn.old) (state S.Store conn.new) (λ _. ⊥) }
+    ensures fails { HasCleanDisk (state S.Store conn.new) → result ≡ false → FailsAtTest (state S.Store conn.old) (state S.Store conn.new) }
 {
     is_refused(conn.prepare("DROP")) && is_settled(conn)
 }
@@ -59,6 +61,8 @@ pub fn is_only_memory<S: Alter>(conn: &mut Connection<S>, error: &Error) -> bool
     ensures same { HasCleanDisk (state S.Store conn.new) → IsTrue result → IsUnchanged (state S.Store conn.old) (state S.Store conn.new) }
     ensures alone { HasCleanDisk (state S.Store conn.new) → IsTrue result → LeavesItsTrees (state S.Store conn.new) }
     ensures survives { Survives (state S.Store conn.old) (state S.Store conn.new) (λ _. ⊥) }
+    ensures fails { HasCleanDisk (state S.Store conn.new) → result ≡ false
+        → IsNotOnlyMemory (state S.Store conn.old) (state S.Store conn.new) error.now }
 {
     is_memory(error) && is_still_open(conn)
 }

@@ -1,6 +1,6 @@
 //! Opens a store, in a transaction.
 
-ghost use Rattle.std.specs.Prelude.{◌≡◌, ◌≢◌, pos, IsTrue, IfOk, OnOk, OnErr};
+ghost use Rattle.std.specs.Prelude.{◌≡◌, ◌≢◌, pos, IsTrue, IfOk, IfErr, OnOk, OnErr};
 ghost use Rattle.keeper_core.specs.Keeping.{IfAlien};
 ghost use Rattle.sqlite.specs.Effect.{Database};
 ghost use Rattle.sqlite.specs.Held.{state};
@@ -8,6 +8,7 @@ ghost use Rattle.sqlite.specs.State.{HasCleanDisk, Survives, IsLive};
 ghost use Rattle.keeper_sql.specs.Store.{Undone, OpensTo, OpensAt, IsAfterOpen, IsAtVersion, IsIdle};
 ghost use Rattle.keeper_sql.specs.Opening.{IsOpened, IsRead, AreRead, IsRefusedAt, IsStored, IsHeld, UnlessHeld, UnlessFailed};
 ghost use Rattle.keeper_sql.specs.Calls.{CommitsNothing, InOurs, IsRolledBack, LeavesItsTrees, LeavesOldOr, OverOurs, ShowsTheSame, WasOpen};
+ghost use Rattle.keeper_sql.specs.Failing.{FailsToAttach, FailsToOpenStore, FailsToPrepare, FailsWhole, FailsWithin, GoesOn};
 
 use crate::create::create_all;
 use crate::keep::{is_only_memory, is_settled, is_still_open};
@@ -34,6 +35,8 @@ fn prepare<S: Alter>(tx: &mut Transaction<'_, S>) -> Result<i64, Error>
     ensures at { HasCleanDisk (state S.Store tx.new.conn.now) → IfOk result (IsAtVersion (state S.Store tx.new.conn.now).now) }
     ensures err { InOurs S.Store tx.old.conn.now tx.new.conn.now (OnErr result (Undone (state S.Store tx.old.conn.now) (state S.Store tx.new.conn.now))) }
     ensures survives { CommitsNothing S.Store tx.old.conn.now tx.new.conn.now }
+    ensures goes_on { GoesOn S.Store tx.old.conn.now tx.new.conn.now result }
+    ensures fails { FailsWithin S.Store tx.old.conn.now tx.new.conn.now result FailsToPrepare }
 {
     match create_all(tx) {
         Ok(()) => settle_version(tx),
@@ -49,6 +52,8 @@ pub fn open_within<S: Alter>(alloc: Global, tx: &mut Transaction<'_, S>) -> Resu
     ensures read { HasCleanDisk (state S.Store tx.new.conn.now) → IfOk result (IsRead (state S.Store tx.new.conn.now).now) }
     ensures err { InOurs S.Store tx.old.conn.now tx.new.conn.now (OnErr result (Undone (state S.Store tx.old.conn.now) (state S.Store tx.new.conn.now))) }
     ensures survives { CommitsNothing S.Store tx.old.conn.now tx.new.conn.now }
+    ensures goes_on { GoesOn S.Store tx.old.conn.now tx.new.conn.now result }
+    ensures fails { FailsWithin S.Store tx.old.conn.now tx.new.conn.now result FailsToOpenStore }
 {
     match prepare(tx) {
         Err(error) => Err(error),
@@ -70,6 +75,7 @@ pub fn open_store<S: Alter>(alloc: Global, conn: &mut Connection<S>) -> Result<O
     ensures was_open { OverOurs S.Store conn.old conn.new (UnlessHeld result (WasOpen (state S.Store conn.old) (state S.Store conn.new))) }
     ensures undone { OverOurs S.Store conn.old conn.new (UnlessHeld result (IsRolledBack (state S.Store conn.old) (state S.Store conn.new))) }
     ensures survives { Survives (state S.Store conn.old) (state S.Store conn.new) (IsAfterOpen (state S.Store conn.old)) }
+    ensures fails { HasCleanDisk (state S.Store conn.new) → IfErr result (FailsWhole S.Store conn.old conn.new FailsToOpenStore) }
 {
     let mut tx = conn.transaction();
     match open_within(alloc, &mut tx) {
@@ -98,6 +104,7 @@ pub fn open_kept<S: Alter>(alloc: Global, conn: &mut Connection<S>) -> Result<Ta
     ensures alien { OverOurs S.Store conn.old conn.new (IfAlien result (λ v. (db : Database) × OpensTo v (state S.Store conn.old).now db)) }
     ensures crash { HasCleanDisk (state S.Store conn.new) → IsTrue (state S.Store conn.old).is_open
         → LeavesOldOr (IsAfterOpen (state S.Store conn.old)) (state S.Store conn.old) (state S.Store conn.new) }
+    ensures fails { HasCleanDisk (state S.Store conn.new) → IfErr result (FailsToAttach S.Store conn.old conn.new) }
 {
     // For its clauses, which the errors need.
     let _settled = is_settled(conn);

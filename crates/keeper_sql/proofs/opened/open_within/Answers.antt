@@ -1,10 +1,12 @@
-use Rattle.std.proofs.Common.{rules, ◌≡◌, ◌∙◌, sym, ap, subst, arith, pos}
+use Rattle.std.proofs.Common.{rules, inl, inr, ◌≡◌, ◌∙◌, sym, ap, subst, arith, pos}
 use Rattle.sqlite.specs.Held.{state}
 use Rattle.sqlite.specs.Effect.{Database}
 use Rattle.sqlite.specs.State.{HasCleanDisk, IsUnchanged}
 use Rattle.keeper_sql.specs.RowsAsValues.{tables_in}
 use Rattle.keeper_sql.specs.Store.{OpensAt, AreAllKeyed, IsAtVersion}
 use Rattle.keeper_sql.specs.Opening.{AreRead}
+use Rattle.keeper_sql.specs.Failing.{FailsToOpenStore, FailsToPrepare, FailsToReadTables}
+use Rattle.keeper_sql.proofs.FailingLemmas.{later, reaches_read, reaches_then, wider}
 use Rattle.keeper_sql.proofs.OpeningLemmas.{opens_still}
 use Rattle.keeper_sql.proofs.opened.open_within.Goals as goal
 
@@ -32,3 +34,29 @@ returns-in-Ok-read_tables-clause-read g c clean =
     let is_two : c.in-Ok-eq2.field-0 ≡ pos 2 = search rules in
     subst (λ (d : Database). AreRead d c.in-Ok-read_tables.tables) (sym same.0.now_is)
     (record { rows = c.in-Ok-read_tables.ensures.read clean; version = subst (IsAtVersion mid.now) is_two (c.in-Ok-eq2.ensures.at early) })
+
+pub returns-in-Ok-read_tables-clause-goes_on : goal.returns-in-Ok-read_tables-clause-goes_on
+returns-in-Ok-read_tables-clause-goes_on g c clean inside =
+    let old = c.args.tx.now.conn.now in
+    let mid = c.prepare.new.tx.conn.now in
+    let new = c.read_tables.new.tx.conn.now in
+    let early : HasCleanDisk (state g.S.Store mid) = omega (arith, c.read_tables.ensures.survives.clean) in
+    let reached = c.in-Ok-eq2.ensures.goes_on early inside in
+    reaches_then g.S.Store old mid new reached (reaches_read g.S.Store mid new c.read_tables.ensures.survives reached.mode (c.in-Ok-read_tables.ensures.same clean))
+
+pub returns-in-Ok-clause-goes_on : goal.returns-in-Ok-clause-goes_on
+returns-in-Ok-clause-goes_on g c clean inside = c.in-Ok.ensures.goes_on clean inside
+
+pub returns-in-Err-clause-fails : goal.returns-in-Err-clause-fails
+returns-in-Err-clause-fails g c clean inside =
+    wider g.S.Store FailsToPrepare FailsToOpenStore c.args.tx.now.conn.now c.prepare.new.tx.conn.now c.in-Err.error (λ a b h. inl h) (c.in-Err.ensures.fails clean inside)
+
+pub returns-in-Err-read_tables-clause-fails : goal.returns-in-Err-read_tables-clause-fails
+returns-in-Err-read_tables-clause-fails g c clean inside =
+    let old = c.args.tx.now.conn.now in
+    let mid = c.prepare.new.tx.conn.now in
+    let new = c.read_tables.new.tx.conn.now in
+    let e = c.in-Err-read_tables.error in
+    let early : HasCleanDisk (state g.S.Store mid) = omega (arith, c.read_tables.ensures.survives.clean) in
+    let reached = c.in-Ok-eq2.ensures.goes_on early inside in
+    later g.S.Store FailsToOpenStore old mid new e reached (wider g.S.Store FailsToReadTables FailsToOpenStore mid new e (λ a b h. inr h) (c.in-Err-read_tables.ensures.fails clean reached.mode))

@@ -7,7 +7,7 @@ use Rattle.keeper_sql.specs.Store.{Settles}
 use Rattle.keeper_sql.proofs.Settling.{meta_keyed, settle_same, settle_raised, read_at}
 use Rattle.keeper_sql.specs.Schema.{replace_meta}
 use Rattle.keeper_sql.specs.Failing.{FailsToSettle, FailsToWrite}
-use Rattle.keeper_sql.proofs.FailingLemmas.{at_once, reaches_read, step_fails}
+use Rattle.keeper_sql.proofs.FailingLemmas.{at_once, reaches_raised, reaches_read, step_fails}
 use Rattle.keeper_sql.proofs.version.settle_version.Goals as goal
 
 pub returns-in-Ok-None-clause-ok : goal.returns-in-Ok-None-clause-ok
@@ -47,6 +47,28 @@ returns-in-Ok-Some-clause-at g c clean =
     let new = state g.S.Store c.read_version.new.tx.conn.now in
     let by = read_at c.in-Ok-Some.version old new (c.in-Ok-Some.ensures.same clean) (λ has keyed. sym c.in-Ok-Some.field-0-is ∙ c.in-Ok-Some.ensures.read clean has keyed) in
     search (rules, by)
+
+pub returns-in-Ok-None-clause-goes_on : goal.returns-in-Ok-None-clause-goes_on
+returns-in-Ok-None-clause-goes_on g c clean inside =
+    let old = c.args.tx.now.conn.now in
+    let mid = c.read_version.new.tx.conn.now in
+    let new = c.raise_version.new.tx.conn.now in
+    let early : HasCleanDisk (state g.S.Store mid) = omega (arith, c.raise_version.ensures.survives.clean) in
+    let reached = reaches_read g.S.Store old mid c.read_version.ensures.survives inside (c.in-Ok-None.ensures.same early) in
+    reaches_raised g.S.Store old mid new c.raise_version.result (λ v. v ≡ pos 2) reached c.raise_version.ensures.survives (c.raise_version.ensures.ok clean reached.mode)
+
+pub returns-in-Ok-Some-eq1-clause-goes_on : goal.returns-in-Ok-Some-eq1-clause-goes_on
+returns-in-Ok-Some-eq1-clause-goes_on g c clean inside =
+    let old = c.args.tx.now.conn.now in
+    let mid = c.read_version.new.tx.conn.now in
+    let new = c.raise_version-in-Ok-Some-eq1.new.tx.conn.now in
+    let early : HasCleanDisk (state g.S.Store mid) = omega (arith, c.raise_version-in-Ok-Some-eq1.ensures.survives.clean) in
+    let reached = reaches_read g.S.Store old mid c.read_version.ensures.survives inside (c.in-Ok-Some-eq1.ensures.same early) in
+    reaches_raised g.S.Store old mid new c.raise_version-in-Ok-Some-eq1.result (λ v. v ≡ pos 2) reached c.raise_version-in-Ok-Some-eq1.ensures.survives (c.raise_version-in-Ok-Some-eq1.ensures.ok clean reached.mode)
+
+pub returns-in-Ok-Some-clause-goes_on : goal.returns-in-Ok-Some-clause-goes_on
+returns-in-Ok-Some-clause-goes_on g c clean inside =
+    reaches_read g.S.Store c.args.tx.now.conn.now c.read_version.new.tx.conn.now c.read_version.ensures.survives inside (c.in-Ok-Some.ensures.same clean)
 
 pub returns-in-Err-clause-fails : goal.returns-in-Err-clause-fails
 returns-in-Err-clause-fails g c clean inside =
