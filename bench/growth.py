@@ -82,6 +82,11 @@ def mails(n):
     return "".join(lines)
 
 
+def mails_of_one_subject(n):
+    """So many mails of one subject, a second apart."""
+    return "at 1000\nas ann\n" + "".join(f"at {1000 + i}\nmail\nSubject: one\n\nyes\n.\n" for i in range(1, n + 1))
+
+
 def asked(text):
     """A query is defined, run and explained."""
     return f"at 300000000\nquery q {text}\nrun q\nexplain q\nwake q\n"
@@ -148,6 +153,7 @@ ROWS = [
     ("a query with 28 ORs of times", 7, lambda n: mails(1000), lambda n: asked(ands_of_ors(n))),
     ("a query with 24 ORs of times under NOT EXISTS", 6, lambda n: mails(1000), lambda n: asked(nots_of_ands_of_ors(n))),
     ("a query of one long text, asked 1,000 times", 1000, lambda n: mails(100), lambda n: "at 300000000\n" + f"ask 2000 {long_text(n)}\n" * 1000),
+    ("another of its subject, of which there are 20,000", 5000, mails_of_one_subject, lambda n: asked("EXISTS (r: DOC WHERE r.subject = m.subject AND r.id > m.id)")),
     ("64 rules over a box of 10,000", 16, lambda n: mails(10000) + BOX + rules(n), lambda n: "list all\n"),
     ("a listing of 100,000 entries", 25000, lambda n: mails(n) + BOX, lambda n: "list all\n"),
     ("a box of 100,000 entries", 25000, lambda n: mails(n) + BOX, lambda n: "box all\n"),

@@ -3,15 +3,19 @@
 
   bench/shapes.py PROGRAM [PEER]
 
-One process a line: so many mails, a query, its first run, rounds of one event each, a run, and as many rounds of one event and one
-run. A round is the difference of the last two by the number of rounds; of three such differences the middle one counts. PEER is the program of bench/peer.c: it gets the same script,
-with the query in its own form, and its replies to the runs have to be the same.
+Each line is so many mails, a query, its first run, rounds of one event each, a run, and as many rounds of one event and one run. A
+round is the difference of the last two by the number of rounds; of three such differences in one process, and then of TIMES
+processes, the middle one counts. PEER is the program of bench/peer.c: it gets the same script, with the query in its own form, and its
+replies to the runs have to be the same.
 
 Mail i comes a second after mail i - 1. It has the message id <i@example.org>, one of 10 senders, one of 100 subjects and three
 words. Each fourth replies to the mail before it and has it in its references; each fifth has a note. In one shape ten mails in a
-row have a subject of their own in place of one of 100, so that no more mails share a subject as there are more mails. SIZES are the numbers of mails,
-CROSS those of the two cross products, ROUNDS the rounds, LIMIT the most seconds of one line, SHAPES a text that the names of the
-shapes have.
+row have a subject of their own in place of one of 100, so that no more mails share a subject as there are more mails. In a round with
+a run a reply or a note goes to one of the last mails that have none, so that each such run delivers, and with one shape to a mail
+of any age.
+
+SIZES are the numbers of mails, CROSS those of the two cross products, ROUNDS the rounds, TIMES the processes of a line, LIMIT the
+most seconds of one line, SHAPES a text that the names of the shapes have.
 """
 
 import os
@@ -22,6 +26,7 @@ import time
 
 LIMIT = float(os.environ.get("LIMIT", "120"))
 ROUNDS = int(os.environ.get("ROUNDS", "200"))
+TIMES = int(os.environ.get("TIMES", "1"))
 SIZES = [int(it) for it in os.environ.get("SIZES", "1000 10000 100000").split()]
 CROSS = [int(it) for it in os.environ.get("CROSS", "20 80 320").split()]
 SHAPES = os.environ.get("SHAPES", "")
@@ -41,22 +46,41 @@ def mail_of_ten(i):
     return mail(i, i // 10)
 
 
-def new_mail(size, k):
+def new_mail(size, k, fresh):
     return mail(size + k)
 
 
-def new_mail_of_ten(size, k):
+def new_mail_of_ten(size, k, fresh):
     return mail_of_ten(size + k)
 
 
-def new_reply(size, k):
-    """A reply to a mail that has none, as long as there are such mails."""
-    to = 4 * k % size + (1 if 4 * k < size else 2)
-    return f"mail\nMessage-ID: <reply{k}@example.org>\nIn-Reply-To: <{to}@example.org>\nReferences: <{to}@example.org>\n\nyes\n.\n"
+# How many rounds with a run there are, and so how many mails get a first reply or note in them.
+FRESH = TURNS * ROUNDS
 
 
-def new_note(size, k):
-    return f"note {k % size + 1} score 3 fine\n"
+def reply_to(number, k):
+    return f"mail\nMessage-ID: <reply{k}@example.org>\nIn-Reply-To: <{number}@example.org>\nReferences: <{number}@example.org>\n\nyes\n.\n"
+
+
+def unanswered(j):
+    """Of the mails that are stored first the one before which j have no reply: mails 3, 7, 11 and so on have one."""
+    return j // 3 * 4 + j % 3 + (1 if j % 3 < 2 else 2)
+
+
+def new_reply(size, k, fresh):
+    """A reply to one of the last mails that have none, or to one of the last that have."""
+    return reply_to(unanswered(size * 3 // 4 - FRESH + fresh - 1) if fresh else size // 4 * 4 - 1 - 4 * (k % 100), k)
+
+
+def new_reply_to_any(size, k, fresh):
+    """A reply to a mail of any age that has none, or to one of the last that have."""
+    return reply_to(unanswered(fresh * (size * 3 // 4 // (FRESH + 1))) if fresh else size // 4 * 4 - 1 - 4 * (k % 100), k)
+
+
+def new_note(size, k, fresh):
+    """A note on one of the last mails that have none, or on one of the last that have."""
+    j = size * 4 // 5 - FRESH + fresh - 1
+    return f"note {j // 4 * 5 + j % 4 + 1 if fresh else size // 5 * 5 - 5 * (k % 100)} score 3 fine\n"
 
 
 # Name, query, event, query of the peer.
@@ -66,6 +90,7 @@ ROWS = [
     ("a sender", "m.from = 'sender3@example.org'", new_mail, "sender sender3@example.org"),
     ("no reply within ten days", "NOW >= m.ts + 10 DAYS AND NOT EXISTS (r: DOC WHERE r.inreplyto = m.msgid)", new_mail, f"silence {TEN_DAYS}"),
     ("has a reply", "EXISTS (r: DOC WHERE r.inreplyto = m.msgid)", new_reply, None),
+    ("has a reply, of any age", "EXISTS (r: DOC WHERE r.inreplyto = m.msgid)", new_reply_to_any, None),
     ("has a note of a kind", "EXISTS (a: NOTE WHERE a.doc = m.id AND a.kind = 'score')", new_note, None),
     ("no note yet", "NOT EXISTS (a: NOTE WHERE a.doc = m.id)", new_mail, None),
     ("a reply that has a note", "EXISTS (r: DOC WHERE r.inreplyto = m.msgid AND EXISTS (a: NOTE WHERE a.doc = r.id))", new_note, None),
@@ -151,20 +176,33 @@ def measure(program, size, query, event, rounds):
         if not rounds:
             return first, None, replies
 
-        def events(begin, runs):
-            return "".join(f"at {now + k * 3600}\n{event(size, k)}at {now + k * 3600 + 1}\n" + "run q\n" * runs for k in range(begin, begin + rounds))
+        def events(part, runs):
+            """The rounds of a part. Those with runs come in each second part, and each goes to a fresh mail."""
+            texts = []
+            for i in range(rounds):
+                k = part * rounds + i + 1
+                fresh = runs * (part // 2 * rounds + i + 1)
+                texts.append(f"at {now + k * 3600}\n{event(size, k, fresh)}at {now + k * 3600 + 1}\n" + "run q\n" * runs)
+            return "".join(texts)
 
         differences = []
         for turn in range(TURNS):
-            without, _ = session.part(events(2 * turn * rounds + 1, 0))
+            without, _ = session.part(events(2 * turn, 0))
             _, said = session.part("run q\n")
             replies += said
-            with_runs, said = session.part(events((2 * turn + 1) * rounds + 1, 1))
+            with_runs, said = session.part(events(2 * turn + 1, 1))
             replies += b"".join(it for it in said.splitlines(True) if it.startswith((b"doc ", b"no ")) or b" run " in it)
             differences.append(with_runs - without)
         return first, max(0.0, statistics.median(differences)) / rounds, replies
     finally:
         session.end()
+
+
+def measured(program, size, query, event, rounds):
+    """The middle figures of TIMES processes, whose replies are the same."""
+    found = [measure(program, size, query, event, rounds) for _ in range(TIMES)]
+    each = None if found[0][1] is None else statistics.median(it[1] for it in found)
+    return statistics.median(it[0] for it in found), each, found[0][2]
 
 
 def figure(seconds, unit, scale):
@@ -173,7 +211,7 @@ def figure(seconds, unit, scale):
 
 def line(program, peer, name, size, query, event, peer_query, rounds):
     try:
-        first, each, replies = measure(program, size, query, event, rounds)
+        first, each, replies = measured(program, size, query, event, rounds)
     except TooLong:
         print(f"| {name} | {size:,} | more than {LIMIT:.0f} s | - | - | - |", flush=True)
         return None
@@ -181,7 +219,7 @@ def line(program, peer, name, size, query, event, peer_query, rounds):
     refused = sum(it.startswith(b"no ") and it != b"no 1" for it in replies.splitlines())
     beside = "-"
     if peer and peer_query:
-        peer_first, peer_each, peer_replies = measure(peer, size, peer_query, event, rounds)
+        peer_first, peer_each, peer_replies = measured(peer, size, peer_query, event, rounds)
         ratio = f"{first / peer_first:.1f}, {each / peer_each:.1f}" if peer_first and peer_each else "-"
         beside = f"{figure(peer_first, 'ms', 1e3)}, {figure(peer_each, 'us', 1e6)}; times {ratio}"
         if peer_replies != replies:

@@ -28,7 +28,7 @@ module _ (last : ℤ) (T : Tables) (late : pos 250000000000 ≤ℤ last) (docs :
   rows_come Docs = all_by OfDoc doc_arrival last T.docs (λ d. refl) late docs
   rows_come Notes = all_by OfNote note_arrival last T.notes (λ d. refl) late notes
 
-  all_admitted : (a : Access) (env : Env) → rows_by last a env T ≡ all_rows_by a env T
+  pub all_admitted : (a : Access) (env : Env) → rows_by last a env T ≡ all_rows_by a env T
   all_admitted AllDocs env = rows_come Docs
   all_admitted AllNotes env = rows_come Notes
   all_admitted a env = refl

@@ -1,7 +1,7 @@
 -- Rows of a variable that no guard names beside one without a row are alike: the rest of a path exists beside all of them or beside none.
 use Rattle.std.proofs.Common.{◌≡◌, ◌∙◌, ℕ, ℤ, Bool, true, false, not, Option, Some, None, List, [], ◌∷◌, refl, sym, ap, subst, inl, inr, nat_eq, if◌then◌else◌}
 use Rattle.std.specs.Prelude.{◌⊎◌, ◌&&◌, ◌||◌, is_some, option_map, unwrap_or, int_le}
-use Rattle.std.specs.List.{list_any, list_all, filter, flat_map}
+use Rattle.std.specs.List.{list_any, list_all, flat_map}
 use Rattle.std.proofs.lemmas.Bool.{cases_Bool, and_parts, or_cases, false≢true, eq-eqb}
 use Rattle.std.proofs.lemmas.Option.{none-some, cond_some}
 use Rattle.tap_base.specs.declared.numbers.Op.TheVariants.{Eq}
@@ -49,7 +49,7 @@ use Rattle.probe_eval.specs.Laws.{RestsAreAlike}
 use Rattle.probe_eval.specs.Rests.{all_or, rest_of}
 use Rattle.probe_eval.proofs.Costs.{filter_same}
 use Rattle.probe_eval.proofs.NextRows.{nearest_held, held_alike}
-use Rattle.probe_eval.proofs.OpenLaws.{held_same, held_more, number_is, text_is, atom_is}
+use Rattle.probe_eval.proofs.OpenLaws.{held_more, number_is, text_is, atom_is}
 use Rattle.probe_eval.proofs.RestSteps.{stopped, any_step}
 
 -- is each variable of an access's other side among these?

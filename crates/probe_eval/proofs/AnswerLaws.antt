@@ -1,5 +1,5 @@
 -- A condition that is false beside all rows of a variable.
-use Rattle.std.proofs.Common.{◌≡◌, ◌∙◌, ℕ, ℤ, pos, Bool, true, false, ◌&&◌, Some, List, [], ◌∷◌, refl, sym, subst}
+use Rattle.std.proofs.Common.{◌≡◌, ◌∙◌, ℤ, pos, Bool, true, false, ◌&&◌, Some, List, [], ◌∷◌, refl, sym, subst}
 use Rattle.std.specs.List.{flat_map}
 use Rattle.tap_rows.specs.declared.tables.Tables.{Tables}
 use Rattle.tap_rows.specs.declared.results.Entry.{Entry}
@@ -10,7 +10,6 @@ use Rattle.tql_core.specs.Row.{Row, OfDoc, OfNote, rows_of}
 use Rattle.tql_core.specs.Values.{Env, bind, lookup}
 use Rattle.tql_core.specs.Holds.{truth}
 use Rattle.access_plan.specs.Accesses.{is_other}
-use Rattle.access_plan.specs.Laws.{AreSame}
 use Rattle.access_plan.specs.declared.reach.Reach.{Reach}
 use Rattle.time_marks.specs.Probes.{Probe}
 use Rattle.time_marks.proofs.Envs.{bind_same, bind_other}

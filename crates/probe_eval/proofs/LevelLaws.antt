@@ -2,10 +2,9 @@
 use Rattle.std.proofs.Common.{◌≡◌, ◌∙◌, ◌+◌, ◌≤◌, ℕ, ℤ, pos, Bool, true, false, not, Option, Some, None, List, [], ◌∷◌, ◌++◌, refl, sym, ap, subst, arith, nat_eq, if◌then◌else◌}
 use Rattle.std.specs.Prelude.{◌&&◌, ◌||◌, option_to_list}
 use Rattle.std.specs.List.{list_any, flat_map}
-use Rattle.std.proofs.lemmas.Bool.{cases_Bool, and_parts, eqb-true}
+use Rattle.std.proofs.lemmas.Bool.{and_parts, eqb-true}
 use Rattle.tap_base.specs.declared.numbers.DocNum.{DocNum}
 use Rattle.tap_rows.specs.declared.tables.Tables.{Tables}
-use Rattle.tap_rows.specs.declared.results.Hit.{Hit}
 use Rattle.tap_rows.specs.declared.results.Entry.{Entry}
 use Rattle.tql_core.specs.declared.term.Var.{Var}
 use Rattle.tql_core.specs.Row.{Row, OfDoc, OfNote}
@@ -15,7 +14,7 @@ use Rattle.time_marks.specs.Probes.{Probe}
 use Rattle.time_marks.proofs.Envs.{bind_same}
 use Rattle.access_plan.specs.declared.reach.Reach.{Reach}
 use Rattle.access_plan.specs.Nearest.{nearest}
-use Rattle.probe_eval.specs.Open.{path_apart, may_go}
+use Rattle.probe_eval.specs.Open.{path_apart}
 use Rattle.probe_eval.specs.Work.{rows_by, total}
 use Rattle.probe_eval.specs.Rests.{all_or, further, rest_of, rest_cost}
 use Rattle.probe_eval.specs.Nested.{new_doc, hit_if, over_rows, holds_here, asked_or, hits_over, has_more, is_once, is_walked, once_cost, work_over}

@@ -11,12 +11,14 @@ pub mod Founds
 pub mod HitSteps
 pub mod Inner
 pub mod LeastSeconds
+pub mod LeftOutLaws
 pub mod LevelLaws
 pub mod LinearLaws
 pub mod ListedRows
 pub mod LiteralLaws
 pub mod Meant
 pub mod Members
+pub mod NarrowLaws
 pub mod Nesting
 pub mod NextRows
 pub mod OpenLaws
@@ -25,6 +27,7 @@ pub mod PairLaws
 pub mod QueryCosts
 pub mod RestLaws
 pub mod RestSteps
+pub mod SingleListLaws
 pub mod Steps
 pub mod Tables
 pub mod WalkRows

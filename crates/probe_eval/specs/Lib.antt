@@ -18,3 +18,6 @@ pub mod Runs
 pub mod Pairs
 pub mod Linear
 pub mod Laws
+pub mod SingleLists
+pub mod Narrowed
+pub mod LeftOut

@@ -1,23 +1,20 @@
 //! The rows that an access of the index reaches.
 
-ghost use Rattle.std.specs.Prelude.{◌≡◌, ◌<◌, ◌≤◌, ℕ, pos, false, length, filter, map, option_copied, Option, Some, None, IfSome};
+ghost use Rattle.std.specs.Prelude.{◌≡◌, ◌≤◌, ℕ, pos, false, filter, map, option_copied, Option, Some, None, IfSome};
 ghost use Rattle.tap_base.specs.declared.numbers.Op.TheVariants.{Eq};
 ghost use Rattle.tql_core.specs.declared.atom.NumField.TheVariants.{Id, DocOf};
 ghost use Rattle.tql_core.specs.declared.atom.TextField.TheVariants.{From, Subject, MsgId, InReplyTo};
 ghost use Rattle.tql_core.specs.declared.atom.ListField.TheVariants.{References, Words};
 ghost use Rattle.tql_core.specs.Row.{OfDoc, OfNote};
 ghost use Rattle.tql_core.specs.Values.{field, both, text_field, both_texts, list_field, has};
-ghost use Rattle.tql_core.specs.Trees.{tree_at};
 ghost use Rattle.access_plan.specs.Views.{access_at};
-ghost use Rattle.probe_eval.specs.Work.{references_of, referenced, rows_by, reached};
+ghost use Rattle.probe_eval.specs.Work.{references_of, referenced, rows_by, all_rows_by};
 
 use crate::row_walk::RowWalk;
-use access_plan::{AccessRef, inner_access};
-use node_pool::{NodeId, Pool};
+use access_plan::AccessRef;
 use row_index::RowIndex;
 use tap_base::{DocNum, Text};
-use tql_core::{Env, RowRef, TNode, Var, number, text};
-use tql_tree::Table;
+use tql_core::{Env, RowRef, Var, number, text};
 
 // Returns the number, if it has 32 bits.
 fn short(num: Option<i128>) -> Option<u32>
@@ -156,20 +153,16 @@ pub fn rows_by<'a>(
     }
 }
 
-/// Returns the rows of an EXISTS whose inner condition is at the number, by its access.
-pub fn inner_rows<'a>(
-    pool: &'a Pool<TNode>,
-    inner: NodeId,
-    var: Var,
-    table: Table,
+/// Returns the rows that an access reaches.
+pub(crate) fn all_rows_by<'a>(
+    access: AccessRef<'a>,
     env: &Env<'a>,
     index: &'a RowIndex,
 ) -> RowWalk<'a>
-    requires { inner.0 < length pool.now }
-    ensures { result ≡ reached index.now var table (tree_at pool.now inner.0) env.now }
+    ensures { result ≡ all_rows_by (access_at access.entry) env.now index.now }
 {
     // Brings into scope that no row arrived after the last second.
     let _docs = index.docs();
     let _notes = index.notes();
-    rows_by(inner_access(pool, inner, var, table), i64::MAX, env, index)
+    rows_by(access, i64::MAX, env, index)
 }

@@ -14,8 +14,8 @@ ghost use Rattle.probe_eval.specs.Conjuncts.{names, fixed_part};
 ghost use Rattle.probe_eval.specs.Work.{work, total};
 ghost use Rattle.probe_eval.specs.Searches.{CanEvaluate, CanEvaluateInner};
 
-use crate::access_rows::inner_rows;
 use crate::bodies::{any_own, body_holds, own_holds};
+use crate::inner_rows::rows_left;
 use crate::names::names;
 use crate::{Answer, RowWalk};
 use node_pool::{NodeId, Pool};
@@ -148,7 +148,7 @@ fn rows_answer<'a, L: Ledger>(
     ensures steps { steps.new ≤ steps.old + work index.now (Exists of table (tree_at pool.now inner.0)) env.now }
     ensures more { steps.old ≤ steps.new }
 {
-    let mut rows = inner_rows(pool, inner, of, table, env, index);
+    let mut rows = rows_left(pool, inner, of, table, env, index);
     match rows.next(steps) {
         None => Answer::False,
         Some(row) => {

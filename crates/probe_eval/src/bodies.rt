@@ -11,7 +11,7 @@ ghost use Rattle.probe_eval.specs.Conjuncts.{fixed_part, own_part};
 ghost use Rattle.probe_eval.specs.Searches.{CanEvaluate, CanEvaluateInner};
 
 use crate::RowWalk;
-use crate::access_rows::inner_rows;
+use crate::inner_rows::rows_left;
 use crate::names::names;
 use node_pool::{NodeId, Pool};
 use row_index::RowIndex;
@@ -66,7 +66,7 @@ fn exists_holds<'a, L: Ledger>(
     ensures steps { steps.new ≤ steps.old + work index.now (Exists var table (tree_at pool.now inner.0)) env.now }
     ensures more { steps.old ≤ steps.new }
 {
-    let mut rows = inner_rows(pool, inner, var, table, env, index);
+    let mut rows = rows_left(pool, inner, var, table, env, index);
     match rows.next(steps) {
         None => false,
         Some(row) => {

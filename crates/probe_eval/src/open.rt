@@ -9,8 +9,8 @@ use access_plan::Known;
 use time_marks::Step;
 use tql_core::{Atom, Base, Env, NumExpr, TextExpr, Var, true_atom};
 
-// Returns whether the variable of the time is known.
-fn base_known(known: Known, base: Base) -> bool
+/// Returns whether the variable of the time is known.
+pub(crate) fn base_known(known: Known, base: Base) -> bool
     ensures { result ≡ base_known (is_known known.entry) base }
 {
     match base {

@@ -6,7 +6,7 @@ ghost use Rattle.probe_eval.specs.Nexts.{IsNext};
 ghost use Rattle.probe_eval.specs.Rests.{further, rest_of, rest_cost};
 
 use crate::Next;
-use crate::access_rows::rows_by;
+use crate::narrow::rows_beside;
 use crate::open::{is_like_others, may_go};
 use access_plan::{Reach, ReachRef};
 use row_index::RowIndex;
@@ -62,7 +62,7 @@ pub(crate) fn rest_exists<'a, L: Ledger>(
         Some(reach) => match order.split_first() {
             None => false,
             Some((_, rest)) => {
-                let mut rows = rows_by(reach.access, mark, env, index);
+                let mut rows = rows_beside(path, reach, mark, env, index);
                 let mut below = Next::Unknown;
                 while let Some(row) = rows.next(steps) {
                     let more = env.bind(reach.var, row);

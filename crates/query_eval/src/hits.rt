@@ -4,6 +4,7 @@ ghost use Rattle.std.specs.Prelude.{◌≡◌, ◌≤◌, ◌<◌, [], length, s
 ghost use Rattle.tap_rows.specs.declared.results.Hit.{Hit};
 ghost use Rattle.query_eval.specs.Hits.{HitsWithRoom};
 
+use crate::fronts::Fronts;
 use crate::kept_hits::KeptHits;
 use std::alloc::Global;
 use std::marker::Model;
@@ -11,9 +12,9 @@ use tap_base::{Memory, Rows};
 use tap_rows::Hit;
 
 /// A list of hits, with room for a hit of each document up to a number.
-#[derive(Drop)]
 pub struct Hits {
     pub(crate) kept: KeptHits,
+    pub(crate) fronts: Fronts,
 }
 
 impl Model for Hits {
@@ -28,6 +29,13 @@ impl Model for Hits {
     ghost invariant = { λ h. HasRoom h.kept × (length h.kept.hits.items ≤ length h.kept.places.items) };
 }
 
+impl Drop for Hits {
+    // One call where hits are dropped, as in an engine, in place of each field.
+    fn drop(self) {
+        let Hits { kept: _, fronts: _ } = self;
+    }
+}
+
 impl Hits {
     /// Returns no hits, with room for none.
     pub fn new(alloc: Global) -> Hits
@@ -38,6 +46,7 @@ impl Hits {
                 hits: Vec::new(alloc),
                 places: Vec::new(alloc),
             },
+            fronts: Fronts::new(alloc),
         }
     }
 
@@ -48,8 +57,11 @@ impl Hits {
         let hits = Vec::with_capacity(alloc, n as usize)?;
         let mut places = Vec::new(alloc);
         places.resize(n as usize, 0)?;
+        let mut fronts = Fronts::new(alloc);
+        fronts.grow_to(n)?;
         Ok(Hits {
             kept: KeptHits { hits, places },
+            fronts,
         })
     }
 
@@ -85,7 +97,7 @@ impl Hits {
     pub(crate) fn into_rows(self) -> Rows<Hit>
         ensures { result ≡ self.hits }
     {
-        let Hits { kept } = self;
+        let Hits { kept, fronts: _ } = self;
         let KeptHits { hits, .. } = kept;
         Rows::from_vec(hits)
     }
@@ -101,6 +113,7 @@ impl Hits {
         if n <= self.room() {
             return Ok(());
         }
+        self.fronts.grow_to(n)?;
         self.kept.grow_to(n)
     }
 }

@@ -3,11 +3,13 @@
 ghost use Rattle.std.specs.Prelude.{◌≡◌, ◌+◌, ◌≤◌, [], length, option_to_list};
 ghost use Rattle.time_marks.specs.Seeks.{CanSeek};
 ghost use Rattle.query_eval.specs.Placed.{IsReady, Stores};
+ghost use Rattle.query_eval.specs.Fronts.{AreDone};
 ghost use Rattle.probe_eval.specs.Nexts.{IsNext};
 ghost use Rattle.probe_eval.specs.Searches.{searched, CanSearch};
 ghost use Rattle.probe_eval.specs.Drivers.{seek_var, hits_at, seek_hits, cost_at, seek_cost};
 ghost use Rattle.query_eval.specs.Driven.{driven_hits, driven_cost};
 
+use crate::fronts::Fronts;
 use crate::kept_hits::KeptHits;
 use crate::listed::collect_listed;
 use crate::nested::collect_hits;
@@ -26,21 +28,24 @@ fn collect_at<'a, L: Ledger>(
     next: &mut Next<'a>,
     env: &Env<'a>,
     into: &mut KeptHits,
+    fronts: &mut Fronts,
     steps: &mut Steps<L>,
 )
     requires search { CanSearch search.now (length env.now + length order.now) }
     requires next { IsNext search.now.probe.now.path env.now next.old }
     requires ready { IsReady into.old }
+    requires fronts { AreDone search.now into.old fronts.old }
     ensures hits { Stores into.old into.new
         (hits_at search.now.seen.now search.now.index.now w (searched search.now) order.now env.now) }
     ensures next { IsNext search.now.probe.now.path env.now next.new }
     ensures ready { IsReady into.new }
     ensures places { length into.new.places.items ≡ length into.old.places.items }
+    ensures fronts { AreDone search.now into.new fronts.new }
     ensures steps { steps.new ≤ steps.old + cost_at search.now.index.now w (searched search.now) order.now env.now }
     ensures more { steps.old ≤ steps.new }
 {
     if let Some(mark) = mark_in(w, value(search.probe.at, env)) {
-        collect_hits(search, order, next, env, mark, into, steps);
+        collect_hits(search, order, next, env, mark, into, fronts, steps);
     }
 }
 
@@ -52,15 +57,18 @@ fn collect_driven<'a, L: Ledger>(
     var: Var,
     w: Window,
     into: &mut KeptHits,
+    fronts: &mut Fronts,
     steps: &mut Steps<L>,
 )
     requires window { CanSeek seek w }
     requires search { CanSearch search.now (1 + length order.now) }
     requires ready { IsReady into.old }
+    requires fronts { AreDone search.now into.old fronts.old }
     ensures hits { Stores into.old into.new
         (driven_hits search.now.seen.now search.now.index.now w (searched search.now) order.now seek var) }
     ensures ready { IsReady into.new }
     ensures places { length into.new.places.items ≡ length into.old.places.items }
+    ensures fronts { AreDone search.now into.new fronts.new }
     ensures steps { steps.new ≤ steps.old + driven_cost search.now.index.now w (searched search.now) order.now seek var }
     ensures more { steps.old ≤ steps.new }
 {
@@ -75,6 +83,7 @@ fn collect_driven<'a, L: Ledger>(
             &mut below,
             &free.bind(var, row),
             into,
+            fronts,
             steps,
         );
     }
@@ -89,22 +98,25 @@ fn collect_walked<'a, L: Ledger>(
     var: Var,
     w: Window,
     into: &mut KeptHits,
+    fronts: &mut Fronts,
     steps: &mut Steps<L>,
 )
     requires window { CanSeek seek w }
     requires search { CanSearch search.now (1 + length order.now) }
     requires ready { IsReady into.old }
+    requires fronts { AreDone search.now into.old fronts.old }
     ensures hits { Stores into.old into.new
         (driven_hits search.now.seen.now search.now.index.now w (searched search.now) order.now seek var) }
     ensures ready { IsReady into.new }
     ensures places { length into.new.places.items ≡ length into.old.places.items }
+    ensures fronts { AreDone search.now into.new fronts.new }
     ensures steps { steps.new ≤ steps.old + driven_cost search.now.index.now w (searched search.now) order.now seek var }
     ensures more { steps.old ≤ steps.new }
 {
     if goes_by_list(search, seek, var) {
         collect_listed(search, seek, var, w, into, steps);
     } else {
-        collect_driven(search, order, seek, var, w, into, steps);
+        collect_driven(search, order, seek, var, w, into, fronts, steps);
     }
 }
 
@@ -115,15 +127,18 @@ pub(crate) fn collect_part<'a, L: Ledger>(
     seek: Seek,
     w: Window,
     into: &mut KeptHits,
+    fronts: &mut Fronts,
     steps: &mut Steps<L>,
 )
     requires window { CanSeek seek w }
     requires search { CanSearch search.now (length (option_to_list (seek_var seek)) + length order.now) }
     requires ready { IsReady into.old }
+    requires fronts { AreDone search.now into.old fronts.old }
     ensures hits { Stores into.old into.new
         (seek_hits search.now.seen.now search.now.index.now w (searched search.now) order.now seek (seek_var seek)) }
     ensures ready { IsReady into.new }
     ensures places { length into.new.places.items ≡ length into.old.places.items }
+    ensures fronts { AreDone search.now into.new fronts.new }
     ensures steps { steps.new ≤ steps.old + seek_cost search.now.index.now w (searched search.now) order.now seek (seek_var seek) }
     ensures more { steps.old ≤ steps.new }
 {
@@ -135,8 +150,9 @@ pub(crate) fn collect_part<'a, L: Ledger>(
             &mut Next::Unknown,
             &Env::new(),
             into,
+            fronts,
             steps,
         ),
-        Some(var) => collect_walked(search, order, seek, var, w, into, steps),
+        Some(var) => collect_walked(search, order, seek, var, w, into, fronts, steps),
     }
 }

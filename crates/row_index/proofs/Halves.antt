@@ -6,7 +6,7 @@ use Rattle.std.specs.List.Sorted.{IsPartitionPoint, IsPartitionedBy}
 use Rattle.std.proofs.lemmas.Int.{ints}
 use Rattle.std.proofs.lemmas.List.{take_all, length-drop}
 use Rattle.std.proofs.lemmas.Bool.{cases_Bool, and_parts}
-use Rattle.row_index.specs.Orders.{Rising, in_window}
+use Rattle.row_index.specs.Orders.{Rising, in_window, from_on}
 
 module _ {A : Type 0} where
   none_pass : (p : A → Bool) (xs : List A) → ((k : ℕ) (d : A) → 0 ≤ k → k < length xs → p (slice_index_or xs k d) ≡ false) → filter p xs ≡ []
@@ -121,3 +121,14 @@ module _ {A : Type 0} (f : A → ℤ) where
 
   pub window_of : (low high : ℤ) (xs ys zs : List A) → ys ≡ filter (λ x. int_lt (f x) high) xs → zs ≡ filter (λ x. not (int_lt (f x) low)) ys → zs ≡ in_window f low high xs
   window_of low high xs ys zs e k = k ∙ rw e (window_is low high xs)
+
+  -- those that aren't before a moment are those from it on
+  pub from_on_is : (first : ℤ) (xs : List A) → filter (λ x. not (int_lt (f x) first)) xs ≡ from_on f first xs
+  from_on_is first [] = refl
+  from_on_is first (x ∷ xs) =
+      let r = from_on_is first xs in
+      let e = not_lt (f x) first in
+      elim (cases_Bool (int_le first (f x))) [
+        | inl l ↦ rw (e, l) (ap (λ z. x ∷ z) r)
+        | inr l ↦ rw (e, l) r
+      ]

@@ -7,4 +7,5 @@ pub mod TextLaws
 pub mod DateLaws
 pub mod PlaceLists
 pub mod ListWindows
+pub mod SingleLists
 pub mod HeldLaws

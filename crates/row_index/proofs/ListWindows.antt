@@ -1,17 +1,17 @@
 -- The part of a posting list that is within a window of arrivals.
-use Rattle.std.proofs.Common.{◌≡◌, ℕ, ◌-◌, ℤ, true, List, [], ◌∷◌, Some, length, map, refl, sym, ap, ◌∙◌, subst, inl, inr, suc, ◌&&◌}
+use Rattle.std.proofs.Common.{◌≡◌, ℕ, ◌-◌, ℤ, true, List, [], ◌∷◌, Option, Some, None, Bool, false, filter, arith, length, map, refl, sym, ap, ◌∙◌, subst, inl, inr, suc, ◌&&◌}
 use Rattle.std.specs.Prelude.{int_le, int_lt, slice_get}
 use Rattle.std.specs.List.{list_all}
 use Rattle.std.specs.Str.{bytes_eq}
 use Rattle.std.proofs.lemmas.Bool.{cases_Bool, and_parts}
 use Rattle.tap_rows.specs.declared.rows.Doc.{Doc}
 use Rattle.tap_rows.specs.Kept.{Each}
-use Rattle.row_index.specs.Walks.{HasRows, at_places}
+use Rattle.row_index.specs.Walks.{HasRows, at_places, put_before}
 use Rattle.row_index.specs.Orders.{Rising, InPlace, in_window, doc_number, doc_arrival, arrival_of, place_arrival}
 use Rattle.row_index.specs.Posts.{places_of, has}
 use Rattle.row_index.specs.Texts.{with_text}
 use Rattle.row_index.proofs.Halves.{rising_kept}
-use Rattle.row_index.proofs.PlaceLists.{own_picked, each_kept, all_own}
+use Rattle.row_index.proofs.PlaceLists.{own_picked, each_kept, all_own, full_rest}
 
 module _ {A B : Type 0} (f : A → ℤ) (g : B → ℤ) (h : A → B) where
   all_mapped : (low : ℤ) (xs : List A) → Each (λ x. g (h x) ≡ f x) xs → list_all (λ x. int_le low (f x)) xs ≡ true → list_all (λ y. int_le low (g y)) (map h xs) ≡ true
@@ -43,7 +43,8 @@ module _ {A B : Type 0} (f : A → ℤ) (g : B → ℤ) (h : A → B) where
   length_mapped [] = refl
   length_mapped (x ∷ xs) = ap (λ n. suc n) (length_mapped xs)
 
-abbrev IsOwn : List Doc → Doc → Type 0
+-- a document stands at its own place
+abbrev pub IsOwn : List Doc → Doc → Type 0
 IsOwn all doc = slice_get all (doc_number doc - 1) ≡ Some doc
 
 own_arrivals : (all docs : List Doc) → Each (IsOwn all) docs → Each (λ doc. place_arrival all (doc_number doc - 1) ≡ doc_arrival doc) docs
@@ -51,14 +52,25 @@ own_arrivals all [] e = tt
 own_arrivals all (doc ∷ docs) e = (ap arrival_of e.0, own_arrivals all docs e.1)
 
 module _ (texts : Doc → List (List ℕ)) (text : List ℕ) (docs : List Doc) (stand : InPlace doc_number doc_arrival docs) where
-  own_listed : Each (IsOwn docs) (with_text texts text docs)
+  -- the documents of a posting list arrived one after another
+  pub listed_arrive : Rising doc_arrival (with_text texts text docs)
+  listed_arrive = rising_kept doc_arrival (λ doc. has bytes_eq text (texts doc)) docs stand.rising
+
+  pub own_listed : Each (IsOwn docs) (with_text texts text docs)
   own_listed = each_kept (IsOwn docs) (λ doc. has bytes_eq text (texts doc)) docs (all_own doc_number docs stand.numbered)
 
   -- the documents of a posting list never fall in arrival
   pub listed_rise : (places : List ℕ) → places ≡ places_of doc_number (with_text texts text docs) → Rising (place_arrival docs) places
   listed_rise places e =
-      let kept = rising_kept doc_arrival (λ doc. has bytes_eq text (texts doc)) docs stand.rising in
-      subst (Rising (place_arrival docs)) (sym e) (rising_mapped doc_arrival (place_arrival docs) (λ doc. doc_number doc - 1) (with_text texts text docs) (own_arrivals docs (with_text texts text docs) own_listed) kept)
+      subst (Rising (place_arrival docs)) (sym e) (rising_mapped doc_arrival (place_arrival docs) (λ doc. doc_number doc - 1) (with_text texts text docs) (own_arrivals docs (with_text texts text docs) own_listed) listed_arrive)
+
+  -- the places of a posting list pick its documents
+  pub listed_picked : (places : List ℕ) → places ≡ places_of doc_number (with_text texts text docs) → at_places docs places ≡ with_text texts text docs
+  listed_picked places e = ap (λ z. at_places docs z) e ∙ own_picked doc_number docs (with_text texts text docs) own_listed
+
+  -- and at each of its places there is one
+  pub listed_has_rows : (places : List ℕ) → places ≡ places_of doc_number (with_text texts text docs) → HasRows docs places
+  listed_has_rows places e = ap length (listed_picked places e) ∙ sym (ap length e ∙ length_mapped doc_arrival (place_arrival docs) (λ doc. doc_number doc - 1) (with_text texts text docs))
 
   module _ (low high : ℤ) (places within : List ℕ) (all : places ≡ places_of doc_number (with_text texts text docs)) (cut : within ≡ in_window (place_arrival docs) low high places) where
     abbrev rows : List Doc
@@ -74,3 +86,52 @@ module _ (texts : Doc → List (List ℕ)) (text : List ℕ) (docs : List Doc) (
     -- and at each of its places there is one
     pub window_has_rows : HasRows docs within
     window_has_rows = ap length window_picked ∙ sym (ap length places_cut ∙ length_mapped doc_arrival (place_arrival docs) (λ doc. doc_number doc - 1) rows)
+
+-- places at each of which there is a document
+module _ (docs : List Doc) where
+  all_first : (low : ℤ) (o : Option Doc) (rest : List Doc) (n : ℕ) (b : Bool) → length (put_before o rest) ≡ suc n → (list_all (λ doc. int_le low (doc_arrival doc)) rest ≡ true → b ≡ true)
+      → list_all (λ doc. int_le low (doc_arrival doc)) (put_before o rest) ≡ true → (int_le low (arrival_of o) && b) ≡ true
+  all_first low None rest n b h f k = absurd (omega (arith, h))
+  all_first low (Some doc) rest n b h f k =
+      let a = and_parts (int_le low doc.arrival) (list_all (λ d. int_le low (doc_arrival d)) rest) k in
+      rw (a.0, f a.1) refl
+
+  all_placed : (low : ℤ) (places : List ℕ) → HasRows docs places → list_all (λ doc. int_le low (doc_arrival doc)) (at_places docs places) ≡ true → list_all (λ place. int_le low (place_arrival docs place)) places ≡ true
+  all_placed low [] h k = refl
+  all_placed low (p ∷ ps) h k =
+      let w = full_rest (slice_get docs p) (at_places docs ps) (length ps) h in
+      all_first low (slice_get docs p) (at_places docs ps) (length ps) (list_all (λ place. int_le low (place_arrival docs place)) ps) h (all_placed low ps w) k
+
+  rising_first : (o : Option Doc) (ps : List ℕ) → HasRows docs ps → length (put_before o (at_places docs ps)) ≡ suc (length ps) → Rising doc_arrival (put_before o (at_places docs ps))
+      → (list_all (λ place. int_le (arrival_of o) (place_arrival docs place)) ps ≡ true) × Rising doc_arrival (at_places docs ps)
+  rising_first None ps w h r = absurd (omega (arith, h))
+  rising_first (Some doc) ps w h r = (all_placed doc.arrival ps w r.0, r.1)
+
+  -- they rise as the documents do
+  pub rising_placed : (places : List ℕ) → HasRows docs places → Rising doc_arrival (at_places docs places) → Rising (place_arrival docs) places
+  rising_placed [] h r = tt
+  rising_placed (p ∷ ps) h r =
+      let w = full_rest (slice_get docs p) (at_places docs ps) (length ps) h in
+      let s = rising_first (slice_get docs p) ps w h r in
+      (s.0, rising_placed ps w s.1)
+
+  module _ (t : ℤ → Bool) where
+    kept_first : (o : Option Doc) (rest kept : List Doc) (n : ℕ) → length (put_before o rest) ≡ suc n → t (arrival_of o) ≡ true → kept ≡ filter (λ doc. t (doc_arrival doc)) rest
+        → put_before o kept ≡ filter (λ doc. t (doc_arrival doc)) (put_before o rest)
+    kept_first None rest kept n h e k = absurd (omega (arith, h))
+    kept_first (Some doc) rest kept n h e k = rw e (ap (λ z. doc ∷ z) k)
+
+    left_first : (o : Option Doc) (rest kept : List Doc) (n : ℕ) → length (put_before o rest) ≡ suc n → t (arrival_of o) ≡ false → kept ≡ filter (λ doc. t (doc_arrival doc)) rest
+        → kept ≡ filter (λ doc. t (doc_arrival doc)) (put_before o rest)
+    left_first None rest kept n h e k = absurd (omega (arith, h))
+    left_first (Some doc) rest kept n h e k = rw e k
+
+    -- places that a test of their arrivals keeps pick the documents that it keeps
+    pub kept_picked : (places : List ℕ) → HasRows docs places → at_places docs (filter (λ place. t (place_arrival docs place)) places) ≡ filter (λ doc. t (doc_arrival doc)) (at_places docs places)
+    kept_picked [] h = refl
+    kept_picked (p ∷ ps) h =
+        let r = kept_picked ps (full_rest (slice_get docs p) (at_places docs ps) (length ps) h) in
+        elim (cases_Bool (t (place_arrival docs p))) [
+          | inl e ↦ rw e (kept_first (slice_get docs p) (at_places docs ps) (at_places docs (filter (λ place. t (place_arrival docs place)) ps)) (length ps) h e r)
+          | inr e ↦ rw e (left_first (slice_get docs p) (at_places docs ps) (at_places docs (filter (λ place. t (place_arrival docs place)) ps)) (length ps) h e r)
+        ]

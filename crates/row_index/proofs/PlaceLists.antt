@@ -1,10 +1,11 @@
 -- Rows picked by their places.
-use Rattle.std.proofs.Common.{◌≡◌, ℕ, suc, ◌+◌, ◌-◌, List, [], ◌∷◌, Option, Some, None, IfSome, filter, Bool, refl, sym, ap, ◌∙◌, subst, inl, inr, arith}
+use Rattle.std.proofs.Common.{◌≡◌, ℕ, zero, suc, ◌+◌, ◌-◌, List, [], ◌∷◌, Option, Some, None, IfSome, filter, Bool, length, drop, refl, sym, ap, ◌∙◌, subst, inl, inr, arith}
+use Rattle.std.proofs.lemmas.Option.{none-some, same_Some}
 use Rattle.std.proofs.lemmas.Bool.{cases_Bool}
 use Rattle.std.specs.Prelude.{slice_get, option_copied}
 use Rattle.std.specs.Borrow.{Bor}
 use Rattle.tap_rows.specs.Kept.{Each}
-use Rattle.row_index.specs.Walks.{at_places, put_before}
+use Rattle.row_index.specs.Walks.{HasRows, at_places, put_before}
 use Rattle.row_index.specs.Orders.{Numbered}
 use Rattle.row_index.specs.Places.{under}
 use Rattle.row_index.specs.Posts.{places_of, with_key, has, Posts}
@@ -54,3 +55,54 @@ module _ {A : Type 0} where
   pub found_under : {K : Type 0} (eq : K → K → Bool) (keys : A → List K) (number : A → ℕ) (rows : List A) (es : List (K × List ℕ)) (key : K) (places : List ℕ) (left : List A) → Numbered number 1 rows → Posts eq keys number rows es → left ≡ at_places rows places → places ≡ under eq key es → left ≡ with_key eq keys key rows
   found_under eq keys number rows es key places left h posts l e =
       found_listed eq keys number rows key places left h l (e ∙ posts key)
+
+-- places at each of which there is a row
+module _ {A : Type 0} where
+  pub full_rest : (o : Option A) (rest : List A) (n : ℕ) → length (put_before o rest) ≡ suc n → length rest ≡ n
+  full_rest None rest n h = absurd (omega (arith, h))
+  full_rest (Some x) rest n h = omega (arith, h)
+
+  put_first : (o : Option A) (rest : List A) (n : ℕ) → length (put_before o rest) ≡ suc n → slice_get (put_before o rest) 0 ≡ o
+  put_first None rest n h = absurd (omega (arith, h))
+  put_first (Some x) rest n h = refl
+
+  put_later : (o : Option A) (rest : List A) (n k : ℕ) → length (put_before o rest) ≡ suc n → slice_get (put_before o rest) (suc k) ≡ slice_get rest k
+  put_later None rest n k h = absurd (omega (arith, h))
+  put_later (Some x) rest n k h = refl
+
+  put_dropped : (o : Option A) (rest : List A) (n k : ℕ) → length (put_before o rest) ≡ suc n → drop (suc k) (put_before o rest) ≡ drop k rest
+  put_dropped None rest n k h = absurd (omega (arith, h))
+  put_dropped (Some x) rest n k h = refl
+
+  full_first : (o : Option A) (rest other : List A) (n m : ℕ) → length (put_before o rest) ≡ suc n → length other ≡ m → length (put_before o other) ≡ suc m
+  full_first None rest other n m h e = absurd (omega (arith, h))
+  full_first (Some x) rest other n m h e = ap (λ k. suc k) e
+
+  -- at each of the places that are left there is a row
+  pub kept_have_rows : (xs : List A) (t : ℕ → Bool) (places : List ℕ) → HasRows xs places → HasRows xs (filter t places)
+  kept_have_rows xs t [] h = refl
+  kept_have_rows xs t (p ∷ ps) h =
+      let r = kept_have_rows xs t ps (full_rest (slice_get xs p) (at_places xs ps) (length ps) h) in
+      elim (cases_Bool (t p)) [
+        | inl e ↦ rw e (full_first (slice_get xs p) (at_places xs ps) (at_places xs (filter t ps)) (length ps) (length (filter t ps)) h r)
+        | inr e ↦ rw e r
+      ]
+
+  -- the row that is picked by a place
+  pub picked_at : (xs : List A) (places : List ℕ) (k place : ℕ) → HasRows xs places → slice_get places k ≡ Some place → slice_get (at_places xs places) k ≡ slice_get xs place
+  picked_at xs [] k place h e = absurd (none-some place e)
+  picked_at xs (p ∷ ps) zero place h e = put_first (slice_get xs p) (at_places xs ps) (length ps) h ∙ ap (λ z. slice_get xs z) (same_Some p place e)
+  picked_at xs (p ∷ ps) (suc k) place h e =
+      put_later (slice_get xs p) (at_places xs ps) (length ps) k h ∙ picked_at xs ps k place (full_rest (slice_get xs p) (at_places xs ps) (length ps) h) e
+
+  -- the rows that are picked behind a place
+  pub picked_behind : (xs : List A) (places : List ℕ) (k : ℕ) → HasRows xs places → at_places xs (drop k places) ≡ drop k (at_places xs places)
+  picked_behind xs places zero h = refl
+  picked_behind xs [] (suc k) h = refl
+  picked_behind xs (p ∷ ps) (suc k) h =
+      picked_behind xs ps k (full_rest (slice_get xs p) (at_places xs ps) (length ps) h) ∙ sym (put_dropped (slice_get xs p) (at_places xs ps) (length ps) k h)
+
+  pub behind_has_rows : (xs : List A) (places : List ℕ) (k : ℕ) → HasRows xs places → HasRows xs (drop k places)
+  behind_has_rows xs places zero h = h
+  behind_has_rows xs [] (suc k) h = refl
+  behind_has_rows xs (p ∷ ps) (suc k) h = behind_has_rows xs ps k (full_rest (slice_get xs p) (at_places xs ps) (length ps) h)

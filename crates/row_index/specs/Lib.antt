@@ -6,3 +6,4 @@ pub mod Posts
 pub mod Texts
 pub mod Dates
 pub mod Held
+pub mod Laws

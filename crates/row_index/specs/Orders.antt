@@ -2,6 +2,7 @@
 use Rattle.std.specs.Prelude.{◌≡◌, ℕ, ◌+◌, ◌<◌, ◌^◌, ℤ, pos, ◌≤ℤ◌}
 use Rattle.std.specs.Prelude.{true, ◌&&◌, Option, Some, None, List, [], ◌∷◌, length, int_le, int_lt, filter, slice_get}
 use Rattle.std.specs.List.{list_all}
+use Rattle.tap_base.specs.declared.numbers.DocNum.{DocNum}
 use Rattle.tap_rows.specs.declared.rows.Doc.{Doc}
 use Rattle.tap_rows.specs.declared.rows.Note.{Note}
 use Rattle.tap_rows.specs.Kept.{Each}
@@ -19,6 +20,10 @@ module _ {A : Type 0} (f : A → ℤ) where
   -- those up to, and with, last
   abbrev pub up_to : ℤ → List A → List A
   up_to last xs = filter (λ x. int_le (f x) last) xs
+
+  -- those from first on
+  abbrev pub from_on : ℤ → List A → List A
+  from_on first xs = filter (λ x. int_le first (f x)) xs
 
 -- the numbers are the places, from n
 abbrev pub Numbered : {A : Type 0} → (A → ℕ) → ℕ → List A → Type 0
@@ -40,6 +45,16 @@ pub record InPlace {A : Type 0} (number : A → ℕ) (arrival : A → ℤ) (rows
 
 abbrev pub doc_number : Doc → ℕ
 doc_number doc = doc.num.0
+
+-- the number of a document, if there is one
+abbrev pub number_of : Option Doc → Option DocNum
+number_of None = None
+number_of (Some doc) = Some doc.num
+
+-- the arrival of a document, if there is one
+abbrev pub arrival_if : Option Doc → Option ℤ
+arrival_if None = None
+arrival_if (Some doc) = Some doc.arrival
 
 abbrev pub doc_arrival : Doc → ℤ
 doc_arrival doc = doc.arrival

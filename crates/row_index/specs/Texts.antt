@@ -1,5 +1,5 @@
 -- The texts by which documents are found.
-use Rattle.std.specs.Prelude.{◌≡◌, ◌+◌, List, ℕ, length}
+use Rattle.std.specs.Prelude.{◌≡◌, ◌+◌, List, ℕ, Bool, true, false, length}
 use Rattle.std.specs.Str.{bytes_eq}
 use Rattle.std.specs.Option.{option_to_list}
 use Rattle.tap_rows.specs.declared.rows.Doc.{Doc}
@@ -47,6 +47,12 @@ texts_of Sender doc = senders doc
 texts_of Subject doc = subjects doc
 texts_of Reference doc = references_in doc
 texts_of Word doc = words_in doc
+
+-- has a document at most one text of this kind?
+abbrev pub is_single : TextKind → Bool
+is_single Reference = false
+is_single Word = false
+is_single _ = true
 
 -- the documents of which one of these texts is the given one
 abbrev pub with_text : (Doc → List (List ℕ)) → List ℕ → List Doc → List Doc

@@ -1,7 +1,7 @@
 //! The rows of some seconds, found by halving: arrivals never fall.
 
 ghost use Rattle.std.specs.Prelude.{◌≡◌, not, int_lt, filter};
-ghost use Rattle.row_index.specs.Orders.{Rising, doc_arrival, note_arrival, place_arrival, in_window, up_to};
+ghost use Rattle.row_index.specs.Orders.{Rising, doc_arrival, note_arrival, place_arrival, in_window, up_to, from_on};
 
 use tap_rows::{KeptDoc, Note};
 
@@ -106,4 +106,20 @@ pub(crate) fn places_within<'a>(
     ensures { result.now ≡ in_window (place_arrival docs.now) low high places.now }
 {
     places_from(docs, places_before(docs, places, high), low)
+}
+
+// Returns the places of documents that arrived up to `last`.
+pub(crate) fn places_up_to<'a>(docs: &[KeptDoc], places: &'a [u32], last: i64) -> &'a [u32]
+    requires { Rising (place_arrival docs.now) places.now }
+    ensures { result.now ≡ up_to (place_arrival docs.now) last places.now }
+{
+    &places[..places.partition_point(|place| arrival_at(docs, *place) <= last)]
+}
+
+// Returns the places of documents that arrived at `first` or later.
+pub(crate) fn places_from_on<'a>(docs: &[KeptDoc], places: &'a [u32], first: i64) -> &'a [u32]
+    requires { Rising (place_arrival docs.now) places.now }
+    ensures { result.now ≡ from_on (place_arrival docs.now) first places.now }
+{
+    &places[places.partition_point(|place| arrival_at(docs, *place) < first)..]
 }

@@ -5,6 +5,7 @@ mod arrivals;
 mod dates;
 mod doc_places;
 mod doc_texts;
+pub mod laws;
 mod note_places;
 mod places;
 mod posting_list;

@@ -186,3 +186,53 @@ fn a_run_finds_the_first_seconds_that_asking_finds(rt: HostRuntime) -> Result<()
     }
     Ok(())
 }
+
+// Twelve documents of one subject and one sender, two a second: their posting lists are long enough to be walked in part.
+const TWELVE: &[u8] =
+    b"as ann\nat 100\nmail\nSubject: one\nFrom: a@x\n\n.\nmail\nSubject: one\nFrom: a@x\n\n.\n\
+      at 101\nmail\nSubject: one\nFrom: a@x\n\n.\nmail\nSubject: one\nFrom: a@x\n\n.\n\
+      at 102\nmail\nSubject: one\nFrom: a@x\n\n.\nmail\nSubject: one\nFrom: a@x\n\n.\n\
+      at 103\nmail\nSubject: one\nFrom: a@x\n\n.\nmail\nSubject: one\nFrom: a@x\n\n.\n\
+      at 104\nmail\nSubject: one\nFrom: a@x\n\n.\nmail\nSubject: one\nFrom: a@x\n\n.\n\
+      at 105\nmail\nSubject: one\nFrom: a@x\n\n.\nmail\nSubject: one\nFrom: a@x\n\n.\n\
+      at 110\n";
+
+#[test]
+fn long_posting_lists_give_what_asking_gives(rt: HostRuntime) -> Result<(), Memory> {
+    let rows: [(&[u8], &[u8]); 5] = [
+        // a later one of its subject
+        (
+            b"EXISTS (r: DOC WHERE r.subject = m.subject AND r.id > m.id)",
+            b"doc 1 first 100\ndoc 2 first 101\ndoc 3 first 101\ndoc 4 first 102\ndoc 5 first 102\ndoc 6 first 103\n\
+              doc 7 first 103\ndoc 8 first 104\ndoc 9 first 104\ndoc 10 first 105\ndoc 11 first 105\n",
+        ),
+        // an earlier one of its subject
+        (
+            b"EXISTS (r: DOC WHERE r.subject = m.subject AND m.id > r.id)",
+            b"doc 2 first 100\ndoc 3 first 101\ndoc 4 first 101\ndoc 5 first 102\ndoc 6 first 102\ndoc 7 first 103\n\
+              doc 8 first 103\ndoc 9 first 104\ndoc 10 first 104\ndoc 11 first 105\ndoc 12 first 105\n",
+        ),
+        // one of its sender, more than a second later
+        (
+            b"EXISTS (r: DOC WHERE r.from = m.from AND r.id > m.id AND r.ts > m.ts + 1 SECONDS)",
+            b"doc 1 first 102\ndoc 2 first 102\ndoc 3 first 103\ndoc 4 first 103\n\
+              doc 5 first 104\ndoc 6 first 104\ndoc 7 first 105\ndoc 8 first 105\n",
+        ),
+        // the last of its subject, at some second
+        (
+            b"NOT EXISTS (r: DOC WHERE r.subject = m.subject AND r.id > m.id)",
+            b"doc 2 first 100\ndoc 4 first 101\ndoc 6 first 102\ndoc 8 first 103\ndoc 10 first 104\ndoc 12 first 105\n",
+        ),
+        // none of its sender in the two seconds before
+        (
+            b"NOT EXISTS (r: DOC WHERE r.from = m.from AND r.ts >= m.ts - 2 SECONDS AND r.id < m.id)",
+            b"doc 1 first 100\n",
+        ),
+    ];
+    for (condition, want) in rows {
+        let (ran, asked) = finds(rt.alloc(), TWELVE, condition, 98, 110, want)?;
+        assert!(rt; ran);
+        assert!(rt; asked);
+    }
+    Ok(())
+}

@@ -4,7 +4,7 @@ use Rattle.tql_core.specs.Condition.{Exists}
 use Rattle.tql_core.specs.Trees.{tree_at}
 use Rattle.tql_core.specs.Holds.{truth}
 use Rattle.tql_core.specs.Values.{bind}
-use Rattle.probe_eval.specs.Work.{work, reached}
+use Rattle.probe_eval.specs.Work.{work}
 use Rattle.probe_eval.specs.Conjuncts.{fixed_part, own_part}
 use Rattle.probe_eval.proofs.ConjunctLaws.{fixed_false, own_true, own_false, later_steps, own_steps, fixed_steps}
 use Rattle.probe_eval.proofs.Inner.{no_row, first_row, later_row}
@@ -17,24 +17,21 @@ body_holds-returns-in-Exists-clause-steps g t c =
 
 pub exists_holds-returns-in-None-clause-truth : goal.exists_holds-returns-in-None-clause-truth
 exists_holds-returns-in-None-clause-truth g t c =
-    let r : c.inner_rows-rows.result ≡ reached c.args.index.now c.args.var c.args.table (tree_at c.args.pool.now c.args.inner.0) c.args.env.now = search rules in
-    let e : c.inner_rows-rows.result ≡ [] = search rules in
-    sym (no_row c.args.index.now (tree_at c.args.pool.now c.args.inner.0) c.args.var c.args.table c.args.env.now c.inner_rows-rows.result r e)
+    let e : c.rows_left-rows.result ≡ [] = search rules in
+    sym (no_row c.args.index.now (tree_at c.args.pool.now c.args.inner.0) c.args.var c.args.table c.args.env.now c.rows_left-rows.result c.rows_left-rows.ensures.rows e)
 
 pub exists_holds-returns-then-body_holds-clause-truth : goal.exists_holds-returns-then-body_holds-clause-truth
 exists_holds-returns-then-body_holds-clause-truth g t c =
-    let r : c.inner_rows-rows.result ≡ reached c.args.index.now c.args.var c.args.table (tree_at c.args.pool.now c.args.inner.0) c.args.env.now = search rules in
-    let e : c.inner_rows-rows.result ≡ row_of c.in-Some.row ∷ c.next.new.self = search rules in
+    let e : c.rows_left-rows.result ≡ row_of c.in-Some.row ∷ c.next.new.self = search rules in
     let h : truth c.args.index.now (pos 0) (tree_at c.args.pool.now c.args.inner.0) (bind c.args.var (row_of c.in-Some.row) c.args.env.now) ≡ true = search rules in
-    let a = first_row c.args.index.now (tree_at c.args.pool.now c.args.inner.0) c.args.var c.args.table c.args.env.now c.inner_rows-rows.result r c.next.new.self (row_of c.in-Some.row) e h in
+    let a = first_row c.args.index.now (tree_at c.args.pool.now c.args.inner.0) c.args.var c.args.table c.args.env.now c.rows_left-rows.result c.rows_left-rows.ensures.rows c.next.new.self (row_of c.in-Some.row) e h in
     search (rules, a)
 
 pub exists_holds-returns-else-body_holds-clause-truth : goal.exists_holds-returns-else-body_holds-clause-truth
 exists_holds-returns-else-body_holds-clause-truth g t c =
-    let r : c.inner_rows-rows.result ≡ reached c.args.index.now c.args.var c.args.table (tree_at c.args.pool.now c.args.inner.0) c.args.env.now = search rules in
-    let e : c.inner_rows-rows.result ≡ row_of c.in-Some.row ∷ c.next.new.self = search rules in
+    let e : c.rows_left-rows.result ≡ row_of c.in-Some.row ∷ c.next.new.self = search rules in
     let h : truth c.args.index.now (pos 0) (tree_at c.args.pool.now c.args.inner.0) (bind c.args.var (row_of c.in-Some.row) c.args.env.now) ≡ false = search rules in
-    let a = later_row c.args.index.now (tree_at c.args.pool.now c.args.inner.0) c.args.var c.args.table c.args.env.now c.inner_rows-rows.result r c.next.new.self (row_of c.in-Some.row) e h in
+    let a = later_row c.args.index.now (tree_at c.args.pool.now c.args.inner.0) c.args.var c.args.table c.args.env.now c.rows_left-rows.result c.rows_left-rows.ensures.rows c.next.new.self (row_of c.in-Some.row) e h in
     search (rules, a)
 
 pub any_later-returns-then-own_holds-clause-truth : goal.any_later-returns-then-own_holds-clause-truth

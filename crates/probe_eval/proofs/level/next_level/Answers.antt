@@ -1,5 +1,4 @@
-use Rattle.std.proofs.Common.{rules, ◌≡◌, ◌≤◌, ◌+◌, ◌∷◌, ◌∙◌, true, false, None, Some, ap, length, subst}
-use Rattle.tql_core.specs.Values.{lookup}
+use Rattle.std.proofs.Common.{rules, ◌≡◌, ◌≤◌, ◌+◌, ◌∷◌, ◌∙◌, true, false, Some, ap, length, subst}
 use Rattle.access_plan.specs.Views.{reach_at}
 use Rattle.probe_eval.specs.Searches.{searched}
 use Rattle.probe_eval.specs.Rests.{further}

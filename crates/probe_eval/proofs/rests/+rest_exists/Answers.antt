@@ -1,12 +1,17 @@
-use Rattle.std.proofs.Common.{rules, ◌≡◌, ◌≤◌, ◌+◌, ◌∷◌, ◌&&◌, true, false, None, arith, to_z, of_z, w64}
+use Rattle.std.proofs.Common.{rules, ◌≡◌, ◌≤◌, ◌+◌, ◌∷◌, ◌&&◌, true, false, ◌∙◌, None, arith, to_z, of_z, w64}
+use Rattle.std.specs.List.{list_any}
 use Rattle.tql_core.specs.Bindings.{row_of}
 use Rattle.tql_core.specs.Values.{bind}
 use Rattle.access_plan.specs.Nearest.{nearest}
+use Rattle.access_plan.specs.Views.{access_at}
 use Rattle.probe_eval.specs.Open.{path_apart, may_go}
 use Rattle.probe_eval.specs.Nexts.{IsNext}
-use Rattle.probe_eval.specs.Rests.{rest_of, decides, rest_cost}
+use Rattle.probe_eval.specs.Rests.{rest_of, decides, rest_cost, until}
+use Rattle.probe_eval.specs.Narrowed.{LeavesOut}
+use Rattle.probe_eval.specs.Work.{rows_by, total}
 use Rattle.std.proofs.lemmas.Bool.{and_parts}
 use Rattle.probe_eval.proofs.AlikeRows.{none_left}
+use Rattle.probe_eval.proofs.NarrowLaws.{any_left, until_left, begin_step}
 use Rattle.probe_eval.proofs.NextRows.{next_alike}
 use Rattle.probe_eval.proofs.Steps.{until_step, or_none}
 use Rattle.probe_eval.proofs.RestSteps.{stopped, all_there, any_step}
@@ -27,6 +32,25 @@ pub rest_exists-requires : goal.rest_exists-requires
 rest_exists-requires g t c κs within =
     let by = c.loop-row.invariant.next (row_of c.in-Some-next.row) in
     search (rules, by)
+
+pub loop-row-init : goal.loop-row-init
+loop-row-init g t c =
+    let T = c.args.index.now in
+    let path = c.args.path.now in
+    let env = c.args.env.now in
+    let mark = to_z w64 (of_z w64 c.args.mark) in
+    let v = c.in-Some.reach.var in
+    let rest = c.in-Some-split_first.rest.now in
+    let rows = rows_by mark (access_at c.in-Some.reach.access) env T in
+    let whole : rest_of T path mark c.args.order.now env ≡ list_any (λ row. rest_of T path mark rest (bind v row env)) rows = search rules in
+    let all : rest_cost T path mark c.args.order.now env ≡ total (λ row. 1 + rest_cost T path mark rest (bind v row env)) (until (decides T path mark rest env v) rows) = search rules in
+    let out : LeavesOut path mark v env rows c.rows_beside-rows.result = c.rows_beside-rows.ensures in
+    record {
+      same = whole ∙ any_left path v env mark T rest rows c.rows_beside-rows.result out;
+      steps = begin_step _ _ _ _ (until_left path v env mark T rest rows c.rows_beside-rows.result out (λ row. 1 + rest_cost T path mark rest (bind v row env))) all;
+      more = omega arith;
+      next = search rules;
+    }
 
 pub loop-row-preserved : goal.loop-row-preserved
 loop-row-preserved g t c =

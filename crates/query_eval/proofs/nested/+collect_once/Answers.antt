@@ -1,4 +1,4 @@
-use Rattle.std.proofs.Common.{rules, true, ◌≡◌, ◌≤◌, ◌+◌, ◌∷◌, ◌∙◌, None, Some, arith, length, refl, sym, ap, to_z, of_z, w64}
+use Rattle.std.proofs.Common.{rules, true, ◌≡◌, ◌≤◌, ◌+◌, ◌∷◌, ◌∙◌, Some, arith, length, refl, sym, ap, to_z, of_z, w64}
 use Rattle.std.specs.Prelude.{option_to_list}
 use Rattle.tql_core.specs.Bindings.{row_of}
 use Rattle.tql_core.specs.Row.{OfDoc, OfNote}
@@ -15,21 +15,32 @@ use Rattle.probe_eval.specs.Answers.{IsNever, query_var}
 use Rattle.probe_eval.proofs.AnswerLaws.{never_hits}
 use Rattle.probe_eval.proofs.HitSteps.{doc_hits, note_hits, doc_cost}
 use Rattle.probe_eval.proofs.LevelLaws.{level_steps}
+use Rattle.query_eval.specs.Fronts.{AreBehind}
 use Rattle.query_eval.proofs.HitSteps.{level_hits}
+use Rattle.query_eval.proofs.FrontLaws.{behind_hits, behind_cost, passed_on}
 use Rattle.query_eval.proofs.nested.+collect_once.Goals as goal
 
 pub loop-row-init : goal.loop-row-init
 loop-row-init g t c =
     let mark = to_z w64 (of_z w64 c.args.mark) in
+    let T = c.args.search.now.index.now in
     let p = probe_in c.args.search.now.pool.now c.args.search.now.probe.now in
-    let v : IsLevel c.args.search.now.seen.now c.args.search.now.index.now p mark c.args.order.now c.args.env.now c.in-Some.level = search rules in
-    let q : c.rows_by-rows.result ≡ rows_at c.args.search.now.index.now mark c.args.env.now c.in-Some.level = search rules in
-    let s : c.next_level.new.steps + level_cost c.args.search.now.index.now p mark c.args.env.now (Some c.in-Some.level) ≤ c.args.steps.now + work_over c.args.search.now.index.now p mark c.args.sure c.args.order.now c.args.env.now = search rules in
+    let level = c.in-Some.level in
+    let all = rows_at T mark c.args.env.now level in
+    let n = length c.args.into.now.places.items in
+    let kept = c.args.into.now.hits.items in
+    let v : IsLevel c.args.search.now.seen.now T p mark c.args.order.now c.args.env.now level = search rules in
+    let q : AreBehind c.args.search.now.seen.now n kept mark level.reach.var all c.open_rows-rows.result = search rules in
+    let s : c.next_level.new.steps + level_cost T p mark c.args.env.now (Some level) ≤ c.args.steps.now + work_over T p mark c.args.sure c.args.order.now c.args.env.now = search rules in
+    let walk = level_steps T p mark c.args.env.now level all _ _ refl s in
+    let fewer = behind_cost (λ row. 1 + work_over T p mark level.sure level.rest.now (bind level.reach.var row c.args.env.now)) c.args.search.now.seen.now n kept mark level.reach.var all _ q in
     record {
-      hits = level_hits c.args.search.now.seen.now c.args.search.now.index.now p mark c.args.order.now c.args.env.now c.in-Some.level c.rows_by-rows.result _ _ v q;
-      ready = c.requires.ready;
+      hits = level_hits c.args.search.now.seen.now T p mark c.args.order.now c.args.env.now level all n kept v refl
+          ∙ behind_hits c.args.search.now.seen.now T p mark level.rest.now c.args.env.now level.reach.var n kept all _ q;
+      ready = c.requires.collect.ready;
       places = refl;
-      steps = level_steps c.args.search.now.index.now p mark c.args.env.now c.in-Some.level c.rows_by-rows.result _ _ q s;
+      fronts = c.open_rows-rows.ensures.fronts;
+      steps = omega (arith, walk, fewer);
       more = c.next_level.ensures.more;
       next = λ row. tt;
     }
@@ -50,6 +61,7 @@ loop-row-preserved g t c =
       hits = hits_step _ _ _ _ _ _ _ _ (row_of c.in-Some-next.row) c.loop-row.invariant.hits e h c.collect_once.ensures.places;
       ready = c.collect_once.ensures.ready;
       places = c.collect_once.ensures.places ∙ c.loop-row.invariant.places;
+      fronts = c.collect_once.ensures.fronts;
       steps = cost_step _ _ _ _ _ _ _ (row_of c.in-Some-next.row) c.loop-row.invariant.steps e s k;
       more = omega (arith, i, s, m);
       next = λ row. next_alike c.args.search.now.probe.now.path c.in-Some.level.reach.var (row_of c.in-Some-next.row) row c.args.env.now c.collect_once.new.next n;
@@ -61,6 +73,14 @@ returns-in-Some-OfDoc-clause-hits g t c =
     let e : lookup 0 c.args.env.now ≡ Some (OfDoc c.in-Some-OfDoc.doc.now) = search rules in
     let h : c.collect_pair.new.into.hits.items ≡ keeping (length c.args.into.now.places.items) c.args.into.now.hits.items (option_to_list (hit_if (holds_here c.args.search.now.index.now p c.args.mark c.args.order.now c.args.env.now) c.args.mark (new_doc c.args.search.now.seen.now c.in-Some-OfDoc.doc.now))) = search rules in
     h ∙ ap (keeping (length c.args.into.now.places.items) c.args.into.now.hits.items) (sym (doc_hits c.args.search.now.seen.now c.args.search.now.index.now p c.args.mark c.args.order.now c.args.env.now c.in-Some-OfDoc.doc.now e))
+
+pub returns-in-Some-OfDoc-clause-fronts : goal.returns-in-Some-OfDoc-clause-fronts
+returns-in-Some-OfDoc-clause-fronts g t c =
+    let p = probe_in c.args.search.now.pool.now c.args.search.now.probe.now in
+    let n = length c.args.into.now.places.items in
+    let hits = option_to_list (hit_if (holds_here c.args.search.now.index.now p c.args.mark c.args.order.now c.args.env.now) c.args.mark (new_doc c.args.search.now.seen.now c.in-Some-OfDoc.doc.now)) in
+    let h : c.collect_pair.new.into.hits.items ≡ keeping n c.args.into.now.hits.items hits = search rules in
+    passed_on c.args.search.now.seen.now c.args.search.now.index.now.docs n (length c.collect_pair.new.into.places.items) c.args.into.now.hits.items c.collect_pair.new.into.hits.items c.args.fronts.now.fronts.items hits c.collect_pair.ensures.places h c.requires.fronts
 
 pub returns-in-Some-OfDoc-clause-steps : goal.returns-in-Some-OfDoc-clause-steps
 returns-in-Some-OfDoc-clause-steps g t c =
@@ -84,7 +104,8 @@ collect_once-requires g t c κs within =
     let v : IsLevel c.args.search.now.seen.now c.args.search.now.index.now p mark c.args.order.now c.args.env.now c.in-Some.level = search rules in
     let sure = v.sure (row_of c.in-Some-next.row) in
     let fewer = v.fewer in
-    search (rules, by, sure, fewer)
+    let fronts = c.loop-row.invariant.fronts in
+    search (rules, by, sure, fewer, fronts)
 
 pub returns-then-level-eq0-clause-hits : goal.returns-then-level-eq0-clause-hits
 returns-then-level-eq0-clause-hits g t c =

@@ -6,6 +6,7 @@ use Rattle.probe_eval.specs.Nexts.{IsNext}
 use Rattle.time_marks.specs.Views.{probe_in}
 use Rattle.query_eval.specs.Lowest.{keeping}
 use Rattle.query_eval.specs.Placed.{IsReady}
+use Rattle.query_eval.specs.Fronts.{AreDone}
 use Rattle.probe_eval.specs.Work.{total}
 use Rattle.probe_eval.specs.Nested.{hits_over, work_over}
 use Rattle.query_eval.proofs.nested.+collect_once.Given as goal
@@ -15,6 +16,7 @@ invariant-loop-row g l = record {
   hits : keeping (length l.fn.into.places.items) l.fn.into.hits.items (hits_over l.fn.search.seen.now l.fn.search.index.now (probe_in l.fn.search.pool.now l.fn.search.probe.now) l.fn.mark l.fn.order l.fn.env) ≡ keeping (length l.into.places.items) l.into.hits.items (flat_map (λ row. hits_over l.fn.search.seen.now l.fn.search.index.now (probe_in l.fn.search.pool.now l.fn.search.probe.now) l.fn.mark l.level.rest.now (bind l.level.reach.var row l.fn.env)) l.rows);
   ready : IsReady l.into;
   places : length l.into.places.items ≡ length l.fn.into.places.items;
+  fronts : AreDone l.fn.search l.into l.fronts;
   steps : l.steps + total (λ row. 1 + work_over l.fn.search.index.now (probe_in l.fn.search.pool.now l.fn.search.probe.now) l.fn.mark l.level.sure l.level.rest.now (bind l.level.reach.var row l.fn.env)) l.rows ≤ l.fn.steps + work_over l.fn.search.index.now (probe_in l.fn.search.pool.now l.fn.search.probe.now) l.fn.mark l.fn.sure l.fn.order l.fn.env;
   more : l.fn.steps ≤ l.steps;
   next : (row : Row) → IsNext l.fn.search.probe.now.path (bind l.level.reach.var row l.fn.env) l.below;

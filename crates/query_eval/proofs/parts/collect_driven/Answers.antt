@@ -25,6 +25,7 @@ loop-row-preserved g c =
       hits = hits_step _ _ _ _ _ _ _ _ (row_of c.in-Some.row) c.loop-row.invariant.hits e h c.collect_at.ensures.places;
       ready = c.collect_at.ensures.ready;
       places = c.collect_at.ensures.places ∙ c.loop-row.invariant.places;
+      fronts = c.collect_at.ensures.fronts;
       steps = cost_step _ _ _ _ _ _ _ (row_of c.in-Some.row) c.loop-row.invariant.steps e s k;
       more = omega (arith, i, s, m);
       next = λ row. next_alike c.args.search.now.probe.now.path c.args.var (row_of c.in-Some.row) row [] c.collect_at.new.next n;

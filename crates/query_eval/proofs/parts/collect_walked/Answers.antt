@@ -7,6 +7,7 @@ use Rattle.probe_eval.specs.Listed.{goes_by_list, listed_hits}
 use Rattle.probe_eval.proofs.ListedRows.{listed_rows}
 use Rattle.query_eval.specs.Lowest.{keeping}
 use Rattle.query_eval.proofs.Steps.{rows_within}
+use Rattle.query_eval.proofs.FrontLaws.{passed_on}
 use Rattle.query_eval.proofs.parts.collect_walked.Goals as goal
 
 pub returns-then-goes_by_list-clause-hits : goal.returns-then-goes_by_list-clause-hits
@@ -26,3 +27,12 @@ returns-then-goes_by_list-clause-steps g c =
     let k : c.collect_listed.new.steps ≤ c.args.steps.now + length rows = search rules in
     let l = rows_within (λ row. cost_at s.index.now c.args.w p c.args.order.now (bind c.args.var row [])) rows in
     omega (arith, k, l)
+
+pub returns-then-goes_by_list-clause-fronts : goal.returns-then-goes_by_list-clause-fronts
+returns-then-goes_by_list-clause-fronts g c =
+    let s = c.args.search.now in
+    let p = probe_in s.pool.now s.probe.now in
+    let n = length c.args.into.now.places.items in
+    let hits = flat_map (listed_hits s.seen.now c.args.w p c.args.var) (walked s.index.now c.args.w p c.args.seek c.args.var) in
+    let h : c.collect_listed.new.into.hits.items ≡ keeping n c.args.into.now.hits.items hits = search rules in
+    passed_on s.seen.now s.index.now.docs n (length c.collect_listed.new.into.places.items) c.args.into.now.hits.items c.collect_listed.new.into.hits.items c.args.fronts.now.fronts.items hits c.collect_listed.ensures.places h c.requires.fronts

@@ -10,6 +10,7 @@ use Rattle.probe_eval.proofs.Founds.{part_fits}
 use Rattle.probe_eval.proofs.Steps.{get_in}
 use Rattle.probe_eval.proofs.Steps.{part_step, rest_at, item_at}
 use Rattle.query_eval.proofs.Steps.{hits_step}
+use Rattle.query_eval.proofs.FrontLaws.{passed_empty}
 use Rattle.query_eval.proofs.runs.collect_parts.Goals as goal
 
 pub collect_part-requires-clause-search : goal.collect_part-requires-clause-search
@@ -25,6 +26,9 @@ collect_part-requires-clause-search g c =
       node = f.node;
       room = subst (λ z. length (option_to_list (seek_var part.seek)) + length z + nested (tree_at q.pool part.probe.body.0) ≤ 16) (sym o) f.room;
     }
+
+pub collect_part-requires-clause-fronts : goal.collect_part-requires-clause-fronts
+collect_part-requires-clause-fronts g c = passed_empty _ _ _ _ _ c.clear.ensures
 
 pub loop-place-preserved : goal.loop-place-preserved
 loop-place-preserved g c =

@@ -1,0 +1,16 @@
+use Rattle.std.proofs.Common.{rules, ◌≡◌, true}
+use Rattle.std.specs.Prelude.{◌≤ℤ◌}
+use Rattle.row_index.specs.contracts.text_kind.TextKindPartialEq.TheImpl as kind
+use Rattle.query_eval.proofs.FrontLaws.{kind_is}
+use Rattle.query_eval.proofs.fronts.is_front_of.Goals as goal
+
+pub returns : goal.returns
+returns c = λ t.
+    let k : kind.ghosts.eq c.args.front.now.kind c.args.kind ≡ true = search rules in
+    let f : c.args.front.now.first ≡ c.args.first = search rules in
+    let m : c.args.front.now.mark ≤ℤ c.args.mark = search rules in
+    record {
+      kind_is = kind_is c.args.front.now.kind c.args.kind k;
+      first_is = f;
+      by = m;
+    }

@@ -1,0 +1,74 @@
+-- Fronts of posting lists: documents of which no later hit changes what is stored.
+use Rattle.std.specs.Prelude.{◌≡◌, ◌⊎◌, ℕ, ℤ, ◌≤ℤ◌, Bool, List, [], ◌∷◌, ◌++◌, length, map, take, option_to_list}
+use Rattle.tap_rows.specs.declared.rows.Doc.{Doc}
+use Rattle.tap_rows.specs.declared.results.Hit.{Hit}
+use Rattle.tap_rows.specs.declared.results.Entry.{Entry}
+use Rattle.tap_rows.specs.Kept.{Each}
+use Rattle.tql_core.specs.declared.term.Var.{Var}
+use Rattle.tql_core.specs.Row.{Row, OfDoc}
+use Rattle.row_index.specs.declared.text_kind.TextKind.{TextKind}
+use Rattle.row_index.specs.Orders.{doc_arrival, up_to}
+use Rattle.row_index.specs.Texts.{texts_of, with_text}
+use Rattle.probe_eval.specs.declared.search.Search.{Search}
+use Rattle.probe_eval.specs.Nested.{hit_if, new_doc}
+use Rattle.query_eval.specs.declared.kept_hits.KeptHits.{KeptHits}
+use Rattle.query_eval.specs.declared.fronts.Front.{Front}
+use Rattle.query_eval.specs.declared.fronts.Fronts.{Fronts}
+use Rattle.query_eval.specs.Lowest.{keeping}
+
+-- no hit of the document with this mark or a later one changes the stored hits
+pub record IsDone (entries : List Entry) (n : ℕ) (kept : List Hit) (b : ℤ) (d : Doc) : Type 0 where
+  pub same : (mark : ℤ) (passed : Bool) → b ≤ℤ mark → kept ≡ keeping n kept (option_to_list (hit_if passed mark (new_doc entries d)))
+
+-- the list begins with the document of this number
+abbrev pub Begins : ℕ → List Doc → Type 0
+Begins first [] = ⊥
+Begins first (d ∷ ds) = d.num.0 ≡ first
+
+-- of each list of this kind that begins with this document, so many documents at its front are done
+pub record IsPassed (entries : List Entry) (docs : List Doc) (n : ℕ) (kept : List Hit) (kind : TextKind) (first : ℕ) (b : ℤ) (len : ℕ) : Type 0 where
+  pub done : (text : List ℕ) → Begins first (with_text (texts_of kind) text docs)
+      → Each (IsDone entries n kept b) (take len (with_text (texts_of kind) text docs))
+
+-- the same of a front
+abbrev pub IsFront : List Entry → List Doc → ℕ → List Hit → Front → Type 0
+IsFront entries docs n kept front = IsPassed entries docs n kept front.kind front.first front.mark front.len
+
+-- the documents of each front are done
+pub record ArePassed (entries : List Entry) (docs : List Doc) (n : ℕ) (kept : List Hit) (fronts : List Front) : Type 0 where
+  pub each : Each (IsFront entries docs n kept) fronts
+
+-- the same over the rows and deliveries of a search
+abbrev pub AreDone : Search → KeptHits → Fronts → Type 0
+AreDone s into fronts = ArePassed s.seen.now s.index.now.docs (length into.places.items) into.hits.items fronts.fronts.items
+
+-- the front is that of the list of this kind that begins with this document, and holds at this mark
+pub record IsFrontOf (kind : TextKind) (first : ℕ) (b : ℤ) (front : Front) : Type 0 where
+  pub kind_is : front.kind ≡ kind
+  pub first_is : front.first ≡ first
+  pub by : front.mark ≤ℤ b
+
+-- these documents are done
+abbrev pub AreDoneDocs : Search → KeptHits → ℤ → List Doc → Type 0
+AreDoneDocs s into b docs = Each (IsDone s.seen.now (length into.places.items) into.hits.items b) docs
+
+-- the documents that arrived by the mark behind those that are done
+pub record AreDocsBehind (s : Search) (into : KeptHits) (b : ℤ) (docs left : List Doc) : Type 0 where
+  pub passed : List Doc
+  pub others : List Doc
+  pub docs_are : docs ≡ passed ++ others
+  pub done : AreDoneDocs s into b passed
+  pub left_are : left ≡ up_to doc_arrival b others
+
+-- rows of the query's documents are left out: those that are done at the front, and those that arrived after the mark
+pub record AreRowsBehind (entries : List Entry) (n : ℕ) (kept : List Hit) (b : ℤ) (v : Var) (rows left : List Row) : Type 0 where
+  pub passed : List Doc
+  pub others : List Doc
+  pub rows_are : rows ≡ map OfDoc (passed ++ others)
+  pub done : Each (IsDone entries n kept b) passed
+  pub left_are : left ≡ map OfDoc (up_to doc_arrival b others)
+  pub query_var : v.0 ≡ 0
+
+-- all rows of a variable, or those that may change the stored hits
+abbrev pub AreBehind : List Entry → ℕ → List Hit → ℤ → Var → List Row → List Row → Type 0
+AreBehind entries n kept b v rows left = (left ≡ rows) ⊎ AreRowsBehind entries n kept b v rows left

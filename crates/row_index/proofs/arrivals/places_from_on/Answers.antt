@@ -1,0 +1,11 @@
+use Rattle.std.proofs.Common.{rules, int_lt, ◌∙◌}
+use Rattle.std.proofs.lemmas.List.Sorted.{IsPartitionPoint-from_clause}
+use Rattle.row_index.specs.Orders.{place_arrival}
+use Rattle.row_index.proofs.Halves.{before_first, rest_as_taken, from_on_is}
+use Rattle.row_index.proofs.arrivals.places_from_on.Goals as goal
+
+pub returns : goal.returns
+returns c =
+    let parted = before_first (place_arrival c.args.docs.now) c.args.first _ c.requires in
+    let point = IsPartitionPoint-from_clause (λ x. int_lt (place_arrival c.args.docs.now x) c.args.first) _ _ c.partition_point.ensures.partitioned parted (λ a r q k. search rules) in
+    rest_as_taken _ _ _ c.partition_point.ensures.bound point ∙ from_on_is (place_arrival c.args.docs.now) c.args.first c.args.places.now
