@@ -120,8 +120,8 @@ pub record Reaches {S : Type 0} (g : Ghosts S) (old mid : Held S) : Type 0 where
 
 module _ {S : Type 0} (g : Ghosts S) (old new : Held S) where
   -- after a call that succeeds the transaction goes on
-  abbrev pub GoesOn : {T : Type 0} → Result T Error → Type 0
-  GoesOn result = HasCleanDisk (state g new) → IsTrue (state g old).in_transaction → OnOk result (Reaches g old new)
+  abbrev pub ReachesOnSuccess : {T : Type 0} → Result T Error → Type 0
+  ReachesOnSuccess result = HasCleanDisk (state g new) → IsTrue (state g old).in_transaction → OnOk result (Reaches g old new)
 
   -- a call in a transaction that fails does so by this, between the states before and after it
   abbrev pub FailsBy : {T : Type 0} → Result T Error → (State → State → Error → Type 0) → Type 0

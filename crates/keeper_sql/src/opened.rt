@@ -8,7 +8,7 @@ ghost use Rattle.sqlite.specs.State.{HasCleanDisk, Survives, IsLive};
 ghost use Rattle.keeper_sql.specs.Store.{Undone, OpensTo, OpensAt, IsAfterOpen, IsAtVersion, IsIdle};
 ghost use Rattle.keeper_sql.specs.Opening.{IsOpened, IsRead, AreRead, IsRefusedAt, IsStored, IsHeld, UnlessHeld, UnlessFailed};
 ghost use Rattle.keeper_sql.specs.Calls.{CommitsNothing, InOurs, IsRolledBack, LeavesItsTrees, LeavesOldOr, OverOurs, ShowsTheSame, WasOpen};
-ghost use Rattle.keeper_sql.specs.Failing.{FailsToAttach, FailsToOpenStore, FailsToPrepare, FailsWhole, FailsWithin, GoesOn};
+ghost use Rattle.keeper_sql.specs.Failing.{FailsToAttach, FailsToOpenStore, FailsToPrepare, FailsWhole, FailsWithin, ReachesOnSuccess};
 
 use crate::create::create_all;
 use crate::keep::{is_only_memory, is_settled, is_still_open};
@@ -35,7 +35,7 @@ fn prepare<S: Alter>(tx: &mut Transaction<'_, S>) -> Result<i64, Error>
     ensures at { HasCleanDisk (state S.Store tx.new.conn.now) → IfOk result (IsAtVersion (state S.Store tx.new.conn.now).now) }
     ensures err { InOurs S.Store tx.old.conn.now tx.new.conn.now (OnErr result (Undone (state S.Store tx.old.conn.now) (state S.Store tx.new.conn.now))) }
     ensures survives { CommitsNothing S.Store tx.old.conn.now tx.new.conn.now }
-    ensures goes_on { GoesOn S.Store tx.old.conn.now tx.new.conn.now result }
+    ensures goes_on { ReachesOnSuccess S.Store tx.old.conn.now tx.new.conn.now result }
     ensures fails { FailsWithin S.Store tx.old.conn.now tx.new.conn.now result FailsToPrepare }
 {
     match create_all(tx) {
@@ -52,7 +52,7 @@ pub fn open_within<S: Alter>(alloc: Global, tx: &mut Transaction<'_, S>) -> Resu
     ensures read { HasCleanDisk (state S.Store tx.new.conn.now) → IfOk result (IsRead (state S.Store tx.new.conn.now).now) }
     ensures err { InOurs S.Store tx.old.conn.now tx.new.conn.now (OnErr result (Undone (state S.Store tx.old.conn.now) (state S.Store tx.new.conn.now))) }
     ensures survives { CommitsNothing S.Store tx.old.conn.now tx.new.conn.now }
-    ensures goes_on { GoesOn S.Store tx.old.conn.now tx.new.conn.now result }
+    ensures goes_on { ReachesOnSuccess S.Store tx.old.conn.now tx.new.conn.now result }
     ensures fails { FailsWithin S.Store tx.old.conn.now tx.new.conn.now result FailsToOpenStore }
 {
     match prepare(tx) {

@@ -7,7 +7,7 @@ ghost use Rattle.keeper_sql.specs.RowsAsValues.{version_in, version_kinds, versi
 ghost use Rattle.keeper_sql.specs.Store.{Undone, Raises, Settles, AreKeyed, IsMeta, IsAtVersion};
 ghost use Rattle.keeper_sql.specs.Calls.{CommitsNothing, Does, DoesOrUndoes, Gives, InStore, Reads, ReadsOnly, ReadsOrUndoes};
 ghost use Rattle.keeper_sql.specs.Schema.{replace_meta, select_meta};
-ghost use Rattle.keeper_sql.specs.Failing.{FailsBy, FailsToRead, FailsToSettle, FailsToTakeRows, FailsToWrite, FailsWithin, GoesOn};
+ghost use Rattle.keeper_sql.specs.Failing.{FailsBy, FailsToRead, FailsToSettle, FailsToTakeRows, FailsToWrite, FailsWithin, ReachesOnSuccess};
 
 use crate::reading::integer;
 use sqlite::{Alter, Error, Row, Transaction};
@@ -81,7 +81,7 @@ pub fn settle_version<S: Alter>(tx: &mut Transaction<'_, S>) -> Result<i64, Erro
     ensures at { HasCleanDisk (state S.Store tx.new.conn.now) → IfOk result (IsAtVersion (state S.Store tx.new.conn.now).now) }
     ensures err { InStore S.Store tx.old.conn.now tx.new.conn.now (OnErr result (Undone (state S.Store tx.old.conn.now) (state S.Store tx.new.conn.now))) }
     ensures survives { CommitsNothing S.Store tx.old.conn.now tx.new.conn.now }
-    ensures goes_on { GoesOn S.Store tx.old.conn.now tx.new.conn.now result }
+    ensures goes_on { ReachesOnSuccess S.Store tx.old.conn.now tx.new.conn.now result }
     ensures fails { FailsWithin S.Store tx.old.conn.now tx.new.conn.now result FailsToSettle }
 {
     match read_version(tx) {

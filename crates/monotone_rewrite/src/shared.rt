@@ -59,8 +59,8 @@ pub(crate) fn shared_constant(pool: &mut Pool<TNode>, truth: bool) -> Result<Nod
 
 // Interns the conjunction, unless one side is known.
 pub(crate) fn shared_all(pool: &mut Pool<TNode>, l: NodeId, r: NodeId) -> Result<NodeId, Memory>
-    requires left { l.0 < length pool.old }
-    requires right { r.0 < length pool.old }
+    requires left { IsPlaceOf pool.old l.0 }
+    requires right { IsPlaceOf pool.old r.0 }
     ensures kept { OnOk result (KeepsTrees pool.old pool.new) }
     ensures tree { IfOk result (λ id. IsTreeAt pool.new id.0 (fold_all (known (tree_at pool.old l.0)) (known (tree_at pool.old r.0)) (tree_at pool.old l.0)
         (tree_at pool.old r.0))) }
@@ -76,8 +76,8 @@ pub(crate) fn shared_all(pool: &mut Pool<TNode>, l: NodeId, r: NodeId) -> Result
 
 // Interns the disjunction, unless one side is known.
 pub(crate) fn shared_either(pool: &mut Pool<TNode>, l: NodeId, r: NodeId) -> Result<NodeId, Memory>
-    requires left { l.0 < length pool.old }
-    requires right { r.0 < length pool.old }
+    requires left { IsPlaceOf pool.old l.0 }
+    requires right { IsPlaceOf pool.old r.0 }
     ensures kept { OnOk result (KeepsTrees pool.old pool.new) }
     ensures tree { IfOk result (λ id. IsTreeAt pool.new id.0 (fold_either (known (tree_at pool.old l.0)) (known (tree_at pool.old r.0)) (tree_at pool.old l.0)
         (tree_at pool.old r.0))) }
@@ -93,7 +93,7 @@ pub(crate) fn shared_either(pool: &mut Pool<TNode>, l: NodeId, r: NodeId) -> Res
 
 // Interns the negation. It is known if its operand is.
 pub(crate) fn shared_not(pool: &mut Pool<TNode>, x: NodeId) -> Result<NodeId, Memory>
-    requires { x.0 < length pool.old }
+    requires { IsPlaceOf pool.old x.0 }
     ensures kept { OnOk result (KeepsTrees pool.old pool.new) }
     ensures tree { IfOk result (λ id. IsTreeAt pool.new id.0 (fold_not (known (tree_at pool.old x.0)) (tree_at pool.old x.0))) }
 {
@@ -111,7 +111,7 @@ pub(crate) fn shared_exists(
     table: Table,
     x: NodeId,
 ) -> Result<NodeId, Memory>
-    requires { x.0 < length pool.old }
+    requires { IsPlaceOf pool.old x.0 }
     ensures kept { OnOk result (KeepsTrees pool.old pool.new) }
     ensures tree { IfOk result (λ id. IsTreeAt pool.new id.0 (fold_exists (known (tree_at pool.old x.0)) var table (tree_at pool.old x.0))) }
 {

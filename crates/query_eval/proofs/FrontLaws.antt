@@ -31,7 +31,7 @@ use Rattle.probe_eval.proofs.HitSteps.{doc_hits}
 use Rattle.probe_eval.proofs.RestSteps.{stopped}
 use Rattle.query_eval.specs.declared.fronts.Front.{Front}
 use Rattle.query_eval.specs.Lowest.{keeping}
-use Rattle.query_eval.specs.Fronts.{IsDone, Begins, IsPassed, IsFront, ArePassed, IsFrontOf, AreBehind}
+use Rattle.query_eval.specs.Fronts.{IsDone, BeginsWith, IsPassed, IsFront, ArePassed, IsFrontOf, AreBehind}
 use Rattle.query_eval.proofs.StableHits.{done_stays, done_later}
 use Rattle.query_eval.proofs.Steps.{keeping_append}
 
@@ -157,19 +157,19 @@ passed_here entries docs n kept kind text list first b len single stand is numbe
     none_is : {x : DocNum} → Some x ≡ None → ⊥
     none_is e = cc
 
-    meet : (other : List ℕ) (ls os : List Doc) → with_text (texts_of kind) text docs ≡ ls → with_text (texts_of kind) other docs ≡ os → Some first ≡ number_of (slice_get ls 0) → Begins first.0 os → with_text (texts_of kind) text docs ≡ with_text (texts_of kind) other docs
+    meet : (other : List ℕ) (ls os : List Doc) → with_text (texts_of kind) text docs ≡ ls → with_text (texts_of kind) other docs ≡ os → Some first ≡ number_of (slice_get ls 0) → BeginsWith first.0 os → with_text (texts_of kind) text docs ≡ with_text (texts_of kind) other docs
     meet other ls [] l o n begins = absurd begins
     meet other [] (e ∷ es) l o n begins = absurd (none_is n)
     meet other (d ∷ ds) (e ∷ es) l o n begins =
         lists_of_one_kind_are_apart kind text other docs d e ds es single stand l o (ap (λ (z : DocNum). z.0) (sym (num_is n)) ∙ sym begins)
 
-    same : (other : List ℕ) → Begins first.0 (with_text (texts_of kind) other docs) → with_text (texts_of kind) text docs ≡ with_text (texts_of kind) other docs
+    same : (other : List ℕ) → BeginsWith first.0 (with_text (texts_of kind) other docs) → with_text (texts_of kind) text docs ≡ with_text (texts_of kind) other docs
     same other begins = meet other _ _ refl refl (number ∙ ap (λ ds. number_of (slice_get ds 0)) is) begins
 
 -- what the fronts say of this list
 pub known_here : (entries : List Entry) (docs : List Doc) (n : ℕ) (kept : List Hit) (kind : TextKind) (text : List ℕ) (list : List Doc) (first : DocNum) (b : ℤ) (len : ℕ) → list ≡ with_text (texts_of kind) text docs → Some first ≡ number_of (slice_get list 0) → IsPassed entries docs n kept kind first.0 b len → Each (IsDone entries n kept b) (take len list)
 known_here entries docs n kept kind text list first b len is number p =
-    subst (λ ds. Each (IsDone entries n kept b) (take len ds)) (sym is) (p.done text (subst (Begins first.0) is (begins list number)))
+    subst (λ ds. Each (IsDone entries n kept b) (take len ds)) (sym is) (p.done text (subst (BeginsWith first.0) is (begins list number)))
   where
     num_is : {x y : DocNum} → Some x ≡ Some y → x ≡ y
     num_is e = cc
@@ -177,7 +177,7 @@ known_here entries docs n kept kind text list first b len is number p =
     none_is : {x : DocNum} → Some x ≡ None → ⊥
     none_is e = cc
 
-    begins : (ds : List Doc) → Some first ≡ number_of (slice_get ds 0) → Begins first.0 ds
+    begins : (ds : List Doc) → Some first ≡ number_of (slice_get ds 0) → BeginsWith first.0 ds
     begins [] e = absurd (none_is e)
     begins (d ∷ ds) e = ap (λ (z : DocNum). z.0) (sym (num_is e))
 

@@ -21,13 +21,13 @@ pub record IsDone (entries : List Entry) (n : ℕ) (kept : List Hit) (b : ℤ) (
   pub same : (mark : ℤ) (passed : Bool) → b ≤ℤ mark → kept ≡ keeping n kept (option_to_list (hit_if passed mark (new_doc entries d)))
 
 -- the list begins with the document of this number
-abbrev pub Begins : ℕ → List Doc → Type 0
-Begins first [] = ⊥
-Begins first (d ∷ ds) = d.num.0 ≡ first
+abbrev pub BeginsWith : ℕ → List Doc → Type 0
+BeginsWith first [] = ⊥
+BeginsWith first (d ∷ ds) = d.num.0 ≡ first
 
 -- of each list of this kind that begins with this document, so many documents at its front are done
 pub record IsPassed (entries : List Entry) (docs : List Doc) (n : ℕ) (kept : List Hit) (kind : TextKind) (first : ℕ) (b : ℤ) (len : ℕ) : Type 0 where
-  pub done : (text : List ℕ) → Begins first (with_text (texts_of kind) text docs)
+  pub done : (text : List ℕ) → BeginsWith first (with_text (texts_of kind) text docs)
       → Each (IsDone entries n kept b) (take len (with_text (texts_of kind) text docs))
 
 -- the same of a front

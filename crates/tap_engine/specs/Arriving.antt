@@ -10,5 +10,5 @@ pub record MayArrive {A : Type 0} (arrival : A → ℤ) (second : ℤ) (rows : L
   pub after : Each (λ row. arrival row ≤ℤ second) rows
 
 -- no text is longer than a message may be
-abbrev pub AreShort : List (List ℕ) → Type 0
-AreShort texts = are_short texts ≡ true
+abbrev pub AreShortTexts : List (List ℕ) → Type 0
+AreShortTexts texts = are_short texts ≡ true

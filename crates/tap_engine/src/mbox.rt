@@ -6,7 +6,7 @@ ghost use Rattle.std.specs.Result.{result_err};
 ghost use Rattle.tap_rows.specs.declared.change.Change.{Change as RowChange};
 ghost use Rattle.tap_rows.specs.Tables.{after};
 ghost use Rattle.row_index.specs.Orders.{doc_arrival};
-ghost use Rattle.tap_engine.specs.Arriving.{MayArrive, AreShort};
+ghost use Rattle.tap_engine.specs.Arriving.{MayArrive, AreShortTexts};
 ghost use Rattle.script_lang.specs.declared.command.Command.{Command};
 ghost use Rattle.script_lang.specs.Replies.{HasShortNames, is_accepted};
 ghost use Rattle.tap_model.specs.Sessions.{moment_or_zero};
@@ -133,7 +133,7 @@ fn push_docs(
 ) -> Result<(), Memory>
     requires few { length index.old.docs + length texts.now < 2 ^ 32 }
     requires arrives { MayArrive doc_arrival moment index.old.docs }
-    requires short { AreShort texts.now }
+    requires short { AreShortTexts texts.now }
     ensures ok { OnOk result (index.new ≡ after index.old (RowChange.Docs (docs_from (length index.old.docs + 1) moment texts.now))) }
     ensures err { OnErr result (record index.new { docs = take (length index.old.docs) index.new.docs } ≡ index.old) }
 {
@@ -152,7 +152,7 @@ fn add_all(
 ) -> Result<(), Memory>
     requires few { length index.old.docs + length texts.now < 2 ^ 32 }
     requires arrives { MayArrive doc_arrival moment index.old.docs }
-    requires short { AreShort texts.now }
+    requires short { AreShortTexts texts.now }
     ensures ok { OnOk result (index.new ≡ after index.old (RowChange.Docs (docs_from (length index.old.docs + 1) moment texts.now))) }
     ensures err { OnErr result (index.new ≡ index.old) }
 {
@@ -215,7 +215,7 @@ impl Engine {
         texts: &[SharedText],
     ) -> Result<Option<Change>, Memory>
         requires few { length self.old.index.docs + length texts.now ≤ max (length self.old.index.docs) DOCUMENT_LIMIT }
-        requires short { AreShort texts.now }
+        requires short { AreShortTexts texts.now }
         requires bytes { self.old.bytes + bytes_of texts.now < 2 ^ 64 }
         requires arrives { MayArrive doc_arrival moment self.old.index.docs }
         requires room { length self.old.index.docs ≤ self.old.hits.room }
