@@ -3,10 +3,12 @@
 ghost use Rattle.std.specs.Prelude.{◌≡◌, IfOk, Option};
 ghost use Rattle.access_plan.specs.Accesses.{first_some};
 ghost use Rattle.access_plan.specs.Orders.{driven, by_index, by_table, next_reach, order_of, orders_of};
+ghost use Rattle.access_plan.specs.Inners.{inners_of};
 ghost use Rattle.access_plan.specs.Views.{option_reach};
 
 use crate::access_ref::whole;
 use crate::guards::index_access;
+use crate::inners::inners_of;
 use crate::known::is_bound;
 use crate::{Known, Plan, Reach, ReachRef};
 use std::alloc::Global;
@@ -126,13 +128,20 @@ fn orders_of(alloc: Global, parts: &[Ranged]) -> Result<Rows<Rows<Reach>>, Memor
     Ok(orders)
 }
 
-/// Returns the query unchanged, and for each probe the order of its variables with the access to each one's rows. After the
-/// driving row, again and again, comes the first step of the path that has an access of the index, else the first one.
+/// Returns the query unchanged, for each probe the order of its variables with the access to each one's rows, and for each
+/// EXISTS of the bodies the access to its rows. After the driving row, again and again, comes the first step of the path that
+/// has an access of the index, else the first one.
 /// `Memory` comes if memory runs out.
 pub fn plan(alloc: Global, query: RangedQuery) -> Result<Plan, Memory>
     ensures query { IfOk result (λ plan. plan.query ≡ query) }
     ensures orders { IfOk result (λ plan. plan.orders ≡ orders_of query.parts) }
+    ensures inners { IfOk result (λ plan. plan.inners ≡ inners_of query.pool) }
 {
     let orders = orders_of(alloc, query.parts.as_slice())?;
-    Ok(Plan { query, orders })
+    let inners = inners_of(alloc, &query.pool)?;
+    Ok(Plan {
+        query,
+        orders,
+        inners,
+    })
 }

@@ -1,131 +1,134 @@
--- The deliveries in a map by document.
-use Rattle.std.proofs.Common.{◌≡◌, ℕ, zero, suc, ◌+◌, ◌<◌, ◌≤◌, Bool, true, false, List, [], ◌∷◌, ◌++◌, Option, Some, None, refl, sym, ap, ◌∙◌, is_some, map, nat_eq, length, take, arith, inl, inr, subst, length-append}
-use Rattle.std.specs.Prelude.{◌||◌}
-use Rattle.indexmap.specs.IndexMap.{insert_entry}
-use Rattle.std.specs.Map.{keys_of, values_of, lookup}
+-- The deliveries of a box and their marks.
+use Rattle.std.proofs.Common.{◌≡◌, ℕ, zero, suc, ◌<◌, Bool, true, false, List, [], ◌∷◌, ◌++◌, refl, sym, ap, ◌∙◌, nat_eq, length, set, arith, inl, inr, length-append}
+use Rattle.std.specs.Prelude.{◌||◌, slice_get}
 use Rattle.std.proofs.lemmas.Bool.{cases_Bool}
 use Rattle.tap_rows.specs.declared.results.Entry.{Entry}
-use Rattle.little_box.specs.Boxes.{is_in, AreDistinct, IsBox}
+use Rattle.little_box.specs.Boxes.{is_in, is_set, AreDistinct, IsBox}
 
-head_is : {x y : ℕ} {xs ys : List ℕ} → x ∷ xs ≡ y ∷ ys → x ≡ y
-head_is e = cc
+-- numbers
 
-tail_is : {x y : ℕ} {xs ys : List ℕ} → x ∷ xs ≡ y ∷ ys → xs ≡ ys
-tail_is e = cc
-
-pub found : (n : ℕ) (es : List (ℕ × Entry)) → keys_of es ≡ map (λ (e : Entry). e.doc.0) (values_of es) → is_some (lookup (nat_eq n) es) ≡ is_in n (values_of es)
-found n [] h = refl
-found n ((k, e) ∷ es) h =
-    let s : k ≡ e.doc.0 = head_is h in
-    let i = found n es (tail_is h) in
-    go (nat_eq n k) refl (ap (λ j. nat_eq n j) (sym s)) i
-  where
-    go : (b : Bool) → nat_eq n k ≡ b → nat_eq n e.doc.0 ≡ nat_eq n k → is_some (lookup (nat_eq n) es) ≡ is_in n (values_of es) → is_some (lookup (nat_eq n) ((k, e) ∷ es)) ≡ is_in n (values_of ((k, e) ∷ es))
-    go true q t i = rw (q, t, q) refl
-    go false q t i = rw (q, t, q) i
-
-pub none_of : {A : Type 0} (o : Option A) → is_some o ≡ false → o ≡ None
-none_of None h = refl
-none_of (Some x) h = absurd cc
-
-keys_more : (es : List (ℕ × Entry)) (p : ℕ × Entry) → keys_of (es ++ p ∷ []) ≡ keys_of es ++ p.0 ∷ []
-keys_more [] p = refl
-keys_more (x ∷ es) p = ap (λ z. x.0 ∷ z) (keys_more es p)
-
-values_onto : (es : List (ℕ × Entry)) (p : ℕ × Entry) → values_of (es ++ p ∷ []) ≡ values_of es ++ p.1 ∷ []
-values_onto [] p = refl
-values_onto (x ∷ es) p = ap (λ z. x.1 ∷ z) (values_onto es p)
-
-docs_more : (xs : List Entry) (e : Entry) → map (λ (e : Entry). e.doc.0) (xs ++ e ∷ []) ≡ map (λ (e : Entry). e.doc.0) xs ++ e.doc.0 ∷ []
-docs_more [] e = refl
-docs_more (x ∷ xs) e = ap (λ z. x.doc.0 ∷ z) (docs_more xs e)
-
-pub values_more : (es fs : List (ℕ × Entry)) (e : Entry) → fs ≡ es ++ (e.doc.0, e) ∷ [] → values_of fs ≡ values_of es ++ e ∷ []
-values_more es fs e h = ap values_of h ∙ values_onto es (e.doc.0, e)
-
-pub paired_more : (es fs : List (ℕ × Entry)) (e : Entry) → keys_of es ≡ map (λ (e : Entry). e.doc.0) (values_of es) → fs ≡ es ++ (e.doc.0, e) ∷ [] → keys_of fs ≡ map (λ (e : Entry). e.doc.0) (values_of fs)
-paired_more es fs e h k = ap keys_of k ∙ keys_more es (e.doc.0, e) ∙ ap (λ z. z ++ e.doc.0 ∷ []) h ∙ sym (docs_more (values_of es) e) ∙ ap (λ z. map (λ (e : Entry). e.doc.0) z) (sym (values_more es fs e k))
-
--- one entry more
-
+-- one number is apart from another, and the other from the one
 turned : (m n : ℕ) → nat_eq m n ≡ false → nat_eq n m ≡ false
 turned m n h = grind (arith, h)
 
+-- a number is equal to itself
+itself : (n : ℕ) → nat_eq n n ≡ true
+itself n = grind arith
+
+-- numbers that the test calls equal are equal
+same_number : (m n : ℕ) → nat_eq m n ≡ true → m ≡ n
+same_number m n h = grind (arith, h)
+
+-- of two tests none holds, so each fails
 apart : (a b : Bool) → (a || b) ≡ false → (a ≡ false) × (b ≡ false)
 apart true b h = absurd cc
 apart false b h = (refl, h)
 
-unseen_more : (n : ℕ) (es : List Entry) (x : Entry) → is_in n es ≡ false → nat_eq n x.doc.0 ≡ false → is_in n (es ++ x ∷ []) ≡ false
-unseen_more n [] x h k = rw k refl
-unseen_more n (e ∷ es) x h k = let a = apart (nat_eq n e.doc.0) (is_in n es) h in rw a.0 (unseen_more n es x a.1 k)
+-- a test that holds makes either hold
+second_holds : (a b : Bool) → b ≡ true → (a || b) ≡ true
+second_holds true b h = refl
+second_holds false b h = h
 
+-- marks
+
+-- a mark that is set has a place
+set_within : (bs : List Bool) (n : ℕ) → is_set (slice_get bs n) ≡ true → n < length bs
+set_within [] n h = absurd cc
+set_within (b ∷ bs) zero h = omega arith
+set_within (b ∷ bs) (suc n) h = let i = set_within bs n h in omega (arith, i)
+
+-- a mark is what it is set to
+mark_same : (bs : List Bool) (n : ℕ) (b : Bool) → n < length bs → is_set (slice_get (set bs n b) n) ≡ b
+mark_same [] n b h = absurd (omega (arith, h))
+mark_same (x ∷ bs) zero b h = refl
+mark_same (x ∷ bs) (suc n) b h = mark_same bs n b (omega (arith, h))
+
+-- a mark that is taken off isn't set
+mark_off : (bs : List Bool) (n : ℕ) → is_set (slice_get (set bs n false) n) ≡ false
+mark_off [] n = refl
+mark_off (x ∷ bs) zero = refl
+mark_off (x ∷ bs) (suc n) = mark_off bs n
+
+-- the marks of other numbers stay
+mark_other : (bs : List Bool) (n k : ℕ) (b : Bool) → nat_eq k n ≡ false → slice_get (set bs n b) k ≡ slice_get bs k
+mark_other [] n k b h = refl
+mark_other (x ∷ bs) zero zero b h = absurd cc
+mark_other (x ∷ bs) zero (suc k) b h = refl
+mark_other (x ∷ bs) (suc n) zero b h = refl
+mark_other (x ∷ bs) (suc n) (suc k) b h = mark_other bs n k b (grind (arith, h))
+
+-- one entry more
+
+-- another document is delivered if it was
+other_more : (n : ℕ) (es : List Entry) (x : Entry) → nat_eq n x.doc.0 ≡ false → is_in n (es ++ x ∷ []) ≡ is_in n es
+other_more n [] x h = rw h refl
+other_more n (e ∷ es) x h = ap (λ b. nat_eq n e.doc.0 || b) (other_more n es x h)
+
+-- the document of the last entry is delivered
+last_is_in : (n : ℕ) (es : List Entry) (x : Entry) → nat_eq n x.doc.0 ≡ true → is_in n (es ++ x ∷ []) ≡ true
+last_is_in n [] x h = rw h refl
+last_is_in n (e ∷ es) x h = second_holds (nat_eq n e.doc.0) (is_in n (es ++ x ∷ [])) (last_is_in n es x h)
+
+-- a new document behind distinct ones leaves them distinct
 distinct_more : (es : List Entry) (x : Entry) → AreDistinct es → is_in x.doc.0 es ≡ false → AreDistinct (es ++ x ∷ [])
 distinct_more [] x d h = (refl, tt)
 distinct_more (e ∷ es) x d h =
     let a = apart (nat_eq x.doc.0 e.doc.0) (is_in x.doc.0 es) h in
-    (unseen_more e.doc.0 es x d.0 (turned _ _ a.0), distinct_more es x d.1 a.1)
+    (other_more e.doc.0 es x (turned _ _ a.0) ∙ d.0, distinct_more es x d.1 a.1)
 
-longer : (es : List (ℕ × Entry)) (p : ℕ × Entry) → length (es ++ p ∷ []) ≡ length es + 1
-longer es p = length-append es (p ∷ [])
-
-values_length : (es : List (ℕ × Entry)) → length (values_of es) ≡ length es
-values_length [] = refl
-values_length (e ∷ es) = ap suc (values_length es)
-
-put_last : (n : ℕ) (es : List (ℕ × Entry)) (e : Entry) → lookup (nat_eq n) es ≡ None → insert_entry nat_eq es n e ≡ es ++ (n, e) ∷ []
-put_last n [] e h = refl
-put_last n (x ∷ es) e h =
-    elim (cases_Bool (nat_eq n x.0)) [
-      | inl b ↦ absurd (let q = rw b at h in cc)
-      | inr b ↦ let q = rw b at h in rw b (ap (λ z. x ∷ z) (put_last n es e q))
+-- the marks after an entry more
+marked_more : (es : List Entry) (bs : List Bool) (e : Entry) → ((n : ℕ) → is_set (slice_get bs n) ≡ is_in n es) → e.doc.0 < length bs → (n : ℕ) → is_set (slice_get (set bs e.doc.0 true) n) ≡ is_in n (es ++ e ∷ [])
+marked_more es bs e m w n =
+    elim (cases_Bool (nat_eq n e.doc.0)) [
+      | inl b ↦ ap (λ k. is_set (slice_get (set bs e.doc.0 true) k)) (same_number n e.doc.0 b) ∙ mark_same bs e.doc.0 true w ∙ sym (last_is_in n es e b)
+      | inr b ↦ ap is_set (mark_other bs e.doc.0 n true b) ∙ m n ∙ sym (other_more n es e b)
     ]
 
--- the entries after an insert of a new document
-pub inserted : (es fs : List (ℕ × Entry)) (e : Entry) → IsBox es → is_in e.doc.0 (values_of es) ≡ false → fs ≡ insert_entry nat_eq es e.doc.0 e → fs ≡ es ++ (e.doc.0, e) ∷ []
-inserted es fs e b h i = i ∙ put_last e.doc.0 es e (none_of _ (found e.doc.0 es b.keyed ∙ h))
-
-pub box_more : (es fs : List (ℕ × Entry)) (e : Entry) → IsBox es → is_in e.doc.0 (values_of es) ≡ false → length (values_of es) < 4294967295 → fs ≡ es ++ (e.doc.0, e) ∷ [] → IsBox fs
-box_more es fs e b h w i = record {
-  keyed = paired_more es fs e b.keyed i;
-  distinct = subst AreDistinct (sym (values_more es fs e i)) (distinct_more (values_of es) e b.distinct h);
-  room = let v = values_length es in let l = longer es (e.doc.0, e) in let k = ap length i in omega (arith, v, l, k, w);
+-- a box with an entry more
+pub box_more : (es : List Entry) (bs cs : List Bool) (e : Entry) → IsBox es bs → ((n : ℕ) → is_set (slice_get cs n) ≡ is_set (slice_get bs n)) → e.doc.0 < length cs → is_in e.doc.0 es ≡ false → length es < 4294967295 → IsBox (es ++ e ∷ []) (set cs e.doc.0 true)
+box_more es bs cs e b s w h r = record {
+  marked = marked_more es cs e (λ n. s n ∙ b.marked n) w;
+  distinct = distinct_more es e b.distinct h;
+  room = let l = length-append es (e ∷ []) in omega (arith, l, r);
 }
 
--- fewer entries
+-- one entry fewer
 
-keys_fewer : (n : ℕ) (es : List (ℕ × Entry)) → keys_of (take n es) ≡ take n (keys_of es)
-keys_fewer zero es = refl
-keys_fewer (suc n) [] = refl
-keys_fewer (suc n) (e ∷ es) = ap (λ z. e.0 ∷ z) (keys_fewer n es)
+-- what isn't delivered isn't among the first
+unseen_fewer : (n : ℕ) (es : List Entry) (x : Entry) → is_in n (es ++ x ∷ []) ≡ false → (is_in n es ≡ false) × (nat_eq n x.doc.0 ≡ false)
+unseen_fewer n [] x h = (refl, (apart (nat_eq n x.doc.0) false h).0)
+unseen_fewer n (e ∷ es) x h =
+    let a = apart (nat_eq n e.doc.0) (is_in n (es ++ x ∷ [])) h in
+    let i = unseen_fewer n es x a.1 in
+    (rw a.0 i.0, i.1)
 
-pub values_fewer : (n : ℕ) (es : List (ℕ × Entry)) → values_of (take n es) ≡ take n (values_of es)
-values_fewer zero es = refl
-values_fewer (suc n) [] = refl
-values_fewer (suc n) (e ∷ es) = ap (λ z. e.1 ∷ z) (values_fewer n es)
+-- the documents before the last one are distinct, and it isn't among them
+distinct_fewer : (es : List Entry) (x : Entry) → AreDistinct (es ++ x ∷ []) → AreDistinct es × (is_in x.doc.0 es ≡ false)
+distinct_fewer [] x d = (tt, refl)
+distinct_fewer (e ∷ es) x d =
+    let i = distinct_fewer es x d.1 in
+    let u = unseen_fewer e.doc.0 es x d.0 in
+    let t = turned e.doc.0 x.doc.0 u.1 in
+    ((u.0, i.0), rw t i.1)
 
-docs_fewer : (n : ℕ) (es : List Entry) → map (λ (e : Entry). e.doc.0) (take n es) ≡ take n (map (λ (e : Entry). e.doc.0) es)
-docs_fewer zero es = refl
-docs_fewer (suc n) [] = refl
-docs_fewer (suc n) (e ∷ es) = ap (λ z. e.doc.0 ∷ z) (docs_fewer n es)
+-- the marks after an entry fewer
+marked_fewer : (es : List Entry) (bs : List Bool) (e : Entry) → IsBox (es ++ e ∷ []) bs → (n : ℕ) → is_set (slice_get (set bs e.doc.0 false) n) ≡ is_in n es
+marked_fewer es bs e x n =
+    elim (cases_Bool (nat_eq n e.doc.0)) [
+      | inl b ↦
+          let k = same_number n e.doc.0 b in
+          ap (λ k. is_set (slice_get (set bs e.doc.0 false) k)) k ∙ mark_off bs e.doc.0 ∙ sym (distinct_fewer es e x.distinct).1 ∙ ap (λ k. is_in k es) (sym k)
+      | inr b ↦ ap is_set (mark_other bs e.doc.0 n false b) ∙ x.marked n ∙ other_more n es e b
+    ]
 
-unseen_fewer : (n m : ℕ) (es : List Entry) → is_in m es ≡ false → is_in m (take n es) ≡ false
-unseen_fewer zero m es h = refl
-unseen_fewer (suc n) m [] h = refl
-unseen_fewer (suc n) m (e ∷ es) h = let a = apart (nat_eq m e.doc.0) (is_in m es) h in rw a.0 (unseen_fewer n m es a.1)
+-- a box with an entry fewer
+pub box_fewer : (es : List Entry) (bs : List Bool) (e : Entry) → IsBox (es ++ e ∷ []) bs → IsBox es (set bs e.doc.0 false)
+box_fewer es bs e b = record {
+  marked = marked_fewer es bs e b;
+  distinct = (distinct_fewer es e b.distinct).0;
+  room = let l = length-append es (e ∷ []) in let r = b.room in omega (arith, l, r);
+}
 
-distinct_fewer : (n : ℕ) (es : List Entry) → AreDistinct es → AreDistinct (take n es)
-distinct_fewer zero es d = tt
-distinct_fewer (suc n) [] d = tt
-distinct_fewer (suc n) (e ∷ es) d = (unseen_fewer n e.doc.0 es d.0, distinct_fewer n es d.1)
-
-shorter : (n : ℕ) (es : List (ℕ × Entry)) → length (take n es) ≤ length es
-shorter zero es = omega arith
-shorter (suc n) [] = omega arith
-shorter (suc n) (e ∷ es) = let i = shorter n es in omega (arith, i)
-
-pub box_fewer : (n : ℕ) (es fs : List (ℕ × Entry)) → IsBox es → fs ≡ take n es → IsBox fs
-box_fewer n es fs b i = subst IsBox (sym i) (record {
-  keyed = keys_fewer n es ∙ ap (λ z. take n z) b.keyed ∙ sym (docs_fewer n (values_of es)) ∙ ap (λ z. map (λ (e : Entry). e.doc.0) z) (sym (values_fewer n es));
-  distinct = subst AreDistinct (sym (values_fewer n es)) (distinct_fewer n (values_of es) b.distinct);
-  room = let s = shorter n es in let r = b.room in omega (arith, s, r);
-})
+-- the last entry's document has a mark
+pub last_within : (es : List Entry) (bs : List Bool) (e : Entry) → IsBox (es ++ e ∷ []) bs → e.doc.0 < length bs
+last_within es bs e b = set_within bs e.doc.0 (b.marked e.doc.0 ∙ last_is_in e.doc.0 es e (itself e.doc.0))

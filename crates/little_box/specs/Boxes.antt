@@ -1,7 +1,6 @@
 -- Deliveries.
-use Rattle.std.specs.Prelude.{◌≡◌, ℕ, ◌<◌, ◌^◌, Bool, false, List, [], ◌∷◌, length, map, nat_eq}
+use Rattle.std.specs.Prelude.{◌≡◌, ℕ, ◌<◌, ◌^◌, Bool, false, Option, Some, None, List, [], ◌∷◌, length, nat_eq, slice_get}
 use Rattle.std.specs.List.{list_any}
-use Rattle.std.specs.Map.{keys_of, values_of}
 use Rattle.tap_rows.specs.declared.results.Entry.{Entry}
 
 -- is a document of this number delivered?
@@ -13,8 +12,13 @@ abbrev pub AreDistinct : List Entry → Type 0
 AreDistinct [] = Unit {0}
 AreDistinct (e ∷ es) = (is_in e.doc.0 es ≡ false) × AreDistinct es
 
--- the entries of a map stand under their documents, which are distinct, and a number of 32 bits counts them
-pub record IsBox (entries : List (ℕ × Entry)) : Type 0 where
-  pub keyed : keys_of entries ≡ map (λ (e : Entry). e.doc.0) (values_of entries)
-  pub distinct : AreDistinct (values_of entries)
+-- is there a mark at this place, and is it set?
+abbrev pub is_set : Option Bool → Bool
+is_set None = false
+is_set (Some b) = b
+
+-- the documents that are delivered are marked, at the places of their numbers; they are distinct, and a number of 32 bits counts them
+pub record IsBox (entries : List Entry) (delivered : List Bool) : Type 0 where
+  pub marked : (n : ℕ) → is_set (slice_get delivered n) ≡ is_in n entries
+  pub distinct : AreDistinct entries
   pub room : length entries < 2 ^ 32

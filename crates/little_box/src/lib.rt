@@ -1,10 +1,10 @@
 //! The deliveries of one query, in order of delivery.
 #![tactic(auto)]
 
-ghost use Rattle.std.specs.Prelude.{◌≡◌, ◌<◌, ◌≤◌, ◌++◌, ◌∷◌, [], false, length, take, OnOk, OnErr, option_copied, slice_get};
-ghost use Rattle.little_box.specs.Boxes.{is_in, AreDistinct};
+ghost use Rattle.std.specs.Prelude.{◌≡◌, ℕ, ◌-◌, ◌<◌, ◌≤◌, ◌++◌, ◌∷◌, [], false, length, take, OnOk, OnErr};
+ghost use Rattle.std.specs.Prelude.{option_copied, slice_get};
+ghost use Rattle.little_box.specs.Boxes.{is_in, is_set, AreDistinct};
 
-use indexmap::IndexMap;
 use std::alloc::Global;
 use std::marker::Model;
 use tap_base::{DocNum, Memory};
@@ -13,20 +13,22 @@ use tap_rows::Entry;
 /// The deliveries of one query, in order of delivery. No document is delivered twice.
 #[derive(Drop)]
 pub struct LittleBox {
-    entries: IndexMap<u32, Entry>,
+    entries: Vec<Entry>,
+    // Whether the document of each number, from 0, is delivered. Numbers are places of documents, so this is short, and a look-up
+    // hashes nothing.
+    delivered: Vec<bool>,
 }
 
 impl Model for LittleBox {
     ghost use Rattle.std.specs.Prelude.{List};
-    ghost use Rattle.indexmap.specs.IndexMap.{values};
     ghost use Rattle.tap_rows.specs.declared.results.Entry.{Entry};
     ghost use Rattle.little_box.specs.Boxes.{IsBox};
 
     ghost Value = { List Entry };
 
-    ghost view = { λ b. values b.entries };
+    ghost view = { λ b. b.entries.items };
 
-    ghost invariant = { λ b. IsBox b.entries.entries };
+    ghost invariant = { λ b. IsBox b.entries.items b.delivered.items };
 }
 
 impl LittleBox {
@@ -35,7 +37,8 @@ impl LittleBox {
         ensures { result ≡ [] }
     {
         LittleBox {
-            entries: IndexMap::new(alloc),
+            entries: Vec::new(alloc),
+            delivered: Vec::new(alloc),
         }
     }
 
@@ -51,17 +54,17 @@ impl LittleBox {
     pub fn has(&self, doc: DocNum) -> bool
         ensures { result ≡ is_in doc.0 self.now }
     {
-        self.entries.contains_key(&doc.0)
+        match self.delivered.get(doc.0 as usize) {
+            None => false,
+            Some(delivered) => *delivered,
+        }
     }
 
     /// Returns the entry at this place, from 0. `None` comes if and only if there is no such place.
     pub fn entry(&self, i: u32) -> Option<&Entry>
         ensures { option_copied result ≡ slice_get self.now i }
     {
-        match self.entries.get_index(i as usize) {
-            None => None,
-            Some((_, entry)) => Some(entry),
-        }
+        self.entries.get(i as usize)
     }
 
     /// Makes room for `more` more entries. `Memory` comes if memory runs out.
@@ -79,7 +82,10 @@ impl LittleBox {
         ensures ok { OnOk result (self.new ≡ self.old ++ entry ∷ []) }
         ensures err { OnErr result (self.new ≡ self.old) }
     {
-        self.entries.insert(entry.doc.0, entry)?;
+        let place = entry.doc.0 as usize;
+        make_mark(&mut self.delivered, entry.doc)?;
+        self.entries.push(entry)?;
+        self.delivered[place] = true;
         Ok(())
     }
 
@@ -88,6 +94,29 @@ impl LittleBox {
         requires { n ≤ length self.old }
         ensures { self.new ≡ take n self.old }
     {
-        self.entries.truncate(n as usize);
+        while self.entries.len() > n as usize {
+            self.pop();
+        }
     }
+
+    // Removes the last entry, if there is one.
+    fn pop(&mut self)
+        ensures { self.new ≡ take (length self.old - 1) self.old }
+    {
+        if let Some(entry) = self.entries.pop() {
+            self.delivered[entry.doc.0 as usize] = false;
+        }
+    }
+}
+
+// Makes a mark for the document, unset if it is new. `Memory` comes if memory runs out.
+fn make_mark(delivered: &mut Vec<bool>, doc: DocNum) -> Result<(), Memory>
+    ensures ok { OnOk result (doc.0 < length delivered.new.items) }
+    ensures same { (n : ℕ) → is_set (slice_get delivered.new.items n) ≡ is_set (slice_get delivered.old.items n) }
+{
+    let place = doc.0 as usize;
+    if place >= delivered.len() {
+        delivered.resize(place + 1, false)?;
+    }
+    Ok(())
 }

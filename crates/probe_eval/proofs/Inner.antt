@@ -24,7 +24,7 @@ module _ (T : Tables) (x : Condition) (v : Var) (t : Table) (env : Env) (rows : 
   exists_same =
       ap (λ table. list_any with_row (rows_of table T)) (sym (inner_accesses_keep_tables v t x))
       ∙ any_walked with_row (inner_access v t x) env T (λ row h. inner_accesses_are_enough T v t x env row (pos 0) h)
-      ∙ sym (any_left with_row (reached T v t x env) rows r)
+      ∙ sym (any_left with_row (reached T v t x env) rows r with_row (λ row i e. e))
 
   pub no_row : rows ≡ [] → truth T (pos 0) (Exists v t x) env ≡ false
   no_row e = exists_same ∙ ap (list_any with_row) e

@@ -21,6 +21,7 @@ pub mod Members
 pub mod NarrowLaws
 pub mod Nesting
 pub mod NextRows
+pub mod NumberBoundLaws
 pub mod OpenLaws
 pub mod Ordered
 pub mod PairLaws

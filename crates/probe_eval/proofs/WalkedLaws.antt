@@ -85,7 +85,7 @@ module _ (entries : List Entry) (T : Tables) (p : Probe) (b : ℤ) (env : Env) (
   no_further = rw h refl
 
   -- rows that may not go on have no hits
-  none_over : (order : List Reach) → hits_over entries T p b order env ≡ []
+  pub none_over : (order : List Reach) → hits_over entries T p b order env ≡ []
   none_over [] = not_asked [] (lookup 0 env)
   none_over (x ∷ rs) =
       ap (λ o. asked_or entries T p b (x ∷ rs) env (lookup 0 env) (over_rows T b env o (λ r row. hits_over entries T p b rs (bind r.var row env)))) no_further

@@ -19,5 +19,5 @@ pub mod Pairs
 pub mod Linear
 pub mod Laws
 pub mod SingleLists
-pub mod Narrowed
+pub mod NumberBounds
 pub mod LeftOut

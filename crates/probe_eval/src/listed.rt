@@ -60,7 +60,8 @@ fn guard_goes_by_list(search: &Search, var: Var, step: &Step) -> bool
 {
     match step.guards.as_slice() {
         [guard] => {
-            asks_literal(var, step, guard) && is_implied(search.pool, guard, search.probe.body)
+            asks_literal(var, step, guard)
+                && is_implied(&search.plan.query.pool, guard, search.probe.body)
         }
         _ => false,
     }

@@ -19,18 +19,17 @@ use crate::rests::rest_exists;
 use crate::{Answer, Next};
 use access_plan::{Plan, Reach};
 use little_box::LittleBox;
-use node_pool::Pool;
 use row_index::RowIndex;
 use std::sync::ledger::Ledger;
 use tap_base::{DocNum, Steps};
 use tap_rows::KeptDoc;
 use time_marks::Probe;
-use tql_core::{Env, TNode, Var};
+use tql_core::{Env, Var};
 
-/// A probe, and the rows and deliveries that it is evaluated over.
+/// A probe of a plan, and the rows and deliveries that it is evaluated over.
 #[derive(Drop)]
 pub struct Search<'a> {
-    pub pool: &'a Pool<TNode>,
+    pub plan: &'a Plan,
     pub probe: &'a Probe,
     pub index: &'a RowIndex,
     pub seen: &'a LittleBox,
@@ -90,7 +89,7 @@ pub fn answer_here<'a, L: Ledger>(
 {
     if has_rest(search, order, next, sure, env, mark, steps) {
         let body = search.probe.body;
-        body_answer(search.pool, body, Var(0), env, search.index, steps)
+        body_answer(search, body, Var(0), env, steps)
     } else {
         Answer::False
     }
@@ -114,7 +113,7 @@ pub fn holds_here<'a, L: Ledger>(
     ensures more { steps.old ≤ steps.new }
 {
     has_rest(search, order, next, sure, env, mark, steps)
-        && body_holds(search.pool, search.probe.body, env, search.index, steps)
+        && body_holds(search, search.probe.body, env, steps)
 }
 
 /// Returns the order in which the part at this place of the query binds its variables.

@@ -1,8 +1,8 @@
 //! Posting lists by a text of which each document has at most one.
 
-ghost use Rattle.std.specs.Prelude.{IfSome, option_copied};
+ghost use Rattle.std.specs.Prelude.{◌≡◌, None, IfSome, option_copied};
 ghost use Rattle.access_plan.specs.Views.{access_at};
-ghost use Rattle.probe_eval.specs.SingleLists.{IsUnder, ReachesList};
+ghost use Rattle.probe_eval.specs.SingleLists.{single_text, IsUnder, ReachesList};
 
 use access_plan::AccessRef;
 use row_index::{PostingList, RowIndex, TextKind};
@@ -21,7 +21,8 @@ fn list_under<'a>(
     text: Option<&[u8]>,
     index: &'a RowIndex,
 ) -> Option<SingleList<'a>>
-    ensures { IfSome result (λ found. IsUnder kind (option_copied text.entry) index.now found) }
+    ensures some { IfSome result (λ found. IsUnder kind (option_copied text.entry) index.now found) }
+    ensures none { result ≡ None → option_copied text.entry ≡ None }
 {
     match text {
         None => None,
@@ -32,15 +33,18 @@ fn list_under<'a>(
     }
 }
 
-/// Returns the posting list that the access reaches, by one look-up, if it goes by a text of which each document has at
-/// most one.
+/// Returns the posting list that the access reaches, by one look-up. `None` comes if and only if it goes by no text of which each
+/// document has at most one, or the row that has that text has none.
 pub fn single_list<'a>(
     access: AccessRef<'a>,
     env: &Env<'a>,
     index: &'a RowIndex,
 ) -> Option<SingleList<'a>>
-    ensures { IfSome result (λ found. ReachesList index.now (access_at access.entry) env.now found) }
+    ensures some { IfSome result (λ found. ReachesList index.now (access_at access.entry) env.now found) }
+    ensures none { result ≡ None → single_text (access_at access.entry) env.now ≡ None }
 {
+    // Brings into scope that the documents arrived in order of their numbers.
+    let _docs = index.docs();
     match access {
         AccessRef::ByMsgId(e) => list_under(TextKind::MsgId, text(e, env), index),
         AccessRef::ByParent(e) => list_under(TextKind::Parent, text(e, env), index),

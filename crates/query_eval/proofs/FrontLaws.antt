@@ -1,12 +1,11 @@
 -- Fronts of posting lists, and what a walk behind them leaves out.
 use Rattle.std.proofs.Common.{◌≡◌, ◌∙◌, ◌+◌, ◌≤◌, ℕ, ℤ, zero, suc, Bool, true, false, Option, Some, None, List, [], ◌∷◌, ◌++◌, map, take, drop, refl, sym, ap, subst, inl, inr, arith}
-use Rattle.std.specs.Prelude.{◌≤ℤ◌, IfSome, int_le, slice_get, slice_set, option_to_list}
+use Rattle.std.specs.Prelude.{◌≤ℤ◌, ◌⊎◌, IfSome, filter, length, slice_get, slice_set, option_to_list}
 use Rattle.std.specs.List.{flat_map}
 use Rattle.std.proofs.lemmas.Int.{ints}
 use Rattle.std.proofs.lemmas.Bool.{cases_Bool, false≢true}
 use Rattle.tap_base.specs.declared.numbers.DocNum.{DocNum}
 use Rattle.tap_rows.specs.declared.rows.Doc.{Doc}
-use Rattle.tap_rows.specs.declared.tables.Tables.{Tables}
 use Rattle.tap_rows.specs.declared.results.Hit.{Hit}
 use Rattle.tap_rows.specs.declared.results.Entry.{Entry}
 use Rattle.tap_rows.specs.Kept.{Each, In}
@@ -14,24 +13,28 @@ use Rattle.tap_rows.proofs.LaterLaws.{each-map, each-append}
 use Rattle.tql_core.specs.declared.term.Var.{Var}
 use Rattle.tql_core.specs.Row.{Row, OfDoc}
 use Rattle.tql_core.specs.Values.{Env, bind, lookup}
-use Rattle.time_marks.specs.Probes.{Probe}
 use Rattle.time_marks.proofs.Envs.{bind_same}
 use Rattle.access_plan.specs.declared.reach.Reach.{Reach}
 use Rattle.row_index.specs.declared.text_kind.TextKind.{TextKind}
 use Rattle.row_index.specs.declared.text_kind.TextKind.TheVariants.{MsgId, Parent, Sender, Subject, Reference, Word}
 use Rattle.row_index.specs.contracts.text_kind.TextKindPartialEq.TheImpl as kind
-use Rattle.row_index.specs.Orders.{Rising, InPlace, doc_number, doc_arrival, number_of, up_to}
+use Rattle.row_index.specs.Orders.{Rising, InPlace, doc_number, doc_arrival, doc_rank, number_of}
 use Rattle.row_index.specs.Texts.{is_single, texts_of, with_text}
 use Rattle.row_index.proofs.SingleLists.{lists_of_one_kind_are_apart}
+use Rattle.probe_eval.specs.declared.search.Search.{Search}
+use Rattle.probe_eval.specs.LeftOut.{LeavesFalse}
+use Rattle.probe_eval.specs.Searches.{searched}
+use Rattle.probe_eval.specs.SingleLists.{IsSorted}
 use Rattle.probe_eval.specs.Open.{may_go}
-use Rattle.probe_eval.specs.Rests.{rest_of}
 use Rattle.probe_eval.specs.Nested.{new_doc, hit_if, holds_here, hits_over}
 use Rattle.probe_eval.specs.Work.{total}
 use Rattle.probe_eval.proofs.HitSteps.{doc_hits}
-use Rattle.probe_eval.proofs.RestSteps.{stopped}
+use Rattle.probe_eval.proofs.LeftOutLaws.{all_left, docs_as_rows, total_left}
+use Rattle.probe_eval.proofs.WalkedLaws.{none_over}
+use Rattle.query_eval.specs.declared.kept_hits.KeptHits.{KeptHits}
 use Rattle.query_eval.specs.declared.fronts.Front.{Front}
 use Rattle.query_eval.specs.Lowest.{keeping}
-use Rattle.query_eval.specs.Fronts.{IsDone, BeginsWith, IsPassed, IsFront, ArePassed, IsFrontOf, AreBehind}
+use Rattle.query_eval.specs.Fronts.{IsDone, BeginsWith, IsPassed, IsFront, ArePassed, IsFrontOf, AreDoneDocs, AreDocsBehind, AreBehind}
 use Rattle.query_eval.proofs.StableHits.{done_stays, done_later}
 use Rattle.query_eval.proofs.Steps.{keeping_append}
 
@@ -84,10 +87,14 @@ module _ {A : Type 0} where
   front_and_rest (suc n) (x ∷ xs) = ap (λ ys. x ∷ ys) (front_and_rest n xs)
 
   -- what never falls doesn't fall behind a front
-  pub rising_behind : (f : A → ℤ) (n : ℕ) (xs : List A) → Rising f xs → Rising f (drop n xs)
+  rising_behind : (f : A → ℤ) (n : ℕ) (xs : List A) → Rising f xs → Rising f (drop n xs)
   rising_behind f zero xs h = h
   rising_behind f (suc n) [] h = h
   rising_behind f (suc n) (x ∷ xs) h = rising_behind f n xs h.1
+
+-- documents in order are so behind a front
+pub sorted_behind : (n : ℕ) (docs : List Doc) → IsSorted docs → IsSorted (drop n docs)
+sorted_behind n docs s = record { arrivals = rising_behind doc_arrival n docs s.arrivals; numbers = rising_behind doc_rank n docs s.numbers }
 
 module _ (entries : List Entry) (docs : List Doc) (n : ℕ) (kept : List Hit) where
   -- nothing is said of no documents
@@ -181,74 +188,99 @@ known_here entries docs n kept kind text list first b len is number p =
     begins [] e = absurd (none_is e)
     begins (d ∷ ds) e = ap (λ (z : DocNum). z.0) (sym (num_is e))
 
--- no row of the query's documents that is left out changes what is stored
-module _ (entries : List Entry) (T : Tables) (p : Probe) (b : ℤ) (rest : List Reach) (env : Env) (v : Var) (n : ℕ) where
+-- all documents may be walked
+pub all_docs : (s : Search) (into : KeptHits) (b : ℤ) (v : Var) (env : Env) (docs left : List Doc) → left ≡ docs → AreDocsBehind s into b v env docs left
+all_docs s into b v env docs left e = record {
+  passed = [];
+  others = docs;
+  docs_are = refl;
+  done = tt;
+  leaves = all_left (λ d. may_go s.probe.now.path b (bind v (OfDoc d) env)) docs left e;
+}
+
+-- rows may be walked without some with which there is no way on
+pub behind_none : (s : Search) (into : KeptHits) (b : ℤ) (v : Var) (env : Env) (rows left : List Row) → LeavesFalse (λ row. may_go s.probe.now.path b (bind v row env)) rows left → AreBehind s into b v env rows left
+behind_none s into b v env rows left k = record {
+  passed = [];
+  others = rows;
+  rows_are = refl;
+  done = tt;
+  leaves = k;
+  query_var = inl refl;
+}
+
+-- documents of the query that are behind others are rows that are
+pub behind_docs : (s : Search) (into : KeptHits) (b : ℤ) (v : Var) (env : Env) (docs left : List Doc) (all rows : List Row) → v.0 ≡ 0 → all ≡ map OfDoc docs → rows ≡ map OfDoc left → AreDocsBehind s into b v env docs left → AreBehind s into b v env all rows
+behind_docs s into b v env docs left all rows z e l w = record {
+  passed = w.passed;
+  others = map OfDoc w.others;
+  rows_are = e ∙ ap (map OfDoc) w.docs_are ∙ parts w.passed;
+  done = w.done;
+  leaves = docs_as_rows (λ row. may_go s.probe.now.path b (bind v row env)) w.others left (map OfDoc w.others) rows refl l w.leaves;
+  query_var = inr z;
+}
+  where
+    parts : (ds : List Doc) → map OfDoc (ds ++ w.others) ≡ map OfDoc ds ++ map OfDoc w.others
+    parts [] = refl
+    parts (d ∷ ds) = ap (λ rs. OfDoc d ∷ rs) (parts ds)
+
+-- what is made of rows without those of which nothing is made is what is made of all
+flat_kept : {A B : Type 0} (f : A → List B) (keeps : A → Bool) (xs : List A) → ((x : A) → In x xs → keeps x ≡ false → f x ≡ []) → flat_map f xs ≡ flat_map f (filter keeps xs)
+flat_kept f keeps [] h = refl
+flat_kept f keeps (x ∷ xs) h =
+    let r = flat_kept f keeps xs (λ y i. h y (inr i)) in
+    elim (cases_Bool (keeps x)) [
+      | inl e ↦ rw e (ap (λ ys. f x ++ ys) r)
+      | inr e ↦ rw (e, h x (inl refl) e) r
+    ]
+
+-- no row that is left out changes what is stored
+module _ (s : Search) (into : KeptHits) (b : ℤ) (rest : List Reach) (env : Env) (v : Var) where
   abbrev over : Row → List Hit
-  over row = hits_over entries T p b rest (bind v row env)
+  over row = hits_over s.seen.now s.index.now (searched s) b rest (bind v row env)
 
   abbrev here : Doc → Bool
-  here d = holds_here T p b rest (bind v (OfDoc d) env)
+  here d = holds_here s.index.now (searched s) b rest (bind v (OfDoc d) env)
+
+  abbrev stored : List Hit → List Hit
+  stored hits = keeping (length into.places.items) into.hits.items hits
 
   le_self : (x : ℤ) → x ≤ℤ x
   le_self x = omega (arith, ints)
 
-  doc_over : v.0 ≡ 0 → (d : Doc) → over (OfDoc d) ≡ option_to_list (hit_if (here d) b (new_doc entries d))
-  doc_over z d = doc_hits entries T p b rest (bind v (OfDoc d) env) d (subst (λ k. lookup k (bind v (OfDoc d) env) ≡ Some (OfDoc d)) z (bind_same v (OfDoc d) env))
+  doc_over : v.0 ≡ 0 → (d : Doc) → over (OfDoc d) ≡ option_to_list (hit_if (here d) b (new_doc s.seen.now d))
+  doc_over z d = doc_hits s.seen.now s.index.now (searched s) b rest (bind v (OfDoc d) env) d (subst (λ k. lookup k (bind v (OfDoc d) env) ≡ Some (OfDoc d)) z (bind_same v (OfDoc d) env))
 
-  passed_over : v.0 ≡ 0 → (kept : List Hit) (passed others : List Doc) → Each (IsDone entries n kept b) passed → keeping n kept (flat_map over (map OfDoc (passed ++ others))) ≡ keeping n kept (flat_map over (map OfDoc others))
-  passed_over z kept [] others h = refl
-  passed_over z kept (d ∷ ds) others h =
-      let rest_hits = flat_map over (map OfDoc (ds ++ others)) in
-      let one : keeping n kept (over (OfDoc d)) ≡ kept = ap (keeping n kept) (doc_over z d) ∙ sym (h.0.same b (here d) (le_self b)) in
-      keeping_append n kept (over (OfDoc d)) rest_hits ∙ ap (λ k. keeping n k rest_hits) one ∙ passed_over z kept ds others h.1
+  passed_over : v.0 ≡ 0 → (passed : List Doc) (others : List Row) → AreDoneDocs s into b passed → stored (flat_map over (map OfDoc passed ++ others)) ≡ stored (flat_map over others)
+  passed_over z [] others h = refl
+  passed_over z (d ∷ ds) others h =
+      let rest_hits = flat_map over (map OfDoc ds ++ others) in
+      let one : stored (over (OfDoc d)) ≡ into.hits.items = ap stored (doc_over z d) ∙ sym (h.0.same b (here d) (le_self b)) in
+      keeping_append (length into.places.items) into.hits.items (over (OfDoc d)) rest_hits
+      ∙ ap (λ k. keeping (length into.places.items) k rest_hits) one
+      ∙ passed_over z ds others h.1
 
-  no_pass : (o : Option DocNum) → [] ≡ option_to_list (hit_if false b o)
-  no_pass None = refl
-  no_pass (Some num) = refl
+  all_passed : (passed : List Doc) (others : List Row) → (passed ≡ []) ⊎ (v.0 ≡ 0) → AreDoneDocs s into b passed → stored (flat_map over (map OfDoc passed ++ others)) ≡ stored (flat_map over others)
+  all_passed passed others (inl e) h = ap (λ ds. stored (flat_map over (map OfDoc ds ++ others))) e
+  all_passed passed others (inr z) h = passed_over z passed others h
 
-  -- a document that arrived after the mark has no hit
-  late_over : v.0 ≡ 0 → (d : Doc) → int_le d.arrival b ≡ false → over (OfDoc d) ≡ []
-  late_over z d l =
-      let m : may_go p.path b (bind v (OfDoc d) env) ≡ false = rw l refl in
-      let r : rest_of T p.path b rest (bind v (OfDoc d) env) ≡ false = sym (stopped T p.path b rest (bind v (OfDoc d) env) m) in
-      let f : here d ≡ false = rw r refl in
-      doc_over z d ∙ ap (λ t. option_to_list (hit_if t b (new_doc entries d))) f ∙ sym (no_pass (new_doc entries d))
-
-  late_out : v.0 ≡ 0 → (others : List Doc) → flat_map over (map OfDoc others) ≡ flat_map over (map OfDoc (up_to doc_arrival b others))
-  late_out z [] = refl
-  late_out z (d ∷ ds) = elim (cases_Bool (int_le d.arrival b)) [
-    | inl l ↦ rw l (ap (λ hs. over (OfDoc d) ++ hs) (late_out z ds))
-    | inr l ↦ rw l (ap (λ hs. hs ++ flat_map over (map OfDoc ds)) (late_over z d l) ∙ late_out z ds)
-  ]
-
-  pub behind_hits : (kept : List Hit) (rows left : List Row) → AreBehind entries n kept b v rows left → keeping n kept (flat_map over rows) ≡ keeping n kept (flat_map over left)
-  behind_hits kept rows left (inl e) = ap (λ rs. keeping n kept (flat_map over rs)) (sym e)
-  behind_hits kept rows left (inr w) =
-      ap (λ rs. keeping n kept (flat_map over rs)) w.rows_are
-      ∙ passed_over w.query_var kept w.passed w.others w.done
-      ∙ ap (keeping n kept) (late_out w.query_var w.others)
-      ∙ ap (λ rs. keeping n kept (flat_map over rs)) (sym w.left_are)
+  pub behind_hits : (rows left : List Row) → AreBehind s into b v env rows left → keeping (length into.places.items) into.hits.items (flat_map over rows) ≡ keeping (length into.places.items) into.hits.items (flat_map over left)
+  behind_hits rows left w =
+      let none : (row : Row) → In row w.others → w.leaves.keeps row ≡ false → over row ≡ [] = λ row i e. none_over s.seen.now s.index.now (searched s) b (bind v row env) (w.leaves.refused row i e) rest in
+      ap (λ rs. stored (flat_map over rs)) w.rows_are
+      ∙ all_passed w.passed w.others w.query_var w.done
+      ∙ ap stored (flat_kept over w.leaves.keeps w.others none)
+      ∙ ap (λ rs. stored (flat_map over rs)) (sym w.leaves.left_are)
 
 -- nor does leaving out rows cost more
 module _ (cost : Row → ℕ) where
-  fewer_late : (b : ℤ) (others : List Doc) → total cost (map OfDoc (up_to doc_arrival b others)) ≤ total cost (map OfDoc others)
-  fewer_late b [] = omega arith
-  fewer_late b (d ∷ ds) =
-      let k = fewer_late b ds in
-      elim (cases_Bool (int_le d.arrival b)) [
-        | inl l ↦ rw l (omega (arith, k))
-        | inr l ↦ rw l (omega (arith, k))
-      ]
-
-  fewer_passed : (passed others : List Doc) → total cost (map OfDoc others) ≤ total cost (map OfDoc (passed ++ others))
+  fewer_passed : (passed : List Doc) (others : List Row) → total cost others ≤ total cost (map OfDoc passed ++ others)
   fewer_passed [] others = omega arith
   fewer_passed (d ∷ ds) others = let k = fewer_passed ds others in omega (arith, k)
 
-  pub behind_cost : (entries : List Entry) (n : ℕ) (kept : List Hit) (b : ℤ) (v : Var) (rows left : List Row) → AreBehind entries n kept b v rows left → total cost left ≤ total cost rows
-  behind_cost entries n kept b v rows left (inl e) = let k = ap (total cost) e in omega (arith, k)
-  behind_cost entries n kept b v rows left (inr w) =
+  pub behind_cost : (s : Search) (into : KeptHits) (b : ℤ) (v : Var) (env : Env) (rows left : List Row) → AreBehind s into b v env rows left → total cost left ≤ total cost rows
+  behind_cost s into b v env rows left w =
       let r = ap (total cost) w.rows_are in
-      let l = ap (total cost) w.left_are in
-      let f = fewer_late b w.others in
+      let l = total_left (λ row. may_go s.probe.now.path b (bind v row env)) w.others left w.leaves cost in
       let g = fewer_passed w.passed w.others in
-      omega (arith, r, l, f, g)
+      omega (arith, r, l, g)

@@ -9,14 +9,16 @@ ghost use Rattle.probe_eval.specs.Work.{rows_by};
 ghost use Rattle.query_eval.specs.Placed.{IsReady};
 ghost use Rattle.query_eval.specs.Fronts.{IsDone, AreDone, AreDoneDocs, AreDocsBehind, AreBehind};
 
-use crate::fronts::{Front, Fronts, LONG};
+use crate::fronts::{Front, Fronts};
 use crate::kept_hits::KeptHits;
 use access_plan::ReachRef;
-use probe_eval::{RowWalk, Search, SingleList, rows_by, single_list};
+use probe_eval::{
+    LONG, RowWalk, Search, SingleList, docs_beside, rows_beside, rows_by, single_list,
+};
 use row_index::PostingList;
 use tap_base::DocNum;
 use tap_rows::Hit;
-use tql_core::Env;
+use tql_core::{Env, Var};
 
 // Returns whether the document of this number is in the box, or a hit of it is stored that is no later than this mark.
 fn is_done(search: &Search, num: DocNum, mark: i64, into: &KeptHits) -> bool
@@ -62,10 +64,13 @@ fn done_from(search: &Search, docs: &PostingList, len: usize, mark: i64, into: &
     done
 }
 
-// Returns the documents of the list behind its front that arrived by the mark, and stores the front.
-fn behind_front<'a>(
+// Returns the documents of the list with which there may be a way on to a hit that changes what is stored. Of a long list those
+// at its front are left out that are done, and the front is stored.
+fn docs_behind<'a>(
     search: &Search<'a>,
     found: SingleList<'a>,
+    var: Var,
+    env: &Env,
     mark: i64,
     into: &KeptHits,
     fronts: &mut Fronts,
@@ -73,14 +78,17 @@ fn behind_front<'a>(
     requires ready { IsReady into.now }
     requires list { IsSingleList search.now.index.now found }
     requires fronts { AreDone search.now into.now fronts.old }
-    ensures rows { AreDocsBehind search.now into.now mark found.entry.docs result }
+    ensures rows { AreDocsBehind search.now into.now mark var env.now found.entry.docs result }
     ensures fronts { AreDone search.now into.now fronts.new }
 {
     // Brings into scope that the documents' numbers are their places.
     let _docs = search.index.docs();
     let SingleList { kind, docs } = found;
+    if docs.len() < LONG {
+        return docs;
+    }
     match docs.number(0) {
-        None => docs.arrived_to(mark),
+        None => docs,
         Some(first) => {
             let known = fronts.done(kind, first, mark);
             let len = done_from(search, &docs, known, mark, into);
@@ -90,13 +98,14 @@ fn behind_front<'a>(
                 mark,
                 len,
             });
-            docs.skip(len).arrived_to(mark)
+            docs_beside(search.probe.path.as_slice(), var, docs.skip(len), mark, env)
         }
     }
 }
 
 /// Returns the rows of the reach that may change what is stored, beside those of `env`, with this mark or a later one. Of a
-/// long posting list of the query's documents those that are done at its front are left out.
+/// long posting list those are left out that the mark or a guard between numbers rules out, and of the query's documents those
+/// that are done at its front.
 pub(crate) fn open_rows<'a>(
     search: &Search<'a>,
     reach: ReachRef<'a>,
@@ -107,20 +116,17 @@ pub(crate) fn open_rows<'a>(
 ) -> RowWalk<'a>
     requires ready { IsReady into.now }
     requires fronts { AreDone search.now into.now fronts.old }
-    ensures rows { AreBehind search.now.seen.now (length into.now.places.items) into.now.hits.items mark reach.entry.var
+    ensures rows { AreBehind search.now into.now mark reach.entry.var env.now
         (rows_by mark (access_at reach.entry.access) env.now search.now.index.now) result }
     ensures fronts { AreDone search.now into.now fronts.new }
 {
     if reach.var.0 != 0 {
-        return rows_by(reach.access, mark, env, search.index);
+        return rows_beside(search.probe.path.as_slice(), reach, mark, env, search.index);
     }
     match single_list(reach.access, env, search.index) {
         None => rows_by(reach.access, mark, env, search.index),
-        Some(found) => {
-            if found.docs.len() < LONG {
-                return RowWalk::of_docs(found.docs.walk());
-            }
-            RowWalk::of_docs(behind_front(search, found, mark, into, fronts).walk())
-        }
+        Some(found) => RowWalk::of_docs(docs_behind(
+            search, found, reach.var, env, mark, into, fronts,
+        ).walk()),
     }
 }

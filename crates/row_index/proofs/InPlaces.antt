@@ -1,17 +1,13 @@
 -- Rows in their places.
-use Rattle.std.proofs.Common.{◌≡◌, ℕ, zero, suc, ◌+◌, ◌-◌, ◌<◌, ◌^◌, ℤ, pos, ◌≤ℤ◌, Bool, true, false, List, [], ◌∷◌, ◌++◌, Some, None, length, refl, sym, ap, ◌∙◌, subst, inl, inr, arith, nat_eq, length-append}
-use Rattle.std.specs.Prelude.{int_le, slice_get, nat_lt, ◌<ℤ◌, ◌≤◌}
+use Rattle.std.proofs.Common.{◌≡◌, ℕ, zero, suc, ◌+◌, ◌-◌, ◌<◌, ◌^◌, ℤ, pos, ◌≤ℤ◌, Bool, true, false, List, [], ◌∷◌, ◌++◌, None, length, refl, sym, ◌∙◌, subst, arith, nat_eq, length-append}
+use Rattle.std.specs.Prelude.{int_le, slice_get, ◌≤◌}
 use Rattle.std.specs.List.{find, list_all}
 use Rattle.std.proofs.lemmas.Int.{ints}
-use Rattle.std.proofs.lemmas.Bool.{cases_Bool, and_parts}
-use Rattle.std.proofs.lemmas.Option.{none-some, same_Some}
+use Rattle.std.proofs.lemmas.Bool.{and_parts}
 use Rattle.tap_rows.specs.declared.rows.Doc.{Doc}
 use Rattle.tap_rows.specs.Arrivals.{Arrived}
-use Rattle.tap_rows.specs.Kept.{Each, In}
+use Rattle.tap_rows.specs.Kept.{Each}
 use Rattle.row_index.specs.Orders.{InPlace, IsMoment, Numbered, Rising, doc_number, doc_arrival}
-
-nat_same : (m n : ℕ) → m ≡ n → nat_eq m n ≡ true
-nat_same m n e = grind (arith, e)
 
 nat_other : (m n : ℕ) → m < n → nat_eq n m ≡ false
 nat_other m n h = grind (arith, h)
@@ -44,62 +40,24 @@ module _ {A : Type 0} (number : A → ℕ) where
       let e : 1 + (m - 1) ≡ m = omega (arith, w) in
       sym (subst (λ z. find (λ x. nat_eq (number x) z) xs ≡ slice_get xs (m - 1)) e (found_from 1 (m - 1) xs h))
 
+  le_ranks : (a b : ℕ) → a ≤ b → int_le (pos a) (pos b) ≡ true
+  le_ranks a b h = grind (arith, ints)
+
+  no_lower : (low n : ℕ) (xs : List A) → Numbered number n xs → low ≤ n → list_all (λ x. int_le (pos low) (pos (number x))) xs ≡ true
+  no_lower low n [] h w = refl
+  no_lower low n (x ∷ xs) h w =
+      let e : low ≤ number x = subst (λ z. low ≤ z) (sym h.0) w in
+      rw (le_ranks low (number x) e) (no_lower low (n + 1) xs h.1 (omega (arith, w)))
+
+  -- the numbers of rows in their places rise
+  pub numbers_rise : (n : ℕ) (xs : List A) → Numbered number n xs → Rising (λ x. pos (number x)) xs
+  numbers_rise n [] h = tt
+  numbers_rise n (x ∷ xs) h =
+      let e : number x ≡ n = h.0 in
+      (no_lower (number x) (n + 1) xs h.1 (omega (arith, e)), numbers_rise (n + 1) xs h.1)
+
 le_of : (a b : ℤ) → int_le a b ≡ true → a ≤ℤ b
 le_of a b h = grind (arith, ints)
-
--- who arrived before another one has no higher number
-module _ (k : ℕ) (d e : Doc) where
-  all_in : (t : Doc → Bool) (docs : List Doc) → In d docs → list_all t docs ≡ true → t d ≡ true
-  all_in t [] i h = absurd i
-  all_in t (x ∷ xs) (inl s) h = subst (λ z. t z ≡ true) (sym s) (and_parts (t x) (list_all t xs) h).0
-  all_in t (x ∷ xs) (inr i) h = all_in t xs i (and_parts (t x) (list_all t xs) h).1
-
-  not_before : (a b : ℤ) → a ≤ℤ b → b <ℤ a → ⊥
-  not_before a b h w = omega (arith, ints)
-
-  le_same : (a : ℤ) → a ≤ℤ a
-  le_same a = omega (arith, ints)
-
-  -- no document arrived before the first one
-  first_is_first : (x : Doc) (xs : List Doc) → Rising doc_arrival (x ∷ xs) → In d (x ∷ xs) → d.arrival <ℤ x.arrival → ⊥
-  first_is_first x xs r (inl s) w = not_before x.arrival x.arrival (le_same x.arrival) (subst (λ (z : Doc). z.arrival <ℤ x.arrival) s w)
-  first_is_first x xs r (inr i) w = not_before x.arrival d.arrival (le_of x.arrival d.arrival (all_in (λ y. int_le x.arrival y.arrival) xs i r.0)) w
-
-  lt_of : (m n : ℕ) → nat_lt m n ≡ true → m < n
-  lt_of m n h = grind (arith, h)
-
-  ge_of : (m n : ℕ) → nat_lt m n ≡ false → n ≤ m
-  ge_of m n h = grind (arith, h)
-
-  -- the number of one that is found is no lower than the first one's
-  found_behind : (n : ℕ) (xs : List Doc) → Numbered doc_number n xs → find (λ doc. nat_eq doc.num.0 k) xs ≡ Some e → n ≤ k
-  found_behind n xs h f =
-      elim (cases_Bool (nat_lt k n)) [
-        | inl l ↦ absurd (none-some e (sym (none_before doc_number k n xs h (lt_of k n l)) ∙ f))
-        | inr g ↦ ge_of k n g
-      ]
-
-  lower : (m n k : ℕ) → m ≡ n → n + 1 ≤ k → m ≤ k
-  lower m n k e h = omega (arith, e, h)
-
-  behind_first : (n : ℕ) (x : Doc) (xs : List Doc) → Numbered doc_number n (x ∷ xs) → find (λ doc. nat_eq doc.num.0 k) xs ≡ Some e → (In d xs → d.num.0 ≤ k) → In d (x ∷ xs) → d.num.0 ≤ k
-  behind_first n x xs h f more (inl s) = lower d.num.0 n k (ap (λ (z : Doc). z.num.0) s ∙ h.0) (found_behind (n + 1) xs h.1 f)
-  behind_first n x xs h f more (inr i) = more i
-
-  lower_from : (n : ℕ) (docs : List Doc) → Numbered doc_number n docs → Rising doc_arrival docs → find (λ doc. nat_eq doc.num.0 k) docs ≡ Some e → In d docs → d.arrival <ℤ e.arrival → d.num.0 ≤ k
-  lower_from n [] h r f i w = absurd i
-  lower_from n (x ∷ xs) h r f i w =
-      elim (cases_Bool (nat_eq x.num.0 k)) [
-        | inl b ↦
-            let s : x ≡ e = same_Some x e (rw b at f) in
-            absurd (first_is_first x xs r i (subst (λ (z : Doc). d.arrival <ℤ z.arrival) (sym s) w))
-        | inr b ↦
-            let q : find (λ doc. nat_eq doc.num.0 k) xs ≡ Some e = rw b at f in
-            behind_first n x xs h q (λ j. lower_from (n + 1) xs h.1 r.1 q j w) i
-      ]
-
-  pub earlier_is_lower : (docs : List Doc) → InPlace doc_number doc_arrival docs → find (λ doc. nat_eq doc.num.0 k) docs ≡ Some e → In d docs → d.arrival <ℤ e.arrival → d.num.0 ≤ k
-  earlier_is_lower docs stand f i w = lower_from 1 docs stand.numbered stand.rising f i w
 
 -- documents in their places arrived one after another
 arrived_from : (n : ℕ) (low : ℤ) (docs : List Doc) → Numbered doc_number n docs → Rising doc_arrival docs → Each (λ doc. low ≤ℤ doc.arrival) docs → Arrived n low docs

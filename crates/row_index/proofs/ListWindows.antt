@@ -1,17 +1,19 @@
--- The part of a posting list that is within a window of arrivals.
-use Rattle.std.proofs.Common.{◌≡◌, ℕ, ◌-◌, ℤ, true, List, [], ◌∷◌, Option, Some, None, Bool, false, filter, arith, length, map, refl, sym, ap, ◌∙◌, subst, inl, inr, suc, ◌&&◌}
+-- The part of a posting list that is within a window of arrivals or numbers.
+use Rattle.std.proofs.Common.{◌≡◌, ℕ, ◌+◌, ◌-◌, ◌<◌, ◌^◌, ℤ, true, List, [], ◌∷◌, Option, Some, None, Bool, false, filter, arith, length, map, refl, sym, ap, ◌∙◌, subst, inl, inr, suc, ◌&&◌}
 use Rattle.std.specs.Prelude.{int_le, int_lt, slice_get}
 use Rattle.std.specs.List.{list_all}
 use Rattle.std.specs.Str.{bytes_eq}
 use Rattle.std.proofs.lemmas.Bool.{cases_Bool, and_parts}
+use Rattle.tap_base.specs.declared.numbers.DocNum.{DocNum}
 use Rattle.tap_rows.specs.declared.rows.Doc.{Doc}
 use Rattle.tap_rows.specs.Kept.{Each}
-use Rattle.row_index.specs.Walks.{HasRows, at_places, put_before}
-use Rattle.row_index.specs.Orders.{Rising, InPlace, in_window, doc_number, doc_arrival, arrival_of, place_arrival}
+use Rattle.row_index.specs.Walks.{ArePlaces, HasRows, at_places, put_before}
+use Rattle.row_index.specs.Orders.{Rising, InPlace, in_window, doc_number, doc_rank, doc_arrival, number_of, arrival_of, place_arrival}
 use Rattle.row_index.specs.Posts.{places_of, has}
 use Rattle.row_index.specs.Texts.{with_text}
 use Rattle.row_index.proofs.Halves.{rising_kept}
-use Rattle.row_index.proofs.PlaceLists.{own_picked, each_kept, all_own, full_rest}
+use Rattle.row_index.proofs.InPlaces.{numbers_rise}
+use Rattle.row_index.proofs.PlaceLists.{own_picked, each_kept, all_own, full_rest, number_at_place, row_at_place}
 
 module _ {A B : Type 0} (f : A → ℤ) (g : B → ℤ) (h : A → B) where
   all_mapped : (low : ℤ) (xs : List A) → Each (λ x. g (h x) ≡ f x) xs → list_all (λ x. int_le low (f x)) xs ≡ true → list_all (λ y. int_le low (g y)) (map h xs) ≡ true
@@ -56,6 +58,10 @@ module _ (texts : Doc → List (List ℕ)) (text : List ℕ) (docs : List Doc) (
   pub listed_arrive : Rising doc_arrival (with_text texts text docs)
   listed_arrive = rising_kept doc_arrival (λ doc. has bytes_eq text (texts doc)) docs stand.rising
 
+  -- and their numbers rise
+  pub listed_numbers : Rising doc_rank (with_text texts text docs)
+  listed_numbers = rising_kept doc_rank (λ doc. has bytes_eq text (texts doc)) docs (numbers_rise doc_number 1 docs stand.numbered)
+
   pub own_listed : Each (IsOwn docs) (with_text texts text docs)
   own_listed = each_kept (IsOwn docs) (λ doc. has bytes_eq text (texts doc)) docs (all_own doc_number docs stand.numbered)
 
@@ -89,49 +95,63 @@ module _ (texts : Doc → List (List ℕ)) (text : List ℕ) (docs : List Doc) (
 
 -- places at each of which there is a document
 module _ (docs : List Doc) where
-  all_first : (low : ℤ) (o : Option Doc) (rest : List Doc) (n : ℕ) (b : Bool) → length (put_before o rest) ≡ suc n → (list_all (λ doc. int_le low (doc_arrival doc)) rest ≡ true → b ≡ true)
-      → list_all (λ doc. int_le low (doc_arrival doc)) (put_before o rest) ≡ true → (int_le low (arrival_of o) && b) ≡ true
-  all_first low None rest n b h f k = absurd (omega (arith, h))
-  all_first low (Some doc) rest n b h f k =
-      let a = and_parts (int_le low doc.arrival) (list_all (λ d. int_le low (doc_arrival d)) rest) k in
-      rw (a.0, f a.1) refl
+  -- f of a document is g of what stands at its place
+  module _ (f : Doc → ℤ) (g : Option Doc → ℤ) (is : (doc : Doc) → g (Some doc) ≡ f doc) where
+    all_first : (low : ℤ) (o : Option Doc) (rest : List Doc) (n : ℕ) (b : Bool) → length (put_before o rest) ≡ suc n → (list_all (λ doc. int_le low (f doc)) rest ≡ true → b ≡ true)
+        → list_all (λ doc. int_le low (f doc)) (put_before o rest) ≡ true → (int_le low (g o) && b) ≡ true
+    all_first low None rest n b h more k = absurd (omega (arith, h))
+    all_first low (Some doc) rest n b h more k =
+        let a = and_parts (int_le low (f doc)) (list_all (λ d. int_le low (f d)) rest) k in
+        rw (is doc, a.0, more a.1) refl
 
-  all_placed : (low : ℤ) (places : List ℕ) → HasRows docs places → list_all (λ doc. int_le low (doc_arrival doc)) (at_places docs places) ≡ true → list_all (λ place. int_le low (place_arrival docs place)) places ≡ true
-  all_placed low [] h k = refl
-  all_placed low (p ∷ ps) h k =
-      let w = full_rest (slice_get docs p) (at_places docs ps) (length ps) h in
-      all_first low (slice_get docs p) (at_places docs ps) (length ps) (list_all (λ place. int_le low (place_arrival docs place)) ps) h (all_placed low ps w) k
+    all_placed : (low : ℤ) (places : List ℕ) → HasRows docs places → list_all (λ doc. int_le low (f doc)) (at_places docs places) ≡ true → list_all (λ place. int_le low (g (slice_get docs place))) places ≡ true
+    all_placed low [] h k = refl
+    all_placed low (p ∷ ps) h k =
+        let w = full_rest (slice_get docs p) (at_places docs ps) (length ps) h in
+        all_first low (slice_get docs p) (at_places docs ps) (length ps) (list_all (λ place. int_le low (g (slice_get docs place))) ps) h (all_placed low ps w) k
 
-  rising_first : (o : Option Doc) (ps : List ℕ) → HasRows docs ps → length (put_before o (at_places docs ps)) ≡ suc (length ps) → Rising doc_arrival (put_before o (at_places docs ps))
-      → (list_all (λ place. int_le (arrival_of o) (place_arrival docs place)) ps ≡ true) × Rising doc_arrival (at_places docs ps)
-  rising_first None ps w h r = absurd (omega (arith, h))
-  rising_first (Some doc) ps w h r = (all_placed doc.arrival ps w r.0, r.1)
+    rising_first : (o : Option Doc) (ps : List ℕ) → HasRows docs ps → length (put_before o (at_places docs ps)) ≡ suc (length ps) → Rising f (put_before o (at_places docs ps))
+        → (list_all (λ place. int_le (g o) (g (slice_get docs place))) ps ≡ true) × Rising f (at_places docs ps)
+    rising_first None ps w h r = absurd (omega (arith, h))
+    rising_first (Some doc) ps w h r = (rw (is doc) (all_placed (f doc) ps w r.0), r.1)
 
-  -- they rise as the documents do
-  pub rising_placed : (places : List ℕ) → HasRows docs places → Rising doc_arrival (at_places docs places) → Rising (place_arrival docs) places
-  rising_placed [] h r = tt
-  rising_placed (p ∷ ps) h r =
-      let w = full_rest (slice_get docs p) (at_places docs ps) (length ps) h in
-      let s = rising_first (slice_get docs p) ps w h r in
-      (s.0, rising_placed ps w s.1)
+    -- they rise as the documents do
+    pub rising_placed : (places : List ℕ) → HasRows docs places → Rising f (at_places docs places) → Rising (λ place. g (slice_get docs place)) places
+    rising_placed [] h r = tt
+    rising_placed (p ∷ ps) h r =
+        let w = full_rest (slice_get docs p) (at_places docs ps) (length ps) h in
+        let s = rising_first (slice_get docs p) ps w h r in
+        (s.0, rising_placed ps w s.1)
 
-  module _ (t : ℤ → Bool) where
-    kept_first : (o : Option Doc) (rest kept : List Doc) (n : ℕ) → length (put_before o rest) ≡ suc n → t (arrival_of o) ≡ true → kept ≡ filter (λ doc. t (doc_arrival doc)) rest
-        → put_before o kept ≡ filter (λ doc. t (doc_arrival doc)) (put_before o rest)
+  -- a test of a document is one of what stands at its place
+  module _ (t : Doc → Bool) (s : Option Doc → Bool) (is : (doc : Doc) → s (Some doc) ≡ t doc) where
+    kept_first : (o : Option Doc) (rest kept : List Doc) (n : ℕ) → length (put_before o rest) ≡ suc n → s o ≡ true → kept ≡ filter t rest → put_before o kept ≡ filter t (put_before o rest)
     kept_first None rest kept n h e k = absurd (omega (arith, h))
-    kept_first (Some doc) rest kept n h e k = rw e (ap (λ z. doc ∷ z) k)
+    kept_first (Some doc) rest kept n h e k = rw (sym (is doc) ∙ e) (ap (λ z. doc ∷ z) k)
 
-    left_first : (o : Option Doc) (rest kept : List Doc) (n : ℕ) → length (put_before o rest) ≡ suc n → t (arrival_of o) ≡ false → kept ≡ filter (λ doc. t (doc_arrival doc)) rest
-        → kept ≡ filter (λ doc. t (doc_arrival doc)) (put_before o rest)
+    left_first : (o : Option Doc) (rest kept : List Doc) (n : ℕ) → length (put_before o rest) ≡ suc n → s o ≡ false → kept ≡ filter t rest → kept ≡ filter t (put_before o rest)
     left_first None rest kept n h e k = absurd (omega (arith, h))
-    left_first (Some doc) rest kept n h e k = rw e k
+    left_first (Some doc) rest kept n h e k = rw (sym (is doc) ∙ e) k
 
-    -- places that a test of their arrivals keeps pick the documents that it keeps
-    pub kept_picked : (places : List ℕ) → HasRows docs places → at_places docs (filter (λ place. t (place_arrival docs place)) places) ≡ filter (λ doc. t (doc_arrival doc)) (at_places docs places)
+    -- places that the test keeps pick the documents that it keeps
+    pub kept_picked : (places : List ℕ) → HasRows docs places → at_places docs (filter (λ place. s (slice_get docs place)) places) ≡ filter t (at_places docs places)
     kept_picked [] h = refl
     kept_picked (p ∷ ps) h =
         let r = kept_picked ps (full_rest (slice_get docs p) (at_places docs ps) (length ps) h) in
-        elim (cases_Bool (t (place_arrival docs p))) [
-          | inl e ↦ rw e (kept_first (slice_get docs p) (at_places docs ps) (at_places docs (filter (λ place. t (place_arrival docs place)) ps)) (length ps) h e r)
-          | inr e ↦ rw e (left_first (slice_get docs p) (at_places docs ps) (at_places docs (filter (λ place. t (place_arrival docs place)) ps)) (length ps) h e r)
+        elim (cases_Bool (s (slice_get docs p))) [
+          | inl e ↦ rw e (kept_first (slice_get docs p) (at_places docs ps) (at_places docs (filter (λ place. s (slice_get docs place)) ps)) (length ps) h e r)
+          | inr e ↦ rw e (left_first (slice_get docs p) (at_places docs ps) (at_places docs (filter (λ place. s (slice_get docs place)) ps)) (length ps) h e r)
         ]
+
+abbrev numbered : ℕ → DocNum
+numbered n = record { 0 = n }
+
+-- a document's number is the one after its place
+pub number_here : (docs : List Doc) (places : List ℕ) (k p : ℕ) → ArePlaces docs places → slice_get places k ≡ Some p → (p + 1 < 2 ^ 32) × (Some (numbered (p + 1)) ≡ number_of (slice_get docs p))
+number_here docs places k p h e =
+    let row = row_at_place docs places k p h.rows e in
+    let at = number_at_place doc_number 1 p docs row.0 h.stand.numbered row.1 in
+    let room = h.stand.room in
+    let within = at.1 in
+    let n : p + 1 ≡ row.0.num.0 = let q = at.0 in omega (arith, q) in
+    (omega (arith, room, within), ap (λ m. Some (numbered m)) n ∙ ap number_of (sym row.1))

@@ -1,5 +1,5 @@
 -- Rows picked by their places.
-use Rattle.std.proofs.Common.{◌≡◌, ℕ, zero, suc, ◌+◌, ◌-◌, List, [], ◌∷◌, Option, Some, None, IfSome, filter, Bool, length, drop, refl, sym, ap, ◌∙◌, subst, inl, inr, arith}
+use Rattle.std.proofs.Common.{◌≡◌, ℕ, zero, suc, ◌+◌, ◌-◌, ◌<◌, ◌≤◌, List, [], ◌∷◌, Option, Some, None, IfSome, filter, Bool, length, drop, refl, sym, ap, ◌∙◌, subst, inl, inr, arith}
 use Rattle.std.proofs.lemmas.Option.{none-some, same_Some}
 use Rattle.std.proofs.lemmas.Bool.{cases_Bool}
 use Rattle.std.specs.Prelude.{slice_get, option_copied}
@@ -106,3 +106,32 @@ module _ {A : Type 0} where
   behind_has_rows xs places zero h = h
   behind_has_rows xs [] (suc k) h = refl
   behind_has_rows xs (p ∷ ps) (suc k) h = behind_has_rows xs ps k (full_rest (slice_get xs p) (at_places xs ps) (length ps) h)
+
+-- the row at a place has the number that counts up to it
+pub number_at_place : {A : Type 0} (number : A → ℕ) (n k : ℕ) (rows : List A) (row : A) → Numbered number n rows → slice_get rows k ≡ Some row → (number row ≡ n + k) × (k < length rows)
+number_at_place number n k [] row h e = absurd cc
+number_at_place number n zero (x ∷ rows) row h e = (ap number (sym (same_Some x row e)) ∙ h.0 ∙ omega arith, omega arith)
+number_at_place number n (suc k) (x ∷ rows) row h e =
+    let r = number_at_place number (n + 1) k rows row h.1 e in
+    let q = r.0 in
+    let w = r.1 in
+    (omega (arith, q), omega (arith, w))
+
+module _ {A : Type 0} (rows : List A) where
+  -- at each of the places there is a row
+  pub row_at_place : (places : List ℕ) (k p : ℕ) → HasRows rows places → slice_get places k ≡ Some p → (row : A) × (slice_get rows p ≡ Some row)
+  row_at_place [] k p h e = absurd cc
+  row_at_place (x ∷ places) zero p h e = subst (λ z. (row : A) × (slice_get rows z ≡ Some row)) (same_Some x p e) (go (slice_get rows x) refl h)
+    where
+      go : (o : Option A) → slice_get rows x ≡ o → length (put_before o (at_places rows places)) ≡ suc (length places) → (row : A) × (slice_get rows x ≡ Some row)
+      go None q l = absurd (omega (arith, l))
+      go (Some row) q l = (row, q)
+  row_at_place (x ∷ places) (suc k) p h e = row_at_place places k p (full_rest (slice_get rows x) (at_places rows places) (length places) h) e
+
+  -- behind the places there is none
+  pub none_at_place : (places : List ℕ) (k : ℕ) → HasRows rows places → length places ≤ k → slice_get (at_places rows places) k ≡ None
+  none_at_place [] k h w = refl
+  none_at_place (x ∷ places) zero h w = absurd (omega (arith, w))
+  none_at_place (x ∷ places) (suc k) h w =
+      put_later (slice_get rows x) (at_places rows places) (length places) k h
+      ∙ none_at_place places k (full_rest (slice_get rows x) (at_places rows places) (length places) h) (omega (arith, w))

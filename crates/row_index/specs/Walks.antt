@@ -1,5 +1,7 @@
 -- The rows that are left of a walk.
 use Rattle.std.specs.Prelude.{◌≡◌, ℕ, Option, Some, None, List, [], ◌∷◌, length, map, slice_get}
+use Rattle.tap_rows.specs.declared.rows.Doc.{Doc}
+use Rattle.row_index.specs.Orders.{InPlace, doc_number, doc_arrival}
 use Rattle.row_index.specs.declared.dates.Dated.{Dated}
 use Rattle.row_index.specs.declared.walk.Places.{Places}
 use Rattle.row_index.specs.declared.walk.Places.TheVariants.{Listed, ByDate}
@@ -19,6 +21,11 @@ at_places xs (k ∷ ks) = put_before (slice_get xs k) (at_places xs ks)
 -- there is an element at each of the places
 abbrev pub HasRows : {A : Type 0} → List A → List ℕ → Type 0
 HasRows xs places = length (at_places xs places) ≡ length places
+
+-- documents in their places, and at each of these places there is one
+pub record ArePlaces (docs : List Doc) (places : List ℕ) : Type 0 where
+  pub stand : InPlace doc_number doc_arrival docs
+  pub rows : HasRows docs places
 
 -- the places that are left
 abbrev pub places_in : Places → List ℕ

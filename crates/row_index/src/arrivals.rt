@@ -1,7 +1,7 @@
 //! The rows of some seconds, found by halving: arrivals never fall.
 
 ghost use Rattle.std.specs.Prelude.{◌≡◌, not, int_lt, filter};
-ghost use Rattle.row_index.specs.Orders.{Rising, doc_arrival, note_arrival, place_arrival, in_window, up_to, from_on};
+ghost use Rattle.row_index.specs.Orders.{Rising, doc_arrival, note_arrival, place_arrival, in_window, up_to};
 
 use tap_rows::{KeptDoc, Note};
 
@@ -114,12 +114,4 @@ pub(crate) fn places_up_to<'a>(docs: &[KeptDoc], places: &'a [u32], last: i64) -
     ensures { result.now ≡ up_to (place_arrival docs.now) last places.now }
 {
     &places[..places.partition_point(|place| arrival_at(docs, *place) <= last)]
-}
-
-// Returns the places of documents that arrived at `first` or later.
-pub(crate) fn places_from_on<'a>(docs: &[KeptDoc], places: &'a [u32], first: i64) -> &'a [u32]
-    requires { Rising (place_arrival docs.now) places.now }
-    ensures { result.now ≡ from_on (place_arrival docs.now) first places.now }
-{
-    &places[places.partition_point(|place| arrival_at(docs, *place) < first)..]
 }

@@ -7,6 +7,7 @@ mod doc_places;
 mod doc_texts;
 pub mod laws;
 mod note_places;
+mod numbers;
 mod places;
 mod posting_list;
 mod postings;

@@ -1,10 +1,11 @@
 //! Documents of a posting list.
 
 ghost use Rattle.std.specs.Prelude.{◌≡◌, length, drop, slice_get};
-ghost use Rattle.row_index.specs.Walks.{HasRows, at_places};
-ghost use Rattle.row_index.specs.Orders.{Rising, doc_arrival, number_of, up_to, from_on};
+ghost use Rattle.row_index.specs.Walks.{ArePlaces, at_places};
+ghost use Rattle.row_index.specs.Orders.{Rising, doc_arrival, doc_rank, number_of, up_to, above_number, below_number};
 
-use crate::arrivals::{places_from_on, places_up_to};
+use crate::arrivals::places_up_to;
+use crate::numbers::{places_above, places_below};
 use crate::walk::{DocWalk, Walk};
 use std::marker::Model;
 use tap_base::DocNum;
@@ -20,23 +21,13 @@ pub struct PostingList<'a> {
 impl<'a> Model for PostingList<'a> {
     ghost use Rattle.std.specs.Prelude.{List};
     ghost use Rattle.tap_rows.specs.declared.rows.Doc.{Doc};
-    ghost use Rattle.row_index.specs.Walks.{HasRows, at_places};
+    ghost use Rattle.row_index.specs.Walks.{ArePlaces, at_places};
 
     ghost Value = { List Doc };
 
     ghost view = { λ list. at_places list.docs.now list.places.now };
 
-    ghost invariant = { λ list. HasRows list.docs.now list.places.now };
-}
-
-// Returns the number of the document at this place.
-fn doc_number(docs: &[KeptDoc], place: u32) -> Option<DocNum>
-    ensures { result ≡ number_of (slice_get docs.now place) }
-{
-    match docs.get(place as usize) {
-        None => None,
-        Some(doc) => Some(doc.doc().num),
-    }
+    ghost invariant = { λ list. ArePlaces list.docs.now list.places.now };
 }
 
 // Returns the places from this one on.
@@ -53,7 +44,7 @@ fn behind(places: &[u32], place: usize) -> &[u32]
 impl<'a> PostingList<'a> {
     // Returns the documents at these places.
     pub(crate) fn at(docs: &'a [KeptDoc], places: &'a [u32]) -> PostingList<'a>
-        requires { HasRows docs.now places.now }
+        requires { ArePlaces docs.now places.now }
         ensures { result ≡ at_places docs.now places.now }
     {
         PostingList { docs, places }
@@ -73,7 +64,8 @@ impl<'a> PostingList<'a> {
     {
         match self.places.get(place) {
             None => None,
-            Some(at) => doc_number(self.docs, *at),
+            // A document's number is the one after its place, so that no row is read.
+            Some(at) => Some(DocNum(*at + 1)),
         }
     }
 
@@ -98,14 +90,25 @@ impl<'a> PostingList<'a> {
         }
     }
 
-    /// Returns the documents that arrived at `first` or later, by halving.
-    pub fn arrived_from(self, first: i64) -> PostingList<'a>
-        requires { Rising doc_arrival self }
-        ensures { result ≡ from_on doc_arrival first self.entry }
+    /// Returns the documents whose number is greater, by halving.
+    pub fn above(self, num: DocNum) -> PostingList<'a>
+        requires { Rising doc_rank self }
+        ensures { result ≡ above_number num.0 self.entry }
     {
         PostingList {
             docs: self.docs,
-            places: places_from_on(self.docs, self.places, first),
+            places: places_above(self.docs, self.places, num),
+        }
+    }
+
+    /// Returns the documents whose number is less, by halving.
+    pub fn below(self, num: DocNum) -> PostingList<'a>
+        requires { Rising doc_rank self }
+        ensures { result ≡ below_number num.0 self.entry }
+    {
+        PostingList {
+            docs: self.docs,
+            places: places_below(self.docs, self.places, num),
         }
     }
 

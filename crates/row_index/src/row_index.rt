@@ -10,7 +10,7 @@ ghost use Rattle.tap_rows.specs.declared.change.Change.TheVariants.{Docs, OneNot
 ghost use Rattle.tap_rows.specs.Arrivals.{Arrived};
 ghost use Rattle.tap_rows.specs.Kept.{Each};
 ghost use Rattle.tap_rows.specs.Tables.{no_rows, after};
-ghost use Rattle.row_index.specs.Orders.{arrival_if, InPlace, IsMoment, doc_number, doc_arrival, note_number, note_arrival, in_window, up_to};
+ghost use Rattle.row_index.specs.Orders.{InPlace, IsMoment, doc_number, doc_arrival, note_number, note_arrival, in_window, up_to};
 ghost use Rattle.row_index.specs.Texts.{with_text, texts_of, msgids, parents, senders, subjects, references_in, words_in};
 ghost use Rattle.row_index.specs.Dates.{dated_in};
 ghost use Rattle.row_index.specs.Held.{notes_on, AreOnDocs};
@@ -211,17 +211,6 @@ impl RowIndex {
         ensures { result ≡ up_to note_arrival last self.now.notes }
     {
         Walk::over(notes_up_to(&self.notes, last))
-    }
-
-    /// Returns the second at which the document of this number arrived, without a step. `None` comes if and only if there is no
-    /// such document.
-    pub fn arrival_of(&self, num: DocNum) -> Option<i64>
-        ensures { result ≡ arrival_if (find (λ doc. nat_eq doc.num.0 num.0) self.now.docs) }
-    {
-        match doc_at(&self.docs, num.0) {
-            None => None,
-            Some(doc) => Some(doc.doc().arrival),
-        }
     }
 
     /// Returns the document of this number, with one step. `None` comes if and only if there is none, and then no step.

@@ -127,7 +127,7 @@ pub(crate) fn starts<'a, L: Ledger>(
     let mut turns = Vec::with_capacity(alloc, parts.len())?;
     for (place, part) in parts.iter().enumerate() {
         let search = Search {
-            pool: &plan.query.pool,
+            plan,
             probe: &part.probe,
             index,
             seen,

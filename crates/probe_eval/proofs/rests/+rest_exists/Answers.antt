@@ -7,11 +7,12 @@ use Rattle.access_plan.specs.Views.{access_at}
 use Rattle.probe_eval.specs.Open.{path_apart, may_go}
 use Rattle.probe_eval.specs.Nexts.{IsNext}
 use Rattle.probe_eval.specs.Rests.{rest_of, decides, rest_cost, until}
-use Rattle.probe_eval.specs.Narrowed.{LeavesOut}
+use Rattle.probe_eval.specs.LeftOut.{LeavesFalse}
 use Rattle.probe_eval.specs.Work.{rows_by, total}
 use Rattle.std.proofs.lemmas.Bool.{and_parts}
 use Rattle.probe_eval.proofs.AlikeRows.{none_left}
-use Rattle.probe_eval.proofs.NarrowLaws.{any_left, until_left, begin_step}
+use Rattle.probe_eval.proofs.LeftOutLaws.{begin_step}
+use Rattle.probe_eval.proofs.NarrowLaws.{any_left, until_left}
 use Rattle.probe_eval.proofs.NextRows.{next_alike}
 use Rattle.probe_eval.proofs.Steps.{until_step, or_none}
 use Rattle.probe_eval.proofs.RestSteps.{stopped, all_there, any_step}
@@ -44,10 +45,10 @@ loop-row-init g t c =
     let rows = rows_by mark (access_at c.in-Some.reach.access) env T in
     let whole : rest_of T path mark c.args.order.now env ≡ list_any (λ row. rest_of T path mark rest (bind v row env)) rows = search rules in
     let all : rest_cost T path mark c.args.order.now env ≡ total (λ row. 1 + rest_cost T path mark rest (bind v row env)) (until (decides T path mark rest env v) rows) = search rules in
-    let out : LeavesOut path mark v env rows c.rows_beside-rows.result = c.rows_beside-rows.ensures in
+    let out : LeavesFalse (λ row. may_go path mark (bind v row env)) rows c.rows_beside-rows.result = c.rows_beside-rows.ensures in
     record {
-      same = whole ∙ any_left path v env mark T rest rows c.rows_beside-rows.result out;
-      steps = begin_step _ _ _ _ (until_left path v env mark T rest rows c.rows_beside-rows.result out (λ row. 1 + rest_cost T path mark rest (bind v row env))) all;
+      same = whole ∙ any_left path mark v env T rest rows c.rows_beside-rows.result out;
+      steps = begin_step _ _ _ _ (until_left path mark v env T rest rows c.rows_beside-rows.result out (λ row. 1 + rest_cost T path mark rest (bind v row env))) all;
       more = omega arith;
       next = search rules;
     }

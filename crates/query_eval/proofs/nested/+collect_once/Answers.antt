@@ -3,7 +3,6 @@ use Rattle.std.specs.Prelude.{option_to_list}
 use Rattle.tql_core.specs.Bindings.{row_of}
 use Rattle.tql_core.specs.Row.{OfDoc, OfNote}
 use Rattle.tql_core.specs.Values.{bind, lookup}
-use Rattle.time_marks.specs.Views.{probe_in}
 use Rattle.query_eval.specs.Lowest.{keeping}
 use Rattle.probe_eval.specs.Levels.{IsLevel, level_cost, rows_at}
 use Rattle.probe_eval.specs.Nexts.{IsNext}
@@ -18,25 +17,26 @@ use Rattle.probe_eval.proofs.LevelLaws.{level_steps}
 use Rattle.query_eval.specs.Fronts.{AreBehind}
 use Rattle.query_eval.proofs.HitSteps.{level_hits}
 use Rattle.query_eval.proofs.FrontLaws.{behind_hits, behind_cost, passed_on}
+use Rattle.probe_eval.specs.Searches.{searched}
 use Rattle.query_eval.proofs.nested.+collect_once.Goals as goal
 
 pub loop-row-init : goal.loop-row-init
 loop-row-init g t c =
     let mark = to_z w64 (of_z w64 c.args.mark) in
     let T = c.args.search.now.index.now in
-    let p = probe_in c.args.search.now.pool.now c.args.search.now.probe.now in
+    let p = searched c.args.search.now in
     let level = c.in-Some.level in
     let all = rows_at T mark c.args.env.now level in
     let n = length c.args.into.now.places.items in
     let kept = c.args.into.now.hits.items in
     let v : IsLevel c.args.search.now.seen.now T p mark c.args.order.now c.args.env.now level = search rules in
-    let q : AreBehind c.args.search.now.seen.now n kept mark level.reach.var all c.open_rows-rows.result = search rules in
+    let q : AreBehind c.args.search.now c.args.into.now mark level.reach.var c.args.env.now all c.open_rows-rows.result = search rules in
     let s : c.next_level.new.steps + level_cost T p mark c.args.env.now (Some level) ≤ c.args.steps.now + work_over T p mark c.args.sure c.args.order.now c.args.env.now = search rules in
     let walk = level_steps T p mark c.args.env.now level all _ _ refl s in
-    let fewer = behind_cost (λ row. 1 + work_over T p mark level.sure level.rest.now (bind level.reach.var row c.args.env.now)) c.args.search.now.seen.now n kept mark level.reach.var all _ q in
+    let fewer = behind_cost (λ row. 1 + work_over T p mark level.sure level.rest.now (bind level.reach.var row c.args.env.now)) c.args.search.now c.args.into.now mark level.reach.var c.args.env.now all _ q in
     record {
       hits = level_hits c.args.search.now.seen.now T p mark c.args.order.now c.args.env.now level all n kept v refl
-          ∙ behind_hits c.args.search.now.seen.now T p mark level.rest.now c.args.env.now level.reach.var n kept all _ q;
+          ∙ behind_hits c.args.search.now c.args.into.now mark level.rest.now c.args.env.now level.reach.var all _ q;
       ready = c.requires.collect.ready;
       places = refl;
       fronts = c.open_rows-rows.ensures.fronts;
@@ -50,7 +50,7 @@ loop-row-preserved g t c =
     let e : c.loop-row.rows ≡ row_of c.in-Some-next.row ∷ c.next.new.self = search rules in
     let s : c.next.new.steps ≡ c.loop-row.steps + 1 = search rules in
     let mark = to_z w64 (of_z w64 c.args.mark) in
-    let p = probe_in c.args.search.now.pool.now c.args.search.now.probe.now in
+    let p = searched c.args.search.now in
     let x = bind c.in-Some.level.reach.var (row_of c.in-Some-next.row) c.args.env.now in
     let h : c.collect_once.new.into.hits.items ≡ keeping (length c.loop-row.into.places.items) c.loop-row.into.hits.items (hits_over c.args.search.now.seen.now c.args.search.now.index.now p mark c.in-Some.level.rest.now x) = search rules in
     let k : c.collect_once.new.steps ≤ c.next.new.steps + work_over c.args.search.now.index.now p mark c.in-Some.level.sure c.in-Some.level.rest.now x = search rules in
@@ -69,14 +69,14 @@ loop-row-preserved g t c =
 
 pub returns-in-Some-OfDoc-clause-hits : goal.returns-in-Some-OfDoc-clause-hits
 returns-in-Some-OfDoc-clause-hits g t c =
-    let p = probe_in c.args.search.now.pool.now c.args.search.now.probe.now in
+    let p = searched c.args.search.now in
     let e : lookup 0 c.args.env.now ≡ Some (OfDoc c.in-Some-OfDoc.doc.now) = search rules in
     let h : c.collect_pair.new.into.hits.items ≡ keeping (length c.args.into.now.places.items) c.args.into.now.hits.items (option_to_list (hit_if (holds_here c.args.search.now.index.now p c.args.mark c.args.order.now c.args.env.now) c.args.mark (new_doc c.args.search.now.seen.now c.in-Some-OfDoc.doc.now))) = search rules in
     h ∙ ap (keeping (length c.args.into.now.places.items) c.args.into.now.hits.items) (sym (doc_hits c.args.search.now.seen.now c.args.search.now.index.now p c.args.mark c.args.order.now c.args.env.now c.in-Some-OfDoc.doc.now e))
 
 pub returns-in-Some-OfDoc-clause-fronts : goal.returns-in-Some-OfDoc-clause-fronts
 returns-in-Some-OfDoc-clause-fronts g t c =
-    let p = probe_in c.args.search.now.pool.now c.args.search.now.probe.now in
+    let p = searched c.args.search.now in
     let n = length c.args.into.now.places.items in
     let hits = option_to_list (hit_if (holds_here c.args.search.now.index.now p c.args.mark c.args.order.now c.args.env.now) c.args.mark (new_doc c.args.search.now.seen.now c.in-Some-OfDoc.doc.now)) in
     let h : c.collect_pair.new.into.hits.items ≡ keeping n c.args.into.now.hits.items hits = search rules in
@@ -84,7 +84,7 @@ returns-in-Some-OfDoc-clause-fronts g t c =
 
 pub returns-in-Some-OfDoc-clause-steps : goal.returns-in-Some-OfDoc-clause-steps
 returns-in-Some-OfDoc-clause-steps g t c =
-    let p = probe_in c.args.search.now.pool.now c.args.search.now.probe.now in
+    let p = searched c.args.search.now in
     let e : lookup 0 c.args.env.now ≡ Some (OfDoc c.in-Some-OfDoc.doc.now) = search rules in
     let k : work_over c.args.search.now.index.now p c.args.mark c.args.sure c.args.order.now c.args.env.now ≡ cost_here c.args.search.now.index.now p c.args.mark c.args.sure c.args.order.now c.args.env.now = doc_cost c.args.search.now.index.now p c.args.mark c.args.sure c.args.order.now c.args.env.now c.in-Some-OfDoc.doc.now e in
     let s : c.collect_pair.new.steps ≤ c.args.steps.now + cost_here c.args.search.now.index.now p c.args.mark c.args.sure c.args.order.now c.args.env.now = search rules in
@@ -92,14 +92,14 @@ returns-in-Some-OfDoc-clause-steps g t c =
 
 pub returns-in-Some-OfNote-clause-hits : goal.returns-in-Some-OfNote-clause-hits
 returns-in-Some-OfNote-clause-hits g t c =
-    let p = probe_in c.args.search.now.pool.now c.args.search.now.probe.now in
+    let p = searched c.args.search.now in
     let e : lookup 0 c.args.env.now ≡ Some (OfNote c.in-Some-OfNote.field-0-0.now) = search rules in
     ap (keeping (length c.args.into.now.places.items) c.args.into.now.hits.items) (sym (note_hits c.args.search.now.seen.now c.args.search.now.index.now p c.args.mark c.args.order.now c.args.env.now (OfNote c.in-Some-OfNote.field-0-0.now) e (λ d z. absurd cc)))
 
 pub collect_once-requires : goal.collect_once-requires
 collect_once-requires g t c κs within =
     let mark = to_z w64 (of_z w64 c.args.mark) in
-    let p = probe_in c.args.search.now.pool.now c.args.search.now.probe.now in
+    let p = searched c.args.search.now in
     let by = c.loop-row.invariant.next (row_of c.in-Some-next.row) in
     let v : IsLevel c.args.search.now.seen.now c.args.search.now.index.now p mark c.args.order.now c.args.env.now c.in-Some.level = search rules in
     let sure = v.sure (row_of c.in-Some-next.row) in
@@ -111,7 +111,7 @@ pub returns-then-level-eq0-clause-hits : goal.returns-then-level-eq0-clause-hits
 returns-then-level-eq0-clause-hits g t c =
     let e : c.loop-row.rows ≡ row_of c.in-Some-next.row ∷ c.next.new.self = search rules in
     let mark = to_z w64 (of_z w64 c.args.mark) in
-    let p = probe_in c.args.search.now.pool.now c.args.search.now.probe.now in
+    let p = searched c.args.search.now in
     let v = c.in-Some.level.reach.var in
     let x = bind v (row_of c.in-Some-next.row) c.args.env.now in
     let z : v.0 ≡ 0 = search rules in

@@ -1,20 +1,20 @@
 use Rattle.std.proofs.Common.{rules, ◌≡◌, ◌≤◌, ◌+◌, [], ◌∷◌, ◌∙◌, arith, length}
 use Rattle.tql_core.specs.Bindings.{row_of}
 use Rattle.tql_core.specs.Values.{bind}
-use Rattle.time_marks.specs.Views.{probe_in}
 use Rattle.query_eval.specs.Lowest.{keeping}
 use Rattle.probe_eval.specs.Drivers.{hits_at, cost_at}
 use Rattle.probe_eval.specs.Nexts.{IsNext}
 use Rattle.probe_eval.proofs.NextRows.{next_alike}
 use Rattle.probe_eval.proofs.Steps.{cost_step}
 use Rattle.query_eval.proofs.Steps.{hits_step}
+use Rattle.probe_eval.specs.Searches.{searched}
 use Rattle.query_eval.proofs.parts.collect_driven.Goals as goal
 
 pub loop-row-preserved : goal.loop-row-preserved
 loop-row-preserved g c =
     let e : c.loop-row.rows ≡ row_of c.in-Some.row ∷ c.next.new.self = search rules in
     let s : c.next.new.steps ≡ c.loop-row.steps + 1 = search rules in
-    let p = probe_in c.args.search.now.pool.now c.args.search.now.probe.now in
+    let p = searched c.args.search.now in
     let x = bind c.args.var (row_of c.in-Some.row) [] in
     let h : c.collect_at.new.into.hits.items ≡ keeping (length c.loop-row.into.places.items) c.loop-row.into.hits.items (hits_at c.args.search.now.seen.now c.args.search.now.index.now c.args.w p c.args.order.now x) = search rules in
     let k : c.collect_at.new.steps ≤ c.next.new.steps + cost_at c.args.search.now.index.now c.args.w p c.args.order.now x = search rules in

@@ -1,19 +1,19 @@
 use Rattle.std.proofs.Common.{rules, ◌≡◌, ◌∙◌, ◌+◌, ◌≤◌, [], length, true, ap, sym, arith}
 use Rattle.std.specs.List.{flat_map}
 use Rattle.tql_core.specs.Values.{bind}
-use Rattle.time_marks.specs.Views.{probe_in}
 use Rattle.probe_eval.specs.Drivers.{cost_at, walked}
 use Rattle.probe_eval.specs.Listed.{goes_by_list, listed_hits}
 use Rattle.probe_eval.proofs.ListedRows.{listed_rows}
 use Rattle.query_eval.specs.Lowest.{keeping}
 use Rattle.query_eval.proofs.Steps.{rows_within}
 use Rattle.query_eval.proofs.FrontLaws.{passed_on}
+use Rattle.probe_eval.specs.Searches.{searched}
 use Rattle.query_eval.proofs.parts.collect_walked.Goals as goal
 
 pub returns-then-goes_by_list-clause-hits : goal.returns-then-goes_by_list-clause-hits
 returns-then-goes_by_list-clause-hits g c =
     let s = c.args.search.now in
-    let p = probe_in s.pool.now s.probe.now in
+    let p = searched s in
     let b : goes_by_list p c.args.seek c.args.var ≡ true = search rules in
     let e = listed_rows s.seen.now s.index.now c.args.w p c.args.order.now c.args.var c.args.seek b in
     let h : c.collect_listed.new.into.hits.items ≡ keeping (length c.args.into.now.places.items) c.args.into.now.hits.items (flat_map (listed_hits s.seen.now c.args.w p c.args.var) (walked s.index.now c.args.w p c.args.seek c.args.var)) = search rules in
@@ -22,7 +22,7 @@ returns-then-goes_by_list-clause-hits g c =
 pub returns-then-goes_by_list-clause-steps : goal.returns-then-goes_by_list-clause-steps
 returns-then-goes_by_list-clause-steps g c =
     let s = c.args.search.now in
-    let p = probe_in s.pool.now s.probe.now in
+    let p = searched s in
     let rows = walked s.index.now c.args.w p c.args.seek c.args.var in
     let k : c.collect_listed.new.steps ≤ c.args.steps.now + length rows = search rules in
     let l = rows_within (λ row. cost_at s.index.now c.args.w p c.args.order.now (bind c.args.var row [])) rows in
@@ -31,7 +31,7 @@ returns-then-goes_by_list-clause-steps g c =
 pub returns-then-goes_by_list-clause-fronts : goal.returns-then-goes_by_list-clause-fronts
 returns-then-goes_by_list-clause-fronts g c =
     let s = c.args.search.now in
-    let p = probe_in s.pool.now s.probe.now in
+    let p = searched s in
     let n = length c.args.into.now.places.items in
     let hits = flat_map (listed_hits s.seen.now c.args.w p c.args.var) (walked s.index.now c.args.w p c.args.seek c.args.var) in
     let h : c.collect_listed.new.into.hits.items ≡ keeping n c.args.into.now.hits.items hits = search rules in

@@ -4,7 +4,6 @@ use Rattle.std.specs.List.{flat_map}
 use Rattle.tql_core.specs.Bindings.{row_of}
 use Rattle.tql_core.specs.Row.{OfDoc, OfNote}
 use Rattle.tql_core.specs.Values.{bind, lookup}
-use Rattle.time_marks.specs.Views.{probe_in}
 use Rattle.probe_eval.specs.Levels.{IsLevel, level_cost, rows_at}
 use Rattle.probe_eval.specs.Nested.{new_doc, hit_if, holds_here, hits_over, work_over, cost_here}
 use Rattle.probe_eval.proofs.Steps.{cost_step}
@@ -12,12 +11,13 @@ use Rattle.probe_eval.proofs.HitSteps.{doc_hits, note_hits, doc_cost}
 use Rattle.probe_eval.proofs.LevelLaws.{level_steps}
 use Rattle.wake_plan.specs.Turns.{has_hit}
 use Rattle.wake_plan.proofs.DeliverLaws.{next_row}
+use Rattle.probe_eval.specs.Searches.{searched}
 use Rattle.wake_plan.proofs.delivers.+delivers.Goals as goal
 
 pub loop-row-init : goal.loop-row-init
 loop-row-init g t c =
     let mark = to_z w64 (of_z w64 c.args.mark) in
-    let p = probe_in c.args.search.now.pool.now c.args.search.now.probe.now in
+    let p = searched c.args.search.now in
     let v : IsLevel c.args.search.now.seen.now c.args.search.now.index.now p mark c.args.order.now c.args.env.now c.in-Some.level = search rules in
     let q : c.rows_by-rows.result ≡ rows_at c.args.search.now.index.now mark c.args.env.now c.in-Some.level = search rules in
     let s : c.next_level.new.steps + level_cost c.args.search.now.index.now p mark c.args.env.now (Some c.in-Some.level) ≤ c.args.steps.now + work_over c.args.search.now.index.now p mark c.args.sure c.args.order.now c.args.env.now = search rules in
@@ -32,7 +32,7 @@ loop-row-preserved g t c =
     let e : c.loop-row.rows ≡ row_of c.in-Some-next.row ∷ c.next.new.self = search rules in
     let s : c.next.new.steps ≡ c.loop-row.steps + 1 = search rules in
     let mark = to_z w64 (of_z w64 c.args.mark) in
-    let p = probe_in c.args.search.now.pool.now c.args.search.now.probe.now in
+    let p = searched c.args.search.now in
     let x = bind c.in-Some.level.reach.var (row_of c.in-Some-next.row) c.args.env.now in
     let h : c.delivers.result ≡ has_hit (hits_over c.args.search.now.seen.now c.args.search.now.index.now p mark c.in-Some.level.rest.now x) = search rules in
     let n : c.delivers.result ≡ false = search rules in
@@ -47,14 +47,14 @@ loop-row-preserved g t c =
 
 pub returns-in-Some-OfDoc-clause-hits : goal.returns-in-Some-OfDoc-clause-hits
 returns-in-Some-OfDoc-clause-hits g t c =
-    let p = probe_in c.args.search.now.pool.now c.args.search.now.probe.now in
+    let p = searched c.args.search.now in
     let e : lookup 0 c.args.env.now ≡ Some (OfDoc c.in-Some-OfDoc.doc.now) = search rules in
     let h : c.delivers_pair.result ≡ has_hit (option_to_list (hit_if (holds_here c.args.search.now.index.now p c.args.mark c.args.order.now c.args.env.now) c.args.mark (new_doc c.args.search.now.seen.now c.in-Some-OfDoc.doc.now))) = search rules in
     h ∙ ap has_hit (sym (doc_hits c.args.search.now.seen.now c.args.search.now.index.now p c.args.mark c.args.order.now c.args.env.now c.in-Some-OfDoc.doc.now e))
 
 pub returns-in-Some-OfDoc-clause-steps : goal.returns-in-Some-OfDoc-clause-steps
 returns-in-Some-OfDoc-clause-steps g t c =
-    let p = probe_in c.args.search.now.pool.now c.args.search.now.probe.now in
+    let p = searched c.args.search.now in
     let e : lookup 0 c.args.env.now ≡ Some (OfDoc c.in-Some-OfDoc.doc.now) = search rules in
     let k : work_over c.args.search.now.index.now p c.args.mark c.args.sure c.args.order.now c.args.env.now ≡ cost_here c.args.search.now.index.now p c.args.mark c.args.sure c.args.order.now c.args.env.now = doc_cost c.args.search.now.index.now p c.args.mark c.args.sure c.args.order.now c.args.env.now c.in-Some-OfDoc.doc.now e in
     let s : c.delivers_pair.new.steps ≤ c.args.steps.now + cost_here c.args.search.now.index.now p c.args.mark c.args.sure c.args.order.now c.args.env.now = search rules in
@@ -62,14 +62,14 @@ returns-in-Some-OfDoc-clause-steps g t c =
 
 pub returns-in-Some-OfNote-clause-hits : goal.returns-in-Some-OfNote-clause-hits
 returns-in-Some-OfNote-clause-hits g t c =
-    let p = probe_in c.args.search.now.pool.now c.args.search.now.probe.now in
+    let p = searched c.args.search.now in
     let e : lookup 0 c.args.env.now ≡ Some (OfNote c.in-Some-OfNote.field-0-0.now) = search rules in
     ap has_hit (sym (note_hits c.args.search.now.seen.now c.args.search.now.index.now p c.args.mark c.args.order.now c.args.env.now (OfNote c.in-Some-OfNote.field-0-0.now) e (λ d z. absurd cc)))
 
 pub delivers-requires : goal.delivers-requires
 delivers-requires g t c κs within =
     let mark = to_z w64 (of_z w64 c.args.mark) in
-    let p = probe_in c.args.search.now.pool.now c.args.search.now.probe.now in
+    let p = searched c.args.search.now in
     let v : IsLevel c.args.search.now.seen.now c.args.search.now.index.now p mark c.args.order.now c.args.env.now c.in-Some.level = search rules in
     let sure = v.sure (row_of c.in-Some-next.row) in
     let fewer = v.fewer in

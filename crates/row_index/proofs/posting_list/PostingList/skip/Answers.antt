@@ -5,9 +5,9 @@ use Rattle.row_index.proofs.posting_list.PostingList.skip.Goals as goal
 
 pub invariant_of-result : goal.invariant_of-result
 invariant_of-result c =
-    subst (HasRows c.self.inside.docs.now) (sym c.behind.ensures) (behind_has_rows c.self.inside.docs.now c.self.inside.places.now c.args.place c.self.invariant)
+    record { stand = c.self.invariant.stand; rows = subst (HasRows c.self.inside.docs.now) (sym c.behind.ensures) (behind_has_rows c.self.inside.docs.now c.self.inside.places.now c.args.place c.self.invariant.rows) }
 
 pub returns : goal.returns
 returns c =
-    let picked = picked_behind c.self.inside.docs.now c.self.inside.places.now c.args.place c.self.invariant in
+    let picked = picked_behind c.self.inside.docs.now c.self.inside.places.now c.args.place c.self.invariant.rows in
     ap (at_places c.self.inside.docs.now) c.behind.ensures ∙ picked ∙ ap (drop c.args.place) c.self.view_is

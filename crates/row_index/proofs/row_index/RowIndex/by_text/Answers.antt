@@ -9,7 +9,8 @@ pub at-requires : goal.at-requires
 at-requires c =
     let docs = c.self.inside.docs.items in
     let rows : HasRows docs c.under.result.now = listed_has_rows (texts_of c.args.kind) c.args.text.now docs c.self.invariant.docs_stand c.under.result.now (c.under.ensures docs c.self.invariant.docs_found.texts) in
-    search (rules, rows)
+    let stand = c.self.invariant.docs_stand in
+    search (rules, rows, stand)
 
 pub returns : goal.returns
 returns c =

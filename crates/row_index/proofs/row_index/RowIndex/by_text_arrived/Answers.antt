@@ -17,7 +17,8 @@ at-requires c =
     let docs = c.self.inside.docs.items in
     let cut : c.places_within.result.now ≡ in_window (place_arrival docs) c.args.low c.args.high c.under-places.result.now = search rules in
     let rows : HasRows docs c.places_within.result.now = window_has_rows (texts_of c.args.kind) c.args.text.now docs c.self.invariant.docs_stand c.args.low c.args.high c.under-places.result.now c.places_within.result.now (c.under-places.ensures docs c.self.invariant.docs_found.texts) cut in
-    search (rules, rows)
+    let stand = c.self.invariant.docs_stand in
+    search (rules, rows, stand)
 
 pub returns : goal.returns
 returns c =
