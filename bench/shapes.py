@@ -4,15 +4,15 @@
   bench/shapes.py PROGRAM [PEER]
 
 Each line is so many mails, a query, its first run, rounds of one event each, a run, and as many rounds of one event and one run. A
-round is the difference of the last two by the number of rounds; of three such differences in one process, and then of TIMES
-processes, the middle one counts. PEER is the program of bench/peer.c: it gets the same script, with the query in its own form, and its
+round is the difference of the last two by the number of rounds; of three such differences in one process, where events are new mails,
+and then of TIMES processes, the middle one counts. PEER is the program of bench/peer.c: it gets the same script, with the query in its own form, and its
 replies to the runs have to be the same.
 
 Mail i comes a second after mail i - 1. It has the message id <i@example.org>, one of 10 senders, one of 100 subjects and three
 words. Each fourth replies to the mail before it and has it in its references; each fifth has a note. In one shape ten mails in a
-row have a subject of their own in place of one of 100, so that no more mails share a subject as there are more mails. In a round with
-a run a reply or a note goes to one of the last mails that have none, so that each such run delivers, and with one shape to a mail
-of any age.
+row have a subject of their own in place of one of 100, so that no more mails share a subject as there are more mails. In each round,
+with a run or without one, a reply or a note goes to one of the last mails that have none, and with one shape to a mail of any age
+that has none: the two kinds of rounds differ by their runs alone, and each run delivers.
 
 SIZES are the numbers of mails, CROSS those of the two cross products, ROUNDS the rounds, TIMES the processes of a line, LIMIT the
 most seconds of one line, SHAPES a text that the names of the shapes have.
@@ -30,7 +30,6 @@ TIMES = int(os.environ.get("TIMES", "1"))
 SIZES = [int(it) for it in os.environ.get("SIZES", "1000 10000 100000").split()]
 CROSS = [int(it) for it in os.environ.get("CROSS", "20 80 320").split()]
 SHAPES = os.environ.get("SHAPES", "")
-TURNS = 3
 TEN_DAYS = 10 * 86400
 
 
@@ -46,16 +45,18 @@ def mail_of_ten(i):
     return mail(i, i // 10)
 
 
-def new_mail(size, k, fresh):
+def new_mail(size, k):
     return mail(size + k)
 
 
-def new_mail_of_ten(size, k, fresh):
+def new_mail_of_ten(size, k):
     return mail_of_ten(size + k)
 
 
-# How many rounds with a run there are, and so how many mails get a first reply or note in them.
-FRESH = TURNS * ROUNDS
+# How many mails get a first reply or note: one in each round, with runs and without. More turns than one would take more than a
+# thousand mails have.
+FRESH = 2 * ROUNDS
+TURNS = 3
 
 
 def reply_to(number, k):
@@ -67,20 +68,20 @@ def unanswered(j):
     return j // 3 * 4 + j % 3 + (1 if j % 3 < 2 else 2)
 
 
-def new_reply(size, k, fresh):
-    """A reply to one of the last mails that have none, or to one of the last that have."""
-    return reply_to(unanswered(size * 3 // 4 - FRESH + fresh - 1) if fresh else size // 4 * 4 - 1 - 4 * (k % 100), k)
+def new_reply(size, k):
+    """A reply to one of the last mails that have none."""
+    return reply_to(unanswered(size * 3 // 4 - FRESH + k - 1), k)
 
 
-def new_reply_to_any(size, k, fresh):
-    """A reply to a mail of any age that has none, or to one of the last that have."""
-    return reply_to(unanswered(fresh * (size * 3 // 4 // (FRESH + 1))) if fresh else size // 4 * 4 - 1 - 4 * (k % 100), k)
+def new_reply_to_any(size, k):
+    """A reply to a mail of any age that has none."""
+    return reply_to(unanswered(k * (size * 3 // 4 // (FRESH + 1))), k)
 
 
-def new_note(size, k, fresh):
-    """A note on one of the last mails that have none, or on one of the last that have."""
-    j = size * 4 // 5 - FRESH + fresh - 1
-    return f"note {j // 4 * 5 + j % 4 + 1 if fresh else size // 5 * 5 - 5 * (k % 100)} score 3 fine\n"
+def new_note(size, k):
+    """A note on one of the last mails that have none."""
+    j = size * 4 // 5 - FRESH + k - 1
+    return f"note {j // 4 * 5 + j % 4 + 1} score 3 fine\n"
 
 
 # Name, query, event, query of the peer.
@@ -177,16 +178,15 @@ def measure(program, size, query, event, rounds):
             return first, None, replies
 
         def events(part, runs):
-            """The rounds of a part. Those with runs come in each second part, and each goes to a fresh mail."""
+            """The rounds of a part: those without runs come first."""
             texts = []
             for i in range(rounds):
                 k = part * rounds + i + 1
-                fresh = runs * (part // 2 * rounds + i + 1)
-                texts.append(f"at {now + k * 3600}\n{event(size, k, fresh)}at {now + k * 3600 + 1}\n" + "run q\n" * runs)
+                texts.append(f"at {now + k * 3600}\n{event(size, k)}at {now + k * 3600 + 1}\n" + "run q\n" * runs)
             return "".join(texts)
 
         differences = []
-        for turn in range(TURNS):
+        for turn in range(TURNS if event in (new_mail, new_mail_of_ten) else 1):
             without, _ = session.part(events(2 * turn, 0))
             _, said = session.part("run q\n")
             replies += said
