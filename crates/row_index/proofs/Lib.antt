@@ -1,3 +1,4 @@
+mod FromEnd
 pub mod Halves
 pub mod InPlaces
 pub mod Entries

@@ -3,6 +3,7 @@
 ghost use Rattle.std.specs.Prelude.{◌≡◌, not, int_lt, filter};
 ghost use Rattle.row_index.specs.Orders.{Rising, doc_arrival, note_arrival, place_arrival, in_window, up_to};
 
+use crate::from_end::partition_point_from_end;
 use tap_rows::{KeptDoc, Note};
 
 // Returns the documents that arrived before the moment.
@@ -10,7 +11,7 @@ fn docs_before(docs: &[KeptDoc], moment: i64) -> &[KeptDoc]
     requires { Rising doc_arrival docs.now }
     ensures { result.now ≡ filter (λ doc. int_lt doc.arrival moment) docs.now }
 {
-    &docs[..docs.partition_point(|doc| doc.doc().arrival < moment)]
+    &docs[..partition_point_from_end(docs, |doc| doc.doc().arrival < moment)]
 }
 
 // Returns the documents that arrived at the moment or later.
@@ -18,7 +19,7 @@ fn docs_from(docs: &[KeptDoc], moment: i64) -> &[KeptDoc]
     requires { Rising doc_arrival docs.now }
     ensures { result.now ≡ filter (λ doc. not (int_lt doc.arrival moment)) docs.now }
 {
-    &docs[docs.partition_point(|doc| doc.doc().arrival < moment)..]
+    &docs[partition_point_from_end(docs, |doc| doc.doc().arrival < moment)..]
 }
 
 // Returns the documents that arrived from `low` up to but not at `high`.
@@ -34,7 +35,7 @@ pub(crate) fn docs_up_to(docs: &[KeptDoc], last: i64) -> &[KeptDoc]
     requires { Rising doc_arrival docs.now }
     ensures { result.now ≡ up_to doc_arrival last docs.now }
 {
-    &docs[..docs.partition_point(|doc| doc.doc().arrival <= last)]
+    &docs[..partition_point_from_end(docs, |doc| doc.doc().arrival <= last)]
 }
 
 // Returns the notes that arrived before the moment.
@@ -42,7 +43,7 @@ fn notes_before(notes: &[Note], moment: i64) -> &[Note]
     requires { Rising note_arrival notes.now }
     ensures { result.now ≡ filter (λ note. int_lt note.arrival moment) notes.now }
 {
-    &notes[..notes.partition_point(|note| note.arrival < moment)]
+    &notes[..partition_point_from_end(notes, |note| note.arrival < moment)]
 }
 
 // Returns the notes that arrived at the moment or later.
@@ -50,7 +51,7 @@ fn notes_from(notes: &[Note], moment: i64) -> &[Note]
     requires { Rising note_arrival notes.now }
     ensures { result.now ≡ filter (λ note. not (int_lt note.arrival moment)) notes.now }
 {
-    &notes[notes.partition_point(|note| note.arrival < moment)..]
+    &notes[partition_point_from_end(notes, |note| note.arrival < moment)..]
 }
 
 // Returns the notes that arrived from `low` up to but not at `high`.
@@ -66,7 +67,7 @@ pub(crate) fn notes_up_to(notes: &[Note], last: i64) -> &[Note]
     requires { Rising note_arrival notes.now }
     ensures { result.now ≡ up_to note_arrival last notes.now }
 {
-    &notes[..notes.partition_point(|note| note.arrival <= last)]
+    &notes[..partition_point_from_end(notes, |note| note.arrival <= last)]
 }
 
 // Returns the arrival of the document at this place, from 0, or 0 if there is none.
@@ -84,7 +85,7 @@ fn places_before<'a>(docs: &[KeptDoc], places: &'a [u32], moment: i64) -> &'a [u
     requires { Rising (place_arrival docs.now) places.now }
     ensures { result.now ≡ filter (λ place. int_lt (place_arrival docs.now place) moment) places.now }
 {
-    &places[..places.partition_point(|place| arrival_at(docs, *place) < moment)]
+    &places[..partition_point_from_end(places, |place| arrival_at(docs, *place) < moment)]
 }
 
 // Returns the places of documents that arrived at the moment or later.
@@ -92,7 +93,7 @@ fn places_from<'a>(docs: &[KeptDoc], places: &'a [u32], moment: i64) -> &'a [u32
     requires { Rising (place_arrival docs.now) places.now }
     ensures { result.now ≡ filter (λ place. not (int_lt (place_arrival docs.now place) moment)) places.now }
 {
-    &places[places.partition_point(|place| arrival_at(docs, *place) < moment)..]
+    &places[partition_point_from_end(places, |place| arrival_at(docs, *place) < moment)..]
 }
 
 // Returns the places of documents that arrived from `low` up to but not at `high`.
@@ -113,5 +114,5 @@ pub(crate) fn places_up_to<'a>(docs: &[KeptDoc], places: &'a [u32], last: i64) -
     requires { Rising (place_arrival docs.now) places.now }
     ensures { result.now ≡ up_to (place_arrival docs.now) last places.now }
 {
-    &places[..places.partition_point(|place| arrival_at(docs, *place) <= last)]
+    &places[..partition_point_from_end(places, |place| arrival_at(docs, *place) <= last)]
 }

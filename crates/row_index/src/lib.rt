@@ -5,6 +5,7 @@ mod arrivals;
 mod dates;
 mod doc_places;
 mod doc_texts;
+mod from_end;
 pub mod laws;
 mod note_places;
 mod numbers;
