@@ -4,8 +4,9 @@
   bench/shapes.py PROGRAM [PEER]
 
 Each line is so many mails, a query, its first run, rounds of one event each, a run, and as many rounds of one event and one run. A
-round is the difference of the last two by the number of rounds; of three such differences in one process, where events are new mails,
-and then of TIMES processes, the middle one counts. PEER is the program of bench/peer.c: it gets the same script, with the query in its own form, and its
+round is the difference of the last two by the number of rounds. The rounds of a process go by turns, a tenth of them without runs and
+then a tenth with runs, so that what the machine does for a moment falls into one turn: the middle turn counts, and then the middle one
+of TIMES processes. PEER is the program of bench/peer.c: it gets the same script, with the query in its own form, and its
 replies to the runs have to be the same.
 
 Mail i comes a second after mail i - 1. It has the message id <i@example.org>, one of 10 senders, one of 100 subjects and three
@@ -53,10 +54,9 @@ def new_mail_of_ten(size, k):
     return mail_of_ten(size + k)
 
 
-# How many mails get a first reply or note: one in each round, with runs and without. More turns than one would take more than a
-# thousand mails have.
+# How many mails get a first reply or note: one in each round, with runs and without.
 FRESH = 2 * ROUNDS
-TURNS = 3
+TURNS = 10
 
 
 def reply_to(number, k):
@@ -177,23 +177,25 @@ def measure(program, size, query, event, rounds):
         if not rounds:
             return first, None, replies
 
+        of_turn = rounds // TURNS
+
         def events(part, runs):
-            """The rounds of a part: those without runs come first."""
+            """The rounds of a part: in each turn those without runs come first."""
             texts = []
-            for i in range(rounds):
-                k = part * rounds + i + 1
+            for i in range(of_turn):
+                k = part * of_turn + i + 1
                 texts.append(f"at {now + k * 3600}\n{event(size, k)}at {now + k * 3600 + 1}\n" + "run q\n" * runs)
             return "".join(texts)
 
         differences = []
-        for turn in range(TURNS if event in (new_mail, new_mail_of_ten) else 1):
+        for turn in range(TURNS):
             without, _ = session.part(events(2 * turn, 0))
             _, said = session.part("run q\n")
             replies += said
             with_runs, said = session.part(events(2 * turn + 1, 1))
             replies += b"".join(it for it in said.splitlines(True) if it.startswith((b"doc ", b"no ")) or b" run " in it)
             differences.append(with_runs - without)
-        return first, max(0.0, statistics.median(differences)) / rounds, replies
+        return first, max(0.0, statistics.median(differences)) / of_turn, replies
     finally:
         session.end()
 
