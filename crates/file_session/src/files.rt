@@ -78,8 +78,8 @@ pub fn run_to_close<'a, C: Session, I: Source, K: Sink, S: Start, L: Ledger>(
     // Nothing is closed if and only if the keeper failed or the store was refused.
     ensures closes { (result.1 ≡ None) ↔ ((result.0 ≡ 5) ⊎ (result.0 ≡ 6)) }
 
-    // No file was open if and only if the keeper comes back. It has none open, and is attached nowhere, as words are refused
-    // or it is out of memory, or the words name a place in memory.
+    // With another status, no file was open if and only if the keeper comes back. It has none open, and is attached nowhere, as
+    // words are refused or it is out of memory, or the words name a place in memory.
     ensures no_file { (result.1 ≡ Some (Ok None)) ↔ (is_some result.2 ≡ true) }
     ensures unopened { IfSome result.2 (λ keeper. has_files keeper.inner ≡ false) }
     ensures placed { IfSome result.2 (λ keeper.

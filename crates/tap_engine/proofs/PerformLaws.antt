@@ -1,6 +1,6 @@
 -- What a command does once its rows are committed, or aren't.
 use Rattle.std.proofs.Common.{◌≡◌, ◌∙◌, sym, refl, ap, subst, true, false, ℤ, Option, Some, None, inl, inr}
-use Rattle.std.specs.Prelude.{◌⊎◌, is_some, Result, Ok, Err, IfOk, OnErr, OnSome}
+use Rattle.std.specs.Prelude.{◌⊎◌, is_some, codes, Result, Ok, Err, IfOk, OnErr, OnSome}
 use Rattle.keeper_core.specs.declared.fault.CommitFault.{CommitFault}
 use Rattle.keeper_core.specs.declared.fault.CommitFault.TheVariants as C
 use Rattle.tap_base.specs.Numbers.{moment_of}
@@ -10,18 +10,22 @@ use Rattle.tap_rows.specs.Tables.{after}
 use Rattle.keeper_core.specs.Keeping.{Extends}
 use Rattle.script_lang.specs.declared.command.Command.{Command}
 use Rattle.script_lang.specs.declared.command.Command.TheVariants.{At, AsUser, Mail, Mbox, AddNote, Define, Run, BoxOf, ListOf, Filter, Explain, Ask, Wake, ScoresOf, DigestOf, Bad}
+use Rattle.script_lang.specs.declared.refusal.Refusal.{Refusal}
 use Rattle.script_lang.specs.declared.refusal.Refusal.TheVariants.{Memory}
 use Rattle.script_lang.specs.declared.reply.Reply.{Reply}
 use Rattle.script_lang.specs.declared.reply.Reply.TheVariants.{No}
+use Rattle.script_lang.specs.Proper.{is_proper}
+use Rattle.script_lang.specs.Replies.{first_text, is_accepted}
 use Rattle.tap_model.specs.declared.session.Session.{Session}
 use Rattle.tap_model.specs.Verdicts.{checks, verdict, is_spared}
 use Rattle.tap_model.specs.Replies.{answer_of, answer_by, tables_after, set_moment}
-use Rattle.tap_model.specs.Stories.{Step, next_tables}
+use Rattle.tap_model.specs.Stories.{Step, GivesUp, Refuses, next_tables}
 use Rattle.tap_model.specs.Sound.{IsSoundFor}
 use Rattle.tap_model.proofs.AnswerLaws.{some-none}
 use Rattle.tap_model.proofs.FitLaws.{accepted_fits}
 use Rattle.tap_model.proofs.SomeRows.{change-rows}
 use Rattle.tap_model.proofs.NextLaws.{next-is}
+use Rattle.tap_model.proofs.MemoryLaws.{answers-apart}
 use Rattle.query_eval.specs.Hits.{HitsWithRoom}
 use Rattle.tap_engine.proofs.MemoryTurns.{first-none}
 use Rattle.tap_engine.specs.Standing.{Represents}
@@ -57,8 +61,11 @@ unspared (ScoresOf kind) s t change none is = ap is_some none
 unspared (DigestOf name ordinal) s t change none is = ap is_some (first-none 3 (checks (DigestOf name ordinal) s t) none)
 
 -- a command at whose rows the keeper is out of memory
+pub memory-gives : (t : Tables) (s : Session) (c : Command) (reply : Reply) (change : Change) (s' : Session) → Answers t s c reply (Some change) s' → GivesUp t s c (No Memory) t s
+memory-gives t s c reply change s' answers = record { reply_is = refl; tables_are = refl; session_is = refl; not_spared = unspared c s t change answers.fine (sym answers.change_is) }
+
 pub memory-step : (t : Tables) (s : Session) (c : Command) (reply : Reply) (change : Change) (s' : Session) → Answers t s c reply (Some change) s' → Step t s c (No Memory) t s
-memory-step t s c reply change s' answers = inr (record { reply_is = refl; tables_are = refl; session_is = refl; not_spared = unspared c s t change answers.fine (sym answers.change_is) })
+memory-step t s c reply change s' answers = inr (memory-gives t s c reply change s' answers)
 
 -- the rows of a command follow those of the tables in order
 pub rows-fit : (t : Tables) (s : Session) (c : Command) (reply : Reply) (change : Change) (s' : Session) → IsSoundFor c t s → Answers t s c reply (Some change) s' → Extends change t
@@ -75,6 +82,21 @@ pub fault-step : (fault : CommitFault) (t : Tables) (e back e' : Engine) (c : Co
 fault-step C.Memory t e back e' c result is to same step = subst (λ r. IfOk r (λ reply. Step t e.session c reply (next_tables c reply e.session t) e'.session)) (sym is) (subst (λ s. Step t e.session c (No Memory) t s) (sym (ap (λ k. k.session) to ∙ same)) step)
 fault-step C.Failed t e back e' c result is to same step = subst (λ r. IfOk r (λ reply. Step t e.session c reply (next_tables c reply e.session t) e'.session)) (sym is) tt
 
+-- the step if the keeper was out of memory
+pub fault-gives : (fault : CommitFault) (t : Tables) (e back e' : Engine) (c : Command) (result : Result Reply EngineFault) → result ≡ fault_answer fault → e' ≡ fault_engine fault back → back.session ≡ e.session → GivesUp t e.session c (No Memory) t e.session
+    → IfOk result (λ reply. first_text reply ≡ codes "no 18" → GivesUp t e.session c reply (next_tables c reply e.session t) e'.session)
+fault-gives C.Memory t e back e' c result is to same gives = subst (λ r. IfOk r (λ reply. first_text reply ≡ codes "no 18" → GivesUp t e.session c reply (next_tables c reply e.session t) e'.session)) (sym is) (λ _. subst (λ s. GivesUp t e.session c (No Memory) t s) (sym (ap (λ k. k.session) to ∙ same)) gives)
+fault-gives C.Failed t e back e' c result is to same gives = subst (λ r. IfOk r (λ reply. first_text reply ≡ codes "no 18" → GivesUp t e.session c reply (next_tables c reply e.session t) e'.session)) (sym is) tt
+
+-- a proper command that was prepared isn't answered by `no 18`
+pub prepared-apart : (t : Tables) (s : Session) (c : Command) (reply : Reply) (change : Option Change) (s' : Session) → is_proper c ≡ true → Answers t s c reply change s' → first_text reply ≡ codes "no 18" → ⊥
+prepared-apart t s c reply change s' proper answers e = answers-apart.apart t s c proper (sym (ap first_text answers.reply_is) ∙ e)
+
+-- a proper command that is refused by `no 18` is out of memory
+pub refused-gives : (t : Tables) (s : Session) (c : Command) (refusal : Refusal) (s' : Session) → is_proper c ≡ true → Refuses refusal c s t → s' ≡ s → first_text (No refusal) ≡ codes "no 18" → GivesUp t s c (No refusal) t s'
+refused-gives t s c refusal s' proper (inl is) same e = absurd (answers-apart.apart t s c proper (ap (λ v. first_text (answer_by v c s t).reply) is ∙ e))
+refused-gives t s c refusal s' proper (inr out) same e = record { reply_is = ap No out.0; tables_are = refl; session_is = same; not_spared = out.1 }
+
 abbrev not_done : CommitFault → Result (Unit {0}) CommitFault
 not_done fault = Err fault
 
@@ -82,6 +104,11 @@ not_done fault = Err fault
 pub fault-kept : (fault : CommitFault) (P : Tables → Type 0) (t : Tables) (s : Session) (c : Command) (result : Result Reply EngineFault) → result ≡ fault_answer fault → (not_done fault ≡ not_done C.Memory → P t) → IfOk result (λ reply. P (next_tables c reply s t))
 fault-kept C.Memory P t s c result is kept = subst (λ r. IfOk r (λ reply. P (next_tables c reply s t))) (sym is) (kept refl)
 fault-kept C.Failed P t s c result is kept = subst (λ r. IfOk r (λ reply. P (next_tables c reply s t))) (sym is) tt
+
+-- what the keeper tells if it was out of memory, whatever the tables are
+pub fault-untouched : (fault : CommitFault) (P : Type 0) (result : Result Reply EngineFault) → result ≡ fault_answer fault → (not_done fault ≡ not_done C.Memory → P) → IfOk result (λ reply. is_accepted reply ≡ false → P)
+fault-untouched C.Memory P result is kept = subst (λ r. IfOk r (λ reply. is_accepted reply ≡ false → P)) (sym is) (λ _. kept refl)
+fault-untouched C.Failed P result is kept = subst (λ r. IfOk r (λ reply. is_accepted reply ≡ false → P)) (sym is) tt
 
 -- what holds whatever the result is
 pub on-err : {P : Type 0} (result : Result Reply EngineFault) → P → OnErr result P

@@ -1,13 +1,14 @@
 //! One command, one step, one commit: what a command is answered, and what it changes.
 
-ghost use Rattle.std.specs.Prelude.{◌≡◌, ◌⊎◌, ◌↔◌, ◌≤◌, ℤ, None, true, false, OnOk, OnErr, IsErr, IfOk, IfErr};
+ghost use Rattle.std.specs.Prelude.{◌≡◌, ◌⊎◌, ◌↔◌, ◌≤◌, ℤ, None, true, false, codes, OnOk, OnErr, IsErr, IfOk, IfErr};
 ghost use Rattle.tap_rows.specs.declared.tables.Tables.{Tables};
 ghost use Rattle.keeper_core.specs.Keeping.{IsDurable};
 ghost use Rattle.keeper_core.specs.States.{IsAttached};
 ghost use Rattle.tap_base.specs.Counts.{Rose};
-ghost use Rattle.script_lang.specs.Replies.{HasShortNames, is_accepted};
+ghost use Rattle.script_lang.specs.Proper.{is_proper};
+ghost use Rattle.script_lang.specs.Replies.{HasShortNames, first_text, is_accepted};
 ghost use Rattle.tap_model.specs.Replies.{answer_of, tables_after};
-ghost use Rattle.tap_model.specs.Stories.{Step, next_tables};
+ghost use Rattle.tap_model.specs.Stories.{Step, GivesUp, next_tables};
 ghost use Rattle.tap_model.specs.Verdicts.{verdict};
 
 use crate::engine::Engine;
@@ -93,8 +94,8 @@ impl Engine {
     }
 
     /// Performs a command and returns the reply to it. It takes all memory first, then commits once if the command adds
-    /// rows, and takes no memory after that. If the command is refused or out of memory, the engine and the keeper's tables
-    /// are unchanged. It is never out of memory for `at`, nor for a command that is refused by a check before the text of a
+    /// rows, and takes no memory after that. If the command is refused or out of memory, the engine (but for its buffer of hits)
+    /// and the keeper's tables are unchanged. It is never out of memory for `at`, nor for a command that is refused by a check before the text of a
     /// query or a filter is read, a mailbox file is cut, or the runs of a digest are counted. It fails only if the keeper
     /// fails, and the engine is stopped then. A step is a row that the index hands out.
     pub fn perform<P: Keeper, L: Ledger>(
@@ -114,9 +115,15 @@ impl Engine {
             Step t self.old.session command reply (next_tables command reply self.old.session t) self.new.session)) }
         ensures represents { OverSoundFor self.old command (λ t. IfOk result (λ reply.
             Represents self.new (next_tables command reply self.old.session t))) }
-        ensures refused { IfOk result (λ reply. is_accepted reply ≡ false → IsUnchangedButHits self.new self.old) }
+        ensures memory { OverSoundFor self.old command (λ t. is_proper command ≡ true → IfOk result (λ reply. first_text reply ≡ codes "no 18" →
+            GivesUp t self.old.session command reply (next_tables command reply self.old.session t) self.new.session)) }
         ensures short { IfOk result (λ reply. HasShortNames reply) }
         ensures ready { OnOk result (IsReady self.new) }
+
+        // A command that is refused or out of memory changes neither the engine nor the keeper's tables, whatever these are.
+        ensures refused { IfOk result (λ reply. is_accepted reply ≡ false → IsUnchangedButHits self.new self.old) }
+        ensures untouched { IfOk result (λ reply. is_accepted reply ≡ false → P.honest keeper.new → (t : Tables) → P.tells keeper.old t →
+            IsDurable (P.tells keeper.new) (P.may_leave keeper.new) t) }
 
         // The rows that it takes from the index, whatever the answer is.
         ensures quiet { TakesNoStep self.old command steps.old steps.new }

@@ -1,12 +1,16 @@
 -- No command of a script is answered by `no 18`.
-use Rattle.std.proofs.Common.{◌≡◌, ◌∙◌, sym, ap, refl, arith, ℕ, ◌+◌, ℤ, List, [], ◌∷◌, length, Bool, true, false, not, Option, Some, None, if◌then◌else◌}
+use Rattle.std.proofs.Common.{◌≡◌, ◌∙◌, sym, ap, refl, arith, ℕ, ◌+◌, ℤ, List, [], ◌∷◌, length, Bool, true, false, not, Option, Some, None, if◌then◌else◌, inl, inr}
 use Rattle.std.specs.Prelude.{◌||◌, ◌==◌, ◌&&◌, nat_le, int_le, int_lt, get_or, codes, Result, Ok, Err}
+use Rattle.std.specs.List.{list_all}
 use Rattle.std.proofs.lemmas.Bool.{false≢true}
+use Rattle.std.proofs.lemmas.List.Folds.{list_all-append}
 use Rattle.tap_base.specs.Names.{is_name}
 use Rattle.tap_base.specs.Numbers.{moment_of}
 use Rattle.tap_rows.specs.declared.tables.Tables.{Tables}
 use Rattle.tap_rows.specs.declared.rows.QueryRow.{QueryRow}
 use Rattle.tap_rows.specs.Kept.{Each}
+use Rattle.mail_lines.specs.declared.line.Line.{Line}
+use Rattle.mail_lines.specs.Lines.{lines}
 use Rattle.mail_lines.specs.declared.block.Block.{Block}
 use Rattle.mail_lines.specs.declared.block.Block.TheVariants.{Whole, Long}
 use Rattle.tql_lex.specs.declared.fault.LexFault.{LexFault}
@@ -37,6 +41,9 @@ use Rattle.script_lang.specs.declared.refusal.LimitName.{LimitName}
 use Rattle.script_lang.specs.declared.refusal.LimitName.TheVariants as N
 use Rattle.script_lang.specs.declared.reply.Reply.{Reply}
 use Rattle.script_lang.specs.declared.reply.Reply.TheVariants as reply
+use Rattle.script_lang.specs.declared.state.State.{State}
+use Rattle.script_lang.specs.declared.state.State.TheVariants.{Outside}
+use Rattle.script_lang.specs.Script.{commands_of_line, after_line, commands_from, state_after, at_end, script}
 use Rattle.script_lang.specs.Proper.{is_of_text, is_proper}
 use Rattle.script_lang.specs.Replies.{limit_words, lex_text, parse_text, type_text, refusal_text, first_text, is_accepted}
 use Rattle.tap_model.specs.declared.session.Session.{Session}
@@ -47,8 +54,10 @@ use Rattle.tap_model.specs.Queries.{query_named}
 use Rattle.tap_model.specs.Verdicts.{first_refusal, missing, refuse_unless, no_moment, no_user, bad_name, reading_refusal, text_fault, is_back, not_over}
 use Rattle.tap_model.specs.Verdicts.{taken, no_query, runs_found, no_run, too_long, messages_of, long_block, bytes_of, no_doc, long_note}
 use Rattle.tap_model.specs.Verdicts.{rules_refusal, filter_fault, long_filter, text_of, delivers, checks, verdict}
+use Rattle.tap_model.specs.Stories.{Step, GivesUp}
 use Rattle.tap_model.specs.Replies.{answer_of, answer_by, accepted, set_moment, run_query, show_box, show_list, show_lines, show_wake, show_digest, ask_at}
 use Rattle.tap_model.specs.Laws.{AnswersAreNotMemory}
+use Rattle.script_lang.proofs.Proper.{commands-proper, end-proper}
 use Rattle.tap_model.proofs.FaultLaws.{lexed-fine, typed-fine}
 
 -- the text of the reply out of memory
@@ -350,5 +359,20 @@ module _ (s : Session) (t : Tables) where
     go None f e = accepted-apart c p e
     go (Some refusal) f e = text-apart refusal f e
 
+-- the commands of a script are proper
+lines-proper : (state : State) (lines : List Line) → list_all is_proper (commands_from state lines) ≡ true
+lines-proper state [] = refl
+lines-proper state (line ∷ lines) =
+    rw (list_all-append is_proper (commands_of_line state line) (commands_from (after_line state line) lines), commands-proper state line, lines-proper (after_line state line) lines) refl
+
+script-proper : (bytes : List ℕ) → list_all is_proper (script bytes) ≡ true
+script-proper bytes =
+    rw (list_all-append is_proper (commands_from Outside (lines bytes)) (at_end (state_after Outside (lines bytes))), lines-proper Outside (lines bytes), end-proper (state_after Outside (lines bytes))) refl
+
+-- a step of which `no 18` is the reply is out of memory
+step-gives-up : (t : Tables) (s : Session) (c : Command) (reply : Reply) (t' : Tables) (s' : Session) → is_proper c ≡ true → Step t s c reply t' s' → first_text reply ≡ no_18 → GivesUp t s c reply t' s'
+step-gives-up t s c reply t' s' proper (inl follows) e = absurd (answer-apart s t c proper (sym (ap first_text follows.reply_is) ∙ e))
+step-gives-up t s c reply t' s' proper (inr gives) e = gives
+
 pub answers-apart : AnswersAreNotMemory
-answers-apart tables session command proper e = answer-apart session tables command proper e
+answers-apart = record { proper = script-proper; apart = λ tables session command proper e. answer-apart session tables command proper e; step = step-gives-up }

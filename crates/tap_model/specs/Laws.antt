@@ -1,5 +1,6 @@
 -- Laws of stories.
-use Rattle.std.specs.Prelude.{◌≡◌, ◌≢◌, ◌↔◌, true, [], codes, Some, IsOk}
+use Rattle.std.specs.Prelude.{ℕ, ◌≡◌, ◌≢◌, ◌↔◌, List, true, [], codes, Some, IsOk}
+use Rattle.std.specs.List.{list_all}
 use Rattle.tap_rows.specs.declared.tables.Tables.{Tables}
 use Rattle.tap_rows.specs.declared.change.Change.{Change}
 use Rattle.tap_rows.specs.declared.change.Change.TheVariants.{Docs}
@@ -15,11 +16,12 @@ use Rattle.script_lang.specs.declared.command.Command.{Command}
 use Rattle.script_lang.specs.declared.reply.Reply.{Reply}
 use Rattle.script_lang.specs.Proper.{is_proper}
 use Rattle.script_lang.specs.Replies.{first_text}
+use Rattle.script_lang.specs.Script.{script}
 use Rattle.tap_model.specs.declared.session.Session.{Session}
 use Rattle.tap_model.specs.Sessions.{no_session}
 use Rattle.tap_model.specs.Queries.{box_in}
 use Rattle.tap_model.specs.Replies.{answer_of}
-use Rattle.tap_model.specs.Stories.{Step, next_tables}
+use Rattle.tap_model.specs.Stories.{Step, GivesUp, next_tables}
 use Rattle.tap_model.specs.Sound.{IsSound, IsSoundFor, IsStore}
 
 -- a new session over no rows is sound; each step from a sound point leads to a sound point; and each step from a point that is
@@ -67,8 +69,12 @@ pub record AreBoxed (tables : Tables) : Type 0 where
 abbrev pub StoresAreBoxed : Type 0
 StoresAreBoxed = (tables : Tables) → IsStore tables ↔ AreBoxed tables
 
--- no command of a script has the answer `no 18`: this reply comes only out of memory, in place of the answer
-abbrev pub AnswersAreNotMemory : Type 0
-AnswersAreNotMemory =
-    (tables : Tables) (session : Session) (command : Command) → is_proper command ≡ true
-    → first_text (answer_of command session tables).reply ≡ codes "no 18" → ⊥
+-- the commands of each script are proper, and no proper command has the answer `no 18`; so a step of which this is the reply
+-- is out of memory
+pub record AnswersAreNotMemory : Type 0 where
+  pub proper : (bytes : List ℕ) → list_all is_proper (script bytes) ≡ true
+  pub apart : (tables : Tables) (session : Session) (command : Command) → is_proper command ≡ true
+      → first_text (answer_of command session tables).reply ≡ codes "no 18" → ⊥
+  pub step : (tables : Tables) (session : Session) (command : Command) (reply : Reply) (tables' : Tables) (session' : Session)
+      → is_proper command ≡ true → Step tables session command reply tables' session' → first_text reply ≡ codes "no 18"
+      → GivesUp tables session command reply tables' session'

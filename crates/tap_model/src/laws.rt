@@ -42,8 +42,9 @@ pub fn stores_are_boxed()
     ensures { StoresAreBoxed }
 {}
 
-/// Shows that no command of a script has the answer `no 18`. So this reply always says that the program was out of memory, and
-/// the replies of a story are read from their bytes in one way.
+/// Shows that no command of a script has the answer `no 18`: each command of a script is proper, and the answer to no proper
+/// command begins so. A step with this reply is then out of memory. So the replies of a story are read from their bytes in one
+/// way.
 pub fn answers_are_not_memory()
     ensures { AnswersAreNotMemory }
 {}

@@ -15,8 +15,9 @@ use Rattle.tap_top.specs.Refusals.{fault_of, Refused}
 use Rattle.tap_top.specs.Versions.{VersionAtExit}
 use Rattle.tap_top.specs.Statuses.{TookMany}
 
--- whatever the store: when the words are refused, which then changes nothing; what a sample reads and puts; when a read or a
--- put failed; and that a script that ended with its commands was read to its end
+-- whatever the store: when the words are refused, which then changes nothing; what a sample reads and puts; that a read failed
+-- if and only if the status is 3, and a put if and only if it is 4; and that a script that ended with its commands was read to
+-- its end
 pub record Ends (words : List (List ℕ)) (status : ℕ) (left left' out out' : Option (List ℕ)) (reads reads' puts puts' : ℕ) : Type 0 where
   pub untaken : status ≡ 2 → takes app words ≡ false
   pub exact : status ≡ 2 → faults_of app words ≢ []
@@ -26,7 +27,9 @@ pub record Ends (words : List (List ℕ)) (status : ℕ) (left left' out out' : 
   pub sample_silent : (n : ℕ) → sample_in words ≡ Some n → (status ≡ 5) ⊎ (status ≡ 7) → out' ≡ out
   pub sample_unread : (n : ℕ) → sample_in words ≡ Some n → (left' ≡ left) × ((status ≢ 3) × (status ≢ 8))
   pub read : status ≡ 3 → Rose reads reads'
+  pub read_calm : status ≢ 3 → reads' ≡ reads
   pub put : status ≡ 4 → Rose puts puts'
+  pub put_calm : status ≢ 4 → puts' ≡ puts
   pub many : status ≡ 8 → TookMany left left'
   pub ended : sample_in words ≡ None → status ≤ 1 → IsAtEnd left'
   pub statuses : status ≤ 8

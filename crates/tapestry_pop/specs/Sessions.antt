@@ -15,8 +15,8 @@ use Rattle.pop_session.specs.Ends.{TookMany}
 use Rattle.pop_box.specs.Letters.{letters_in}
 use Rattle.pop_box.specs.Served.{Served, TookQuit, Unchanged}
 
--- whatever the store: when the words are refused, which then changes nothing; when a read or a put failed; that a QUIT was
--- read if one ended the session, and the input to its end if that did
+-- whatever the store: when the words are refused, which then changes nothing; that a read failed if and only if the status is
+-- 3, and a put if and only if it is 4; that a QUIT was read if one ended the session, and the input to its end if that did
 pub record Ends (words : List (List ℕ)) (status : ℕ) (left left' out out' : Option (List ℕ)) (reads reads' puts puts' : ℕ) : Type 0 where
   pub untaken : status ≡ 2 → takes pop_app words ≡ false
   pub exact : status ≡ 2 → faults_of pop_app words ≢ []
@@ -24,7 +24,9 @@ pub record Ends (words : List (List ℕ)) (status : ℕ) (left left' out out' : 
   pub faulty : (status ≡ 2) ⊎ ((status ≡ 7) ⊎ (faults_of pop_app words ≡ []))
   pub nothing : status ≡ 2 → (out' ≡ out) × (left' ≡ left)
   pub read : status ≡ 3 → Rose reads reads'
+  pub read_calm : status ≢ 3 → reads' ≡ reads
   pub put : status ≡ 4 → Rose puts puts'
+  pub put_calm : status ≢ 4 → puts' ≡ puts
   pub many : status ≡ 8 → TookMany left left'
   pub quit : status ≡ 0 → TookQuit (user_in words) (secret_in words) left left'
   pub ended : status ≡ 1 → IsAtEnd left'
