@@ -57,7 +57,7 @@ pub fn run_on_files<'a, C: Session, I: Source, K: Sink, S: Start, L: Ledger>(
 
 /// Makes the call over the files that the words name, and closes them unless the keeper failed or the store was refused. Returns
 /// the status; what the close gave, which is both files, none if no file was open, or what is left of the store if it failed;
-/// and the keeper, if it has no file open.
+/// and, unless the status is 5 or 6, the keeper if it has no file open.
 pub fn run_to_close<'a, C: Session, I: Source, K: Sink, S: Start, L: Ledger>(
     rt: &'a HostRuntime,
     words: &Texts,

@@ -152,7 +152,8 @@ pub fn serve<S: Source, K: Sink, P: Keeper, L: Ledger>(
         Served result (letters_in (user_in words.now) (box_in words.now) t) (user_in words.now) (secret_in words.now)
         (S.left source.old) (S.left source.new) (K.out sink.old) (K.out sink.new) (P.has_version keeper.old)) }
 
-    // Whatever the store holds, its tables are unchanged, and its version is the one before, or 2 if that was 1.
+    // Whatever the store holds, its tables are unchanged, and, unless the keeper failed, its version is the one before, or 2 if
+    // that was 1.
     ensures unchanged { FromDurable P.Keeper keeper.old keeper.new (λ t.
         Unchanged result t (P.tells keeper.new) (P.may_leave keeper.new)) }
     ensures version { FromDurable P.Keeper keeper.old keeper.new (λ t.

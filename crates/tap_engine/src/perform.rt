@@ -120,7 +120,8 @@ impl Engine {
         ensures short { IfOk result (λ reply. HasShortNames reply) }
         ensures ready { OnOk result (IsReady self.new) }
 
-        // A command that is refused or out of memory changes neither the engine nor the keeper's tables, whatever these are.
+        // A command that is refused or out of memory changes nothing in the engine but its buffer of hits, and, if the keeper is
+        // honest, none of the tables that it tells, whatever these are.
         ensures refused { IfOk result (λ reply. is_accepted reply ≡ false → IsUnchangedButHits self.new self.old) }
         ensures untouched { IfOk result (λ reply. is_accepted reply ≡ false → P.honest keeper.new → (t : Tables) → P.tells keeper.old t →
             IsDurable (P.tells keeper.new) (P.may_leave keeper.new) t) }

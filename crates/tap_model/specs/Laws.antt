@@ -69,8 +69,8 @@ pub record AreBoxed (tables : Tables) : Type 0 where
 abbrev pub StoresAreBoxed : Type 0
 StoresAreBoxed = (tables : Tables) → IsStore tables ↔ AreBoxed tables
 
--- the commands of each script are proper, and no proper command has the answer `no 18`; so a step of which this is the reply
--- is out of memory
+-- the commands of each script are proper, and no proper command has the answer `no 18`; so a step of a proper command with
+-- this reply is out of memory
 pub record AnswersAreNotMemory : Type 0 where
   pub proper : (bytes : List ℕ) → list_all is_proper (script bytes) ≡ true
   pub apart : (tables : Tables) (session : Session) (command : Command) → is_proper command ≡ true

@@ -50,8 +50,8 @@ RunsAreWindows =
 abbrev pub was_given : QueryRow → Tables → ℤ → Doc → Bool
 was_given query tables moment doc = is_some (first_second (truth_of query) tables doc (start_of query) moment)
 
--- over any tables: what the window query finds from a moment on, without the documents that were given before it, is what
--- is fresh; and from the query's start on nothing was given before, so without leaving out any
+-- what the window query finds from a moment on, without the documents that were given before it, is what is fresh; and from
+-- the query's start on nothing was given before, so without leaving out any
 pub record IsFreshUnseen (query : QueryRow) (tables : Tables) : Type 0 where
   pub unseen : (seen : Doc → Bool) (from until : ℤ) → start_of query ≤ℤ from → from ≤ℤ until
       → ((doc : Doc) → In doc tables.docs → seen doc ≡ was_given query tables from doc)

@@ -43,8 +43,8 @@ pub fn stores_are_boxed()
 {}
 
 /// Shows that no command of a script has the answer `no 18`: each command of a script is proper, and the answer to no proper
-/// command begins so. A step with this reply is then out of memory. So the replies of a story are read from their bytes in one
-/// way.
+/// command is this. So a step of a proper command with this reply is out of memory, and the replies of a story are read from
+/// their bytes in one way.
 pub fn answers_are_not_memory()
     ensures { AnswersAreNotMemory }
 {}
@@ -75,8 +75,9 @@ pub fn runs_are_windows()
     ensures { RunsAreWindows }
 {}
 
-/// Shows what a window query finds over any tables without the documents that were seen, if these are the ones that were
-/// given before the window: what is fresh. Nothing was given before the query's start, so from there on it finds all.
+/// Shows what a window query finds without the documents that were seen, if these are the ones that were given before the
+/// window: what is fresh. This holds of any query that starts at second 0 or later, over any tables without a document before
+/// it. Nothing was given before the query's start, so from there on it finds all.
 pub fn what_is_unseen_is_fresh()
     ensures { UnseenIsFresh }
 {}
