@@ -4,10 +4,11 @@
 #   examples/run-when-due.sh STORE USER NAME..
 #
 # It asks `wake` for each query, sleeps until the earliest moment, runs all of them at that moment, writes the replies, and
-# begins again. It ends with 0 when no query has a moment any more, and else with the status of the program that failed.
+# begins again. It ends with 0 when no query has a moment any more, and else with the status of the program that failed. Each
+# session waits for the lock STORE.lock, as those of all scripts here do.
 # TAPESTRY names another program than ./run; it gets the words --store STORE and a script.
 set -euo pipefail
-[ $# -ge 3 ] || { sed -n '2,8s/^# \{0,1\}//p' "$0" >&2; exit 2; }
+[ $# -ge 3 ] || { sed -n '2,9s/^# \{0,1\}//p' "$0" >&2; exit 2; }
 program="${TAPESTRY:-$(dirname "$(dirname "$(realpath "$0")")")/run}"
 store="$1"
 user="$2"
@@ -21,7 +22,7 @@ perform() {
     echo "at $moment"
     echo "as $user"
     for name in "$@"; do echo "$word $name"; done
-  } | "$program" --store "$store" || status=$?
+  } | flock "$store.lock" "$program" --store "$store" || status=$?
   [ "$status" -le 1 ] || exit "$status"
 }
 
