@@ -2,9 +2,8 @@
 """Says which names of the pages don't exist: tools/names.py
 
 Each name in the first column of docs/DEFINITIONS.md has to stand in the file of specs/ that its row names, or in a source
-file if it names none. Each name with a capital or a `_` in the other pages has to stand in some file of specs/ or src/, or in a script
-of examples/.
-The status is 0 if all do.
+file if it names none. Each name with a capital or a `_` in the other pages has to stand in some file of specs/ or src/,
+or in a script of examples/. The status is 0 if all do.
 """
 
 import glob
