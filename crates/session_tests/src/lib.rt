@@ -2,7 +2,11 @@
 #![tactic(auto)]
 
 #[cfg(test)]
+mod count_tests;
+#[cfg(test)]
 mod first_tests;
+#[cfg(test)]
+mod limit_tests;
 #[cfg(test)]
 mod long_tests;
 #[cfg(test)]
