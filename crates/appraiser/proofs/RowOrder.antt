@@ -6,7 +6,7 @@ use Rattle.std.specs.Ordering.{nat_cmp, int_cmp, ordering_then, is_lt}
 use Rattle.std.specs.Cmp.{IsStrictWeakOrder}
 use Rattle.std.proofs.lemmas.Int.{ints}
 use Rattle.tap_rows.specs.declared.results.Listed.{Listed}
-use Rattle.appraiser.specs.Listings.{is_above}
+use Rattle.filter_rules.specs.Listings.{is_above}
 
 one_above : (x y : Listed) → is_above x y ≡ true → is_above y x ≡ false
 one_above x y h = grind (arith, ints, h)

@@ -5,7 +5,7 @@ use Rattle.std.specs.List.{filter}
 use Rattle.std.specs.List.Sorted.{IsSortedBy, IsStableBy, ties}
 use Rattle.std.specs.Cmp.{IsStrictWeakOrder}
 use Rattle.std.proofs.lemmas.Bool.{true≢false}
-use Rattle.appraiser.specs.Listings.{put_by, sorted_by}
+use Rattle.filter_rules.specs.Listings.{put_by, sorted_by}
 
 module _ {X : Type 0} where
   abbrev tail_of : List X → List X

@@ -1,7 +1,1 @@
-pub mod Rules
-pub mod RuleLines
-pub mod RuleTexts
-pub mod Ratings
-pub mod Listings
 pub mod Ranks
-pub mod Laws

@@ -2,11 +2,11 @@
 ghost use Rattle.std.specs.Prelude.{◌≡◌, ◌≤◌, ◌+◌, ◌++◌, ◌∷◌, [], map, length, IfOk, OnOk};
 ghost use Rattle.std.specs.Option.{option_copied};
 ghost use Rattle.tap_rows.specs.WellFormed.{row_at};
-ghost use Rattle.appraiser.specs.Rules.{rules_in};
+ghost use Rattle.filter_rules.specs.Rules.{rules_in};
 ghost use Rattle.appraiser.specs.Ranks.{rank_of};
-ghost use Rattle.appraiser.specs.Listings.{listed_of, rated_entry, is_above, sorted_by, listing_of};
+ghost use Rattle.filter_rules.specs.Listings.{listed_of, rated_entry, is_above, sorted_by, listing_of};
 
-use crate::{Rules, appraise};
+use filter_rules::{Rules, appraise};
 use row_index::RowIndex;
 use std::alloc::Global;
 use std::cmp::Reverse;

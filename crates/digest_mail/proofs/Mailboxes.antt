@@ -4,7 +4,7 @@ use Rattle.std.specs.Prelude.{◌==◌, ◌&&◌, nat_lt, cond, codes, if◌then
 use Rattle.std.specs.List.{flat_map}
 use Rattle.mail_lines.specs.Lines.{without_empty_end, NoEnd}
 use Rattle.mail_lines.specs.Mbox.{is_from_line, message_from, messages_from, quotes, unquoted, line_text, message_text, mbox_messages, at_message}
-use Rattle.digest_mail.specs.Digests.{Digested, lined, lined_text, quoted, text_of_lines, subject_line, digested_lines, digest_lines, digest_text}
+use Rattle.mail_fields.specs.Digests.{Digested, lined, lined_text, quoted, text_of_lines, subject_line, digested_lines, digest_lines, digest_text}
 use Rattle.digest_mail.proofs.Plain.{lines-of-text, digest-lines-are}
 
 -- a quoted line is no `From ` line

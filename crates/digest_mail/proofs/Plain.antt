@@ -10,7 +10,7 @@ use Rattle.std.proofs.lemmas.List.Sums.{prefix_len_stops}
 use Rattle.std.proofs.lemmas.Grind.{common_steps}
 use Rattle.mail_lines.specs.Lines.{is_end, without_empty_end, NoEnd}
 use Rattle.mail_lines.proofs.Ends.{NoEnd-append, NoEnd-take, has_first, parts-line}
-use Rattle.digest_mail.specs.Digests.{Digested, without_returns, lined, quoted, text_of_lines, from_line, subject_line, digested_lines, digest_lines}
+use Rattle.mail_fields.specs.Digests.{Digested, without_returns, lined, quoted, text_of_lines, from_line, subject_line, digested_lines, digest_lines}
 use Rattle.mail_lines.specs.Mbox.{is_from_line, quotes}
 
 -- the last byte is no CR

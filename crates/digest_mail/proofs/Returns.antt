@@ -8,7 +8,7 @@ use Rattle.std.proofs.lemmas.List.{reverse-append, length-reverse, get_or-revers
 use Rattle.std.proofs.lemmas.List.Sums.{prefix_len-drop_no}
 use Rattle.std.proofs.lemmas.Grind.{common_steps}
 use Rattle.mail_lines.specs.Lines.{is_end, without_empty_end}
-use Rattle.digest_mail.specs.Digests.{without_returns, lined}
+use Rattle.mail_fields.specs.Digests.{without_returns, lined}
 
 -- a line with one more CR
 push-return : (xs : List ℕ) → without_returns (xs ++ 13 ∷ []) ≡ without_returns xs

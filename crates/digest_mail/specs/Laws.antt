@@ -2,7 +2,7 @@
 use Rattle.std.specs.Prelude.{◌≡◌, ℕ, List, map}
 use Rattle.mail_lines.specs.Lines.{NoEnd}
 use Rattle.mail_lines.specs.Mbox.{mbox_messages}
-use Rattle.digest_mail.specs.Digests.{Digested, digest_text, lined_text}
+use Rattle.mail_fields.specs.Digests.{Digested, digest_text, lined_text}
 
 -- the messages of a digest, read as a mailbox, are the lined texts of its documents, if the name holds no LF
 abbrev pub DigestsAreMailboxes : Type 0

@@ -4,7 +4,7 @@ ghost use Rattle.std.specs.Option.{option_copied};
 ghost use Rattle.std.specs.List.{flat_map};
 ghost use Rattle.std.specs.Fmt.{decimal, signed_decimal};
 ghost use Rattle.mail_lines.specs.Mbox.{is_from_line, quotes};
-ghost use Rattle.digest_mail.specs.Digests.{lined, quoted, from_line, subject_line, digested_lines, digested_with, digested, digest_lines};
+ghost use Rattle.mail_fields.specs.Digests.{lined, quoted, from_line, subject_line, digested_lines, digested_with, digested, digest_lines};
 
 use crate::lined::first_lined;
 use itoa::{Buffer, Integer};

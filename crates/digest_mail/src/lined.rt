@@ -1,7 +1,7 @@
 //! The lines of a document's text.
 ghost use Rattle.std.specs.Prelude.{◌≡◌, ◌<◌, ◌∷◌, length};
 ghost use Rattle.tap_base.specs.Bytes.{IsNonEmpty};
-ghost use Rattle.digest_mail.specs.Digests.{lined, without_returns};
+ghost use Rattle.mail_fields.specs.Digests.{lined, without_returns};
 
 use mail_lines::{FirstLine, first_line};
 

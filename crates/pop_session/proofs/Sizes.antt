@@ -6,7 +6,7 @@ use Rattle.std.proofs.lemmas.List.{length-append, length-take}
 use Rattle.std.proofs.Math.Seq.{drop-cons}
 use Rattle.mail_lines.specs.Lines.{is_end, parts, without_empty_end}
 use Rattle.mail_lines.proofs.Ends.{HasFirst, has_first}
-use Rattle.digest_mail.specs.Digests.{lined, without_returns}
+use Rattle.mail_fields.specs.Digests.{lined, without_returns}
 use Rattle.pop_session.specs.declared.letter.Letter.{Letter}
 use Rattle.pop_session.specs.Letters.{line, size_of, total_size}
 use Rattle.pop_session.specs.Sessions.{AreShort}

@@ -3,7 +3,7 @@ use Rattle.std.specs.Prelude.{ℕ, ◌-◌, ◌+◌, ◌==◌, List, [], ◌∷�
 use Rattle.std.specs.Prelude.{codes, if◌then◌else◌}
 use Rattle.std.specs.List.{flat_map}
 use Rattle.std.specs.Fmt.{decimal}
-use Rattle.digest_mail.specs.Digests.{lined}
+use Rattle.mail_fields.specs.Digests.{lined}
 use Rattle.pop_session.specs.declared.letter.Letter.{Letter}
 use Rattle.pop_session.specs.declared.reply.Listing.{Listing}
 use Rattle.pop_session.specs.declared.reply.Listing.TheVariants.{Sizes, Ids}

@@ -1,7 +1,7 @@
 //! A letter of a mailbox.
 ghost use Rattle.std.specs.Prelude.{◌≡◌, ◌≤◌, length};
 ghost use Rattle.std.specs.List.{flat_map};
-ghost use Rattle.digest_mail.specs.Digests.{lined};
+ghost use Rattle.mail_fields.specs.Digests.{lined};
 ghost use Rattle.pop_session.specs.Letters.{line, size_of, total_size, letter_at};
 ghost use Rattle.std.specs.Prelude.{option_copied};
 ghost use Rattle.pop_session.specs.Sessions.{AreShort};

@@ -4,8 +4,9 @@ ghost use Rattle.std.specs.Prelude.{◌≡◌, ◌<◌};
 ghost use Rattle.tap_base.specs.Ledgers.{IsBlankOf};
 
 use crate::documents::two_docs;
-use appraiser::{Rules, listing, read_rules};
+use appraiser::listing;
 use digest_mail::digest;
+use filter_rules::{Rules, read_rules};
 use row_index::RowIndex;
 use std::alloc::Global;
 use std::marker::Brand;

@@ -1,6 +1,6 @@
 //! Tests of filters: their limits, and their faults.
 
-use appraiser::{RuleFault, read_rules};
+use filter_rules::{RuleFault, read_rules};
 use std::alloc::Global;
 use std::test::Fail;
 use tap_base::{Memory, Text};

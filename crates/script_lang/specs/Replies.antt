@@ -7,7 +7,7 @@ use Rattle.tap_base.specs.declared.numbers.DocNum.{DocNum}
 use Rattle.tap_rows.specs.declared.results.Hit.{Hit}
 use Rattle.tap_rows.specs.declared.results.Entry.{Entry}
 use Rattle.tap_rows.specs.declared.results.Listed.{Listed}
-use Rattle.vote_scores.specs.declared.score.Score.{Score}
+use Rattle.tap_rows.specs.declared.score.Score.{Score}
 use Rattle.tql_lex.specs.declared.fault.LexFault.{LexFault}
 use Rattle.tql_lex.specs.declared.fault.LexFault.TheVariants.{BadByte, OpenString, BigNumber, TooLong, Memory as LexMemory}
 use Rattle.tql_parse.specs.declared.fault.ParseFault.{ParseFault}

@@ -13,11 +13,10 @@ use crate::lookup::Found;
 use crate::refusal::{LimitName, Refusal};
 use arrayvec::ArrayVec;
 use tap_base::DocNum;
-use tap_rows::{Entry, Hit, Listed};
+use tap_rows::{Entry, Hit, Listed, Score};
 use tql_lex::LexFault;
 use tql_parse::ParseFault;
 use tql_types::TypeFault;
-use vote_scores::Score;
 
 /// A row that one line shows.
 pub trait RowLine {

@@ -13,7 +13,7 @@ use Rattle.tap_rows.specs.declared.rows.QueryRow.{QueryRow}
 use Rattle.tap_rows.specs.declared.results.Entry.{Entry}
 use Rattle.tap_rows.specs.Kept.{Each}
 use Rattle.tap_base.specs.Names.{is_name}
-use Rattle.appraiser.proofs.Classes.{Named, IfRules, Classed, text-named, sorted-named}
+use Rattle.filter_rules.proofs.Classes.{Named, IfRules, Classed, text-named, sorted-named}
 use Rattle.tap_rows.specs.declared.rows.FilterRow.{FilterRow}
 use Rattle.tap_rows.specs.declared.results.Listed.{Listed}
 use Rattle.tap_rows.specs.declared.change.Change.{Change}
@@ -27,11 +27,11 @@ use Rattle.script_lang.specs.declared.refusal.Refusal.TheVariants.{NoMoment, Mem
 use Rattle.script_lang.specs.declared.refusal.LimitName.TheVariants.{Users, Filters, Store}
 use Rattle.script_lang.specs.declared.command.Command.TheVariants.{Filter, ListOf, Explain}
 use Rattle.script_lang.specs.declared.reply.Reply.TheVariants.{Filter as FilterAdded, ListOf as Listing, Explain as Explained}
-use Rattle.appraiser.specs.declared.fault.RuleFault.{RuleFault}
-use Rattle.appraiser.specs.declared.fault.RuleFault.TheVariants as R
-use Rattle.appraiser.specs.Rules.{Rule}
-use Rattle.appraiser.specs.RuleTexts.{rules_of}
-use Rattle.appraiser.specs.Listings.{listing_of}
+use Rattle.filter_rules.specs.declared.fault.RuleFault.{RuleFault}
+use Rattle.filter_rules.specs.declared.fault.RuleFault.TheVariants as R
+use Rattle.filter_rules.specs.Rules.{Rule}
+use Rattle.filter_rules.specs.RuleTexts.{rules_of}
+use Rattle.filter_rules.specs.Listings.{listing_of}
 use Rattle.tap_model.specs.Limits.{user_limit, filter_limit, store_limit}
 use Rattle.tap_model.specs.declared.session.Session.{Session}
 use Rattle.tap_model.specs.Limits.{limit_refusal, different}

@@ -10,7 +10,7 @@ use Rattle.tap_rows.specs.declared.results.Listed.{Listed}
 use Rattle.tap_rows.specs.Deliveries.{delivered}
 use Rattle.tap_rows.specs.WellFormed.{is_query_of}
 use Rattle.tap_rows.proofs.KeptLaws.{box-is}
-use Rattle.appraiser.specs.Listings.{listing_of}
+use Rattle.filter_rules.specs.Listings.{listing_of}
 use Rattle.tap_model.specs.Filters.{last_filter, filter_rules, rules_of_user}
 use Rattle.tap_model.specs.Queries.{query_named, truth_of, start_of, box_in}
 use Rattle.tap_model.specs.Sound.{IsSound}

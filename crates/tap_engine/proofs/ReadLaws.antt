@@ -14,11 +14,11 @@ use Rattle.script_lang.specs.declared.command.Command.TheVariants.{Wake, ScoresO
 use Rattle.script_lang.specs.declared.refusal.Refusal.{Refusal}
 use Rattle.script_lang.specs.declared.refusal.Refusal.TheVariants.{NoMoment, NoQuery, NoRun, Memory}
 use Rattle.script_lang.specs.declared.reply.Reply.TheVariants.{Wake as Woken, ScoresOf as Scored, DigestOf as Digest}
-use Rattle.vote_scores.specs.declared.score.Score.{Score}
+use Rattle.tap_rows.specs.declared.score.Score.{Score}
 use Rattle.vote_scores.specs.Tally.{tally}
-use Rattle.vote_scores.specs.Votes.{scores_of, AreNumbered}
-use Rattle.digest_mail.specs.Digests.{digested, digest_lines}
-use Rattle.wake_plan.specs.Wakes.{next_wake}
+use Rattle.tap_rows.specs.Votes.{scores_of, AreNumbered}
+use Rattle.mail_fields.specs.Digests.{digested, digest_lines}
+use Rattle.time_marks.specs.NextWake.{next_wake}
 use Rattle.tap_model.specs.declared.session.Session.{Session}
 use Rattle.tap_model.specs.Sessions.{or_zero, moment_or_zero, user_of}
 use Rattle.tap_model.specs.Queries.{truth_of, start_of, query_named, box_in}

@@ -6,8 +6,8 @@ use Rattle.tap_base.specs.Names.{is_name}
 use Rattle.tap_rows.specs.declared.tables.Tables.{Tables}
 use Rattle.tap_rows.specs.declared.rows.Doc.{Doc}
 use Rattle.tap_rows.specs.declared.results.Listed.{Listed}
-use Rattle.appraiser.specs.Listings.{listing_of}
-use Rattle.digest_mail.specs.Digests.{digested, digest_lines}
+use Rattle.filter_rules.specs.Listings.{listing_of}
+use Rattle.mail_fields.specs.Digests.{digested, digest_lines}
 use Rattle.tap_model.specs.Sessions.{user_of}
 use Rattle.tap_model.specs.Queries.{lines_of, query_named, box_in}
 use Rattle.tap_model.specs.Filters.{last_filter, filter_rules, rules_of_user}

@@ -24,7 +24,7 @@ use Rattle.tap_model.specs.Sound.{IsSound, IsSoundFor}
 use Rattle.tap_model.specs.Verdicts.{missing, refuse_unless, first_refusal, no_moment, no_user, bad_name, text_fault}
 use Rattle.tap_model.specs.Verdicts.{messages_of, long_message, long_block, bytes_of, no_doc, long_note, no_run}
 use Rattle.vote_scores.specs.Tally.{tally}
-use Rattle.wake_plan.specs.Wakes.{next_wake}
+use Rattle.time_marks.specs.NextWake.{next_wake}
 use Rattle.restart_core.specs.Starts.{condition_text, stored_source}
 use Rattle.tap_kept.specs.Keeping.{cached_query, named_in, owned_in, hits_since}
 

@@ -6,12 +6,13 @@ ghost use Rattle.std.specs.Option.{option_copied};
 ghost use Rattle.tap_base.specs.Names.{is_name};
 ghost use Rattle.script_lang.specs.declared.command.Command.{Command};
 ghost use Rattle.script_lang.specs.Replies.{HasShortNames, is_accepted};
-ghost use Rattle.appraiser.specs.Listings.{listing_of};
+ghost use Rattle.filter_rules.specs.Listings.{listing_of};
 ghost use Rattle.tap_model.specs.Filters.{last_filter, filter_rules};
 ghost use Rattle.tap_model.specs.Sessions.{user_of};
 
 use crate::engine::Engine;
-use appraiser::{Rules, listing};
+use appraiser::listing;
+use filter_rules::Rules;
 use row_index::RowIndex;
 use script_lang::{Refusal, Reply};
 use std::alloc::Global;

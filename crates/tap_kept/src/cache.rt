@@ -18,7 +18,7 @@ use crate::cached_query::CachedQuery;
 use crate::deliveries::deliver;
 use crate::planned_query::PlannedQuery;
 use crate::start_fault::StartFault;
-use appraiser::{RuleFault, read_rules};
+use filter_rules::{RuleFault, read_rules};
 use std::alloc::Global;
 use tap_base::{HashKey, Memory, Rows, Texts, WordSet};
 use tap_rows::{FilterRow, Pick, QueryRow, RunRow};

@@ -2,10 +2,10 @@
 
 ghost use Rattle.std.specs.Prelude.{◌≡◌};
 ghost use Rattle.tap_rows.specs.declared.rows.FilterRow.{FilterRow};
-ghost use Rattle.appraiser.specs.Rules.{rules_in};
+ghost use Rattle.filter_rules.specs.Rules.{rules_in};
 ghost use Rattle.tap_model.specs.Filters.{rules_in_text};
 
-use appraiser::Rules;
+use filter_rules::Rules;
 use std::marker::Model;
 use tap_rows::FilterRow;
 

@@ -5,7 +5,7 @@ ghost use Rattle.little_box.specs.Boxes.{is_in};
 ghost use Rattle.tap_rows.specs.Results.{entry_at};
 ghost use Rattle.tap_base.specs.declared.moments.TheConstants.{LAST_MOMENT};
 ghost use Rattle.tap_model.specs.Sound.{IsMoment};
-ghost use Rattle.wake_plan.specs.Wakes.{next_wake};
+ghost use Rattle.time_marks.specs.NextWake.{next_wake};
 
 use crate::entries::{add_entry, add_hits};
 use crate::planned_query::PlannedQuery;

@@ -27,10 +27,10 @@ use Rattle.tql_types.specs.declared.fault.TypeFault.{TypeFault}
 use Rattle.tql_types.specs.declared.fault.TypeFault.TheVariants as Y
 use Rattle.tql_types.specs.Core.{typed}
 use Rattle.tql_text.specs.Texts.{of_typing, of_tree, of_tokens}
-use Rattle.appraiser.specs.declared.fault.RuleFault.{RuleFault}
-use Rattle.appraiser.specs.declared.fault.RuleFault.TheVariants as R
-use Rattle.appraiser.specs.Rules.{Rule as FilterRule}
-use Rattle.appraiser.specs.RuleTexts.{rules_of}
+use Rattle.filter_rules.specs.declared.fault.RuleFault.{RuleFault}
+use Rattle.filter_rules.specs.declared.fault.RuleFault.TheVariants as R
+use Rattle.filter_rules.specs.Rules.{Rule as FilterRule}
+use Rattle.filter_rules.specs.RuleTexts.{rules_of}
 use Rattle.restart_core.specs.Starts.{condition_text, stored_source}
 use Rattle.script_lang.specs.declared.command.Command.{Command}
 use Rattle.script_lang.specs.declared.command.Command.TheVariants.{At, AsUser, Mail, Mbox, AddNote, Define, Run, BoxOf, ListOf, Filter, Explain, Ask, Wake, ScoresOf, DigestOf, Bad}

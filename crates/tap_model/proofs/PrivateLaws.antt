@@ -17,9 +17,9 @@ use Rattle.tap_rows.proofs.SecondsLaws.{least_second-same}
 use Rattle.tap_base.specs.declared.moments.TheConstants.{LAST_MOMENT}
 use Rattle.tql_core.specs.Holds as Holds
 use Rattle.tql_core.proofs.OfTheSecond.{of-the-second}
-use Rattle.appraiser.specs.Rules.{Rule}
-use Rattle.digest_mail.specs.Digests.{digested, digest_lines}
-use Rattle.appraiser.specs.Listings.{listing_of}
+use Rattle.filter_rules.specs.Rules.{Rule}
+use Rattle.mail_fields.specs.Digests.{digested, digest_lines}
+use Rattle.filter_rules.specs.Listings.{listing_of}
 use Rattle.script_lang.specs.declared.command.Command.{Command}
 use Rattle.script_lang.specs.declared.command.Command.TheVariants.{At, AsUser, Mail, Mbox, AddNote, Define, Run, BoxOf, ListOf, Filter, Explain, Ask, Wake, ScoresOf, DigestOf, Bad}
 use Rattle.script_lang.specs.declared.refusal.Refusal.{Refusal}

@@ -19,11 +19,11 @@ use Rattle.tql_types.specs.declared.fault.TypeFault.{TypeFault}
 use Rattle.tql_types.specs.Core.{typed}
 use Rattle.tql_text.specs.declared.fault.TextFault.{TextFault}
 use Rattle.tql_text.specs.Texts.{condition_of, of_typing, of_tree, of_tokens}
-use Rattle.appraiser.specs.declared.fault.RuleFault.{RuleFault}
-use Rattle.appraiser.specs.declared.fault.RuleFault.TheVariants.{ManyRules}
-use Rattle.appraiser.specs.Rules.{Rule}
-use Rattle.appraiser.specs.RuleLines.{rule_of}
-use Rattle.appraiser.specs.RuleTexts.{rules_of, rules_at, rule_lines, with_rule}
+use Rattle.filter_rules.specs.declared.fault.RuleFault.{RuleFault}
+use Rattle.filter_rules.specs.declared.fault.RuleFault.TheVariants.{ManyRules}
+use Rattle.filter_rules.specs.Rules.{Rule}
+use Rattle.filter_rules.specs.RuleLines.{rule_of}
+use Rattle.filter_rules.specs.RuleTexts.{rules_of, rules_at, rule_lines, with_rule}
 use Rattle.script_lang.specs.declared.refusal.Refusal.TheVariants as refusal
 use Rattle.restart_core.specs.Starts.{is_from_now, condition_text}
 use Rattle.tap_model.specs.Verdicts.{text_fault, reading_refusal, filter_fault, rules_refusal}

@@ -19,7 +19,7 @@ use Rattle.tap_rows.specs.Seconds.{first_from, least_second}
 use Rattle.tap_rows.proofs.SecondsLaws.{gap-none, least_second-within, least_second-same, least_second-more, least_second-never, least_second-is}
 use Rattle.tap_rows.proofs.RunLaws.{Within, fresh-within}
 use Rattle.restart_core.specs.Starts.{is_from_now}
-use Rattle.wake_plan.specs.Wakes.{lesser, lesser_or, greater, least_mark, after_mark, next_wake}
+use Rattle.time_marks.specs.NextWake.{lesser, lesser_or, greater, least_mark, after_mark, next_wake}
 use Rattle.tap_model.specs.Queries.{truth_of, start_of, hits_of}
 use Rattle.tap_model.specs.Wakes.{does_deliver, wake_moment}
 use Rattle.tap_model.specs.WindowRuns.{WakesAreWindows}

@@ -3,9 +3,9 @@ use Rattle.std.specs.Prelude.{ℕ, List, [], reverse, find, Option, Some, None, 
 use Rattle.std.specs.Str.{bytes_eq}
 use Rattle.tap_rows.specs.declared.tables.Tables.{Tables}
 use Rattle.tap_rows.specs.declared.rows.FilterRow.{FilterRow}
-use Rattle.appraiser.specs.declared.fault.RuleFault.{RuleFault}
-use Rattle.appraiser.specs.Rules.{Rule}
-use Rattle.appraiser.specs.RuleTexts.{rules_of}
+use Rattle.filter_rules.specs.declared.fault.RuleFault.{RuleFault}
+use Rattle.filter_rules.specs.Rules.{Rule}
+use Rattle.filter_rules.specs.RuleTexts.{rules_of}
 
 -- the rules of a reading; one with a fault has no rules
 abbrev pub or_none : Result (List Rule) RuleFault → List Rule

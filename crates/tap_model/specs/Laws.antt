@@ -10,7 +10,7 @@ use Rattle.tap_rows.specs.Fits.{fits}
 use Rattle.tap_rows.specs.Kept.{Each}
 use Rattle.tap_rows.specs.WellFormed.{is_well_formed}
 use Rattle.tql_text.specs.Texts.{condition_of}
-use Rattle.appraiser.specs.RuleTexts.{rules_of}
+use Rattle.filter_rules.specs.RuleTexts.{rules_of}
 use Rattle.restart_core.specs.Starts.{condition_text}
 use Rattle.script_lang.specs.declared.command.Command.{Command}
 use Rattle.script_lang.specs.declared.reply.Reply.{Reply}

@@ -26,9 +26,9 @@ use Rattle.tap_model.specs.declared.session.Session.{Session}
 use Rattle.tap_model.specs.Sessions.{moment_or_zero, user_of}
 use Rattle.tap_model.specs.Queries.{condition_in, truth_of, start_of, query_named, hits_of, box_in, lines_of}
 use Rattle.tap_model.specs.Wakes.{wake_moment}
-use Rattle.appraiser.specs.Listings.{listing_of}
-use Rattle.vote_scores.specs.Votes.{scores_of}
-use Rattle.digest_mail.specs.Digests.{digested, digest_lines}
+use Rattle.filter_rules.specs.Listings.{listing_of}
+use Rattle.tap_rows.specs.Votes.{scores_of}
+use Rattle.mail_fields.specs.Digests.{digested, digest_lines}
 use Rattle.tap_model.specs.Filters.{rules_in_text, rules_of_user}
 use Rattle.restart_core.specs.Starts.{stored_source}
 use Rattle.tap_model.specs.Verdicts.{text_of, messages_of, verdict}

@@ -23,10 +23,10 @@ use Rattle.tql_core.specs.Condition.{Condition}
 use Rattle.tql_text.specs.declared.fault.TextFault.{TextFault}
 use Rattle.tql_text.specs.declared.fault.TextFault.TheVariants as T
 use Rattle.tql_text.specs.Texts.{condition_of}
-use Rattle.appraiser.specs.declared.fault.RuleFault.{RuleFault}
-use Rattle.appraiser.specs.declared.fault.RuleFault.TheVariants as R
-use Rattle.appraiser.specs.Rules.{Rule as FilterRule}
-use Rattle.appraiser.specs.RuleTexts.{rules_of}
+use Rattle.filter_rules.specs.declared.fault.RuleFault.{RuleFault}
+use Rattle.filter_rules.specs.declared.fault.RuleFault.TheVariants as R
+use Rattle.filter_rules.specs.Rules.{Rule as FilterRule}
+use Rattle.filter_rules.specs.RuleTexts.{rules_of}
 use Rattle.restart_core.specs.Starts.{condition_text, stored_source}
 use Rattle.tap_model.specs.declared.session.Session.{Session}
 use Rattle.tap_model.specs.Limits.{message_limit, filter_text_limit, note_text_limit, document_limit, note_limit, user_query_limit, query_limit}

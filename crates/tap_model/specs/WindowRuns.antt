@@ -13,7 +13,7 @@ use Rattle.tap_rows.specs.Deliveries.{delivered}
 use Rattle.tap_rows.specs.Kept.{In}
 use Rattle.time_marks.specs.Probes.{meaning_without}
 use Rattle.monotone_rewrite.specs.Laws.{FromZero}
-use Rattle.wake_plan.specs.Wakes.{next_wake}
+use Rattle.time_marks.specs.NextWake.{next_wake}
 use Rattle.tap_model.specs.declared.session.Session.{Session}
 use Rattle.tap_model.specs.Queries.{truth_of, start_of, probes_in, hits_of}
 use Rattle.tap_model.specs.Sound.{IsMoment, IsSound}

@@ -12,4 +12,5 @@ pub mod Constant
 pub mod WellFormed
 pub mod Fits
 pub mod Grown
+pub mod Votes
 pub mod Laws

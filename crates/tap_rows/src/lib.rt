@@ -10,6 +10,7 @@ mod kept_doc;
 pub mod laws;
 mod results;
 mod rows;
+mod score;
 mod tables;
 
 pub use change::Change;
@@ -18,4 +19,5 @@ pub use header_field::HeaderField;
 pub use kept_doc::KeptDoc;
 pub use results::{Entry, Hit, Listed};
 pub use rows::{Doc, FilterRow, Note, Pick, QueryRow, RunRow};
+pub use score::Score;
 pub use tables::{MESSAGE_LIMIT, Tables};

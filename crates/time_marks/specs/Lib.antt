@@ -8,3 +8,4 @@ pub mod Kept
 pub mod KeptParts
 pub mod Distinct
 pub mod Views
+pub mod NextWake

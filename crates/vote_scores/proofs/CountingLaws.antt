@@ -1,7 +1,7 @@
 -- The count of votes, vote by vote.
 use Rattle.std.proofs.Common.{◌≡◌, ◌∙◌, refl, sym, ap, subst, arith, ℕ, suc, ◌+◌, ◌-◌, ◌<◌, ◌≤◌, ◌^◌, Bool, true, false, ℤ, FitsSigned, w64, List, [], ◌∷◌, length, map, if◌then◌else◌}
 use Rattle.std.specs.Str.{bytes_eq}
-use Rattle.vote_scores.specs.declared.score.Score.{Score}
+use Rattle.tap_rows.specs.declared.score.Score.{Score}
 use Rattle.vote_scores.specs.declared.vote_key.VoteKey.{VoteKey}
 use Rattle.vote_scores.specs.Counts.{counted, counted_if, counted_from, AreSmall}
 use Rattle.vote_scores.specs.Entries.{vote_at}

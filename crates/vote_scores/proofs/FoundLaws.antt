@@ -7,8 +7,8 @@ use Rattle.std.proofs.lemmas.Bool.{true≢false}
 use Rattle.tap_base.specs.declared.numbers.DocNum.{DocNum}
 use Rattle.tap_rows.specs.declared.rows.Note.{Note}
 use Rattle.tap_rows.specs.Kept.{In}
-use Rattle.vote_scores.specs.declared.score.Score.{Score}
-use Rattle.vote_scores.specs.Votes.{votes_on, sum_of, score_by}
+use Rattle.tap_rows.specs.declared.score.Score.{Score}
+use Rattle.tap_rows.specs.Votes.{votes_on, sum_of, score_by}
 use Rattle.vote_scores.specs.Tally.{Vote, tally}
 use Rattle.vote_scores.specs.Counts.{counted, counted_if, counted_from, AreApart}
 use Rattle.vote_scores.proofs.Ballots.{Ballot, weigh}

@@ -10,8 +10,8 @@ use Rattle.tap_rows.specs.declared.rows.Note.{Note}
 use Rattle.tap_rows.specs.declared.tables.Tables.{Tables}
 use Rattle.tap_rows.specs.Arrivals.{Arrived}
 use Rattle.tap_rows.specs.Kept.{Each, In}
-use Rattle.vote_scores.specs.declared.score.Score.{Score}
-use Rattle.vote_scores.specs.Votes.{is_vote, last_notes, votes_on, score_by, score_of, in_order, scores_of, AreNumbered}
+use Rattle.tap_rows.specs.declared.score.Score.{Score}
+use Rattle.tap_rows.specs.Votes.{is_vote, last_notes, votes_on, score_by, score_of, in_order, scores_of, AreNumbered}
 use Rattle.vote_scores.specs.Tally.{tally}
 use Rattle.vote_scores.specs.Counts.{counted_from, AreApart}
 use Rattle.vote_scores.proofs.ScoreOrder.{same_order}

@@ -4,8 +4,8 @@ use Rattle.std.specs.Prelude.{◌⊎◌}
 use Rattle.std.proofs.lemmas.Int.{ints}
 use Rattle.std.proofs.lemmas.Bool.{cases_Bool}
 use Rattle.tap_rows.specs.Kept.{In}
-use Rattle.vote_scores.specs.declared.score.Score.{Score}
-use Rattle.vote_scores.specs.Votes.{is_before, put_in, in_order}
+use Rattle.tap_rows.specs.declared.score.Score.{Score}
+use Rattle.tap_rows.specs.Votes.{is_before, put_in, in_order}
 use Rattle.vote_scores.specs.Counts.{AreApart}
 
 -- each score is before those behind it

@@ -2,7 +2,7 @@
 use Rattle.std.proofs.Common.{arith, ℕ, ◌+◌, ◌*◌, ◌≤◌, Bool, true, false, ℤ, pos, ◌+ℤ◌, ◌≤ℤ◌, FitsSigned, w64, List, [], ◌∷◌, if◌then◌else◌}
 use Rattle.std.specs.Prelude.{neg_ℤ, ◌==◌}
 use Rattle.std.proofs.lemmas.Int.{ints}
-use Rattle.vote_scores.specs.declared.score.Score.{Score}
+use Rattle.tap_rows.specs.declared.score.Score.{Score}
 use Rattle.vote_scores.specs.Counts.{counted, AreSmall}
 
 abbrev low : ℕ → ℤ

@@ -10,8 +10,8 @@ use Rattle.std.proofs.lemmas.Map.Keys.{IsDistinct-IsPermutation}
 use Rattle.std.proofs.lemmas.Int.{ints}
 use Rattle.std.proofs.lemmas.Bool.{cases_Bool, true≢false}
 use Rattle.tap_rows.specs.Kept.{In}
-use Rattle.vote_scores.specs.declared.score.Score.{Score}
-use Rattle.vote_scores.specs.Votes.{is_before, in_order}
+use Rattle.tap_rows.specs.declared.score.Score.{Score}
+use Rattle.tap_rows.specs.Votes.{is_before, in_order}
 use Rattle.vote_scores.specs.Counts.{AreApart}
 use Rattle.vote_scores.proofs.ScoreOrder.{InOrder, same_rising, rising_order, in_ordered, ordered_in}
 

@@ -5,7 +5,7 @@ use Rattle.std.specs.List.{list_any}
 use Rattle.std.specs.Str.{bytes_eq}
 use Rattle.std.proofs.lemmas.Bool.{true≢false}
 use Rattle.tap_rows.specs.declared.rows.Note.{Note}
-use Rattle.vote_scores.specs.Votes.{is_vote, is_of_author, last_notes, votes_on, sum_of}
+use Rattle.tap_rows.specs.Votes.{is_vote, is_of_author, last_notes, votes_on, sum_of}
 use Rattle.vote_scores.specs.Tally.{Vote, is_by, with_vote, tally}
 use Rattle.vote_scores.proofs.Ballots.{Ballot, put, lasts, has, weigh, bytes_same, bytes_self, all_put, all_count}
 

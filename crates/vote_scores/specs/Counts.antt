@@ -4,7 +4,7 @@ use Rattle.std.specs.Prelude.{List, [], ◌∷◌, map, if◌then◌else◌}
 use Rattle.std.specs.Str.{bytes_eq}
 use Rattle.std.specs.Map.{keys_of, values_of}
 use Rattle.tap_rows.specs.Kept.{Each, In}
-use Rattle.vote_scores.specs.declared.score.Score.{Score}
+use Rattle.tap_rows.specs.declared.score.Score.{Score}
 use Rattle.vote_scores.specs.Tally.{Vote}
 
 -- the scores with one more vote on a document: its score has it, or a new one at the end

@@ -1,4 +1,3 @@
-pub mod Votes
 pub mod Tally
 pub mod Counts
 pub mod Entries

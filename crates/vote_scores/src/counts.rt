@@ -1,15 +1,15 @@
 //! Counts the votes of one kind, document by document.
 ghost use Rattle.std.specs.Prelude.{◌≡◌, ◌≤◌, List, [], ℕ, OnOk, IfOk};
-ghost use Rattle.vote_scores.specs.Votes.{in_order, is_before};
+ghost use Rattle.tap_rows.specs.Votes.{in_order, is_before};
 ghost use Rattle.vote_scores.specs.Counts.{counted, AreSmall, AreApart};
 ghost use Rattle.std.specs.Ordering.{is_lt};
 
-use crate::score::Score;
 use indexmap::IndexMap;
 use std::alloc::Global;
 use std::cmp::Ordering;
 use std::marker::Model;
 use tap_base::{DocNum, Memory, Rows};
+use tap_rows::Score;
 
 /// The scores of the documents that have votes, in order of their first votes. A score is looked up by its document.
 #[derive(Drop)]
@@ -20,7 +20,7 @@ pub(crate) struct Counts {
 impl Model for Counts {
     ghost use Rattle.std.specs.Prelude.{List};
     ghost use Rattle.indexmap.specs.IndexMap.{values};
-    ghost use Rattle.vote_scores.specs.declared.score.Score.{Score};
+    ghost use Rattle.tap_rows.specs.declared.score.Score.{Score};
     ghost use Rattle.vote_scores.specs.Counts.{AreKeyed};
 
     ghost Value = { List Score };

@@ -2,11 +2,10 @@
 #![tactic(auto)]
 
 mod counts;
-mod score;
 mod scores;
 mod undo;
 mod vote_key;
 
-pub use score::Score;
 pub use scores::Scores;
+pub use tap_rows::Score;
 pub use undo::Undo;

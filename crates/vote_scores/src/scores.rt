@@ -3,18 +3,17 @@ ghost use Rattle.std.specs.Prelude.{◌≡◌, ◌<◌, [], length, IfOk, OnOk, 
 ghost use Rattle.tap_rows.specs.declared.tables.Tables.{Tables};
 ghost use Rattle.vote_scores.specs.Counts.{counted_from, counted_if, AreSmall};
 ghost use Rattle.vote_scores.specs.Entries.{key_of, vote_at};
-ghost use Rattle.vote_scores.specs.Votes.{scores_of, AreNumbered};
+ghost use Rattle.tap_rows.specs.Votes.{scores_of, AreNumbered};
 ghost use Rattle.vote_scores.specs.Tally.{tally, place_of, value_of, with_vote, undone, CanUndo, AreDistinct};
 
 use crate::counts::Counts;
-use crate::score::Score;
 use crate::undo::Undo;
 use crate::vote_key::VoteKey;
 use indexmap::IndexMap;
 use std::alloc::Global;
 use std::marker::Model;
 use tap_base::{HashKey, Memory, Rows};
-use tap_rows::Note;
+use tap_rows::{Note, Score};
 
 /// The vote of each author on each document, kind by kind, in order of the first such note. A vote is looked up by its hash.
 #[derive(Drop)]

@@ -11,7 +11,7 @@ use Rattle.time_marks.specs.declared.window.Window.{Window}
 use Rattle.time_marks.specs.Probes.{Probe, meaning_without}
 use Rattle.probe_eval.specs.Found.{AreFound}
 use Rattle.probe_eval.proofs.Meant.{least_is, meaning_in, in_meaning, found_least}
-use Rattle.wake_plan.specs.Wakes.{lesser, lesser_or, least_mark}
+use Rattle.time_marks.specs.NextWake.{lesser, lesser_or, least_mark}
 
 some_same : {A : Type 0} {x y : A} → Some x ≡ Some y → x ≡ y
 some_same e = cc

@@ -17,7 +17,8 @@ use Rattle.wake_plan.specs.declared.due.Due.{Due}
 use Rattle.wake_plan.specs.declared.turn.Turn.{Turn}
 use Rattle.wake_plan.specs.Firsts.{IsBehind, StandsAt}
 use Rattle.wake_plan.specs.Turns.{left, due_mark, due_hits, due_cost, hits_left, cost_left, IsTurn, passed, gone_on}
-use Rattle.wake_plan.specs.Wakes.{after_mark, end_after, least_mark, wake_window}
+use Rattle.time_marks.specs.NextWake.{after_mark, least_mark}
+use Rattle.wake_plan.specs.Wakes.{end_after, wake_window}
 use Rattle.wake_plan.proofs.LeastMarks.{mark_is, mark_least}
 use Rattle.wake_plan.proofs.ListLaws.{each_in, each_item, each_set, flat_set, get_in, total_item, total_set}
 use Rattle.wake_plan.proofs.TurnLaws.{due_of, due_within, gone_cost, gone_hits, gone_length, gone_turn, due_hit, turn_behind, turn_over}

@@ -12,7 +12,8 @@ use Rattle.time_marks.specs.Probes.{Probe}
 use Rattle.probe_eval.specs.Found.{IsFound}
 use Rattle.probe_eval.proofs.Meant.{least_is, meaning_in, in_meaning, found_least}
 use Rattle.wake_plan.specs.Laws.{delivered_at, IsNextWake, WakesAreNext}
-use Rattle.wake_plan.specs.Wakes.{after_mark, greater, last_moment, least_mark}
+use Rattle.time_marks.specs.NextWake.{after_mark, greater, least_mark}
+use Rattle.wake_plan.specs.Wakes.{last_moment}
 use Rattle.wake_plan.proofs.LeastMarks.{mark_least, no_mark}
 
 some_same : {A : Type 0} {x y : A} → Some x ≡ Some y → x ≡ y

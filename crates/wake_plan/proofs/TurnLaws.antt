@@ -28,7 +28,7 @@ use Rattle.wake_plan.specs.declared.due.Due.{Due}
 use Rattle.wake_plan.specs.declared.turn.Turn.{Turn}
 use Rattle.wake_plan.specs.Firsts.{IsNoLater}
 use Rattle.wake_plan.specs.Turns.{has_hit, with_mark, due_at, bound_alone, first_due, due_envs, due_mark, left, due_hits, due_cost, hits_left, cost_left, AreRising, IsAhead, IsTurn, passed}
-use Rattle.wake_plan.specs.Wakes.{least_mark}
+use Rattle.time_marks.specs.NextWake.{least_mark}
 use Rattle.wake_plan.proofs.LeastMarks.{no_mark, mark_is, mark_least}
 
 some_same : {A : Type 0} {x y : A} → Some x ≡ Some y → x ≡ y

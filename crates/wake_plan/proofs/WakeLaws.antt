@@ -18,7 +18,8 @@ use Rattle.probe_eval.proofs.Founds.{query_found}
 use Rattle.wake_plan.specs.declared.turn.Turn.{Turn}
 use Rattle.wake_plan.specs.Marked.{marked_ahead, IsPlain}
 use Rattle.wake_plan.specs.Turns.{hits_left, cost_left}
-use Rattle.wake_plan.specs.Wakes.{after_mark, end_after, greater, hits_since, last_moment, least_mark, next_wake, wake_window, IsUpTo}
+use Rattle.time_marks.specs.NextWake.{after_mark, greater, least_mark, next_wake}
+use Rattle.wake_plan.specs.Wakes.{end_after, hits_since, last_moment, wake_window, IsUpTo}
 use Rattle.wake_plan.proofs.LeastMarks.{least_meant, mark_least}
 use Rattle.wake_plan.proofs.MarkedLaws.{plain_cost}
 

@@ -4,7 +4,8 @@ use Rattle.tap_rows.specs.declared.rows.Doc.{Doc}
 use Rattle.tap_rows.specs.declared.tables.Tables.{Tables}
 use Rattle.tap_rows.specs.declared.results.Hit.{Hit}
 use Rattle.time_marks.specs.Probes.{Probe, meaning_without}
-use Rattle.wake_plan.specs.Wakes.{last_moment, next_wake}
+use Rattle.time_marks.specs.NextWake.{next_wake}
+use Rattle.wake_plan.specs.Wakes.{last_moment}
 
 module _ (seen : Doc → Bool) (X : List Probe) (T : Tables) (last : ℤ) where
   -- what a run at this moment delivers

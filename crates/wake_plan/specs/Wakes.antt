@@ -1,40 +1,14 @@
--- The moment at which a run is next worthwhile.
-use Rattle.std.specs.Prelude.{◌≡◌, ◌≤ℤ◌, ℤ, pos, ◌+ℤ◌, Option, Some, None, List, [], ◌∷◌, int_le, if◌then◌else◌}
-use Rattle.std.specs.Option.{option_map}
+-- The windows in which the next mark is looked for.
+use Rattle.std.specs.Prelude.{◌≡◌, ◌≤ℤ◌, ℤ, pos, Option, Some, None, List}
 use Rattle.tap_rows.specs.declared.tables.Tables.{Tables}
 use Rattle.tap_rows.specs.declared.results.Hit.{Hit}
 use Rattle.tap_rows.specs.declared.results.Entry.{Entry}
 use Rattle.time_marks.specs.declared.window.Window.{Window}
 use Rattle.time_marks.specs.declared.ranged_query.RangedQuery.{RangedQuery}
 use Rattle.time_marks.specs.Probes.{meaning_without}
+use Rattle.time_marks.specs.NextWake.{after_mark, least_mark}
 use Rattle.time_marks.specs.Views.{ranged_probes}
 use Rattle.probe_eval.specs.Nested.{was_seen}
-
--- the lesser of two seconds
-abbrev pub lesser : ℤ → ℤ → ℤ
-lesser a b = if int_le a b then a else b
-
--- the greater of two seconds
-abbrev pub greater : ℤ → ℤ → ℤ
-greater a b = if int_le a b then b else a
-
--- the lesser of a second and another one, if there is one
-abbrev pub lesser_or : ℤ → Option ℤ → Option ℤ
-lesser_or a None = Some a
-lesser_or a (Some b) = Some (lesser a b)
-
--- the least mark among hits, if there is one
-abbrev pub least_mark : List Hit → Option ℤ
-least_mark [] = None
-least_mark (h ∷ hs) = lesser_or h.first (least_mark hs)
-
--- the second after a mark
-abbrev pub after_mark : ℤ → ℤ
-after_mark b = b +ℤ pos 1
-
--- the greater of now and the second after the least mark, if there is a hit
-abbrev pub next_wake : ℤ → List Hit → Option ℤ
-next_wake now hits = option_map (λ b. greater now (after_mark b)) (least_mark hits)
 
 -- all windows end here
 abbrev pub last_moment : ℤ

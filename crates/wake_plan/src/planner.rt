@@ -12,7 +12,8 @@ ghost use Rattle.probe_eval.specs.Runs.{query_cost, HasValidProbes};
 ghost use Rattle.probe_eval.specs.Work.{total};
 ghost use Rattle.wake_plan.specs.Marked.{marked_ahead, IsPlain};
 ghost use Rattle.wake_plan.specs.Turns.{hits_left, cost_left, IsTurn};
-ghost use Rattle.wake_plan.specs.Wakes.{after_mark, greater, hits_since, least_mark, next_wake, wake_window};
+ghost use Rattle.time_marks.specs.NextWake.{after_mark, greater, least_mark, next_wake};
+ghost use Rattle.wake_plan.specs.Wakes.{hits_since, wake_window};
 
 use crate::firsts::first_place;
 use crate::starts::starts;

@@ -2,7 +2,7 @@
 
 ghost use Rattle.std.specs.Prelude.{◌≡◌, ◌+◌, ◌≤◌};
 ghost use Rattle.wake_plan.specs.Turns.{due_mark, due_hits, due_cost, passed, gone_on, IsTurn};
-ghost use Rattle.wake_plan.specs.Wakes.{least_mark};
+ghost use Rattle.time_marks.specs.NextWake.{least_mark};
 
 use crate::delivers::delivers;
 use crate::due::{Due, read_ahead};

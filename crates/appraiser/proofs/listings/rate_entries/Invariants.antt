@@ -1,6 +1,6 @@
 use Rattle.std.proofs.Common.{◌≡◌, ◌++◌, ◌+◌, ◌≤◌, drop, map}
-use Rattle.appraiser.specs.Rules.{rules_in}
-use Rattle.appraiser.specs.Listings.{rated_entry}
+use Rattle.filter_rules.specs.Rules.{rules_in}
+use Rattle.filter_rules.specs.Listings.{rated_entry}
 use Rattle.appraiser.proofs.listings.rate_entries.Given as goal
 
 -- the rows are those so far and those of the entries that are left; each entry cost at most a step

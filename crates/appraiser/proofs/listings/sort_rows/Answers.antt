@@ -2,7 +2,7 @@ use Rattle.std.proofs.Common.{◌≡◌, ◌∙◌, sym, subst, rules}
 use Rattle.std.specs.List.Sorted.{IsSortedBy, IsStableBy, ties}
 use Rattle.std.proofs.lemmas.List.Sorted.{answers_always}
 use Rattle.appraiser.specs.Ranks.{rank_of}
-use Rattle.appraiser.specs.Listings.{is_above}
+use Rattle.filter_rules.specs.Listings.{is_above}
 use Rattle.appraiser.proofs.Sorting.{is_sorted, same_sorted, same_stable}
 use Rattle.appraiser.proofs.RowOrder.{above_order, above_ranked}
 use Rattle.appraiser.proofs.listings.sort_rows.Goals as goal

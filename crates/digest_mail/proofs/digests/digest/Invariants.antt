@@ -1,6 +1,6 @@
 use Rattle.std.proofs.Common.{◌≡◌, ◌++◌, ◌+◌, ◌≤◌, drop}
 use Rattle.std.specs.List.{flat_map}
-use Rattle.digest_mail.specs.Digests.{digest_lines, digested, digested_lines}
+use Rattle.mail_fields.specs.Digests.{digest_lines, digested, digested_lines}
 use Rattle.digest_mail.proofs.digests.digest.Given as goal
 
 -- the lines are those so far and those of the entries that are left

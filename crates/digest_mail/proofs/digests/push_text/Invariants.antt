@@ -1,5 +1,5 @@
 use Rattle.std.proofs.Common.{◌≡◌, ◌++◌, map, length}
-use Rattle.digest_mail.specs.Digests.{lined, quoted}
+use Rattle.mail_fields.specs.Digests.{lined, quoted}
 use Rattle.digest_mail.proofs.digests.push_text.Given as goal
 
 -- the lines are those so far and those of what is left

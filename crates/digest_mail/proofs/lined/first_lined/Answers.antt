@@ -1,5 +1,5 @@
 use Rattle.std.proofs.Common.{ap, sym, ◌∙◌, ◌∷◌}
-use Rattle.digest_mail.specs.Digests.{lined}
+use Rattle.mail_fields.specs.Digests.{lined}
 use Rattle.digest_mail.proofs.Returns.{first-of}
 use Rattle.digest_mail.proofs.lined.first_lined.Goals as goal
 

@@ -1,5 +1,5 @@
 use Rattle.std.proofs.Common.{◌≡◌, length}
-use Rattle.digest_mail.specs.Digests.{without_returns}
+use Rattle.mail_fields.specs.Digests.{without_returns}
 use Rattle.digest_mail.proofs.lined.without_returns.Given as goal
 
 -- what is cut off is CRs

@@ -1,7 +1,7 @@
 use Rattle.std.proofs.Common.{rules, ◌≡◌}
 use Rattle.std.specs.Ordering.{is_lt}
 use Rattle.std.proofs.lemmas.Fn.{always_returns_same}
-use Rattle.vote_scores.specs.Votes.{is_before}
+use Rattle.tap_rows.specs.Votes.{is_before}
 use Rattle.vote_scores.proofs.SortedScores.{is_order, sorted_is}
 use Rattle.vote_scores.proofs.counts.put_in_order.Goals as goal
 

@@ -1,7 +1,7 @@
 use Rattle.std.proofs.Common.{rules, ◌≡◌, ◌∙◌, true, false, None, Some, sym, ap, arith}
 use Rattle.std.specs.Option.{is_some}
 use Rattle.wake_plan.specs.Firsts.{IsFirst}
-use Rattle.wake_plan.specs.Wakes.{least_mark}
+use Rattle.time_marks.specs.NextWake.{least_mark}
 use Rattle.wake_plan.proofs.ListLaws.{item_is}
 use Rattle.wake_plan.proofs.LoopLaws.{all_over, found_least, found_bound, found_steps, next_each, next_hits, next_smaller, next_steps}
 use Rattle.wake_plan.proofs.planner.first_delivery.Goals as goal

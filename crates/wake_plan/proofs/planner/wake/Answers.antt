@@ -4,7 +4,8 @@ use Rattle.time_marks.specs.declared.window.Window.{Window}
 use Rattle.probe_eval.specs.Runs.{query_hits, query_cost}
 use Rattle.probe_eval.specs.Work.{total}
 use Rattle.wake_plan.specs.Turns.{hits_left, cost_left}
-use Rattle.wake_plan.specs.Wakes.{after_mark, greater, least_mark, wake_window, IsUpTo}
+use Rattle.time_marks.specs.NextWake.{after_mark, greater, least_mark}
+use Rattle.wake_plan.specs.Wakes.{wake_window, IsUpTo}
 use Rattle.wake_plan.proofs.WakeLaws.{wake_moment, wake_steps, wake_plain}
 use Rattle.wake_plan.proofs.planner.wake.Goals as goal
 

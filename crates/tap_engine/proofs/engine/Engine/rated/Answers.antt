@@ -1,7 +1,7 @@
 use Rattle.std.proofs.Common.{◌∙◌, ap, ap₂, List, Option}
 use Rattle.tap_rows.specs.declared.rows.FilterRow.{FilterRow}
 use Rattle.tap_rows.specs.declared.results.Entry.{Entry}
-use Rattle.appraiser.specs.Listings.{listing_of}
+use Rattle.filter_rules.specs.Listings.{listing_of}
 use Rattle.tap_model.specs.Filters.{last_filter, filter_rules}
 use Rattle.tap_engine.proofs.engine.Engine.rated.Goals as goal
 

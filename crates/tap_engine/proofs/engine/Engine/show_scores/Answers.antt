@@ -1,7 +1,7 @@
 use Rattle.std.proofs.Common.{rules, ◌≡◌, subst, None}
 use Rattle.tap_rows.specs.declared.tables.Tables.{Tables}
 use Rattle.vote_scores.specs.Tally.{tally}
-use Rattle.vote_scores.specs.Votes.{scores_of, AreNumbered}
+use Rattle.tap_rows.specs.Votes.{scores_of, AreNumbered}
 use Rattle.tap_model.specs.Verdicts.{bad_name}
 use Rattle.tap_engine.proofs.ReadLaws.{answers-scores}
 use Rattle.tap_engine.proofs.engine.Engine.show_scores.Goals as goal

@@ -1,7 +1,7 @@
 use Rattle.std.proofs.Common.{rules, ◌≡◌, ◌∙◌, sym, ap, subst, []}
 use Rattle.std.proofs.lemmas.Result.{IfOk-weaker}
 use Rattle.tap_rows.specs.declared.tables.Tables.{Tables}
-use Rattle.vote_scores.specs.Votes.{in_order, scores_of, AreNumbered}
+use Rattle.tap_rows.specs.Votes.{in_order, scores_of, AreNumbered}
 use Rattle.vote_scores.specs.Tally.{tally}
 use Rattle.vote_scores.specs.Counts.{counted_from, AreApart}
 use Rattle.vote_scores.proofs.FoundLaws.{counted_from_apart}

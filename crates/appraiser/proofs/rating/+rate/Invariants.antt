@@ -1,5 +1,0 @@
-use Rattle.std.proofs.Common.{length}
-use Rattle.appraiser.proofs.rating.+rate.Given as goal
-
-abbrev pub decreases-rate : goal.decreases-rate
-decreases-rate l = length l.rules.now
