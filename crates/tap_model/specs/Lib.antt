@@ -4,6 +4,7 @@ pub mod Filters
 pub mod Limits
 pub mod Verdicts
 pub mod Wakes
+pub mod Lookups
 pub mod Replies
 pub mod Stories
 pub mod Sound

@@ -1,5 +1,6 @@
 -- Queries, and a user's query of a name.
-use Rattle.std.specs.Prelude.{ℕ, List, Option, ℤ, pos, find, Result, Ok, Err, if◌then◌else◌}
+use Rattle.std.specs.Prelude.{ℕ, List, Option, ℤ, pos, find, filter, Result, Ok, Err, if◌then◌else◌}
+use Rattle.std.specs.Str.{bytes_eq}
 use Rattle.tap_rows.specs.declared.tables.Tables.{Tables}
 use Rattle.tap_rows.specs.declared.rows.QueryRow.{QueryRow}
 use Rattle.tap_rows.specs.declared.results.Hit.{Hit}
@@ -45,6 +46,10 @@ probes_in query = distinct_probes (window (condition_by query) (start_of query))
 -- the lines that explain a query
 abbrev pub lines_of : QueryRow → List (List ℕ)
 lines_of query = explain_lines (probes_in query)
+
+-- the user's queries, in order
+abbrev pub owned_queries : List ℕ → Tables → List QueryRow
+owned_queries user tables = filter (λ query. bytes_eq query.owner user) tables.queries
 
 -- the user's query of this name
 abbrev pub query_named : List ℕ → List ℕ → Tables → Option QueryRow
