@@ -8,8 +8,8 @@ use Rattle.tql_core.specs.Condition.{Condition, Always, Never, Plain, NowAtLeast
 use Rattle.tql_core.specs.Bounds.{are_bounded}
 use Rattle.query_form.specs.declared.place.Place.{Place}
 use Rattle.query_form.specs.declared.place.Place.TheVariants.{Before, Inside, After}
-use Rattle.query_form.specs.Form.{has_key, alternatives, conjoined, place_of, same_place, only_if, conjuncts, beside, narrowed, cross_right}
-use Rattle.query_form.specs.Form.{cross, distributed, exists_each, split, formed, node_count, form_of}
+use Rattle.query_form.specs.Form.{has_key, may_split, conjoined, place_of, same_place, only_if, conjuncts, beside, narrowed, cross_right}
+use Rattle.query_form.specs.Form.{cross, distributed, exists_each, split, formed, node_count}
 use Rattle.query_form.specs.Laws.{FormsAreBounded}
 
 abbrev Fits : Condition → Type 0
@@ -80,7 +80,7 @@ exists_each_fits v t (Either l r) i =
 exists_each_fits v t x i = narrowed_fits v t x i
 
 split_fits : (v : Var) (t : Table) (x : Condition) → Fits x → Fits (split v t x)
-split_fits v t x i = chosen_fits (nat_le (alternatives v x) 16) (exists_each v t (distributed v x)) (Exists v t x)
+split_fits v t x i = chosen_fits (may_split v t x) (exists_each v t (distributed v x)) (Exists v t x)
     (exists_each_fits v t (distributed v x) (distributed_fits v x i)) i
 
 formed_fits : (c : Condition) → Fits c → Fits (formed c)

@@ -1,8 +1,7 @@
 -- The form is true where the condition is.
 use Rattle.std.proofs.Common.{◌≡◌, ℤ, true, false, Bool, refl, sym, ap, ◌∙◌}
 use Rattle.std.specs.Prelude.{◌&&◌, ◌||◌, not, nat_le, if◌then◌else◌}
-use Rattle.std.specs.List.{list_any}
-use Rattle.std.proofs.lemmas.Bool.{cases_Bool, or_parts, or_from}
+use Rattle.std.proofs.lemmas.Bool.{or_from}
 use Rattle.tql_tree.specs.declared.table.Table.{Table}
 use Rattle.tql_core.specs.declared.term.Var.{Var}
 use Rattle.tql_core.specs.Condition.{Condition, Always, Never, Plain, NowAtLeast, NowBefore, All, Either, Not, Exists}
@@ -12,8 +11,8 @@ use Rattle.tql_core.specs.Values.{Env, bind}
 use Rattle.tql_core.specs.Holds.{truth}
 use Rattle.query_form.specs.declared.place.Place.{Place}
 use Rattle.query_form.specs.declared.place.Place.TheVariants.{Before, Inside, After}
-use Rattle.query_form.specs.Form.{names, has_exists, has_key, alternatives, conjoined, place_of, same_place, only_if, conjuncts, beside}
-use Rattle.query_form.specs.Form.{narrowed, cross_right, cross, distributed, exists_each, split, formed, node_count, form_of}
+use Rattle.query_form.specs.Form.{names, has_exists, has_key, may_split, conjoined, place_of, same_place, only_if, conjuncts, beside}
+use Rattle.query_form.specs.Form.{narrowed, cross_right, cross, distributed, exists_each, split, formed, node_count}
 use Rattle.query_form.specs.Laws.{FormsAreEquivalent}
 use Rattle.query_form.proofs.Bools.{and_true, shuffled, over_right, over_left, any_same, any_or, any_pulled}
 use Rattle.query_form.proofs.Unnamed.{agree_bound, truth_kept}
@@ -145,7 +144,7 @@ module _ (T : Tables) (s : ℤ) where
 
   split_true : (v : Var) (t : Table) (x : Condition) (env : Env) → truth T s (split v t x) env ≡ truth T s (Exists v t x) env
   split_true v t x env =
-      chosen (nat_le (alternatives v x) 16) (exists_each v t (distributed v x)) (Exists v t x) (truth T s (Exists v t x) env) env
+      chosen (may_split v t x) (exists_each v t (distributed v x)) (Exists v t x) (truth T s (Exists v t x) env) env
       (exists_each_true v t (distributed v x) env
       ∙ any_same (λ row. truth T s (distributed v x) (bind v row env)) (λ row. truth T s x (bind v row env)) (rows_of t T)
       (λ row. distributed_true v x (bind v row env)))

@@ -1,13 +1,13 @@
 -- How many nodes a form has, and how many EXISTS stand for one.
-use Rattle.std.proofs.Common.{◌≡◌, ℕ, suc, ◌+◌, ◌*◌, ◌≤◌, ◌<◌, true, false, Bool, refl, sym, ap, ◌∙◌, subst, inl, inr, arith}
+use Rattle.std.proofs.Common.{◌≡◌, ℕ, ◌+◌, ◌*◌, ◌≤◌, true, false, Bool, refl, sym, ◌∙◌, subst, inl, inr, arith}
 use Rattle.std.specs.Prelude.{◌⊎◌, ◌&&◌, ◌||◌, nat_le, if◌then◌else◌}
 use Rattle.std.proofs.Math.Nat.{le-mul_of_pos_right, one-le-mul, mul_comm, add-mul, one-mul}
 use Rattle.std.proofs.lemmas.Bool.{leb-true}
 use Rattle.tql_core.specs.declared.term.Var.{Var}
-use Rattle.tql_core.specs.Condition.{Condition, Always, Never, Plain, NowAtLeast, NowBefore, All, Either, Not, Exists}
-use Rattle.query_form.specs.Form.{has_key, at_most, alternatives, cross_right, cross, distributed, exists_count, node_count, formed}
-use Rattle.query_form.specs.Form.{form_of}
-use Rattle.query_form.specs.Laws.{FormsAreSmall, SplitsAreFew}
+use Rattle.tql_core.specs.Condition.{Condition, All, Either, Exists}
+use Rattle.query_form.specs.Form.{has_key, at_most, alternatives, cross_right, cross, distributed, exists_each, split, exists_count}
+use Rattle.query_form.specs.Form.{node_count, formed}
+use Rattle.query_form.specs.Laws.{FormsAreSmall, IsSplit, SplitsAreFew}
 use Rattle.query_form.proofs.Bools.{and_of_ors, or_of_and, or_left, or_right}
 
 pub forms_are_small : FormsAreSmall
@@ -135,7 +135,20 @@ module _ (v : Var) where
   distributed_count x few = refl
 
 pub splits_are_few : SplitsAreFew
-splits_are_few v x e =
-    let few : alternatives v x ≤ 16 = leb-true (alternatives v x) 16 e in
-    let same = distributed_count v x few in
-    (same, subst (λ n. n ≤ 16) (sym same) few)
+splits_are_few v t x = go (nat_le (alternatives v x) 16) refl (nat_le (node_count made) 128) refl
+  where
+    made : Condition
+    made = exists_each v t (distributed v x)
+
+    few : nat_le (alternatives v x) 16 ≡ true → exists_count v (distributed v x) ≤ 16
+    few e =
+        let le : alternatives v x ≤ 16 = leb-true (alternatives v x) 16 e in
+        subst (λ n. n ≤ 16) (sym (distributed_count v x le)) le
+
+    go : (b : Bool) → nat_le (alternatives v x) 16 ≡ b → (d : Bool) → nat_le (node_count made) 128 ≡ d
+        → (split v t x ≡ Exists v t x) ⊎ IsSplit v t x
+    go true e true f =
+        let is : split v t x ≡ made = rw (e, f) refl in
+        inr (record { made = is; few = few e; small = subst (λ c. node_count c ≤ 128) (sym is) (leb-true (node_count made) 128 f) })
+    go true e false f = inl (rw (e, f) refl)
+    go false e d f = inl (rw e refl)

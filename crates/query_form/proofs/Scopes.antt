@@ -17,9 +17,9 @@ use Rattle.tql_core.specs.Condition.{Condition, Always, Never, Plain, NowAtLeast
 use Rattle.tql_core.specs.Scope.{BaseIn, NumIn, TextIn, AtomIn, Scoped}
 use Rattle.query_form.specs.declared.place.Place.{Place}
 use Rattle.query_form.specs.declared.place.Place.TheVariants.{Before, Inside, After}
-use Rattle.query_form.specs.Form.{base_names, number_names, text_names, atom_names, names, has_key, alternatives, conjoined, place_of}
+use Rattle.query_form.specs.Form.{base_names, number_names, text_names, atom_names, names, has_key, may_split, conjoined, place_of}
 use Rattle.query_form.specs.Form.{same_place, only_if, conjuncts, beside, narrowed, cross_right, cross, distributed, exists_each, split}
-use Rattle.query_form.specs.Form.{formed, node_count, form_of}
+use Rattle.query_form.specs.Form.{formed, node_count}
 use Rattle.query_form.specs.Laws.{FormsAreQueries}
 use Rattle.query_form.proofs.Equivalent.{conjuncts_apart}
 
@@ -160,7 +160,7 @@ module _ (scope : List ℕ) (v : Var) (t : Table) (b : Binds v scope) where
 
   split_in : (x : Condition) → Scoped (v.0 ∷ scope) x → Scoped scope (split v t x)
   split_in x i =
-      chosen_in scope (nat_le (alternatives v x) 16) (exists_each v t (distributed v x)) (Exists v t x)
+      chosen_in scope (may_split v t x) (exists_each v t (distributed v x)) (Exists v t x)
       (exists_each_in (distributed v x) (distributed_in (v.0 ∷ scope) v x i)) (exists_in x i)
 
 pub formed_in : (scope : List ℕ) (c : Condition) → Scoped scope c → Scoped scope (formed c)

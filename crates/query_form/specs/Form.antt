@@ -1,15 +1,12 @@
 -- The form in which a condition is evaluated: an EXISTS stands only around what names its variable, and alternatives that each have a
 -- key of the index have an EXISTS each.
 use Rattle.std.specs.Prelude.{ℕ, ◌+◌, ◌*◌, Bool, true, false, not, ◌&&◌, ◌||◌, nat_eq, nat_le, if◌then◌else◌}
-use Rattle.tap_base.specs.declared.numbers.Op.{Op}
 use Rattle.tap_base.specs.declared.numbers.Op.TheVariants as O
 use Rattle.tql_tree.specs.declared.table.Table.{Table}
 use Rattle.tql_core.specs.declared.term.Var.{Var}
 use Rattle.tql_core.specs.declared.term.Base.{Base}
 use Rattle.tql_core.specs.declared.term.Base.TheVariants.{Arrival, Date, Fixed, ArrivalDay, DateDay}
-use Rattle.tql_core.specs.declared.atom.NumField.{NumField}
 use Rattle.tql_core.specs.declared.atom.NumField.TheVariants as N
-use Rattle.tql_core.specs.declared.atom.TextField.{TextField}
 use Rattle.tql_core.specs.declared.atom.TextField.TheVariants as T
 use Rattle.tql_core.specs.declared.atom.ListField.{ListField}
 use Rattle.tql_core.specs.declared.atom.ListField.TheVariants as L
@@ -180,13 +177,29 @@ narrowed v t x = beside v x (Exists v t (conjuncts v Inside x))
 
 -- an EXISTS for each alternative
 abbrev pub exists_each : Var → Table → Condition → Condition
-exists_each v t (Either l r) = if has_key v l
-    && has_key v r then Either (exists_each v t l) (exists_each v t r) else narrowed v t (Either l r)
+exists_each v t (Either l r) =
+    if has_key v l && has_key v r then Either (exists_each v t l) (exists_each v t r) else narrowed v t (Either l r)
 exists_each v t x = narrowed v t x
 
--- an EXISTS for each alternative, or one for all if there are more than 16
+-- how many nodes a condition has
+abbrev pub node_count : Condition → ℕ
+node_count (All l r) = 1 + node_count l + node_count r
+node_count (Either l r) = 1 + node_count l + node_count r
+node_count (Not x) = 1 + node_count x
+node_count (Exists v t x) = 1 + node_count x
+node_count _ = 1
+
+-- what an EXISTS was split into, or the EXISTS if that has more than 128 nodes
+abbrev pub small_or_whole : Var → Table → Condition → Condition → Condition
+small_or_whole v t x made = if nat_le (node_count made) 128 then made else Exists v t x
+
+-- may an EXISTS be split? Into at most 16, which have at most 128 nodes together
+abbrev pub may_split : Var → Table → Condition → Bool
+may_split v t x = nat_le (alternatives v x) 16 && nat_le (node_count (exists_each v t (distributed v x))) 128
+
+-- an EXISTS for each alternative, or one for all if it may not be split
 abbrev pub split : Var → Table → Condition → Condition
-split v t x = if nat_le (alternatives v x) 16 then exists_each v t (distributed v x) else Exists v t x
+split v t x = if may_split v t x then exists_each v t (distributed v x) else Exists v t x
 
 -- the form of an EXISTS whose condition is in the form
 abbrev pub formed_exists : Var → Table → Condition → Condition
@@ -208,14 +221,6 @@ formed (Exists v t x) = formed_exists v t (formed x)
 abbrev pub exists_count : Var → Condition → ℕ
 exists_count v (Either l r) = if has_key v l && has_key v r then exists_count v l + exists_count v r else 1
 exists_count v x = 1
-
--- how many nodes a condition has
-abbrev pub node_count : Condition → ℕ
-node_count (All l r) = 1 + node_count l + node_count r
-node_count (Either l r) = 1 + node_count l + node_count r
-node_count (Not x) = 1 + node_count x
-node_count (Exists v t x) = 1 + node_count x
-node_count _ = 1
 
 -- the form of a condition: the condition itself if the form has more than 128 nodes
 abbrev pub form_of : Condition → Condition

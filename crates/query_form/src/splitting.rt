@@ -2,11 +2,12 @@
 
 ghost use Rattle.std.specs.Prelude.{◌≡◌, IfOk};
 ghost use Rattle.tql_core.specs.Condition.{condition};
-ghost use Rattle.query_form.specs.Form.{cross_right, cross, distributed, exists_each, split};
+ghost use Rattle.query_form.specs.Form.{cross_right, cross, distributed};
+ghost use Rattle.query_form.specs.Form.{exists_each, small_or_whole, split};
 
 use crate::build::{all, copied, either, exists};
 use crate::keys::has_key;
-use crate::limits::are_few;
+use crate::limits::{are_few, is_small};
 use crate::scoping::narrowed;
 use std::alloc::Global;
 use tap_base::Memory;
@@ -74,13 +75,32 @@ fn exists_each(alloc: Global, var: Var, table: Table, cond: &Cond) -> Result<Con
     }
 }
 
-// Makes an EXISTS for each alternative, or one for all if there are more than 16.
+// Returns what an EXISTS was split into, or makes one EXISTS if that has more than 128 nodes.
+fn small_or_whole(
+    alloc: Global,
+    var: Var,
+    table: Table,
+    cond: &Cond,
+    made: Cond,
+) -> Result<Cond, Memory>
+    ensures { IfOk result (λ x. condition x ≡ small_or_whole var table (condition cond.now) (condition made)) }
+{
+    if is_small(&made) {
+        Ok(made)
+    } else {
+        exists(alloc, var, table, copied(alloc, cond)?)
+    }
+}
+
+// Makes an EXISTS for each alternative, or one for all if these are more than 16, or have more than
+// 128 nodes. So what is made before it is judged has at most 16 times the nodes of the condition.
 pub(crate) fn split(alloc: Global, var: Var, table: Table, cond: &Cond) -> Result<Cond, Memory>
     ensures { IfOk result (λ made. condition made ≡ split var table (condition cond.now)) }
 {
     if are_few(var, cond) {
         let alternatives = distributed(alloc, var, cond)?;
-        exists_each(alloc, var, table, &alternatives)
+        let made = exists_each(alloc, var, table, &alternatives)?;
+        small_or_whole(alloc, var, table, cond, made)
     } else {
         exists(alloc, var, table, copied(alloc, cond)?)
     }
