@@ -11,3 +11,4 @@ pub mod Privacy
 pub mod PrivacyLaws
 pub mod Laws
 pub mod WindowRuns
+pub mod Asks
