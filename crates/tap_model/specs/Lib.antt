@@ -12,3 +12,4 @@ pub mod Privacy
 pub mod PrivacyLaws
 pub mod Laws
 pub mod WindowRuns
+pub mod Asks
