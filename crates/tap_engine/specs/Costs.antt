@@ -1,6 +1,7 @@
 -- What a command costs. A step is a row that the index hands out.
-use Rattle.std.specs.Prelude.{⊤, ℕ, ℤ, pos, ◌≡◌, ◌≤◌, ◌+◌, length, Option, Some, None}
+use Rattle.std.specs.Prelude.{⊤, ℕ, ℤ, pos, ◌≡◌, ◌≤◌, ◌+◌, length, List, Option, Some, None}
 use Rattle.tap_base.specs.declared.moments.TheConstants.{LAST_MOMENT}
+use Rattle.tap_base.specs.Numbers.{moment_of}
 use Rattle.tap_rows.specs.declared.tables.Tables.{Tables}
 use Rattle.tap_rows.specs.declared.rows.QueryRow.{QueryRow}
 use Rattle.tap_rows.specs.Results.{covered}
@@ -12,13 +13,13 @@ use Rattle.script_lang.specs.declared.lookup.Lookup.{Lookup}
 use Rattle.script_lang.specs.declared.lookup.Lookup.TheVariants.{ShowDoc, ListNotes, ListQueries, Count}
 use Rattle.tap_model.specs.declared.session.Session.{Session}
 use Rattle.tap_model.specs.Sessions.{moment_or_zero, user_of}
-use Rattle.tap_model.specs.Queries.{start_of, query_named, probes_in}
+use Rattle.tap_model.specs.Queries.{condition_in, start_of, query_named, probes_in}
 use Rattle.tap_model.specs.Replies.{entries_in_run}
 use Rattle.tap_model.specs.Lookups.{notes_on}
 use Rattle.tap_model.specs.WindowRuns.{asked_rows, found_since}
 use Rattle.wake_plan.specs.Wakes.{wake_window}
 use Rattle.tap_kept.specs.declared.cached_query.CachedQuery.{CachedQuery}
-use Rattle.tap_kept.specs.Costs.{HasNoMark, AreAlone, rows_due, query_work, window_since, work_ahead}
+use Rattle.tap_kept.specs.Costs.{HasNoMark, AreAlone, rows_due, query_work, window_since, work_ahead, ask_work}
 use Rattle.tap_engine.specs.declared.engine.Engine.{Engine}
 use Rattle.tap_engine.specs.Standing.{OverTables}
 
@@ -105,6 +106,11 @@ lookup_work (ListNotes num) tables = length (notes_on num tables.notes)
 lookup_work ListQueries tables = 0
 lookup_work Count tables = 0
 
+-- the steps that a question may take, if its second can be read: those of a run of this second
+abbrev pub question_work : Option ℤ → List ℕ → Tables → ℕ
+question_work None source tables = 0
+question_work (Some second) source tables = ask_work (asked_rows tables) (condition_in source) second
+
 -- the most steps that a command may take
 abbrev pub most_steps : Command → Session → Tables → ℕ
 most_steps (Run name) session tables = run_work (query_named (user_of session) name tables) session tables
@@ -112,7 +118,7 @@ most_steps (Wake name) session tables = wake_work (query_named (user_of session)
 most_steps (ListOf name) session tables = list_work (query_named (user_of session) name tables) tables
 most_steps (DigestOf name ordinal) session tables = digest_work (query_named (user_of session) name tables) ordinal tables
 most_steps (Find lookup) session tables = lookup_work lookup tables
-most_steps (Ask moment source) session tables = length tables.docs + length tables.notes
+most_steps (Ask moment source) session tables = question_work (moment_of moment) source tables
 most_steps other session tables = 0
 
 -- the command takes no more steps than these

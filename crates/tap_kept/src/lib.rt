@@ -2,6 +2,7 @@
 //! boxes, filters with their rules, the index of documents and notes, the votes of notes, and the sums of all rows.
 #![tactic(auto)]
 
+mod asked;
 mod cache;
 mod cached_filter;
 mod cached_queries;
@@ -16,6 +17,7 @@ mod sums;
 mod text;
 mod votes;
 
+pub use asked::given_at;
 pub use cache::{cache_delivered, cache_filters, owners_of};
 pub use cached_filter::CachedFilter;
 pub use cached_queries::CachedQueries;
