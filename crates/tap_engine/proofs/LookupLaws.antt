@@ -1,6 +1,6 @@
 -- Look-ups: what is in memory shows what the tables say.
 use Rattle.std.proofs.Common.{◌≡◌, ◌∙◌, sym, refl, ap, subst, arith, ℕ, zero, suc, ◌+◌, ◌≤◌, ℤ, List, [], ◌∷◌, ◌++◌, length, map, Bool, true, false, Option, Some, None, nat_eq, if◌then◌else◌}
-use Rattle.std.specs.Prelude.{◌||◌, ◌&&◌, ◌==◌, ◌-◌, filter, nat_le, slice_get}
+use Rattle.std.specs.Prelude.{◌||◌, ◌&&◌, ◌==◌, ◌-◌, filter, nat_le, slice_get, Result, Ok, Err, OnOk, IfOk, IfErr}
 use Rattle.std.specs.Option.{option_or}
 use Rattle.std.specs.Str.{bytes_eq}
 use Rattle.tap_rows.specs.declared.tables.Tables.{Tables}
@@ -36,7 +36,7 @@ use Rattle.tap_kept.specs.Keeping.{cached_query}
 use Rattle.tap_kept.specs.Lines.{last_run, cached_line, owned_line, owned_lines}
 use Rattle.tap_engine.specs.declared.engine.Engine.{Engine}
 use Rattle.tap_engine.specs.Standing.{Represents, RefusedBy}
-use Rattle.tap_engine.specs.Answering.{Answers}
+use Rattle.tap_engine.specs.Answering.{Answers, ReadsAsModel, RefusesAsModel}
 use Rattle.tap_engine.specs.Costs.{most_steps, lookup_work}
 use Rattle.tap_engine.specs.Lookups.{lookup_refusal, cached_found, LookupRefuses, cached_lookup_work}
 use Rattle.tap_engine.proofs.RowTurns.{docs-are, notes-are}
@@ -89,7 +89,7 @@ lookup-verdict (ListNotes num) e t represents numbered = ap (λ docs. no_doc num
 lookup-verdict ListQueries e t represents numbered = sym (one (no_user e.session))
 lookup-verdict Count e t represents numbered = refl
 
-pub lookup-refuses : (lookup : Lookup) (e : Engine) (refusal : Refusal) → Numbered doc_number 1 e.index.docs → LookupRefuses lookup e refusal → (t : Tables) → Represents e t → Refuses refusal (Find lookup) e.session t
+lookup-refuses : (lookup : Lookup) (e : Engine) (refusal : Refusal) → Numbered doc_number 1 e.index.docs → LookupRefuses lookup e refusal → (t : Tables) → Represents e t → Refuses refusal (Find lookup) e.session t
 lookup-refuses (ShowDoc num) e refusal numbered by t represents = refused-after _ _ refusal (subst (λ v. RefusedBy v refusal) (lookup-verdict (ShowDoc num) e t represents numbered) by)
 lookup-refuses (ListNotes num) e refusal numbered by t represents = refused-after _ _ refusal (subst (λ v. RefusedBy v refusal) (lookup-verdict (ListNotes num) e t represents numbered) by)
 lookup-refuses ListQueries e refusal numbered by t represents = refused-after _ _ refusal (subst (λ v. RefusedBy v refusal) (lookup-verdict ListQueries e t represents numbered) by)
@@ -141,7 +141,7 @@ found-same Count e t represents sound =
     ∙ ap (λ notes. Found (Counts (length t.docs) (length notes) (or_zero (option_or e.session.moment e.greatest))) []) (notes-are represents)
     ∙ ap (λ moment. Found (Counts (length t.docs) (length t.notes) (or_zero moment)) []) (moment-same e t represents)
 
-pub answers-lookup : (lookup : Lookup) (e : Engine) (t : Tables) (reply : Reply) → Represents e t → IsSoundFor (Find lookup) t e.session → Numbered doc_number 1 e.index.docs → lookup_refusal lookup e ≡ None → reply ≡ cached_found lookup e
+answers-lookup : (lookup : Lookup) (e : Engine) (t : Tables) (reply : Reply) → Represents e t → IsSoundFor (Find lookup) t e.session → Numbered doc_number 1 e.index.docs → lookup_refusal lookup e ≡ None → reply ≡ cached_found lookup e
     → Answers t e.session (Find lookup) reply None e.session
 answers-lookup lookup e t reply represents sound numbered none is =
     let accepted = answers-accepted t e.session (Find lookup) (sym (lookup-verdict lookup e t represents numbered) ∙ none) in
@@ -151,6 +151,16 @@ answers-lookup lookup e t reply represents sound numbered none is =
       change_is = accepted.change_is;
       session_is = accepted.session_is;
     }
+
+-- what isn't refused is answered, and what is refused is as the model says
+pub each-answer : (lookup : Lookup) (e : Engine) (r : Result Reply Refusal) → Numbered doc_number 1 e.index.docs → OnOk r (lookup_refusal lookup e ≡ None) → IfOk r (λ reply. reply ≡ cached_found lookup e)
+    → IfOk r (ReadsAsModel e (Find lookup))
+each-answer lookup e (Ok reply) numbered none is = λ t represents sound. answers-lookup lookup e t reply represents sound numbered none is
+each-answer lookup e (Err refusal) numbered none is = tt
+
+pub each-refusal : (lookup : Lookup) (e : Engine) (r : Result Reply Refusal) → Numbered doc_number 1 e.index.docs → IfErr r (LookupRefuses lookup e) → IfErr r (RefusesAsModel e (Find lookup))
+each-refusal lookup e (Ok reply) numbered by = tt
+each-refusal lookup e (Err refusal) numbered by = λ t represents. lookup-refuses lookup e refusal numbered by t represents
 
 -- the steps that a look-up may take
 pub most-lookup : (lookup : Lookup) (e : Engine) (new old : ℕ) → new ≤ old + cached_lookup_work lookup e → (t : Tables) → Represents e t → new ≤ old + most_steps (Find lookup) e.session t

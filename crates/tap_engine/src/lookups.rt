@@ -32,6 +32,8 @@ impl Engine {
         ensures fine { OnOk result (lookup_refusal (Rows.ShowDoc num) self.now ≡ None) }
         ensures reply { IfOk result (λ reply. reply ≡ cached_found (Rows.ShowDoc num) self.now) }
         ensures refusal { IfErr result (λ refusal. RefusedBy (lookup_refusal (Rows.ShowDoc num) self.now) refusal) }
+        ensures short { IfOk result (λ reply. HasShortNames reply) }
+        ensures accepted { IfOk result (λ reply. is_accepted reply ≡ true) }
         ensures steps { steps.new ≤ steps.old + 1 }
     {
         let Some(kept) = self.index.doc(DocNum(num), steps) else {
@@ -58,6 +60,8 @@ impl Engine {
         ensures fine { OnOk result (lookup_refusal (Rows.ListNotes num) self.now ≡ None) }
         ensures reply { IfOk result (λ reply. reply ≡ cached_found (Rows.ListNotes num) self.now) }
         ensures refusal { IfErr result (λ refusal. RefusedBy (lookup_refusal (Rows.ListNotes num) self.now) refusal) }
+        ensures short { IfOk result (λ reply. HasShortNames reply) }
+        ensures accepted { IfOk result (λ reply. is_accepted reply ≡ true) }
         ensures steps { steps.new ≤ steps.old + cached_lookup_work (Rows.ListNotes num) self.now }
     {
         refuse_doc(num, self.index.docs() as usize)?;
@@ -73,6 +77,8 @@ impl Engine {
         ensures fine { OnOk result (lookup_refusal Rows.ListQueries self.now ≡ None) }
         ensures reply { IfOk result (λ reply. reply ≡ cached_found Rows.ListQueries self.now) }
         ensures refusal { IfErr result (λ refusal. RefusedBy (lookup_refusal Rows.ListQueries self.now) refusal) }
+        ensures short { IfOk result (λ reply. HasShortNames reply) }
+        ensures accepted { IfOk result (λ reply. is_accepted reply ≡ true) }
     {
         let Some(user) = &self.session.user else {
             return Err(Refusal::NoUser);
@@ -96,7 +102,9 @@ impl Engine {
 
     // Counts the documents and the notes. It takes no memory.
     fn count(&self, alloc: Global) -> Reply
-        ensures { result ≡ cached_found Rows.Count self.now }
+        ensures reply { result ≡ cached_found Rows.Count self.now }
+        ensures short { HasShortNames result }
+        ensures accepted { is_accepted result ≡ true }
     {
         Reply::Found {
             found: Found::Counts {
@@ -118,6 +126,8 @@ impl Engine {
         ensures fine { OnOk result (lookup_refusal lookup self.now ≡ None) }
         ensures reply { IfOk result (λ reply. reply ≡ cached_found lookup self.now) }
         ensures refusal { IfErr result (λ refusal. LookupRefuses lookup self.now refusal) }
+        ensures short { IfOk result (λ reply. HasShortNames reply) }
+        ensures accepted { IfOk result (λ reply. is_accepted reply ≡ true) }
         ensures quiet { IsQuietLookup lookup → steps.new ≡ steps.old }
         ensures steps { steps.new ≤ steps.old + cached_lookup_work lookup self.now }
     {

@@ -33,8 +33,8 @@ pub fn note_lines<'a, L: Ledger>(
     notes: NoteWalk<'a>,
     steps: &mut Steps<L>,
 ) -> Result<Texts, Memory>
-    ensures lines { IfOk result (λ lines. lines ≡ map note_text notes) }
-    ensures steps { steps.new ≤ steps.old + length notes }
+    ensures lines { IfOk result (λ lines. lines ≡ map note_text notes.entry) }
+    ensures steps { steps.new ≤ steps.old + length notes.entry }
 {
     let mut notes = notes;
     let mut lines = Texts::new(alloc);
