@@ -1,0 +1,2 @@
+pub mod Asks
+mod SeenLaws
