@@ -1,0 +1,251 @@
+"""What the gate says of a crate, by the gate's own code, and the store of what was proved on this machine.
+
+The store is the folder STORE of the user's cache, for all checkouts. It has one key, that of the gate (`Kept.key`): a sum of the
+kit, of HANDLES, of the crate's line in crates.txt and of each file of its src/, specs/ and proofs/, and of what the libraries
+below it hold. STORE/KEY/out has what was made: rlib/NAME.rlib or the program NAME. What `rt ci` keeps on this machine has the
+same key, and is taken. Nothing is ever put there: no verdict of the gate rests on this tool.
+"""
+
+import contextlib
+import copy
+import fcntl
+import hashlib
+import importlib.machinery
+import inspect
+import os
+import re
+import shutil
+import sys
+import tempfile
+import time
+import types
+from typing import Any, Iterator, List, Optional
+
+from plan import Uses, closure
+
+KIT = os.path.dirname(os.path.dirname(os.path.realpath(shutil.which("rt") or "/missing/bin/rt")))
+TOOLCHAIN = ["--toolchain", f"{KIT}/toolchain", "--backend", "llvm"]
+STORE = os.path.join(os.environ.get("XDG_CACHE_HOME") or os.path.expanduser("~/.cache"), "kimbovyse-proved")
+# The bytes that the store may have, and the seconds for which what was used stays in any case.
+STORE_MOST, STORE_STAYS = 20_000_000_000, 6 * 3600
+
+# All that is used of the kit's scripts, with its parameters. A kit that has it otherwise is refused in one line.
+WRITTEN_FOR = "rattle-kit-13f"
+WANTED = """
+    Crate.below(self) Crate.link(self,made,program) Crate.prove(self,*commands) Crate.words(self,flags,tests,keeps,as_source)
+    Kept(crates,anew) Kept.give(self,crate,tests,key) Kept.is_built(self,crate) Kept.key(self,crate)
+    crates_of(root) handles_of(root) need(crate) free() touched(crate) stop_on_words(crate) REACHES RENAMES IGNORED
+    edits_of(crate) linked(folder,to) must_fail(crate,edit,flags,kept) REFUSED AT_LIMIT
+    rtlib.code_of(folder) rtlib.fmt(folder,flag,out,diff) rtlib.guarded() rtlib.lock(crates) rtlib.KEPT rtlib.RUNNER
+    rtlib.stop_on_links(folder) rtlib.stop_on_text(crate,verb) rtlib.stop_on_unread(top,crates)
+"""
+OF_A_CRATE, OF_KEPT = "folder name deps rlib is_program out allowed", "at rlibs"
+OF_PLANT = "main(*words) SECONDS rt.main(verb,*words) rt.KEPT rt.Crate(folder,root,known,above,name)"
+
+
+def say(text: str) -> None:
+    print(f"build: {text}", file=sys.stderr, flush=True)
+
+
+def read(path: str) -> str:
+    """Returns a file's text; nothing if it can't be read."""
+    try:
+        with open(path, encoding="utf-8") as it:
+            return it.read()
+    except OSError:
+        return ""
+
+
+def lacking(thing: Any, wanted: str) -> List[str]:
+    """Returns the names that a module or an object lacks, or has with other parameters."""
+    found = []
+    for name in wanted.split():
+        path, opens, parameters = name.rstrip(")").partition("(")
+        at = thing
+        try:
+            for part in path.split("."):
+                at = getattr(at, part)
+            has = ["*" * (it.kind is it.VAR_POSITIONAL) + it.name for it in inspect.signature(at).parameters.values()] if opens else []
+            found += [name] * (",".join(has) != parameters)
+        except (AttributeError, TypeError, ValueError):
+            found.append(name)
+    return found
+
+
+def hold(lacks: List[str]) -> None:
+    """Ends with one line if the kit lacks what is used of it."""
+    if lacks:
+        kit = read(f"{KIT}/KIT-ID").split("\n")[0]
+        sys.exit(f"build: this was written for {WRITTEN_FOR}; in the scripts of {kit} these are missing or changed: {' '.join(lacks)}")
+
+
+def load(script: str, wanted: str) -> Any:
+    """Loads a script of the kit as a module."""
+    if not os.path.isfile(f"{KIT}/bin/{script}"):
+        sys.exit("build: rt is missing: put the folder bin of the kit that README names into PATH")
+    module = types.ModuleType(script.replace("-", "_"))
+    module.__file__ = f"{KIT}/bin/{script}"
+    importlib.machinery.SourceFileLoader(module.__name__, module.__file__).exec_module(module)
+    hold(lacking(module, wanted))
+    return module
+
+
+def is_held(path: str) -> bool:
+    """Returns whether another process holds the lock of that file, if there is one."""
+    try:
+        with open(path, encoding="utf-8") as lock:
+            fcntl.flock(lock, fcntl.LOCK_SH | fcntl.LOCK_NB)
+    except BlockingIOError:
+        return True
+    except OSError:
+        pass
+    return False
+
+
+class Gate:
+    """The crates of a checkout, what the gate says of them, and what is proved of them on this machine."""
+
+    def __init__(self, top: str) -> None:
+        # The gate takes nothing from these.
+        for name in ("RT_ALLOW_C", "RT_BACKEND", "RT_SECONDS"):
+            os.environ.pop(name, None)
+        self.top, self.rt = top, load("rt", WANTED)
+        self.rt.Crate.allowed = self.rt.handles_of(top)
+        self.every = self.rt.crates_of(top)
+        self.crates = {it.name: it for it in self.every}
+        self.kept = self.rt.Kept(self.every)
+        hold(lacking(self.every[0], OF_A_CRATE) + lacking(self.kept, OF_KEPT))
+        # Its first call sets a signal's handler, which only this thread may.
+        self.rt.rtlib.guarded()
+        os.makedirs(STORE, exist_ok=True)
+
+    def stop_on_unread(self) -> None:
+        """Ends if a .rt or .antt file stands where no check reads it."""
+        for name in sorted(os.listdir(self.top)):
+            if name != ".git" and os.path.isdir(f"{self.top}/{name}"):
+                self.rt.rtlib.stop_on_unread(f"{self.top}/{name}", self.every)
+
+    def why_refused(self, crate: Any) -> Optional[str]:
+        """Returns why the gate refuses the crate by its text alone, if it does."""
+        lib, code = self.rt.rtlib, self.rt.rtlib.code_of(crate.folder)
+        try:
+            lib.stop_on_links(crate.folder)
+            lib.stop_on_unread(crate.folder, self.every)
+            lib.stop_on_text(crate, "verdict")
+            self.rt.stop_on_words(crate)
+        except SystemExit:
+            return "its text is refused, as the line above says"
+        for handle, words in self.rt.REACHES.items():
+            if handle not in crate.allowed and re.search(words, code):
+                return f"it names what only the handle {handle} reaches, which HANDLES doesn't allow"
+        if re.search(self.rt.RENAMES, code) or re.search(self.rt.IGNORED, code):
+            return "it renames std, takes it whole, or has a test under #[ignore]"
+        return "its layout is refused: run rt fmt in its folder" if lib.fmt(crate.folder, "--check", crate.out) else None
+
+    def prove(self, crate: Any, key: str, jobs: int) -> bool:
+        """Proves a crate from nothing, held to what the gate asks of it, and puts what it makes into the store.
+
+        What is said goes to crate.out, a file.
+        """
+        files, why = self.rt.touched(crate), self.why_refused(crate)
+        with self.room(crate.name) as room:
+            is_proved = not why and self.make(crate, jobs, room)
+            if is_proved and self.rt.touched(crate) != files:
+                why = "its files changed while it was proved: run this again"
+            elif is_proved:
+                self.enter(crate, key, room)
+        if why:
+            print(f"build: {crate.name}: {why}", file=crate.out)
+        return is_proved and not why
+
+    def make(self, crate: Any, jobs: int, room: str) -> bool:
+        """Has the gate's code prove a crate, and make its library or its program in room/out."""
+        words, made = crate.words(["--jobs", str(jobs)], keeps=False), f"{room}/out/rlib/{crate.name}.rlib"
+        os.makedirs(os.path.dirname(made))
+        if not crate.is_program:
+            return not crate.prove(["build", *words, "--statements", "-o", made])
+        # `link` wants a path from the crate's folder.
+        made = f"{os.path.relpath(os.path.realpath(room), os.path.realpath(crate.folder))}/out/{crate.name}"
+        return not (crate.prove(["build", *words, *TOOLCHAIN, "-o", f"{made}.o"]) or crate.link(f"{made}.o", made))
+
+    @contextlib.contextmanager
+    def room(self, name: str) -> Iterator[str]:
+        """Gives a new folder of the store, which is removed unless `enter` took it."""
+        room = tempfile.mkdtemp(prefix=f"new-{os.getpid()}-{name}-", dir=STORE)
+        try:
+            yield room
+        finally:
+            shutil.rmtree(room, ignore_errors=True)
+
+    def enter(self, crate: Any, key: str, room: str) -> None:
+        """Gives a folder with all that a crate makes its name in the store."""
+        made = copy.copy(crate)
+        made.folder = room
+        self.kept.is_built(made)
+        with open(f"{room}/sum", "w", encoding="utf-8") as it:
+            it.write(self.kept.rlibs[crate.name])
+        try:
+            os.rename(room, f"{STORE}/{key}")
+        except OSError:
+            # Another checkout was faster.
+            if not os.path.isdir(f"{STORE}/{key}"):
+                raise
+
+    def find(self, crate: Any, key: str) -> bool:
+        """Returns whether what the crate makes is in the store, or was taken from the gate's; crates above it then use that."""
+        at = f"{STORE}/{key}"
+        if not os.path.isdir(at) and self.kept.at:
+            with self.room(crate.name) as room:
+                made = copy.copy(crate)
+                made.folder = room
+                if self.kept.give(made, False, key):
+                    self.enter(crate, key, room)
+        if not os.path.isdir(at):
+            return False
+        os.utime(at)
+        self.kept.rlibs[crate.name] = read(f"{at}/sum")
+        crate.rlib = f"{at}/out/rlib/{crate.name}.rlib"
+        return True
+
+    def place_of(self, crate: Any) -> str:
+        """Returns the folder of the store in which a program that was found stands."""
+        return os.path.dirname(os.path.dirname(crate.rlib))
+
+    def is_at_work(self, key: str) -> bool:
+        """Returns whether another checkout, or an `rt ci` of this machine, proves the same now."""
+        return is_held(f"{STORE}/lock-{key}") or is_held(f"{self.kept.at}/lock-proof-{key[:32]}")
+
+
+def shrink_store() -> None:
+    """Removes what was unused for longest, until the rest is within bounds, and what processes that are gone left."""
+    found = []
+    for it in os.scandir(STORE):
+        new = re.match(r"new-(\d+)-", it.name)
+        if new and not os.path.exists(f"/proc/{new[1]}"):
+            shutil.rmtree(it.path, ignore_errors=True)
+        elif it.is_dir() and not new:
+            size = sum(os.stat(f"{at}/{name}").st_size for at, _, names in os.walk(it.path) for name in names)
+            found.append((it.stat().st_mtime, size, it.path))
+    much = sum(size for _, size, _ in found)
+    for used, size, path in sorted(found):
+        if much > STORE_MOST and used < time.time() - STORE_STAYS:
+            shutil.rmtree(path, ignore_errors=True)
+            much -= size
+
+
+def sum_of(path: str) -> str:
+    """Returns a sum of a file; nothing if there is none."""
+    try:
+        with open(path, "rb") as it:
+            return hashlib.sha256(it.read()).hexdigest()
+    except OSError:
+        return ""
+
+
+def stamp(top: str, uses: Uses, name: str) -> str:
+    """Returns, without the gate's code, a sum of all that a program is proved of: what the store's key covers."""
+    files = [f"{KIT}/KIT-ID", f"{top}/HANDLES", f"{top}/crates.txt"]
+    for crate in closure(uses, [name]):
+        parts = [f"{top}/crates/{crate}/{it}" for it in ("src", "specs", "proofs", "c")]
+        files += sorted(f"{at}/{it}" for part in parts for at, _, names in os.walk(part) for it in names)
+    return hashlib.sha256(repr([(os.path.relpath(it, top), sum_of(it)) for it in files]).encode()).hexdigest()

@@ -1,0 +1,190 @@
+#!/usr/bin/env python3
+"""Tests of the tools themselves, without a proof: python3 tools/test_build.py"""
+
+import os
+import sys
+import tempfile
+import unittest
+from typing import Dict, List, Mapping, Tuple
+
+sys.dont_write_bytecode = True
+
+import gate
+import plan
+
+TOP = os.path.dirname(os.path.dirname(os.path.abspath(__file__)))
+
+# Processor seconds of a proof from nothing on processors of 2.5 GHz: of the longest chain in a first `./run`, ..
+CHAIN = {
+    **{"tap_base": 300, "tap_rows": 107, "tql_core": 87, "time_marks": 62, "access_plan": 127, "probe_eval": 425},
+    **{"query_eval": 257, "tap_kept": 376, "tap_engine": 695, "tap_top": 462, "tapestry": 520},
+}
+# .. and of the others by the gate's table in docs/KIT.md, which is lower by a fifth; those that it leaves out count as 30.
+OTHERS = {
+    **{"keeper_sql": 310, "keeper_file": 266, "file_session": 252, "tql_parse": 194, "wake_plan": 122, "row_index": 137},
+    **{"tql_types": 137, "mail_fields": 108, "command_words": 108, "script_lang": 115, "restart_core": 115, "appraiser": 115},
+    **{"sample_gen": 58, "tql_tree": 72, "keeper_core": 79, "incremental_rewrite": 79, "monotone_rewrite": 65, "tql_lex": 50},
+    **{"mail_lines": 43, "vote_scores": 43, "tap_edges": 36},
+}
+SECONDS = {**OTHERS, **CHAIN}
+GB = 1e9
+
+
+def crates_of_tapestry() -> Tuple[Dict[str, List[str]], Dict[str, float]]:
+    """Returns what the crates below tapestry use, and their seconds."""
+    with open(f"{TOP}/crates.txt", encoding="utf-8") as it:
+        uses = plan.read_uses(it.read())
+    names = plan.closure(uses, ["tapestry"])
+    return {it: [x for x in uses[it] if x in names] for it in names}, {it: SECONDS.get(it, 30) for it in names}
+
+
+class Simulation:
+    """Proofs in the order of plan.share, on so many processors that nobody else uses."""
+
+    def __init__(self, processors: int, memory: float = 100 * GB) -> None:
+        self.uses, self.seconds = crates_of_tapestry()
+        self.processors, self.memory = processors, memory
+        self.chain = plan.chains(self.uses, self.seconds)
+        self.needs = dict.fromkeys(self.uses, 2.5 * GB)
+        self.clock, self.most_memory, self.jobs = 0.0, 0.0, {}  # type: float, float, Dict[str, int]
+        self.run()
+
+    def planned(self, running: Mapping[str, int]) -> float:
+        return sum(plan.memory_of(self.needs[it], jobs) for it, jobs in running.items())
+
+    def run(self) -> None:
+        left, running = dict(self.seconds), {}  # type: Dict[str, float], Dict[str, int]
+        while left:
+            ready = [it for it in left if it not in running and not any(x in left for x in self.uses[it])]
+            room = self.memory - self.planned(running)
+            running.update(plan.share(ready, running, self.seconds, self.chain, self.needs, room, self.processors))
+            self.jobs.update(running)
+            self.most_memory = max(self.most_memory, self.planned(running))
+            wanted = sum(plan.BUSY[it] for it in running.values())
+            speed = {it: plan.BUSY[jobs] * min(1, self.processors / wanted) for it, jobs in running.items()}
+            step = min(left[it] / speed[it] for it in running)
+            self.clock += step
+            for it in list(running):
+                left[it] -= step * speed[it]
+                if left[it] < 1e-6:
+                    del left[it], running[it]
+
+    def least(self) -> float:
+        """Returns the seconds below which no order comes, with what jobs bring in one crate."""
+        return max(sum(self.seconds.values()) / self.processors, max(self.chain.values()) / plan.BUSY[min(4, self.processors)])
+
+
+class PlanTest(unittest.TestCase):
+    def test_reads_crates_txt(self) -> None:
+        text = "# layers\n\nlow: std_like\nhigh may_abort=2: low jiff # the top\napp:high low\nno colon\n"
+        self.assertEqual(plan.read_uses(text), {"low": ["std_like"], "high": ["low", "jiff"], "app": ["high", "low"]})
+
+    def test_each_crate_stands_after_those_that_it_uses(self) -> None:
+        uses = {"app": ["high", "low"], "high": ["low", "jiff"], "low": [], "other": []}
+        self.assertEqual(plan.closure(uses, ["app"]), ["low", "high", "app"])
+        self.assertEqual(plan.closure(uses, ["other", "high"]), ["other", "low", "high"])
+
+    def test_a_chain_is_the_longest_way_up(self) -> None:
+        uses = {"low": [], "short": ["low"], "long": ["low"], "app": ["short", "long"]}
+        work = {"low": 1, "short": 2, "long": 5, "app": 10}
+        self.assertEqual(plan.chains(uses, work), {"low": 16, "short": 12, "long": 15, "app": 10})
+
+    def share(self, ready: List[str], running: Mapping[str, int], processors: int, room: float = 100) -> List[Tuple[str, int]]:
+        chain = {"head": 100, "a": 9, "b": 8, "c": 7}
+        work = dict.fromkeys(chain, 5.0)
+        return plan.share(ready, running, work, chain, dict.fromkeys(chain, 2.0), room, processors)
+
+    def test_the_longest_chain_has_two_jobs_and_goes_first(self) -> None:
+        self.assertEqual(self.share(["a", "b", "c", "head"], {}, 4), [("head", 2), ("a", 1), ("b", 1)])
+        self.assertEqual(self.share(["a", "head"], {}, 2), [("head", 2)])
+        self.assertEqual(self.share(["a", "head"], {}, 1), [("head", 1)])
+
+    def test_it_has_all_processors_that_no_other_uses(self) -> None:
+        self.assertEqual(self.share(["head"], {}, 4), [("head", 4)])
+        self.assertEqual(self.share(["head"], {}, 16), [("head", 4)])
+        self.assertEqual(self.share(["head"], {"a": 3}, 4), [("head", 3)])
+
+    def test_idle_processors_go_to_whom_nothing_waits_for(self) -> None:
+        self.assertEqual(self.share(["a"], {"head": 2}, 4), [("a", 2)])
+        self.assertEqual(self.share(["a", "b"], {"head": 2}, 4), [("a", 1), ("b", 1)])
+        self.assertEqual(self.share(["a"], {"head": 2}, 2), [])
+
+    def test_memory_bounds_jobs_and_crates(self) -> None:
+        self.assertEqual(self.share(["head"], {}, 4, room=3.3), [("head", 2)])
+        self.assertEqual(self.share(["head"], {}, 4, room=1), [("head", 1)])
+        self.assertEqual(self.share(["head", "a"], {"b": 1}, 4, room=1), [])
+        self.assertEqual(self.share(["a"], {"head": 2}, 4, room=1), [])
+
+    def test_the_first_reply_is_near_what_no_order_beats(self) -> None:
+        for processors, much in ((1, 1.01), (2, 1.06), (4, 1.2), (8, 1.25)):
+            it = Simulation(processors)
+            self.assertLess(it.clock, much * it.least(), f"{processors} processors: {it.clock / 60:.1f} minutes")
+
+    def test_the_chain_is_never_on_one_processor_alone(self) -> None:
+        for processors in (2, 4):
+            it = Simulation(processors)
+            self.assertTrue(all(it.jobs[name] >= 2 for name in CHAIN), it.jobs)
+            self.assertEqual(it.jobs["tapestry"], processors)
+        self.assertGreaterEqual(min(Simulation(4).jobs[name] for name in ("tap_engine", "tap_top")), 3)
+
+    def test_a_plan_keeps_to_memory(self) -> None:
+        it = Simulation(4, memory=8 * GB)
+        self.assertLessEqual(it.most_memory, 8 * GB)
+
+
+class StampTest(unittest.TestCase):
+    USES = {"app": ["low"], "low": [], "other": []}
+
+    def setUp(self) -> None:
+        held = tempfile.TemporaryDirectory()
+        self.addCleanup(held.cleanup)
+        self.top = held.name
+        for path in ("low/src/lib.rt", "low/specs/A.antt", "low/proofs/B.antt", "app/src/main.rt", "other/src/lib.rt"):
+            self.write(f"crates/{path}", "one")
+
+    def write(self, path: str, text: str) -> None:
+        os.makedirs(os.path.dirname(f"{self.top}/{path}"), exist_ok=True)
+        with open(f"{self.top}/{path}", "w", encoding="utf-8") as it:
+            it.write(text)
+
+    def stamp(self) -> str:
+        return gate.stamp(self.top, self.USES, "app")
+
+    def test_it_goes_by_content_and_not_by_time(self) -> None:
+        before = self.stamp()
+        os.utime(f"{self.top}/crates/low/src/lib.rt", (1, 1))
+        self.assertEqual(self.stamp(), before)
+        self.write("crates/low/src/lib.rt", "two")
+        self.assertNotEqual(self.stamp(), before)
+        self.write("crates/low/src/lib.rt", "one")
+        self.assertEqual(self.stamp(), before)
+
+    def test_it_covers_what_a_proof_reads_and_no_more(self) -> None:
+        before = self.stamp()
+        for path in ("crates/other/src/lib.rt", "crates/low/out/x", "crates/low/must-fail/a.edit", "docs/KIT.md"):
+            self.write(path, "new")
+            self.assertEqual(self.stamp(), before, path)
+        for path in ("HANDLES", "crates.txt", "crates/low/proofs/B.antt", "crates/app/src/more.rt"):
+            self.write(path, "new")
+            self.assertNotEqual(self.stamp(), before, path)
+            before = self.stamp()
+
+    def test_a_file_that_moves_changes_it(self) -> None:
+        before = self.stamp()
+        os.rename(f"{self.top}/crates/low/specs/A.antt", f"{self.top}/crates/low/specs/C.antt")
+        self.assertNotEqual(self.stamp(), before)
+
+
+class KitTest(unittest.TestCase):
+    def test_what_a_kit_lacks_is_named(self) -> None:
+        wanted = "path.join(a,*p) path.split(p) path.lost(p) path.join(a,b) sep nothing"
+        self.assertEqual(gate.lacking(os, wanted), ["path.lost(p)", "path.join(a,b)", "nothing"])
+
+    @unittest.skipUnless(os.path.isfile(f"{gate.KIT}/bin/rt"), "no kit is here")
+    def test_this_kit_has_what_is_used(self) -> None:
+        self.assertEqual(gate.lacking(gate.load("rt", ""), gate.WANTED), [])
+        self.assertEqual(gate.lacking(gate.load("rt-plant", ""), gate.OF_PLANT), [])
+
+
+if __name__ == "__main__":
+    unittest.main()
