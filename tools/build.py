@@ -16,13 +16,16 @@ again. check, tests, edits and plant are no verdict: they take what earlier chec
 
 LANES=N is how many processors are shared out, and how many compilers run on this machine at a time (all processors). JOBS=N is
 the most jobs of one compiler (4 where a crate is proved from nothing, else 2). PLANT_SECONDS=N is the longest that one check
-of plants may take (240, which passes on a busy machine). The status is 0 if all went well, 1 if not, 2 if words are wrong.
+of plants may take (240, which passes on a busy machine). ALONE=FOLDER has the store there, and takes nothing from an `rt ci`.
+The status is 0 if all went well, 1 if not, 2 if words are wrong.
 """
 
 import fcntl
 import os
 import queue
+import re
 import shutil
+import signal
 import subprocess
 import sys
 import tempfile
@@ -34,13 +37,11 @@ from typing import Any, Dict, List, Sequence, Set, TextIO, Tuple
 sys.dont_write_bytecode = True
 
 import plan
-from gate import KIT, OF_PLANT, STORE, TOOLCHAIN, Gate, load, read, say, shrink_store, stamp, sum_of
+from gate import KIT, OF_PLANT, STORE, TOOLCHAIN, Gate, load, read, say, shrink_store, stamp, sum_of, work_of
 
 TOP = os.path.dirname(os.path.dirname(os.path.abspath(__file__)))
 # How many lines of a failed check are shown.
 SHOWN = 40
-# The bytes of proofs that take as long as to load what stands below a crate.
-LOADING = 60_000
 
 
 def number_of(name: str, otherwise: int) -> int:
@@ -77,18 +78,16 @@ class Prover:
     def __init__(self, gate: Gate, names: Sequence[str]) -> None:
         uses = {it.name: [below.name for below in it.deps] for it in gate.every}
         self.gate, self.names = gate, plan.closure(uses, names)
-        self.left, self.done, self.told = list(self.names), set(), set()  # type: List[str], Set[str], Set[str]
-        self.work = {it: LOADING + self.size(it) for it in self.names}
+        self.left, self.begun = list(self.names), 0
+        self.done: Set[str] = set()
+        self.waited_for: Set[str] = set()
+        self.running: Dict[str, int] = {}
+        self.ended: "queue.Queue[Tuple[str, bool]]" = queue.Queue()
+        self.work = {it: work_of(gate.crates[it].folder) for it in self.names}
         self.chain = plan.chains(uses, self.work)
         # A job takes at most half of the memory that the gate plans.
         self.needs = {it: gate.rt.need(gate.crates[it]) / 2 for it in self.names}
-        self.memory, self.most = 0.85 * gate.rt.free(), number_of("JOBS", plan.MOST_JOBS)
-        self.running: Dict[str, int] = {}
-        self.ended: "queue.Queue[Tuple[str, bool]]" = queue.Queue()
-
-    def size(self, name: str) -> int:
-        parts = [f"{self.gate.crates[name].folder}/{it}" for it in ("src", "specs", "proofs")]
-        return sum(os.path.getsize(f"{at}/{it}") for part in parts for at, _, names in os.walk(part) for it in names)
+        self.memory, self.most = 0.0, number_of("JOBS", plan.MOST_JOBS)
 
     def run(self) -> bool:
         """Proves all; returns whether all is proved. If one isn't, those at work still end, and no other begins."""
@@ -121,17 +120,20 @@ class Prover:
                 self.done.add(name)
             elif not self.gate.is_at_work(key):
                 ready.append(name)
-            elif name not in self.told:
-                self.told.add(name)
+            elif name not in self.waited_for:
+                self.waited_for.add(name)
                 say(f"{name} is at work in another checkout or an rt ci; it is waited for")
         return ready
 
     def room(self) -> float:
         """Returns the memory that those at work leave, by what was planned for them and by what is free now."""
-        planned = sum(plan.memory_of(self.needs[name], jobs) for name, jobs in self.running.items())
-        return min(self.memory - planned, self.gate.rt.free())
+        free, planned = self.gate.rt.free(), sum(plan.memory_of(self.needs[it], jobs) for it, jobs in self.running.items())
+        if not self.running:
+            self.memory = 0.85 * free
+        return min(self.memory - planned, free)
 
     def begin(self, name: str, jobs: int) -> None:
+        """Has a thread prove a crate, unless another process just began it."""
         key = self.gate.kept.key(self.gate.crates[name])
         lock = open(f"{STORE}/lock-{key}", "w", encoding="utf-8")
         try:
@@ -139,9 +141,11 @@ class Prover:
         except BlockingIOError:
             return lock.close()
         self.running[name] = jobs
+        self.begun += 1
         threading.Thread(target=self.prove, args=(name, key, jobs, lock), daemon=True).start()
 
     def prove(self, name: str, key: str, jobs: int, lock: TextIO) -> None:
+        """Proves a crate and says how that went."""
         crate, is_proved = self.gate.crates[name], False
         try:
             with lock, Lane(), tempfile.TemporaryFile("w+", errors="replace") as crate.out:
@@ -150,14 +154,13 @@ class Prover:
                 is_proved = self.gate.prove(crate, key, jobs)
                 crate.out.seek(0)
                 said = crate.out.read().rstrip("\n").split("\n")
-            if is_proved:
-                say(f"{name} is proved, in {time.time() - began:.0f} s; {len(self.done) + 1} of {len(self.names)} are done")
-                for it in said:
-                    if crate.is_program and it.startswith("logic=proved"):
-                        say(it)
-            else:
+            if not is_proved:
                 print("\n".join(said[-SHOWN:]), file=sys.stderr)
-                say(f"{name} isn't proved; `tools/build.py check {name}` says more")
+                return say(f"{name} isn't proved; `tools/build.py check {name}` says more")
+            say(f"{name} is proved, in {time.time() - began:.0f} s; {len(self.done) + 1} of {len(self.names)} are done")
+            for it in said:
+                if crate.is_program and it.startswith("logic=proved"):
+                    say(it)
         finally:
             self.ended.put((name, is_proved))
 
@@ -166,7 +169,8 @@ def prove(gate: Gate, names: Sequence[str]) -> bool:
     """Proves these crates and all below them, but for what is in the store."""
     prover = Prover(gate, names)
     is_well = prover.run()
-    shrink_store()
+    if prover.begun:
+        shrink_store()
     return is_well
 
 
@@ -178,16 +182,20 @@ def program(name: str, words: List[str]) -> int:
     if is_there or words:
         return 0 if is_there else 1
     gate = gate_over([name])
+    if not gate.crates[name].is_program:
+        say(f"{name} is a library: tools/build.py libs {name}")
+        return 2
     gate.stop_on_unread()
     if not prove(gate, [name]):
         return 1
     os.makedirs(os.path.dirname(made), exist_ok=True)
-    shutil.copy2(f"{gate.place_of(gate.crates[name])}/{name}", f"{made}.new")
+    shutil.copy2(gate.crates[name].rlib, f"{made}.new")
     os.replace(f"{made}.new", made)
-    # What was edited meanwhile is proved by the next run.
-    if stamp(TOP, uses, name) == files:
-        with open(f"{made}.stamp", "w", encoding="utf-8") as it:
-            it.write(f"{files} {sum_of(made)}")
+    if stamp(TOP, uses, name) != files:
+        say("files changed while they were proved: run this again")
+        return 1
+    with open(f"{made}.stamp", "w", encoding="utf-8") as it:
+        it.write(f"{files} {sum_of(made)}")
     return 0
 
 
@@ -202,6 +210,7 @@ def gate_over(names: Sequence[str]) -> Gate:
 
 
 def rattle(gate: Gate, crate: Any, words: Sequence[str], **how: Any) -> "subprocess.CompletedProcess[str]":
+    """Runs the compiler in a crate's folder; it ends with this process."""
     with Lane():
         whole = [*gate.rt.rtlib.guarded(), f"{KIT}/bin/rattle", *words]
         return subprocess.run(whole, cwd=crate.folder, check=False, stdin=subprocess.DEVNULL, text=True, **how)
@@ -215,6 +224,7 @@ def words_of(gate: Gate, crate: Any, flags: Sequence[str], is_test: bool = False
 
 
 def check(gate: Gate, crate: Any, flags: List[str]) -> int:
+    """Checks a crate over what earlier checks of it left."""
     status = rattle(gate, crate, ["check", *words_of(gate, crate, flags), "--progress"]).returncode
     say("this took what earlier checks here left; `libs` and `program` prove from nothing")
     return status
@@ -231,9 +241,16 @@ def tests(gate: Gate, crate: Any, wanted: List[str]) -> int:
         return 1
     if crate.link(f"{made}.o", made):
         return 1
-    with tempfile.TemporaryDirectory(prefix="build-tests-") as room:
-        runs = [["--filter", it, f"{crate.folder}/{made}"] for it in wanted] or [[f"{crate.folder}/{made}"]]
-        return max(subprocess.run([gate.rt.rtlib.RUNNER, *it], cwd=room, check=False).returncode != 0 for it in runs)
+    status = 0
+    for words in [["--filter", it] for it in wanted] or [[]]:
+        with tempfile.TemporaryDirectory(prefix="build-tests-") as room:
+            whole = [gate.rt.rtlib.RUNNER, *words, f"{crate.folder}/{made}"]
+            ran = subprocess.run(whole, cwd=room, check=False, stdout=subprocess.PIPE, text=True, errors="replace")
+        print(ran.stdout, end="", flush=True)
+        if ran.returncode or not re.search(r"^test .* \.\.\. ok$", ran.stdout, re.M):
+            say("a test failed" if ran.returncode else f"no test has {words[1]} in its name")
+            status = 1
+    return status
 
 
 def edits(gate: Gate, crate: Any, wanted: List[str]) -> int:
@@ -303,4 +320,6 @@ def main(words: List[str]) -> int:
 
 
 if __name__ == "__main__":
+    # Python would wait for the compilers, which end with this process.
+    signal.signal(signal.SIGINT, signal.SIG_DFL)
     sys.exit(main(sys.argv[1:]))

@@ -25,9 +25,12 @@ from plan import Uses, closure
 
 KIT = os.path.dirname(os.path.dirname(os.path.realpath(shutil.which("rt") or "/missing/bin/rt")))
 TOOLCHAIN = ["--toolchain", f"{KIT}/toolchain", "--backend", "llvm"]
-STORE = os.path.join(os.environ.get("XDG_CACHE_HOME") or os.path.expanduser("~/.cache"), "kimbovyse-proved")
+CACHE = os.environ.get("XDG_CACHE_HOME") or os.path.expanduser("~/.cache")
+STORE = os.environ.get("ALONE") or f"{CACHE}/kimbovyse-proved"
 # The bytes that the store may have, and the seconds for which what was used stays in any case.
-STORE_MOST, STORE_STAYS = 20_000_000_000, 6 * 3600
+STORE_MOST, STORE_STAYS = 10_000_000_000, 6 * 3600
+# The bytes of sources whose proof takes as long as to load what stands below a crate.
+LOADING = 10_000
 
 # All that is used of the kit's scripts, with its parameters. A kit that has it otherwise is refused in one line.
 WRITTEN_FOR = "rattle-kit-13f"
@@ -50,7 +53,7 @@ def say(text: str) -> None:
 def read(path: str) -> str:
     """Returns a file's text; nothing if it can't be read."""
     try:
-        with open(path, encoding="utf-8") as it:
+        with open(path, encoding="utf-8", errors="surrogateescape") as it:
             return it.read()
     except OSError:
         return ""
@@ -114,6 +117,8 @@ class Gate:
         self.every = self.rt.crates_of(top)
         self.crates = {it.name: it for it in self.every}
         self.kept = self.rt.Kept(self.every)
+        if os.environ.get("ALONE"):
+            self.kept.at = None
         hold(lacking(self.every[0], OF_A_CRATE) + lacking(self.kept, OF_KEPT))
         # Its first call sets a signal's handler, which only this thread may.
         self.rt.rtlib.guarded()
@@ -204,15 +209,14 @@ class Gate:
             return False
         os.utime(at)
         self.kept.rlibs[crate.name] = read(f"{at}/sum")
-        crate.rlib = f"{at}/out/rlib/{crate.name}.rlib"
+        crate.rlib = f"{at}/out/{crate.name}" if crate.is_program else f"{at}/out/rlib/{crate.name}.rlib"
         return True
 
-    def place_of(self, crate: Any) -> str:
-        """Returns the folder of the store in which a program that was found stands."""
-        return os.path.dirname(os.path.dirname(crate.rlib))
-
     def is_at_work(self, key: str) -> bool:
-        """Returns whether another checkout, or an `rt ci` of this machine, proves the same now."""
+        """Returns whether another checkout, or an `rt ci` of this machine, proves the same now.
+
+        If a kit names the lock of `rt ci` otherwise, what it proves isn't waited for.
+        """
         return is_held(f"{STORE}/lock-{key}") or is_held(f"{self.kept.at}/lock-proof-{key[:32]}")
 
 
@@ -233,6 +237,17 @@ def shrink_store() -> None:
             much -= size
 
 
+def files_of(folder: str) -> List[str]:
+    """Returns the files of a crate that its proof reads."""
+    parts = [f"{folder}/{it}" for it in ("src", "specs", "proofs", "c")]
+    return sorted(f"{at}/{it}" for part in parts for at, _, names in os.walk(part) for it in names)
+
+
+def work_of(folder: str) -> int:
+    """Returns how much a crate's proof is beside others, by the size of its sources: how long its proof files are says little."""
+    return LOADING + sum(os.path.getsize(it) for it in files_of(folder) if it.endswith(".rt"))
+
+
 def sum_of(path: str) -> str:
     """Returns a sum of a file; nothing if there is none."""
     try:
@@ -245,7 +260,5 @@ def sum_of(path: str) -> str:
 def stamp(top: str, uses: Uses, name: str) -> str:
     """Returns, without the gate's code, a sum of all that a program is proved of: what the store's key covers."""
     files = [f"{KIT}/KIT-ID", f"{top}/HANDLES", f"{top}/crates.txt"]
-    for crate in closure(uses, [name]):
-        parts = [f"{top}/crates/{crate}/{it}" for it in ("src", "specs", "proofs", "c")]
-        files += sorted(f"{at}/{it}" for part in parts for at, _, names in os.walk(part) for it in names)
+    files += [it for crate in closure(uses, [name]) for it in files_of(f"{top}/crates/{crate}")]
     return hashlib.sha256(repr([(os.path.relpath(it, top), sum_of(it)) for it in files]).encode()).hexdigest()

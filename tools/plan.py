@@ -44,9 +44,9 @@ def memory_of(need: float, jobs: int) -> float:
     return need * (1 + 0.6 * (jobs - 1))
 
 
-def jobs_wanted(free: float, others: int) -> int:
-    """Returns the jobs of a crate beside which that many others could start: what they leave of the free processors."""
-    return max(1, min(MOST_JOBS, int((free + 0.5) // (others + 1))))
+def fitting(need: float, jobs: int, room: float) -> int:
+    """Returns how many of these jobs the memory holds, from 0 on."""
+    return max((it for it in range(1, jobs + 1) if memory_of(need, it) <= room), default=0)
 
 
 def share(
@@ -62,29 +62,29 @@ def share(
     """Returns the crates to begin now, the longest chain first, and the jobs of each.
 
     `ready` wait for no other crate, `running` has the jobs of those at work. The crate with the longest chain of all has two
-    jobs at least, and every processor that no other crate could use. Another begins only if half a processor is free. At most
-    as many crates run as there are processors, each within the memory `room`; if nothing runs, the first begins in any case.
+    jobs at least, and every processor if no other could begin. Another begins only if half a processor is free. At most as many
+    crates run as there are processors, each within the memory `room`; if nothing runs, the first begins in any case.
     """
     running, begun = dict(running), []
     # Of a crate that is at work only what stands above it counts: it may be almost done.
     longest = max([chain[it] for it in ready] + [chain[it] - work[it] for it in running], default=0)
     order = sorted(ready, key=lambda it: (-chain[it], it))
     for at, name in enumerate(order):
-        others = len(order) - at - 1
+        others, is_head = len(order) - at - 1, chain[name] >= longest
         free = processors - sum(BUSY[min(it, MOST_JOBS)] for it in running.values())
-        is_head = chain[name] >= longest
-        if len(running) >= processors or (not is_head and free < 0.5):
+        if len(running) >= processors or not is_head and free < 0.5:
             break
-        jobs = max(min(2, processors), processors - len(running) - others) if is_head else jobs_wanted(free, others)
-        jobs = min(jobs, most, MOST_JOBS, processors)
-        while jobs > 1 and memory_of(needs[name], jobs) > room:
-            jobs -= 1
-        if running and needs[name] > room:
+        if is_head:
+            jobs = max(2, processors - len(running) - others) if others else processors
+        else:
+            jobs = max(1, int((free + 0.5) // (others + 1)))
+        jobs = fitting(needs[name], min(jobs, processors, most, MOST_JOBS), room)
+        if not jobs and running:
             if is_head:
                 # Smaller ones would take its memory again and again.
                 break
             continue
-        begun.append((name, jobs))
-        running[name] = jobs
-        room -= memory_of(needs[name], jobs)
+        running[name] = max(1, jobs)
+        begun.append((name, running[name]))
+        room -= memory_of(needs[name], running[name])
     return begun
