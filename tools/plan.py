@@ -4,7 +4,7 @@ from typing import Dict, Iterable, List, Mapping, Sequence, Tuple
 
 Uses = Mapping[str, Sequence[str]]
 
-# The processors that a crate with so many jobs keeps busy, as measured: a part of each proof goes one step after another.
+# The processors that a crate with so many jobs keeps busy: measured for one, two and four. A part of each proof is serial.
 BUSY = (0, 1.0, 1.9, 2.4, 2.75)
 MOST_JOBS = len(BUSY) - 1
 

@@ -5,10 +5,13 @@ import os
 import sys
 import tempfile
 import unittest
-from typing import Dict, List, Mapping, Tuple
+from types import SimpleNamespace
+from typing import Any, Dict, List, Mapping, Set, Tuple
+from unittest import mock
 
 sys.dont_write_bytecode = True
 
+import build
 import gate
 import plan
 
@@ -132,6 +135,59 @@ class PlanTest(unittest.TestCase):
     def test_a_plan_keeps_to_memory(self) -> None:
         it = Simulation(4, memory=8 * GB)
         self.assertLessEqual(it.most_memory, 8 * GB)
+
+
+class FakeGate:
+    """A gate that proves at once, and not the crates of `wrong`; another process proves those of `elsewhere`."""
+
+    def __init__(self, uses: Mapping[str, List[str]], wrong: Set[str], elsewhere: Set[str]) -> None:
+        self.crates = {it: SimpleNamespace(name=it, folder="/none", is_program=False) for it in uses}
+        for it in self.crates.values():
+            it.deps = [self.crates[used] for used in uses[it.name]]
+            it.below = lambda it=it: [self.crates[used] for used in plan.closure(uses, [it.name])[:-1]]
+        self.every = list(self.crates.values())
+        self.rt = SimpleNamespace(need=lambda _: 1, free=lambda: 1000)
+        self.kept = SimpleNamespace(key=lambda it: it.name)
+        self.wrong, self.elsewhere, self.store = wrong, elsewhere, set()  # type: Set[str], Set[str], Set[str]
+        self.proved: List[str] = []
+
+    def find(self, crate: Any, key: str) -> bool:
+        return key in self.store
+
+    def is_at_work(self, key: str) -> bool:
+        is_so = key in self.elsewhere
+        self.store |= {key} & self.elsewhere
+        return is_so
+
+    def prove(self, crate: Any, key: str, jobs: int) -> bool:
+        assert all(it.name in self.store for it in crate.below()), crate.name
+        self.proved.append(crate.name)
+        print("said", file=crate.out)
+        self.store |= {crate.name} - self.wrong
+        return crate.name not in self.wrong
+
+
+class ProverTest(unittest.TestCase):
+    USES = {"low": [], "a": ["low"], "b": ["low"], "top": ["a", "b", "low"], "other": []}
+
+    def run_on(self, names: List[str], wrong: Set[str] = frozenset(), elsewhere: Set[str] = frozenset()) -> Tuple[bool, List[str]]:
+        it = FakeGate(self.USES, set(wrong), set(elsewhere))
+        with tempfile.TemporaryDirectory() as store, mock.patch.multiple(build, STORE=store, LANES=3, say=lambda _: None):
+            with mock.patch("sys.stderr"):
+                is_well = build.Prover(it, names).run()
+        return is_well, it.proved
+
+    def test_each_is_proved_once_after_those_below(self) -> None:
+        is_well, proved = self.run_on(["top"])
+        self.assertEqual((is_well, sorted(proved)), (True, ["a", "b", "low", "top"]))
+
+    def test_nothing_is_proved_above_one_that_is_not(self) -> None:
+        is_well, proved = self.run_on(["top"], wrong={"low"})
+        self.assertEqual((is_well, proved), (False, ["low"]))
+
+    def test_what_another_process_proves_is_taken(self) -> None:
+        is_well, proved = self.run_on(["top"], elsewhere={"a"})
+        self.assertEqual((is_well, sorted(proved)), (True, ["b", "low", "top"]))
 
 
 class StampTest(unittest.TestCase):
