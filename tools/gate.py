@@ -4,6 +4,10 @@ The store is the folder STORE of the user's cache, for all checkouts. It has one
 kit, of HANDLES, of the crate's line in crates.txt and of each file of its src/, specs/ and proofs/, and of what the libraries
 below it hold. STORE/KEY/out has what was made: rlib/NAME.rlib or the program NAME. What `rt ci` keeps on this machine has the
 same key, and is taken. Nothing is ever put there: no verdict of the gate rests on this tool.
+
+A library carries the text of its proofs, which no crate above reads, and each library names the sums of those below it. So that
+a change of a proof proves nothing above again, a crate that was proved anew gets the library of the store that has the same
+face, if there is one: all but that text is the same.
 """
 
 import contextlib
@@ -158,6 +162,8 @@ class Gate:
             if is_proved and self.rt.touched(crate) != files:
                 why = "its files changed while it was proved: run this again"
             elif is_proved:
+                if not crate.is_program:
+                    use_like(f"{room}/out", face_of(f"{room}/out/rlib/{crate.name}.rlib"))
                 self.enter(crate, key, room)
         if why:
             print(f"build: {crate.name}: {why}", file=crate.out)
@@ -186,6 +192,8 @@ class Gate:
         """Gives a folder with all that a crate makes its name in the store."""
         made = copy.copy(crate)
         made.folder = room
+        with open(f"{room}/face", "w", encoding="utf-8") as it:
+            it.write("" if crate.is_program else face_of(f"{room}/out/rlib/{crate.name}.rlib"))
         self.kept.is_built(made)
         with open(f"{room}/sum", "w", encoding="utf-8") as it:
             it.write(self.kept.rlibs[crate.name])
@@ -218,6 +226,28 @@ class Gate:
         If a kit names the lock of `rt ci` otherwise, what it proves isn't waited for.
         """
         return is_held(f"{STORE}/lock-{key}") or is_held(f"{self.kept.at}/lock-proof-{key[:32]}")
+
+
+def face_of(library: str) -> str:
+    """Returns a sum of what the crates above see of a library: all but the text of its proofs, and its sum of all files."""
+    total = hashlib.sha256()
+    for path in sorted(f"{at}/{it}" for at, _, names in os.walk(library) for it in names):
+        inside = os.path.relpath(path, library)
+        if inside == "format":
+            total.update(re.sub(r"(?m)^sum .*", "", read(path)).encode())
+        elif not inside.startswith("lang/antt/proofs/"):
+            total.update(f"{inside} {sum_of(path)}\n".encode())
+    return total.hexdigest()
+
+
+def use_like(out: str, face: str) -> None:
+    """Puts in the place of a folder out/ that of the store which has this face, if there is one."""
+    for it in os.scandir(STORE):
+        if it.is_dir() and read(f"{it.path}/face") == face:
+            shutil.copytree(f"{it.path}/out", f"{out}.like", copy_function=os.link)
+            shutil.rmtree(out)
+            os.rename(f"{out}.like", out)
+            return
 
 
 def shrink_store() -> None:
