@@ -6,13 +6,14 @@ below it hold. STORE/KEY/out has what was made: rlib/NAME.rlib or the program NA
 same key, and is taken. Nothing is ever put there: no verdict of the gate rests on this tool.
 
 A library carries the text of its proofs, which no crate above reads, and each library names the sums of those below it. So that
-a change of a proof proves nothing above again, a crate that was proved anew gets the library of the store that has the same
-face, if there is one: all but that text is the same.
+a change of a proof proves nothing above again, a crate that was proved anew gets a library of the store that is the same but
+for that text, if there is one.
 """
 
 import contextlib
 import copy
 import fcntl
+import filecmp
 import hashlib
 import importlib.machinery
 import inspect
@@ -162,8 +163,7 @@ class Gate:
             if is_proved and self.rt.touched(crate) != files:
                 why = "its files changed while it was proved: run this again"
             elif is_proved:
-                if not crate.is_program:
-                    use_like(f"{room}/out", face_of(f"{room}/out/rlib/{crate.name}.rlib"))
+                use_like(f"{room}/out", crate.name)
                 self.enter(crate, key, room)
         if why:
             print(f"build: {crate.name}: {why}", file=crate.out)
@@ -192,8 +192,6 @@ class Gate:
         """Gives a folder with all that a crate makes its name in the store."""
         made = copy.copy(crate)
         made.folder = room
-        with open(f"{room}/face", "w", encoding="utf-8") as it:
-            it.write("" if crate.is_program else face_of(f"{room}/out/rlib/{crate.name}.rlib"))
         self.kept.is_built(made)
         with open(f"{room}/sum", "w", encoding="utf-8") as it:
             it.write(self.kept.rlibs[crate.name])
@@ -228,22 +226,25 @@ class Gate:
         return is_held(f"{STORE}/lock-{key}") or is_held(f"{self.kept.at}/lock-proof-{key[:32]}")
 
 
-def face_of(library: str) -> str:
-    """Returns a sum of what the crates above see of a library: all but the text of its proofs, and its sum of all files."""
-    total = hashlib.sha256()
-    for path in sorted(f"{at}/{it}" for at, _, names in os.walk(library) for it in names):
-        inside = os.path.relpath(path, library)
-        if inside == "format":
-            total.update(re.sub(r"(?m)^sum .*", "", read(path)).encode())
-        elif not inside.startswith("lang/antt/proofs/"):
-            total.update(f"{inside} {sum_of(path)}\n".encode())
-    return total.hexdigest()
+def seen_above(library: str) -> List[str]:
+    """Returns the paths in a library of all that crates above see: all but the text of its proofs."""
+    paths = [os.path.relpath(f"{at}/{it}", library) for at, _, names in os.walk(library) for it in names]
+    return sorted(it for it in paths if not it.startswith("lang/antt/proofs/"))
 
 
-def use_like(out: str, face: str) -> None:
-    """Puts in the place of a folder out/ that of the store which has this face, if there is one."""
+def is_like(one: str, other: str) -> bool:
+    """Returns whether crates above see the same of two libraries; `format` also has a sum of all files."""
+    formats = [re.sub(r"(?m)^sum .*", "", read(f"{it}/format")) for it in (one, other)]
+    if formats[0] != formats[1] or seen_above(one) != seen_above(other):
+        return False
+    return all(it == "format" or filecmp.cmp(f"{one}/{it}", f"{other}/{it}", shallow=False) for it in seen_above(one))
+
+
+def use_like(out: str, name: str) -> None:
+    """Puts in the place of a library just made one of the store that is like it, if there is one."""
     for it in os.scandir(STORE):
-        if it.is_dir() and read(f"{it.path}/face") == face:
+        library = f"out/rlib/{name}.rlib"
+        if not it.name.startswith("new-") and os.path.isdir(f"{it.path}/{library}") and is_like(f"{it.path}/{library}", f"{out}/rlib/{name}.rlib"):
             shutil.copytree(f"{it.path}/out", f"{out}.like", copy_function=os.link)
             shutil.rmtree(out)
             os.rename(f"{out}.like", out)

@@ -233,37 +233,32 @@ class StampTest(unittest.TestCase):
         self.assertNotEqual(self.stamp(), before)
 
 
-class FaceTest(unittest.TestCase):
+class LikeTest(unittest.TestCase):
     FILES = {"format": "dep std\nsum 1\n", "lang/antt/proofs/A.antt": "refl", "lang/antt/specs/S.antt": "s", "toolchain/checked.a": "a"}
 
-    def entry(self, store: str, name: str, **changed: str) -> str:
-        """Writes an entry of a store, with a library in which files are changed; returns the library's face."""
-        library = f"{store}/{name}/out/rlib/low.rlib"
+    def library(self, store: str, entry: str, **changed: str) -> str:
+        """Writes an entry of a store, with a library in which files are changed; returns the library."""
+        library = f"{store}/{entry}/out/rlib/low.rlib"
         for path, text in self.FILES.items():
             os.makedirs(os.path.dirname(f"{library}/{path}"), exist_ok=True)
             with open(f"{library}/{path}", "w", encoding="utf-8") as it:
                 it.write(changed.get(os.path.basename(path).split(".")[0], text))
-        with open(f"{store}/{name}/face", "w", encoding="utf-8") as it:
-            it.write(gate.face_of(library))
-        return gate.face_of(library)
+        return library
 
-    def test_it_has_all_but_the_text_of_proofs(self) -> None:
+    def test_only_the_text_of_proofs_may_differ(self) -> None:
         with tempfile.TemporaryDirectory() as store:
-            face = self.entry(store, "one")
-            self.assertEqual(self.entry(store, "two", A="sym refl", format="dep std\nsum 2\n"), face)
+            one = self.library(store, "one")
+            self.assertTrue(gate.is_like(one, self.library(store, "two", A="sym refl", format="dep std\nsum 2\n")))
             for changed in ({"S": "t"}, {"checked": "b"}, {"format": "dep core\nsum 1\n"}):
-                self.assertNotEqual(self.entry(store, "two", **changed), face, changed)
+                self.assertFalse(gate.is_like(one, self.library(store, "two", **changed)), changed)
 
-    def test_a_library_of_the_same_face_is_used(self) -> None:
+    def test_a_library_that_is_like_it_is_used(self) -> None:
         with tempfile.TemporaryDirectory() as store, mock.patch.object(gate, "STORE", store):
-            self.entry(store, "one")
-            self.entry(store, "other", S="t")
-            face = self.entry(store, "new", A="sym refl")
-            os.remove(f"{store}/new/face")
-            gate.use_like(f"{store}/new/out", face)
-            self.assertEqual(gate.read(f"{store}/new/out/rlib/low.rlib/lang/antt/proofs/A.antt"), "refl")
-            gate.use_like(f"{store}/other/out", "no such face")
-            self.assertEqual(gate.read(f"{store}/other/out/rlib/low.rlib/lang/antt/specs/S.antt"), "t")
+            self.library(store, "one")
+            for entry, changed, now in (("new-1", {"A": "sym refl"}, "refl"), ("new-2", {"A": "sym refl", "S": "t"}, "sym refl")):
+                library = self.library(store, entry, **changed)
+                gate.use_like(f"{store}/{entry}/out", "low")
+                self.assertEqual(gate.read(f"{library}/lang/antt/proofs/A.antt"), now)
 
 
 class KitTest(unittest.TestCase):
