@@ -10,7 +10,7 @@
 
 libs and program prove from nothing, by the gate's code and with its verdict; so do the others what stands below CRATE. A crate
 is proved once for each text of its files and of the libraries below: what another checkout proved, or `rt ci` in any checkout,
-is taken, and what one of them proves now is waited for. After a change of proofs alone nothing above is proved again. check,
+is taken, and what one of them proves now is waited for. If only tests or comments changed, nothing above is proved again. check,
 tests, edits and plant are no verdict: they take what earlier checks of CRATE here left in out/incremental.
 `program CRATE --ask` proves nothing: its status is 0 if the program stands there, built of these files.
 

@@ -6,8 +6,8 @@ below it hold. STORE/KEY/out has what was made: rlib/NAME.rlib or the program NA
 same key, and is taken. Nothing is ever put there: no verdict of the gate rests on this tool.
 
 A library carries the text of its proofs, which no crate above reads, and each library names the sums of those below it. So that
-a change of a proof proves nothing above again, a crate that was proved anew gets a library of the store that is the same but
-for that text, if there is one.
+a comment in a proof proves nothing above again, a crate that was proved anew gets a library of the store that is the same but
+for that text, if there is one. (A proof itself shows in sums of the checked modules.)
 """
 
 import contextlib
