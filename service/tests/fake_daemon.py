@@ -2,16 +2,20 @@
 
 from __future__ import annotations
 
+import io
 import os
 import select
 import socket
-import subprocess
 import sys
 import tempfile
 import threading
+import time
+import unittest.mock
 from typing import Callable, Optional, Union
 
 from support import SERVICE
+from tapestry_service import SOCKET_VARIABLE
+from tapestry_service.client.command_line import main
 
 TAP = os.path.join(SERVICE, "tap")
 _BLOCKS = (b"mail", b"mbox", b"filter")
@@ -114,9 +118,27 @@ class Ended:
 
 
 def tap(path: str | None, *words: str, given: bytes = b"", **environment: str) -> Ended:
-    """Runs `tap` against the socket at this path, on a terminal of 80 columns and in UTC if the environment says no other."""
-    variables = {"PATH": os.environ["PATH"], "COLUMNS": "80", "TZ": "UTC", "PYTHONUTF8": "1", **environment}
+    """Does what `tap` does, in this process, against the socket at this path.
+
+    The terminal has 80 columns and the zone is UTC if the environment says no other.
+    """
+    variables = {"COLUMNS": "80", "TZ": "UTC", **environment}
     if path is not None:
-        variables["TAPESTRY_SOCKET"] = path
-    ended = subprocess.run([sys.executable, TAP, *words], input=given, capture_output=True, env=variables, timeout=60)
-    return Ended(ended.returncode, ended.stdout.decode(), ended.stderr.decode())
+        variables[SOCKET_VARIABLE] = path
+    streams = [io.TextIOWrapper(io.BytesIO(it), encoding="utf-8", newline="\n") for it in (given, b"", b"")]
+    with (
+        unittest.mock.patch.dict(os.environ, variables),
+        unittest.mock.patch.multiple(sys, stdin=streams[0], stdout=streams[1], stderr=streams[2]),
+    ):
+        if path is None:
+            os.environ.pop(SOCKET_VARIABLE, None)
+        time.tzset()
+        try:
+            status = main(words)
+        except SystemExit as end:
+            status = end.code if isinstance(end.code, int) else 1
+    time.tzset()
+    for stream in streams[1:]:
+        stream.flush()
+    out, err = (it.buffer.getvalue().decode() for it in streams[1:])  # type: ignore[attr-defined]
+    return Ended(status, out, err)

@@ -30,16 +30,16 @@ class Headers(unittest.TestCase):
         self.assertEqual(fields.date, 707392800)
         self.assertEqual(fields.subject, "café王 and more")
         self.assertEqual(fields.address, "J@Example.org")
-        self.assertEqual(fields.name, "Jürgen,")
+        self.assertEqual((fields.name, fields.who), ("Jürgen,", "Jürgen,"))
         self.assertEqual(fields.sender, "Jürgen, <J@Example.org>, bob@example.org")
 
     def test_what_is_missing(self) -> None:
         for lines in ([], [b""], [b"no header"], [b"", b"Subject: x"], [b" folded first", b"Subject: x"]):
             fields = fields_of(lines)
-            self.assertEqual((fields.date, fields.sender, fields.address, fields.subject, fields.name), (None, None, None, None, ""))
-        self.assertEqual(fields_of([b"From:", b"Subject:"]).name, "")
-        self.assertEqual(fields_of([b"From: a@b"]).name, "a@b")
-        self.assertEqual(fields_of([b"From: nobody in particular <"]).name, "nobody in particular <")
+            self.assertEqual((fields.date, fields.sender, fields.address, fields.subject, fields.who), (None, None, None, None, ""))
+        self.assertEqual(fields_of([b"From:", b"Subject:"]).who, "")
+        self.assertEqual(fields_of([b"From: a@b"]).who, "a@b")
+        self.assertEqual(fields_of([b"From: nobody in particular <"]).who, "nobody in particular")
 
     def test_words_that_cannot_be_decoded(self) -> None:
         for value in ("=?utf-8?b?a?=", "=?no-such-charset?q?x?=", "=?utf-8?q?", "=?", "plain"):

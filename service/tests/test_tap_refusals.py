@@ -144,7 +144,7 @@ class Words(unittest.TestCase):
             ("NOW > TODAY", ">", "NOW isn't compared with TODAY"),
         ):
             first = b"no 14 clash %d" % text.index(at)
-            self.assertIn(words, told(first, Asked("query", "q", text.encode()))[0])
+            self.assertIn(words, " ".join(told(first, Asked("query", "q", text.encode()), 200)))
 
 
 if __name__ == "__main__":

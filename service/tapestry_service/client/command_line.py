@@ -55,7 +55,6 @@ def parser() -> argparse.ArgumentParser:
     common.add_argument("--socket", metavar="PATH", help=f"the daemon's socket ({SOCKET_VARIABLE}, else {DEFAULT_SOCKET})")
     common.add_argument("--json", action="store_true", help="write one line of JSON, as tap(1) has it")
     top = _Parser(prog="tap", description="Asks the mail filter's daemon.", epilog=_STATUSES, parents=[common])
-    top.set_defaults(socket=None, json=False)
     commands = top.add_subparsers(dest="command", metavar="COMMAND", required=True)
 
     def command(name: str, does: str, *words: str) -> argparse.ArgumentParser:
@@ -110,7 +109,7 @@ def main(arguments: Sequence[str] | None = None) -> int:
     words = parser().parse_args(arguments)
     width = terminal_width()
     try:
-        return _write(_perform(words, width), words.json)
+        return _write(_perform(words, width), "json" in words)
     except BrokenPipeError:
         os.dup2(os.open(os.devnull, os.O_WRONLY), 1)
         return NOT_WRITTEN
@@ -124,7 +123,7 @@ def main(arguments: Sequence[str] | None = None) -> int:
 
 def _perform(words: argparse.Namespace, width: int) -> Outcome:
     """Asks the daemon; a failure too becomes something to write."""
-    path = words.socket or os.environ.get(SOCKET_VARIABLE) or DEFAULT_SOCKET
+    path = getattr(words, "socket", None) or os.environ.get(SOCKET_VARIABLE) or DEFAULT_SOCKET
     try:
         with Connection(path) as connection:
             return COMMANDS[words.command](connection, words, width)

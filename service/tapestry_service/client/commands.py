@@ -7,7 +7,7 @@ from argparse import Namespace
 from typing import Callable
 
 from .connection import Connection
-from .documents import UNKNOWN, Listing, ask_with_probe, clock, digested, rows_of
+from .documents import Listing, ask_with_probe, clock, digested, rows_of
 from .fields import text_of
 from .framing import block
 from .layout import Column, Kind, printable, table
@@ -188,10 +188,7 @@ def _moment(reply: Reply) -> int | None:
 
 def _names(connection: Connection, command: str) -> list[str]:
     """Returns the names of the user's queries, in order of definition."""
-    reply = connection.one(b"queries\n")
-    if not reply.ok and reply.number == UNKNOWN:
-        raise Faulty(f"the program that the daemon runs can't list your queries; name them: tap {command} NAME..")
-    need(reply, Asked("queries"))
+    reply = need(connection.one(b"queries\n"), Asked("queries", hint=f"name them: tap {command} NAME.."))
     return [line.split()[1].decode() for line in reply.lines]
 
 

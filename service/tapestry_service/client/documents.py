@@ -134,7 +134,7 @@ class Listing:
             return ["-", "-", "-"]
         date = known.fields.date
         shown = "-" if date is None else shown_minute(date)
-        return [shown if self._width >= ROOMY else shown.split()[0], known.fields.name or "-", known.fields.subject or "-"]
+        return [shown if self._width >= ROOMY else shown.split()[0], known.fields.who or "-", known.fields.subject or "-"]
 
 
 _HEADINGS = {
@@ -157,6 +157,7 @@ def _shape(row: Row, known: Known | None) -> dict[str, Any]:
         "doc": row.doc,
         "date": fields.date,
         "from": fields.sender,
+        "name": fields.name,
         "address": fields.address,
         "subject": fields.subject,
         "arrival": known.arrival if known else None,

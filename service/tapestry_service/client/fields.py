@@ -17,12 +17,12 @@ class Fields:
     sender: str | None = None
     address: str | None = None
     subject: str | None = None
+    name: str | None = None
 
     @property
-    def name(self) -> str:
+    def who(self) -> str:
         """The sender's name, or the address if there is no name, or nothing."""
-        name = email.utils.parseaddr(self.sender or "")[0]
-        return name or self.address or self.sender or ""
+        return self.name or self.address or self.sender or ""
 
 
 def header_of(lines: Iterable[bytes]) -> list[tuple[str, bytes]]:
@@ -52,12 +52,14 @@ def fields_of(lines: Iterable[bytes]) -> Fields:
     first: dict[str, bytes] = {}
     for name, value in header_of(lines):
         first.setdefault(name, value)
-    sender = first.get("from")
+    sender = text_of(first["from"]) if "from" in first else None
+    name, address = (email.utils.getaddresses([sender or ""]) or [("", "")])[0]
     return Fields(
         date=date_of(text_of(first["date"])) if "date" in first else None,
-        sender=None if sender is None else decoded(text_of(sender)),
-        address=None if sender is None else _address(text_of(sender)),
+        sender=None if sender is None else decoded(sender),
+        address=address or None,
         subject=decoded(text_of(first["subject"])) if "subject" in first else None,
+        name=decoded(name) or None,
     )
 
 
@@ -67,11 +69,6 @@ def text_of(value: bytes) -> str:
         return value.decode("utf-8")
     except UnicodeDecodeError:
         return value.decode("latin-1")
-
-
-def _address(value: str) -> str | None:
-    found = email.utils.getaddresses([value])
-    return found[0][1] or None if found else None
 
 
 def decoded(value: str) -> str:

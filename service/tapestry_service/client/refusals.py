@@ -35,13 +35,15 @@ _BLANKS = b" \t\r\n"
 class Asked:
     """What a refusal may speak of: the command's word, its name or number, and the text whose places it counts.
 
-    `offset` is the place in `text` from which places are counted: that behind FROM NOW.
+    `offset` is the place in `text` from which places are counted: that behind FROM NOW. `hint` is what to do if the program doesn't
+    have the command.
     """
 
     command: str
     name: str = ""
     text: bytes = b""
     offset: int = 0
+    hint: str = ""
 
 
 @dataclass(frozen=True)
@@ -97,7 +99,7 @@ def words_of(refusal: Refusal, asked: Asked, reply: Reply) -> str:
 def _plain(refusal: Refusal, asked: Asked) -> str | None:
     name = printable(asked.name)
     return {
-        1: f"the program that the daemon runs has no command `{asked.command}'; a newer one has it",
+        1: f"the program that the daemon runs has no command `{asked.command}'; {asked.hint or 'a newer one has it'}",
         2: f"the words don't have the form of the command `{asked.command}'",
         3: "the daemon ended before the block did",
         4: "this is no moment",
