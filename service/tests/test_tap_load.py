@@ -166,9 +166,9 @@ class Loads(unittest.TestCase):
 
 class Bars(unittest.TestCase):
     def test_a_bar_is_as_wide_as_the_terminal(self) -> None:
-        self.assertEqual(bar(50, 100, 7, 40), "[###########...........]  50 % 7 messages")
-        self.assertEqual(bar(0, 100, 0, 40), "[......................]   0 % 0 messages")
-        self.assertEqual(bar(100, 100, 9, 40), "[######################] 100 % 9 messages")
+        self.assertEqual(bar(50, 100, 7, 40), "[##########...........]  50 % 7 messages")
+        self.assertEqual(bar(0, 100, 0, 40), "[.....................]   0 % 0 messages")
+        self.assertEqual(bar(100, 100, 9, 40), "[#####################] 100 % 9 messages")
         for width in range(1, 100):
             for total in (0, 10):
                 self.assertEqual(text_width(bar(3, total, 12345, width)), width)

@@ -84,8 +84,8 @@ class _Gathered:
         return Message(b"".join(self._lines), self.taken, self._size > MESSAGE_LIMIT)
 
 
-def cut_mailbox(file: BinaryIO) -> Iterator[Message]:
-    """Yields the messages of a mailbox file, as the program's command `mbox` would cut it.
+def cut_mailbox(lines: Iterable[bytes]) -> Iterator[Message]:
+    """Yields the messages of a mailbox file, as the program's command `mbox` would cut it. Its lines are given with their ends.
 
     One CR before an LF is dropped. A message begins after each line that begins with `From ` and is the first or follows an empty
     one; what comes before the first is left out, and so is an empty last line of a message. A line of one or more `>` and `From `
@@ -94,7 +94,7 @@ def cut_mailbox(file: BinaryIO) -> Iterator[Message]:
     gathered: _Gathered | None = None
     opens = True
     lead = 0
-    for raw in file:
+    for raw in lines:
         line = ended(raw[:-2] + b"\n" if raw.endswith(b"\r\n") else raw)
         if opens and line.startswith(b"From "):
             if gathered is not None:
@@ -113,9 +113,9 @@ def cut_mailbox(file: BinaryIO) -> Iterator[Message]:
         yield gathered.message()
 
 
-def one_message(file: BinaryIO) -> Message:
-    """Returns the file's bytes as one message."""
-    text = file.read(MESSAGE_LIMIT + 1)
+def one_message(file: BinaryIO, front: bytes = b"") -> Message:
+    """Returns the file's bytes as one message, behind those that were read of it already."""
+    text = front + file.read(max(MESSAGE_LIMIT + 1 - len(front), 0))
     taken = len(text)
     if len(ended(text)) <= MESSAGE_LIMIT:
         return Message(ended(text), taken)

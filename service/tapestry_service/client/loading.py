@@ -1,5 +1,6 @@
 """Stores messages of files, with a bar of progress on a terminal."""
 
+import itertools
 import os
 import sys
 import time
@@ -142,12 +143,12 @@ def messages_of(files: list[tuple[str, bool]], single: bool) -> Iterator[tuple[P
 
 
 def _of_file(path: str, file: BinaryIO, single: bool) -> Iterator[tuple[Place, Message]]:
-    front = file.peek(5)[:5]  # type: ignore[attr-defined]
-    if not single and front == b"From ":
-        for number, message in enumerate(cut_mailbox(file), 1):
+    line = file.readline()
+    if not single and line.startswith(b"From "):
+        for number, message in enumerate(cut_mailbox(itertools.chain([line], file)), 1):
             yield Place(path, number), message
-    elif front:
-        yield Place(path, None), one_message(file)
+    elif line:
+        yield Place(path, None), one_message(file, line)
 
 
 class Loader:
