@@ -78,11 +78,12 @@ class Readable(unittest.TestCase):
 
     def test_a_plain_message(self) -> None:
         lines = [b"From: Ann <ann@x>", b"X-Other: 1", b"Date: Mon, 1 Jun 1992 10:00:00 +0000", b"Subject: =?utf-8?q?=C3=A9?=", b"", b"Hi\x1b[2J", b".", b""]
-        self.assertEqual(readable(lines), ["From: Ann <ann@x>", "Date: 1992-06-01 10:00:00", "Subject: é", "", "Hi?[2J", "."])
+        self.assertEqual(readable(lines), ["From: Ann <ann@x>", "Subject: é", "Date: 1992-06-01 10:00:00", "", "Hi?[2J", "."])
 
     def test_without_a_header(self) -> None:
         self.assertEqual(readable([b"", b"just text"]), ["just text"])
-        self.assertEqual(readable([]), [""])
+        self.assertEqual(readable([]), [])
+        self.assertEqual(readable([b"Subject: x"]), ["Subject: x"])
 
     def test_parts_are_decoded(self) -> None:
         message = b"""Subject: x
@@ -120,8 +121,8 @@ AAAA
         )
 
     def test_an_unknown_charset(self) -> None:
-        lines = [b"Content-Type: text/plain; charset=none-such", b"", "é".encode()]
-        self.assertEqual(readable(lines), ["é"])
+        lines = [b"Content-Type: text/plain; charset=none-such", b"", b"caf\xe9"]
+        self.assertEqual(readable(lines), ["café"])
 
 
 if __name__ == "__main__":

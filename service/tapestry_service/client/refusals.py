@@ -65,6 +65,9 @@ class Refusal:
 
 def refusal_of(reply: Reply) -> Refusal:
     """Takes the reply apart. What isn't known of it is left out; a reply that is no refusal has number 0."""
+    if not reply.ok and reply.number >= OWN_COMMAND:
+        # The daemon's own: words for people follow the number.
+        return Refusal(reply.number, reply.words or None)
     words = reply.words.split()
     numbers = [int(it) for it in words if it.isascii() and it.isdigit()]
     reason = words[0] if words and not words[0].isdigit() else None
