@@ -33,7 +33,7 @@ STORE = [
         b"From: carol@example.org\nNewsgroups: comp.mail\nDate: Wed, 2 Dec 2026 11:00:00 +0100\nSubject: Lunch\n\nSoup at twelve.\n"
     ),
     b"at 2026-12-03T10:00:00Z\nas ann\nnote 1 score 4 worth reading\n",
-    b"at 2026-12-03T11:00:00Z\nas bob\nnote 2 score -3 too short\n",
+    b"at 2026-12-03T13:00:00Z\nas bob\nnote 2 score -3 too short\n",
     b"at 2026-12-08T09:00:00Z\nas ann\n",
     mail(b"From: bob@example.org\nSubject: It's late\n\n" + b"There is more to say. " * 10 + b"\n"),
 ]
