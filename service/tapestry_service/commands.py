@@ -78,16 +78,15 @@ class Cutter:
 
     def next(self) -> Optional[Union[Command, bytes]]:
         """The next command, or the next reply; None if more bytes are needed."""
-        while True:
-            found = self._next_of_block() if self._block is not None else self._next_line()
-            if found is not None or self._block is None or not self._buffer:
+        if self._block is None:
+            found = self._next_line()
+            if found is not None or self._block is None:
                 return found
-            if self._block is not None and not self._has_more():
-                return None
+        return self._next_of_block()
 
     def finish(self) -> None:
         """Ends the input: what follows the last LF is a line, too."""
-        if self._is_long or self._buffer[self._scan :]:
+        if self._is_long or (self._buffer and not self._buffer.endswith(b"\n")):
             self._buffer += b"\n"
 
     def rest(self) -> Optional[bytes]:
@@ -96,9 +95,6 @@ class Cutter:
             return None
         self._block = None
         return b"no 3\n" if self._formed else b"no 2\n"
-
-    def _has_more(self) -> bool:
-        return self._buffer.find(b"\n", self._scan) >= 0
 
     def _next_line(self) -> Optional[Union[Command, bytes]]:
         while True:
@@ -133,14 +129,17 @@ class Cutter:
         if self._is_long:
             return self._next_of_long_block()
         found = _LAST_LINE.search(self._buffer, self._scan)
+        end = found.start() if found is not None else len(self._buffer)
+        # Two bytes at most become one of the text, so more are too long whatever follows.
+        self._is_long = end - self._start > 2 * BLOCKS[self._block][0]
         if found is None:
-            if len(self._buffer) - self._start > 2 * BLOCKS[self._block][0]:
-                # Two bytes at most become one of the text, so it is too long whatever follows.
-                self._is_long, self._tail = True, b""
+            if self._is_long:
                 self._drop_long()
             else:
                 self._scan = self._buffer.rfind(b"\n") + 1
             return None
+        if self._is_long:
+            return self._end_long_block(found.end())
         data = bytes(self._buffer[: found.end()])
         del self._buffer[: found.end()]
         word, self._block, self._scan = self._block, None, 0
@@ -162,7 +161,11 @@ class Cutter:
         if found is None:
             self._drop_long()
             return None
-        del self._buffer[: found.end()]
+        return self._end_long_block(found.end())
+
+    def _end_long_block(self, end: int) -> bytes:
+        assert self._block is not None
+        del self._buffer[:end]
         word, self._block, self._scan, self._is_long = self._block, None, 0, False
         return b"no 16 " + BLOCKS[word][1] + b"\n" if self._formed else b"no 2\n"
 
