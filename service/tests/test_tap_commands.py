@@ -22,6 +22,10 @@ DOC_2 = b"ok 0 show 2 at 707392801\n"
 SHOWS = {b"show 1\n": DOC_1, b"show 2\n": DOC_2, **SHOW_0}
 BOX = b"ok 2 box news\ndoc 1 first 707392800 run 1\ndoc 2 first 707392805 run 3\n"
 DIGEST_1 = b"ok 8 digest news 1\nFrom: tapestry\nSubject: digest news 1\n\nFrom doc 1 first 707392800\nFrom: a@b\nSubject: one\n>From x\n\n"
+DIGEST_2 = (
+    b"ok 12 digest news 2\nFrom: tapestry\nSubject: digest news 2\n\nFrom doc 4 first 5\nSubject: four\n\nx\n\n"
+    b"From doc 5 first 6\nSubject: five\n\n\n"
+)
 DIGEST_3 = b"ok 7 digest news 3\nFrom: tapestry\nSubject: digest news 3\n\nFrom doc 2 first 707392805\nSubject: two\n\n\n"
 
 
@@ -248,6 +252,11 @@ class Questions(Case):
         self.assertEqual(self.with_daemon(answers, "digest", "news", "1").out.encode(), DIGEST_1.partition(b"\n")[2])
         found = json.loads(self.with_daemon(answers, "digest", "news", "1", "--json").out)
         self.assertEqual(found["documents"], [{"doc": 1, "first": 707392800, "text": "From: a@b\nSubject: one\nFrom x\n"}])
+        found = json.loads(self.with_daemon({b"digest": DIGEST_2}, "digest", "news", "2", "--json").out)
+        self.assertEqual(
+            found["documents"],
+            [{"doc": 4, "first": 5, "text": "Subject: four\n\nx\n"}, {"doc": 5, "first": 6, "text": "Subject: five\n\n"}],
+        )
         self.assertIn("it has 3 runs", self.with_daemon(answers, "digest", "news", "7").err)
         self.assertEqual(self.with_daemon(answers, "counts").out, "3 documents, 4 notes, moment 1970-01-01 00:00:05\n")
         found = json.loads(self.with_daemon(answers, "counts", "--json").out)
@@ -368,6 +377,12 @@ class Statuses(Case):
         with FakeDaemon({b"counts": b"ok 0 counts documents 0 notes 0 moment 0\n"}) as daemon:
             self.assertEqual(tap("/no/such", "counts", "--socket", daemon.path).status, 0)
             self.assertEqual(tap("/no/such", "--socket", daemon.path, "counts").status, 0)
+
+    def test_a_full_disk(self) -> None:
+        with FakeDaemon({b"counts": b"ok 0 counts documents 0 notes 0 moment 0\n"}) as daemon, open("/dev/full", "w") as full:
+            variables = {**os.environ, "TAPESTRY_SOCKET": daemon.path}
+            ended = subprocess.run([sys.executable, TAP, "counts"], stdout=full, stderr=subprocess.PIPE, env=variables)
+        self.assertEqual((ended.returncode, ended.stderr), (4, b"tap: writing failed: No space left on device\n"))
 
     def test_a_reader_that_ends(self) -> None:
         with FakeDaemon({b"explain": b"ok 100000 explain q\n" + b"OVER m: DOC AT m.ts WHERE TRUE\n" * 100000}) as daemon:

@@ -5,6 +5,7 @@ from __future__ import annotations
 import os
 import time
 import unittest
+import unittest.mock
 
 import support  # noqa: F401  (puts the package in reach)
 from tapestry_service.client.fields import date_of, decoded, fields_of, header_of
@@ -53,9 +54,14 @@ class Headers(unittest.TestCase):
         self.assertEqual(fields_of([b"Subject: caf\xe9"]).subject, "café")
 
     def test_dates(self) -> None:
+        # The local zone is that of nobody but the reader.
+        self.addCleanup(time.tzset)
+        self.enterContext(unittest.mock.patch.dict(os.environ, TZ="CET-1"))
+        time.tzset()
         for value, moment in (
             ("Mon, 1 Jun 1992 10:00:00 +0000", 707392800),
             ("1 Jun 1992 10:00:00", 707392800),
+            ("1 Jun 1992 10:00:00 -0000", 707392800),
             ("Mon, 1 Jun 1992 10:00:00 GMT (comment)", 707392800),
             ("Thu, 1 Jan 1970 00:00:00 +0000", 0),
             ("Thu, 1 Jan 1970 00:00:00 +0100", None),

@@ -6,9 +6,12 @@ import io
 import json
 import os
 import pty
+import signal
 import subprocess
 import sys
 import tempfile
+import threading
+import time
 import unittest
 
 from fake_daemon import TAP, Ended, FakeDaemon, tap
@@ -69,6 +72,10 @@ class Loads(unittest.TestCase):
         ended = self.load(Store().answers, path)
         self.assertEqual((ended.status, ended.out, ended.err), (0, "1 message is stored: document 1\n", ""))
         self.assertEqual(self.sent, [b"mail\nSubject: x\r\r\n\r\r\n..\r\r\nFrom me\n.\n"])
+
+    def test_a_field_from_begins_no_mailbox(self) -> None:
+        ended = self.load(Store().answers, self.file("m", b"From: a@b\n\nFrom b\n"))
+        self.assertEqual(self.sent, [b"mail\nFrom: a@b\n\nFrom b\n.\n"])
 
     def test_a_mailbox(self) -> None:
         ended = self.load(Store().answers, self.file("box", MAILBOX))
@@ -164,6 +171,37 @@ class Loads(unittest.TestCase):
         self.assertEqual(loaded.words(), "7 messages are stored: documents 1 to 3, 7, 9 to 11")
 
 
+class Interrupted(unittest.TestCase):
+    def test_a_load_that_is_interrupted_says_how_far_it_got(self) -> None:
+        store = Store()
+        asked = threading.Event()
+
+        def mbox(block: bytes) -> bytes:
+            if store.documents:
+                asked.set()
+                time.sleep(2)
+            return store.mbox(block)
+
+        with tempfile.NamedTemporaryFile() as file, FakeDaemon({b"mbox\n": mbox}) as daemon:
+            file.write(b"From a\nx\n\n" * 2500)
+            file.flush()
+            child = subprocess.Popen(
+                [sys.executable, TAP, "load", file.name],
+                stdout=subprocess.PIPE,
+                stderr=subprocess.PIPE,
+                env={**os.environ, "TAPESTRY_SOCKET": daemon.path},
+            )
+            self.assertTrue(asked.wait(30))
+            child.send_signal(signal.SIGINT)
+            out, err = child.communicate(timeout=30)
+        self.assertEqual((child.returncode, out), (130, b"1000 messages are stored: documents 1 to 1000\n"))
+        self.assertEqual(
+            err.decode(),
+            f"tap: interrupted; from message 1001 of {file.name} to message 2000 of {file.name} all are stored or none;"
+            " what follows isn't\n",
+        )
+
+
 class Bars(unittest.TestCase):
     def test_a_bar_is_as_wide_as_the_terminal(self) -> None:
         self.assertEqual(bar(50, 100, 7, 40), "[##########...........]  50 % 7 messages")
@@ -195,8 +233,7 @@ class Bars(unittest.TestCase):
             shown = os.read(master, 65536).decode()
             os.close(master)
         self.assertEqual((ended.returncode, ended.stdout), (0, b"2500 messages are stored: documents 1 to 2500\n"))
-        self.assertIn("\r[################", shown)
-        self.assertIn(" 40 % 1000 messages", shown)
+        self.assertIn("\r[##############.......................]  40 % 1000 messages", shown)
         self.assertTrue(shown.endswith("\r" + " " * 59 + "\r"), repr(shown))
 
 

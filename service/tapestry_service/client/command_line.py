@@ -1,18 +1,19 @@
 """The command line of `tap`: its words, what is written, and its statuses."""
 
 import argparse
+import io
 import json
 import os
 import re
 import sys
-from typing import Sequence
+from typing import Callable, Sequence
 
 from .. import DEFAULT_SOCKET, SOCKET_VARIABLE
 from ..replies import NotAReply
 from .commands import COMMANDS
 from .connection import Connection, Dismissed, NoDaemon
 from .layout import paragraph, terminal_width
-from .outcome import FAULTY, NO_DAEMON, NOT_WRITTEN, REFUSED, Faulty, Outcome, Refused
+from .outcome import FAULTY, INTERRUPTED, NO_DAEMON, NOT_WRITTEN, REFUSED, Faulty, Outcome, Refused
 from .refusals import Asked, refusal_of, shown
 from .times import FORMS
 
@@ -42,23 +43,25 @@ def _value(text: str) -> int:
     return int(text)
 
 
-class _Parser(argparse.ArgumentParser):
-    """A parser whose options have no abbreviations."""
-
-    def __init__(self, **more: object) -> None:
-        super().__init__(allow_abbrev=False, formatter_class=argparse.RawDescriptionHelpFormatter, **more)  # type: ignore[arg-type]
-
-
 def parser() -> argparse.ArgumentParser:
     """Returns the parser of the command line."""
     common = argparse.ArgumentParser(add_help=False, allow_abbrev=False, argument_default=argparse.SUPPRESS)
     common.add_argument("--socket", metavar="PATH", help=f"the daemon's socket ({SOCKET_VARIABLE}, else {DEFAULT_SOCKET})")
     common.add_argument("--json", action="store_true", help="write one line of JSON, as tap(1) has it")
-    top = _Parser(prog="tap", description="Asks the mail filter's daemon.", epilog=_STATUSES, parents=[common])
+    top = argparse.ArgumentParser(
+        prog="tap",
+        description="Asks the mail filter's daemon.",
+        epilog=_STATUSES,
+        parents=[common],
+        formatter_class=argparse.RawDescriptionHelpFormatter,
+        allow_abbrev=False,
+    )
     commands = top.add_subparsers(dest="command", metavar="COMMAND", required=True)
 
     def command(name: str, does: str, *words: str) -> argparse.ArgumentParser:
-        it = commands.add_parser(name, help=does, description=f"{does[0].upper()}{does[1:]}.", parents=[common])
+        it: argparse.ArgumentParser = commands.add_parser(
+            name, help=does, description=f"{does[0].upper()}{does[1:]}.", parents=[common], allow_abbrev=False
+        )
         for word in words:
             _WORDS[word](it)
         return it
@@ -89,7 +92,7 @@ def parser() -> argparse.ArgumentParser:
 
 
 _TEXT_HELP = "the text; its words are joined by blanks; - reads the standard input"
-_WORDS = {
+_WORDS: dict[str, Callable[[argparse.ArgumentParser], argparse.Action]] = {
     "name": lambda it: it.add_argument("name", type=_word, metavar="NAME", help="the query's name"),
     "names": lambda it: it.add_argument("names", type=_word, nargs="*", metavar="NAME", help="queries; all of yours if none"),
     "text": lambda it: it.add_argument("text", nargs=argparse.REMAINDER, metavar="TEXT", help=_TEXT_HELP),
@@ -104,21 +107,22 @@ _WORDS = {
 
 def main(arguments: Sequence[str] | None = None) -> int:
     """Does one command and returns the status."""
-    sys.stdout.reconfigure(errors="replace")  # type: ignore[union-attr]
-    sys.stderr.reconfigure(errors="replace")  # type: ignore[union-attr]
+    for stream in (sys.stdout, sys.stderr):
+        if isinstance(stream, io.TextIOWrapper):
+            stream.reconfigure(errors="replace")
     words = parser().parse_args(arguments)
-    width = terminal_width()
     try:
-        return _write(_perform(words, width), "json" in words)
-    except BrokenPipeError:
-        os.dup2(os.open(os.devnull, os.O_WRONLY), 1)
-        return NOT_WRITTEN
-    except OSError as error:
-        print(f"tap: writing failed: {error.strerror}", file=sys.stderr)
-        os.dup2(os.open(os.devnull, os.O_WRONLY), 1)
-        return NOT_WRITTEN
+        outcome = _perform(words, terminal_width())
     except KeyboardInterrupt:
-        return 130
+        return INTERRUPTED
+    try:
+        return _write(outcome, "json" in words)
+    except OSError as error:
+        if not isinstance(error, BrokenPipeError):
+            print(f"tap: writing failed: {error.strerror}", file=sys.stderr)
+        # What is left in the stream goes nowhere, so that the interpreter's end has no fault to report.
+        os.dup2(os.open(os.devnull, os.O_WRONLY), 1)
+        return NOT_WRITTEN
 
 
 def _perform(words: argparse.Namespace, width: int) -> Outcome:

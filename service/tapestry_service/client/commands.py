@@ -7,7 +7,7 @@ from argparse import Namespace
 from typing import Callable
 
 from .connection import Connection
-from .documents import Listing, ask_with_probe, clock, digested, rows_of
+from .documents import Listing, ask_with_probe, clock, rows_of
 from .fields import text_of
 from .framing import block
 from .layout import Column, Kind, printable, table
@@ -15,6 +15,7 @@ from .loading import load
 from .outcome import Faulty, Outcome, need, shape_of
 from .readable import readable
 from .refusals import Asked, from_now
+from ..digests import documents_of
 from ..replies import Reply
 from .times import parse_moment, shown_second
 
@@ -29,7 +30,7 @@ def encoded(text: str) -> bytes:
 def given_text(words: list[str]) -> bytes:
     """Returns the text that the words make up: joined by blanks, or the standard input if the only word is `-`."""
     if words == ["-"]:
-        text = sys.stdin.buffer.read()
+        text = _file("-")
     else:
         text = encoded(" ".join(words))
     return text.strip(b" \t\r\n")
@@ -147,7 +148,7 @@ def notes(connection: Connection, words: Namespace, width: int) -> Outcome:
         Column("Text", Kind.WRAP, least=16),
     ]
     rows = [
-        [str(it["note"]), shown_second(int(it["arrival"])), it["author"], it["kind"], str(it["value"]), it["text"]] for it in shape
+        [n.decode(), shown_second(int(s)), a.decode(), k.decode(), v.decode(), text_of(t)] for n, s, a, k, v, t in found
     ]
     lines = table(columns, rows, width) if rows else [f"document {words.doc} has no notes"]
     return Outcome(shape_of(asked, doc=words.doc, notes=shape), lines)
@@ -250,9 +251,10 @@ def filter_(connection: Connection, words: Namespace, width: int) -> Outcome:
 
 
 def _file(path: str) -> bytes:
-    if path == "-":
-        return sys.stdin.buffer.read()
+    """Returns the bytes of a file, or of the standard input."""
     try:
+        if path == "-":
+            return sys.stdin.buffer.read()
         with open(path, "rb") as file:
             return file.read()
     except OSError as error:
@@ -264,8 +266,8 @@ def digest(connection: Connection, words: Namespace, width: int) -> Outcome:
     asked = Asked("digest", words.name)
     reply = need(connection.one(b"digest %s %d\n" % (encoded(words.name), words.run)), asked)
     shape = [
-        {"doc": doc, "first": first, "text": b"".join(it + b"\n" for it in lines).decode("utf-8", "replace")}
-        for doc, first, lines in digested(reply.lines)
+        {"doc": number, "first": first, "text": text.decode("utf-8", "replace")}
+        for number, first, text in documents_of(reply.lines)
     ]
     raw = b"".join(line + b"\n" for line in reply.lines)
     return Outcome(shape_of(asked, query=words.name, run=words.run, documents=shape), raw=raw)

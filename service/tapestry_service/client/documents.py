@@ -2,13 +2,14 @@
 
 import time
 from dataclasses import dataclass, field
-from typing import Any, Iterable, Iterator, Sequence
+from typing import Any, Iterable, Sequence
 
 from .connection import Connection
 from .fields import Fields, fields_of
-from .layout import Column, Kind, table
+from .layout import Column, Kind, paragraph, table
 from .outcome import Outcome, need, shape_of
 from .refusals import Asked
+from ..digests import documents_of
 from ..replies import Reply
 from .times import shown_minute, shown_second
 
@@ -38,8 +39,10 @@ def rows_of(lines: Iterable[bytes]) -> list[Row]:
     rows = []
     for line in lines:
         words = line.decode("ascii", "replace").split()
-        pairs = {name: int(value) if _is_number(value) else value for name, value in zip(words[::2], words[1::2])}
-        rows.append(Row(int(pairs.pop("doc")), pairs))
+        more: dict[str, int | str] = {}
+        for name, value in zip(words[2::2], words[3::2]):
+            more[name] = int(value) if _is_number(value) else value
+        rows.append(Row(int(words[1]), more))
     return rows
 
 
@@ -69,25 +72,9 @@ def known_by_digest(connection: Connection, name: str, runs: Sequence[int]) -> d
     """Returns what is known of the documents of these runs of a query by `digest`, in one round trip."""
     known: dict[int, Known] = {}
     for reply in connection.many(b"digest %s %d\n" % (name.encode("utf-8", "surrogateescape"), it) for it in runs):
-        for doc, _, lines in digested(reply.lines):
-            known[doc] = Known(fields_of(lines))
+        for document in documents_of(reply.lines):
+            known[document.number] = Known(fields_of(document.text.split(b"\n")))
     return known
-
-
-def digested(lines: Sequence[bytes]) -> Iterator[tuple[int, int, list[bytes]]]:
-    """Yields the number, first second and lines of each document of a digest, as they are stored but for CRs at their ends."""
-    doc, first = 0, 0
-    text: list[bytes] | None = None
-    for line in lines:
-        if line.startswith(b"From doc "):
-            if text is not None:
-                yield doc, first, text[:-1]
-            doc, first = int(line.split()[2]), int(line.split()[4])
-            text = []
-        elif text is not None:
-            text.append(line[1:] if line.startswith(b">") and line.lstrip(b">").startswith(b"From ") else line)
-    if text is not None:
-        yield doc, first, text[:-1]
 
 
 class Listing:
@@ -113,7 +100,7 @@ class Listing:
         shape = shape_of(self._asked, **members, documents=[_shape(row, known.get(row.doc)) for row in rows])
         lines = self._table(rows, known) if rows else [nothing]
         blind = rows and not can_show and not runs
-        return Outcome(shape, lines, remarks=[f"tap: {_NO_SHOW}"] if blind else [])
+        return Outcome(shape, lines, remarks=paragraph(f"tap: {_NO_SHOW}", self._width, "     ") if blind else [])
 
     def _table(self, rows: list[Row], known: dict[int, Known]) -> list[str]:
         columns = [Column("No.", right=True)]

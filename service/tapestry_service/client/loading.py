@@ -11,14 +11,13 @@ from typing import Any, BinaryIO, Iterator
 from .connection import Connection, Dismissed, NoDaemon
 from .framing import Message, cut_mailbox, mail, mbox, one_message
 from .layout import fitted, terminal_width
-from .outcome import NO_DAEMON, REFUSED, Faulty, Outcome, shape_of
+from .outcome import INTERRUPTED, NO_DAEMON, REFUSED, Faulty, Outcome, shape_of
 from .refusals import Asked, refusal_of, words_of
 from ..replies import UNKNOWN_END, NotAReply, Reply
 
 BLOCK_BYTES = 1_000_000
 BLOCK_MESSAGES = 1_000
 _TOO_LONG = "the message has more than 1,048,576 bytes"
-INTERRUPTED = 130
 
 
 @dataclass(frozen=True)
@@ -125,7 +124,10 @@ def _maildir(path: str) -> list[tuple[str, bool]]:
     parts = [os.path.join(path, part) for part in ("new", "cur")]
     if not all(map(os.path.isdir, parts)):
         raise Faulty(f"{path}: this folder is no maildir")
-    names = [(name, part) for part in parts for name in os.listdir(part) if not name.startswith(".")]
+    try:
+        names = [(name, part) for part in parts for name in os.listdir(part) if not name.startswith(".")]
+    except OSError as error:
+        raise Faulty(f"{error.filename}: {error.strerror}") from error
     return [(os.path.join(part, name), True) for name, part in sorted(names)]
 
 

@@ -6,7 +6,7 @@ from typing import Any
 from .refusals import Asked, refusal_of, words_of
 from ..replies import Reply
 
-OK, REFUSED, FAULTY, NO_DAEMON, NOT_WRITTEN = 0, 1, 2, 3, 4
+OK, REFUSED, FAULTY, NO_DAEMON, NOT_WRITTEN, INTERRUPTED = 0, 1, 2, 3, 4, 130
 
 
 class Faulty(Exception):

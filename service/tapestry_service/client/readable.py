@@ -21,9 +21,9 @@ def readable(lines: Iterable[bytes]) -> list[str]:
         del kept[0]
     text = decoded_or_raw(b"".join(line + b"\n" for line in kept)).decode("utf-8", "replace").rstrip("\n")
     header, _, body = text.partition("\n\n") if not text.startswith("\n") else ("", "", text[1:])
-    fields = [shown for line in header.split("\n") if (shown := _field(line))]
-    lines = fields + ([""] if fields and body else []) + (body.split("\n") if body else [])
-    return [printable(line) for line in lines]
+    fields = [field for line in header.split("\n") if (field := _field(line))]
+    shown = fields + ([""] if fields and body else []) + (body.split("\n") if body else [])
+    return [printable(line) for line in shown]
 
 
 def _field(line: str) -> str | None:

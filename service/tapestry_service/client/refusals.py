@@ -210,7 +210,9 @@ def token_at(text: bytes, place: int) -> bytes:
 def shown(refusal: Refusal, asked: Asked, reply: Reply, width: int) -> list[str]:
     """Returns the lines that tell people of a refusal, the text with its place among them."""
     code = printable(reply.first.decode("utf-8", "replace"))
-    lines = paragraph(f"tap: {words_of(refusal, asked, reply)} ({code})", width, "     ")
+    # The reply in parentheses stays in one line, if it is short.
+    code = code.replace(" ", "\xa0") if len(code) < 30 else code
+    lines = [it.replace("\xa0", " ") for it in paragraph(f"tap: {words_of(refusal, asked, reply)} ({code})", width, "     ")]
     if refusal.line is not None:
         return lines + [f"{INDENT}in line {refusal.line}:"] + marked(_line(asked.text, refusal.line), refusal.value or 0, width)
     place = refusal.place
