@@ -33,7 +33,11 @@ class Text(NamedTuple):
     @property
     def mail(self) -> bytes:
         """It as a `mail` command."""
-        return b"mail\n" + _dotted(self.text) + b".\n"
+        text = self.text
+        if b"\r\n" in text:
+            # The block's line loses one CR.
+            text = text.replace(b"\r\n", b"\r\r\n")
+        return b"mail\n" + _dotted(text) + b".\n"
 
     @property
     def mbox(self) -> bytes:

@@ -25,10 +25,10 @@ class Session:
         """Learns how far the store is: by `counts`, or, if the program hasn't that, by an empty mailbox file."""
         reply = (yield Exchange(b"counts\n"))[0]
         word = reply.words.split()
-        if reply.ok and word[0:2] == ["counts", "documents"] and word[4:5] == ["moment"]:
+        if reply.ok and word[0:2] == ["counts", "documents"] and word[5:6] == ["moment"]:
             self.can_show = True
             self.documents = int(word[2])
-            self.clock.raise_to(int(word[5]))
+            self.clock.raise_to(int(word[6]))
             yield from self.now()
             return
         yield from self.now()
