@@ -96,7 +96,7 @@ def date_of(value: str) -> int | None:
         found = email.utils.parsedate_tz(value)
         if found is None:
             return None
-        moment = email.utils.mktime_tz(found[:9] + (found[9] or 0,))
+        moment = email.utils.mktime_tz(found)
     except (ValueError, TypeError, OverflowError, IndexError):
         return None
     return int(moment) if 0 <= moment <= LAST_MOMENT else None
