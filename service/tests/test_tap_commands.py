@@ -21,7 +21,10 @@ ok 7 this is text
 DOC_2 = b"ok 0 show 2 at 707392801\n"
 SHOWS = {b"show 1\n": DOC_1, b"show 2\n": DOC_2, **SHOW_0}
 BOX = b"ok 2 box news\ndoc 1 first 707392800 run 1\ndoc 2 first 707392805 run 3\n"
-DIGEST_1 = b"ok 8 digest news 1\nFrom: tapestry\nSubject: digest news 1\n\nFrom doc 1 first 707392800\nFrom: a@b\nSubject: one\n>From x\n\n"
+DIGEST_1 = (
+    b"ok 8 digest news 1\nFrom: tapestry\nSubject: digest news 1\n\n"
+    b"From doc 1 first 707392800\nFrom: a@b\nSubject: one\n>From x\n\n"
+)
 DIGEST_2 = (
     b"ok 12 digest news 2\nFrom: tapestry\nSubject: digest news 2\n\nFrom doc 4 first 5\nSubject: four\n\nx\n\n"
     b"From doc 5 first 6\nSubject: five\n\n\n"
@@ -118,7 +121,9 @@ class Boxes(Case):
         ended = self.with_daemon({b"box ": BOX, **SHOWS}, "box", "news", "--last", "1")
         self.assertEqual([it.split()[0] for it in ended.out.splitlines()], ["No.", "2"])
         self.assertEqual(self.sent[2:], [b"show 2\n"])
-        self.assertEqual(self.with_daemon({b"box ": BOX, **SHOWS}, "box", "--last", "0", "news").out, "the box of news is empty\n")
+        self.assertEqual(
+            self.with_daemon({b"box ": BOX, **SHOWS}, "box", "--last", "0", "news").out, "the box of news is empty\n"
+        )
         self.assertEqual(len(self.with_daemon({b"box ": BOX, **SHOWS}, "box", "--last", "9", "news").out.splitlines()), 3)
 
     def test_an_empty_box(self) -> None:
@@ -185,7 +190,10 @@ class Questions(Case):
         self.assertEqual((ended.status, ended.err), (1, "tap: there is no document 9 (no 11)\n"))
 
     def test_notes(self) -> None:
-        reply = b"ok 2 notes 1\nnote 3 ts 707392800 author ann kind score value -3 text good  one text x\nnote 9 ts 707392801 author bob kind k value 1 text\n"
+        reply = (
+            b"ok 2 notes 1\nnote 3 ts 707392800 author ann kind score value -3 text good  one text x\n"
+            b"note 9 ts 707392801 author bob kind k value 1 text\n"
+        )
         ended = self.with_daemon({b"notes ": reply}, "notes", "1")
         self.assertEqual(
             ended.out,
@@ -218,7 +226,8 @@ class Questions(Case):
         self.assertEqual(self.with_daemon({b"queries": reply}, "queries", "--names").out, "news\nlate\n")
         found = json.loads(self.with_daemon({b"queries": reply}, "queries", "--json").out)["queries"]
         self.assertEqual(
-            found[1], {"query": "late", "defined": 707392800, "from": 707392800, "runs": 0, "last": None, "boxed": 0, "text": "TRUE"}
+            found[1],
+            {"query": "late", "defined": 707392800, "from": 707392800, "runs": 0, "last": None, "boxed": 0, "text": "TRUE"},
         )
         self.assertEqual(self.with_daemon({b"queries": b"ok 0 queries\n"}, "queries").out, "you have no queries\n")
 
@@ -229,7 +238,9 @@ class Questions(Case):
             self.assertIn(f"has no command `{words[0]}'", ended.err)
 
     def test_wake(self) -> None:
-        queries = b"ok 2 queries\nquery a ts 1 from 0 runs 0 last never boxed 0 text TRUE\nquery b ts 1 from 0 runs 0 last never boxed 0 text TRUE\n"
+        queries = b"ok 2 queries\n" + b"".join(
+            b"query %s ts 1 from 0 runs 0 last never boxed 0 text TRUE\n" % name for name in (b"a", b"b")
+        )
         answers = {b"queries": queries, b"wake a\n": b"ok 0 wake a 5\n", b"wake b\n": b"ok 0 wake b never\n"}
         ended = self.with_daemon(answers, "wake")
         self.assertEqual(ended.out, "Query  Would deliver\na      1970-01-01 00:00:05, now\nb      never\n")
@@ -245,10 +256,16 @@ class Questions(Case):
     def test_explain(self) -> None:
         answers = {b"explain ": b"ok 1 explain q\nOVER m: DOC AT m.ts WHERE TRUE\n"}
         self.assertEqual(self.with_daemon(answers, "explain", "q").out, "OVER m: DOC AT m.ts WHERE TRUE\n")
-        self.assertEqual(json.loads(self.with_daemon(answers, "explain", "q", "--json").out)["lines"], ["OVER m: DOC AT m.ts WHERE TRUE"])
+        self.assertEqual(
+            json.loads(self.with_daemon(answers, "explain", "q", "--json").out)["lines"], ["OVER m: DOC AT m.ts WHERE TRUE"]
+        )
 
     def test_digest_and_counts(self) -> None:
-        answers = {b"digest news 1\n": DIGEST_1, b"counts": b"ok 0 counts documents 3 notes 4 moment 5\n", b"digest": b"no 19 3\n"}
+        answers = {
+            b"digest news 1\n": DIGEST_1,
+            b"counts": b"ok 0 counts documents 3 notes 4 moment 5\n",
+            b"digest": b"no 19 3\n",
+        }
         self.assertEqual(self.with_daemon(answers, "digest", "news", "1").out.encode(), DIGEST_1.partition(b"\n")[2])
         found = json.loads(self.with_daemon(answers, "digest", "news", "1", "--json").out)
         self.assertEqual(found["documents"], [{"doc": 1, "first": 707392800, "text": "From: a@b\nSubject: one\nFrom x\n"}])
@@ -277,9 +294,7 @@ class Changes(Case):
         ended = self.with_daemon({b"query ": b"no 14 field 2\n"}, "query", "q", "FROM NOW m.sender = 'x'", COLUMNS="200")
         self.assertEqual(ended.status, 1)
         self.assertEqual(ended.out, "")
-        self.assertEqual(
-            ended.err.splitlines()[1:], ["    FROM NOW m.sender = 'x'", "               ^~~~~~"]
-        )
+        self.assertEqual(ended.err.splitlines()[1:], ["    FROM NOW m.sender = 'x'", "               ^~~~~~"])
         self.assertIn("a document has no such field", ended.err)
         ended = self.with_daemon({b"ask ": b"no 13 token 5\n"}, "ask", "5", "TRUE TRUE")
         self.assertEqual(ended.err.splitlines()[1:], ["    TRUE TRUE", "         ^~~~"])
@@ -289,7 +304,8 @@ class Changes(Case):
         words = found.pop("words")
         self.assertIn("no such field", words)
         self.assertEqual(
-            found, {"ok": False, "command": "query", "reply": "no 14 field 2", "no": 14, "reason": "field", "line": None, "place": 2}
+            found,
+            {"ok": False, "command": "query", "reply": "no 14 field 2", "no": 14, "reason": "field", "line": None, "place": 2},
         )
 
     def test_note(self) -> None:
@@ -348,6 +364,7 @@ class Statuses(Case):
 
     def test_the_connection_ends(self) -> None:
         for answer in (b"", b"ok 2 box q\ndoc 1 first 5 run 1\n"):
+
             def end(_: bytes, answer: bytes = answer) -> bytes | None:
                 return None
 
@@ -388,7 +405,9 @@ class Statuses(Case):
         with FakeDaemon({b"explain": b"ok 100000 explain q\n" + b"OVER m: DOC AT m.ts WHERE TRUE\n" * 100000}) as daemon:
             command = f"'{sys.executable}' '{TAP}' explain q; echo $? >&2"
             ended = subprocess.run(
-                ["bash", "-c", f"( {command} ) | head -1"], capture_output=True, env={**os.environ, "TAPESTRY_SOCKET": daemon.path}
+                ["bash", "-c", f"( {command} ) | head -1"],
+                capture_output=True,
+                env={**os.environ, "TAPESTRY_SOCKET": daemon.path},
             )
         self.assertEqual((ended.stdout, ended.stderr), (b"OVER m: DOC AT m.ts WHERE TRUE\n", b"4\n"))
 

@@ -13,7 +13,9 @@ from support import SERVICE
 from tapestry_service.client.commands import COMMANDS
 
 FILE = os.path.join(SERVICE, "completion", "tap")
-QUERIES = b"ok 2 queries\nquery budget ts 1 from 0 runs 0 last never boxed 0 text TRUE\nquery open ts 1 from 0 runs 0 last never boxed 0 text TRUE\n"
+QUERIES = b"ok 2 queries\n" + b"".join(
+    b"query %s ts 1 from 0 runs 0 last never boxed 0 text TRUE\n" % name for name in (b"budget", b"open")
+)
 
 
 class Completion(unittest.TestCase):

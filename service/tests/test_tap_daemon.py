@@ -154,10 +154,18 @@ class Together(unittest.TestCase):
         self.next_second()
         for words, lines, status in (
             (("ask", "now", "m.sender = 'x'"), ["    m.sender = 'x'", "      ^~~~~~"], 1),
-            (("query", "r", "FROM NOW 'é' = m.from AND m.id = 'x'"), ["    FROM NOW 'é' = m.from AND m.id = 'x'", " " * 35 + "^"], 1),
+            (
+                ("query", "r", "FROM NOW 'é' = m.from AND m.id = 'x'"),
+                ["    FROM NOW 'é' = m.from AND m.id = 'x'", " " * 35 + "^"],
+                1,
+            ),
             (("query", "r", "FROM NOW m.id = 1 2"), ["    FROM NOW m.id = 1 2", "                      ^"], 1),
             (("query", "r", "m.id ="), ["    m.id =", "          ^"], 1),
-            (("query", "r", "m.id = 1 AND\n  m.subject = 'x"), ["    in line 2:", "      m.subject = 'x", "                  ^~"], 1),
+            (
+                ("query", "r", "m.id = 1 AND\n  m.subject = 'x"),
+                ["    in line 2:", "      m.subject = 'x", "                  ^~"],
+                1,
+            ),
             (("run", "nosuch"), [], 1),
             (("query", "Wrong", "TRUE"), [], 1),
             (("note", "999999", "score", "1", "x"), [], 1),
@@ -167,7 +175,9 @@ class Together(unittest.TestCase):
             self.assertEqual((ended.status, ended.out), (status, ""), ended)
             self.assertEqual(ended.err.splitlines()[1:][-len(lines) :] if lines else ended.err.splitlines()[1:], lines, words)
         ended = self.tap("filter", given=b"# one\nWHEN NOW > m.ts PRIORITY 1 CLASS 'a'\n")
-        self.assertEqual(ended.err.splitlines()[-3:], ["    in line 2:", "    WHEN NOW > m.ts PRIORITY 1 CLASS 'a'", "         ^~~"])
+        self.assertEqual(
+            ended.err.splitlines()[-3:], ["    in line 2:", "    WHEN NOW > m.ts PRIORITY 1 CLASS 'a'", "         ^~~"]
+        )
 
     def test_a_larger_load(self) -> None:
         data = b"".join(b"From a\nSubject: %d\n\n%s\n\n" % (it, b"word " * 200) for it in range(3000))

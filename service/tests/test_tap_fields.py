@@ -37,7 +37,9 @@ class Headers(unittest.TestCase):
     def test_what_is_missing(self) -> None:
         for lines in ([], [b""], [b"no header"], [b"", b"Subject: x"], [b" folded first", b"Subject: x"]):
             fields = fields_of(lines)
-            self.assertEqual((fields.date, fields.sender, fields.address, fields.subject, fields.who), (None, None, None, None, ""))
+            self.assertEqual(
+                (fields.date, fields.sender, fields.address, fields.subject, fields.who), (None, None, None, None, "")
+            )
         self.assertEqual(fields_of([b"From:", b"Subject:"]).who, "")
         self.assertEqual(fields_of([b"From: a@b"]).who, "a@b")
         self.assertEqual(fields_of([b"From: nobody in particular <"]).who, "nobody in particular")
@@ -83,7 +85,16 @@ class Readable(unittest.TestCase):
         time.tzset()
 
     def test_a_plain_message(self) -> None:
-        lines = [b"From: Ann <ann@x>", b"X-Other: 1", b"Date: Mon, 1 Jun 1992 10:00:00 +0000", b"Subject: =?utf-8?q?=C3=A9?=", b"", b"Hi\x1b[2J", b".", b""]
+        lines = [
+            b"From: Ann <ann@x>",
+            b"X-Other: 1",
+            b"Date: Mon, 1 Jun 1992 10:00:00 +0000",
+            b"Subject: =?utf-8?q?=C3=A9?=",
+            b"",
+            b"Hi\x1b[2J",
+            b".",
+            b"",
+        ]
         self.assertEqual(readable(lines), ["From: Ann <ann@x>", "Subject: é", "Date: 1992-06-01 10:00:00", "", "Hi?[2J", "."])
 
     def test_without_a_header(self) -> None:
@@ -122,9 +133,7 @@ Content-Transfer-Encoding: base64
 AAAA
 --B--
 """
-        self.assertEqual(
-            readable(message.split(b"\n")), ["Subject: x", "", "café", "text", "more", "[application/pdf: aé.pdf]"]
-        )
+        self.assertEqual(readable(message.split(b"\n")), ["Subject: x", "", "café", "text", "more", "[application/pdf: aé.pdf]"])
 
     def test_an_unknown_charset(self) -> None:
         lines = [b"Content-Type: text/plain; charset=none-such", b"", b"caf\xe9"]

@@ -148,9 +148,7 @@ class Loads(unittest.TestCase):
         path = self.big(35)
         ended = self.load(answers, path)
         self.assertEqual((ended.status, ended.out), (3, "18 messages are stored: documents 1 to 18\n"))
-        self.assertIn(
-            f"from message 19 of {path} to message 27 of {path} all are stored or none; what follows isn't", ended.err
-        )
+        self.assertIn(f"from message 19 of {path} to message 27 of {path} all are stored or none; what follows isn't", ended.err)
 
     def test_the_daemon_refuses(self) -> None:
         path = self.big(12)

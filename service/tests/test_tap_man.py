@@ -6,6 +6,7 @@ import glob
 import json
 import os
 import re
+import shlex
 import shutil
 import subprocess
 import unittest
@@ -123,6 +124,13 @@ class Pages(unittest.TestCase):
         self.assertEqual(options, known)
         for status in (0, 1, 2, 3, 4, 130):
             self.assertIn(f"\n.It {status}\n", page)
+
+    def test_the_refusal_that_is_shown(self) -> None:
+        section = text_of("tap.1").partition(".Sh REFUSALS\n")[2].partition("\n.Ed")[0]
+        command, _, shown = section.partition(".Bd -literal -offset indent\n$ tap ")[2].partition("\n")
+        with FakeDaemon({b"ask ": b"no 14 field 2\n", b"show": b"no 11\n"}) as daemon:
+            ended = tap(daemon.path, *shlex.split(command), COLUMNS="70")
+        self.assertEqual((ended.status, ended.err), (1, shown + "\n"))
 
     def test_the_daemon_is_described_whole(self) -> None:
         page = text_of("tapestryd.8")

@@ -38,7 +38,9 @@ class Places(unittest.TestCase):
         text = "m.subject = '王é' AND m.x = 1"
         place = text.encode().index(b"x")
         lines = self.query(text, b"no 14 field %d" % place)
-        self.assertEqual(lines[-2:], ["    m.subject = '王é' AND m.x = 1", "    " + " " * text_width(text[: text.index("x")]) + "^"])
+        self.assertEqual(
+            lines[-2:], ["    m.subject = '王é' AND m.x = 1", "    " + " " * text_width(text[: text.index("x")]) + "^"]
+        )
         self.assertEqual(self.query("m.id = ½", b"no 12 byte 7")[-2:], ["    m.id = ½", "           ^"])
         self.assertEqual(self.query("TRUE\tAND %", b"no 12 byte 9")[-2:], ["    TRUE AND %", "             ^"])
 

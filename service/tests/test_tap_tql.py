@@ -130,12 +130,19 @@ class Page(unittest.TestCase):
     def test_every_word_has_an_example(self) -> None:
         found = examples()
         tried = " ".join(sum((lines for section, lines in found.items() if section != "GRAMMAR"), []))
-        words = set(re.findall(r"[A-Z]{2,}|\"[^\"]+\"", " ".join(found["GRAMMAR"]))) | {"MINUTE", "HOUR", "DAY", "SECONDS", "DAYS", "HOURS"}
+        words = set(re.findall(r"[A-Z]{2,}|\"[^\"]+\"", " ".join(found["GRAMMAR"]))) | {
+            "MINUTE",
+            "HOUR",
+            "DAY",
+            "SECONDS",
+            "DAYS",
+            "HOURS",
+        }
         for word in words - {'" "'}:
             self.assertIn(word.strip('"'), tried)
-        for field in (
-            "id size from subject msgid inreplyto ts date to cc newsgroups references words doc value author kind text".split()
-        ):
+        for (
+            field
+        ) in "id size from subject msgid inreplyto ts date to cc newsgroups references words doc value author kind text".split():
             self.assertRegex(tried, rf"[a-z]\.{field}\b")
 
     @unittest.skipUnless(os.environ.get(PROGRAM_VARIABLE), "no program is named")

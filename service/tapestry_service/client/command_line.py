@@ -101,7 +101,9 @@ _WORDS: dict[str, Callable[[argparse.ArgumentParser], argparse.Action]] = {
     "doc": lambda it: it.add_argument("doc", type=_number, metavar="DOC", help="the document's number"),
     "kind": lambda it: it.add_argument("kind", type=_word, metavar="KIND", help="the kind of note, such as score"),
     "value": lambda it: it.add_argument("value", type=_value, metavar="VALUE", help="a whole number"),
-    "file": lambda it: it.add_argument("file", nargs="?", default="-", metavar="FILE", help="one rule a line; - is standard input"),
+    "file": lambda it: it.add_argument(
+        "file", nargs="?", default="-", metavar="FILE", help="one rule a line; - is standard input"
+    ),
 }
 
 

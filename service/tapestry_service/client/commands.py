@@ -88,9 +88,7 @@ def _delivered(connection: Connection, asked: Asked, last: int | None, width: in
     if last is not None:
         rows = rows[len(rows) - min(last, len(rows)) :]
     runs = sorted({int(row.more["run"]) for row in rows})
-    return Listing(connection, asked, width).outcome(
-        rows, can_show, runs, f"the box of {asked.name} is empty", query=asked.name
-    )
+    return Listing(connection, asked, width).outcome(rows, can_show, runs, f"the box of {asked.name} is empty", query=asked.name)
 
 
 def ask(connection: Connection, words: Namespace, width: int) -> Outcome:
@@ -147,9 +145,7 @@ def notes(connection: Connection, words: Namespace, width: int) -> Outcome:
         Column("Value", right=True),
         Column("Text", Kind.WRAP, least=16),
     ]
-    rows = [
-        [n.decode(), shown_second(int(s)), a.decode(), k.decode(), v.decode(), text_of(t)] for n, s, a, k, v, t in found
-    ]
+    rows = [[n.decode(), shown_second(int(s)), a.decode(), k.decode(), v.decode(), text_of(t)] for n, s, a, k, v, t in found]
     lines = table(columns, rows, width) if rows else [f"document {words.doc} has no notes"]
     return Outcome(shape_of(asked, doc=words.doc, notes=shape), lines)
 
@@ -174,9 +170,7 @@ def wake(connection: Connection, words: Namespace, width: int) -> Outcome:
     replies = connection.many(b"wake %s\n" % encoded(it) for it in names)
     moments = {name: _moment(need(reply, Asked("wake", name))) for name, reply in zip(names, list(replies))}
     now = clock()
-    rows = [
-        [name, "never" if it is None else shown_second(it) + (", now" if it <= now else "")] for name, it in moments.items()
-    ]
+    rows = [[name, "never" if it is None else shown_second(it) + (", now" if it <= now else "")] for name, it in moments.items()]
     shape = [{"query": name, "wake": it} for name, it in moments.items()]
     lines = table([Column("Query"), Column("Would deliver")], rows, width) if rows else ["you have no queries"]
     return Outcome(shape_of(Asked("wake"), queries=shape), lines)

@@ -185,9 +185,7 @@ def _shares(wishes: list[int], room: int) -> list[int]:
 
 
 def _row(columns: Sequence[Column], row: list[str], widths: list[int]) -> list[str]:
-    parts = [
-        wrapped(cell, size) if column.kind is Kind.WRAP else [cell] for column, cell, size in zip(columns, row, widths)
-    ]
+    parts = [wrapped(cell, size) if column.kind is Kind.WRAP else [cell] for column, cell, size in zip(columns, row, widths)]
     return [
         _joined(
             [

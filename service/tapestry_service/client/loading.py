@@ -243,13 +243,9 @@ def _numbers(reply: Reply) -> tuple[int, int]:
 
 
 def _outcome(loaded: Loaded) -> Outcome:
-    shape = shape_of(
-        Asked("load"), stored=loaded.stored, documents=loaded.ranges, refused=loaded.refused, stopped=loaded.stopped
-    )
+    shape = shape_of(Asked("load"), stored=loaded.stored, documents=loaded.ranges, refused=loaded.refused, stopped=loaded.stopped)
     shape["ok"] = loaded.status == 0
-    remarks = [
-        f"tap: {Place(it['file'], it['message'])} isn't stored: {it['why']}" for it in loaded.refused
-    ]
+    remarks = [f"tap: {Place(it['file'], it['message'])} isn't stored: {it['why']}" for it in loaded.refused]
     if loaded.stopped:
         remarks.append(f"tap: {loaded.stopped}")
     return Outcome(shape, [loaded.words()], remarks=remarks, status=loaded.status)
