@@ -40,6 +40,9 @@ class Fake:
         self.user: Optional[str] = None
         self.file.seek(0)
         for line in self.file.read().decode("latin-1").splitlines(True):
+            if line.startswith("version"):
+                self.say(f"stop 6 {line.strip()}")
+                end(6)
             if line.endswith("\n"):
                 self.take(json.loads(line))
 

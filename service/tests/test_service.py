@@ -31,6 +31,15 @@ daemon.Daemon.__init__ = init
 sys.exit(main.main())
 """
 
+#: A service whose sessions are short.
+SHORT = """
+import sys
+sys.path.insert(0, {service!r})
+from tapestry_service import daemon, main
+daemon.SCRIPT_LIMIT = 4000
+sys.exit(main.main())
+"""
+
 
 class Failing(WithService):
     def fault(self, text: str) -> None:
@@ -125,6 +134,30 @@ class Failing(WithService):
         os.unlink(self.place("store.fault"))
         service.wait_empty(30)
         self.assertEqual(self.documents(service), 1)
+
+    def test_a_store_that_is_refused(self) -> None:
+        """Status 6 and its line are shown, and the service waits for a store that can be used."""
+        with open(self.place("store"), "w") as file:
+            file.write("version 3\n")
+        service = self.service(FAKE, RULES)
+        service.start(is_ready=False)
+        wait_until(lambda: "status 6 and the line `stop 6 version 3`" in service.said(), "it says so")
+        self.assertIn("put a backup in its place", service.said())
+        os.unlink(self.place("store"))
+        wait_until(lambda: "ready:" in service.said(), "it goes on")
+
+    def test_a_session_ends_before_its_script_is_too_long(self) -> None:
+        with open(self.place("short.py"), "w") as file:
+            file.write(SHORT.format(service=SERVICE))
+        service = self.start(script=self.place("short.py"))
+        talk = service.talk()
+        for number in range(60):
+            service.put(b"x" * 100 + b"%d" % number)
+            self.assertTrue(talk.line(b"counts\n").startswith("ok 0 counts"))
+        service.wait_empty()
+        self.assertEqual(self.documents(service), 60)
+        self.assertGreater(service.said().count("starting the next one"), 1)
+        self.assertEqual(len(set(self.texts())), 60)
 
     def test_a_read_only_maildir(self) -> None:
         box = self.place("boxes")
