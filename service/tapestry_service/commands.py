@@ -93,7 +93,8 @@ class Cutter:
         """After the end of the input: the reply to a block without its end, or None."""
         if self._block is None:
             return None
-        self._block = None
+        self._block, self._is_long, self._scan = None, False, 0
+        self._buffer.clear()
         return b"no 3\n" if self._formed else b"no 2\n"
 
     def _next_line(self) -> Optional[Union[Command, bytes]]:

@@ -102,6 +102,7 @@ class Daemon:
         self.is_open = False
         self._is_ending = False  # the program's input was ended on purpose
         self._has_closed = False  # the program closed its output; its status is to come
+        self._closed_at = 0.0
         self._current: Optional[Piece] = None
         self._suspended: List[Piece] = []
         self._replies: List[Reply] = []
@@ -279,10 +280,10 @@ class Daemon:
         try:
             found = program.read()
         except ProgramEnded:
+            # As `stop 6 ..` before a status of 6: it ends by itself, or is stopped.
             found = None
-            program.kill()
         if found is None:
-            self._has_closed = True
+            self._has_closed, self._closed_at = True, time.monotonic()
             self.selector.unregister(program.output)
             self._end_input()
             self._reap()
@@ -302,7 +303,11 @@ class Daemon:
     def _reap(self) -> None:
         """Takes the status of a program that has closed its output."""
         program = self.program
-        if program is None or program.child.poll() is None:
+        if program is None:
+            return
+        if program.child.poll() is None:
+            if time.monotonic() - self._closed_at > LONGEST_CLOSE:
+                program.kill()
             return
         program.close()
         status = program.child.returncode

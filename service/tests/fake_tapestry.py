@@ -3,8 +3,9 @@
 
 Its store is a file with one JSON line a command that added rows. A query's text is a word: it gives the documents that have this
 word, from their arrival on; `later N word` from N seconds after it. The file STORE.fault may have a line `WORD STATUS`: the next
-command of this first word ends the program with this status, before it is stored (`WORD STATUS stored`: after that). The file
-STORE.plain takes `counts` and `show` away. STORE.slow has seconds that each command takes.
+command of this first word (`put`: that adds messages) ends the program with this status, before it is stored; with `stored`
+behind it, after that; with `again`, each time. The file STORE.plain takes `counts` and `show` away. STORE.slow has the seconds
+that each command takes.
 """
 
 from __future__ import annotations
@@ -39,6 +40,9 @@ class Fake:
         self.user: Optional[str] = None
         self.file.seek(0)
         for line in self.file.read().decode("latin-1").splitlines(True):
+            if line.startswith("version"):
+                self.say(f"stop 6 {line.strip()}")
+                end(6)
             if line.endswith("\n"):
                 self.take(json.loads(line))
 
@@ -109,8 +113,9 @@ class Fake:
             if any("REFUSE" in it for it in texts):
                 return self.say("no 16 store")
             if texts:
+                self.fault("put", False)
                 self.add(texts)
-            self.fault(word, True)
+                self.fault("put", True)
             first = len(self.docs) - len(texts) + 1
             self.say(f"ok 0 docs {len(texts)} {first}" if word == "mbox" else f"ok 0 doc {first}")
         elif word == "counts" and not self.has(".plain"):

@@ -23,6 +23,9 @@ if SERVICE not in sys.path:
 
 from tapestry_service.replies import Reply, read_reply  # noqa: E402
 
+#: Where the tests' files are: in memory, if that may be written, since each change is synced.
+FAST = "/dev/shm" if os.access("/dev/shm", os.W_OK) else None
+
 LOGIN = pwd.getpwuid(os.geteuid()).pw_name
 
 
@@ -44,7 +47,7 @@ class Folder(unittest.TestCase):
     """A test with a folder of its own, `self.at`, which is removed after it."""
 
     def setUp(self) -> None:
-        self.at = tempfile.mkdtemp(prefix="service-")
+        self.at = tempfile.mkdtemp(prefix="service-", dir=FAST)
         self.addCleanup(shutil.rmtree, self.at, ignore_errors=True)
 
     def place(self, *names: str) -> str:
