@@ -1,6 +1,8 @@
 -- What a session over files left as it ended.
 use Rattle.std.specs.Prelude.{ℕ, ℤ, ◌≡◌, ◌↔◌, true, false, Option, Some, None, Result, Ok, Err, IsTrue, ⊤}
 use Rattle.sqlite.specs.Files.{over_files}
+use Rattle.sqlite.specs.declared.error.Error.{Error}
+use Rattle.sqlite_trees.specs.declared.store.Store as store
 use Rattle.sqlite_disk.specs.declared.Disk.{Ghosts}
 use Rattle.sqlite_disk.specs.declared.start.Start as start
 use Rattle.sqlite_disk.specs.declared.Files.{Files}
@@ -16,6 +18,7 @@ use Rattle.keeper_file.specs.OpenerFiles.{FilesOf}
 use Rattle.keeper_file.specs.PathFiles.{path_files}
 use Rattle.keeper_file.specs.Cases.{Tells, HasVersion, IsHonest, MayLeave, has_files, is_stopped}
 use Rattle.keeper_file.specs.Closing.{AreWhole, LeavesOnly}
+use Rattle.keeper_file.specs.Failing.{FailsToCloseOpen}
 
 module _ {D O : Type 0} {g : Ghosts D} (first : FilesOf O) where
   -- the keeper was honest, and this holds of the tables that it told
@@ -24,18 +27,29 @@ module _ {D O : Type 0} {g : Ghosts D} (first : FilesOf O) where
     pub kept : (t : Tables) → Tells first over_files inner t → Kept t
 
   -- what the close of a keeper gave, if it was closed: no files, if it had none open; or both, which hold its tables whole, if they
-  -- are clean; or, if the close failed, what is left of the store, of which a crash leaves its tables, if that is clean
-  abbrev pub IsClosedAs : Inner (FileStore D g) O over_files → Option (Result (Option (Files D)) (FileStore D g)) → Type 0
+  -- are clean; or an error and what is left of the store, of which a crash leaves its tables, if that is clean: the disk failed then,
+  -- the close was out of memory, or the store was shut before
+  abbrev pub IsClosedAs : Inner (FileStore D g) O over_files → Option (Result (Option (Files D)) (Error × FileStore D g)) → Type 0
   IsClosedAs inner None = ⊤
   IsClosedAs inner (Some (Ok None)) = has_files inner ≡ false
   IsClosedAs inner (Some (Ok (Some files))) = AreClean g files.log files.db → ToldTablesAre inner (AreWhole g files)
-  IsClosedAs inner (Some (Err store)) = IsTrue (view store).is_clean → ToldTablesAre inner (LeavesOnly g store)
+  IsClosedAs inner (Some (Err left)) = IsTrue (view left.1).is_clean → ToldTablesAre inner (LeavesOnly g left.1) × FailsToCloseOpen inner left.1 left.0
+
+-- the end of a call over a keeper with this opener: the keeper, over which the call ended so, and what is left of it
+pub record CallEnd {A O : Type 0} (first : FilesOf O) (g : store.Ghosts A)
+    (Ends : Tables → (ℤ → Type 0) → (Tables → Type 0) → (Tables → Type 0) → Type 0)
+    (status : ℕ) (IsLeft : Inner A O g → Type 0) : Type 0 where
+  pub inner : Inner A O g
+  pub ends : IsHonest first g inner → (t : Tables) → ImageTells first.image t →
+      Ends t (HasVersion first g inner) (Tells first g inner) (MayLeave first g inner)
+  pub stopped : (is_stopped inner ≡ true) ↔ (status ≡ 5)
+  pub left : IsLeft inner
 
 -- the end of a session over files that held this at first: the keeper, over which the call ended so, what its close gave, and
 -- whether it comes back
 pub record SessionEnd {S D : Type 0} {g : Ghosts D} (held : start.Ghosts S)
     (Ends : Tables → (ℤ → Type 0) → (Tables → Type 0) → (Tables → Type 0) → Type 0)
-    (status : ℕ) (closed : Option (Result (Option (Files D)) (FileStore D g)))
+    (status : ℕ) (closed : Option (Result (Option (Files D)) (Error × FileStore D g)))
     (ComesBack : Inner (FileStore D g) (PathOpener S D held g) over_files → Type 0) : Type 0 where
   pub inner : Inner (FileStore D g) (PathOpener S D held g) over_files
   pub ends : IsHonest (path_files held) over_files inner → (t : Tables) → ImageTells (image_at held) t →

@@ -1,53 +1,47 @@
 //! The files of a store, from their open to their close.
-ghost use Rattle.std.specs.Prelude.{◌≡◌, ◌⊎◌, ◌↔◌, [], true, false, Some, None, Ok, IfSome, is_some};
+ghost use Rattle.std.specs.Prelude.{◌≡◌, ◌≢◌, ◌⊎◌, ◌↔◌, [], true, false, not, Some, None, Ok, IfSome, is_some};
 ghost use Rattle.std.specs.List.{All};
 ghost use Rattle.std.specs.Str.{IsUtf8};
 ghost use Rattle.tap_base.specs.Ledgers.{IsBlankOf};
 ghost use Rattle.keeper_core.specs.States.{IsPlacedBy};
 ghost use Rattle.keeper_file.specs.Cases.{Tells, HasVersion, IsHonest, MayLeave, IsInMemory, has_files, is_stopped, place_of};
-ghost use Rattle.keeper_file.specs.PathFiles.{path_files};
 ghost use Rattle.keeper_file.specs.Images.{ImageTells, ImageHasVersion};
-ghost use Rattle.sqlite.specs.Files.{over_files};
 ghost use Rattle.sqlite_wal.specs.Files.{image_at};
 ghost use Rattle.tap_rows.specs.declared.tables.Tables.{Tables};
-ghost use Rattle.file_session.specs.Closes.{SessionEnd};
+ghost use Rattle.file_session.specs.Closes.{CallEnd, SessionEnd};
 
 use crate::session::Session;
-use keeper_file::{FileKeeper, PathOpener};
-use sqlite::{FileFrom, FileStore, Files, Start};
+use keeper_file::{FileKeeper, Opener, PathOpener};
+use peer_edges::Peer;
+use sqlite::{Alter, Error, FileFrom, FileStore, Files, Start};
 use std::sync::ledger::{Blank, Ledger};
 use tap_base::{HashKey, Steps, Texts};
-use tap_edges::{Sink, Source};
+use tap_edges::Sink;
 
-/// Makes the call over the files that the words name, which held what `S` says. Returns the status, and the keeper with its
-/// files open.
-pub fn run_on_files<'a, C: Session, I: Source, K: Sink, S: Start, L: Ledger>(
-    rt: &'a HostRuntime,
+// Makes the call over a keeper with this opener, which has opened nothing. Returns the status, and the keeper.
+fn run_over<C: Session, I: Peer<K>, K: Sink, A: Alter + Drop, O: Opener<A>, L: Ledger>(
+    rt: &HostRuntime,
     words: &Texts,
     source: &mut I,
     sink: &mut K,
-    start: S,
+    opener: O,
     blank: Blank,
-) -> (
-    u8,
-    FileKeeper<FileStore<FileFrom<S>>, PathOpener<'a, S, FileFrom<S>>>,
-)
+) -> (u8, FileKeeper<A, O>)
     requires blank { IsBlankOf L.name L.parts blank }
     requires texts { All IsUtf8 words.now }
+    requires clean { O.Opener.files.clean opener }
     ensures ends { C.ends words.now result.0 (I.left source.old) (I.left source.new) (K.out sink.old) (K.out sink.new)
         (I.faults source.old) (I.faults source.new) (K.faults sink.old) (K.faults sink.new) }
-
-    // If the disk was honest: how the call ended over the tables that the files held at first.
-    ensures ends_over { (t : Tables) → IsHonest (path_files S.Start) over_files result.1.inner → ImageTells (image_at S.Start) t →
+    ensures ends_over { (t : Tables) → IsHonest O.Opener.files A.Store result.1.inner → ImageTells O.Opener.files.image t →
         C.ends_over words.now result.0 (I.left source.old) (I.left source.new) (K.out sink.old) (K.out sink.new)
-        t (ImageHasVersion (image_at S.Start)) (HasVersion (path_files S.Start) over_files result.1.inner)
-        (Tells (path_files S.Start) over_files result.1.inner) (MayLeave (path_files S.Start) over_files result.1.inner) }
+        (I.was_asked source.old) (I.was_asked source.new)
+        t (ImageHasVersion O.Opener.files.image) (HasVersion O.Opener.files A.Store result.1.inner)
+        (Tells O.Opener.files A.Store result.1.inner) (MayLeave O.Opener.files A.Store result.1.inner) }
     ensures placed { IsPlacedBy result.0 [] (place_of result.1.inner) (C.place words.now) }
     ensures unopened { result.0 ≡ 2 → has_files result.1.inner ≡ false }
     ensures stopped { (is_stopped result.1.inner ≡ true) ↔ (result.0 ≡ 5) }
 {
     let mut steps = Steps::<L>::start(blank);
-    let opener = PathOpener::new(rt, start);
     let mut keeper = FileKeeper::new(opener);
     let alloc = rt.alloc();
     let key = HashKey::draw(rt);
@@ -55,10 +49,50 @@ pub fn run_on_files<'a, C: Session, I: Source, K: Sink, S: Start, L: Ledger>(
     (status, keeper)
 }
 
+// Makes the call over a keeper with this opener. Returns the status, and, unless the keeper failed or the store was refused, the
+// keeper: first if it has files open, else second.
+fn run_apart<C: Session, I: Peer<K>, K: Sink, A: Alter + Drop, O: Opener<A>, L: Ledger>(
+    rt: &HostRuntime,
+    words: &Texts,
+    source: &mut I,
+    sink: &mut K,
+    opener: O,
+    blank: Blank,
+) -> (u8, Option<FileKeeper<A, O>>, Option<FileKeeper<A, O>>)
+    requires blank { IsBlankOf L.name L.parts blank }
+    requires texts { All IsUtf8 words.now }
+    requires clean { O.Opener.files.clean opener }
+    ensures ends { C.ends words.now result.0 (I.left source.old) (I.left source.new) (K.out sink.old) (K.out sink.new)
+        (I.faults source.old) (I.faults source.new) (K.faults sink.old) (K.faults sink.new) }
+    ensures gone { (result.0 ≡ 5) ⊎ (result.0 ≡ 6) → (is_some result.1 ≡ false) × (is_some result.2 ≡ false) }
+    ensures one { result.0 ≢ 5 → result.0 ≢ 6 → is_some result.2 ≡ not (is_some result.1) }
+    ensures open { IfSome result.1 (λ keeper. has_files keeper.inner ≡ true) }
+    ensures unopened { IfSome result.2 (λ keeper. has_files keeper.inner ≡ false) }
+    ensures placed { IfSome result.2 (λ keeper.
+        (((result.0 ≡ 2) ⊎ (result.0 ≡ 7)) × (place_of keeper.inner ≡ [])) ⊎ IsInMemory (C.place words.now)) }
+    ensures refused { result.0 ≡ 2 → is_some result.1 ≡ false }
+    ensures end { CallEnd O.Opener.files A.Store (λ t versions tells leaves.
+        C.ends_over words.now result.0 (I.left source.old) (I.left source.new) (K.out sink.old) (K.out sink.new)
+        (I.was_asked source.old) (I.was_asked source.new)
+        t (ImageHasVersion O.Opener.files.image) versions tells leaves) result.0
+        (λ inner. IfSome result.1 (λ keeper. keeper.inner ≡ inner) × IfSome result.2 (λ keeper. keeper.inner ≡ inner)) }
+{
+    let (status, keeper) = run_over::<C, _, _, A, _, L>(rt, words, source, sink, opener, blank);
+    if status == 5 || status == 6 {
+        drop(keeper);
+        return (status, None, None);
+    }
+    if keeper.has_files() {
+        (status, Some(keeper), None)
+    } else {
+        (status, None, Some(keeper))
+    }
+}
+
 /// Makes the call over the files that the words name, and closes them unless the keeper failed or the store was refused. Returns
-/// the status; what the close gave, which is both files, none if no file was open, or what is left of the store if it failed;
+/// the status; what the close gave, which is both files, none if no file was open, or an error and what is left of the store;
 /// and, unless the status is 5 or 6, the keeper if it has no file open.
-pub fn run_to_close<'a, C: Session, I: Source, K: Sink, S: Start, L: Ledger>(
+pub fn run_to_close<'a, C: Session, I: Peer<K>, K: Sink, S: Start, L: Ledger>(
     rt: &'a HostRuntime,
     words: &Texts,
     source: &mut I,
@@ -67,7 +101,7 @@ pub fn run_to_close<'a, C: Session, I: Source, K: Sink, S: Start, L: Ledger>(
     blank: Blank,
 ) -> (
     u8,
-    Option<Result<Option<Files<FileFrom<S>>>, FileStore<FileFrom<S>>>>,
+    Option<Result<Option<Files<FileFrom<S>>>, (Error, FileStore<FileFrom<S>>)>>,
     Option<FileKeeper<FileStore<FileFrom<S>>, PathOpener<'a, S, FileFrom<S>>>>,
 )
     requires blank { IsBlankOf L.name L.parts blank }
@@ -89,24 +123,39 @@ pub fn run_to_close<'a, C: Session, I: Source, K: Sink, S: Start, L: Ledger>(
     // How the call ended over the tables that the files held at first, and what the close left of those that it told.
     ensures end { SessionEnd S.Start (λ t versions tells leaves.
         C.ends_over words.now result.0 (I.left source.old) (I.left source.new) (K.out sink.old) (K.out sink.new)
+        (I.was_asked source.old) (I.was_asked source.new)
         t (ImageHasVersion (image_at S.Start)) versions tells leaves) result.0 result.1
         (λ inner. IfSome result.2 (λ keeper. keeper.inner ≡ inner)) }
 {
-    let (status, keeper) = run_on_files::<C, _, _, _, L>(rt, words, source, sink, start, blank);
-    if status == 5 || status == 6 {
-        drop(keeper);
-        return (status, None, None);
+    let opener = PathOpener::new(rt, start);
+    let (status, open, unopened) = run_apart::<C, _, _, FileStore<FileFrom<S>>, _, L>(
+        rt, words, source, sink, opener, blank,
+    );
+    match open {
+        Some(keeper) => (status, Some(keeper.close()), unopened),
+        None => {
+            if status == 5 || status == 6 {
+                (status, None, unopened)
+            } else {
+                (status, Some(Ok(None)), unopened)
+            }
+        }
     }
-    if keeper.has_files() {
-        (status, Some(keeper.close()), None)
-    } else {
-        (status, Some(Ok(None)), Some(keeper))
-    }
+}
+
+// Returns the status, and drops what came with it.
+fn status_of<X: Drop, Y: Drop>(ended: (u8, X, Y)) -> u8
+    ensures { result ≡ ended.0 }
+{
+    let (status, closed, unopened) = ended;
+    drop(closed);
+    drop(unopened);
+    status
 }
 
 /// Makes the call over the files that the words name, and closes them unless the keeper failed or the store was refused. Returns
 /// the status.
-pub fn run_session<C: Session, I: Source, K: Sink, S: Start, L: Ledger>(
+pub fn run_session<C: Session, I: Peer<K>, K: Sink, S: Start, L: Ledger>(
     rt: &HostRuntime,
     words: &Texts,
     source: &mut I,
@@ -119,11 +168,6 @@ pub fn run_session<C: Session, I: Source, K: Sink, S: Start, L: Ledger>(
     ensures { C.ends words.now result (I.left source.old) (I.left source.new) (K.out sink.old) (K.out sink.new)
         (I.faults source.old) (I.faults source.new) (K.faults sink.old) (K.faults sink.new) }
 {
-    let (status, closed, unopened) = run_to_close::<C, _, _, _, L>(
-        rt, words, source, sink, start, blank,
-    );
     // A close that fails loses no committed row, and changes no status.
-    drop(closed);
-    drop(unopened);
-    status
+    status_of(run_to_close::<C, _, _, _, L>(rt, words, source, sink, start, blank))
 }

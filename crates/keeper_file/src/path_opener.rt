@@ -1,17 +1,20 @@
 //! Opens the files of a path.
 
-ghost use Rattle.std.specs.Prelude.{◌≡◌, ◌⊎◌, ℤ, false, IfOk, IfErr, IfSome};
+ghost use Rattle.std.specs.Prelude.{◌≡◌, ◌⊎◌, ℤ, true, false, IsSome, IfOk, IfErr, IfSome, OnErr};
 ghost use Rattle.sqlite.specs.State.{HasCleanDisk};
-ghost use Rattle.sqlite.specs.Files.{file_state};
+ghost use Rattle.sqlite.specs.Files.{file_state, IsCleanLeft};
+ghost use Rattle.sqlite_std_file.specs.File.{IsFresh};
 ghost use Rattle.sqlite_wal.specs.Files.{image_at};
 ghost use Rattle.tap_rows.specs.declared.tables.Tables.{Tables as TableRows};
 ghost use Rattle.keeper_sql.specs.Store.{TellsAs, HasVersion};
 ghost use Rattle.keeper_file.specs.Images.{ImageTells, ImageHasVersion};
-ghost use Rattle.keeper_file.specs.Leftovers.{Spares};
+ghost use Rattle.keeper_file.specs.Leftovers.{AreCleanSoFar, Spares};
+ghost use Rattle.keeper_file.specs.Failing.{FailsToOpen, IsAnsweredBy};
 
 use crate::opener::Opener;
 use keeper_core::AttachFault;
-use sqlite::{Connection, Error, ErrorCode, FileFrom, FileStore, Leftover, Start};
+use keeper_sql::is_memory;
+use sqlite::{Connection, Error, FileFrom, FileStore, Leftover, Start};
 use sqlite_disk::Disk;
 
 /// Opens the file of a path, where the files held what `S` says, and keeps what is left of them if that failed.
@@ -37,12 +40,15 @@ impl<'a, S: Start> PathOpener<'a, S, FileFrom<S>> {
     }
 }
 
-fn fault_of(error: Error) -> AttachFault
-    ensures { (result ≡ AttachFault.Memory) ⊎ (result ≡ AttachFault.Failed) }
+// Returns what an attach answers that met this error.
+fn fault_of(error: &Error) -> AttachFault
+    ensures kind { (result ≡ AttachFault.Memory) ⊎ (result ≡ AttachFault.Failed) }
+    ensures by_error { IsAnsweredBy error.now result }
 {
-    match error {
-        Error::SqliteFailure(ErrorCode::OutOfMemory) => AttachFault::Memory,
-        _ => AttachFault::Failed,
+    if is_memory(error) {
+        AttachFault::Memory
+    } else {
+        AttachFault::Failed
     }
 }
 
@@ -59,10 +65,14 @@ fn opened_from<S: Start>(
         → HasVersion (file_state c) v) }
     ensures kind { IfErr result (λ e. (e.0 ≡ AttachFault.Memory) ⊎ (e.0 ≡ AttachFault.Failed)) }
     ensures left { IfErr result (λ e. IfSome e.1 (Spares (image_at S.Start))) }
+
+    // If something is left of the files, and the disk was honest: why the open failed.
+    ensures fails { IfErr result (λ e. IfSome e.1 (λ left. IsCleanLeft left → (files : _) × IsFresh true files.log × IsFresh false files.db
+        × FailsToOpen files left e.0)) }
 {
     match Connection::open_from(rt, path, false, start) {
         Ok(connection) => Ok(connection),
-        Err((error, left)) => Err((fault_of(error), left)),
+        Err((error, left)) => Err((fault_of(&error), left)),
     }
 }
 
@@ -72,7 +82,22 @@ impl<S: Start> Opener<FileStore<FileFrom<S>>> for PathOpener<'_, S, FileFrom<S>>
 
     ghost files = { path_files S.Start };
 
-    fn open(&mut self, at: &str) -> Result<Connection<FileStore<FileFrom<S>>>, AttachFault> {
+    fn open(&mut self, at: &str) -> Result<Connection<FileStore<FileFrom<S>>>, AttachFault>
+        ensures idle { IfOk result (λ c. c.in_transaction ≡ false) }
+        ensures told { IfOk result (λ c. HasCleanDisk (file_state c) → (t : TableRows) → ImageTells (image_at S.Start) t
+            → TellsAs false (file_state c) t) }
+        ensures version { IfOk result (λ c. HasCleanDisk (file_state c) → (v : ℤ) → ImageHasVersion (image_at S.Start) v
+            → HasVersion (file_state c) v) }
+        ensures clean { IfOk result (λ c. HasCleanDisk (file_state c) → AreCleanSoFar (image_at S.Start) self.old.start self.old.left) }
+        ensures clean_left { OnErr result (AreCleanSoFar (image_at S.Start) self.new.start self.new.left
+            → AreCleanSoFar (image_at S.Start) self.old.start self.old.left) }
+        ensures kind { IfErr result (λ fault. (fault ≡ AttachFault.Memory) ⊎ (fault ≡ AttachFault.Failed)) }
+
+        // Beside the trait's clauses: if this was the first open, it left something of the files, and the disk was honest, why it
+        // failed. Why the system refused to open the files is in no clause of `sqlite`.
+        ensures fails { IsSome self.old.start → IfErr result (λ fault. IfSome self.new.left (λ left. IsCleanLeft left
+            → (files : _) × IsFresh true files.log × IsFresh false files.db × FailsToOpen files left fault)) }
+    {
         let Some(start) = self.start.take() else {
             return Err(AttachFault::Failed);
         };

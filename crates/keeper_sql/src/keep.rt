@@ -13,7 +13,7 @@ use keeper_core::CommitFault;
 use sqlite::{Alter, Connection, Error, ErrorCode, Statement};
 use tap_rows::Change;
 
-// Does the error say that the call was out of memory?
+/// Returns whether the error says that the call was out of memory.
 pub fn is_memory(error: &Error) -> bool
     ensures { IsTrue result ↔ (error.now ≡ Error.SqliteFailure ErrorCode.OutOfMemory) }
 {

@@ -16,4 +16,5 @@ mod runs;
 mod sql_keeper;
 mod version;
 
+pub use keep::is_memory;
 pub use sql_keeper::SqlKeeper;

@@ -1,8 +1,15 @@
 //! The keeper over a connection to a database.
 
-ghost use Rattle.std.specs.Prelude.{◌≡◌, false, None};
+ghost use Rattle.std.specs.Prelude.{◌≡◌, ◌≢◌, ◌⊎◌, ◌↔◌, ◌≤◌, ℤ, pos, true, false, [], None, Err, IsOk, IfOk, IfErr, OnOk, unwrap_or};
 ghost use Rattle.sqlite.specs.Held.{state};
+ghost use Rattle.sqlite.specs.State.{HasCleanDisk};
+ghost use Rattle.tap_base.specs.Counts.{Rose};
+ghost use Rattle.tap_rows.specs.Tables.{after};
+ghost use Rattle.tap_rows.specs.declared.tables.Tables.{Tables as TableRows};
+ghost use Rattle.keeper_core.specs.Keeping.{IsDurable, IfAlien, Extends};
 ghost use Rattle.keeper_sql.specs.Calls.{IsSettled, IsSettled-prop};
+ghost use Rattle.keeper_sql.specs.Failing.{FailsToAttach, FailsToKeep};
+ghost use Rattle.keeper_sql.specs.Store.{TellsAs, HasVersion, MayLeave};
 
 use crate::keep::{is_settled, keep};
 use crate::opened::open_kept;
@@ -61,7 +68,6 @@ impl<S: Alter> SqlKeeper<S> {
 
 impl<S: Alter> Keeper for SqlKeeper<S> {
     ghost use Rattle.std.specs.Prelude.{List, ℕ, [], unwrap_or};
-    ghost use Rattle.sqlite.specs.State.{HasCleanDisk};
     ghost use Rattle.keeper_sql.specs.Store.{TellsAs, MayLeave, HasVersion};
     ghost use Rattle.keeper_sql.specs.Telling.{tells_one, told_left, told_alone};
 
@@ -81,7 +87,44 @@ impl<S: Alter> Keeper for SqlKeeper<S> {
 
     ghost faults = { λ k. k.faults };
 
-    fn attach(&mut self, alloc: Global, at: &str) -> Result<Tables, AttachFault> {
+    fn attach(&mut self, alloc: Global, at: &str) -> Result<Tables, AttachFault>
+        requires free { self.old.attached ≡ false }
+        requires running { self.old.stopped ≡ false }
+        ensures attached { (self.new.attached ≡ true) ↔ IsOk result }
+        ensures stopped { (self.new.stopped ≡ true) ↔ (result ≡ Err AttachFault.Failed) }
+        ensures placed { (unwrap_or self.new.place [] ≡ at.now)
+            ⊎ ((result ≡ Err AttachFault.Memory) × (unwrap_or self.new.place [] ≡ unwrap_or self.old.place [])) }
+        ensures stays { result ≡ Err AttachFault.Memory → unwrap_or self.new.place [] ≡ unwrap_or self.old.place [] }
+        ensures later { self.old.faults ≤ self.new.faults }
+        ensures cause { result ≡ Err AttachFault.Failed → Rose self.old.faults self.new.faults }
+        ensures calm { self.new.stopped ≡ false → self.new.faults ≡ self.old.faults }
+        ensures honest { HasCleanDisk (state S.Store self.new.connection) → HasCleanDisk (state S.Store self.old.connection) }
+        ensures given { IfOk result (λ given. HasCleanDisk (state S.Store self.new.connection) → (s : TableRows)
+            → TellsAs self.old.attached (state S.Store self.old.connection) s → s ≡ given) }
+        ensures kept { HasCleanDisk (state S.Store self.new.connection) → (s : TableRows)
+            → TellsAs self.old.attached (state S.Store self.old.connection) s → self.new.stopped ≡ false
+            → IsDurable (TellsAs self.new.attached (state S.Store self.new.connection)) (MayLeave (state S.Store self.new.connection)) s }
+        ensures crash { HasCleanDisk (state S.Store self.new.connection) → (s : TableRows)
+            → TellsAs self.old.attached (state S.Store self.old.connection) s → (x : TableRows)
+            → MayLeave (state S.Store self.new.connection) x → x ≡ s }
+        ensures answered { IfOk result (λ given. HasCleanDisk (state S.Store self.new.connection) → (t : TableRows)
+            → TellsAs self.new.attached (state S.Store self.new.connection) t → t ≡ given) }
+        ensures version { OnOk result (HasCleanDisk (state S.Store self.new.connection) → (t : TableRows)
+            → TellsAs self.new.attached (state S.Store self.new.connection) t → HasVersion (state S.Store self.new.connection) (pos 2)) }
+        ensures known { HasCleanDisk (state S.Store self.new.connection) → (v : ℤ)
+            → HasVersion (state S.Store self.old.connection) v → OnOk result ((v ≡ pos 1) ⊎ (v ≡ pos 2)) }
+        ensures alien { IfAlien result (λ v. (v ≢ pos 1) × (v ≢ pos 2)) }
+        ensures same { IfAlien result (λ v. HasCleanDisk (state S.Store self.new.connection) → (w : ℤ)
+            → HasVersion (state S.Store self.old.connection) w → (w ≡ v) × HasVersion (state S.Store self.new.connection) w) }
+        ensures migrated { result ≡ Err AttachFault.Memory → HasCleanDisk (state S.Store self.new.connection) → (w : ℤ)
+            → HasVersion (state S.Store self.old.connection) w → HasVersion (state S.Store self.new.connection) w
+            ⊎ ((w ≡ pos 1) × HasVersion (state S.Store self.new.connection) (pos 2)) }
+
+        // Beside the trait's clauses: it was out of memory before it used the store, or its open failed by one of the calls below.
+        ensures fails { HasCleanDisk (state S.Store self.new.connection) → IfErr result (λ fault.
+            ((fault ≡ AttachFault.Memory) × (self.new.connection ≡ self.old.connection))
+            ⊎ FailsToAttach S.Store self.old.connection self.new.connection fault) }
+    {
         // For its clauses, which a failure needs.
         let _before = is_settled(&self.connection);
         // Taken first: what comes later than the open of the store takes no memory.
@@ -108,7 +151,34 @@ impl<S: Alter> Keeper for SqlKeeper<S> {
         }
     }
 
-    fn commit(&mut self, change: &Change) -> Result<(), CommitFault> {
+    fn commit(&mut self, change: &Change) -> Result<(), CommitFault>
+        requires ready { self.old.attached ≡ true }
+        requires running { self.old.stopped ≡ false }
+        ensures same { (unwrap_or self.new.place [] ≡ unwrap_or self.old.place []) × (self.new.attached ≡ self.old.attached) }
+        ensures stopped { (self.new.stopped ≡ true) ↔ (result ≡ Err CommitFault.Failed) }
+        ensures later { self.old.faults ≤ self.new.faults }
+        ensures cause { result ≡ Err CommitFault.Failed → Rose self.old.faults self.new.faults }
+        ensures calm { self.new.stopped ≡ false → self.new.faults ≡ self.old.faults }
+        ensures honest { HasCleanDisk (state S.Store self.new.connection) → HasCleanDisk (state S.Store self.old.connection) }
+        ensures ok { HasCleanDisk (state S.Store self.new.connection) → (s : TableRows)
+            → TellsAs self.old.attached (state S.Store self.old.connection) s → Extends change.now s
+            → OnOk result (IsDurable (TellsAs self.new.attached (state S.Store self.new.connection))
+            (MayLeave (state S.Store self.new.connection)) (after s change.now)) }
+        ensures memory { HasCleanDisk (state S.Store self.new.connection) → (s : TableRows)
+            → TellsAs self.old.attached (state S.Store self.old.connection) s → result ≡ Err CommitFault.Memory
+            → IsDurable (TellsAs self.new.attached (state S.Store self.new.connection)) (MayLeave (state S.Store self.new.connection)) s }
+        ensures crash { HasCleanDisk (state S.Store self.new.connection) → (s : TableRows)
+            → TellsAs self.old.attached (state S.Store self.old.connection) s → Extends change.now s
+            → (x : TableRows) → MayLeave (state S.Store self.new.connection) x → (x ≡ s) ⊎ (x ≡ after s change.now) }
+        ensures version { HasCleanDisk (state S.Store self.new.connection) → (s : TableRows)
+            → TellsAs self.old.attached (state S.Store self.old.connection) s → Extends change.now s
+            → (v : ℤ) → HasVersion (state S.Store self.old.connection) v → self.new.stopped ≡ false
+            → HasVersion (state S.Store self.new.connection) v }
+
+        // Beside the trait's clauses: a statement or the commit failed.
+        ensures fails { HasCleanDisk (state S.Store self.new.connection)
+            → IfErr result (FailsToKeep S.Store self.old.connection self.new.connection change.now) }
+    {
         let kept = keep(&mut self.connection, change);
         let _after = is_settled(&self.connection);
         match kept {

@@ -5,7 +5,10 @@ use Rattle.std.specs.Io.KnownBytes.{IsAtEnd}
 use Rattle.tap_rows.specs.declared.tables.Tables.{Tables}
 use Rattle.tap_top.specs.Premises.{IfKnown}
 use Rattle.pop_session.specs.declared.letter.Letter.{Letter}
-use Rattle.pop_session.specs.Ends.{IsSession, LettersEnd}
+use Rattle.pop_session.specs.Ends.{IsSession, LettersEnd, IsUpToDate}
+use Rattle.peer_edges.specs.Asks.{AskedOnlyWhen}
+use Rattle.peer_edges.proofs.Asks.{asked_as}
+use Rattle.pop_box.specs.Prompt.{IsBoxUpToDate, AskedUpToDate}
 use Rattle.pop_box.specs.Letters.{letters_in}
 use Rattle.pop_box.specs.Served.{BoxLine, BoxServed, LettersServed, IsUnserved, Served, TookQuit}
 
@@ -134,3 +137,26 @@ at-end status letters user secret left left' out out' ends is = (ends.ended is).
 
 pub served-not-two : (status : ℕ) → IsSession status ⊎ ((status ≡ 7) ⊎ (status ≡ 9)) → status ≡ 2 → ⊥
 served-not-two status one is = grind (arith, one, is)
+
+up-as : (letters letters' : List Letter) (found : Option (List Letter)) (user secret : List ℕ) (left left' out out' : Option (List ℕ))
+    → letters' ≡ letters → Some letters ≡ found → IsUpToDate user secret letters' left left' out out' → IsBoxUpToDate found user secret left left' out out'
+up-as letters letters' found user secret left left' out out' same is now =
+    subst (λ f. IsBoxUpToDate f user secret left left' out out') is (subst (λ x. IsUpToDate user secret x left left' out out') same now)
+
+-- when the source was asked, with the words' own user, box and secret
+pub asked-words : (t : Tables) (user user' name name' secret secret' : List ℕ) (left out : Option (List ℕ)) (asked asked' : Option (List ℕ) → Option (List ℕ) → Type 0)
+    → user ≡ user' → name ≡ name' → secret ≡ secret'
+    → AskedUpToDate (letters_in user name t) user secret left out asked asked' → AskedUpToDate (letters_in user' name' t) user' secret' left out asked asked'
+asked-words t user user' name name' secret secret' left out asked asked' u n s asks =
+    subst (λ x. AskedUpToDate (letters_in user' name' t) user' x left out asked asked') s
+    (subst (λ x. AskedUpToDate (letters_in user' x t) user' secret left out asked asked') n
+    (subst (λ x. AskedUpToDate (letters_in x name t) x secret left out asked asked') u asks))
+
+-- when it was asked, over the letters of the box of this user and name
+pub asked-letters : (letters letters' : List Letter) (t : Tables) (user user' name name' secret secret' : List ℕ) (left out : Option (List ℕ)) (asked asked' : Option (List ℕ) → Option (List ℕ) → Type 0)
+    → user ≡ user' → name ≡ name' → secret ≡ secret' → letters' ≡ letters → Some letters ≡ letters_in user name t
+    → AskedOnlyWhen (λ l o. IsUpToDate user secret letters' left l out o) asked asked' → AskedUpToDate (letters_in user' name' t) user' secret' left out asked asked'
+asked-letters letters letters' t user user' name name' secret secret' left out asked asked' u n s same is asks =
+    asked-words t user user' name name' secret secret' left out asked asked' u n s
+    (asked_as (λ l o. IsUpToDate user secret letters' left l out o) (λ l o. IsBoxUpToDate (letters_in user name t) user secret left l out o) asked asked'
+    (λ l o now. up-as letters letters' (letters_in user name t) user secret left l out o same is now) asks)

@@ -19,22 +19,24 @@ ghost use Rattle.tap_top.specs.Causes.{Causes};
 ghost use Rattle.pop_box.specs.Letters.{letters_in};
 ghost use Rattle.tap_engine.specs.Standing.{OverSound};
 ghost use Rattle.pop_session.specs.Ends.{IsSession, TookMany};
+ghost use Rattle.pop_box.specs.Prompt.{AskedUpToDate};
 ghost use Rattle.pop_box.specs.Served.{LettersServed, Served, TookQuit, Unchanged, IsUndisturbed};
 
 use crate::letters::letters_from;
 use crate::no_box::refuse_box;
 use command_words::{OptionFault, PopWords, read_pop_words};
 use keeper_core::Keeper;
+use peer_edges::Peer;
 use pop_session::hold_session;
 use std::alloc::Global;
 use std::sync::ledger::Ledger;
 use tap_base::{HashKey, Memory, Steps, Texts};
-use tap_edges::{Sink, Source};
+use tap_edges::Sink;
 use tap_engine::Engine;
 use tap_top::{OpenFault, open_store, refuse};
 
 // Holds a session over the letters of the box, which are copied out of the engine; returns the status.
-fn serve_with<S: Source, K: Sink, L: Ledger>(
+fn serve_with<S: Peer<K>, K: Sink, L: Ledger>(
     alloc: Global,
     asked: &PopWords,
     source: &mut S,
@@ -46,6 +48,9 @@ fn serve_with<S: Source, K: Sink, L: Ledger>(
     ensures session { OverSound engine (λ t.
         LettersServed result (letters_in asked.now.user asked.now.name t) asked.now.user asked.now.secret
         (S.left source.old) (S.left source.new) (K.out sink.old) (K.out sink.new)) }
+    ensures prompt { OverSound engine (λ t.
+        AskedUpToDate (letters_in asked.now.user asked.now.name t) asked.now.user asked.now.secret
+        (S.left source.old) (K.out sink.old) (S.was_asked source.old) (S.was_asked source.new)) }
     ensures statuses { IsSession result ⊎ ((result ≡ 7) ⊎ (result ≡ 9)) }
     ensures read_cause { result ≡ 3 → Rose (S.faults source.old) (S.faults source.new) }
     ensures read_calm { result ≢ 3 → S.faults source.new ≡ S.faults source.old }
@@ -70,7 +75,7 @@ fn serve_with<S: Source, K: Sink, L: Ledger>(
 }
 
 // Opens the store at the place that the words name, and holds a session over the letters of the box; returns the status.
-fn serve_box<S: Source, K: Sink, P: Keeper, L: Ledger>(
+fn serve_box<S: Peer<K>, K: Sink, P: Keeper, L: Ledger>(
     alloc: Global,
     key: HashKey,
     asked: &PopWords,
@@ -83,6 +88,9 @@ fn serve_box<S: Source, K: Sink, P: Keeper, L: Ledger>(
     ensures session { FromStore P.Keeper keeper.old keeper.new (λ t.
         Served result (letters_in asked.now.user asked.now.name t) asked.now.user asked.now.secret
         (S.left source.old) (S.left source.new) (K.out sink.old) (K.out sink.new) (P.has_version keeper.old)) }
+    ensures prompt { FromStore P.Keeper keeper.old keeper.new (λ t.
+        AskedUpToDate (letters_in asked.now.user asked.now.name t) asked.now.user asked.now.secret
+        (S.left source.old) (K.out sink.old) (S.was_asked source.old) (S.was_asked source.new)) }
     ensures unchanged { FromDurable P.Keeper keeper.old keeper.new (λ t.
         Unchanged result t (P.tells keeper.new) (P.may_leave keeper.new)) }
     ensures version { FromDurable P.Keeper keeper.old keeper.new (λ t.
@@ -124,7 +132,7 @@ fn serve_box<S: Source, K: Sink, P: Keeper, L: Ledger>(
 /// - 7: out of memory; nothing was read or written;
 /// - 8: no QUIT was accepted among the first 268,435,456 bytes, and more were taken;
 /// - 9: there is no such box, and the line `-ERR box` says so; nothing was read.
-pub fn serve<S: Source, K: Sink, P: Keeper, L: Ledger>(
+pub fn serve<S: Peer<K>, K: Sink, P: Keeper, L: Ledger>(
     alloc: Global,
     key: HashKey,
     words: &Texts,
@@ -151,6 +159,12 @@ pub fn serve<S: Source, K: Sink, P: Keeper, L: Ledger>(
     ensures session { FromStore P.Keeper keeper.old keeper.new (λ t.
         Served result (letters_in (user_in words.now) (box_in words.now) t) (user_in words.now) (secret_in words.now)
         (S.left source.old) (S.left source.new) (K.out sink.old) (K.out sink.new) (P.has_version keeper.old)) }
+
+    // Over such a store, whenever the source was asked for more, the greeting and the replies to all requests that were complete
+    // in the bytes taken so far were out, whole, and nothing else; and no QUIT among them was accepted.
+    ensures prompt { FromStore P.Keeper keeper.old keeper.new (λ t.
+        AskedUpToDate (letters_in (user_in words.now) (box_in words.now) t) (user_in words.now) (secret_in words.now)
+        (S.left source.old) (K.out sink.old) (S.was_asked source.old) (S.was_asked source.new)) }
 
     // Whatever the store holds, its tables are unchanged, and, unless the keeper failed, its version is the one before, or 2 if
     // that was 1.

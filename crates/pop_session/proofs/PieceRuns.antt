@@ -8,6 +8,8 @@ use Rattle.std.proofs.lemmas.Grind.{common_steps}
 use Rattle.tap_edges.specs.declared.edges.PutFailed.{PutFailed}
 use Rattle.tap_edges.specs.Puts.{TookSome}
 use Rattle.tap_edges.proofs.Puts.{Appends-more, Appends-none}
+use Rattle.peer_edges.specs.Asks.{AskedOnlyWhen}
+use Rattle.peer_edges.proofs.Asks.{asked_more, asked_as}
 use Rattle.pop_session.specs.declared.hold.TheConstants.{SESSION_LIMIT, PIECE}
 use Rattle.pop_session.specs.declared.letter.Letter.{Letter}
 use Rattle.pop_session.specs.Replies.{greeting}
@@ -184,6 +186,18 @@ Answering-read left mid new taken f g q p out out1 before le same =
       written = s.written;
     }
 
+Keeps-same : (a : Option (List ℕ)) → Keeps a a
+Keeps-same None = tt
+Keeps-same (Some xs) = refl
+
+-- the source is asked once more
+pub Answering-asked : (left mid : Option (List ℕ)) (taken : ℕ) (f g : List ℕ → List ℕ) (q p : List ℕ → Bool) (out out1 : Option (List ℕ))
+    (asked before asked' : Option (List ℕ) → Option (List ℕ) → Type 0)
+    → AskedOnlyWhen (λ l o. OpenEnd f q left l out o) asked before → Answering left mid taken f g q p out out1 → taken ≤ SESSION_LIMIT
+    → AskedOnlyWhen (λ l o. (l ≡ mid) × (o ≡ out1)) before asked' → AskedOnlyWhen (λ l o. OpenEnd f q left l out o) asked asked'
+Answering-asked left mid taken f g q p out out1 asked before asked' so_far now le once =
+    asked_more (λ l o. OpenEnd f q left l out o) mid out1 asked before asked' so_far (Answering-read left mid mid taken f g q p out out1 now le (Keeps-same mid)) once
+
 -- status 1
 pub Answering-end : (left mid new : Option (List ℕ)) (taken : ℕ) (f g : List ℕ → List ℕ) (q p : List ℕ → Bool) (out out1 : Option (List ℕ))
     → Answering left mid taken f g q p out out1 → taken ≤ SESSION_LIMIT → Consumes mid new [] → OpenEnd f q left new out out1
@@ -318,6 +332,14 @@ greeted-ends f h q r left new out out1 out2 first status replies quits before en
           is = ap (λ xs. first ++ xs) early.is ∙ sym (append_assoc first (f (take (length end.taken.bytes - PIECE) end.taken.bytes)) early.rest) ∙ ap (λ xs. xs ++ early.rest) (sym (replies (take (length end.taken.bytes - PIECE) end.taken.bytes)));
         };
       }
+
+-- whenever it was asked, with the bytes that were put before it
+pub greeted-asks : (f h : List ℕ → List ℕ) (q r : List ℕ → Bool) (left out out1 : Option (List ℕ)) (first : List ℕ) (asked asked' : Option (List ℕ) → Option (List ℕ) → Type 0)
+    → ((bytes : List ℕ) → h bytes ≡ first ++ f bytes) → ((bytes : List ℕ) → r bytes ≡ q bytes)
+    → Appends out out1 first → AskedOnlyWhen (λ l o. OpenEnd f q left l out1 o) asked asked' → AskedOnlyWhen (λ l o. OpenEnd h r left l out o) asked asked'
+greeted-asks f h q r left out out1 first asked asked' replies quits before asks = asked_as (λ l o. OpenEnd f q left l out1 o) (λ l o. OpenEnd h r left l out o) asked asked' opened asks where
+  opened : (l o : Option (List ℕ)) → OpenEnd f q left l out1 o → OpenEnd h r left l out o
+  opened l o end = record { taken = end.taken; fits = end.fits; no_quit = quits end.taken.bytes ∙ end.no_quit; written = subst (Appends out o) (sym (replies end.taken.bytes)) (Appends-more out out1 o first (f end.taken.bytes) before end.written) }
 
 -- the greeting was cut off
 pub greeting-cut : (h : List ℕ → List ℕ) (r : List ℕ → Bool) (left out out' : Option (List ℕ)) (first : List ℕ) (failed : PutFailed)

@@ -69,3 +69,10 @@ abbrev pub LettersEnd :
     ℕ → List ℕ → List ℕ → List Letter → Option (List ℕ) → Option (List ℕ) → Option (List ℕ) → Option (List ℕ) → Type 0
 LettersEnd status user secret letters left left' out out' =
     SessionEnds (λ bytes. pop_replies bytes user secret letters) (λ bytes. has_quit bytes user secret) left left' out out' status greeting
+
+-- a session of this user over these letters that goes on: the greeting and the replies to the bytes taken so far were put, and
+-- no QUIT among them was accepted
+abbrev pub IsUpToDate :
+    List ℕ → List ℕ → List Letter → Option (List ℕ) → Option (List ℕ) → Option (List ℕ) → Option (List ℕ) → Type 0
+IsUpToDate user secret letters left left' out out' =
+    OpenEnd (λ bytes. pop_replies bytes user secret letters) (λ bytes. has_quit bytes user secret) left left' out out'

@@ -3,11 +3,13 @@ ghost use Rattle.std.specs.Prelude.{◌≡◌, ◌≢◌, [], min};
 ghost use Rattle.tap_base.specs.Counts.{Rose};
 ghost use Rattle.pop_session.specs.declared.outcome.Phase.{Phase};
 ghost use Rattle.pop_session.specs.Sessions.{AreShort, IsReady, replies_from, quits_from};
-ghost use Rattle.pop_session.specs.Ends.{SessionEnds, TookMany, IsSession, LettersEnd};
+ghost use Rattle.pop_session.specs.Ends.{SessionEnds, TookMany, IsSession, LettersEnd, OpenEnd, IsUpToDate};
+ghost use Rattle.peer_edges.specs.Asks.{AskedOnlyWhen};
 
 use crate::laws::replies_grow;
 use crate::{Letter, PopSession};
-use tap_edges::{Sink, Source};
+use peer_edges::Peer;
+use tap_edges::Sink;
 
 /// The most bytes that a session looks at: 256 MiB.
 pub const SESSION_LIMIT: usize = 268435456;
@@ -23,7 +25,7 @@ fn least(a: usize, b: usize) -> usize
 }
 
 // Takes the pieces of the source and puts the replies to each before the next one is read; returns the status.
-fn answer_pieces<S: Source, K: Sink>(
+fn answer_pieces<S: Peer<K>, K: Sink>(
     session: &mut PopSession<'_>,
     source: &mut S,
     sink: &mut K,
@@ -33,6 +35,9 @@ fn answer_pieces<S: Source, K: Sink>(
     requires first { session.old.phase ≡ Phase.Authorization }
     ensures ends { SessionEnds (replies_from session.old) (quits_from session.old) (S.left source.old) (S.left source.new)
         (K.out sink.old) (K.out sink.new) result [] }
+    ensures prompt { AskedOnlyWhen (λ l o.
+        OpenEnd (replies_from session.old) (quits_from session.old) (S.left source.old) l (K.out sink.old) o)
+        (S.was_asked source.old) (S.was_asked source.new) }
     ensures statuses { IsSession result }
     ensures read_cause { result ≡ 3 → Rose (S.faults source.old) (S.faults source.new) }
     ensures read_calm { result ≢ 3 → S.faults source.new ≡ S.faults source.old }
@@ -44,7 +49,7 @@ fn answer_pieces<S: Source, K: Sink>(
     let mut piece = [0u8; PIECE];
     let mut taken = 0;
     'pieces: while taken <= SESSION_LIMIT {
-        let n = match source.piece(&mut piece) {
+        let n = match source.ask(sink, &mut piece) {
             Ok(n) => n,
             Err(_) => return 3,
         };
@@ -64,7 +69,7 @@ fn answer_pieces<S: Source, K: Sink>(
 
 /// Holds a session of the user over these letters: greets, and answers the requests of the source, up to an accepted QUIT, in
 /// pieces of at most 65,536 bytes. It takes no memory. Returns the status: 0, 1, 3, 4 or 8, as `serve` has them.
-pub fn hold_session<S: Source, K: Sink>(
+pub fn hold_session<S: Peer<K>, K: Sink>(
     user: &[u8],
     secret: &[u8],
     letters: &[Letter],
@@ -73,6 +78,10 @@ pub fn hold_session<S: Source, K: Sink>(
 ) -> u8
     requires { AreShort letters.now }
     ensures ends { LettersEnd result user.now secret.now letters.now (S.left source.old) (S.left source.new) (K.out sink.old) (K.out sink.new) }
+
+    // Whenever the source was asked for more, exactly the greeting and the replies to the bytes taken so far were out.
+    ensures prompt { AskedOnlyWhen (λ l o. IsUpToDate user.now secret.now letters.now (S.left source.old) l (K.out sink.old) o)
+        (S.was_asked source.old) (S.was_asked source.new) }
     ensures statuses { IsSession result }
     ensures read_cause { result ≡ 3 → Rose (S.faults source.old) (S.faults source.new) }
     ensures read_calm { result ≢ 3 → S.faults source.new ≡ S.faults source.old }

@@ -15,8 +15,10 @@ fn written(alloc: Global, script: &[u8], size: usize) -> Result<Text, Memory> {
     let Left {
         status: _,
         written,
+        told,
         probe,
     } = left?;
+    drop(told);
     drop(probe);
     Ok(written)
 }

@@ -258,8 +258,10 @@ fn opened_over(alloc: Global, tables: &Tables) -> Result<(u8, Text), Memory> {
     let Left {
         status,
         written,
+        told,
         probe,
     } = left_by(alloc, tables, b"", 7, Failure::Nothing)?;
+    drop(told);
     drop(probe);
     Ok((status, written))
 }

@@ -1,7 +1,7 @@
-//! Each call of the source, the sink and the keeper fails once.
+//! Each call of the source, the sink and the keeper fails once: which commands are then done, and what is left.
 
 use crate::prefixes::Prefixes;
-use crate::scripts::{FIRST, SECOND, TWO_USERS, text_of};
+use crate::scripts::{FIRST, SECOND, TWO_USERS, adds_rows, text_of};
 use crate::sessions::{Failure, Left, left_by};
 use keeper_core::KeepPlan;
 use session_runs::tables_after;
@@ -64,15 +64,6 @@ fn first_left(alloc: Global) -> Result<Tables, Memory> {
     tables
 }
 
-// Returns the case of this number.
-fn numbered(alloc: Global, number: u8) -> Result<Case, Memory> {
-    match number {
-        0 => case_of(alloc, Tables::empty(alloc), &FIRST),
-        1 => case_of(alloc, first_left(alloc)?, &SECOND),
-        _ => case_of(alloc, Tables::empty(alloc), &TWO_USERS),
-    }
-}
-
 // Which calls fail.
 #[derive(Clone, Copy)]
 enum Calls {
@@ -90,41 +81,80 @@ fn failure_at(calls: Calls, call: u64) -> Failure {
     }
 }
 
-impl Case {
-    // Tells whether a run did the first commands for some number of them, and left those rows and so many commands more.
-    fn is_after_some(&self, left: &Left, more: usize) -> bool {
-        for n in 0..self.prefixes.written.len() {
-            let then = n.saturating_add(more);
-            if self.prefixes.is_after(n, then, &left.written, &left.probe) {
-                return true;
-            }
+// Returns how many commands are complete in the first bytes of a script.
+fn complete_in(commands: &[&[u8]], bytes: u64) -> usize {
+    let mut end = 0u64;
+    for (n, command) in commands.iter().enumerate() {
+        end = end.saturating_add(command.len() as u64);
+        if end > bytes {
+            return n;
         }
-        false
+    }
+    commands.len()
+}
+
+// Returns how many commands stand before the one that makes this call of the keeper. The first call attaches.
+fn before_commit(commands: &[&[u8]], call: u64) -> usize {
+    let mut commits = 0u64;
+    for (n, command) in commands.iter().enumerate() {
+        if adds_rows(command) {
+            commits = commits.saturating_add(1);
+        }
+        if commits == call {
+            return n;
+        }
+    }
+    commands.len()
+}
+
+impl Case {
+    // Tells whether a run wrote the replies of the first `n` commands, its keeper tells their tables, and a crash leaves those
+    // of the first `then`.
+    fn is_after(&self, left: &Left, n: usize, then: usize) -> bool {
+        self.prefixes.is_after(n, then, &left.written, &left.probe)
+            && self.prefixes.shows(n, &left.told)
     }
 
-    // Tells whether a run is right that one of these calls stopped. A read: nothing but the commands before is done. A put:
-    // what was answered is done. A call of the keeper: the command that made it is not answered, and its rows are there if
-    // they were stored; the first call attaches, and stores nothing.
-    fn is_right(&self, left: &Left, calls: Calls, call: u64) -> bool {
+    // Tells whether a run wrote the replies of the first `n` commands and this many bytes of the next, and its keeper tells the
+    // tables of all these, which a crash leaves.
+    fn is_cut(&self, left: &Left, n: usize, out: usize) -> bool {
+        let done = n.saturating_add(1);
+        self.prefixes.is_cut(n, out, &left.written)
+            && self.prefixes.shows(done, &left.told)
+            && self.prefixes.shows(done, &left.probe)
+    }
+
+    // Tells whether a run is right that one of these calls stopped. A read: the commands that are complete in the bytes of the
+    // reads before are done. A put, of which there is one a command: that command is done too. A call of the keeper: the
+    // commands before the one that made it are done, and a crash leaves its rows too if they were stored.
+    fn is_right(&self, commands: &[&[u8]], left: &Left, calls: Calls, call: u64) -> bool {
         match calls {
-            Calls::Reads => left.status == 3 && self.is_after_some(left, 0),
-            Calls::Puts(_) => {
-                left.status == 4 && self.prefixes.is_within(&left.written, &left.probe)
+            Calls::Reads => {
+                let n = complete_in(commands, call.saturating_mul(7));
+                left.status == 3 && self.is_after(left, n, n)
             }
+            Calls::Puts(out) => left.status == 4 && self.is_cut(left, call as usize, out),
             Calls::Keeps(kept) => {
+                let n = before_commit(commands, call);
                 let more = if kept && call > 0 { 1 } else { 0 };
-                left.status == 5 && self.is_after_some(left, more)
+                left.status == 5 && self.is_after(left, n, n.saturating_add(more))
             }
         }
     }
 
     // Runs in pieces of seven bytes, where the call of this number fails; returns how the run ended.
-    fn ended(&self, alloc: Global, calls: Calls, call: u64) -> Result<Ended, Memory> {
+    fn ended(
+        &self,
+        alloc: Global,
+        commands: &[&[u8]],
+        calls: Calls,
+        call: u64,
+    ) -> Result<Ended, Memory> {
         let failure = failure_at(calls, call);
         let left = left_by(alloc, &self.base, self.script.as_slice(), 7, failure)?;
         let ended = if left.status < 2 {
             Ended::NoCall
-        } else if self.is_right(&left, calls, call) {
+        } else if self.is_right(commands, &left, calls, call) {
             Ended::Right
         } else {
             Ended::Wrong
@@ -134,9 +164,9 @@ impl Case {
     }
 
     // Returns the number of calls that failed, each rightly, until a run ended without a failure; 0 if something is wrong.
-    fn right_ends(&self, alloc: Global, calls: Calls) -> Result<u64, Memory> {
+    fn right_ends(&self, alloc: Global, commands: &[&[u8]], calls: Calls) -> Result<u64, Memory> {
         for call in 0..100u64 {
-            let got = self.ended(alloc, calls, call)?;
+            let got = self.ended(alloc, commands, calls, call)?;
             if got == Ended::NoCall {
                 return Ok(call);
             }
@@ -148,12 +178,21 @@ impl Case {
     }
 }
 
-// Returns that number for the case of this number.
-fn right_ends(alloc: Global, number: u8, calls: Calls) -> Result<u64, Memory> {
-    let case = numbered(alloc, number)?;
-    let ends = case.right_ends(alloc, calls);
+// Returns that number for a script over these tables.
+fn ends_over(alloc: Global, base: Tables, commands: &[&[u8]], calls: Calls) -> Result<u64, Memory> {
+    let case = case_of(alloc, base, commands)?;
+    let ends = case.right_ends(alloc, commands, calls);
     drop(case);
     ends
+}
+
+// Returns that number for the script of this number.
+fn right_ends(alloc: Global, number: u8, calls: Calls) -> Result<u64, Memory> {
+    match number {
+        0 => ends_over(alloc, Tables::empty(alloc), &FIRST, calls),
+        1 => ends_over(alloc, first_left(alloc)?, &SECOND, calls),
+        _ => ends_over(alloc, Tables::empty(alloc), &TWO_USERS, calls),
+    }
 }
 
 #[test]

@@ -18,8 +18,10 @@ fn push_left(into: &mut Prefixes, left: Left) -> Result<(), Memory> {
     let Left {
         status: _,
         written,
+        told,
         probe,
     } = left;
+    drop(told);
     match into.written.push(written) {
         Ok(()) => into.probes.push(probe),
         Err(Memory) => {
@@ -87,19 +89,16 @@ impl Prefixes {
         }
     }
 
-    /// Tells whether a run wrote the first bytes of what all commands write, and shows what it shows after the commands
-    /// whose replies were put whole, or after one more.
-    pub fn is_within(&self, written: &Text, probe: &Text) -> bool {
-        let mut whole = 0;
-        for (n, some) in self.written.as_slice().iter().enumerate() {
-            if some.as_slice().len() <= written.as_slice().len() {
-                whole = n;
+    /// Tells whether a run wrote what the first `n` commands write, and of the next reply the first `out` bytes.
+    pub fn is_cut(&self, n: usize, out: usize, written: &Text) -> bool {
+        let replies = self.written.as_slice();
+        match (replies.get(n), replies.get(n.saturating_add(1))) {
+            (Some(whole), Some(next)) => {
+                let end = whole.as_slice().len().saturating_add(out);
+                let cut = end.min(next.as_slice().len());
+                written.as_slice() == &next.as_slice()[..cut]
             }
+            _ => false,
         }
-        let is_start = match self.written.as_slice().last() {
-            Some(all) => all.as_slice().starts_with(written.as_slice()),
-            None => false,
-        };
-        is_start && (self.shows(whole, probe) || self.shows(whole.saturating_add(1), probe))
     }
 }

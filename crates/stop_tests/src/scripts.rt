@@ -66,8 +66,15 @@ pub const TWO_USERS: Script = [
     b"",
 ];
 
-/// Shows the boxes of both users, and the number of the next document.
-pub const PROBE: &[u8] = b"as ann\nbox q\nas bob\nbox q\nmail\n\n.\n";
+/// Shows the boxes of both users, and the numbers of their next runs and of the next document.
+pub const PROBE: &[u8] = b"as ann\nbox q\nas bob\nbox q\nat 200\nrun q\nas ann\nrun q\nmail\n\n.\n";
+
+/// Tells whether a command adds rows.
+pub fn adds_rows(command: &[u8]) -> bool {
+    command.starts_with(b"query".as_slice())
+        || command.starts_with(b"mail".as_slice())
+        || command.starts_with(b"run".as_slice())
+}
 
 // Appends some commands.
 fn push_commands(text: &mut Text, commands: &[&[u8]]) -> Result<(), Memory> {

@@ -10,11 +10,13 @@ use tap_base::{Memory, Text};
 use tap_edges::PutPlan;
 use tap_rows::Tables;
 
-/// What a run ended with: its status, what it wrote, and what a session over what a crash then leaves shows.
+/// What a run ended with: its status, what it wrote, what a session over the keeper's tables shows, and what one over the
+/// tables that a crash leaves shows.
 #[derive(Drop)]
 pub struct Left {
     pub status: u8,
     pub written: Text,
+    pub told: Text,
     pub probe: Text,
 }
 
@@ -78,12 +80,27 @@ fn probe_of(alloc: Global, tables: Tables) -> Result<Text, Memory> {
     Ok(written)
 }
 
-// Joins what a run ended with and what a session over these tables shows.
-fn with_probe(alloc: Global, status: u8, written: Text, tables: Tables) -> Result<Left, Memory> {
-    match probe_of(alloc, tables) {
-        Ok(probe) => Ok(Left {
+// Returns what sessions over the tables of a keeper show, and over those that a crash leaves.
+fn probes_of(alloc: Global, keeper: MemKeeper) -> Result<(Text, Text), Memory> {
+    let tables = keeper.tables().copy();
+    let left = keeper.after_crash();
+    let probe = probe_of(alloc, left)?;
+    let told = probe_of(alloc, tables?)?;
+    Ok((told, probe))
+}
+
+// Joins what a run ended with and what sessions over the tables of its keeper show.
+fn with_probes(
+    alloc: Global,
+    status: u8,
+    written: Text,
+    keeper: MemKeeper,
+) -> Result<Left, Memory> {
+    match probes_of(alloc, keeper) {
+        Ok((told, probe)) => Ok(Left {
             status,
             written,
+            told,
             probe,
         }),
         Err(Memory) => {
@@ -104,11 +121,10 @@ pub fn left_by(
     let keeps = keeps_of(alloc, failure)?;
     let mut keeper = MemKeeper::new(alloc, base.copy()?, 2, keeps);
     let ended = run_over(alloc, &mut keeper, script, size, failure);
-    let tables = keeper.after_crash();
     match ended {
-        Ok((status, written)) => with_probe(alloc, status, written, tables),
+        Ok((status, written)) => with_probes(alloc, status, written, keeper),
         Err(Memory) => {
-            drop(tables);
+            drop(keeper);
             Err(Memory)
         }
     }

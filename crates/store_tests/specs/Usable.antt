@@ -1,10 +1,9 @@
--- Files in memory that can be used.
+-- Files that can be used.
 use Rattle.std.specs.Prelude.{IsTrue}
-use Rattle.sqlite_disk.specs.declared.memory.Memory.{Memory}
-use Rattle.sqlite_disk.specs.Memory.{memory_is_usable}
+use Rattle.sqlite_disk.specs.declared.Disk.{Ghosts}
 use Rattle.sqlite_disk.specs.declared.Files.{Files}
 
 -- both files can be used
-pub record AreUsable (files : Files Memory) : Type 0 where
-  pub log : IsTrue (memory_is_usable files.log)
-  pub db : IsTrue (memory_is_usable files.db)
+pub record AreUsable {D : Type 0} (g : Ghosts D) (files : Files D) : Type 0 where
+  pub log : IsTrue (g.is_usable files.log)
+  pub db : IsTrue (g.is_usable files.db)

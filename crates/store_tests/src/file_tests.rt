@@ -1,152 +1,24 @@
 //! Sessions over files in memory, and over stores that statements make.
 
 ghost use Rattle.std.specs.Prelude.{◌≡◌, false, IfSome};
-ghost use Rattle.tap_base.specs.Ledgers.{IsBlankOf};
-ghost use Rattle.keeper_core.specs.States.{IsFree};
 ghost use Rattle.store_tests.specs.Usable.{AreUsable};
 
-use keeper_core::Keeper;
-use keeper_sql::SqlKeeper;
-use sqlite::{Connection, FileStore, Files, MemStore, Options};
-use sqlite_disk::Memory as MemoryFile;
+use crate::scripts::{FIRST, FIRST_REPLIES, SECOND, SECOND_REPLIES, THIRD, THIRD_REPLIES};
+use crate::sessions::{Ran, new_files, run_over, session};
+use sqlite::{Connection, Files, MemStore};
+use sqlite_disk::Disk;
 use std::alloc::Global;
-use std::marker::Brand;
-use std::sync::ledger::{Blank, Ledger};
 use std::test::Fail;
-use tap_base::{HashKey, Memory, Steps, Text, Texts};
-use tap_edges::{MemSink, MemSource};
-use tap_top::tapestry;
-
-// Runs over a keeper; the status and what was written.
-fn run_between<P: Keeper, L: Ledger>(
-    alloc: Global,
-    blank: Blank,
-    keeper: &mut P,
-    mut source: MemSource,
-    mut sink: MemSink,
-) -> Result<(u8, Text), Memory>
-    requires blank { IsBlankOf L.name L.parts blank }
-    requires free { IsFree P.Keeper keeper.old }
-{
-    let mut steps = Steps::<L>::start(blank);
-    let words = Texts::new(alloc);
-    let status = tapestry(
-        alloc,
-        HashKey::fixed(),
-        &words,
-        &mut source,
-        &mut sink,
-        keeper,
-        &mut steps,
-    );
-    let written = Text::from_slice(alloc, sink.written());
-    drop(words);
-    drop(source);
-    drop(sink);
-    Ok((status, written?))
-}
-
-// Runs a script over a keeper; the status and what was written.
-fn run<P: Keeper, L: Ledger>(
-    alloc: Global,
-    blank: Blank,
-    keeper: &mut P,
-    script: &[u8],
-) -> Result<(u8, Text), Memory>
-    requires blank { IsBlankOf L.name L.parts blank }
-    requires free { IsFree P.Keeper keeper.old }
-{
-    let text = Text::from_slice(alloc, script)?;
-    let source = MemSource::new(text, Vec::new(alloc), Vec::new(alloc));
-    match MemSink::new(alloc, 4096, Vec::new(alloc)) {
-        Ok(sink) => run_between::<P, L>(alloc, blank, keeper, source, sink),
-        Err(Memory) => {
-            drop(source);
-            Err(Memory)
-        }
-    }
-}
-
-// Opens the files of a store, and adopts the connection.
-fn adopted(alloc: Global, files: Files<MemoryFile>) -> Option<SqlKeeper<FileStore<MemoryFile>>>
-    requires usable { AreUsable files }
-    ensures free { IfSome result (λ keeper. (keeper.attached ≡ false) × (keeper.stopped ≡ false)) }
-{
-    match Connection::open_files(alloc, files, Options::new(1)) {
-        Ok(connection) => Some(SqlKeeper::adopt(connection)),
-        Err(_) => None,
-    }
-}
-
-// Hands the connection back, and closes its files.
-fn closed(keeper: SqlKeeper<FileStore<MemoryFile>>) -> Option<Files<MemoryFile>>
-    ensures usable { IfSome result AreUsable }
-{
-    match keeper.into_connection().close_files() {
-        Ok(files) => Some(files),
-        Err((_, store)) => {
-            drop(store.close());
-            None
-        }
-    }
-}
-
-// Joins what a session ended with and the files that it left, if there are both.
-fn joined(
-    ran: Result<(u8, Text), Memory>,
-    files: Option<Files<MemoryFile>>,
-) -> Option<(u8, Text, Files<MemoryFile>)>
-    requires usable { IfSome files AreUsable }
-    ensures usable { IfSome result (λ left. AreUsable left.2) }
-{
-    match files {
-        Some(files) => match ran {
-            Ok((status, written)) => Some((status, written, files)),
-            Err(Memory) => {
-                drop(files);
-                None
-            }
-        },
-        None => {
-            drop(ran);
-            None
-        }
-    }
-}
-
-// Runs a session over the files of a store: its status, what it wrote, and the files as it closed them.
-fn session(
-    alloc: Global,
-    files: Files<MemoryFile>,
-    script: &[u8],
-) -> Option<(u8, Text, Files<MemoryFile>)>
-    requires usable { AreUsable files }
-    ensures usable { IfSome result (λ left. AreUsable left.2) }
-{
-    let mut keeper = adopted(alloc, files)?;
-    let ran = run::<_, Brand>(alloc, Blank::new(1), &mut keeper, script);
-    joined(ran, closed(keeper))
-}
-
-// Returns files without bytes.
-fn new_files(alloc: Global) -> Files<MemoryFile>
-    ensures { AreUsable result }
-{
-    Files {
-        log: MemoryFile::new(alloc),
-        db: MemoryFile::new(alloc),
-    }
-}
 
 // Runs a session over the files; returns them if it ended with status 0 and wrote this.
-fn next_session(
+fn next_session<D: Disk + Drop>(
     alloc: Global,
-    files: Files<MemoryFile>,
+    files: Files<D>,
     script: &[u8],
     want: &[u8],
-) -> Option<Files<MemoryFile>>
-    requires usable { AreUsable files }
-    ensures usable { IfSome result AreUsable }
+) -> Option<Files<D>>
+    requires usable { AreUsable D.Disk files }
+    ensures usable { IfSome result (λ left. AreUsable D.Disk left) }
 {
     let (status, written, files) = session(alloc, files, script)?;
     let is_right = status == 0 && written.as_slice() == want;
@@ -158,24 +30,6 @@ fn next_session(
         None
     }
 }
-
-const FIRST: &[u8] =
-    b"as ann\nat 100\nquery q m.words HAS 'hi'\nmail\nSubject: hi\n\n.\nat 101\nrun q\nat 110\nmail\nSubject: hi\n\n.\nat 111\nrun q\n";
-
-const FIRST_REPLIES: &[u8] =
-    b"ok 0 as ann\nok 0 at 100\nok 0 query q\nok 0 doc 1\nok 0 at 101\nok 1 run 1 before 101\ndoc 1 first 100\n\
-      ok 0 at 110\nok 0 doc 2\nok 0 at 111\nok 1 run 2 before 111\ndoc 2 first 110\n";
-
-const SECOND: &[u8] = b"as ann\nat 111\nat 120\nmail\nSubject: hi\n\n.\nat 121\nrun q\nbox q\n";
-
-const SECOND_REPLIES: &[u8] =
-    b"ok 0 as ann\nok 0 at 111\nok 0 at 120\nok 0 doc 3\nok 0 at 121\nok 1 run 3 before 121\ndoc 3 first 120\n\
-      ok 3 box q\ndoc 1 first 100 run 1\ndoc 2 first 110 run 2\ndoc 3 first 120 run 3\n";
-
-const THIRD: &[u8] = b"as ann\nbox q\n";
-
-const THIRD_REPLIES: &[u8] =
-    b"ok 0 as ann\nok 3 box q\ndoc 1 first 100 run 1\ndoc 2 first 110 run 2\ndoc 3 first 120 run 3\n";
 
 // Returns how many of three sessions over the same files are right, up to the first that isn't.
 fn right_sessions(alloc: Global) -> u8 {
@@ -199,27 +53,27 @@ fn sessions_go_on_over_files(rt: HostRuntime) {
     assert_eq!(rt; right_sessions(rt.alloc()), 3);
 }
 
-// Adopts a connection, if it is in no transaction.
-fn adopted_free(connection: Connection<MemStore>) -> Option<SqlKeeper<MemStore>>
-    ensures free { IfSome result (λ keeper. (keeper.attached ≡ false) × (keeper.stopped ≡ false)) }
+// Returns a connection if it is in no transaction.
+fn idle(connection: Connection<MemStore>) -> Option<Connection<MemStore>>
+    ensures idle { IfSome result (λ connection. connection.in_transaction ≡ false) }
 {
     if connection.is_autocommit() {
-        Some(SqlKeeper::adopt(connection))
+        Some(connection)
     } else {
         drop(connection);
         None
     }
 }
 
-// Returns a store that these statements make, adopted.
-fn store_of(alloc: Global, statements: &str) -> Option<SqlKeeper<MemStore>>
-    ensures free { IfSome result (λ keeper. (keeper.attached ≡ false) × (keeper.stopped ≡ false)) }
+// Returns a store that these statements make.
+fn store_of(alloc: Global, statements: &str) -> Option<Connection<MemStore>>
+    ensures idle { IfSome result (λ connection. connection.in_transaction ≡ false) }
 {
     let Ok(mut connection) = Connection::open_in_memory(alloc) else {
         return None;
     };
     match connection.execute_batch(statements) {
-        Ok(()) => adopted_free(connection),
+        Ok(()) => idle(connection),
         Err(_) => {
             drop(connection);
             None
@@ -238,14 +92,9 @@ fn version_of(connection: &mut Connection<MemStore>) -> Option<i64> {
 }
 
 // Runs a script over such a store: its status and what it wrote, and the version of the store then.
-fn script_over(
-    alloc: Global,
-    statements: &str,
-    script: &[u8],
-) -> Option<(Result<(u8, Text), Memory>, Option<i64>)> {
-    let mut keeper = store_of(alloc, statements)?;
-    let ran = run::<_, Brand>(alloc, Blank::new(1), &mut keeper, script);
-    let mut connection = keeper.into_connection();
+fn script_over(alloc: Global, statements: &str, script: &[u8]) -> Option<(Ran, Option<i64>)> {
+    let connection = store_of(alloc, statements)?;
+    let (ran, mut connection) = run_over(alloc, connection, script);
     let version = version_of(&mut connection);
     drop(connection);
     Some((ran, version))

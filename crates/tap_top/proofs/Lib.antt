@@ -10,3 +10,4 @@ mod Ends
 mod OpenLaws
 pub mod Versions
 mod ChainLaws
+mod PromptRuns

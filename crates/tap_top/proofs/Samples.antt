@@ -20,6 +20,7 @@ use Rattle.tap_model.specs.Stories.{Step}
 use Rattle.tap_model.proofs.SoundLaws.{step-sound}
 use Rattle.tap_top.specs.declared.tally.Tally.{Tally}
 use Rattle.tap_engine.specs.declared.engine.Engine.{Engine}
+use Rattle.tap_engine.specs.Answering.{AddsRows}
 use Rattle.tap_top.specs.Points.{EngineMatchesKeeper}
 use Rattle.tap_top.specs.Answers.{MayHaveCommitted}
 use Rattle.tap_top.specs.Statuses.{IsFront}
@@ -113,9 +114,9 @@ FirstPerformed-none t s commands Ends sound ends =
     }
 
 -- the commit of a command failed
-pub NextUncommitted-one : (t : Tables) (s : Session) (c : Command) (leaves : Tables → Type 0) → IsSound t s → verdict c s t ≡ None → ((x : Tables) → leaves x → (x ≡ t) ⊎ (x ≡ tables_after (answer_of c s t).change t)) → NextUncommitted t s (c ∷ []) leaves
-NextUncommitted-one t s c leaves sound accepted either =
-    let may : MayHaveCommitted leaves c s t = record { accepted = accepted; either = either } in record {
+pub NextUncommitted-one : (t : Tables) (s : Session) (c : Command) (leaves : Tables → Type 0) → IsSound t s → verdict c s t ≡ None → AddsRows c s t → ((x : Tables) → leaves x → (x ≡ t) ⊎ (x ≡ tables_after (answer_of c s t).change t)) → NextUncommitted t s (c ∷ []) leaves
+NextUncommitted-one t s c leaves sound accepted adds either =
+    let may : MayHaveCommitted leaves c s t = record { accepted = accepted; adds = adds; either = either } in record {
       done = [];
       next = c;
       first = record { rest = []; is = refl };

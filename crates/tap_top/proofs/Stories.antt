@@ -18,6 +18,7 @@ use Rattle.tap_model.specs.Verdicts.{verdict}
 use Rattle.tap_model.specs.Replies.{answer_of, tables_after}
 use Rattle.tap_model.specs.Stories.{Step, Story}
 use Rattle.tap_model.proofs.SoundLaws.{step-sound}
+use Rattle.tap_engine.specs.Answering.{AddsRows}
 use Rattle.tap_top.specs.Points.{SoundAlong}
 use Rattle.tap_top.specs.Answers.{Answered, CutOff, MayHaveCommitted, Uncommitted}
 
@@ -116,9 +117,9 @@ CutOff-then t s xs out mid Mid s1 a done last new Ends one cut =
       joined a b c e = sym (append_assoc a b c) ∙ ap (λ xs. xs ++ c) (sym e)
 
 -- the commit of a command failed
-pub Uncommitted-one : (t : Tables) (s : Session) (c : Command) (out : Option (List ℕ)) (leaves : Tables → Type 0) → IsSound t s → verdict c s t ≡ None → ((x : Tables) → leaves x → (x ≡ t) ⊎ (x ≡ tables_after (answer_of c s t).change t)) → Uncommitted t s [] c out out leaves
-Uncommitted-one t s c out leaves sound accepted either =
-    let may : MayHaveCommitted leaves c s t = record { accepted = accepted; either = either } in record { session' = s; all_ok = true; answered = Answered-none t s out (MayHaveCommitted leaves c s) sound may }
+pub Uncommitted-one : (t : Tables) (s : Session) (c : Command) (out : Option (List ℕ)) (leaves : Tables → Type 0) → IsSound t s → verdict c s t ≡ None → AddsRows c s t → ((x : Tables) → leaves x → (x ≡ t) ⊎ (x ≡ tables_after (answer_of c s t).change t)) → Uncommitted t s [] c out out leaves
+Uncommitted-one t s c out leaves sound accepted adds either =
+    let may : MayHaveCommitted leaves c s t = record { accepted = accepted; adds = adds; either = either } in record { session' = s; all_ok = true; answered = Answered-none t s out (MayHaveCommitted leaves c s) sound may }
 
 -- a commit failed after commands that were answered
 pub Uncommitted-then : (t : Tables) (s : Session) (xs : List Command) (out mid : Option (List ℕ)) (Mid : Tables → Type 0) (s1 : Session) (a : Bool) (done : List Command) (next : Command) (new : Option (List ℕ)) (leaves : Tables → Type 0) → (one : Answered t s xs out mid Mid s1 a) → Uncommitted one.tables' s1 done next mid new leaves → Uncommitted t s (xs ++ done) next out new leaves

@@ -10,6 +10,7 @@ use Rattle.tap_model.specs.declared.session.Session.{Session}
 use Rattle.tap_model.specs.Verdicts.{verdict}
 use Rattle.tap_model.specs.Replies.{answer_of, tables_after}
 use Rattle.tap_model.specs.Stories.{Story}
+use Rattle.tap_engine.specs.Answering.{AddsRows}
 use Rattle.tap_top.specs.Points.{SoundAlong}
 
 -- the commands were answered as in a story, their replies were taken, and this holds of the tables at its end
@@ -38,9 +39,10 @@ pub record CutOff (tables : Tables) (session : Session) (done : List Command) (l
   pub written : Appends out out' (flat_map reply_bytes replies ++ take n (reply_bytes reply))
   pub ends : Ends tables'
 
--- the next command is accepted, and a crash leaves these tables or those with the rows that it adds
+-- the next command is accepted and adds rows, and a crash leaves these tables or those with the rows that it adds
 pub record MayHaveCommitted (leaves : Tables → Type 0) (next : Command) (session : Session) (tables : Tables) : Type 0 where
   pub accepted : verdict next session tables ≡ None
+  pub adds : AddsRows next session tables
   pub either : (x : Tables) → leaves x → (x ≡ tables) ⊎ (x ≡ tables_after (answer_of next session tables).change tables)
 
 -- the commands were answered and their replies were taken; the commit of the next one failed

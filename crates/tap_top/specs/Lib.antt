@@ -1,5 +1,6 @@
 pub mod Codes
 pub mod Points
+pub mod Prompt
 pub mod Premises
 pub mod Versions
 pub mod Frames

@@ -21,6 +21,8 @@ ghost use Rattle.tap_top.specs.Versions.{VersionAtExit};
 ghost use Rattle.tap_top.specs.Answers.{CutOff, Uncommitted, Closed, ClosedCut};
 ghost use Rattle.tap_top.specs.Statuses.{TookMany, HoldsScript};
 ghost use Rattle.tap_top.specs.Causes.{Causes};
+ghost use Rattle.tap_top.specs.Prompt.{IsUpToDate};
+ghost use Rattle.peer_edges.specs.Asks.{AskedOnlyWhen};
 ghost use Rattle.tap_top.specs.Ends.{EngineScriptEnds, ScriptEnds, SampleEnds};
 ghost use Rattle.tap_top.specs.Refusals.{Refusals};
 ghost use Rattle.tap_top.specs.Codes.{code_of, IsDone, is_all_ok, IsOfClose, IsOfRun};
@@ -33,11 +35,12 @@ use crate::sampled::sample_store;
 use crate::status::Status;
 use command_words::{OptionFault, read_words};
 use keeper_core::Keeper;
+use peer_edges::Peer;
 use script_lang::ScriptReader;
 use std::alloc::Global;
 use std::sync::ledger::Ledger;
 use tap_base::{HashKey, Steps, Text, Texts};
-use tap_edges::{Sink, Source};
+use tap_edges::Sink;
 use tap_engine::Engine;
 
 /// The most bytes that a script may have: 256 MiB.
@@ -102,7 +105,7 @@ fn close<K: Sink, P: Keeper, L: Ledger>(
 }
 
 // Reads the source and performs the commands as they come; returns the status of the run.
-fn run<S: Source, K: Sink, P: Keeper, L: Ledger>(
+fn run<S: Peer<K>, K: Sink, P: Keeper, L: Ledger>(
     alloc: Global,
     source: &mut S,
     sink: &mut K,
@@ -115,6 +118,8 @@ fn run<S: Source, K: Sink, P: Keeper, L: Ledger>(
     ensures ends { FromEngine P.Keeper engine.old keeper.old keeper.new (λ t.
         EngineScriptEnds result t (S.left source.old) (S.left source.new) (K.out sink.old) (K.out sink.new)
         (P.tells keeper.new) (P.may_leave keeper.new)) }
+    ensures prompt { FromEngine P.Keeper engine.old keeper.old keeper.new (λ t.
+        AskedOnlyWhen (λ l o. IsUpToDate t (S.left source.old) l (K.out sink.old) o) (S.was_asked source.old) (S.was_asked source.new)) }
     ensures many { result ≡ Status.ScriptTooLong → TookMany (S.left source.old) (S.left source.new) }
     ensures statuses { IsOfRun result }
     ensures stopped { (P.stopped keeper.new ≡ true) ↔ (result ≡ Status.KeeperFailed) }
@@ -131,7 +136,7 @@ fn run<S: Source, K: Sink, P: Keeper, L: Ledger>(
     let mut taken = 0;
     let mut all_ok = true;
     'pieces: while taken <= SCRIPT_LIMIT {
-        let n = match source.piece(&mut piece) {
+        let n = match source.ask(sink, &mut piece) {
             Ok(n) => n,
             Err(_) => return Status::ReadFailed,
         };
@@ -159,7 +164,7 @@ fn run<S: Source, K: Sink, P: Keeper, L: Ledger>(
 }
 
 // Attaches the keeper at a place, checks its tables, and performs the commands of the source; returns the status of the run.
-fn run_store<S: Source, K: Sink, P: Keeper, L: Ledger>(
+fn run_store<S: Peer<K>, K: Sink, P: Keeper, L: Ledger>(
     alloc: Global,
     key: HashKey,
     place: &Text,
@@ -174,6 +179,8 @@ fn run_store<S: Source, K: Sink, P: Keeper, L: Ledger>(
     ensures script { FromStore P.Keeper keeper.old keeper.new (λ t.
         ScriptEnds (code_of result) t (S.left source.old) (S.left source.new) (K.out sink.old) (K.out sink.new)
         (P.has_version keeper.old) (P.tells keeper.new) (P.may_leave keeper.new)) }
+    ensures prompt { FromStore P.Keeper keeper.old keeper.new (λ t.
+        AskedOnlyWhen (λ l o. IsUpToDate t (S.left source.old) l (K.out sink.old) o) (S.was_asked source.old) (S.was_asked source.new)) }
     ensures kept { FromStore P.Keeper keeper.old keeper.new (λ t.
         (x : Tables) → P.may_leave keeper.new x → IsStore x) }
     ensures version { FromStore P.Keeper keeper.old keeper.new (λ t.
@@ -222,7 +229,7 @@ fn run_store<S: Source, K: Sink, P: Keeper, L: Ledger>(
 /// - 6: the store is refused; one line says why, and nothing was read;
 /// - 7: out of memory, with a sample also while a command was performed;
 /// - 8: the script has more than 268,435,456 bytes.
-pub fn tapestry<S: Source, K: Sink, P: Keeper, L: Ledger>(
+pub fn tapestry<S: Peer<K>, K: Sink, P: Keeper, L: Ledger>(
     alloc: Global,
     key: HashKey,
     words: &Texts,
@@ -249,6 +256,11 @@ pub fn tapestry<S: Source, K: Sink, P: Keeper, L: Ledger>(
     ensures script { sample_in words.now ≡ None → FromStore P.Keeper keeper.old keeper.new (λ t.
         ScriptEnds result t (S.left source.old) (S.left source.new) (K.out sink.old) (K.out sink.new)
         (P.has_version keeper.old) (P.tells keeper.new) (P.may_leave keeper.new)) }
+
+    // Over such a store, whenever the source was asked for more, the reply to each command that was complete in the bytes taken
+    // so far was out, whole, and nothing else.
+    ensures prompt { FromStore P.Keeper keeper.old keeper.new (λ t.
+        AskedOnlyWhen (λ l o. IsUpToDate t (S.left source.old) l (K.out sink.old) o) (S.was_asked source.old) (S.was_asked source.new)) }
 
     // A sample over such a store: how it ended, by the status, and what a crash leaves; nothing is read.
     ensures sample { (n : ℕ) → sample_in words.now ≡ Some n → FromStore P.Keeper keeper.old keeper.new (λ t.

@@ -9,7 +9,9 @@ use Rattle.tap_base.specs.Counts.{Rose}
 use Rattle.tap_rows.specs.declared.tables.Tables.{Tables}
 use Rattle.tap_model.specs.Sound.{IsStore}
 use Rattle.tap_top.specs.declared.store_fault.StoreFault.{StoreFault}
+use Rattle.peer_edges.specs.Asks.{AskedOnlyWhen}
 use Rattle.tap_top.specs.Ends.{ScriptEnds, SampleEnds}
+use Rattle.tap_top.specs.Prompt.{IsUpToDate}
 use Rattle.tap_top.specs.Premises.{IfKnown}
 use Rattle.tap_top.specs.Refusals.{fault_of, Refused}
 use Rattle.tap_top.specs.Versions.{VersionAtExit}
@@ -34,12 +36,14 @@ pub record Ends (words : List (List ℕ)) (status : ℕ) (left left' out out' : 
   pub ended : sample_in words ≡ None → status ≤ 1 → IsAtEnd left'
   pub statuses : status ≤ 8
 
--- over a store with these tables: how the script or the sample ended; that whatever a crash leaves, and what the store tells,
+-- over a store with these tables: how the script or the sample ended; what was out whenever the source was asked for more; that whatever a crash leaves, and what the store tells,
 -- is a store again, and with which version; and when the store is refused
 pub record EndsOver (words : List (List ℕ)) (status : ℕ) (left left' out out' : Option (List ℕ))
+    (asked asked' : Option (List ℕ) → Option (List ℕ) → Type 0)
     (tables : Tables) (versions versions' : ℤ → Type 0) (tells leaves : Tables → Type 0) : Type 0 where
   pub script : sample_in words ≡ None → IsStore tables → ScriptEnds status tables left left' out out' versions tells leaves
   pub sample : (n : ℕ) → sample_in words ≡ Some n → IsStore tables → SampleEnds status tables n out out' versions tells leaves
+  pub prompt : IsStore tables → AskedOnlyWhen (λ l o. IsUpToDate tables left l out o) asked asked'
   pub kept : IsStore tables → (x : Tables) → leaves x → IsStore x
   pub told : IsStore tables → status ≢ 5 → (x : Tables) → tells x → IsStore x
   pub version : IsStore tables → VersionAtExit status versions versions'

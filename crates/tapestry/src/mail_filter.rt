@@ -1,10 +1,11 @@
 //! The mail filter as a session over a store.
 use file_session::Session;
 use keeper_core::Keeper;
+use peer_edges::Peer;
 use std::alloc::Global;
 use std::sync::ledger::Ledger;
 use tap_base::{HashKey, Steps, Texts};
-use tap_edges::{Sink, Source};
+use tap_edges::Sink;
 use tap_top::tapestry;
 
 /// The mail filter: performs a script or a sample over the store that the words name.
@@ -16,12 +17,12 @@ impl Session for MailFilter {
 
     ghost ends = { λ words status left left' out out' reads reads' puts puts'. Ends words status left left' out out' reads reads' puts puts' };
 
-    ghost ends_over = { λ words status left left' out out' tables versions versions' tells leaves.
-        EndsOver words status left left' out out' tables versions versions' tells leaves };
+    ghost ends_over = { λ words status left left' out out' asked asked' tables versions versions' tells leaves.
+        EndsOver words status left left' out out' asked asked' tables versions versions' tells leaves };
 
     ghost place = { λ words. place_in words };
 
-    fn hold<I: Source, K: Sink, P: Keeper, L: Ledger>(
+    fn hold<I: Peer<K>, K: Sink, P: Keeper, L: Ledger>(
         alloc: Global,
         key: HashKey,
         words: &Texts,

@@ -13,6 +13,7 @@ use Rattle.tap_top.specs.Refusals.{fault_of, Refused}
 use Rattle.tap_top.specs.Versions.{VersionAtExit}
 use Rattle.pop_session.specs.Ends.{TookMany}
 use Rattle.pop_box.specs.Letters.{letters_in}
+use Rattle.pop_box.specs.Prompt.{AskedUpToDate}
 use Rattle.pop_box.specs.Served.{Served, TookQuit, Unchanged}
 
 -- whatever the store: when the words are refused, which then changes nothing; that a read failed if and only if the status is
@@ -35,9 +36,12 @@ pub record Ends (words : List (List ℕ)) (status : ℕ) (left left' out out' : 
 -- over a store with these tables: how the box was served, that the tables are unchanged, the version after, and when the
 -- store is refused
 pub record EndsOver (words : List (List ℕ)) (status : ℕ) (left left' out out' : Option (List ℕ))
+    (asked asked' : Option (List ℕ) → Option (List ℕ) → Type 0)
     (tables : Tables) (versions versions' : ℤ → Type 0) (tells leaves : Tables → Type 0) : Type 0 where
   pub session : IsStore tables →
       Served status (letters_in (user_in words) (box_in words) tables) (user_in words) (secret_in words) left left' out out' versions
+  pub prompt : IsStore tables →
+      AskedUpToDate (letters_in (user_in words) (box_in words) tables) (user_in words) (secret_in words) left out asked asked'
   pub unchanged : Unchanged status tables tells leaves
   pub version : VersionAtExit status versions versions'
   pub refused : (v : ℤ) → versions v → (fault : StoreFault) → fault_of v tables ≡ Some fault →

@@ -1,11 +1,12 @@
 //! The server of a box as a session over a store.
 use file_session::Session;
 use keeper_core::Keeper;
+use peer_edges::Peer;
 use pop_box::serve;
 use std::alloc::Global;
 use std::sync::ledger::Ledger;
 use tap_base::{HashKey, Steps, Texts};
-use tap_edges::{Sink, Source};
+use tap_edges::Sink;
 
 /// The server of a box: holds one POP3 session over the letters of the box that the words name.
 pub struct PopServer;
@@ -16,12 +17,12 @@ impl Session for PopServer {
 
     ghost ends = { λ words status left left' out out' reads reads' puts puts'. Ends words status left left' out out' reads reads' puts puts' };
 
-    ghost ends_over = { λ words status left left' out out' tables versions versions' tells leaves.
-        EndsOver words status left left' out out' tables versions versions' tells leaves };
+    ghost ends_over = { λ words status left left' out out' asked asked' tables versions versions' tells leaves.
+        EndsOver words status left left' out out' asked asked' tables versions versions' tells leaves };
 
     ghost place = { λ words. pop_place_in words };
 
-    fn hold<I: Source, K: Sink, P: Keeper, L: Ledger>(
+    fn hold<I: Peer<K>, K: Sink, P: Keeper, L: Ledger>(
         alloc: Global,
         key: HashKey,
         words: &Texts,

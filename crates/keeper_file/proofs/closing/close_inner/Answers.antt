@@ -1,6 +1,7 @@
 use Rattle.std.proofs.Common.{sym, subst}
 use Rattle.sqlite.specs.Files.{over_files}
 use Rattle.keeper_file.specs.Cases.{Tells, IsHonest}
+use Rattle.keeper_file.specs.Failing.{FailsToCloseOpen}
 use Rattle.keeper_file.proofs.closing.close_inner.Goals as goal
 
 pub returns-in-Ok-clause-whole : goal.returns-in-Ok-clause-whole
@@ -14,3 +15,6 @@ returns-in-Ok-clause-honest g c clean = subst (λ k. IsHonest g.O.Opener.files o
 
 pub returns-in-Err-clause-honest_left : goal.returns-in-Err-clause-honest_left
 returns-in-Err-clause-honest_left g c clean = subst (λ k. IsHonest g.O.Opener.files over_files k) (sym c.in-File.is) (c.in-Err.ensures.honest_left clean)
+
+pub returns-in-Err-clause-fails : goal.returns-in-Err-clause-fails
+returns-in-Err-clause-fails g c clean = subst (λ k. FailsToCloseOpen k c.in-Err.left.1 c.in-Err.left.0) (sym c.in-File.is) (c.in-Err.ensures.fails clean)

@@ -6,7 +6,8 @@ use Rattle.clap.specs.Words.{takes}
 use Rattle.command_words.specs.PopOptions.{pop_app}
 use Rattle.tap_top.proofs.Refusals.{Refused-none, not-stopped}
 use Rattle.tap_top.proofs.Versions.{exit-words, exit-unopened}
-use Rattle.pop_box.proofs.Served.{unserved, served-words, took-quit-words}
+use Rattle.pop_box.proofs.Served.{unserved, asked-words, served-words, took-quit-words}
+use Rattle.peer_edges.proofs.Asks.{unasked}
 use Rattle.pop_box.proofs.serving.serve.Goals as goal
 
 not-both : (x : OptionFault) → x ≡ RefusedWords → x ≡ Memory → ⊥
@@ -86,3 +87,13 @@ returns-in-Err-Refused-clause-version g c = λ t honest holds. exit-words _
 
 pub returns-in-Err-Memory-clause-version : goal.returns-in-Err-Memory-clause-version
 returns-in-Err-Memory-clause-version g c = λ t honest holds. exit-unopened _
+
+pub returns-in-Err-Refused-clause-prompt : goal.returns-in-Err-Refused-clause-prompt
+returns-in-Err-Refused-clause-prompt g c = λ t honest holds store. unasked _ _
+
+pub returns-in-Err-Memory-clause-prompt : goal.returns-in-Err-Memory-clause-prompt
+returns-in-Err-Memory-clause-prompt g c = λ t honest holds store. unasked _ _
+
+pub returns-clause-prompt : goal.returns-clause-prompt
+returns-clause-prompt g c = λ t honest holds store.
+    asked-words t _ _ _ _ _ _ _ _ _ _ c.in-Ok.ensures.user c.in-Ok.ensures.name c.in-Ok.ensures.secret (c.serve_box.ensures.prompt t honest holds store)

@@ -5,6 +5,7 @@ use Rattle.tap_top.proofs.Codes.{refusal-number}
 use Rattle.tap_top.proofs.Refusals.{fine-store, some-or-none, Refused-none, refused-for, not-stopped}
 use Rattle.tap_top.proofs.Versions.{exit-opened, exit-failed, exit-refused, exit-memory}
 use Rattle.pop_box.proofs.Served.{served, refused, unserved, served-not-two}
+use Rattle.peer_edges.proofs.Asks.{unasked}
 use Rattle.pop_box.proofs.serving.serve_box.Goals as goal
 
 pub returns-in-Ok-clause-session : goal.returns-in-Ok-clause-session
@@ -87,3 +88,16 @@ returns-in-Err-Keeper-clause-version g c = λ t honest holds. exit-failed 5 _ _ 
 
 pub returns-in-Err-Memory-clause-version : goal.returns-in-Err-Memory-clause-version
 returns-in-Err-Memory-clause-version g c = λ t honest holds. exit-memory _ _ (c.in-Err-Memory.ensures.memory (ap Err c.in-Err-Memory.field-0-is) honest t holds.told)
+
+pub returns-in-Ok-clause-prompt : goal.returns-in-Ok-clause-prompt
+returns-in-Ok-clause-prompt g c = λ t honest holds store.
+    c.serve_with.ensures.prompt t (c.in-Ok.ensures.represents honest t holds.told) (subst (λ s. IsSound t s) (sym c.in-Ok.ensures.session) store)
+
+pub returns-in-Err-Refused-clause-prompt : goal.returns-in-Err-Refused-clause-prompt
+returns-in-Err-Refused-clause-prompt g c = λ t honest holds store. unasked _ _
+
+pub returns-in-Err-Keeper-clause-prompt : goal.returns-in-Err-Keeper-clause-prompt
+returns-in-Err-Keeper-clause-prompt g c = λ t honest holds store. unasked _ _
+
+pub returns-in-Err-Memory-clause-prompt : goal.returns-in-Err-Memory-clause-prompt
+returns-in-Err-Memory-clause-prompt g c = λ t honest holds store. unasked _ _

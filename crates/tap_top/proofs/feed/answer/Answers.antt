@@ -7,8 +7,9 @@ use Rattle.tap_top.proofs.feed.answer.Goals as goal
 
 pub returns-in-Err-KeeperFailed-clause-uncommitted : goal.returns-in-Err-KeeperFailed-clause-uncommitted
 returns-in-Err-KeeperFailed-clause-uncommitted g c = λ _ t honest at.
-    let crash = c.in-Err-KeeperFailed.ensures.crash t at.represents (sound-for c.args.command t c.args.engine.now.session at.sound) honest at.holds in
-    Uncommitted-one t _ c.args.command _ _ at.sound crash.0 crash.1
+    let sound = sound-for c.args.command t c.args.engine.now.session at.sound in
+    let crash = c.in-Err-KeeperFailed.ensures.crash t at.represents sound honest at.holds in
+    Uncommitted-one t _ c.args.command _ _ at.sound crash.0 (c.in-Err-KeeperFailed.ensures.adds t at.represents sound) crash.1
 
 pub returns-in-Ok-put_reply-clause-ok : goal.returns-in-Ok-put_reply-clause-ok
 returns-in-Ok-put_reply-clause-ok g c = λ t honest at.

@@ -8,8 +8,9 @@ use Rattle.tap_top.proofs.sampled.perform_one.Goals as goal
 
 pub returns-in-Err-KeeperFailed-clause-keeper : goal.returns-in-Err-KeeperFailed-clause-keeper
 returns-in-Err-KeeperFailed-clause-keeper g c = λ _ t honest at.
-    let crash = c.in-Err-KeeperFailed.ensures.crash t at.represents (sound-for c.args.command t c.args.engine.now.session at.sound) honest at.holds in
-    NextUncommitted-one t _ c.args.command _ at.sound crash.0 crash.1
+    let sound = sound-for c.args.command t c.args.engine.now.session at.sound in
+    let crash = c.in-Err-KeeperFailed.ensures.crash t at.represents sound honest at.holds in
+    NextUncommitted-one t _ c.args.command _ at.sound crash.0 (c.in-Err-KeeperFailed.ensures.adds t at.represents sound) crash.1
 
 pub returns-in-Some-clause-ok : goal.returns-in-Some-clause-ok
 returns-in-Some-clause-ok g c = λ t honest at.

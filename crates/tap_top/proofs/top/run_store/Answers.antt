@@ -7,6 +7,7 @@ use Rattle.tap_top.proofs.Refusals.{fine-store, some-or-none, Refused-none, refu
 use Rattle.tap_top.proofs.Crashes.{leaves-stores, opened-at}
 use Rattle.tap_top.proofs.Ends.{script-ends, refused-ends, failed-ends, unopened-ends}
 use Rattle.tap_top.proofs.Versions.{run-not-two, exit-run, exit-refused, exit-failed, exit-memory}
+use Rattle.peer_edges.proofs.Asks.{unasked}
 use Rattle.tap_top.proofs.top.run_store.Goals as goal
 
 pub returns-in-Ok-clause-script : goal.returns-in-Ok-clause-script
@@ -79,3 +80,18 @@ returns-in-Err-Keeper-clause-version g c = λ t honest holds store. exit-failed 
 
 pub returns-in-Err-Memory-clause-version : goal.returns-in-Err-Memory-clause-version
 returns-in-Err-Memory-clause-version g c = λ t honest holds store. exit-memory _ _ (c.in-Err-Memory.ensures.memory (ap Err c.in-Err-Memory.field-0-is) honest t holds.told)
+
+pub returns-in-Ok-clause-prompt : goal.returns-in-Ok-clause-prompt
+returns-in-Ok-clause-prompt g c = λ t honest holds store.
+    let opened = c.run-status.ensures.frame.keeper.before honest in
+    let at = opened-at c.in-Ok.engine _ _ t c.in-Ok.ensures.session (c.in-Ok.ensures.represents opened t holds.told) (c.in-Ok.ensures.kept opened t holds.told c.in-Ok.ensures.can.attached.running) store in
+    c.run-status.ensures.prompt t honest at
+
+pub returns-in-Err-Refused-clause-prompt : goal.returns-in-Err-Refused-clause-prompt
+returns-in-Err-Refused-clause-prompt g c = λ t honest holds store. unasked _ _
+
+pub returns-in-Err-Keeper-clause-prompt : goal.returns-in-Err-Keeper-clause-prompt
+returns-in-Err-Keeper-clause-prompt g c = λ t honest holds store. unasked _ _
+
+pub returns-in-Err-Memory-clause-prompt : goal.returns-in-Err-Memory-clause-prompt
+returns-in-Err-Memory-clause-prompt g c = λ t honest holds store. unasked _ _

@@ -13,6 +13,7 @@ use Rattle.tap_top.proofs.Refusals.{Refused-none, not-stopped}
 use Rattle.tap_top.proofs.Versions.{exit-words, exit-unopened}
 use Rattle.tap_top.proofs.SampleCrashes.{first-stores}
 use Rattle.tap_top.proofs.Ends.{worded-ends, worded-sample, unopened-ends, unopened-sample}
+use Rattle.peer_edges.proofs.Asks.{unasked}
 use Rattle.tap_top.proofs.top.tapestry.Goals as goal
 
 not-both : (x : OptionFault) → x ≡ RefusedWords → x ≡ Memory → ⊥
@@ -136,3 +137,15 @@ returns-clause-causes g c = rw c.code-in-None.ensures c.run_store.ensures.causes
 
 pub returns-clause-complete : goal.returns-clause-complete
 returns-clause-complete g c = λ path named holds reads puts keeps. rw c.code-in-None.ensures (c.run_store.ensures.complete holds reads puts keeps)
+
+pub returns-in-Err-Refused-clause-prompt : goal.returns-in-Err-Refused-clause-prompt
+returns-in-Err-Refused-clause-prompt g c = λ t honest holds store. unasked _ _
+
+pub returns-in-Err-Memory-clause-prompt : goal.returns-in-Err-Memory-clause-prompt
+returns-in-Err-Memory-clause-prompt g c = λ t honest holds store. unasked _ _
+
+pub returns-in-Some-clause-prompt : goal.returns-in-Some-clause-prompt
+returns-in-Some-clause-prompt g c = λ t honest holds store. unasked _ _
+
+pub returns-clause-prompt : goal.returns-clause-prompt
+returns-clause-prompt g c = c.run_store.ensures.prompt

@@ -20,6 +20,7 @@ returns-clause-ends g c = record {
 
 pub returns-clause-ends_over : goal.returns-clause-ends_over
 returns-clause-ends_over g c = λ t honest holds. record {
+  prompt = λ store. c.tapestry.ensures.prompt t honest holds store;
   script = λ none store. c.tapestry.ensures.script none t honest holds store;
   sample = λ n some store. c.tapestry.ensures.sample n some t honest holds store;
   kept = λ store. c.tapestry.ensures.kept t honest holds store;

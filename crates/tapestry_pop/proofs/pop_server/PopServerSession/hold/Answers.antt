@@ -19,6 +19,7 @@ returns-clause-ends g c = record {
 
 pub returns-clause-ends_over : goal.returns-clause-ends_over
 returns-clause-ends_over g c = λ t honest holds. record {
+  prompt = λ store. c.serve.ensures.prompt t honest holds store;
   session = λ store. c.serve.ensures.session t honest holds store;
   unchanged = c.serve.ensures.unchanged t honest holds;
   version = c.serve.ensures.version t honest holds;

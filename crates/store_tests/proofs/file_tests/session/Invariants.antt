@@ -1,5 +1,0 @@
-use Rattle.store_tests.proofs.file_tests.session.Given as goal
-
--- the counter is that of the blank
-abbrev pub ghosts-run : goal.ghosts-run
-ghosts-run a = record { name = a.blank.name; parts = a.blank.parts }
