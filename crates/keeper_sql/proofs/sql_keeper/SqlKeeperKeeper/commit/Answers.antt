@@ -1,4 +1,6 @@
+use Rattle.std.proofs.Common.{subst, IfErr}
 use Rattle.sqlite.specs.Held.{state}
+use Rattle.keeper_sql.specs.Failing.{FailsToKeep}
 use Rattle.keeper_sql.proofs.KeepLemmas.{as_told, holds_as, told_after, left_after}
 use Rattle.keeper_sql.proofs.sql_keeper.SqlKeeperKeeper.commit.Goals as goal
 
@@ -21,3 +23,13 @@ returns-in-Err-Failed-clause-crash g c clean s told extends x left =
     let new = state g.S.Store c.keep-kept.new.conn in
     let held = as_told _ old s c.requires.ready told in
     left_after c.args.change.now old new s held extends.formed extends.fits (c.keep-kept.ensures.crash clean held.is_open) x left
+
+pub returns-in-Err-Memory-clause-fails : goal.returns-in-Err-Memory-clause-fails
+returns-in-Err-Memory-clause-fails g c clean =
+    let Why = FailsToKeep g.S.Store c.args.self.now.connection c.keep-kept.new.conn c.args.change.now in
+    subst Why c.in-Err-Memory.field-0-is (subst (λ r. IfErr r Why) c.in-Err-Memory.is (c.keep-kept.ensures.fails clean))
+
+pub returns-in-Err-Failed-clause-fails : goal.returns-in-Err-Failed-clause-fails
+returns-in-Err-Failed-clause-fails g c clean =
+    let Why = FailsToKeep g.S.Store c.args.self.now.connection c.keep-kept.new.conn c.args.change.now in
+    subst Why c.in-Err-Failed.field-0-is (subst (λ r. IfErr r Why) c.in-Err-Failed.is (c.keep-kept.ensures.fails clean))
