@@ -1,14 +1,15 @@
-use Rattle.std.proofs.Common.{rules, ◌≡◌, ◌∙◌, refl, subst, inr, Some, ℤ}
+use Rattle.std.proofs.Common.{rules, ◌≡◌, ◌∙◌, refl, sym, subst, inr, Some, w64, to_z, of_z}
 use Rattle.tap_base.specs.Numbers.{moment_of}
 use Rattle.tap_rows.specs.declared.tables.Tables.{Tables}
 use Rattle.script_lang.specs.declared.command.Command.TheVariants.{Ask}
 use Rattle.script_lang.specs.declared.refusal.Refusal.TheVariants.{Memory}
 use Rattle.tql_core.specs.Condition.{condition}
 use Rattle.tql_types.proofs.Ranges.{InRange, moment-range}
+use Rattle.tap_model.specs.Sound.{IsMoment}
 use Rattle.tap_model.specs.Stories.{Refuses}
 use Rattle.tap_engine.specs.Standing.{Represents}
 use Rattle.tap_engine.proofs.AskLaws.{ask-text, ask-open, answers-ask}
-use Rattle.tap_engine.proofs.CostLaws.{most-ask}
+use Rattle.tap_engine.proofs.CostLaws.{at-second, most-ask}
 use Rattle.tap_engine.proofs.engine.Engine.ask.Goals as goal
 
 pub returns-in_err-cond-clause-refusal : goal.returns-in_err-cond-clause-refusal
@@ -32,7 +33,8 @@ returns-in_err-refuse_open-clause-refusal g c =
 pub given_at-requires-clause-second : goal.given_at-requires-clause-second
 given_at-requires-clause-second g c =
     let is : moment_of c.args.moment.now ≡ Some c.in-Some.second = search rules in
-    subst InRange is (moment-range c.args.moment.now)
+    let same : to_z w64 (of_z w64 c.in-Some.second) ≡ c.in-Some.second = search rules in
+    subst IsMoment (sym same) (subst InRange is (moment-range c.args.moment.now))
 
 pub returns-clause-ok : goal.returns-clause-ok
 returns-clause-ok g c = λ t represents sound.
@@ -45,14 +47,18 @@ returns-clause-ok g c = λ t represents sound.
 pub returns-in_err-docs-clause-most : goal.returns-in_err-docs-clause-most
 returns-in_err-docs-clause-most g c =
     let is : moment_of c.args.moment.now ≡ Some c.in-Some.second = search rules in
+    let same : to_z w64 (of_z w64 c.in-Some.second) ≡ c.in-Some.second = search rules in
+    let steps = at-second c.args.self.now.index (condition c.in_ok-cond.cond) _ c.in-Some.second _ _ same c.given_at.ensures.steps in
     most-ask c.args.self.now c.args.moment.now c.args.source.now c.in-Some.second (condition c.in_ok-cond.cond) _ _ is
-    c.in_ok-cond.ensures.cond c.given_at.ensures.steps
+    c.in_ok-cond.ensures.cond steps
 
 pub returns-clause-most : goal.returns-clause-most
 returns-clause-most g c =
     let is : moment_of c.args.moment.now ≡ Some c.in-Some.second = search rules in
+    let same : to_z w64 (of_z w64 c.in-Some.second) ≡ c.in-Some.second = search rules in
+    let steps = at-second c.args.self.now.index (condition c.in_ok-cond.cond) _ c.in-Some.second _ _ same c.given_at.ensures.steps in
     most-ask c.args.self.now c.args.moment.now c.args.source.now c.in-Some.second (condition c.in_ok-cond.cond) _ _ is
-    c.in_ok-cond.ensures.cond c.given_at.ensures.steps
+    c.in_ok-cond.ensures.cond steps
 
 pub returns-in_err-docs-clause-refusal : goal.returns-in_err-docs-clause-refusal
 returns-in_err-docs-clause-refusal g c =
