@@ -9,7 +9,7 @@ use Rattle.tap_rows.specs.declared.rows.Note.{Note}
 use Rattle.tap_rows.specs.declared.rows.QueryRow.{QueryRow}
 use Rattle.tap_rows.specs.declared.results.Entry.{Entry}
 use Rattle.tap_rows.specs.WellFormed.{row_at}
-use Rattle.tap_rows.specs.Results.{last_or, run_moments, covered}
+use Rattle.tap_rows.specs.Results.{last_or, run_moments}
 use Rattle.tap_rows.specs.Kept.{Each, IsKeptQuery}
 use Rattle.row_index.specs.Held.{notes_on as indexed_notes}
 use Rattle.row_index.specs.Orders.{Numbered, doc_number}
@@ -23,17 +23,15 @@ use Rattle.script_lang.specs.declared.refusal.Refusal.{Refusal}
 use Rattle.script_lang.specs.declared.refusal.Refusal.TheVariants.{NoDoc}
 use Rattle.script_lang.specs.declared.reply.Reply.{Reply}
 use Rattle.script_lang.specs.declared.reply.Reply.TheVariants.{Found}
-use Rattle.script_lang.specs.declared.rows.QueryState.{QueryState}
 use Rattle.script_lang.specs.Rows.{note_text, query_text}
 use Rattle.tap_model.specs.Sessions.{or_zero, user_of, greatest_moment}
-use Rattle.tap_model.specs.Queries.{truth_of, start_of, box_in}
+use Rattle.tap_model.specs.Queries.{truth_of, start_of}
 use Rattle.tap_model.specs.Sound.{IsSoundFor}
 use Rattle.tap_model.specs.Verdicts.{first_refusal, verdict, missing, refuse_unless, no_user, no_doc}
-use Rattle.tap_model.specs.Lookups.{doc_numbered, notes_on, last_of, state_of, line_of, show_doc, lookup_reply}
+use Rattle.tap_model.specs.Lookups.{doc_numbered, notes_on, last_of, line_of, show_doc, lookup_reply}
 use Rattle.tap_model.specs.Stories.{Refuses}
-use Rattle.tap_kept.specs.declared.cached_query.CachedQuery.{CachedQuery}
 use Rattle.tap_kept.specs.Keeping.{cached_query}
-use Rattle.tap_kept.specs.Lines.{last_run, cached_line, owned_line, owned_lines}
+use Rattle.tap_kept.specs.Lines.{last_run, cached_line, owned_lines}
 use Rattle.tap_engine.specs.declared.engine.Engine.{Engine}
 use Rattle.tap_engine.specs.Standing.{Represents, RefusedBy}
 use Rattle.tap_engine.specs.Answering.{Answers, ReadsAsModel, RefusesAsModel}

@@ -1,5 +1,5 @@
 -- What a look-up shows, why it is refused and what it costs, by what the engine has in memory.
-use Rattle.std.specs.Prelude.{ℕ, List, [], length, map, Option, None}
+use Rattle.std.specs.Prelude.{ℕ, [], length, map, Option, None}
 use Rattle.std.specs.Option.{option_or}
 use Rattle.row_index.specs.Held.{notes_on}
 use Rattle.script_lang.specs.declared.lookup.Lookup.{Lookup}

@@ -1,4 +1,3 @@
-use Rattle.std.proofs.Common.{rules}
 use Rattle.tap_engine.proofs.LookupLaws.{each-answer, each-refusal, most-lookup}
 use Rattle.tap_engine.proofs.engine.Engine.find.Goals as goal
 
