@@ -74,6 +74,13 @@ abbrev pub TakesRowsDue : Engine → Command → ℕ → ℕ → Type 0
 TakesRowsDue engine command before steps =
     OverTables engine (λ t. IsShortRun command engine.session t → steps ≤ before + run_due command engine.session t)
 
+-- a step for the document that is shown, and one for each note on a document
+abbrev pub lookup_work : Lookup → Tables → ℕ
+lookup_work (ShowDoc num) tables = 1
+lookup_work (ListNotes num) tables = length (notes_on num tables.notes)
+lookup_work ListQueries tables = 0
+lookup_work Count tables = 0
+
 -- the steps that a run of this query may take
 abbrev pub run_work : Option QueryRow → Session → Tables → ℕ
 run_work None session tables = 0
@@ -98,20 +105,13 @@ abbrev pub digest_work : Option QueryRow → ℕ → Tables → ℕ
 digest_work None ordinal tables = 0
 digest_work (Some query) ordinal tables = length (entries_in_run ordinal (delivered query.num.0 tables))
 
--- a step for the document that is shown, and one for each note on a document
-abbrev pub lookup_work : Lookup → Tables → ℕ
-lookup_work (ShowDoc num) tables = 1
-lookup_work (ListNotes num) tables = length (notes_on num tables.notes)
-lookup_work ListQueries tables = 0
-lookup_work Count tables = 0
-
 -- the most steps that a command may take
 abbrev pub most_steps : Command → Session → Tables → ℕ
+most_steps (Find lookup) session tables = lookup_work lookup tables
 most_steps (Run name) session tables = run_work (query_named (user_of session) name tables) session tables
 most_steps (Wake name) session tables = wake_work (query_named (user_of session) name tables) tables
 most_steps (ListOf name) session tables = list_work (query_named (user_of session) name tables) tables
 most_steps (DigestOf name ordinal) session tables = digest_work (query_named (user_of session) name tables) ordinal tables
-most_steps (Find lookup) session tables = lookup_work lookup tables
 most_steps (Ask moment source) session tables = length tables.docs + length tables.notes
 most_steps other session tables = 0
 
