@@ -166,16 +166,19 @@ const FIRST_REPLIES: &[u8] =
     b"ok 0 as ann\nok 0 at 100\nok 0 query q\nok 0 doc 1\nok 0 at 101\nok 1 run 1 before 101\ndoc 1 first 100\n\
       ok 0 at 110\nok 0 doc 2\nok 0 at 111\nok 1 run 2 before 111\ndoc 2 first 110\n";
 
-const SECOND: &[u8] = b"as ann\nat 111\nat 120\nmail\nSubject: hi\n\n.\nat 121\nrun q\nbox q\n";
+const SECOND: &[u8] =
+    b"counts\nas ann\nat 111\nat 120\nmail\nSubject: hi\n\n.\nat 121\nrun q\nbox q\n";
 
 const SECOND_REPLIES: &[u8] =
-    b"ok 0 as ann\nok 0 at 111\nok 0 at 120\nok 0 doc 3\nok 0 at 121\nok 1 run 3 before 121\ndoc 3 first 120\n\
+    b"ok 0 counts documents 2 notes 0 moment 111\nok 0 as ann\nok 0 at 111\nok 0 at 120\nok 0 doc 3\nok 0 at 121\nok 1 run 3 before 121\ndoc 3 first 120\n\
       ok 3 box q\ndoc 1 first 100 run 1\ndoc 2 first 110 run 2\ndoc 3 first 120 run 3\n";
 
-const THIRD: &[u8] = b"as ann\nbox q\n";
+const THIRD: &[u8] = b"counts\nas ann\nbox q\nqueries\nshow 3\n";
 
 const THIRD_REPLIES: &[u8] =
-    b"ok 0 as ann\nok 3 box q\ndoc 1 first 100 run 1\ndoc 2 first 110 run 2\ndoc 3 first 120 run 3\n";
+    b"ok 0 counts documents 3 notes 0 moment 121\nok 0 as ann\nok 3 box q\ndoc 1 first 100 run 1\ndoc 2 first 110 run 2\n\
+      doc 3 first 120 run 3\nok 1 queries\nquery q ts 100 from 0 runs 3 last 121 boxed 3 text m.words HAS 'hi'\n\
+      ok 2 show 3 at 120\nSubject: hi\n\n";
 
 // Returns how many of three sessions over the same files are right, up to the first that isn't.
 fn right_sessions(alloc: Global) -> u8 {
