@@ -135,7 +135,7 @@ file="$folder/tapestry_${version}_$architecture.deb"
 find "$root" -exec touch --no-dereference --date="@$SOURCE_DATE_EPOCH" {} +
 dpkg-deb --root-owner-group -Zxz --threads-max=1 --build "$root" "$file" >/dev/null
 if command -v lintian >/dev/null; then
-  lintian --fail-on error --no-tag-display-limit "$file" >&2 || fail "lintian finds errors in $file"
+  lintian --fail-on error --tag-display-limit 0 --allow-root "$file" >&2 || fail "lintian finds errors in $file"
 else
   echo 'package: lintian is missing, so nobody looked at the package' >&2
 fi
