@@ -116,6 +116,7 @@ class Daemon:
         self._swept_at = time.monotonic()
         self._alive_at = 0.0
         self._is_ready = False
+        self._is_told = False  # systemd knows that
         self._stop_signal = 0
         self._rereads = False
         self._wake_read, self._wake_write = os.pipe2(os.O_NONBLOCK | os.O_CLOEXEC)
@@ -192,7 +193,9 @@ class Daemon:
     def _tick(self) -> None:
         """What is to be done at its time."""
         now = time.monotonic()
-        if self.notify.watchdog is not None and now - self._alive_at >= self.notify.watchdog / 2:
+        if self._is_ready and not self._is_told:
+            self._is_told = self.notify.ready()
+        if self._is_told and self.notify.watchdog is not None and now - self._alive_at >= self.notify.watchdog / 2:
             self._alive_at = now
             if not self._expected or now - self._asked_at < LONGEST_REPLY:
                 self.notify.alive()
@@ -239,7 +242,7 @@ class Daemon:
             self.program = Program(self.words)
         except OSError as error:
             pause = self._start_pause.grow()
-            say(f"{self.words[0]} can't be started ({error.strerror}): TAPESTRY names the program; trying again in {pause:.0f} seconds", ERROR)
+            say(f"{self.words[0]} can't be started ({error.strerror}): TAPESTRY names the program; again in {pause:.1f} seconds", ERROR)
             self.clients.wait(f"the program can't be started: {error.strerror}")
             return
         self.selector.register(self.program.output, selectors.EVENT_READ, lambda _: self._read_program())
@@ -438,7 +441,7 @@ class Daemon:
             self._show()
             if not self._is_ready:
                 self._is_ready = True
-                self.notify.ready()
+                self._is_told = self.notify.ready()
                 assert self.session is not None
                 say(f"ready: {self.session.documents} documents in {self.paths.store}", INFO)
         elif piece.kind == "spool":

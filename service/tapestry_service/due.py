@@ -176,7 +176,8 @@ class Due:
                 if delivery.look():
                     self.is_dirty = True
             except OSError as error:
-                delivery.failed(f"the mark of a digest of {delivery.of} wasn't written, so it comes again: {advice(error, self._digest_marks.path)}")
+                why = advice(error, self._digest_marks.path)
+                delivery.failed(f"the mark of a digest of {delivery.of} wasn't written, so it comes again: {why}")
         self._leaving = [it for it in self._leaving if it.is_running]
 
     @property

@@ -25,24 +25,24 @@ class Notify:
             self._socket = socket.socket(socket.AF_UNIX, socket.SOCK_DGRAM | socket.SOCK_CLOEXEC)
             self._socket.setblocking(False)
 
-    def send(self, *lines: str) -> None:
-        """Sends these lines as one message; one that can't be sent is left out."""
+    def send(self, *lines: str) -> bool:
+        """Sends these lines as one message; returns whether it was taken. It isn't if systemd doesn't read at the moment."""
         if self._socket is None:
-            return
+            return True
         try:
             self._socket.sendto("\n".join(lines).encode("utf-8", "replace"), self._address)
-        except OSError:
-            pass
+        except OSError as error:
+            return not isinstance(error, BlockingIOError)
+        return True
 
-    def ready(self) -> None:
-        """The service takes mail and users from now on."""
-        self.send("READY=1")
+    def ready(self) -> bool:
+        """The service takes mail and users from now on. It is to be said again if it wasn't taken."""
+        return self.send("READY=1")
 
     def status(self, text: str) -> None:
         """What `systemctl status` shows."""
-        if text != self._status:
+        if text != self._status and self.send("STATUS=" + text.replace("\n", " ")):
             self._status = text
-            self.send("STATUS=" + text.replace("\n", " "))
 
     def alive(self) -> None:
         """The sign of life for the watchdog."""

@@ -14,7 +14,7 @@ from typing import Callable, Dict, List, NamedTuple, Optional, Tuple
 
 from .files import read_or_none, remove, replace_synced, sync_folder, write_synced
 from .log import ERROR, INFO, NOTICE, WARNING, say
-from .messages import MESSAGE_LIMIT, RAW_LIMIT, Text, mbox_of, stored_text, sum_of_lines
+from .messages import RAW_LIMIT, Text, mbox_of, stored_text, sum_of_lines
 from .replies import Reply
 from .session import Session
 from .work import Exchange, Refused, Work

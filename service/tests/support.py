@@ -36,10 +36,11 @@ def the_program(variable: str = "TAPESTRY") -> str:
     if path and os.access(path, os.X_OK):
         return os.path.abspath(path)
     if os.environ.get("SERVICE_TESTS") == "alone":
-        raise unittest.SkipTest(f"SERVICE_TESTS=alone: what needs the program is left out")
+        raise unittest.SkipTest("SERVICE_TESTS=alone: what needs the program is left out")
+    name = "tapestry_pop" if variable == "TAPESTRY_POP" else "tapestry"
     raise AssertionError(
-        f"{variable} names no program ({path or 'it is not set'}): `tools/prove.py --program {'tapestry_pop' if 'POP' in variable else 'tapestry'}`"
-        " proves and builds it; SERVICE_TESTS=alone leaves these tests out"
+        f"{variable} names no program ({path or 'it is not set'}): `tools/prove.py --program {name}` proves and builds it;"
+        " SERVICE_TESTS=alone leaves these tests out"
     )
 
 
@@ -58,8 +59,8 @@ class Folder(unittest.TestCase):
             return file.read()
 
 
-def wait_until(holds: Callable[[], Any], what: str, seconds: float = 20.0) -> Any:
-    """Waits until something holds, and returns it; fails after so many seconds."""
+def wait_until(holds: Callable[[], Any], what: str, seconds: float = 90.0) -> Any:
+    """Waits until something holds, and returns it; fails after that many seconds, which a busy machine may take."""
     end = time.monotonic() + seconds
     while True:
         found = holds()
@@ -73,7 +74,7 @@ def wait_until(holds: Callable[[], Any], what: str, seconds: float = 20.0) -> An
 class Talk:
     """A client's connection."""
 
-    def __init__(self, path: str, timeout: float = 20.0):
+    def __init__(self, path: str, timeout: float = 90.0):
         self.socket = socket.socket(socket.AF_UNIX)
         self.socket.settimeout(timeout)
         self.socket.connect(path)
@@ -172,7 +173,7 @@ class Service:
     def waiting(self) -> List[str]:
         return os.listdir(os.path.join(self.spool, "new"))
 
-    def wait_empty(self, seconds: float = 20.0) -> None:
+    def wait_empty(self, seconds: float = 90.0) -> None:
         wait_until(lambda: not self.waiting(), "the spool is empty", seconds)
 
     def talk(self) -> Talk:
@@ -202,6 +203,18 @@ class WithService(Folder):
         bad = [*getattr(result, "failures", []), *getattr(result, "errors", [])] if result is not None else []
         if any(test is self for test, _ in bad) or not getattr(self._outcome, "success", True):  # type: ignore[attr-defined]
             sys.stderr.write(f"\n-- the log of {self.id()}:\n{service.said()[-3000:]}\n")
+
+
+def soon(test: unittest.TestCase, trial: Callable[[], None], seconds: float, times: int = 5) -> None:
+    """A trial that takes less than this, in one of several goes, since the machine may be busy."""
+    taken = []
+    for _ in range(times):
+        began = time.monotonic()
+        trial()
+        taken.append(time.monotonic() - began)
+        if taken[-1] < seconds:
+            return
+    test.fail(f"not within {seconds} seconds: {taken}")
 
 
 class Driver:

@@ -251,17 +251,18 @@ class Digests(Case):
             wait_until(work.look, "the command has ended")
 
     def test_a_command_gets_each_digest_once(self) -> None:
-        work = self.digest("sh", "-c", f"echo $TAPESTRY_USER $TAPESTRY_QUERY $TAPESTRY_RUN >> {self.place('out')}; cat >> {self.place('out')}")
+        out = self.place("out")
+        work = self.digest("sh", "-c", f"echo $TAPESTRY_USER $TAPESTRY_QUERY $TAPESTRY_RUN >> {out}; cat >> {out}")
         self.driver.run(work.deliver(self.session(), None))
         self.box.runs = [[(1, 5, b"x\n")], [], [(2, 6, b"y\n")]]
         for _ in range(4):
             self.take(work)
-        out = self.read("out")
-        self.assertEqual(out.count(b"ann q 1\n"), 1)
-        self.assertEqual(out.count(b"ann q 3\n"), 1)
-        self.assertEqual(out.count(b"Message-ID: <q."), 2)
+        said = self.read("out")
+        self.assertEqual(said.count(b"ann q 1\n"), 1)
+        self.assertEqual(said.count(b"ann q 3\n"), 1)
+        self.assertEqual(said.count(b"Message-ID: <q."), 2)
         self.take(self.digest("false"))
-        self.assertEqual(self.read("out"), out)
+        self.assertEqual(self.read("out"), said)
 
     def test_runs_from_before_the_rule_have_none(self) -> None:
         self.box.runs = [[(1, 5, b"x\n")], [(2, 5, b"y\n")]]
