@@ -8,7 +8,7 @@ name="${name:-tapestry_mem}"
 program="${PROGRAM:-$top/crates/$name/out/$name}"
 scratch="$(mktemp -d)"
 trap 'rm -rf "$scratch"' EXIT
-[ -n "${PROGRAM:-}" ] || "$top/tools/prove.py" --program "$name" </dev/null
+[ -n "${PROGRAM:-}" ] || "$top/tools/build.py" program "$name" </dev/null
 
 # Runs the program, with the words that follow, on a script and prints a line with its name, size, seconds, processor seconds and
 # memory. Sets `seconds`, and `cpu`, which other work on the machine changes less.

@@ -121,6 +121,15 @@ def or_of_times(n):
     return " OR ".join(f"(NOW >= m.ts + {i + 1} HOURS AND NOW < m.ts + {i + 2} HOURS)" for i in range(n))
 
 
+def nested_ors(n):
+    """Five EXISTS in one another, each with so many alternatives that each have a key."""
+    text = []
+    for this, outer in zip("abcde", "mabcd"):
+        others = "".join(f" OR {this}.subject = '{this}{i}'" for i in range(n - 1))
+        text.append(f"EXISTS ({this}: DOC WHERE ({this}.inreplyto = {outer}.msgid{others})")
+    return " AND ".join(text) + ")" * 5
+
+
 def long_text(n):
     return "m.subject = '" + "x" * n + "'"
 
@@ -152,6 +161,7 @@ ROWS = [
     ("a query with 28 spans of time", 7, lambda n: mails(1000), lambda n: asked(or_of_times(n))),
     ("a query with 28 ORs of times", 7, lambda n: mails(1000), lambda n: asked(ands_of_ors(n))),
     ("a query with 24 ORs of times under NOT EXISTS", 6, lambda n: mails(1000), lambda n: asked(nots_of_ands_of_ors(n))),
+    ("a query with 5 EXISTS of 12 alternatives in one another", 3, lambda n: "", lambda n: asked(nested_ors(n))),
     ("a query of one long text, asked 1,000 times", 1000, lambda n: mails(100), lambda n: "at 300000000\n" + f"ask 2000 {long_text(n)}\n" * 1000),
     ("another of its subject, of which there are 20,000", 5000, mails_of_one_subject, lambda n: asked("EXISTS (r: DOC WHERE r.subject = m.subject AND r.id > m.id)")),
     ("64 rules over a box of 10,000", 16, lambda n: mails(10000) + BOX + rules(n), lambda n: "list all\n"),

@@ -8,7 +8,7 @@
 name=tapestry_pop
 . "$(dirname "$0")/common.sh"
 loader="${LOADER:-$top/crates/tapestry/out/tapestry}"
-[ -n "${LOADER:-}" ] || "$top/tools/prove.py" --program tapestry </dev/null
+[ -n "${LOADER:-}" ] || "$top/tools/build.py" program tapestry </dev/null
 messages="${MESSAGES:-500}"
 port="${PORT:-11110}"
 store="$scratch/mail.db"

@@ -6,7 +6,9 @@
 Each line is so many mails, a query, its first run, rounds of one event each, a run, and as many rounds of one event and one run. A
 round is the difference of the last two by the number of rounds. The rounds of a process go by turns, a tenth of them without runs and
 then a tenth with runs, so that what the machine does for a moment falls into one turn: the middle turn counts, and then the middle one
-of TIMES processes. PEER is the program of bench/peer.c: it gets the same script, with the query in its own form, and its
+of TIMES processes. Some rows are a question in place of a run: they have no rounds. SQLite (Python's sqlite3) gets the same rows, with
+an index on each field, and the questions and first runs of some rows as SQL: its time is the processor's, and what it finds has to be
+the same. PEER is the program of bench/peer.c: it gets the same script, with the query in its own form, and its
 replies to the runs have to be the same.
 
 Mail i comes a second after mail i - 1. It has the message id <i@example.org>, one of 10 senders, one of 100 subjects and three
@@ -20,6 +22,7 @@ most seconds of one line, SHAPES a text that the names of the shapes have.
 """
 
 import os
+import sqlite3
 import statistics
 import subprocess
 import sys
@@ -84,6 +87,35 @@ def new_note(size, k):
     return f"note {j // 4 * 5 + j % 4 + 1} score 3 fine\n"
 
 
+def new_answer(size, k):
+    """A reply, of another sender than all, to one of the last mails that have none."""
+    return new_reply(size, k).replace("mail\n", "mail\nFrom: other@example.org\n", 1)
+
+
+THREAD = "(r.inreplyto = m.msgid OR r.references HAS m.msgid)"
+SQL_THREAD = (
+    "SELECT num, MIN(first) FROM (SELECT m.num AS num, MAX(m.ts, r.ts) AS first FROM doc m JOIN doc r ON r.inreplyto = m.msgid{0}"
+    " UNION ALL SELECT m.num, MAX(m.ts, r.ts) FROM doc m JOIN ref f ON f.msgid = m.msgid JOIN doc r ON r.num = f.num{0})"
+    " GROUP BY num ORDER BY 2, 1"
+)
+SQL_SILENT = (
+    f"SELECT num, ts + {TEN_DAYS} FROM doc m WHERE ts + {TEN_DAYS} < :now AND NOT EXISTS (SELECT 1 FROM doc r WHERE r.inreplyto = m.msgid"
+    f" AND r.ts <= m.ts + {TEN_DAYS}) AND NOT EXISTS (SELECT 1 FROM ref f JOIN doc r ON r.num = f.num WHERE f.msgid = m.msgid"
+    f" AND r.ts <= m.ts + {TEN_DAYS}) ORDER BY 2, 1"
+)
+
+# What SQLite is asked in place of a first run or of a question, by the name of the row.
+SQL = {
+    "a thread": SQL_THREAD.format(""),
+    "a silent thread": SQL_SILENT,
+    "a thread, but not mine": SQL_THREAD.format(" AND r.sender <> m.sender"),
+    "ask: has a reply": "SELECT num FROM doc m WHERE EXISTS (SELECT 1 FROM doc r WHERE r.inreplyto = m.msgid) ORDER BY num",
+    "ask: a reply that has a note": "SELECT num FROM doc m WHERE EXISTS (SELECT 1 FROM doc r WHERE r.inreplyto = m.msgid"
+    " AND EXISTS (SELECT 1 FROM note a WHERE a.doc = r.num)) ORDER BY num",
+    "ask: a thread": "SELECT num FROM doc m WHERE EXISTS (SELECT 1 FROM doc r WHERE r.inreplyto = m.msgid)"
+    " OR EXISTS (SELECT 1 FROM ref f WHERE f.msgid = m.msgid) ORDER BY num",
+}
+
 # Name, query, event, query of the peer.
 ROWS = [
     ("a word", "m.words HAS 'lunch'", new_mail, "word lunch"),
@@ -101,6 +133,12 @@ ROWS = [
     ("another of its subject", "EXISTS (r: DOC WHERE r.subject = m.subject AND r.id > m.id)", new_mail, None),
     ("another of ten of its subject", "EXISTS (r: DOC WHERE r.subject = m.subject AND r.id > m.id)", new_mail_of_ten, None),
     ("a thread by references", "EXISTS (r: DOC WHERE r.references HAS m.msgid)", new_reply, None),
+    ("a thread", f"EXISTS (r: DOC WHERE {THREAD})", new_reply, None),
+    ("a silent thread", f"NOW >= m.ts + 10 DAYS AND NOT EXISTS (r: DOC WHERE {THREAD})", new_mail, None),
+    ("a thread, but not mine", f"EXISTS (r: DOC WHERE r.from <> m.from AND {THREAD})", new_answer, None),
+    ("ask: has a reply", "EXISTS (r: DOC WHERE r.inreplyto = m.msgid)", None, None),
+    ("ask: a reply that has a note", "EXISTS (r: DOC WHERE r.inreplyto = m.msgid AND EXISTS (a: NOTE WHERE a.doc = r.id))", None, None),
+    ("ask: a thread", f"EXISTS (r: DOC WHERE {THREAD})", None, None),
 ]
 CROSS_ROWS = [
     ("a cross product", "EXISTS (a: DOC WHERE EXISTS (b: DOC WHERE a.size = 1))"),
@@ -159,8 +197,38 @@ class Session:
         self.process.wait()
 
 
+def now_of(size):
+    """The moment of the first run, ten days later, so that an absence of that length has something to deliver."""
+    return 2000 + size + TEN_DAYS
+
+
+def measure_sqlite(size, sql):
+    """Processor seconds of a SELECT of SQLite over the same rows, and the lines that a reply has for what it finds."""
+    base = sqlite3.connect(":memory:")
+    base.executescript(
+        "CREATE TABLE doc (num INTEGER PRIMARY KEY, ts INTEGER, sender TEXT, msgid TEXT, subject TEXT, inreplyto TEXT);"
+        "CREATE TABLE ref (num INTEGER, msgid TEXT); CREATE TABLE note (num INTEGER PRIMARY KEY, doc INTEGER, ts INTEGER);"
+        "CREATE INDEX doc_ts ON doc (ts); CREATE INDEX doc_sender ON doc (sender); CREATE INDEX doc_msgid ON doc (msgid);"
+        "CREATE INDEX doc_subject ON doc (subject); CREATE INDEX doc_inreplyto ON doc (inreplyto);"
+        "CREATE INDEX ref_msgid ON ref (msgid); CREATE INDEX ref_num ON ref (num); CREATE INDEX note_doc ON note (doc);"
+    )
+    for i in range(1, size + 1):
+        parent = f"{i - 1}@example.org" if i % 4 == 0 else None
+        base.execute("INSERT INTO doc VALUES (?, ?, ?, ?, ?, ?)", (i, 1000 + i, i % 10, f"{i}@example.org", i % 100, parent))
+        if parent:
+            base.execute("INSERT INTO ref VALUES (?, ?)", (i, parent))
+        if i % 5 == 0:
+            base.execute("INSERT INTO note VALUES (NULL, ?, ?)", (i, 1000 + i))
+    base.execute("ANALYZE")
+    start = time.process_time()
+    rows = base.execute(sql, {"now": now_of(size)} if ":now" in sql else {}).fetchall()
+    seconds = time.process_time() - start
+    base.close()
+    return seconds, "".join("doc " + " first ".join(map(str, row)) + "\n" for row in rows).encode()
+
+
 def measure(program, size, query, event, rounds):
-    """Seconds of the first run and of one round, and the replies to all runs."""
+    """Seconds of the first run, or of the question if there is no event, and of one round, and the replies to all runs."""
     session = Session(program)
     try:
         text = ["at 1000\nas ann\n"]
@@ -168,8 +236,11 @@ def measure(program, size, query, event, rounds):
         for i in range(1, size + 1):
             text.append(f"at {1000 + i}\n{stored(i)}" + (f"note {i} score 3 fine\n" if i % 5 == 0 else ""))
         session.part("".join(text))
-        # Ten days later, so that an absence of that length has something to deliver.
-        now = 2000 + size + TEN_DAYS
+        now = now_of(size)
+        if event is None:
+            session.part(f"at {now}\n")
+            seconds, replies = session.part(f"ask {now - 1} {query}\n")
+            return seconds, None, replies
         _, said = session.part(f"at {now}\nquery q {query}\n")
         if b"ok 0 query q" not in said:
             raise SystemExit(f"shapes: {query}: {said.decode()}")
@@ -226,6 +297,12 @@ def line(program, peer, name, size, query, event, peer_query, rounds):
         beside = f"{figure(peer_first, 'ms', 1e3)}, {figure(peer_each, 'us', 1e6)}; times {ratio}"
         if peer_replies != replies:
             beside += "; OTHER REPLIES"
+    if name in SQL:
+        found = [measure_sqlite(size, SQL[name]) for _ in range(TIMES)]
+        seconds = statistics.median(it[0] for it in found)
+        beside = f"SQLite {figure(seconds, 'ms', 1e3)}; times {first / seconds:.1f}"
+        if replies.partition(b"\n")[2].partition(b"no 1\n")[0] != found[0][1]:
+            beside += "; OTHER ROWS"
     if refused:
         beside += f"; {refused} REFUSED"
     print(f"| {name} | {size:,} | {figure(first, 'ms', 1e3)} | {figure(each, 'us', 1e6)} | {delivered:,} | {beside} |", flush=True)
@@ -234,7 +311,7 @@ def line(program, peer, name, size, query, event, peer_query, rounds):
 
 def main(words):
     program, peer = words[0], words[1] if len(words) > 1 else None
-    print("| Shape | Mails | First run | A round | Delivered | In C: first run, round |\n|---|---|---|---|---|---|", flush=True)
+    print("| Shape | Mails | First run | A round | Delivered | In C: first run, round; or by SQLite |\n|---|---|---|---|---|---|", flush=True)
     slow = set()
     for size in SIZES:
         for name, query, event, peer_query in ROWS:

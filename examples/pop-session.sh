@@ -6,7 +6,7 @@
 # SECRETFILE has the password in its first line. If another session holds the store, this one waits, WAIT seconds at most (10), and a
 # client then gets one line that begins with -ERR. The lock is that of the other scripts here, the file STORE.lock.
 # The status is 0 whatever the program's was: socat drops what it hasn't sent yet if a command ends with another.
-# TAPESTRY_POP names another program than crates/tapestry_pop/out/tapestry_pop, which `tools/prove.py --program tapestry_pop` builds.
+# TAPESTRY_POP names another program than crates/tapestry_pop/out/tapestry_pop, which `tools/build.py program tapestry_pop` builds.
 set -euo pipefail
 [ $# -eq 4 ] || { sed -n '2,9s/^# \{0,1\}//p' "$0" >&2; exit 2; }
 program="${TAPESTRY_POP:-$(dirname "$(dirname "$(realpath "$0")")")/crates/tapestry_pop/out/tapestry_pop}"

@@ -19,7 +19,7 @@ use tap_rows::Tables;
 // so that `mbox` adds none.
 const SCRIPT: &[u8] =
     b"at 100\nas ann\nmail\nSubject: hi\n\n.\nnote 1 tag 1 good\nquery q m.words HAS 'hi'\nfilter\n.\nmbox\n.\nat 101\n\
-      run q\nbox q\nlist q\nexplain q\nask 100 TRUE\n";
+      run q\nbox q\nlist q\nexplain q\nask 100 TRUE\nshow 1\nnotes 1\nqueries\ncounts\n";
 
 // Appends a command, if there is one.
 fn push_some(commands: &mut Rows<Command>, command: Option<Command>) -> Result<(), Memory> {
@@ -67,6 +67,7 @@ fn shown(reply: &Reply) -> usize {
         Reply::ListOf { rows, .. } => rows.len(),
         Reply::Explain { lines, .. } => lines.len(),
         Reply::Asked { docs, .. } => docs.len(),
+        Reply::Found { lines, .. } => lines.len(),
         _ => 0,
     }
 }
@@ -220,7 +221,7 @@ fn each_command_with_rows_is_one_commit(rt: HostRuntime) -> Result<(), Memory> {
         ),
         (
             6,
-            &[0, 0, 0, 0, 0, 0, 0, 0, 1, 1, 1, 1, 1],
+            &[0, 0, 0, 0, 0, 0, 0, 0, 1, 1, 1, 1, 1, 2, 1, 1, 0],
             [1, 1, 1, 1, 1, 1],
             [1, 1],
             false,

@@ -22,7 +22,9 @@ use Rattle.script_lang.specs.declared.refusal.Refusal.TheVariants.{Unknown, Form
 use Rattle.script_lang.specs.declared.refusal.Refusal.TheVariants.{NoQuery, NoDoc, Lex, Parse, Types, NotOver, Limit, Rule, ManyRules, Memory, NoRun}
 use Rattle.script_lang.specs.declared.reply.Reply.{Reply}
 use Rattle.script_lang.specs.declared.reply.Reply.TheVariants.{At, AsUser, OneDoc, Docs, OneNote, Defined, Ran, BoxOf, ListOf, Filter, Explain, Asked, Wake}
-use Rattle.script_lang.specs.declared.reply.Reply.TheVariants.{ScoresOf, DigestOf, No}
+use Rattle.script_lang.specs.declared.reply.Reply.TheVariants.{ScoresOf, DigestOf, Found as FoundRows, No}
+use Rattle.script_lang.specs.declared.lookup.Found.{Found}
+use Rattle.script_lang.specs.declared.lookup.Found.TheVariants.{DocText, DocNotes, UserQueries, Counts}
 
 -- a line: a text and an LF
 abbrev pub line : List ℕ → List ℕ
@@ -127,6 +129,14 @@ abbrev pub moment_text : Option ℤ → List ℕ
 moment_text None = codes "never"
 moment_text (Some moment) = signed_decimal moment
 
+-- the first line of a look-up with so many further lines
+abbrev pub found_text : ℕ → Found → List ℕ
+found_text n (DocText doc arrival) = head n (codes "show") ++ decimal doc ++ codes " at " ++ signed_decimal arrival
+found_text n (DocNotes doc) = head n (codes "notes") ++ decimal doc
+found_text n UserQueries = codes "ok " ++ decimal n ++ codes " queries"
+found_text n (Counts docs notes moment) =
+    head n (codes "counts") ++ codes "documents " ++ decimal docs ++ codes " notes " ++ decimal notes ++ codes " moment " ++ signed_decimal moment
+
 -- the text of a reply's first line
 abbrev pub first_text : Reply → List ℕ
 first_text (At moment) = head 0 (codes "at") ++ signed_decimal moment
@@ -144,6 +154,7 @@ first_text (Asked moment docs) = head (length docs) (codes "ask") ++ signed_deci
 first_text (Wake name moment) = head 0 (codes "wake") ++ name ++ codes " " ++ moment_text moment
 first_text (ScoresOf kind rows) = head (length rows) (codes "scores") ++ kind
 first_text (DigestOf name ordinal lines) = head (length lines) (codes "digest") ++ name ++ codes " " ++ decimal ordinal
+first_text (FoundRows found lines) = found_text (length lines) found
 first_text (No refusal) = refusal_text refusal
 
 -- the lines that follow the first
@@ -155,6 +166,7 @@ rest_lines (Explain name lines) = flat_map line lines
 rest_lines (Asked moment docs) = flat_map doc_line docs
 rest_lines (ScoresOf kind rows) = flat_map score_line rows
 rest_lines (DigestOf name ordinal lines) = flat_map line lines
+rest_lines (FoundRows found lines) = flat_map line lines
 rest_lines (At moment) = []
 rest_lines (AsUser name) = []
 rest_lines (OneDoc doc) = []
@@ -195,6 +207,7 @@ HasShortNames (OneNote note) = Unit {0}
 HasShortNames (Ran ordinal moment hits) = Unit {0}
 HasShortNames (Filter rules) = Unit {0}
 HasShortNames (Asked moment docs) = Unit {0}
+HasShortNames (FoundRows found lines) = Unit {0}
 HasShortNames (No refusal) = Unit {0}
 
 -- a word that begins a reply's first line has at most 10 bytes

@@ -3,12 +3,13 @@ ghost use Rattle.std.specs.Prelude.{◌≡◌, ◌≤◌, ◌+◌, ◌++◌, Lis
 ghost use Rattle.std.specs.Fmt.{decimal, signed_decimal};
 ghost use Rattle.arrayvec.specs.ArrayVec.{array_vec_len};
 ghost use Rattle.script_lang.specs.Replies.{head, line, hit_line, entry_text, entry_line, listed_line, doc_line, score_line, IsShort, lex_text, parse_text};
-ghost use Rattle.script_lang.specs.Replies.{type_text, refusal_text, limit_words, moment_text, first_text};
+ghost use Rattle.script_lang.specs.Replies.{type_text, refusal_text, limit_words, moment_text, first_text, found_text};
 ghost use Rattle.script_lang.specs.declared.reply.Reply.{Reply};
 
 use crate::buffer::{
     head_line, head_name, head_number, number_line, push_bytes, push_number, text_line,
 };
+use crate::lookup::Found;
 use crate::refusal::{LimitName, Refusal};
 use arrayvec::ArrayVec;
 use tap_base::DocNum;
@@ -265,4 +266,48 @@ pub fn digest_head(n: usize, name: &[u8], ordinal: u32) -> ArrayVec<u8, 512>
     push_number(&mut buffer, ordinal);
     push_bytes(&mut buffer, b"\n");
     buffer
+}
+
+// Returns the first line of the reply to `queries`.
+fn queries_head(n: usize) -> ArrayVec<u8, 512>
+    ensures { result.items ≡ line (codes "ok " ++ decimal n ++ codes " queries") }
+{
+    let mut buffer = ArrayVec::new();
+    push_bytes(&mut buffer, b"ok ");
+    push_number(&mut buffer, n);
+    push_bytes(&mut buffer, b" queries\n");
+    buffer
+}
+
+/// Returns the first line of the reply to a look-up with so many further lines.
+pub fn found_head(n: usize, found: Found) -> ArrayVec<u8, 512>
+    ensures { result.items ≡ line (found_text n found) }
+{
+    match found {
+        Found::DocText { doc, arrival } => {
+            let mut buffer = head_line(n, b"show");
+            push_number(&mut buffer, doc);
+            push_bytes(&mut buffer, b" at ");
+            push_number(&mut buffer, arrival);
+            push_bytes(&mut buffer, b"\n");
+            buffer
+        }
+        Found::DocNotes { doc } => head_number(n, b"notes", doc),
+        Found::UserQueries => queries_head(n),
+        Found::Counts {
+            docs,
+            notes,
+            moment,
+        } => {
+            let mut buffer = head_line(n, b"counts");
+            push_bytes(&mut buffer, b"documents ");
+            push_number(&mut buffer, docs);
+            push_bytes(&mut buffer, b" notes ");
+            push_number(&mut buffer, notes);
+            push_bytes(&mut buffer, b" moment ");
+            push_number(&mut buffer, moment);
+            push_bytes(&mut buffer, b"\n");
+            buffer
+        }
+    }
 }

@@ -4,12 +4,15 @@ ghost use Rattle.std.specs.Prelude.{◌≡◌, ◌≤◌, ◌<◌, length};
 ghost use Rattle.script_lang.specs.Replies.{HasShortNames};
 
 use mail_lines::Block;
-use script_lang::{Command, LimitName, Refusal, Reply, ScriptReader, put_reply};
+use script_lang::{
+    Command, Found, LimitName, Lookup, QueryState, Refusal, Reply, ScriptReader, note_line,
+    put_reply, query_line,
+};
 use std::alloc::Global;
 use std::test::Fail;
-use tap_base::{DocNum, Memory, Rows, Text, Texts, put_decimal};
+use tap_base::{DocNum, Memory, NoteNum, Rows, Text, Texts, put_decimal};
 use tap_edges::{MemSink, PutPlan};
-use tap_rows::Entry;
+use tap_rows::{Entry, Note};
 use tql_lex::LexFault;
 use tql_parse::ParseFault;
 use tql_types::TypeFault;
@@ -179,6 +182,130 @@ fn a_text_is_two_puts(rt: HostRuntime) -> Result<(), Fail> {
     Ok(())
 }
 
+// Returns the bytes of the reply to a look-up that found two texts, or no text.
+fn found_bytes(
+    alloc: Global,
+    found: Found,
+    lines: Texts,
+    fails: Vec<PutPlan>,
+) -> Result<Text, Memory> {
+    let reply = Reply::Found { found, lines };
+    let text = shown(alloc, &reply, fails);
+    drop(reply);
+    text
+}
+
+#[test]
+fn look_ups_have_their_lines(rt: HostRuntime) -> Result<(), Fail> {
+    let alloc = rt.alloc();
+    let rows: [(Found, &[u8], &[u8]); 4] = [
+        (
+            Found::DocText {
+                doc: 4294967295,
+                arrival: 250000000000,
+            },
+            b"ok 2 show 4294967295 at 250000000000\none\n\n",
+            b"ok 0 show 4294967295 at 250000000000\n",
+        ),
+        (
+            Found::DocNotes { doc: 7 },
+            b"ok 2 notes 7\none\n\n",
+            b"ok 0 notes 7\n",
+        ),
+        (
+            Found::UserQueries,
+            b"ok 2 queries\none\n\n",
+            b"ok 0 queries\n",
+        ),
+        (
+            Found::Counts {
+                docs: 1000000,
+                notes: 4294967295,
+                moment: 0,
+            },
+            b"ok 2 counts documents 1000000 notes 4294967295 moment 0\none\n\n",
+            b"ok 0 counts documents 1000000 notes 4294967295 moment 0\n",
+        ),
+    ];
+    for (found, two, none) in rows {
+        let bytes = found_bytes(alloc, found, two_lines(alloc)?, Vec::new(alloc))?;
+        assert_eq!(rt; bytes.as_slice(), two);
+        drop(bytes);
+        let bytes = found_bytes(alloc, found, Texts::new(alloc), Vec::new(alloc))?;
+        assert_eq!(rt; bytes.as_slice(), none);
+        drop(bytes);
+    }
+    Ok(())
+}
+
+#[test]
+fn a_look_up_is_cut_at_a_put(rt: HostRuntime) -> Result<(), Fail> {
+    let alloc = rt.alloc();
+    let rows: [(u64, &[u8]); 4] = [
+        (0, b""),
+        (1, b"ok 2 queries\n"),
+        (2, b"ok 2 queries\none"),
+        (9, b"ok 2 queries\none\n\n"),
+    ];
+    for (call, want) in rows {
+        let fails = vec![in alloc; PutPlan { call, out: 0 }]?;
+        let bytes = found_bytes(alloc, Found::UserQueries, two_lines(alloc)?, fails)?;
+        assert_eq!(rt; bytes.as_slice(), want);
+        drop(bytes);
+    }
+    Ok(())
+}
+
+// Returns the line of a note with this text.
+fn noted(alloc: Global, value: i64, text: &[u8]) -> Result<Text, Memory> {
+    let note = Note {
+        num: NoteNum(12),
+        doc: DocNum(3),
+        author: Text::from_slice(alloc, b"ann")?,
+        kind: Text::from_slice(alloc, b"score")?,
+        value,
+        arrival: 1000,
+        text: Text::from_slice(alloc, text)?,
+    };
+    let line = note_line(alloc, &note);
+    drop(note);
+    line
+}
+
+// Returns the line of a query with this last run and this text.
+fn listed(alloc: Global, runs: usize, last: Option<i64>, text: &[u8]) -> Result<Text, Memory> {
+    let state = QueryState {
+        arrival: 1000,
+        start: 0,
+        runs,
+        last,
+        boxed: 5,
+    };
+    query_line(alloc, b"q", state, text)
+}
+
+#[test]
+fn rows_have_their_lines(rt: HostRuntime) -> Result<(), Fail> {
+    let alloc = rt.alloc();
+    let lines = [
+        noted(alloc, -9223372036854775808, b"good  one ")?,
+        noted(alloc, 0, b"")?,
+        listed(alloc, 0, None, b"TRUE")?,
+        listed(alloc, 18446744073709551615, Some(250000000000), b"")?,
+    ];
+    let wants: [&[u8]; 4] = [
+        b"note 12 ts 1000 author ann kind score value -9223372036854775808 text good  one ",
+        b"note 12 ts 1000 author ann kind score value 0 text",
+        b"query q ts 1000 from 0 runs 0 last never boxed 5 text TRUE",
+        b"query q ts 1000 from 0 runs 18446744073709551615 last 250000000000 boxed 5 text",
+    ];
+    for i in 0..4 {
+        assert_eq!(rt; lines[i].as_slice(), wants[i]);
+    }
+    drop(lines);
+    Ok(())
+}
+
 // Shows a name and a text.
 fn show_one(into: &mut Text, name: &[u8], text: &[u8]) -> Result<(), Memory> {
     into.push_slice(name)?;
@@ -227,6 +354,23 @@ fn show_note(
     show_two(into, b",", kind, text)
 }
 
+// Shows a look-up.
+fn show_lookup(alloc: Global, into: &mut Text, lookup: Lookup) -> Result<(), Memory> {
+    match lookup {
+        Lookup::ShowDoc(doc) => {
+            into.push_slice(b"show ")?;
+            put_decimal(alloc, doc as i64, into)?;
+        }
+        Lookup::ListNotes(doc) => {
+            into.push_slice(b"notes ")?;
+            put_decimal(alloc, doc as i64, into)?;
+        }
+        Lookup::ListQueries => into.push_slice(b"queries")?,
+        Lookup::Count => into.push_slice(b"counts")?,
+    }
+    into.push_slice(b";")
+}
+
 // Shows a command.
 fn show(alloc: Global, into: &mut Text, command: &Command) -> Result<(), Memory> {
     match command {
@@ -258,6 +402,7 @@ fn show(alloc: Global, into: &mut Text, command: &Command) -> Result<(), Memory>
             put_decimal(alloc, *ordinal as i64, into)?;
             show_one(into, b",", name.as_slice())
         }
+        Command::Find(lookup) => show_lookup(alloc, into, *lookup),
         Command::Bad(refusal) => show_bad(into, *refusal),
     }
 }
@@ -328,7 +473,7 @@ fn reads(alloc: Global, script: &[u8], size: usize, want: &[u8]) -> Result<bool,
 #[test]
 fn commands_are_read_in_any_pieces(rt: HostRuntime) -> Result<(), Fail> {
     let alloc = rt.alloc();
-    let rows: [(&[u8], &[u8]); 5] = [
+    let rows: [(&[u8], &[u8]); 6] = [
         (
             b"at 9\r\n\t as  ann \n# at 1\n \n#\nrun q\nbox q\nlist q\nexplain q\nwake q\nscores k\ndigest q 01\n",
             b"at 9;as ann;run q;box q;list q;explain q;wake q;scores k;digest 1,q;",
@@ -344,6 +489,10 @@ fn commands_are_read_in_any_pieces(rt: HostRuntime) -> Result<(), Fail> {
         (
             b"mail x\nat 1\n.\nfly\nat\nat 1 2\nmail",
             b"bad form;bad word;bad form;bad form;bad cut;",
+        ),
+        (
+            b"show 1\n notes\t02 \nqueries\ncounts\r\nshow\nshow x\nshow 1 2\nnotes\nnotes 4294967296\nqueries all\ncounts 1\nshows 1\n",
+            b"show 1;notes 2;queries;counts;bad form;bad form;bad form;bad form;bad form;bad form;bad form;bad word;",
         ),
         (b"mbox y\nat 1", b"bad form;"),
     ];

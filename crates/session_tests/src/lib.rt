@@ -17,3 +17,5 @@ mod sample_tests;
 mod script_tests;
 #[cfg(test)]
 mod shape_tests;
+#[cfg(test)]
+mod slow_tests;

@@ -106,7 +106,7 @@ fn finds(alloc: Global, condition: &[u8], want: &[u8]) -> Result<(bool, bool), M
 
 #[test]
 fn runs_of_each_shape_deliver_what_asking_gives(rt: HostRuntime) -> Result<(), Memory> {
-    let rows: [(&[u8], &[u8]); 19] = [
+    let rows: [(&[u8], &[u8]); 22] = [
         // a word
         (
             b"m.words HAS 'lunch'",
@@ -173,6 +173,25 @@ fn runs_of_each_shape_deliver_what_asking_gives(rt: HostRuntime) -> Result<(), M
         (
             b"EXISTS (r: DOC WHERE r.references HAS m.msgid)",
             b"doc 1 first 259152\ndoc 2 first 259155\ndoc 7 first 259180\ndoc 8 first 259190\ndoc 5 first 259203\n",
+        ),
+        // a thread by either way
+        (
+            b"EXISTS (r: DOC WHERE r.inreplyto = m.msgid OR r.references HAS m.msgid)",
+            b"doc 1 first 259152\ndoc 2 first 259155\ndoc 7 first 259180\ndoc 8 first 259190\n\
+              doc 5 first 259203\n",
+        ),
+        // a silent thread
+        (
+            b"NOW >= m.ts + 10 SECONDS AND NOT EXISTS (r: DOC WHERE r.inreplyto = m.msgid \
+              OR r.references HAS m.msgid)",
+            b"doc 3 first 259165\ndoc 4 first 259165\ndoc 5 first 259170\ndoc 6 first 259180\n\
+              doc 9 first 259213\n",
+        ),
+        // an answer to an answer, each by either way
+        (
+            b"EXISTS (r: DOC WHERE (r.inreplyto = m.msgid OR r.references HAS m.msgid) \
+              AND EXISTS (s: DOC WHERE s.inreplyto = r.msgid OR s.references HAS r.msgid))",
+            b"doc 1 first 259155\ndoc 8 first 259190\n",
         ),
         // a reference that is there
         (

@@ -13,7 +13,9 @@ pub const SECOND_REPLIES: &[u8] =
     b"ok 0 as ann\nok 0 at 111\nok 0 at 120\nok 0 doc 3\nok 0 at 121\nok 1 run 3 before 121\ndoc 3 first 120\n\
       ok 3 box q\ndoc 1 first 100 run 1\ndoc 2 first 110 run 2\ndoc 3 first 120 run 3\n";
 
-pub const THIRD: &[u8] = b"as ann\nbox q\n";
+pub const THIRD: &[u8] = b"counts\nas ann\nbox q\nqueries\nshow 3\n";
 
 pub const THIRD_REPLIES: &[u8] =
-    b"ok 0 as ann\nok 3 box q\ndoc 1 first 100 run 1\ndoc 2 first 110 run 2\ndoc 3 first 120 run 3\n";
+    b"ok 0 counts documents 3 notes 0 moment 121\nok 0 as ann\nok 3 box q\ndoc 1 first 100 run 1\ndoc 2 first 110 run 2\n\
+      doc 3 first 120 run 3\nok 1 queries\nquery q ts 100 from 0 runs 3 last 121 boxed 3 text m.words HAS 'hi'\n\
+      ok 2 show 3 at 120\nSubject: hi\n\n";

@@ -5,7 +5,6 @@ use Rattle.tap_base.specs.declared.numbers.DocNum.{DocNum}
 use Rattle.tap_base.specs.Numbers.{moment_of}
 use Rattle.tap_rows.specs.declared.tables.Tables.{Tables}
 use Rattle.tap_rows.specs.declared.rows.Doc.{Doc}
-use Rattle.tap_rows.specs.declared.rows.Note.{Note}
 use Rattle.tap_rows.specs.Results.{is_given, snapshot}
 use Rattle.script_lang.specs.declared.refusal.Refusal.{Refusal}
 use Rattle.script_lang.specs.declared.refusal.Refusal.TheVariants.{BadMoment, NoMoment, NotOver, Memory}
@@ -15,7 +14,7 @@ use Rattle.tql_core.specs.Condition.{Condition}
 use Rattle.tql_core.specs.Holds as Holds
 use Rattle.tql_core.proofs.OfTheSecond.{of-the-second}
 use Rattle.tql_text.specs.Texts.{condition_of}
-use Rattle.snapshot_meaning.specs.Seen.{seen}
+use Rattle.row_index.specs.Rows.{rows_alone}
 use Rattle.tap_model.specs.declared.session.Session.{Session}
 use Rattle.tap_model.specs.Queries.{condition_in}
 use Rattle.tap_model.specs.Verdicts.{first_refusal, verdict, missing, refuse_unless, no_moment, text_fault, not_over}
@@ -54,20 +53,21 @@ module _ (s : Session) (moment source : List ℕ) (m now : ℤ) (is-m : moment_o
   filter-same p q (doc ∷ docs) same = rw (same doc, filter-same p q docs same) refl
 
   -- a condition looks at documents and notes alone
-  seen-same : (c : Condition) → snapshot (Holds.truth_of c) (seen t.docs t.notes) m ≡ snapshot (Holds.truth_of c) t m
-  seen-same c =
-      filter-same (λ doc. is_given (Holds.truth_of c) (seen t.docs t.notes) doc m) (λ doc. is_given (Holds.truth_of c) t doc m) t.docs
-      (λ doc. ap (λ b. int_le doc.arrival m && b) (of-the-second c t (seen t.docs t.notes) doc m refl refl))
+  alone-same : (c : Condition) → snapshot (Holds.truth_of c) (rows_alone t.docs t.notes) m ≡ snapshot (Holds.truth_of c) t m
+  alone-same c =
+      let rows = rows_alone t.docs t.notes in
+      filter-same (λ doc. is_given (Holds.truth_of c) rows doc m) (λ doc. is_given (Holds.truth_of c) t doc m) t.docs
+      (λ doc. ap (λ b. int_le doc.arrival m && b) (of-the-second c t rows doc m refl refl))
 
   -- a question that isn't refused
-  pub answers-ask : (c : Condition) (docs : List Doc) (notes : List Note) (nums : List DocNum) → condition_of source ≡ Ok c → None ≡ refuse_unless (int_lt m now) (NotOver now) → docs ≡ t.docs → notes ≡ t.notes
-      → nums ≡ map (λ doc. doc.num) (snapshot (Holds.truth_of c) (seen docs notes) m) → Answers t s (Ask moment source) (Asked m nums) None s
-  answers-ask c docs notes nums e over is-docs is-notes is =
+  pub answers-ask : (c : Condition) (rows : Tables) (nums : List DocNum) → condition_of source ≡ Ok c
+      → None ≡ refuse_unless (int_lt m now) (NotOver now) → rows ≡ rows_alone t.docs t.notes
+      → nums ≡ map (λ doc. doc.num) (snapshot (Holds.truth_of c) rows m) → Answers t s (Ask moment source) (Asked m nums) None s
+  answers-ask c rows nums e over is-rows is =
       let accepted = answers-accepted t s (Ask moment source) (fine c e ∙ sym over) in
       let same : nums ≡ map (λ doc. doc.num) (snapshot (Holds.truth_of (condition_in source)) t m) =
-      is ∙ ap (λ docs. map (λ doc. doc.num) (snapshot (Holds.truth_of c) (seen docs notes) m)) is-docs
-      ∙ ap (λ notes. map (λ doc. doc.num) (snapshot (Holds.truth_of c) (seen t.docs notes) m)) is-notes
-      ∙ ap (map (λ doc. doc.num)) (seen-same c)
+      is ∙ ap (λ rows. map (λ doc. doc.num) (snapshot (Holds.truth_of c) rows m)) is-rows
+      ∙ ap (map (λ doc. doc.num)) (alone-same c)
       ∙ ap (λ c. map (λ doc. doc.num) (snapshot (Holds.truth_of c) t m)) (sym (read-fine source c e).0) in
       record {
         fine = accepted.fine;

@@ -14,6 +14,7 @@ mod NoteLaws
 mod MboxLaws
 mod FilterLaws
 mod ReadLaws
+mod LookupLaws
 mod LetterLaws
 pub mod FormedLaws
 pub mod StartedLaws

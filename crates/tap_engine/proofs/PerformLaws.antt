@@ -9,7 +9,7 @@ use Rattle.tap_rows.specs.declared.change.Change.{Change}
 use Rattle.tap_rows.specs.Tables.{after}
 use Rattle.keeper_core.specs.Keeping.{Extends}
 use Rattle.script_lang.specs.declared.command.Command.{Command}
-use Rattle.script_lang.specs.declared.command.Command.TheVariants.{At, AsUser, Mail, Mbox, AddNote, Define, Run, BoxOf, ListOf, Filter, Explain, Ask, Wake, ScoresOf, DigestOf, Bad}
+use Rattle.script_lang.specs.declared.command.Command.TheVariants.{At, AsUser, Mail, Mbox, AddNote, Define, Run, BoxOf, ListOf, Filter, Explain, Ask, Wake, ScoresOf, DigestOf, Find, Bad}
 use Rattle.script_lang.specs.declared.refusal.Refusal.{Refusal}
 use Rattle.script_lang.specs.declared.refusal.Refusal.TheVariants.{Memory}
 use Rattle.script_lang.specs.declared.reply.Reply.{Reply}
@@ -44,6 +44,7 @@ moment-alone (Some second) s = refl
 -- a command that adds rows takes memory
 unspared : (c : Command) (s : Session) (t : Tables) (change : Change) → verdict c s t ≡ None → (answer_of c s t).change ≡ Some change → is_spared c s t ≡ false
 unspared (At text) s t change none is = absurd (no-change change (sym (moment-alone (moment_of text) s) ∙ sym (ap (λ v. (answer_by v (At text) s t).change) none) ∙ is))
+unspared (Find lookup) s t change none is = absurd (no-change change (sym (ap (λ v. (answer_by v (Find lookup) s t).change) none) ∙ is))
 unspared (Bad refusal) s t change none is = absurd (some-none refusal none)
 unspared (Ask moment source) s t change none is = ap is_some (first-none 2 (checks (Ask moment source) s t) none)
 unspared (AsUser name) s t change none is = ap is_some none

@@ -1,21 +1,25 @@
 -- What a command costs. A step is a row that the index hands out.
-use Rattle.std.specs.Prelude.{⊤, ℕ, ℤ, pos, ◌≡◌, ◌≤◌, ◌+◌, length, Option, Some, None}
+use Rattle.std.specs.Prelude.{⊤, ℕ, ℤ, pos, ◌≡◌, ◌≤◌, ◌+◌, length, List, Option, Some, None}
 use Rattle.tap_base.specs.declared.moments.TheConstants.{LAST_MOMENT}
+use Rattle.tap_base.specs.Numbers.{moment_of}
 use Rattle.tap_rows.specs.declared.tables.Tables.{Tables}
 use Rattle.tap_rows.specs.declared.rows.QueryRow.{QueryRow}
 use Rattle.tap_rows.specs.Results.{covered}
 use Rattle.tap_rows.specs.Deliveries.{delivered}
 use Rattle.time_marks.specs.declared.window.Window.{Window}
 use Rattle.script_lang.specs.declared.command.Command.{Command}
-use Rattle.script_lang.specs.declared.command.Command.TheVariants.{Run, ListOf, Ask, Wake, ScoresOf, DigestOf}
+use Rattle.script_lang.specs.declared.command.Command.TheVariants.{Run, ListOf, Ask, Wake, ScoresOf, DigestOf, Find}
+use Rattle.script_lang.specs.declared.lookup.Lookup.{Lookup}
+use Rattle.script_lang.specs.declared.lookup.Lookup.TheVariants.{ShowDoc, ListNotes, ListQueries, Count}
 use Rattle.tap_model.specs.declared.session.Session.{Session}
 use Rattle.tap_model.specs.Sessions.{moment_or_zero, user_of}
-use Rattle.tap_model.specs.Queries.{start_of, query_named, probes_in}
+use Rattle.tap_model.specs.Queries.{condition_in, start_of, query_named, probes_in}
 use Rattle.tap_model.specs.Replies.{entries_in_run}
+use Rattle.tap_model.specs.Lookups.{notes_on}
 use Rattle.tap_model.specs.WindowRuns.{asked_rows, found_since}
 use Rattle.wake_plan.specs.Wakes.{wake_window}
 use Rattle.tap_kept.specs.declared.cached_query.CachedQuery.{CachedQuery}
-use Rattle.tap_kept.specs.Costs.{HasNoMark, AreAlone, rows_due, query_work, window_since, work_ahead}
+use Rattle.tap_kept.specs.Costs.{HasNoMark, AreAlone, rows_due, query_work, window_since, work_ahead, ask_work}
 use Rattle.tap_engine.specs.declared.engine.Engine.{Engine}
 use Rattle.tap_engine.specs.Standing.{OverTables}
 
@@ -38,10 +42,18 @@ abbrev pub query_due : Option QueryRow → Session → Tables → ℕ
 query_due None session tables = 0
 query_due (Some query) session tables = rows_due tables (next_window tables query (moment_or_zero session)) query
 
--- the command looks at no row: it asks for scores, or runs a query of which no probe has a mark in the window of this run
+-- the look-up looks at no row of the index
+abbrev pub IsQuietLookup : Lookup → Type 0
+IsQuietLookup (ShowDoc num) = ⊥
+IsQuietLookup (ListNotes num) = ⊥
+IsQuietLookup ListQueries = ⊤
+IsQuietLookup Count = ⊤
+
+-- the command looks at no row: it asks for scores, for queries or for counts, or runs a query of which no probe has a mark in the window of this run
 abbrev pub IsQuiet : Command → Session → Tables → Type 0
 IsQuiet (Run name) session tables = IsQuietQuery (query_named (user_of session) name tables) session tables
 IsQuiet (ScoresOf kind) session tables = ⊤
+IsQuiet (Find lookup) session tables = IsQuietLookup lookup
 IsQuiet other session tables = ⊥
 
 -- the command runs a query of which the path of each probe is the document alone
@@ -54,7 +66,7 @@ abbrev pub run_due : Command → Session → Tables → ℕ
 run_due (Run name) session tables = query_due (query_named (user_of session) name tables) session tables
 run_due other session tables = 0
 
--- scores, and a run without a mark in its window, take no step; the second number of steps is that after the command
+-- scores, queries, counts, and a run without a mark in its window take no step; the second number of steps is that after the command
 abbrev pub TakesNoStep : Engine → Command → ℕ → ℕ → Type 0
 TakesNoStep engine command before steps = OverTables engine (λ t. IsQuiet command engine.session t → steps ≡ before)
 
@@ -87,13 +99,26 @@ abbrev pub digest_work : Option QueryRow → ℕ → Tables → ℕ
 digest_work None ordinal tables = 0
 digest_work (Some query) ordinal tables = length (entries_in_run ordinal (delivered query.num.0 tables))
 
+-- a step for the document that is shown, and one for each note on a document
+abbrev pub lookup_work : Lookup → Tables → ℕ
+lookup_work (ShowDoc num) tables = 1
+lookup_work (ListNotes num) tables = length (notes_on num tables.notes)
+lookup_work ListQueries tables = 0
+lookup_work Count tables = 0
+
+-- the steps that a question may take, if its second can be read: those of a run of this second
+abbrev pub question_work : Option ℤ → List ℕ → Tables → ℕ
+question_work None source tables = 0
+question_work (Some second) source tables = ask_work (asked_rows tables) (condition_in source) second
+
 -- the most steps that a command may take
 abbrev pub most_steps : Command → Session → Tables → ℕ
 most_steps (Run name) session tables = run_work (query_named (user_of session) name tables) session tables
 most_steps (Wake name) session tables = wake_work (query_named (user_of session) name tables) tables
 most_steps (ListOf name) session tables = list_work (query_named (user_of session) name tables) tables
 most_steps (DigestOf name ordinal) session tables = digest_work (query_named (user_of session) name tables) ordinal tables
-most_steps (Ask moment source) session tables = length tables.docs + length tables.notes
+most_steps (Find lookup) session tables = lookup_work lookup tables
+most_steps (Ask moment source) session tables = question_work (moment_of moment) source tables
 most_steps other session tables = 0
 
 -- the command takes no more steps than these

@@ -5,3 +5,4 @@ pub mod Answering
 pub mod FilterChecks
 pub mod Lists
 pub mod Costs
+pub mod Lookups

@@ -1,4 +1,4 @@
-//! The documents that a condition gives at a second that is over.
+//! The documents that a condition gives at a past second.
 
 ghost use Rattle.std.specs.Prelude.{◌≡◌, true, int_lt, IfOk, IfErr};
 ghost use Rattle.std.specs.Result.{result_err};
@@ -10,11 +10,10 @@ ghost use Rattle.tap_model.specs.Verdicts.{refuse_unless};
 use crate::engine::Engine;
 use crate::sessions::second_of;
 use script_lang::{Refusal, Reply};
-use snapshot_meaning::gives;
 use std::alloc::Global;
 use std::sync::ledger::Ledger;
 use tap_base::Steps;
-use tap_kept::read_text;
+use tap_kept::{given_at, read_text};
 
 // Refuses a second that isn't over: one at or after the session's moment.
 fn refuse_open(second: i64, now: i64) -> Result<(), Refusal>
@@ -31,7 +30,7 @@ impl Engine {
     ghost use Rattle.tap_engine.specs.Answering.{ReadsAsModel, RefusesAsModel};
     ghost use Rattle.tap_engine.specs.Costs.{TakesAtMost};
 
-    // Lists the documents that a condition gives at a second that is over.
+    // Lists the documents that a condition gives at a past second.
     pub(crate) fn ask<L: Ledger>(
         &self,
         alloc: Global,
@@ -53,13 +52,7 @@ impl Engine {
         };
         let cond = read_text(alloc, source)?;
         refuse_open(second, now)?;
-        let docs = gives(
-            alloc,
-            &cond,
-            self.index.every_doc(steps),
-            self.index.every_note(steps),
-            second,
-        )?;
+        let docs = given_at(alloc, &cond, &self.index, second, steps)?;
         Ok(Reply::Asked {
             moment: second,
             docs,

@@ -86,7 +86,7 @@ impl Engine {
     {
         let len = row.source.len();
         let owner = row.owner.copy()?;
-        let planned_query = PlannedQuery::new(alloc, row.copied()?, &cond)?;
+        let planned_query = PlannedQuery::new(alloc, row.copied()?, cond)?;
         let kept = CachedQuery::new(alloc, planned_query);
         push_query(&mut self.queries, &mut self.owners, kept, owner)?;
         self.bytes += len;

@@ -6,7 +6,6 @@ ghost use Rattle.script_lang.specs.Replies.{HasShortNames, is_accepted};
 ghost use Rattle.tap_base.specs.Names.{is_name};
 
 use crate::engine::Engine;
-use incremental_rewrite::render;
 use script_lang::{Refusal, Reply};
 use std::alloc::Global;
 use tap_base::{Text, Texts};
@@ -24,7 +23,7 @@ impl Engine {
         ensures name { OnOk result (is_name name.now ≡ true) }
     {
         let kept = self.look(name)?;
-        let lines = render(alloc, &kept.row.plan().query)?;
+        let lines = kept.row.lines(alloc)?;
         Ok(lines)
     }
 

@@ -13,6 +13,7 @@ mod letters;
 mod limits;
 mod lists;
 mod look;
+mod lookups;
 mod mail;
 mod mbox;
 mod note;

@@ -26,7 +26,7 @@ use vote_scores::Undo as VoteUndo;
 
 // Refuses a number that is not that of one of `count` documents.
 #[tactic(auto, unfolding(tap_model::specs::Verdicts::no_doc))]
-fn refuse_doc(doc: u32, count: usize) -> Result<(), Refusal>
+pub(crate) fn refuse_doc(doc: u32, count: usize) -> Result<(), Refusal>
     ensures { result_err result ≡ no_doc doc count }
 {
     if 1 <= doc && doc as usize <= count {

@@ -76,6 +76,7 @@ impl Engine {
             Command::DigestOf { name, ordinal } => Ok(Prepared::plain(self.show_digest(
                 alloc, name, ordinal, steps,
             )?)),
+            Command::Find(lookup) => Ok(Prepared::plain(self.find(alloc, lookup, steps)?)),
             Command::Bad(refusal) => Err(refusal),
         }
     }
@@ -95,7 +96,7 @@ impl Engine {
 
     /// Performs a command and returns the reply to it. It takes all memory first, then commits once if the command adds
     /// rows, and takes no memory after that. If the command is refused or out of memory, the engine (but for its buffer of hits)
-    /// and the keeper's tables are unchanged. It is never out of memory for `at`, nor for a command that is refused by a check before the text of a
+    /// and the keeper's tables are unchanged. It is never out of memory for `at` and `counts`, nor for a command that is refused by a check before the text of a
     /// query or a filter is read, a mailbox file is cut, or the runs of a digest are counted. It fails only if the keeper
     /// fails, and the engine is stopped then. A step is a row that the index hands out.
     pub fn perform<P: Keeper, L: Ledger>(

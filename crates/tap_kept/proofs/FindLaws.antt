@@ -14,7 +14,10 @@ use Rattle.probe_eval.specs.Drivers.{seek_var, seek_cost}
 use Rattle.probe_eval.specs.Nested.{was_seen}
 use Rattle.probe_eval.specs.Runs as runs
 use Rattle.probe_eval.specs.Work.{total}
-use Rattle.tap_model.specs.Queries.{probes_in}
+use Rattle.restart_core.specs.Starts.{condition_text}
+use Rattle.tap_model.specs.Queries.{condition_by, start_of, probes_in}
+use Rattle.form_marks.proofs.Marks.{forms_have_no_other_mark}
+use Rattle.tap_model.proofs.WindowLaws.{is-query}
 use Rattle.tap_kept.specs.declared.cached_query.CachedQuery.{CachedQuery}
 use Rattle.tap_kept.specs.Costs.{HasNoMark, AreAlone, ArePlain, rows_due, probe_work, query_work, work_ahead, marks_ahead, window_since}
 use Rattle.wake_plan.specs.Marked.{IsPlain, marked_ahead}
@@ -28,7 +31,12 @@ within low high = record { low = low; high = high }
 pub quiet-since : {A : Type 0} (X : List Probe) (T : Tables) (kept : CachedQuery) (low high moment : ℤ) → X ≡ probes_in kept.row → low ≡ kept.covered → high ≡ moment
     → (((p : Probe) → In p X → runs.HasNoMark T (within low high) p) → A) → HasNoMark T (window_since kept moment) kept.row → A
 quiet-since X T kept low high moment is from to tells quiet =
-    tells (λ p has. subst (λ z. runs.HasNoMark T (within z high) p) (sym from) (subst (λ z. runs.HasNoMark T (within kept.covered z) p) (sym to) (quiet p (subst (In p) is has))))
+    let c = condition_by kept.row in
+    let query = is-query (condition_text kept.row.source) in
+    let unmarked = forms_have_no_other_mark c (start_of kept.row) query T (window_since kept moment) quiet in
+    let same : (p : Probe) → runs.HasNoMark T (within kept.covered moment) p → runs.HasNoMark T (within low high) p =
+    λ p none. subst (λ z. runs.HasNoMark T (within z high) p) (sym from) (subst (λ z. runs.HasNoMark T (within kept.covered z) p) (sym to) none) in
+    tells (λ p has. same p (unmarked p (subst (In p) is has)))
 
 pub due-since : (X : List Probe) (T : Tables) (kept : CachedQuery) (low high moment : ℤ) (new old : ℕ) → X ≡ probes_in kept.row → low ≡ kept.covered → high ≡ moment
     → (((p : Probe) → In p X → runs.PathIsDocument p) → new ≤ old + total (runs.rows_due T (within low high)) X) → AreAlone kept.row → new ≤ old + rows_due T (window_since kept moment) kept.row
@@ -45,7 +53,8 @@ parts-work T w nodes (part ∷ parts) =
     ap (λ n. runs.part_cost T w nodes part + n) (parts-work T w nodes parts)
     ∙ ap (λ s. seek_cost T w (probe_in nodes part.probe) (runs.part_order part) s (seek_var s) + rest) part.solved
 
-work-is : (T : Tables) (w : Window) (q : RangedQuery) (X : List Probe) → ranged_probes q ≡ X → runs.query_cost T w q ≡ total (probe_work T w) X
+pub work-is : (T : Tables) (w : Window) (q : RangedQuery) (X : List Probe) → ranged_probes q ≡ X
+    → runs.query_cost T w q ≡ total (probe_work T w) X
 work-is T w q X is = parts-work T w q.pool q.parts ∙ ap (total (probe_work T w)) is
 
 -- the steps of a run of a plan are those of a run of the query

@@ -8,3 +8,4 @@ pub mod TextLaws
 mod FindLaws
 mod SumLaws
 pub mod RunLaws
+pub mod AskedLaws

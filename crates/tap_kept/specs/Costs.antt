@@ -4,6 +4,7 @@ use Rattle.tap_base.specs.declared.moments.TheConstants.{LAST_MOMENT}
 use Rattle.tap_rows.specs.declared.tables.Tables.{Tables}
 use Rattle.tap_rows.specs.declared.rows.QueryRow.{QueryRow}
 use Rattle.tap_rows.specs.Kept.{In}
+use Rattle.tql_core.specs.Condition.{Condition}
 use Rattle.time_marks.specs.declared.window.Window.{Window}
 use Rattle.time_marks.specs.Probes.{Probe}
 use Rattle.time_marks.specs.Seeks.{seek_of}
@@ -13,13 +14,14 @@ use Rattle.probe_eval.specs.Runs as runs
 use Rattle.probe_eval.specs.Work.{total}
 use Rattle.wake_plan.specs.Marked.{IsPlain, marked_ahead}
 use Rattle.wake_plan.specs.Wakes.{wake_window}
-use Rattle.tap_model.specs.Queries.{probes_in}
+use Rattle.tap_model.specs.Asks.{window_of_second}
+use Rattle.tap_model.specs.Queries.{probes_from, probes_in, written_in}
 use Rattle.tap_kept.specs.declared.cached_query.CachedQuery.{CachedQuery}
 use Rattle.tap_kept.specs.Keeping.{hits_since}
 
--- no probe of the query has a mark in the window
+-- no probe of the query as it is written has a mark in the window
 abbrev pub HasNoMark : Tables → Window → QueryRow → Type 0
-HasNoMark rows w query = (p : Probe) → In p (probes_in query) → runs.HasNoMark rows w p
+HasNoMark rows w query = (p : Probe) → In p (written_in query) → runs.HasNoMark rows w p
 
 -- the path of each probe of the query is the document alone
 abbrev pub AreAlone : QueryRow → Type 0
@@ -56,3 +58,7 @@ ArePlain query = (p : Probe) → In p (probes_in query) → IsPlain p
 -- the rows marked up to that mark, and one for each probe
 abbrev pub marks_ahead : CachedQuery → Tables → ℕ
 marks_ahead kept rows = marked_ahead rows (window_ahead kept rows) (probes_in kept.row)
+
+-- the steps that a question may take: those of a run of its second
+abbrev pub ask_work : Tables → Condition → ℤ → ℕ
+ask_work rows c second = total (probe_work rows (window_of_second second)) (probes_from c second)

@@ -30,9 +30,8 @@ fn cache_query(alloc: Global, row: QueryRow, cond: Cond) -> Result<CachedQuery, 
     requires arrival { IsMoment row.arrival }
     ensures { IfOk result (λ kept. kept ≡ never_run row) }
 {
-    let planned = PlannedQuery::new(alloc, row, &cond);
-    drop(cond);
-    Ok(CachedQuery::new(alloc, planned?))
+    let planned = PlannedQuery::new(alloc, row, cond)?;
+    Ok(CachedQuery::new(alloc, planned))
 }
 
 // Appends queries that were never run, each with its condition.

@@ -1,6 +1,6 @@
 //! The queries in memory.
 
-ghost use Rattle.std.specs.Prelude.{◌≡◌, ◌<◌, ◌+◌, ◌^◌, ◌++◌, [], ◌∷◌, List, false, length, map, take, slice_index_or, OnOk, OnErr};
+ghost use Rattle.std.specs.Prelude.{◌≡◌, ◌<◌, ◌+◌, ◌^◌, ◌++◌, [], ◌∷◌, List, false, length, map, take, slice_index_or, OnOk, OnErr, IfOk};
 ghost use Rattle.std.specs.Option.{option_copied};
 ghost use Rattle.tap_base.specs.Bytes.{IsPlaceOf};
 ghost use Rattle.little_box.specs.Boxes.{is_in};
@@ -9,11 +9,12 @@ ghost use Rattle.tap_rows.specs.WellFormed.{is_query_of};
 ghost use Rattle.tap_kept.specs.declared.cached_query.CachedQuery.{CachedQuery};
 ghost use Rattle.tap_kept.specs.Keeping.{after_run, without_run, named_in, owned_in, AreNew, HoldsAt, ChangesAt};
 ghost use Rattle.tap_kept.specs.Starting.{with_entry};
+ghost use Rattle.tap_kept.specs.Lines.{owned_lines};
 
 use crate::cached_query::CachedQuery;
 use std::alloc::Global;
 use std::marker::Model;
-use tap_base::Memory;
+use tap_base::{Memory, Texts};
 use tap_rows::{Entry, Hit, QueryRow};
 
 /// The queries in memory, in order of their numbers. Contracts see it as a list.
@@ -82,6 +83,17 @@ impl CachedQueries {
             .iter()
             .filter(|kept| kept.row.row().owner.as_slice() == owner)
             .count()
+    }
+
+    /// Gives a line for each query of the user, in order.
+    pub fn lines(&self, alloc: Global, owner: &[u8]) -> Result<Texts, Memory>
+        ensures { IfOk result (λ lines. lines ≡ owned_lines owner.now self.now) }
+    {
+        let mut lines = Texts::new(alloc);
+        for kept in &self.items {
+            kept.push_line(alloc, owner, &mut lines)?;
+        }
+        Ok(lines)
     }
 
     /// Appends a query. At Err nothing has changed.

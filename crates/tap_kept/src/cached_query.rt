@@ -12,6 +12,7 @@ use crate::planned_query::PlannedQuery;
 use little_box::LittleBox;
 use query_eval::{Hits, run_into};
 use row_index::RowIndex;
+use script_lang::QueryState;
 use std::alloc::Global;
 use std::sync::ledger::Ledger;
 use tap_base::{LAST_MOMENT, Memory, Steps};
@@ -32,6 +33,7 @@ pub struct CachedQuery {
 impl CachedQuery {
     ghost use Rattle.tap_kept.specs.Keeping.{never_run, after_run, before_run, hits_since, AreNew};
     ghost use Rattle.tap_kept.specs.Starting.{with_entry};
+    ghost use Rattle.tap_kept.specs.Lines.{last_run, cached_state};
     ghost use Rattle.tap_kept.specs.Costs.{HasNoMark, AreAlone, ArePlain, rows_due, query_work, work_ahead, marks_ahead, window_since};
 
     /// Makes a query that was never run: it has covered the seconds up to its start.
@@ -101,6 +103,30 @@ impl CachedQuery {
             now,
             steps,
         )
+    }
+
+    // Gives the moment of the last run, if there was one.
+    fn last_run(&self) -> Option<i64>
+        ensures { result ≡ last_run self.now.runs self.now.covered }
+    {
+        if self.runs == 0 {
+            None
+        } else {
+            Some(self.covered)
+        }
+    }
+
+    /// Gives what a line shows of the query beside its name and its text.
+    pub fn state(&self) -> QueryState
+        ensures { result ≡ cached_state self.now }
+    {
+        QueryState {
+            arrival: self.row.row().arrival,
+            start: self.row.start(),
+            runs: self.runs,
+            last: self.last_run(),
+            boxed: self.entries.len(),
+        }
     }
 
     // Adds a run at this moment, of this ordinal, which delivered these. At Err nothing has changed.

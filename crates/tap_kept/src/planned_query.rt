@@ -4,29 +4,31 @@ ghost use Rattle.std.specs.Prelude.{◌≡◌, true, IfOk};
 ghost use Rattle.tql_core.specs.Bounds.{are_bounded};
 ghost use Rattle.tql_core.specs.Condition.{condition};
 ghost use Rattle.tql_core.specs.Scope.{IsQuery};
-ghost use Rattle.time_marks.specs.Distinct.{distinct_probes};
 ghost use Rattle.time_marks.specs.Views.{ranged_probes};
-ghost use Rattle.monotone_rewrite.specs.Query.{window};
+ghost use Rattle.monotone_rewrite.specs.Query.{CanRewriteFrom};
 ghost use Rattle.probe_eval.specs.Runs.{HasValidProbes};
 ghost use Rattle.tap_rows.specs.declared.rows.QueryRow.{QueryRow};
-ghost use Rattle.tap_model.specs.Queries.{condition_by, start_of, probes_in};
+ghost use Rattle.tap_model.specs.Queries.{condition_by, start_of, probes_from, probes_in, lines_of};
 ghost use Rattle.tap_model.specs.Sound.{IsMoment};
 
 use access_plan::{Plan, plan};
-use incremental_rewrite::incremental;
+use incremental_rewrite::{incremental, render};
 use monotone_rewrite::monotone_from;
+use query_form::form_of;
 use restart_core::cut_start;
 use std::alloc::Global;
 use std::marker::Model;
-use tap_base::Memory;
+use tap_base::{Memory, Texts};
 use tap_rows::QueryRow;
 use tql_core::Cond;
 
-/// The row of a query, with its start and the plan of its window query. Contracts see it as its row.
+/// The row of a query, with its start, its condition, and the plan of the window query of the
+/// condition's form. Contracts see it as its row.
 #[derive(Drop)]
 pub struct PlannedQuery {
     row: QueryRow,
     start: i64,
+    cond: Cond,
     plan: Plan,
 }
 
@@ -36,7 +38,9 @@ impl Model for PlannedQuery {
     ghost view = { λ kept. kept.row };
 
     ghost invariant = { λ kept. (kept.start ≡ start_of kept.row)
-        × ((ranged_probes kept.plan.query ≡ probes_in kept.row) × HasValidProbes kept.plan.query) };
+        × ((ranged_probes kept.plan.query ≡ probes_in kept.row) × HasValidProbes kept.plan.query)
+        × ((condition kept.cond ≡ condition_by kept.row)
+        × CanRewriteFrom (condition kept.cond) kept.start) };
 }
 
 // Gives the first second that a query covers: its arrival if its text is `FROM NOW`, otherwise 0.
@@ -51,15 +55,18 @@ fn start_of(row: &QueryRow) -> i64
     }
 }
 
-// Plans the window query of a condition from a start on. The window query has no probe twice, and its marks are solved.
-fn make_plan(alloc: Global, cond: &Cond, start: i64) -> Result<Plan, Memory>
+// Plans the window query of a condition's form from a start on. The window query has no probe
+// twice, and its marks are solved.
+pub(crate) fn make_plan(alloc: Global, cond: &Cond, start: i64) -> Result<Plan, Memory>
     requires scoped { IsQuery (condition cond.now) }
     requires bounded { are_bounded (condition cond.now) ≡ true }
     requires start { IsMoment start }
-    ensures probes { IfOk result (λ made. ranged_probes made.query ≡ distinct_probes (window (condition cond.now) start)) }
+    ensures probes { IfOk result (λ made. ranged_probes made.query ≡ probes_from (condition cond.now) start) }
     ensures scopes { IfOk result (λ made. HasValidProbes made.query) }
+    ensures written { CanRewriteFrom (condition cond.now) start }
 {
-    let query = monotone_from(alloc, cond, start)?;
+    let form = form_of(alloc, cond)?;
+    let query = monotone_from(alloc, &form, start)?;
     let ranged = incremental(alloc, query)?;
     let made = plan(alloc, ranged)?;
     Ok(made)
@@ -67,16 +74,21 @@ fn make_plan(alloc: Global, cond: &Cond, start: i64) -> Result<Plan, Memory>
 
 impl PlannedQuery {
     /// Joins a row and the plan of its window query, which is made here once for all runs of the query.
-    pub fn new(alloc: Global, row: QueryRow, cond: &Cond) -> Result<PlannedQuery, Memory>
-        requires cond { condition cond.now ≡ condition_by row }
-        requires scoped { IsQuery (condition cond.now) }
-        requires bounded { are_bounded (condition cond.now) ≡ true }
+    pub fn new(alloc: Global, row: QueryRow, cond: Cond) -> Result<PlannedQuery, Memory>
+        requires cond { condition cond ≡ condition_by row }
+        requires scoped { IsQuery (condition cond) }
+        requires bounded { are_bounded (condition cond) ≡ true }
         requires arrival { IsMoment row.arrival }
         ensures { IfOk result (λ kept. kept ≡ row) }
     {
         let start = start_of(&row);
-        let plan = make_plan(alloc, cond, start)?;
-        Ok(PlannedQuery { row, start, plan })
+        let plan = make_plan(alloc, &cond, start)?;
+        Ok(PlannedQuery {
+            row,
+            start,
+            cond,
+            plan,
+        })
     }
 
     /// Gives the row.
@@ -92,6 +104,16 @@ impl PlannedQuery {
         ensures probes { HasValidProbes result.now.query }
     {
         &self.plan
+    }
+
+    /// Makes the lines that explain the query: those of the window query of its condition as it
+    /// is written.
+    pub fn lines(&self, alloc: Global) -> Result<Texts, Memory>
+        ensures { IfOk result (λ lines. lines ≡ lines_of self.now) }
+    {
+        let query = monotone_from(alloc, &self.cond, self.start)?;
+        let ranged = incremental(alloc, query)?;
+        render(alloc, &ranged)
     }
 
     // Gives the first second that the query covers.

@@ -65,7 +65,7 @@ fn bytes_from(bytes: &[u8], at: usize) -> &[u8]
 }
 
 // Gives the text of a source's condition: what follows `FROM NOW`, or all of it.
-fn text_of(source: &[u8]) -> &[u8]
+pub(crate) fn text_of(source: &[u8]) -> &[u8]
     ensures { result.now ≡ condition_text source.now }
 {
     bytes_from(source, cut_start(source).at)

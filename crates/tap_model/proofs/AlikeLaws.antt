@@ -8,7 +8,9 @@ use Rattle.tap_base.specs.Numbers.{moment_of}
 use Rattle.tap_rows.specs.declared.tables.Tables.{Tables}
 use Rattle.tap_rows.specs.declared.rows.QueryRow.{QueryRow}
 use Rattle.script_lang.specs.declared.command.Command.{Command}
-use Rattle.script_lang.specs.declared.command.Command.TheVariants.{At, AsUser, Mail, Mbox, AddNote, Define, Run, BoxOf, ListOf, Filter, Explain, Ask, Wake, ScoresOf, DigestOf, Bad}
+use Rattle.script_lang.specs.declared.command.Command.TheVariants.{At, AsUser, Mail, Mbox, AddNote, Define, Run, BoxOf, ListOf, Filter, Explain, Ask, Wake, ScoresOf, DigestOf, Find, Bad}
+use Rattle.script_lang.specs.declared.lookup.Lookup.{Lookup}
+use Rattle.script_lang.specs.declared.lookup.Lookup.TheVariants.{ShowDoc, ListNotes, ListQueries, Count}
 use Rattle.script_lang.specs.declared.refusal.Refusal.{Refusal}
 use Rattle.script_lang.specs.declared.refusal.Refusal.TheVariants.{NoQuery, Taken, Limit}
 use Rattle.script_lang.specs.declared.refusal.LimitName.{LimitName}
@@ -16,10 +18,10 @@ use Rattle.script_lang.specs.declared.refusal.LimitName.TheVariants.{Queries, Al
 use Rattle.restart_core.specs.Starts.{stored_source}
 use Rattle.tap_model.specs.declared.session.Session.{Session}
 use Rattle.tap_model.specs.Sessions.{or_empty, user_of, last_moment, greatest_moment}
-use Rattle.tap_model.specs.Queries.{query_named}
+use Rattle.tap_model.specs.Queries.{query_named, owned_queries}
 use Rattle.tap_model.specs.Limits.{limit_refusal, queries_of, stored_bytes, different, owners_in, new_users}
-use Rattle.tap_model.specs.Verdicts.{first_refusal, verdict, checks, missing, refuse_unless, is_back, taken, no_query, no_run, runs_found, text_of, delivers, messages_of, bytes_of}
-use Rattle.tap_model.specs.Privacy.{is_shared, is_user, concerns, owned_queries}
+use Rattle.tap_model.specs.Verdicts.{first_refusal, verdict, checks, lookup_checks, missing, refuse_unless, is_back, taken, no_query, no_run, runs_found, text_of, delivers, messages_of, bytes_of}
+use Rattle.tap_model.specs.Privacy.{is_shared, is_user, concerns}
 use Rattle.tap_model.proofs.ViewLaws.{Core, core_of, cores, source_in, named-core}
 use Rattle.tap_model.proofs.CoreLaws.{same-text}
 use Rattle.tap_model.specs.Limits.{filter_limit, pick_limit, query_limit, run_limit, store_limit, user_limit, user_query_limit}
@@ -134,6 +136,13 @@ back-same s t o m second at = ap (λ x. is_back (option_or x (greatest_moment t)
 no-true : false ≡ true → ⊥
 no-true e = cc
 
+-- the checks of a look-up
+lookup-alike : (lookup : Lookup) (s : Session) (t o : Tables) → AreAlike (lookup_checks lookup s t) (lookup_checks lookup s (twin t o))
+lookup-alike (ShowDoc num) s t o = (inl refl, tt)
+lookup-alike (ListNotes num) s t o = (inl refl, tt)
+lookup-alike ListQueries s t o = (inl refl, tt)
+lookup-alike Count s t o = tt
+
 -- the checks of a command that concerns the user
 pub checks-alike : (c : Command) (user : List ℕ) (s : Session) (t o : Tables) (m : ℤ) → s.moment ≡ Some m → concerns user s c ≡ true → AreTwins user t o → AreAlike (checks c s t) (checks c s (twin t o))
 checks-alike (At text) user s t o m at by twins = (inl refl, (inl (back-same s t o m (moment_of text) at), tt))
@@ -157,6 +166,7 @@ checks-alike (ScoresOf kind) user s t o m at by twins = (inl refl, tt)
 checks-alike (DigestOf name ordinal) user s t o m at by twins =
     let own = own-twins user s t o by twins in
     (inl refl, (inl refl, (inl (missing-same s name t o own), (inl (ap (no_run ordinal) (runs-same (user_of s) name t o own)), tt))))
+checks-alike (Find lookup) user s t o m at by twins = lookup-alike lookup s t o
 checks-alike (Bad refusal) user s t o m at by twins = (inl refl, tt)
 
 -- the verdicts are the same, or one of them is shared

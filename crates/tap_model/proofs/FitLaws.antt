@@ -20,7 +20,7 @@ use Rattle.tap_rows.proofs.LaterLaws.{each-map}
 use Rattle.mail_lines.specs.declared.block.Block.{Block}
 use Rattle.mail_lines.specs.declared.block.Block.TheVariants.{Whole, Long}
 use Rattle.script_lang.specs.declared.command.Command.{Command}
-use Rattle.script_lang.specs.declared.command.Command.TheVariants.{At, AsUser, Mail, Mbox, AddNote, Define, Run, BoxOf, ListOf, Filter, Explain, Ask, Wake, ScoresOf, DigestOf, Bad}
+use Rattle.script_lang.specs.declared.command.Command.TheVariants.{At, AsUser, Mail, Mbox, AddNote, Define, Run, BoxOf, ListOf, Filter, Explain, Ask, Wake, ScoresOf, DigestOf, Find, Bad}
 use Rattle.script_lang.specs.declared.refusal.Refusal.{Refusal}
 use Rattle.script_lang.specs.declared.refusal.Refusal.TheVariants.{NoMoment, NoUser, BadName, Taken, NoDoc, Limit}
 use Rattle.script_lang.specs.declared.refusal.LimitName.TheVariants.{Message}
@@ -200,6 +200,7 @@ command-fits (Explain name) session tables sound pass change e = lines-fit (quer
 command-fits (Ask moment source) session tables sound pass change e = ask-fit (moment_of moment) source session tables change e
 command-fits (Wake name) session tables sound pass change e = wake-fit (query_named (user_of session) name tables) name session tables change e
 command-fits (ScoresOf kind) session tables sound pass change e = absurd (no-change change e)
+command-fits (Find lookup) session tables sound pass change e = absurd (no-change change e)
 command-fits (DigestOf name ordinal) session tables sound pass change e = digest-fit (query_named (user_of session) name tables) name ordinal session tables change e
 
 -- the rows that a command adds at a point that is sound for it fit

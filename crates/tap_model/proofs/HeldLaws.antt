@@ -19,7 +19,7 @@ use Rattle.tap_rows.proofs.LaterLaws.{each-map, each-append}
 use Rattle.tap_rows.proofs.KeptLaws.{kept-docs, kept-note, kept-query, kept-filter, kept-run}
 use Rattle.mail_lines.specs.declared.block.Block.{Block}
 use Rattle.script_lang.specs.declared.command.Command.{Command}
-use Rattle.script_lang.specs.declared.command.Command.TheVariants.{At, AsUser, Mail, Mbox, AddNote, Define, Run, BoxOf, ListOf, Filter, Explain, Ask, Wake, ScoresOf, DigestOf, Bad}
+use Rattle.script_lang.specs.declared.command.Command.TheVariants.{At, AsUser, Mail, Mbox, AddNote, Define, Run, BoxOf, ListOf, Filter, Explain, Ask, Wake, ScoresOf, DigestOf, Find, Bad}
 use Rattle.script_lang.specs.declared.refusal.Refusal.{Refusal}
 use Rattle.script_lang.specs.declared.refusal.Refusal.TheVariants.{BadMoment, Backwards, NoMoment}
 use Rattle.tap_model.specs.declared.session.Session.{Session}
@@ -355,6 +355,7 @@ accepted-held (Explain name) session tables held none = lines-held session table
 accepted-held (Ask moment source) session tables held none = ask-held (moment_of moment) source session tables held
 accepted-held (Wake name) session tables held none = wake-held session tables (query_named (user_of session) name tables) name held
 accepted-held (ScoresOf kind) session tables held none = held
+accepted-held (Find lookup) session tables held none = held
 accepted-held (DigestOf name ordinal) session tables held none = digest-held session tables (query_named (user_of session) name tables) name ordinal held
 
 -- so does each command

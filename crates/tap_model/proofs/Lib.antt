@@ -18,5 +18,7 @@ pub mod PrivateLaws
 pub mod StepLaws
 pub mod OtherLaws
 pub mod TaleLaws
+pub mod FormLaws
 pub mod WindowLaws
+pub mod AskLaws
 pub mod WakeLaws

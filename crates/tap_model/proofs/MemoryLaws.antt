@@ -7,6 +7,7 @@ use Rattle.std.proofs.lemmas.List.Folds.{list_all-append}
 use Rattle.tap_base.specs.Names.{is_name}
 use Rattle.tap_base.specs.Numbers.{moment_of}
 use Rattle.tap_rows.specs.declared.tables.Tables.{Tables}
+use Rattle.tap_rows.specs.declared.rows.Doc.{Doc}
 use Rattle.tap_rows.specs.declared.rows.QueryRow.{QueryRow}
 use Rattle.tap_rows.specs.Kept.{Each}
 use Rattle.mail_lines.specs.declared.line.Line.{Line}
@@ -33,7 +34,11 @@ use Rattle.filter_rules.specs.Rules.{Rule as FilterRule}
 use Rattle.filter_rules.specs.RuleTexts.{rules_of}
 use Rattle.restart_core.specs.Starts.{condition_text, stored_source}
 use Rattle.script_lang.specs.declared.command.Command.{Command}
-use Rattle.script_lang.specs.declared.command.Command.TheVariants.{At, AsUser, Mail, Mbox, AddNote, Define, Run, BoxOf, ListOf, Filter, Explain, Ask, Wake, ScoresOf, DigestOf, Bad}
+use Rattle.script_lang.specs.declared.command.Command.TheVariants.{At, AsUser, Mail, Mbox, AddNote, Define, Run, BoxOf, ListOf, Filter, Explain, Ask, Wake, ScoresOf, DigestOf, Find, Bad}
+use Rattle.script_lang.specs.declared.lookup.Lookup.{Lookup}
+use Rattle.script_lang.specs.declared.lookup.Lookup.TheVariants.{ShowDoc, ListNotes, ListQueries, Count}
+use Rattle.script_lang.specs.declared.lookup.Found.{Found}
+use Rattle.script_lang.specs.declared.lookup.Found.TheVariants as F
 use Rattle.script_lang.specs.declared.refusal.Refusal.{Refusal}
 use Rattle.script_lang.specs.declared.refusal.Refusal.TheVariants.{Unknown, Form, Cut, BadMoment, Backwards, NoMoment, NoUser, BadName, Taken, NoQuery, NoDoc}
 use Rattle.script_lang.specs.declared.refusal.Refusal.TheVariants.{Lex, Parse, Types, NotOver, Limit, Rule, ManyRules, Memory, NoRun}
@@ -45,7 +50,7 @@ use Rattle.script_lang.specs.declared.state.State.{State}
 use Rattle.script_lang.specs.declared.state.State.TheVariants.{Outside}
 use Rattle.script_lang.specs.Script.{commands_of_line, after_line, commands_from, state_after, at_end, script}
 use Rattle.script_lang.specs.Proper.{is_of_text, is_proper}
-use Rattle.script_lang.specs.Replies.{limit_words, lex_text, parse_text, type_text, refusal_text, first_text, is_accepted}
+use Rattle.script_lang.specs.Replies.{limit_words, lex_text, parse_text, type_text, refusal_text, found_text, first_text, is_accepted}
 use Rattle.tap_model.specs.declared.session.Session.{Session}
 use Rattle.tap_model.specs.Limits.{limit_refusal, stored_bytes, owners_in, different, queries_of, new_users}
 use Rattle.tap_model.specs.Limits.{message_limit, filter_text_limit, note_text_limit, document_limit, note_limit, run_limit, pick_limit, user_query_limit, query_limit, filter_limit, user_limit, store_limit}
@@ -53,7 +58,8 @@ use Rattle.tap_model.specs.Sessions.{user_of, last_moment}
 use Rattle.tap_model.specs.Queries.{query_named}
 use Rattle.tap_model.specs.Verdicts.{first_refusal, missing, refuse_unless, no_moment, no_user, bad_name, reading_refusal, text_fault, is_back, not_over}
 use Rattle.tap_model.specs.Verdicts.{taken, no_query, runs_found, no_run, too_long, messages_of, long_block, bytes_of, no_doc, long_note}
-use Rattle.tap_model.specs.Verdicts.{rules_refusal, filter_fault, long_filter, text_of, delivers, checks, verdict}
+use Rattle.tap_model.specs.Verdicts.{rules_refusal, filter_fault, long_filter, text_of, delivers, lookup_checks, checks, verdict}
+use Rattle.tap_model.specs.Lookups.{doc_numbered, show_doc, lookup_reply}
 use Rattle.tap_model.specs.Stories.{Step, GivesUp}
 use Rattle.tap_model.specs.Replies.{answer_of, answer_by, accepted, set_moment, run_query, show_box, show_list, show_lines, show_wake, show_digest, ask_at}
 use Rattle.tap_model.specs.Laws.{AnswersAreNotMemory}
@@ -136,6 +142,12 @@ text-apart ManyRules f e = apart (refusal_text ManyRules) 4 55 56 refl refl refl
 text-apart Memory f e = absurd (false≢true f)
 text-apart (NoRun runs) f e = apart (refusal_text (NoRun runs)) 4 57 56 refl refl refl e
 
+found-apart : (n : ℕ) (found : Found) → found_text n found ≡ no_18 → ⊥
+found-apart n (F.DocText doc arrival) e = apart (found_text n (F.DocText doc arrival)) 0 111 110 refl refl refl e
+found-apart n (F.DocNotes doc) e = apart (found_text n (F.DocNotes doc)) 0 111 110 refl refl refl e
+found-apart n F.UserQueries e = apart (found_text n F.UserQueries) 0 111 110 refl refl refl e
+found-apart n (F.Counts docs notes moment) e = apart (found_text n (F.Counts docs notes moment)) 0 111 110 refl refl refl e
+
 -- what is accepted begins `ok`
 ok-apart : (r : Reply) → is_accepted r ≡ true → first_text r ≡ no_18 → ⊥
 ok-apart (reply.At moment) a e = apart (first_text (reply.At moment)) 0 111 110 refl refl refl e
@@ -153,6 +165,7 @@ ok-apart (reply.Asked moment docs) a e = apart (first_text (reply.Asked moment d
 ok-apart (reply.Wake name moment) a e = apart (first_text (reply.Wake name moment)) 0 111 110 refl refl refl e
 ok-apart (reply.ScoresOf kind rows) a e = apart (first_text (reply.ScoresOf kind rows)) 0 111 110 refl refl refl e
 ok-apart (reply.DigestOf name ordinal lines) a e = apart (first_text (reply.DigestOf name ordinal lines)) 0 111 110 refl refl refl e
+ok-apart (reply.Found found lines) a e = found-apart (length lines) found e
 ok-apart (reply.No refusal) a e = absurd (false≢true a)
 
 -- the checks
@@ -286,6 +299,23 @@ module _ (s : Session) (t : Tables) where
   query-fine : (name : List ℕ) → fine (no_query s name t) ≡ true
   query-fine name = missing-fine NoQuery (query_named (user_of s) name t) refl
 
+  -- each check of a look-up
+  lookup-fine : (lookup : Lookup) → AreFine (lookup_checks lookup s t)
+  lookup-fine (ShowDoc num) = (doc-fine num (length t.docs), tt)
+  lookup-fine (ListNotes num) = (doc-fine num (length t.docs), tt)
+  lookup-fine ListQueries = (user-fine, tt)
+  lookup-fine Count = tt
+
+  -- the reply to a look-up
+  lookup-apart : (lookup : Lookup) → first_text (lookup_reply lookup s t) ≡ no_18 → ⊥
+  lookup-apart (ShowDoc num) e = go (doc_numbered num t.docs) e where
+    go : (o : Option Doc) → first_text (show_doc num o) ≡ no_18 → ⊥
+    go None e = text-apart NoDoc refl e
+    go (Some doc) e = ok-apart (show_doc num (Some doc)) refl e
+  lookup-apart (ListNotes num) e = ok-apart (lookup_reply (ListNotes num) s t) refl e
+  lookup-apart ListQueries e = ok-apart (lookup_reply ListQueries s t) refl e
+  lookup-apart Count e = ok-apart (lookup_reply Count s t) refl e
+
   -- each check of a command of a script
   checks-fine : (c : Command) → is_proper c ≡ true → AreFine (checks c s t)
   checks-fine (Bad refusal) p = (proper-fine refusal p, tt)
@@ -308,6 +338,7 @@ module _ (s : Session) (t : Tables) where
   checks-fine (Ask moment source) p = (missing-fine BadMoment (moment_of moment) refl, (now-fine, (text-fine source, (over-fine (moment_of moment) s.moment, tt))))
   checks-fine (Wake name) p = (now-fine, (user-fine, (name-fine name, (query-fine name, tt))))
   checks-fine (ScoresOf kind) p = (name-fine kind, tt)
+  checks-fine (Find lookup) p = lookup-fine lookup
   checks-fine (DigestOf name ordinal) p = (user-fine, (name-fine name, (query-fine name, (run-fine ordinal (runs_found (query_named (user_of s) name t) t), tt))))
 
   -- a command that isn't refused
@@ -348,6 +379,7 @@ module _ (s : Session) (t : Tables) where
     go None e = text-apart NoQuery refl e
     go (Some q) e = ok-apart (show_wake (Some q) name s t).reply refl e
   accepted-apart (ScoresOf kind) p e = ok-apart (accepted (ScoresOf kind) s t).reply refl e
+  accepted-apart (Find lookup) p e = lookup-apart lookup e
   accepted-apart (DigestOf name ordinal) p e = go (query_named (user_of s) name t) e where
     go : (o : Option QueryRow) → first_text (show_digest o name ordinal s t).reply ≡ no_18 → ⊥
     go None e = text-apart NoQuery refl e

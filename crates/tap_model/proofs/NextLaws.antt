@@ -4,7 +4,7 @@ use Rattle.tap_base.specs.Numbers.{moment_of}
 use Rattle.tap_rows.specs.declared.tables.Tables.{Tables}
 use Rattle.tap_rows.specs.declared.rows.QueryRow.{QueryRow}
 use Rattle.script_lang.specs.declared.command.Command.{Command}
-use Rattle.script_lang.specs.declared.command.Command.TheVariants.{At, AsUser, Mail, Mbox, AddNote, Define, Run, BoxOf, ListOf, Filter, Explain, Ask, Wake, ScoresOf, DigestOf, Bad}
+use Rattle.script_lang.specs.declared.command.Command.TheVariants.{At, AsUser, Mail, Mbox, AddNote, Define, Run, BoxOf, ListOf, Filter, Explain, Ask, Wake, ScoresOf, DigestOf, Find, Bad}
 use Rattle.script_lang.specs.declared.refusal.Refusal.{Refusal}
 use Rattle.script_lang.specs.declared.reply.Reply.{Reply}
 use Rattle.script_lang.specs.Replies.{is_accepted}
@@ -70,6 +70,7 @@ accepted-stays (Explain name) session tables e = lines-stays (query_named (user_
 accepted-stays (Ask moment source) session tables e = ask-stays (moment_of moment) source session tables e
 accepted-stays (Wake name) session tables e = wake-stays (query_named (user_of session) name tables) name session tables e
 accepted-stays (ScoresOf kind) session tables e = refl
+accepted-stays (Find lookup) session tables e = refl
 accepted-stays (DigestOf name ordinal) session tables e = digest-stays (query_named (user_of session) name tables) name ordinal session tables e
 
 pub refused-stays : (command : Command) (session : Session) (tables : Tables) → is_accepted (answer_of command session tables).reply ≡ false → (answer_of command session tables).change ≡ None

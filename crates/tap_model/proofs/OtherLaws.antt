@@ -7,7 +7,7 @@ use Rattle.tap_rows.specs.declared.tables.Tables.{Tables}
 use Rattle.tap_rows.specs.declared.rows.QueryRow.{QueryRow}
 use Rattle.tap_rows.specs.Deliveries.{next_run}
 use Rattle.script_lang.specs.declared.command.Command.{Command}
-use Rattle.script_lang.specs.declared.command.Command.TheVariants.{At, AsUser, Mail, Mbox, AddNote, Define, Run, BoxOf, ListOf, Filter, Explain, Ask, Wake, ScoresOf, DigestOf, Bad}
+use Rattle.script_lang.specs.declared.command.Command.TheVariants.{At, AsUser, Mail, Mbox, AddNote, Define, Run, BoxOf, ListOf, Filter, Explain, Ask, Wake, ScoresOf, DigestOf, Find, Bad}
 use Rattle.script_lang.specs.declared.refusal.Refusal.{Refusal}
 use Rattle.script_lang.specs.declared.refusal.Refusal.TheVariants.{NoUser}
 use Rattle.restart_core.specs.Starts.{stored_source}
@@ -97,6 +97,7 @@ accepted-other (Explain name) user s t other sound none = lines-other user name 
 accepted-other (Ask moment source) user s t other sound none = ask-other user source s t (moment_of moment)
 accepted-other (Wake name) user s t other sound none = wake-other user name s t (query_named (user_of s) name t)
 accepted-other (ScoresOf kind) user s t other sound none = refl
+accepted-other (Find lookup) user s t other sound none = refl
 accepted-other (DigestOf name ordinal) user s t other sound none = digest-other user name ordinal s t (query_named (user_of s) name t)
 accepted-other (Bad refusal) user s t other sound none = refl
 

@@ -1,7 +1,7 @@
 -- What a command tells its user, and what it leaves of the user's view, is the same at two points that look alike.
 use Rattle.std.proofs.Common.{◌≡◌, ◌∙◌, sym, ap, refl, subst, ℕ, ◌+◌, ℤ, List, [], ◌∷◌, ◌++◌, length, map, true, false, Option, Some, None, inl, inr}
 use Rattle.std.specs.Prelude.{◌⊎◌, filter, suc, pos, nat_lt}
-use Rattle.std.specs.Option.{option_map}
+use Rattle.std.specs.Option.{option_map, option_or}
 use Rattle.std.specs.Str.{bytes_eq}
 use Rattle.tap_base.specs.Numbers.{moment_of}
 use Rattle.tap_rows.specs.declared.tables.Tables.{Tables}
@@ -21,21 +21,25 @@ use Rattle.filter_rules.specs.Rules.{Rule}
 use Rattle.mail_fields.specs.Digests.{digested, digest_lines}
 use Rattle.filter_rules.specs.Listings.{listing_of}
 use Rattle.script_lang.specs.declared.command.Command.{Command}
-use Rattle.script_lang.specs.declared.command.Command.TheVariants.{At, AsUser, Mail, Mbox, AddNote, Define, Run, BoxOf, ListOf, Filter, Explain, Ask, Wake, ScoresOf, DigestOf, Bad}
+use Rattle.script_lang.specs.declared.command.Command.TheVariants.{At, AsUser, Mail, Mbox, AddNote, Define, Run, BoxOf, ListOf, Filter, Explain, Ask, Wake, ScoresOf, DigestOf, Find, Bad}
+use Rattle.script_lang.specs.declared.lookup.Lookup.{Lookup}
+use Rattle.script_lang.specs.declared.lookup.Lookup.TheVariants.{ShowDoc, ListNotes, ListQueries, Count}
+use Rattle.script_lang.specs.declared.lookup.Found.TheVariants.{UserQueries, Counts}
 use Rattle.script_lang.specs.declared.refusal.Refusal.{Refusal}
 use Rattle.script_lang.specs.declared.reply.Reply.{Reply}
-use Rattle.script_lang.specs.declared.reply.Reply.TheVariants.{Ran, BoxOf as Boxed, ListOf as Listing, Explain as Explained, Asked, No, Wake as Woken, DigestOf as Digest}
+use Rattle.script_lang.specs.declared.reply.Reply.TheVariants.{Ran, BoxOf as Boxed, ListOf as Listing, Explain as Explained, Asked, No, Wake as Woken, DigestOf as Digest, Found}
 use Rattle.restart_core.specs.Starts.{stored_source}
 use Rattle.tap_model.specs.declared.session.Session.{Session}
-use Rattle.tap_model.specs.Sessions.{moment_or_zero, user_of}
-use Rattle.tap_model.specs.Queries.{condition_in, query_named, hits_of, box_in}
+use Rattle.tap_model.specs.Sessions.{or_zero, moment_or_zero, user_of, greatest_moment, last_moment}
+use Rattle.tap_model.specs.Queries.{condition_in, query_named, owned_queries, hits_of, box_in}
+use Rattle.tap_model.specs.Lookups.{line_of}
 use Rattle.tap_model.specs.Filters.{last_filter, filter_rules, rules_in_text, rules_of_user}
 use Rattle.tap_model.specs.Verdicts.{verdict, text_of, messages_of}
-use Rattle.tap_model.specs.Replies.{Answer, answer_of, answer_by, accepted, tables_after, set_moment, next_query, next_filter, run_query, show_box, show_list, show_lines, show_wake, show_digest, entries_in_run, some_docs, next_docs, ask_at, add_query, add_filter}
+use Rattle.tap_model.specs.Replies.{Answer, answer_of, answer_by, accepted, tables_after, set_moment, next_query, next_filter, run_query, show_box, show_list, show_lines, show_wake, show_digest, entries_in_run, some_docs, next_docs, ask_at, add_query, add_filter, look_up}
 use Rattle.tap_model.specs.Sound.{IsSound}
 use Rattle.tap_model.specs.Wakes.{does_deliver, wake_moment}
 use Rattle.tap_model.specs.Privacy.{concerns}
-use Rattle.tap_model.proofs.ViewLaws.{Core, core_of, cores, source_in, Brief, brief_of, core_hits, core_entries, core_lines, hits-core, box-core, lines-core}
+use Rattle.tap_model.proofs.ViewLaws.{Core, core_of, cores, source_in, Brief, brief_of, core_hits, core_entries, core_lines, core_line, hits-core, box-core, lines-core, each-line-core}
 use Rattle.tap_model.proofs.CoreLaws.{self-text, cores-new, with_run, cores-run, filter-own}
 use Rattle.tap_model.proofs.AlikeLaws.{IsShared, twin, AreTwins, own-twins, user-is, found-same, verdict-alike}
 
@@ -199,30 +203,48 @@ ask-told user source t o s (Some second) twins =
 no-true : false ≡ true → ⊥
 no-true e = cc
 
+-- the lines of the user's queries
+queries-same : (user : List ℕ) (t o : Tables) → AreTwins user t o → map (line_of t) (owned_queries user t) ≡ map (line_of (twin t o)) (owned_queries user (twin t o))
+queries-same user t o twins =
+    each-line-core t (owned_queries user t) ∙ ap (map (core_line t.docs t.notes)) twins.queries ∙ sym (each-line-core (twin t o) (owned_queries user (twin t o)))
+
+-- a look-up, once there is a moment
+lookup-told : (lookup : Lookup) (user : List ℕ) (s : Session) (t o : Tables) (m : ℤ) → s.moment ≡ Some m → user_of s ≡ user → AreTwins user t o
+    → told user t (look_up lookup s t) ≡ told user (twin t o) (look_up lookup s (twin t o))
+lookup-told (ShowDoc num) user s t o m at own twins = answered user t o s _ _ twins refl
+lookup-told (ListNotes num) user s t o m at own twins = answered user t o s _ _ twins refl
+lookup-told ListQueries user s t o m at own twins =
+    answered user t o s _ _ twins
+    (ap (Found UserQueries) (subst (λ u. map (line_of t) (owned_queries u t) ≡ map (line_of (twin t o)) (owned_queries u (twin t o))) (sym own) (queries-same user t o twins)))
+lookup-told Count user s t o m at own twins =
+    let last : last_moment s t ≡ last_moment s (twin t o) = ap (λ x. option_or x (greatest_moment t)) at ∙ sym (ap (λ x. option_or x (greatest_moment (twin t o))) at) in
+    answered user t o s _ _ twins (ap (λ moment. Found (Counts (length t.docs) (length t.notes) (or_zero moment)) []) last)
+
 -- what is accepted
-accepted-told : (c : Command) (user : List ℕ) (s : Session) (t o : Tables) → concerns user s c ≡ true → AreTwins user t o → IsSound t s → IsSound (twin t o) s → told user t (accepted c s t) ≡ told user (twin t o) (accepted c s (twin t o))
-accepted-told (At text) user s t o by twins sound sound' = at-told user t o s (moment_of text) twins
-accepted-told (AsUser name) user s t o by twins sound sound' = absurd (no-true by)
-accepted-told (Mail block) user s t o by twins sound sound' = still user t o (tables_after (accepted (Mail block) s t).change t) s _ twins
-accepted-told (Mbox block) user s t o by twins sound sound' = docs-told user t o s _ (next_docs t (moment_or_zero s) (messages_of block)) twins
-accepted-told (AddNote doc kind value text) user s t o by twins sound sound' = still user t o (tables_after (accepted (AddNote doc kind value text) s t).change t) s _ twins
-accepted-told (Define name source) user s t o by twins sound sound' = define-told user name source t o s twins sound sound' (user-is user s by)
-accepted-told (Run name) user s t o by twins sound sound' =
+accepted-told : (c : Command) (user : List ℕ) (s : Session) (t o : Tables) (m : ℤ) → s.moment ≡ Some m → concerns user s c ≡ true → AreTwins user t o → IsSound t s → IsSound (twin t o) s → told user t (accepted c s t) ≡ told user (twin t o) (accepted c s (twin t o))
+accepted-told (At text) user s t o m at by twins sound sound' = at-told user t o s (moment_of text) twins
+accepted-told (AsUser name) user s t o m at by twins sound sound' = absurd (no-true by)
+accepted-told (Mail block) user s t o m at by twins sound sound' = still user t o (tables_after (accepted (Mail block) s t).change t) s _ twins
+accepted-told (Mbox block) user s t o m at by twins sound sound' = docs-told user t o s _ (next_docs t (moment_or_zero s) (messages_of block)) twins
+accepted-told (AddNote doc kind value text) user s t o m at by twins sound sound' = still user t o (tables_after (accepted (AddNote doc kind value text) s t).change t) s _ twins
+accepted-told (Define name source) user s t o m at by twins sound sound' = define-told user name source t o s twins sound sound' (user-is user s by)
+accepted-told (Run name) user s t o m at by twins sound sound' =
     subst (λ u. told user t (run_query (query_named u name t) s t) ≡ told user (twin t o) (run_query (query_named u name o) s (twin t o))) (sym (user-is user s by)) (run-told user name t o s (query_named user name t) (query_named user name o) twins sound sound' refl refl (found-same user name t o twins))
-accepted-told (BoxOf name) user s t o by twins sound sound' =
+accepted-told (BoxOf name) user s t o m at by twins sound sound' =
     box-told user name t o s (query_named (user_of s) name t) (query_named (user_of s) name o) twins (found-same (user_of s) name t o (own-twins user s t o by twins))
-accepted-told (ListOf name) user s t o by twins sound sound' =
+accepted-told (ListOf name) user s t o m at by twins sound sound' =
     list-told user name t o s (query_named (user_of s) name t) (query_named (user_of s) name o) twins (user-is user s by) (found-same (user_of s) name t o (own-twins user s t o by twins))
-accepted-told (Filter block) user s t o by twins sound sound' = filter-told user (text_of block) t o s twins (user-is user s by)
-accepted-told (Explain name) user s t o by twins sound sound' =
+accepted-told (Filter block) user s t o m at by twins sound sound' = filter-told user (text_of block) t o s twins (user-is user s by)
+accepted-told (Explain name) user s t o m at by twins sound sound' =
     lines-told user name t o s (query_named (user_of s) name t) (query_named (user_of s) name o) twins (found-same (user_of s) name t o (own-twins user s t o by twins))
-accepted-told (Ask moment source) user s t o by twins sound sound' = ask-told user source t o s (moment_of moment) twins
-accepted-told (Wake name) user s t o by twins sound sound' =
+accepted-told (Ask moment source) user s t o m at by twins sound sound' = ask-told user source t o s (moment_of moment) twins
+accepted-told (Wake name) user s t o m at by twins sound sound' =
     wake-told user name t o s (query_named (user_of s) name t) (query_named (user_of s) name o) twins (found-same (user_of s) name t o (own-twins user s t o by twins))
-accepted-told (ScoresOf kind) user s t o by twins sound sound' = still user t o t s _ twins
-accepted-told (DigestOf name ordinal) user s t o by twins sound sound' =
+accepted-told (ScoresOf kind) user s t o m at by twins sound sound' = still user t o t s _ twins
+accepted-told (DigestOf name ordinal) user s t o m at by twins sound sound' =
     digest-told user name ordinal t o s (query_named (user_of s) name t) (query_named (user_of s) name o) twins (found-same (user_of s) name t o (own-twins user s t o by twins))
-accepted-told (Bad refusal) user s t o by twins sound sound' = still user t o t s _ twins
+accepted-told (Find lookup) user s t o m at by twins sound sound' = lookup-told lookup user s t o m at (user-is user s by) twins
+accepted-told (Bad refusal) user s t o m at by twins sound sound' = still user t o t s _ twins
 
 -- the answer by a verdict
 pub told-alike : (c : Command) (user : List ℕ) (s : Session) (t o : Tables) (m : ℤ) → s.moment ≡ Some m → concerns user s c ≡ true → AreTwins user t o → IsSound t s → IsSound (twin t o) s
@@ -236,5 +258,5 @@ told-alike c user s t o m at by twins sound sound' = elim (verdict-alike c user 
 ]
   where
     go : (v : Option Refusal) → told user t (answer_by v c s t) ≡ told user (twin t o) (answer_by v c s (twin t o))
-    go None = accepted-told c user s t o by twins sound sound'
+    go None = accepted-told c user s t o m at by twins sound sound'
     go (Some refusal) = still user t o t s (No refusal) twins

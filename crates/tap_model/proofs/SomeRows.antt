@@ -9,7 +9,7 @@ use Rattle.tap_rows.specs.declared.rows.Doc.{Doc}
 use Rattle.tap_rows.specs.declared.rows.QueryRow.{QueryRow}
 use Rattle.script_lang.specs.declared.command.Command.{Command}
 use Rattle.script_lang.specs.declared.command.Command.TheVariants.{At, AsUser, Mail, Mbox, AddNote, Define, Run, BoxOf, ListOf, Filter, Explain, Ask, Wake}
-use Rattle.script_lang.specs.declared.command.Command.TheVariants.{ScoresOf, DigestOf, Bad}
+use Rattle.script_lang.specs.declared.command.Command.TheVariants.{ScoresOf, DigestOf, Find, Bad}
 use Rattle.script_lang.specs.declared.refusal.Refusal.{Refusal}
 use Rattle.tap_model.specs.declared.session.Session.{Session}
 use Rattle.tap_model.specs.Sessions.{moment_or_zero, user_of}
@@ -76,6 +76,7 @@ accepted-rows (Explain name) session tables change e none = lines-rows (query_na
 accepted-rows (Ask moment source) session tables change e none = ask-rows (moment_of moment) source session tables change e none
 accepted-rows (Wake name) session tables change e none = wake-rows (query_named (user_of session) name tables) name session tables change e none
 accepted-rows (ScoresOf kind) session tables change e none = no-change change e none
+accepted-rows (Find lookup) session tables change e none = no-change change e none
 accepted-rows (DigestOf name ordinal) session tables change e none = digest-rows (query_named (user_of session) name tables) name ordinal session tables change e none
 accepted-rows (Bad refusal) session tables change e none = no-change change e none
 

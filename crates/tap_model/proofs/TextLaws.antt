@@ -7,7 +7,7 @@ use Rattle.tap_rows.specs.declared.rows.QueryRow.{QueryRow}
 use Rattle.tap_rows.specs.Kept.{Each}
 use Rattle.tap_rows.proofs.LaterLaws.{each-append}
 use Rattle.script_lang.specs.declared.command.Command.{Command}
-use Rattle.script_lang.specs.declared.command.Command.TheVariants.{At, AsUser, Mail, Mbox, AddNote, Define, Run, BoxOf, ListOf, Filter, Explain, Ask, Wake, ScoresOf, DigestOf, Bad}
+use Rattle.script_lang.specs.declared.command.Command.TheVariants.{At, AsUser, Mail, Mbox, AddNote, Define, Run, BoxOf, ListOf, Filter, Explain, Ask, Wake, ScoresOf, DigestOf, Find, Bad}
 use Rattle.script_lang.specs.declared.refusal.Refusal.{Refusal}
 use Rattle.restart_core.specs.Starts.{condition_text, stored_source}
 use Rattle.restart_core.proofs.StartLaws.{stored-text}
@@ -87,6 +87,7 @@ accepted-read (Explain name) session tables read pass = lines-read (query_named 
 accepted-read (Ask moment source) session tables read pass = ask-read (moment_of moment) source session tables read
 accepted-read (Wake name) session tables read pass = wake-read (query_named (user_of session) name tables) name session tables read
 accepted-read (ScoresOf kind) session tables read pass = read
+accepted-read (Find lookup) session tables read pass = read
 accepted-read (DigestOf name ordinal) session tables read pass = digest-read (query_named (user_of session) name tables) name ordinal session tables read
 
 pub answer-read : (command : Command) (session : Session) (tables : Tables) → Readable tables session → Leaves tables (answer_of command session tables)

@@ -1,5 +1,5 @@
 -- What a user sees, without what was delivered: it decides the deliveries, the hits of a run, and the boxes.
-use Rattle.std.proofs.Common.{◌≡◌, ◌∙◌, sym, ap, refl, arith, ℕ, ℤ, List, [], ◌∷◌, map, Bool, true, false, Option, Some, if◌then◌else◌}
+use Rattle.std.proofs.Common.{◌≡◌, ◌∙◌, sym, ap, refl, arith, ℕ, ℤ, List, [], ◌∷◌, length, map, Bool, true, false, Option, Some, if◌then◌else◌}
 use Rattle.std.specs.Prelude.{◌&&◌, filter, find}
 use Rattle.std.specs.Option.{option_map}
 use Rattle.std.specs.Str.{bytes_eq}
@@ -14,12 +14,15 @@ use Rattle.tap_rows.specs.declared.results.Entry.{Entry}
 use Rattle.tap_rows.specs.Results.{run_moments, covered, last_or, fresh_in, union_until, entries_from}
 use Rattle.tap_rows.specs.Kept.{Each, IsKeptQuery}
 use Rattle.tap_rows.proofs.LaterLaws.{fresh-later, grown-same}
+use Rattle.restart_core.specs.Starts.{condition_text}
+use Rattle.script_lang.specs.Rows.{query_text}
 use Rattle.tap_model.specs.declared.session.Session.{Session}
-use Rattle.tap_model.specs.Queries.{truth_of, start_of, hits_of, box_in, lines_of}
+use Rattle.tap_model.specs.Queries.{truth_of, start_of, hits_of, box_in, lines_of, owned_queries}
+use Rattle.tap_model.specs.Lookups.{last_of, line_of}
 use Rattle.tap_rows.specs.WellFormed.{is_query_of}
 use Rattle.tap_model.specs.Filters.{last_filter}
 use Rattle.tap_model.specs.Sound.{IsSound}
-use Rattle.tap_model.specs.Privacy.{QueryView, query_view, owned_queries, View, view_of}
+use Rattle.tap_model.specs.Privacy.{QueryView, query_view, View, view_of}
 use Rattle.tap_model.proofs.AnswerLaws.{truth-of-second}
 
 -- a query without its number, its owner and its deliveries
@@ -105,6 +108,40 @@ box-core q t =
 pub lines-core : (q : QueryRow) (runs : List RunRow) → lines_of q ≡ core_lines (core_of runs q)
 unfolding start_of
 lines-core q runs = refl
+
+-- the line of a query is of the documents, the notes and its core alone
+abbrev pub core_line : List Doc → List Note → Core → List ℕ
+core_line docs notes core =
+    query_text core.name
+    (record {
+      arrival = core.arrival;
+      start = start_of (row_of core);
+      runs = length core.runs;
+      last = last_of core.runs;
+      boxed = length (core_entries docs notes core);
+    })
+    (condition_text core.source)
+
+line-core : (q : QueryRow) (t : Tables) → line_of t q ≡ core_line t.docs t.notes (core_of t.runs q)
+unfolding start_of
+line-core q t =
+    ap
+    (λ (entries : List Entry). query_text q.name
+    (record {
+      arrival = q.arrival;
+      start = start_of q;
+      runs = length (run_moments q.num.0 t.runs);
+      last = last_of (run_moments q.num.0 t.runs);
+      boxed = length entries;
+    })
+    (condition_text q.source))
+    (box-core q t)
+
+pub each-line-core : (t : Tables) (qs : List QueryRow) → map (line_of t) qs ≡ map (core_line t.docs t.notes) (map (core_of t.runs) qs)
+each-line-core t [] = refl
+each-line-core t (q ∷ qs) = both _ _ _ _ (line-core q t) (each-line-core t qs) where
+  both : (x y : List ℕ) (xs ys : List (List ℕ)) → x ≡ y → xs ≡ ys → x ∷ xs ≡ y ∷ ys
+  both x y xs ys e f = rw (e, f) refl
 
 abbrev full_query : List Doc → List Note → Core → QueryView
 full_query docs notes core = record { name = core.name; source = core.source; arrival = core.arrival; runs = core.runs; entries = core_entries docs notes core }

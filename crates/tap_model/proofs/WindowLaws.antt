@@ -34,10 +34,10 @@ use Rattle.tql_parse.specs.Reading.{query_at}
 use Rattle.tql_text.specs.Texts.{of_typing, of_tree, of_tokens}
 use Rattle.time_marks.specs.declared.window.Window.{Window}
 use Rattle.time_marks.specs.Probes.{Probe, meaning_without, least}
-use Rattle.monotone_rewrite.proofs.Windows.{distinct_is_union}
+use Rattle.tap_model.proofs.FormLaws.{form_is_union}
 use Rattle.restart_core.specs.Starts.{is_from_now, condition_text}
 use Rattle.tap_model.specs.Queries.{or_never, condition_in, condition_by, truth_of, start_of, probes_in, hits_of}
-use Rattle.tap_model.specs.WindowRuns.{is_delivered, asked_rows, found_since, was_given, IsFreshUnseen, UnseenIsFresh, RunsAreWindows}
+use Rattle.tap_model.specs.WindowRuns.{is_delivered, asked_rows, found_since, was_given, UnseenIsFresh, RunsAreWindows}
 
 -- two tests that pass alike
 both-same : (a b : Bool) → (a ≡ true → b ≡ true) → (b ≡ true → a ≡ true) → a ≡ b
@@ -260,7 +260,7 @@ filter-in p q (d ∷ docs) same = rw (same d (inl refl), filter-in p q docs (λ 
 same-without : (p q : Doc → Bool) (X : List Probe) (t : Tables) (w : Window) → ((d : Doc) → In d t.docs → p d ≡ q d) → meaning_without p X t w ≡ meaning_without q X t w
 same-without p q X t w same = ap (hits_by (λ d. least X t d w)) (filter-in p q t.docs same)
 
-from-zero : (num : ℕ) (low : ℤ) (docs : List Doc) → pos 0 ≤ℤ low → Arrived num low docs → (d : Doc) → In d docs → pos 0 ≤ℤ d.arrival
+pub from-zero : (num : ℕ) (low : ℤ) (docs : List Doc) → pos 0 ≤ℤ low → Arrived num low docs → (d : Doc) → In d docs → pos 0 ≤ℤ d.arrival
 from-zero num low [] positive arrived d has = absurd has
 from-zero num low (x ∷ docs) positive arrived d (inl e) = subst (λ (y : Doc). pos 0 ≤ℤ y.arrival) (sym e) (omega (arith, ints, positive, arrived.0))
 from-zero num low (x ∷ docs) positive arrived d (inr has) = from-zero (suc num) x.arrival docs (omega (arith, ints, positive, arrived.0)) arrived.2 d has
@@ -321,7 +321,7 @@ none-before query tables d = go (first_second (truth_of query) tables d (start_o
 
 pub unseen-is-fresh : UnseenIsFresh
 unseen-is-fresh query tables positive zero =
-    let union = distinct_is_union (condition_by query) (start_of query) (is-query (condition_text query.source)) positive in
+    let union = form_is_union (condition_by query) (start_of query) (is-query (condition_text query.source)) positive in
     let unseen : (seen : Doc → Bool) (from until : ℤ) → start_of query ≤ℤ from → from ≤ℤ until
     → ((doc : Doc) → In doc tables.docs → seen doc ≡ was_given query tables from doc)
     → meaning_without seen (probes_in query) tables (record { low = from; high = until })
@@ -344,7 +344,8 @@ run-is-window tables query moment kept arrived positive le =
     let rows = asked_rows tables in
     same-without (is_delivered (delivered query.num.0 tables)) (λ d. is_some (first_second (Holds.truth_of c) rows d start last)) (probes_in query) rows w
     (λ d has. delivered-before truth_of start_of tables query d kept arrived has ∙ ap is_some (sym (same-first c tables d start last)))
-    ∙ (distinct_is_union c start (is-query (condition_text query.source)) positive).since rows last moment (from-zero 1 (pos 0) tables.docs (omega (arith, ints)) arrived) (rising-le start (run_moments query.num.0 tables.runs) kept.rising) le
+    ∙ (form_is_union c start (is-query (condition_text query.source)) positive).since rows last moment
+    (from-zero 1 (pos 0) tables.docs (omega (arith, ints)) arrived) (rising-le start (run_moments query.num.0 tables.runs) kept.rising) le
     ∙ same-fresh c tables start last moment
 
 queries-late : (earlier : List QueryRow) (place : ℕ) (low : ℤ) (queries : List QueryRow) (query : QueryRow) → queries_stand earlier place low queries ≡ true → pos 0 ≤ℤ low → In query queries → pos 0 ≤ℤ query.arrival

@@ -4,6 +4,7 @@ pub mod Filters
 pub mod Limits
 pub mod Verdicts
 pub mod Wakes
+pub mod Lookups
 pub mod Replies
 pub mod Stories
 pub mod Sound
@@ -11,3 +12,4 @@ pub mod Privacy
 pub mod PrivacyLaws
 pub mod Laws
 pub mod WindowRuns
+pub mod Asks

@@ -1,5 +1,5 @@
 -- What one user sees, which commands concern the user, and which refusals depend on what all users share.
-use Rattle.std.specs.Prelude.{ℕ, ℤ, List, [], ◌∷◌, Bool, true, false, Option, Some, None, filter, map, if◌then◌else◌}
+use Rattle.std.specs.Prelude.{ℕ, ℤ, List, [], ◌∷◌, Bool, true, false, Option, Some, None, map, if◌then◌else◌}
 use Rattle.std.specs.Option.{option_map}
 use Rattle.std.specs.Str.{bytes_eq}
 use Rattle.tap_rows.specs.declared.tables.Tables.{Tables}
@@ -17,6 +17,7 @@ use Rattle.script_lang.specs.declared.refusal.LimitName.TheVariants.{AllQueries,
 use Rattle.script_lang.specs.declared.reply.Reply.{Reply}
 use Rattle.script_lang.specs.declared.reply.Reply.TheVariants.{No}
 use Rattle.tap_model.specs.declared.session.Session.{Session}
+use Rattle.tap_model.specs.Queries.{owned_queries}
 use Rattle.tap_model.specs.Filters.{last_filter}
 use Rattle.tap_model.specs.Stories.{Step, Story}
 use Rattle.tap_model.specs.Sound.{IsSound}
@@ -38,10 +39,6 @@ query_view tables query = record {
   runs = run_moments query.num.0 tables.runs;
   entries = delivered query.num.0 tables;
 }
-
--- the user's queries, in order
-abbrev pub owned_queries : List ℕ → Tables → List QueryRow
-owned_queries user tables = filter (λ query. bytes_eq query.owner user) tables.queries
 
 -- what one user sees: all documents and notes, the user's own queries and last filter, and the moment
 pub record View : Type 0 where

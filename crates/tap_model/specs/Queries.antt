@@ -1,5 +1,6 @@
 -- Queries, and a user's query of a name.
-use Rattle.std.specs.Prelude.{ℕ, List, Option, ℤ, pos, find, Result, Ok, Err, if◌then◌else◌}
+use Rattle.std.specs.Prelude.{ℕ, List, Option, ℤ, pos, find, filter, Result, Ok, Err, if◌then◌else◌}
+use Rattle.std.specs.Str.{bytes_eq}
 use Rattle.tap_rows.specs.declared.tables.Tables.{Tables}
 use Rattle.tap_rows.specs.declared.rows.QueryRow.{QueryRow}
 use Rattle.tap_rows.specs.declared.results.Hit.{Hit}
@@ -15,6 +16,7 @@ use Rattle.time_marks.specs.Probes.{Probe}
 use Rattle.time_marks.specs.Distinct.{distinct_probes}
 use Rattle.monotone_rewrite.specs.Query.{window}
 use Rattle.incremental_rewrite.specs.Lines.{explain_lines}
+use Rattle.query_form.specs.Form.{form_of}
 use Rattle.restart_core.specs.Starts.{is_from_now, condition_text}
 
 -- the condition of a reading; one with a fault has a condition that never holds
@@ -38,13 +40,25 @@ truth_of query = Holds.truth_of (condition_by query)
 unfoldable pub start_of : QueryRow → ℤ
 start_of query = if is_from_now query.source then query.arrival else pos 0
 
--- the probes of a query: its window query from its start on, without repeats
+-- the probes by which a condition is evaluated from a start on: the window query of its form, without repeats
+abbrev pub probes_from : Condition → ℤ → List Probe
+probes_from c start = distinct_probes (window (form_of c) start)
+
+-- the probes by which a query runs
 abbrev pub probes_in : QueryRow → List Probe
-probes_in query = distinct_probes (window (condition_by query) (start_of query))
+probes_in query = probes_from (condition_by query) (start_of query)
+
+-- the probes of a query as it is written, which `explain` shows: the window query of its condition, without repeats
+abbrev pub written_in : QueryRow → List Probe
+written_in query = distinct_probes (window (condition_by query) (start_of query))
 
 -- the lines that explain a query
 abbrev pub lines_of : QueryRow → List (List ℕ)
-lines_of query = explain_lines (probes_in query)
+lines_of query = explain_lines (written_in query)
+
+-- the user's queries, in order
+abbrev pub owned_queries : List ℕ → Tables → List QueryRow
+owned_queries user tables = filter (λ query. bytes_eq query.owner user) tables.queries
 
 -- the user's query of this name
 abbrev pub query_named : List ℕ → List ℕ → Tables → Option QueryRow

@@ -15,7 +15,8 @@ use Rattle.tap_rows.specs.Deliveries.{run_change}
 use Rattle.tql_core.specs.Holds as Holds
 use Rattle.script_lang.specs.declared.command.Command.{Command}
 use Rattle.script_lang.specs.declared.command.Command.TheVariants.{At, AsUser, Mail, Mbox, AddNote, Define, Run, BoxOf, ListOf, Filter, Explain, Ask, Wake}
-use Rattle.script_lang.specs.declared.command.Command.TheVariants.{ScoresOf, DigestOf, Bad}
+use Rattle.script_lang.specs.declared.command.Command.TheVariants.{ScoresOf, DigestOf, Find, Bad}
+use Rattle.script_lang.specs.declared.lookup.Lookup.{Lookup}
 use Rattle.script_lang.specs.declared.refusal.Refusal.{Refusal}
 use Rattle.script_lang.specs.declared.refusal.Refusal.TheVariants.{BadMoment, NoQuery}
 use Rattle.script_lang.specs.declared.reply.Reply.{Reply}
@@ -26,6 +27,7 @@ use Rattle.tap_model.specs.declared.session.Session.{Session}
 use Rattle.tap_model.specs.Sessions.{moment_or_zero, user_of}
 use Rattle.tap_model.specs.Queries.{condition_in, truth_of, start_of, query_named, hits_of, box_in, lines_of}
 use Rattle.tap_model.specs.Wakes.{wake_moment}
+use Rattle.tap_model.specs.Lookups.{lookup_reply}
 use Rattle.filter_rules.specs.Listings.{listing_of}
 use Rattle.tap_rows.specs.Votes.{scores_of}
 use Rattle.mail_fields.specs.Digests.{digested, digest_lines}
@@ -195,6 +197,10 @@ show_digest (Some query) name ordinal session tables = record {
   change = None;
 }
 
+-- a look-up: stored rows are shown, and nothing changes
+abbrev pub look_up : Lookup → Session → Tables → Answer
+look_up lookup session tables = record { reply = lookup_reply lookup session tables; session = session; change = None }
+
 -- the answer to a command that is accepted
 abbrev pub accepted : Command → Session → Tables → Answer
 accepted (At text) session tables = set_moment (moment_of text) session
@@ -213,6 +219,7 @@ accepted (Ask moment source) session tables = ask_at (moment_of moment) source s
 accepted (Wake name) session tables = show_wake (query_named (user_of session) name tables) name session tables
 accepted (ScoresOf kind) session tables = show_scores kind session tables
 accepted (DigestOf name ordinal) session tables = show_digest (query_named (user_of session) name tables) name ordinal session tables
+accepted (Find lookup) session tables = look_up lookup session tables
 
 -- the answer to a command with this verdict
 abbrev pub answer_by : Option Refusal → Command → Session → Tables → Answer

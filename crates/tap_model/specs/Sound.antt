@@ -8,7 +8,8 @@ use Rattle.tap_rows.specs.WellFormed.{is_well_formed}
 use Rattle.restart_core.specs.Starts.{condition_text}
 use Rattle.script_lang.specs.declared.command.Command.{Command}
 use Rattle.script_lang.specs.declared.command.Command.TheVariants.{At, AsUser, Mail, Mbox, AddNote, Define, Run, BoxOf, ListOf, Filter, Explain, Ask, Wake}
-use Rattle.script_lang.specs.declared.command.Command.TheVariants.{ScoresOf, DigestOf, Bad}
+use Rattle.script_lang.specs.declared.command.Command.TheVariants.{ScoresOf, DigestOf, Find, Bad}
+use Rattle.script_lang.specs.declared.lookup.Lookup.TheVariants.{ShowDoc, ListNotes, ListQueries, Count}
 use Rattle.tap_model.specs.declared.session.Session.{Session}
 use Rattle.tap_model.specs.Sessions.{no_session}
 use Rattle.tap_model.specs.Queries.{truth_of, start_of}
@@ -63,6 +64,10 @@ asks_deliveries (Ask moment source) = false
 asks_deliveries (Wake name) = true
 asks_deliveries (ScoresOf kind) = false
 asks_deliveries (DigestOf name ordinal) = true
+asks_deliveries (Find (ShowDoc num)) = false
+asks_deliveries (Find (ListNotes num)) = false
+asks_deliveries (Find ListQueries) = true
+asks_deliveries (Find Count) = false
 asks_deliveries (Bad refusal) = false
 
 -- a sound point, but the deliveries need be boxes only if the command looks at them

@@ -12,7 +12,9 @@ use Rattle.mail_lines.specs.declared.block.Block.{Block}
 use Rattle.mail_lines.specs.declared.block.Block.TheVariants.{Whole, Long}
 use Rattle.script_lang.specs.declared.command.Command.{Command}
 use Rattle.script_lang.specs.declared.command.Command.TheVariants.{At, AsUser, Mail, Mbox, AddNote, Define, Run, BoxOf, ListOf, Filter, Explain, Ask, Wake}
-use Rattle.script_lang.specs.declared.command.Command.TheVariants.{ScoresOf, DigestOf, Bad}
+use Rattle.script_lang.specs.declared.command.Command.TheVariants.{ScoresOf, DigestOf, Find, Bad}
+use Rattle.script_lang.specs.declared.lookup.Lookup.{Lookup}
+use Rattle.script_lang.specs.declared.lookup.Lookup.TheVariants.{ShowDoc, ListNotes, ListQueries, Count}
 use Rattle.script_lang.specs.declared.refusal.Refusal.{Refusal}
 use Rattle.script_lang.specs.declared.refusal.Refusal.TheVariants.{BadMoment, Backwards, NoMoment, NoUser, BadName, Taken, NoQuery, NoDoc, Lex}
 use Rattle.script_lang.specs.declared.refusal.Refusal.TheVariants.{Parse, Types, NotOver, Limit, Rule, ManyRules, NoRun}
@@ -176,6 +178,13 @@ hits_found (Some query) tables moment = hits_of query tables moment
 abbrev pub delivers : Session → List ℕ → Tables → ℕ
 delivers session name tables = length (hits_found (query_named (user_of session) name tables) tables (moment_or_zero session))
 
+-- the checks of a look-up, in their order
+abbrev pub lookup_checks : Lookup → Session → Tables → List (Option Refusal)
+lookup_checks (ShowDoc num) session tables = no_doc num (length tables.docs) ∷ []
+lookup_checks (ListNotes num) session tables = no_doc num (length tables.docs) ∷ []
+lookup_checks ListQueries session tables = no_user session ∷ []
+lookup_checks Count session tables = []
+
 -- the checks of a command, in their order
 abbrev pub checks : Command → Session → Tables → List (Option Refusal)
 checks (Bad refusal) session tables = Some refusal ∷ []
@@ -244,6 +253,7 @@ checks (DigestOf name ordinal) session tables =
     ∷ no_query session name tables
     ∷ no_run ordinal (runs_found (query_named (user_of session) name tables) tables)
     ∷ []
+checks (Find lookup) session tables = lookup_checks lookup session tables
 
 -- why the command is refused, if it is
 abbrev pub verdict : Command → Session → Tables → Option Refusal
@@ -258,8 +268,9 @@ early_checks (Ask moment source) session tables = take 2 (checks (Ask moment sou
 early_checks (DigestOf name ordinal) session tables = take 3 (checks (DigestOf name ordinal) session tables)
 early_checks command session tables = checks command session tables
 
--- does the command need no memory? One of these checks refuses it, or it sets the moment
+-- does the command need no memory? One of these checks refuses it, or it sets the moment or counts
 abbrev pub is_spared : Command → Session → Tables → Bool
 is_spared (Bad refusal) session tables = true
 is_spared (At text) session tables = true
+is_spared (Find Count) session tables = true
 is_spared command session tables = is_some (first_refusal (early_checks command session tables))

@@ -2,6 +2,7 @@
 ghost use Rattle.tap_model.specs.Laws.{StepsAreSound, AcceptedChangesFit, SoundIsForEachCommand, SessionsLeaveStores};
 ghost use Rattle.tap_model.specs.Laws.{StepsLeadToNextTables, StoresAreBoxed, AnswersAreNotMemory};
 ghost use Rattle.tap_model.specs.Limits.{ConstantLimits};
+ghost use Rattle.tap_model.specs.Asks.{AsksAreRuns};
 ghost use Rattle.tap_model.specs.WindowRuns.{RunsAreWindows, UnseenIsFresh, WakesAreWindows};
 ghost use Rattle.tap_model.specs.PrivacyLaws.{SameDeedSameReply, OthersLeaveTheView, SameDeedsSameReplies};
 
@@ -93,4 +94,10 @@ pub fn wakes_are_windows()
 /// seconds, a text and a line at most 1,048,576 bytes.
 pub fn limits_are_numbers()
     ensures { ConstantLimits }
+{}
+
+/// States that a condition gives at a second the documents that its window query, begun at that
+/// second, finds in it.
+pub fn asks_are_runs()
+    ensures { AsksAreRuns }
 {}
