@@ -1,4 +1,5 @@
-use Rattle.std.proofs.Common.{subst, IfErr}
+use Rattle.std.proofs.Common.{rules, ◌≡◌, subst, Err, IfErr}
+use Rattle.keeper_core.specs.declared.fault.CommitFault.TheVariants.{Memory}
 use Rattle.sqlite.specs.Held.{state}
 use Rattle.keeper_sql.specs.Failing.{FailsToKeep}
 use Rattle.keeper_sql.proofs.KeepLemmas.{as_told, holds_as, told_after, left_after}
@@ -26,10 +27,5 @@ returns-in-Err-Failed-clause-crash g c clean s told extends x left =
 
 pub returns-in-Err-Memory-clause-fails : goal.returns-in-Err-Memory-clause-fails
 returns-in-Err-Memory-clause-fails g c clean =
-    let Why = FailsToKeep g.S.Store c.args.self.now.connection c.keep-kept.new.conn c.args.change.now in
-    subst Why c.in-Err-Memory.field-0-is (subst (λ r. IfErr r Why) c.in-Err-Memory.is (c.keep-kept.ensures.fails clean))
-
-pub returns-in-Err-Failed-clause-fails : goal.returns-in-Err-Failed-clause-fails
-returns-in-Err-Failed-clause-fails g c clean =
-    let Why = FailsToKeep g.S.Store c.args.self.now.connection c.keep-kept.new.conn c.args.change.now in
-    subst Why c.in-Err-Failed.field-0-is (subst (λ r. IfErr r Why) c.in-Err-Failed.is (c.keep-kept.ensures.fails clean))
+    let is : c.keep-kept.result ≡ Err Memory = search rules in
+    subst (λ r. IfErr r (FailsToKeep g.S.Store c.args.self.now.connection c.keep-kept.new.conn c.args.change.now)) is (c.keep-kept.ensures.fails clean)
