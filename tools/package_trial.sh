@@ -13,7 +13,7 @@ set -euo pipefail
 [ "$(id -u)" -eq 0 ] || { echo 'package_trial: it wants root' >&2; exit 1; }
 # Mounts and processes of the trial are its own, and end with it.
 if [ -z "${INSIDE:-}" ]; then
-  INSIDE=1 exec unshare --mount --pid --fork --kill-child --propagation private "$0" "$@"
+  INSIDE=1 exec unshare --mount --pid --fork --kill-child --mount-proc --propagation private "$0" "$@"
 fi
 file="$(realpath "$1")"
 export LC_ALL=C.UTF-8 DEBIAN_FRONTEND=noninteractive
@@ -111,7 +111,7 @@ install -d -m 0755 -o "$(chroot "$root" id -u tapestry)" -g "$(chroot "$root" id
 start() {
   (umask "$(sed -n 's/^UMask=//p' "$unit")" && inside tapestry "$(sed -n 's/^Environment=//p' "$unit")" "${words[@]}") 2>>"$scratch/said" &
   started=$!
-  until_well 'the service is ready' inside ann tap wake
+  until_well 'the service is ready' inside ann tap ask now TRUE
 }
 # setpriv and env become the service, so its number is that of the process begun.
 daemon() {
@@ -155,6 +155,7 @@ inside ann bash -c '. /usr/share/bash-completion/completions/tap; COMP_WORDS=(ta
 well "completion of \`tap box b\`: $(cat "$scratch/words")"
 
 # A maildir of ann's, to which she lets the service write, as GUIDE says.
+# shellcheck disable=SC2016
 inside ann sh -ec 'cd; mkdir -p Maildir/.budget/tmp Maildir/.budget/new Maildir/.budget/cur
   setfacl -m u:tapestry:x . Maildir
   setfacl -R -m u:tapestry:rwx,d:u:tapestry:rwx,d:u:$USER:rwx Maildir/.budget'
