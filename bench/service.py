@@ -9,7 +9,6 @@ import resource
 import select
 import shutil
 import signal
-import socket
 import statistics
 import subprocess
 import sys
@@ -313,15 +312,25 @@ def lei():
             mails(f"{at}/in2", range(count, 2 * count))
             seconds = run("import", f"maildir:{at}/in2")
             row(f"lei: {count:,} more mails imported", f"{1000 * seconds / count:.2f} ms a mail")
-            run("q", "-q", "-o", f"maildir:{at}/out", "s:message")
-            found = len(names_in(f"{at}/out"))
-            expect(found == 2 * count, f"lei finds all: {found}")
+            # An import returns before the mails can be found.
+            for n in range(60):
+                run("q", "-q", "-o", f"maildir:{at}/out{n}", "s:message")
+                out = f"{at}/out{n}"
+                if len(names_in(out)) == 2 * count:
+                    break
+                time.sleep(1)
+            expect(len(names_in(out)) == 2 * count, f"lei finds all: {len(names_in(out))}")
             waits = []
             for n in range(5):
                 mails(f"{at}/one{n}", [2 * count + n])
                 run("import", f"maildir:{at}/one{n}")
-                waits.append(run("up", "-q", f"{at}/out"))
-            expect(len(names_in(f"{at}/out")) == 2 * count + 5, "lei finds the new ones")
+                for _ in range(60):
+                    wait = run("up", "-q", out)
+                    if len(names_in(out)) == 2 * count + n + 1:
+                        break
+                    time.sleep(1)
+                waits.append(wait)
+            expect(len(names_in(out)) == 2 * count + 5, "lei finds the new ones")
             row(f"lei: one saved search brought up to date, {2 * count:,} mails stored", f"{1000 * statistics.median(waits):.0f} ms")
         finally:
             subprocess.run(["lei", "daemon-kill"], env=environment, stderr=subprocess.DEVNULL)
