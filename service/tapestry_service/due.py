@@ -154,6 +154,9 @@ class Due:
     def _deliver(self, delivery: Union[MaildirDelivery, DigestDelivery], session: Session, runs: Optional[int]) -> Work[None]:
         if not delivery.pause.is_over:
             return
+        if isinstance(delivery, DigestDelivery) and any(it.of == delivery.of for it in self._leaving):
+            # A command of the old rules still has a digest: its end begins another pass.
+            return
         delivery.pause.begin()
         try:
             if isinstance(delivery, DigestDelivery):

@@ -205,16 +205,11 @@ class WithService(Folder):
             sys.stderr.write(f"\n-- the log of {self.id()}:\n{service.said()[-3000:]}\n")
 
 
-def soon(test: unittest.TestCase, trial: Callable[[], None], seconds: float, times: int = 5) -> None:
-    """A trial that takes less than this, in one of several goes, since the machine may be busy."""
-    taken = []
-    for _ in range(times):
-        began = time.monotonic()
-        trial()
-        taken.append(time.monotonic() - began)
-        if taken[-1] < seconds:
-            return
-    test.fail(f"not within {seconds} seconds: {taken}")
+def a_second_here() -> float:
+    """A second, or more on a machine that is so busy that an empty Python takes more than a twentieth of one."""
+    began = time.monotonic()
+    subprocess.run([sys.executable, "-S", "-c", ""], check=True)
+    return max(1.0, 20 * (time.monotonic() - began))
 
 
 class Driver:

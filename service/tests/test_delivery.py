@@ -327,6 +327,24 @@ class Passes(Case):
         self.assertEqual(self.numbers(), [90])
         self.assertIsNone(due.seconds_until_ready(None))
 
+    def test_a_command_of_old_rules_ends_before_another_begins(self) -> None:
+        Marks(self.place("digests")).put(OF, Mark(0, 0, "-"))
+        self.box.runs = [[(1, 5, b"x\n")]]
+        slow = Digest(OF, ("sh", "-c", f"cat > {self.place('one')}; until test -e {self.place('go')}; do sleep 0.01; done"))
+        due = Due(Rules({}, (OF,), (), (slow,)), self.place("digests"))
+        self.driver.run(due.run(self.session()))
+        self.assertEqual(len(due.running), 1)
+        due.set_rules(Rules({}, (OF,), (), (Digest(OF, ("sh", "-c", f"cat > {self.place('two')}")),)))
+        self.driver.run(due.run(self.session()))
+        self.assertEqual(len(due.running), 1)
+        open(self.place("go"), "w").close()
+        wait_until(lambda: due.look_at_commands() or not due.running, "it has ended")
+        self.assertTrue(due.is_dirty)
+        self.driver.run(due.run(self.session()))
+        self.assertEqual(due.running, [])
+        self.assertTrue(os.path.exists(self.place("one")))
+        self.assertFalse(os.path.exists(self.place("two")))
+
     def test_other_rules_keep_what_stays(self) -> None:
         due = self.due()
         old = list(due._deliveries.values())[0]

@@ -12,7 +12,7 @@ import time
 import unittest
 from typing import Callable, Dict, List, Optional
 
-from support import Folder, LOGIN, Service, WithService, draw, the_program, wait_until
+from support import LOGIN, Folder, Service, WithService, a_second_here, draw, the_program, wait_until
 from tapestry_service.digests import documents_of
 from tapestry_service.replies import Reply, read_reply
 
@@ -84,6 +84,22 @@ class Held(Folder):
         assert process.stdin is not None
         process.stdin.close()
         self.assertEqual(process.wait(90), 1)
+
+    def test_what_the_service_asks_of_a_store(self) -> None:
+        """A program has `counts` and `show`, or neither; then it says `no 1`."""
+        process = self.session()
+        self.say(process, b"at 1000\n")
+        self.say(process, b"as ann\n")
+        self.assertEqual(self.say(process, b"mail\nSubject: x\n\n>From y\r\r\n..\n\n.\n").first, b"ok 0 doc 1")
+        counts, shown = self.say(process, b"counts\n"), self.say(process, b"show 1\n")
+        if not counts.ok:
+            self.assertEqual((counts.first, shown.first), (b"no 1", b"no 1"))
+            self.assertEqual(self.say(process, b"mbox\n.\n").first, b"ok 0 docs 0 2")
+            return
+        self.assertEqual(counts.first, b"ok 0 counts documents 1 notes 0 moment 1000")
+        self.assertEqual(shown.first, b"ok 5 show 1 at 1000")
+        self.assertEqual(shown.lines, [b"Subject: x", b"", b">From y", b".", b""])
+        self.assertEqual(self.say(process, b"show 2\n").first, b"no 11")
 
     def test_a_large_reply_comes_whole(self) -> None:
         process = self.session()
@@ -172,10 +188,11 @@ class Whole(WithService):
             began = time.monotonic()
             self.assertEqual(service.stop(), 0)
             taken = time.monotonic() - began
-            if taken < 1.0:
+            limit = a_second_here()
+            if taken < limit:
                 break
             service.start()
-        self.assertLess(taken, 1.0)
+        self.assertLess(taken, limit)
         self.assertTrue(self.is_one_file(service))
         found = self.documents(service)
         self.assertEqual([found[it] for it in range(1, 9)], [text_of(it) for it in range(8)])

@@ -12,7 +12,7 @@ import time
 import unittest
 from typing import List
 
-from support import FAKE, LOGIN, SERVICE, Service, Talk, WithService, wait_until
+from support import FAKE, LOGIN, SERVICE, Service, Talk, WithService, a_second_here, wait_until
 from tapestry_service.replies import read_reply
 
 RULES = f"user {LOGIN} ann\n"
@@ -226,9 +226,10 @@ class Failing(WithService):
             taken = time.monotonic() - began
             self.assertEqual(talk.file.read(), b"")
             self.assertFalse(os.path.exists(service.socket))
-            if taken < 1.0:
+            limit = a_second_here()
+            if taken < limit:
                 break
-        self.assertLess(taken, 1.0)
+        self.assertLess(taken, limit)
 
     def test_sigterm_within_a_command(self) -> None:
         """The program ends its command first; the message is stored once."""

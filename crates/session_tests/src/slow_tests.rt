@@ -416,13 +416,13 @@ fn drawn_gives_the_same(
 // Returns how many drawn questions in a row give what the definition gives.
 fn count_drawn(alloc: Global, docs: &[KeptDoc], notes: &[Note]) -> Result<u32, Memory> {
     let mut drawn = 7;
-    for count in 0..60 {
+    for count in 0..30 {
         drawn = next_drawn(drawn);
         if !drawn_gives_the_same(alloc, docs, notes, drawn)? {
             return Ok(count);
         }
     }
-    Ok(60)
+    Ok(30)
 }
 
 // Returns the same over the documents and the notes.
@@ -438,6 +438,6 @@ fn drawn_questions_give_what_the_definition_gives(rt: HostRuntime) -> Result<(),
     let docs = docs_of(rt.alloc())?;
     let count = count_drawn_over(rt.alloc(), docs.as_slice());
     drop(docs);
-    assert_eq!(rt; count?, 60);
+    assert_eq!(rt; count?, 30);
     Ok(())
 }
