@@ -225,14 +225,16 @@ def alone(at, messages):
 
 
 def from_spool(at, messages):
-    """The same of the service, from its start to the last message's leaving the spool."""
+    """The same of the service: seconds from its readiness to the last message's leaving the spool, processor seconds from its start."""
     it = Service(at, PROGRAM, USER)
     for n, text in enumerate(messages):
         with open(f"{it.spool}/new/{n:08d}.test", "wb") as file:
             file.write(text)
-    began = time.monotonic()
     it.start(is_ready=False)
     new = f"{it.spool}/new"
+    while "ready:" not in it.said():
+        time.sleep(0.002)
+    began = time.monotonic()
     while any(os.scandir(new)):
         time.sleep(0.01)
     seconds = time.monotonic() - began

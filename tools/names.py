@@ -3,7 +3,7 @@
 
 Each name in the first column of docs/DEFINITIONS.md has to stand in the file of specs/ that its row names, or in a source
 file if it names none. Each name with a capital or a `_` in the other pages has to stand in some file of specs/ or src/,
-or in a script of examples/. The status is 0 if all do.
+or in a script of examples/ or a module of service/. The status is 0 if all do.
 """
 
 import glob
@@ -26,7 +26,7 @@ def words_in(files):
 
 
 SPECS = glob.glob("crates/*/specs/*.antt")
-EVERYWHERE = words_in([*SPECS, *glob.glob("crates/*/src/*.rt"), "crates.txt", *glob.glob("examples/*.sh")])
+EVERYWHERE = words_in([*SPECS, *glob.glob("crates/*/src/*.rt"), "crates.txt", *glob.glob("examples/*.sh"), *glob.glob("service/**/*.py", recursive=True)])
 # Words of the pages that are no names of the code: wrong bodies, and words of the kit and of SQLite.
 OTHERS = {os.path.basename(it)[:-5] for it in glob.glob("crates/*/must-fail/*.edit")} | {"Wary", "journal_mode", "result_ok", "RT_JOBS"}
 

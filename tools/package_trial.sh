@@ -13,7 +13,7 @@ set -euo pipefail
 [ "$(id -u)" -eq 0 ] || { echo 'package_trial: it wants root' >&2; exit 1; }
 # Mounts and processes of the trial are its own, and end with it.
 if [ -z "${INSIDE:-}" ]; then
-  INSIDE=1 exec unshare --mount --pid --fork --kill-child --propagation private "$0" "$@"
+  INSIDE=1 exec unshare --mount --pid --fork --kill-child --mount-proc --propagation private "$0" "$@"
 fi
 file="$(realpath "$1")"
 export LC_ALL=C.UTF-8 DEBIAN_FRONTEND=noninteractive
@@ -85,11 +85,12 @@ well "a clean root of Debian $(cat "$root/etc/debian_version")"
 # Installation. What it depends on goes first, so that a purge can be compared with the state before.
 chroot "$root" apt-get -qq update >>"$log" 2>&1
 mapfile -t needed < <(dpkg-deb -f "$file" Depends | sed 's/ *([^)]*)//g; s/, */\n/g' | sed 's/|.*//')
-chroot "$root" apt-get -qq install -y --no-install-recommends "${needed[@]}" >>"$log" 2>&1
+chroot "$root" apt-get -qq install -y --no-install-recommends "${needed[@]}" acl >>"$log" 2>&1
 for login in ann bob; do chroot "$root" useradd -m -s /bin/bash "$login"; done
 state_of >"$scratch/before"
 cp "$file" "$root/tmp/tapestry.deb"
 chroot "$root" apt-get -qq install -y --no-install-recommends /tmp/tapestry.deb >>"$log" 2>&1
+# shellcheck disable=SC2016
 well "installed with ${needed[*]}: $(chroot "$root" dpkg-query -W -f '${Package} ${Version}, ${Installed-Size} KB' tapestry)"
 chroot "$root" test -L /etc/systemd/system/multi-user.target.wants/tapestryd.service || wrong 'the unit is not enabled'
 [ "$(chroot "$root" stat -c '%U %a' /var/lib/tapestry)" = 'tapestry 750' ] || wrong '/var/lib/tapestry'
@@ -98,8 +99,9 @@ well 'the unit is enabled, the user and the folders are there'
 # The unit, as systemd reads it.
 unit="$root/lib/systemd/system/tapestryd.service"
 if command -v systemd-analyze >/dev/null; then
-  # A root without systemd lacks the units that every unit names.
-  said="$(systemd-analyze --root="$root" verify tapestryd.service 2>&1 | grep -F tapestryd.service || true)"
+  # The root has neither systemd, and so not the units that each unit names, nor man.
+  said="$(systemd-analyze --root="$root" verify tapestryd.service 2>&1 | grep -F tapestryd.service |
+    grep -v -e 'Unit sysinit.target not found' -e "Command 'man " || true)"
   [ -z "$said" ] || wrong "systemd-analyze verify: $said"
   well "systemd-analyze verify; $(systemd-analyze --root="$root" --offline=yes security tapestryd.service 2>/dev/null | tail -n 1)"
 fi
@@ -110,7 +112,7 @@ install -d -m 0755 -o "$(chroot "$root" id -u tapestry)" -g "$(chroot "$root" id
 start() {
   (umask "$(sed -n 's/^UMask=//p' "$unit")" && inside tapestry "$(sed -n 's/^Environment=//p' "$unit")" "${words[@]}") 2>>"$scratch/said" &
   started=$!
-  until_well 'the service is ready' inside ann tap wake
+  until_well 'the service is ready' inside ann tap ask now TRUE
 }
 # setpriv and env become the service, so its number is that of the process begun.
 daemon() {
@@ -139,7 +141,7 @@ message ann a2 budget >"$root/home/ann/one"
 inside ann tap load /home/ann/one | grep -q . || wrong 'tap load'
 sleep 1.1
 inside ann tap run budget >"$scratch/run"
-grep -q a1 "$scratch/run" && grep -q b1 "$scratch/run" && ! grep -q b2 "$scratch/run" || wrong "tap run: $(cat "$scratch/run")"
+if ! grep -q a1 "$scratch/run" || ! grep -q b1 "$scratch/run" || grep -q b2 "$scratch/run"; then wrong "tap run: $(cat "$scratch/run")"; fi
 inside ann tap box budget >"$scratch/box"
 [ "$(grep -c example.org "$scratch/box")" -eq 3 ] || wrong "tap box: $(cat "$scratch/box")"
 well 'two users put mail into the spool; ann loads, runs and looks at her box:'
@@ -149,15 +151,15 @@ inside bob tap box budget >"$scratch/bob" 2>&1 || status=$?
 [ "$status" -eq 1 ] || wrong 'bob sees a box of ann'
 inside bob tap run mine | grep -q b2 || wrong 'tap run of bob'
 well 'bob has a query of his own, and no box of ann'
+# shellcheck disable=SC2016
 inside ann bash -c '. /usr/share/bash-completion/completions/tap; COMP_WORDS=(tap box b); COMP_CWORD=2; _tap; echo "${COMPREPLY[*]}"' >"$scratch/words" 2>&1
 well "completion of \`tap box b\`: $(cat "$scratch/words")"
 
-# A maildir of ann's, to which she lets the service write; in a root without ACLs the group does that.
-inside ann mkdir -p Maildir/.budget/tmp Maildir/.budget/new Maildir/.budget/cur 2>/dev/null ||
-  inside ann sh -c 'cd && mkdir -p Maildir/.budget/tmp Maildir/.budget/new Maildir/.budget/cur'
-chroot "$root" chgrp -R tapestry /home/ann/Maildir
-chroot "$root" chmod 755 /home/ann /home/ann/Maildir
-chroot "$root" chmod -R g+ws /home/ann/Maildir/.budget
+# A maildir of ann's, to which she lets the service write, as GUIDE says.
+# shellcheck disable=SC2016
+inside ann sh -ec 'cd; mkdir -p Maildir/.budget/tmp Maildir/.budget/new Maildir/.budget/cur
+  setfacl -m u:tapestry:x . Maildir
+  setfacl -R -m u:tapestry:rwx,d:u:tapestry:rwx,d:u:$USER:rwx Maildir/.budget'
 echo 'deliver ann budget maildir /home/ann/Maildir/.budget' >>"$root/etc/tapestry/rules"
 kill -HUP "$(daemon)"
 box="$root/home/ann/Maildir/.budget"
@@ -165,7 +167,9 @@ in_box() {
   [ "$(find "$box/new" "$box/cur" -type f | wc -l)" -eq "$1" ]
 }
 until_well 'the maildir has the box' in_box 3
-well "the rules were read again, and the maildir has $(find "$box/new" -type f | wc -l) messages"
+inside ann sh -c 'grep -h "^Subject: a1$" ~/Maildir/.budget/new/*' >/dev/null || wrong 'ann reads what was delivered'
+inside bob sh -c 'cat /home/ann/Maildir/.budget/new/*' >/dev/null 2>&1 && wrong 'bob reads what was delivered'
+well "the rules were read again, the maildir has $(find "$box/new" -type f | wc -l) messages, and ann reads them"
 
 # Killed, both, and begun again.
 rm "$(find "$box/new" -type f | head -n 1)"
@@ -197,7 +201,9 @@ well "the store is $(stat -c %s "$root/var/lib/tapestry/mail.db") bytes, its log
 chroot "$root" dpkg -i /tmp/tapestry.deb >>"$log" 2>&1
 grep -q '^deliver ann' "$root/etc/tapestry/rules" || wrong 'an upgrade changed the rules'
 chroot "$root" apt-get -qq remove -y tapestry >>"$log" 2>&1
-[ -f "$root/var/lib/tapestry/mail.db" ] && [ -f "$root/etc/tapestry/rules" ] || wrong 'a removal took the store or the rules'
+for kept in var/lib/tapestry/mail.db var/spool/tapestry/new etc/tapestry/rules; do
+  [ -e "$root/$kept" ] || wrong "a removal took /$kept"
+done
 [ ! -e "$root/usr/share/tapestry" ] || wrong 'a removal left /usr/share/tapestry'
 well 'an upgrade keeps the rules; a removal keeps the store, the spool and the rules'
 chroot "$root" apt-get -qq purge -y tapestry >>"$log" 2>&1
