@@ -34,15 +34,15 @@ returns-in-Some-clause-end g c =
 -- ---- it failed, or the store was refused
 
 pub returns-then-status-eq6-clause-closes : goal.returns-then-status-eq6-clause-closes
-returns-then-status-eq6-clause-closes g c = (λ none. either_of c.if-status-eq6.true, λ either. refl)
+returns-then-status-eq6-clause-closes g c = (λ none. either_of c.if-status-eq6.either, λ either. refl)
 
 pub returns-then-status-eq6-clause-no_file : goal.returns-then-status-eq6-clause-no_file
 returns-then-status-eq6-clause-no_file g c =
-    let gone = c.run_apart-status.ensures.gone (either_of c.if-status-eq6.true) in
+    let gone = c.run_apart-status.ensures.gone (either_of c.if-status-eq6.either) in
     (λ is. absurd (let e = is in cc), λ back. absurd (differ (sym gone.1 ∙ back)))
 
 pub returns-then-status-eq6-clause-refused : goal.returns-then-status-eq6-clause-refused
-returns-then-status-eq6-clause-refused g c = λ refused. absurd (not_two _ refused (either_of c.if-status-eq6.true))
+returns-then-status-eq6-clause-refused g c = λ refused. absurd (not_two _ refused (either_of c.if-status-eq6.either))
 
 pub returns-then-status-eq6-clause-end : goal.returns-then-status-eq6-clause-end
 returns-then-status-eq6-clause-end g c =
