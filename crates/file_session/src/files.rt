@@ -143,16 +143,6 @@ pub fn run_to_close<'a, C: Session, I: Peer<K>, K: Sink, S: Start, L: Ledger>(
     }
 }
 
-// Returns the status, and drops what came with it.
-fn status_of<X: Drop, Y: Drop>(ended: (u8, X, Y)) -> u8
-    ensures { result ≡ ended.0 }
-{
-    let (status, closed, unopened) = ended;
-    drop(closed);
-    drop(unopened);
-    status
-}
-
 /// Makes the call over the files that the words name, and closes them unless the keeper failed or the store was refused. Returns
 /// the status.
 pub fn run_session<C: Session, I: Peer<K>, K: Sink, S: Start, L: Ledger>(
@@ -168,6 +158,11 @@ pub fn run_session<C: Session, I: Peer<K>, K: Sink, S: Start, L: Ledger>(
     ensures { C.ends words.now result (I.left source.old) (I.left source.new) (K.out sink.old) (K.out sink.new)
         (I.faults source.old) (I.faults source.new) (K.faults sink.old) (K.faults sink.new) }
 {
+    let (status, closed, unopened) = run_to_close::<C, _, _, _, L>(
+        rt, words, source, sink, start, blank,
+    );
     // A close that fails loses no committed row, and changes no status.
-    status_of(run_to_close::<C, _, _, _, L>(rt, words, source, sink, start, blank))
+    drop(closed);
+    drop(unopened);
+    status
 }
