@@ -4,7 +4,7 @@
 #   tools/package.sh [FOLDER]            writes FOLDER/tapestry_VERSION_ARCHITECTURE.deb (out/), and its path
 #   tools/package.sh --trial [FOLDER]    the same, then tries it in a clean root, by tools/package_trial.sh
 #
-# The programs are those that `rt ci` or `tools/prove.py --program NAME` left in crates/NAME/out/NAME. PROGRAM and POP_PROGRAM
+# The programs are those that `rt ci` or `tools/build.py program NAME` left in crates/NAME/out/NAME. PROGRAM and POP_PROGRAM
 # name others, which are taken as they are. All else is of this checkout: service/ with its pages, and docs/.
 #
 # The version is that of the last tag v.., if there is one, else the moment of the last commit, and the commit. Made twice of one
@@ -42,7 +42,7 @@ done
 # The program of a crate, PATH if it is given.
 program_of() {
   local path="${2:-$top/crates/$1/out/$1}"
-  [ -x "$path" ] || fail "$path isn't there: \`tools/prove.py --program $1\` proves and builds it"
+  [ -x "$path" ] || fail "$path isn't there: \`tools/build.py program $1\` proves and builds it"
   # It runs here, with nothing to do.
   if [ "$1" = tapestry ]; then
     "$path" </dev/null >/dev/null || fail "$path doesn't run"

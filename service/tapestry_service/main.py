@@ -37,7 +37,7 @@ def main(words: Optional[List[str]] = None) -> int:
     top = os.path.dirname(os.path.dirname(os.path.dirname(os.path.abspath(__file__))))
     program = program_words(top, os.environ.get("TAPESTRY"))
     if program is None:
-        say("there is no program: TAPESTRY names it, or `tools/prove.py --program tapestry` proves and builds it", ERROR)
+        say("there is no program: TAPESTRY names it, or `tools/build.py program tapestry` proves and builds it", ERROR)
         return WRONG_WORDS
     try:
         rules = read_rules(given.rules)

@@ -39,7 +39,7 @@ def the_program(variable: str = "TAPESTRY") -> str:
         raise unittest.SkipTest("SERVICE_TESTS=alone: what needs the program is left out")
     name = "tapestry_pop" if variable == "TAPESTRY_POP" else "tapestry"
     raise AssertionError(
-        f"{variable} names no program ({path or 'it is not set'}): `tools/prove.py --program {name}` proves and builds it;"
+        f"{variable} names no program ({path or 'it is not set'}): `tools/build.py program {name}` proves and builds it;"
         " SERVICE_TESTS=alone leaves these tests out"
     )
 

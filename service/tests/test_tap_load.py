@@ -188,6 +188,8 @@ class Interrupted(unittest.TestCase):
                 stdout=subprocess.PIPE,
                 stderr=subprocess.PIPE,
                 env={**os.environ, "TAPESTRY_SOCKET": daemon.path},
+                # A shell that runs the tests in the background has them ignore the signal.
+                preexec_fn=lambda: signal.signal(signal.SIGINT, signal.SIG_DFL),
             )
             self.assertTrue(asked.wait(30))
             child.send_signal(signal.SIGINT)
