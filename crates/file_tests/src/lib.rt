@@ -2,8 +2,6 @@
 #![tactic(auto)]
 
 #[cfg(test)]
-mod fuse_tests;
-#[cfg(test)]
 mod place_tests;
 #[cfg(test)]
 mod session_tests;

@@ -141,17 +141,9 @@ fn good_commands(alloc: Global, prefixes: &Prefixes) -> Result<usize, Memory> {
     Ok(TWO_USERS.len())
 }
 
-// Returns what the first commands give, for each number of them.
-fn prefixes(alloc: Global) -> Result<Prefixes, Memory> {
-    let none = Tables::empty(alloc);
-    let prefixes = Prefixes::of(alloc, &none, &TWO_USERS);
-    drop(none);
-    prefixes
-}
-
 #[test]
 fn a_script_may_end_after_each_byte(rt: HostRuntime) -> Result<(), Memory> {
-    let prefixes = prefixes(rt.alloc())?;
+    let prefixes = Prefixes::over_none(rt.alloc(), &TWO_USERS)?;
     let good = good_commands(rt.alloc(), &prefixes);
     drop(prefixes);
     assert_eq!(rt; good?, 16);

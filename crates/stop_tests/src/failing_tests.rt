@@ -1,7 +1,7 @@
 //! Each call of the source, the sink and the keeper fails once: which commands are then done, and what is left.
 
 use crate::prefixes::Prefixes;
-use crate::scripts::{FIRST, SECOND, TWO_USERS, adds_rows, text_of};
+use crate::scripts::{FIRST, SECOND, TWO_USERS, adds_rows, complete_in, text_of};
 use crate::sessions::{Failure, Left, left_by};
 use keeper_core::KeepPlan;
 use session_runs::tables_after;
@@ -79,18 +79,6 @@ fn failure_at(calls: Calls, call: u64) -> Failure {
         Calls::Puts(out) => Failure::Put(PutPlan { call, out }),
         Calls::Keeps(kept) => Failure::Keep(KeepPlan { call, kept }),
     }
-}
-
-// Returns how many commands are complete in the first bytes of a script.
-fn complete_in(commands: &[&[u8]], bytes: u64) -> usize {
-    let mut end = 0u64;
-    for (n, command) in commands.iter().enumerate() {
-        end = end.saturating_add(command.len() as u64);
-        if end > bytes {
-            return n;
-        }
-    }
-    commands.len()
 }
 
 // Returns how many commands stand before the one that makes this call of the keeper. The first call attaches.

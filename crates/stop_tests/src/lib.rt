@@ -12,6 +12,8 @@ mod keeper_tests;
 #[cfg(test)]
 mod prefixes;
 #[cfg(test)]
+mod prompt_tests;
+#[cfg(test)]
 mod scripts;
 #[cfg(test)]
 mod sessions;

@@ -73,6 +73,14 @@ impl Prefixes {
         }
     }
 
+    /// Runs each number of first commands over no rows.
+    pub fn over_none(alloc: Global, commands: &[&[u8]]) -> Result<Prefixes, Memory> {
+        let none = Tables::empty(alloc);
+        let prefixes = Prefixes::of(alloc, &none, commands);
+        drop(none);
+        prefixes
+    }
+
     /// Tells whether a session shows what it shows after the first `n` commands.
     pub fn shows(&self, n: usize, probe: &Text) -> bool {
         match self.probes.as_slice().get(n) {
@@ -81,12 +89,17 @@ impl Prefixes {
         }
     }
 
-    /// Tells whether a run wrote what the first `n` commands write, and shows what it shows after `then` of them.
-    pub fn is_after(&self, n: usize, then: usize, written: &Text, probe: &Text) -> bool {
+    /// Tells whether this is what the first `n` commands write.
+    pub fn are_replies(&self, n: usize, written: &Text) -> bool {
         match self.written.as_slice().get(n) {
-            Some(want) => want == written && self.shows(then, probe),
+            Some(want) => want == written,
             None => false,
         }
+    }
+
+    /// Tells whether a run wrote what the first `n` commands write, and shows what it shows after `then` of them.
+    pub fn is_after(&self, n: usize, then: usize, written: &Text, probe: &Text) -> bool {
+        self.are_replies(n, written) && self.shows(then, probe)
     }
 
     /// Tells whether a run wrote what the first `n` commands write, and of the next reply the first `out` bytes.

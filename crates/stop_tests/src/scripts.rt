@@ -76,6 +76,18 @@ pub fn adds_rows(command: &[u8]) -> bool {
         || command.starts_with(b"run".as_slice())
 }
 
+/// Returns how many commands are complete in the first bytes of a script.
+pub fn complete_in(commands: &[&[u8]], bytes: u64) -> usize {
+    let mut end = 0u64;
+    for (n, command) in commands.iter().enumerate() {
+        end = end.saturating_add(command.len() as u64);
+        if end > bytes {
+            return n;
+        }
+    }
+    commands.len()
+}
+
 // Appends some commands.
 fn push_commands(text: &mut Text, commands: &[&[u8]]) -> Result<(), Memory> {
     for command in commands {

@@ -12,39 +12,73 @@ use std::alloc::Global;
 use tap_base::Text;
 
 // The reply to each command of the second session.
-const REPLIES: [&[u8]; 7] = [
+const REPLIES: [&[u8]; 10] = [
     b"ok 0 as ann\n",
     b"ok 0 at 111\n",
     b"ok 0 at 120\n",
     b"ok 0 doc 3\n",
     b"ok 0 at 121\n",
     b"ok 1 run 3 before 121\ndoc 3 first 120\n",
+    b"ok 0 note 1\n",
+    b"ok 0 query r\n",
+    b"ok 0 filter 1\n",
     b"ok 3 box q\ndoc 1 first 100 run 1\ndoc 2 first 110 run 2\ndoc 3 first 120 run 3\n",
 ];
 
-// Shows the box, the number of the next run, and what that delivers.
-const PROBE: &[u8] = b"as ann\nbox q\nat 200\nrun q\n";
+// Shows rows of each kind, the number of the next run, and what that delivers.
+const PROBE: &[u8] = b"counts\nas ann\nnotes 1\nqueries\nlist q\nat 200\nrun q\n";
 
 // What the probe writes over the rows of the first session,
 const WITHOUT_MAIL: &[u8] =
-    b"ok 0 as ann\nok 2 box q\ndoc 1 first 100 run 1\ndoc 2 first 110 run 2\nok 0 at 200\nok 0 run 3 before 200\n";
+    b"ok 0 counts documents 2 notes 0 moment 111\nok 0 as ann\nok 0 notes 1\n\
+      ok 1 queries\nquery q ts 100 from 0 runs 2 last 111 boxed 2 text m.words HAS 'hi'\n\
+      ok 2 list q\ndoc 1 first 100 run 1 priority 0 class other\ndoc 2 first 110 run 2 priority 0 class other\n\
+      ok 0 at 200\nok 0 run 3 before 200\n";
 
 // with the mail of the second,
-const WITH_MAIL: &[u8] =
-    b"ok 0 as ann\nok 2 box q\ndoc 1 first 100 run 1\ndoc 2 first 110 run 2\nok 0 at 200\nok 1 run 3 before 200\n\
-      doc 3 first 120\n";
+const WITH_MAIL: &[u8] = b"ok 0 counts documents 3 notes 0 moment 120\nok 0 as ann\nok 0 notes 1\n\
+      ok 1 queries\nquery q ts 100 from 0 runs 2 last 111 boxed 2 text m.words HAS 'hi'\n\
+      ok 2 list q\ndoc 1 first 100 run 1 priority 0 class other\ndoc 2 first 110 run 2 priority 0 class other\n\
+      ok 0 at 200\nok 1 run 3 before 200\ndoc 3 first 120\n";
 
-// and with its run too.
-const WITH_RUN: &[u8] =
-    b"ok 0 as ann\nok 3 box q\ndoc 1 first 100 run 1\ndoc 2 first 110 run 2\ndoc 3 first 120 run 3\nok 0 at 200\n\
-      ok 0 run 4 before 200\n";
+// with its run too,
+const WITH_RUN: &[u8] = b"ok 0 counts documents 3 notes 0 moment 121\nok 0 as ann\nok 0 notes 1\n\
+      ok 1 queries\nquery q ts 100 from 0 runs 3 last 121 boxed 3 text m.words HAS 'hi'\n\
+      ok 3 list q\ndoc 1 first 100 run 1 priority 0 class other\ndoc 2 first 110 run 2 priority 0 class other\n\
+      doc 3 first 120 run 3 priority 0 class other\nok 0 at 200\nok 0 run 4 before 200\n";
+
+// with its note too,
+const WITH_NOTE: &[u8] = b"ok 0 counts documents 3 notes 1 moment 121\nok 0 as ann\n\
+      ok 1 notes 1\nnote 1 ts 121 author ann kind score value -7 text x\n\
+      ok 1 queries\nquery q ts 100 from 0 runs 3 last 121 boxed 3 text m.words HAS 'hi'\n\
+      ok 3 list q\ndoc 1 first 100 run 1 priority 0 class other\ndoc 2 first 110 run 2 priority 0 class other\n\
+      doc 3 first 120 run 3 priority 0 class other\nok 0 at 200\nok 0 run 4 before 200\n";
+
+// with its query too,
+const WITH_QUERY: &[u8] = b"ok 0 counts documents 3 notes 1 moment 121\nok 0 as ann\n\
+      ok 1 notes 1\nnote 1 ts 121 author ann kind score value -7 text x\n\
+      ok 2 queries\nquery q ts 100 from 0 runs 3 last 121 boxed 3 text m.words HAS 'hi'\n\
+      query r ts 121 from 0 runs 0 last never boxed 0 text TRUE\n\
+      ok 3 list q\ndoc 1 first 100 run 1 priority 0 class other\ndoc 2 first 110 run 2 priority 0 class other\n\
+      doc 3 first 120 run 3 priority 0 class other\nok 0 at 200\nok 0 run 4 before 200\n";
+
+// and with its filter too.
+const WITH_FILTER: &[u8] = b"ok 0 counts documents 3 notes 1 moment 121\nok 0 as ann\n\
+      ok 1 notes 1\nnote 1 ts 121 author ann kind score value -7 text x\n\
+      ok 2 queries\nquery q ts 100 from 0 runs 3 last 121 boxed 3 text m.words HAS 'hi'\n\
+      query r ts 121 from 0 runs 0 last never boxed 0 text TRUE\n\
+      ok 3 list q\ndoc 1 first 100 run 1 priority 1 class a\ndoc 2 first 110 run 2 priority 1 class a\n\
+      doc 3 first 120 run 3 priority 1 class a\nok 0 at 200\nok 0 run 4 before 200\n";
 
 // Returns what the probe writes after the first `n` commands of the second session.
 fn probe_after(n: usize) -> &'static [u8] {
     match n {
         0..=3 => WITHOUT_MAIL,
         4..=5 => WITH_MAIL,
-        _ => WITH_RUN,
+        6 => WITH_RUN,
+        7 => WITH_NOTE,
+        8 => WITH_QUERY,
+        _ => WITH_FILTER,
     }
 }
 
@@ -60,7 +94,7 @@ fn whole_replies(written: &[u8]) -> Option<usize> {
         }
         rest = &rest[reply.len()..];
     }
-    if rest.is_empty() { Some(7) } else { None }
+    if rest.is_empty() { Some(10) } else { None }
 }
 
 // Returns the files behind fuses that pass this many calls.
@@ -151,9 +185,9 @@ fn outcome_of(status: u8, written: &[u8], is_closed: bool, found: &[u8]) -> Ende
     let is_left = found == probe_after(whole);
     let is_next = found == probe_after(whole.saturating_add(1));
     match (status, whole) {
-        (0, 7) if is_left && is_closed => Ended::Whole,
-        (0, 7) if is_left => Ended::Right,
-        (5, 0..=6) if is_left || is_next => Ended::Right,
+        (0, 10) if is_left && is_closed => Ended::Whole,
+        (0, 10) if is_left => Ended::Right,
+        (5, 0..=9) if is_left || is_next => Ended::Right,
         _ => Ended::Wrong,
     }
 }
