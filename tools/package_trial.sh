@@ -74,6 +74,8 @@ if [ -n "${ROOT:-}" ]; then
 else
   debootstrap --variant=minbase bookworm "$root" "${MIRROR:-http://deb.debian.org/debian}" >"$log" 2>&1
 fi
+# What is lost with the root needs no sync.
+echo force-unsafe-io >"$root/etc/dpkg/dpkg.cfg.d/90trial"
 mount -t proc proc "$root/proc"
 mount --rbind /dev "$root/dev"
 cp /etc/resolv.conf "$root/etc/resolv.conf"

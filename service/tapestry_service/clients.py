@@ -3,10 +3,12 @@ turns, and what a client sends without an end or doesn't read is bounded."""
 
 from __future__ import annotations
 
+import errno
 import os
 import pwd
 import selectors
 import socket
+import stat
 import struct
 import time
 from collections import OrderedDict, deque
@@ -14,9 +16,11 @@ from typing import Callable, Deque, Dict, Optional, Set
 
 from .commands import Command, Cutter
 from .log import NOTICE, WARNING, say
-from .replies import BUSY, NO_NAME, SLOW, UNKNOWN_END, WAITING, Reply
+from .replies import BUSY, NO_NAME, OTHER_SHARD, SLOW, UNKNOWN_END, WAITING, Reply
+from .rows import LOGGED
 from .rules import Rules
 from .session import Session
+from .shard import Shard
 from .work import Refused, Work
 
 #: Connections of one login, and of all.
@@ -50,6 +54,7 @@ class Client:
         self.was_tried = False
         self.is_served = False
         self.has_ended = False  # it sends nothing more
+        self.is_held = False  # its bytes may have commands that wait until its replies are sent
         self.is_closed = False
         self.counted = 0
         self.events = 0
@@ -63,6 +68,8 @@ class Clients:
         self.path = path
         self.rules = rules
         self.most = most
+        #: Where mail and notes of users go first, if this is a shard.
+        self.shard: Optional[Shard] = None
         self.clients: Set[Client] = set()
         self._selector = selector
         self._of_login: Dict[int, Set[Client]] = {}
@@ -112,6 +119,9 @@ class Clients:
             name = login.encode("utf-8", "replace")
             _refuse(connection, b"no %d %s isn't a valid name, and RULES has no line for this login\n" % (NO_NAME, name))
             return
+        if not self.rules.serves(user):
+            _refuse(connection, _other_shard(user))
+            return
         client = Client(connection, uid, login, user)
         self.clients.add(client)
         self._of_login.setdefault(uid, set()).add(client)
@@ -122,7 +132,8 @@ class Clients:
             try:
                 self._logins[uid] = pwd.getpwuid(uid).pw_name
             except KeyError:
-                self._logins[uid] = str(uid)
+                # It may be known a moment later.
+                return str(uid)
         return self._logins[uid]
 
     def _tell(self, text: str) -> None:
@@ -139,6 +150,8 @@ class Clients:
             user = rules.name_of(client.login)
             if user is None:
                 self._drop(client, b"no %d RULES has no line for this login any more\n" % NO_NAME)
+            elif not rules.serves(user):
+                self._drop(client, _other_shard(user))
             else:
                 client.user = user
 
@@ -156,8 +169,9 @@ class Clients:
         of_login = self._of_login[client.uid]
         of_login.discard(client)
         if not of_login:
-            for table in (self._of_login, self._input, self._output):
-                table.pop(client.uid, None)
+            del self._of_login[client.uid]
+            for counts in (self._input, self._output):
+                counts.pop(client.uid, None)
 
     def _drop(self, client: Client, line: bytes) -> None:
         """Ends a connection with one line about why, if it still takes that."""
@@ -208,7 +222,33 @@ class Clients:
         """Cuts the next command, if the last one is done, and asks for the bytes that may come next."""
         if client.is_closed:
             return
-        while client.command is None and client.out_size < OUTPUT_OF_CLIENT:
+        self._cut(client)
+        self._count(client, client.cutter.size)
+        self._bound_input(client)
+        if client.is_closed:
+            return
+        try:
+            self._flush(client)
+            while client.command is None and client.is_held and client.out_size < OUTPUT_OF_CLIENT:
+                # Its replies are sent, and what came with the last command is still to be cut.
+                self._cut(client)
+                self._count(client, client.cutter.size)
+                self._flush(client)
+        except OSError:
+            self.close_client(client)
+            return
+        if client.has_ended and client.command is None and not client.out and not client.cutter.is_within:
+            self.close_client(client)
+            return
+        self._want(client)
+
+    def _cut(self, client: Client) -> None:
+        """Cuts commands until there is one to perform, too much to send, or nothing more."""
+        client.is_held = False
+        while client.command is None:
+            if client.out_size >= OUTPUT_OF_CLIENT:
+                client.is_held = True
+                return
             item = client.cutter.next()
             if item is None and client.has_ended:
                 item = client.cutter.rest()
@@ -221,19 +261,6 @@ class Clients:
             else:
                 client.command = item
                 self._make_ready(client)
-        self._count(client, client.cutter.size)
-        self._bound_input(client)
-        if client.is_closed:
-            return
-        try:
-            self._flush(client)
-        except OSError:
-            self.close_client(client)
-            return
-        if client.has_ended and client.command is None and not client.out and not client.cutter.is_within:
-            self.close_client(client)
-            return
-        self._want(client)
 
     def _want(self, client: Client) -> None:
         events = selectors.EVENT_WRITE if client.out else 0
@@ -322,6 +349,12 @@ class Clients:
         command = client.command
         assert command is not None
         client.is_served = True
+        if self.shard is not None and self.shard.is_behind:
+            self._answer(client, b"no %d the store hasn't all rows of the log yet; nothing was done\n" % WAITING)
+            return
+        if self.shard is not None and command.word in LOGGED:
+            yield from self.shard.take(session, client.user, command, lambda line: self._answer(client, line))
+            return
         try:
             reply: Reply = yield from session.command(client.user, command.data)
         except Refused as why:
@@ -371,27 +404,41 @@ class Clients:
 
 
 def _listen(path: str) -> socket.socket:
-    """A socket at the path, in the place of one that nobody listens at. Raises OSError if somebody does."""
+    """A socket at the path, in the place of one that nobody listens at. Raises OSError if somebody does, or if something else than
+    a socket is there."""
     server = socket.socket(socket.AF_UNIX, socket.SOCK_STREAM | socket.SOCK_CLOEXEC)
     server.setblocking(False)
     try:
-        server.bind(path)
-    except OSError:
-        probe = socket.socket(socket.AF_UNIX)
         try:
-            probe.settimeout(1)
-            probe.connect(path)
-        except ConnectionRefusedError:
+            server.bind(path)
+        except OSError as error:
+            if error.errno != errno.EADDRINUSE or not stat.S_ISSOCK(os.lstat(path).st_mode) or _is_served(path):
+                raise
             os.unlink(path)
             server.bind(path)
-        else:
-            server.close()
-            raise
-        finally:
-            probe.close()
-    os.chmod(path, 0o666)
-    server.listen(512)
+        os.chmod(path, 0o666)
+        server.listen(512)
+    except OSError:
+        server.close()
+        raise
     return server
+
+
+def _other_shard(user: str) -> bytes:
+    return b"no %d %s is a user of another shard: ask at the socket of that one\n" % (OTHER_SHARD, user.encode())
+
+
+def _is_served(path: str) -> bool:
+    """Whether somebody listens at a socket."""
+    with socket.socket(socket.AF_UNIX) as probe:
+        probe.settimeout(1)
+        try:
+            probe.connect(path)
+        except ConnectionRefusedError:
+            return False
+        except OSError:
+            return True
+        return True
 
 
 def _send_last(connection: socket.socket, line: bytes) -> None:

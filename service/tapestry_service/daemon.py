@@ -2,7 +2,6 @@
 
 from __future__ import annotations
 
-import fcntl
 import os
 import resource
 import selectors
@@ -10,11 +9,12 @@ import shutil
 import signal
 import time
 import traceback
-from typing import Any, Callable, Generator, List, NamedTuple, Optional
+from typing import Any, Callable, Generator, List, NamedTuple, Optional, Union
 
 from .clients import MOST, Client, Clients
 from .clock import Clock
 from .due import Due
+from .files import hold
 from .log import ERROR, INFO, NOTICE, WARNING, advice, own_login, say
 from .notify import Notify
 from .pauses import Pause
@@ -22,16 +22,16 @@ from .program import SCRIPT_LIMIT, Program, ProgramEnded
 from .replies import Reply
 from .rules import Rules, WrongRule, read_rules
 from .session import Session
-from .spool import Spool
+from .shard import Shard
+from .spool import LOOK_AGAIN, LOOK_UNWATCHED, Spool
 from .watch import Watch
 from .work import Exchange, Refused
 
 #: The loop looks at the clock at least this often, since the system may sleep or its clock be set.
 LONGEST_SLEEP = 30.0
 
-#: Seconds between two looks at a spool that can't be watched, and at files that couldn't be read.
-LOOK_AGAIN = 60.0
-LOOK_UNWATCHED = 2.0
+#: Seconds for which clients, say, may follow one another before it is the turn of the spool, if there is something to load.
+TURN = 0.05
 
 #: Seconds for one reply, after which the watchdog gets no sign of life any more.
 LONGEST_REPLY = 900.0
@@ -59,6 +59,7 @@ class Paths(NamedTuple):
     spool: str
     socket: str
     rules: str
+    users: Optional[str] = None
 
 
 class Piece(NamedTuple):
@@ -80,17 +81,28 @@ class Daemon:
         clock: Optional[Clock] = None,
         decode: Optional[Callable[[bytes], bytes]] = None,
         notify: Optional[Notify] = None,
+        shard: Optional[Shard] = None,
     ):
         self.paths = paths
         self.words = [*program, "--store", paths.store]
-        self.clock = clock or Clock()
+        self.shard = shard
+        self.clock = clock or (shard.clock if shard is not None else Clock())
         self.notify = notify or Notify()
         self.selector = selectors.DefaultSelector()
-        self.spool = Spool(paths.spool, decode)
-        self._lock = _lock(os.path.join(paths.spool, "lock"))
+        self.spool = Spool(paths.spool, decode) if shard is None else shard.feeder
+        #: What brings mail into the store.
+        self.source: Union[Spool, Shard] = shard or self.spool
         self.due = Due(rules, os.path.join(os.path.abspath(paths.spool), "digests"))
+        self._lock = hold(os.path.join(paths.spool, "lock"))
         most = _raise_file_limit()
-        self.clients = Clients(paths.socket, rules, self.selector, min(MOST, most - 64))
+        try:
+            self.clients = Clients(paths.socket, rules, self.selector, min(MOST, most - 64))
+        except OSError:
+            os.close(self._lock)
+            raise
+        if shard is not None:
+            self.clients.shard = shard
+            self.selector.register(shard.calls.fd, selectors.EVENT_READ, lambda _: shard.calls.deliver())
         self.watch = Watch(os.fsdecode(self.spool.new))
         if self.watch.fd is not None:
             self.selector.register(self.watch.fd, selectors.EVENT_READ, lambda _: self._news())
@@ -108,7 +120,8 @@ class Daemon:
         self._replies: List[Reply] = []
         self._expected = 0  # replies of the exchange that goes on; 0 if none does
         self._asked_at = 0.0
-        self._turn = 0
+        self._turn = 0  # the kind of work that went on last, and until when it may go on before the others
+        self._turn_until = 0.0
         self._start_pause = Pause(0.05, 60.0)
         self._spool_pause = Pause(1.0, 60.0)
         self._opened_at = 0.0
@@ -183,10 +196,12 @@ class Daemon:
             due = self.due.seconds_until_ready(until_next)
             if due is not None:
                 waits.append(due)
-            if self.spool.has_work:
+            if self.source.has_work:
                 waits.append(self._spool_pause.until - now)
         if self.clients.clients:
             waits.append(5.0)
+        if self.shard is not None:
+            waits.append(self.shard.seconds_until_tick())
         waits.append(self._look_at + (LOOK_AGAIN if self.watch.fd is not None else LOOK_UNWATCHED) - now)
         return max(0.0, min(waits))
 
@@ -204,12 +219,12 @@ class Daemon:
             self.clients.sweep()
             self.clients.resume()
             self._show()
-        if self.watch.fd is None and now - self._look_at >= LOOK_UNWATCHED:
+        if now - self._look_at >= (LOOK_AGAIN if self.watch.fd is not None else LOOK_UNWATCHED):
             self._look_at = now
-            self.spool.has_news = True
-        elif now - self._look_at >= LOOK_AGAIN:
-            self._look_at = now
-            self.spool.try_unreadable_again()
+            self.watch.clear()
+            self.spool.look_again()
+        if self.shard is not None:
+            self.shard.tick()
         self.due.look_at_commands()
         if self._has_closed:
             self._reap()
@@ -227,7 +242,7 @@ class Daemon:
 
     def _reread_rules(self) -> None:
         try:
-            rules = read_rules(self.paths.rules)
+            rules = read_rules(self.paths.rules, self.paths.users)
         except (WrongRule, OSError) as why:
             say(f"{why}: the rules stay as they were", ERROR)
             return
@@ -254,7 +269,7 @@ class Daemon:
 
     def _open(self, session: Session) -> Generator[Optional[Exchange], List[Reply], None]:
         yield from session.open()
-        yield from self.spool.settle(session)
+        yield from self.source.settle(session)
 
     def _send(self, data: bytes) -> None:
         assert self.program is not None
@@ -323,7 +338,7 @@ class Daemon:
         for it in [*([piece] if piece is not None else []), *self._suspended]:
             it.work.close()
         self._suspended = []
-        self.spool.forget()
+        self.source.forget()
         self.due.changed()
         if piece is not None and piece.client is not None:
             self.clients.program_ended(piece.client)
@@ -366,9 +381,9 @@ class Daemon:
         if any(it.kind == kind for it in self._suspended):
             return False
         if kind == "spool":
-            return self.spool.has_work and self._spool_pause.is_over
+            return self.source.has_work and self._spool_pause.is_over
         if kind == "due":
-            return self.due.is_ready(self.clock.second())
+            return self.due.is_ready(self.clock.second()) and not (self.shard is not None and self.shard.is_behind)
         return self.clients.has_ready
 
     def _go_on(self) -> None:
@@ -377,12 +392,13 @@ class Daemon:
             return
         if self._ends_early():
             return
-        kinds = ("spool", "client", "due")
-        for step in range(1, 4):
+        kinds, now = ("spool", "client", "due"), time.monotonic()
+        for step in range(0 if now < self._turn_until else 1, 4):
             kind = kinds[(self._turn + step) % 3]
             piece = self._next_piece(kind)
             if piece is not None:
-                self._turn = (self._turn + step) % 3
+                if step > 0:
+                    self._turn, self._turn_until = (self._turn + step) % 3, now + TURN
                 self._current = piece
                 self._advance(None)
                 return
@@ -396,7 +412,7 @@ class Daemon:
         if not self.is_open or not self._is_waiting(kind):
             return None
         if kind == "spool":
-            return Piece("spool", self.spool.load(self.session))
+            return Piece("spool", self.source.load(self.session))
         if kind == "due":
             return Piece("due", self.due.run(self.session))
         client = self.clients.next_ready()
@@ -456,8 +472,8 @@ class Daemon:
         """A piece of work that couldn't be ended is tried again after a pause."""
         what = "" if why is None else advice(why, self.paths.spool) if isinstance(why, OSError) else str(why)
         if piece.kind == "spool":
-            self.spool.forget()
-            say(f"the spool can't be loaded: {what}; trying again in {self._spool_pause.grow():.0f} seconds", ERROR)
+            self.source.forget()
+            say(f"{self.source.FAILS}: {what}; trying again in {self._spool_pause.grow():.0f} seconds", ERROR)
         elif piece.kind == "due":
             self.due.changed()
             say(f"due queries can't run: {what}; trying again in {self.due.pause.grow():.0f} seconds", ERROR)
@@ -518,13 +534,6 @@ class Daemon:
                 self.selector.unregister(fd)
         except BlockingIOError:
             pass
-
-
-def _lock(path: str) -> int:
-    """Holds the spool, so that two services never load one. Raises OSError if another one has it."""
-    fd = os.open(path, os.O_RDWR | os.O_CREAT | os.O_CLOEXEC, 0o660)
-    fcntl.flock(fd, fcntl.LOCK_EX | fcntl.LOCK_NB)
-    return fd
 
 
 def _raise_file_limit() -> int:

@@ -19,8 +19,9 @@ from typing import List, Optional, Tuple
 
 FIELDS = ["From", "To", "Cc", "Newsgroups", "Subject", "Date", "Message-ID", "In-Reply-To", "References"]
 
-#: Seconds that decoding a message may take, before it is left as it is.
-TIME_LIMIT = 5.0
+#: Seconds of the processor that decoding a message may take, and for each byte of it, before it is left as it is. Others wait
+#: meanwhile.
+TIME_LIMIT, TIME_OF_BYTE = 1.0, 150e-9
 
 
 class _Text(html.parser.HTMLParser):
@@ -101,14 +102,14 @@ def _stop(_signal: int, _frame: Optional[FrameType]) -> None:
 def decoded_or_raw(raw: bytes, limit: float = TIME_LIMIT) -> bytes:
     """The decoded form of a message, or the message itself if it can't be decoded, or not in time: mail comes from anywhere, and
     no message may stop the others. Only for a process's main thread."""
-    old = signal.signal(signal.SIGALRM, _stop)
+    old = signal.signal(signal.SIGVTALRM, _stop)
     try:
-        signal.setitimer(signal.ITIMER_REAL, limit)
+        signal.setitimer(signal.ITIMER_VIRTUAL, limit + TIME_OF_BYTE * len(raw))
         try:
             return decoded(raw)
         finally:
-            signal.setitimer(signal.ITIMER_REAL, 0)
+            signal.setitimer(signal.ITIMER_VIRTUAL, 0)
     except Exception:  # whatever a message's form brings the parser to
         return raw
     finally:
-        signal.signal(signal.SIGALRM, old)
+        signal.signal(signal.SIGVTALRM, old)

@@ -49,9 +49,9 @@ class Due:
         old, self._deliveries = self._deliveries, {}
         for rule in rules.maildirs:
             marks = self._maildir_marks.setdefault(rule.path, Marks(f"{rule.path}/.delivered"))
-            self._deliveries[rule] = old.pop(rule, None) or MaildirDelivery(rule, marks)
+            self._deliveries[rule] = old.pop(rule) if rule in old else MaildirDelivery(rule, marks)
         for digest in rules.digests:
-            self._deliveries[digest] = old.pop(digest, None) or DigestDelivery(digest, self._digest_marks)
+            self._deliveries[digest] = old.pop(digest) if digest in old else DigestDelivery(digest, self._digest_marks)
         self._leaving += [it for it in old.values() if isinstance(it, DigestDelivery) and it.is_running]
         self.rules = rules
         self.is_dirty = True
@@ -165,9 +165,14 @@ class Due:
                 yield from delivery.deliver(session, runs)
                 delivery.pause.reset()
         except OSError as error:
-            path = delivery.path if isinstance(delivery, MaildirDelivery) else delivery.rule.command[0]
             delivery.marks.forget()
-            say(f"{delivery.of} isn't delivered: {advice(error, path)}; trying again in {delivery.pause.grow():.0f} seconds", ERROR)
+            if isinstance(delivery, MaildirDelivery):
+                why = advice(error, delivery.path)
+            elif error.filename == delivery.rule.command[0]:
+                why = f"{error.filename} can't be started ({error.strerror})"
+            else:
+                why = advice(error, delivery.marks.path)
+            say(f"{delivery.of} isn't delivered: {why}; trying again in {delivery.pause.grow():.0f} seconds", ERROR)
 
     # Commands
 

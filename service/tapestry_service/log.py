@@ -40,4 +40,6 @@ def advice(error: OSError, path: str) -> str:
         return f"{own_login()} may not write at {where}: give that login the right to"
     if error.errno in (errno.ENOENT, errno.ENOTDIR):
         return f"{where} isn't there: make its folder"
+    if error.errno == errno.EADDRINUSE:
+        return f"something else is at {where}: end the service that listens there, remove the file, or name another path"
     return f"{error.strerror or error} at {where}"

@@ -9,6 +9,7 @@ numbers from 40 on, which the program never uses:
     no 43 ..          the program ended within the command, which may have been performed: look first
     no 44 LOGIN ..    the login has no name in the store; the connection is closed
     no 45 ..          the client was silent within a command, or didn't read; the connection is closed
+    no 46 USER ..     another shard serves this user; the connection is closed
 """
 
 from __future__ import annotations
@@ -23,6 +24,7 @@ WAITING = 42
 UNKNOWN_END = 43
 NO_NAME = 44
 SLOW = 45
+OTHER_SHARD = 46
 
 #: Bytes of a first line; the longest that the program writes has some hundred.
 FIRST_LINE = 65536

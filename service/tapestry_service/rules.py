@@ -14,7 +14,7 @@ from __future__ import annotations
 
 import os
 import re
-from typing import Dict, List, NamedTuple, Optional, Tuple
+from typing import Dict, FrozenSet, List, NamedTuple, Optional, Tuple
 
 _NAME = re.compile(r"[a-z][a-z0-9_.-]{0,31}")
 _WORD = re.compile(r"""[ \t]*(?:(?P<comment>\#.*)|(?P<word>(?:"[^"]*"|'[^']*'|[^ \t"'])+))""")
@@ -50,16 +50,31 @@ class Digest(NamedTuple):
 
 
 class Rules(NamedTuple):
-    """What RULES says. `queries` has each query that runs when it is due once, in order of the lines."""
+    """What RULES says. `queries` has each query that runs when it is due once, in order of the lines. `served` are the users of a
+    shard; None stands for all."""
 
     users: Dict[str, str]
     queries: Tuple[QueryName, ...]
     maildirs: Tuple[Maildir, ...]
     digests: Tuple[Digest, ...]
+    served: Optional[FrozenSet[str]] = None
 
     def name_of(self, login: str) -> Optional[str]:
         """The name that a login speaks as: that of its line, else itself if it is a valid name, else None."""
         return self.users.get(login) or (login if is_name(login) else None)
+
+    def serves(self, user: str) -> bool:
+        """Whether this service has the user."""
+        return self.served is None or user in self.served
+
+    def only(self, served: FrozenSet[str]) -> "Rules":
+        """The rules of these users: what runs and goes somewhere for the others is left out."""
+        return self._replace(
+            queries=tuple(it for it in self.queries if it.user in served),
+            maildirs=tuple(it for it in self.maildirs if it.of.user in served),
+            digests=tuple(it for it in self.digests if it.of.user in served),
+            served=served,
+        )
 
 
 def is_name(text: str) -> bool:
@@ -134,8 +149,22 @@ class _Reader:
         self.queries[of] = None
 
 
-def read_rules(path: str) -> Rules:
-    """Reads RULES. Raises WrongRule for its first wrong line, and OSError if it can't be read."""
+def users_of(given: str) -> FrozenSet[str]:
+    """The users of LIST: names with commas between, or, if it has a slash, those of the file at this path, between blanks and line
+    ends. Raises WrongRule if one isn't a name or there is none, and OSError if the file can't be read."""
+    words = given.split(",")
+    if "/" in given:
+        with open(given, encoding="utf-8", errors="surrogateescape") as file:
+            words = file.read().split()
+    for word in words or [""]:
+        if not is_name(word):
+            raise WrongRule(f"--users {given}: `{word}` isn't a valid name of a user")
+    return frozenset(words)
+
+
+def read_rules(path: str, users: Optional[str] = None) -> Rules:
+    """Reads RULES, of a shard those of its users alone. Raises WrongRule for the first wrong line, and OSError if it can't be
+    read."""
     reader = _Reader()
     with open(path, encoding="utf-8", errors="surrogateescape", newline="\n") as file:
         for number, line in enumerate(file, 1):
@@ -145,4 +174,5 @@ def read_rules(path: str) -> Rules:
                     reader.take(words)
             except ValueError as why:
                 raise WrongRule(f"{path}:{number}: {why}") from None
-    return Rules(reader.users, tuple(reader.queries), tuple(reader.maildirs), tuple(reader.digests))
+    rules = Rules(reader.users, tuple(reader.queries), tuple(reader.maildirs), tuple(reader.digests))
+    return rules if users is None else rules.only(users_of(users))

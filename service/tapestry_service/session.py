@@ -18,6 +18,8 @@ class Session:
         self.user: Optional[str] = None
         #: The number of stored documents, which are numbered from 1.
         self.documents = 0
+        #: The number of stored notes, if the program has `counts`.
+        self.notes = 0
         #: Whether the program has `counts` and `show`.
         self.can_show = False
 
@@ -27,7 +29,7 @@ class Session:
         word = reply.words.split()
         if reply.ok and word[0:2] == ["counts", "documents"] and word[5:6] == ["moment"]:
             self.can_show = True
-            self.documents = int(word[2])
+            self.documents, self.notes = int(word[2]), int(word[4])
             self.clock.raise_to(int(word[6]))
             yield from self.now()
             return
@@ -80,3 +82,5 @@ class Session:
             self.documents = int(word[1])
         elif reply.ok and word[:1] == ["docs"]:
             self.documents = int(word[2]) + int(word[1]) - 1
+        elif reply.ok and word[:1] == ["note"]:
+            self.notes = int(word[1])

@@ -34,6 +34,7 @@ class Fake:
         except BlockingIOError:
             end(5)
         self.docs: List[Dict[str, Any]] = []
+        self.notes: List[Dict[str, Any]] = []
         self.queries: Dict[str, Dict[str, Any]] = {}
         self.last = 0
         self.moment: Optional[int] = None
@@ -70,6 +71,8 @@ class Fake:
         self.last = max(self.last, row["at"])
         if row["kind"] == "docs":
             self.docs += [{"text": it, "at": row["at"]} for it in row["texts"]]
+        elif row["kind"] == "note":
+            self.notes.append(row)
         elif row["kind"] == "query":
             self.queries[row["key"]] = {"text": row["text"], "runs": []}
         else:
@@ -89,6 +92,18 @@ class Fake:
 
     def add(self, texts: List[str]) -> None:
         self.store({"kind": "docs", "texts": texts, "at": self.moment})
+
+    def note(self, line: str) -> None:
+        words = line.split(None, 4)
+        if len(words) < 4 or not words[1].isdigit() or not words[3].lstrip("-").isdigit():
+            return self.say("no 2")
+        if not 0 < int(words[1]) <= len(self.docs):
+            return self.say("no 11")
+        text = words[4] if len(words) > 4 else ""
+        self.store(
+            {"kind": "note", "doc": int(words[1]), "user": self.user, "of": words[2], "value": int(words[3]), "text": text, "at": self.moment}
+        )
+        self.say(f"ok 0 note {len(self.notes)}")
 
     def perform(self, line: str, block: Optional[str]) -> None:
         words = line.split()
@@ -119,12 +134,19 @@ class Fake:
             first = len(self.docs) - len(texts) + 1
             self.say(f"ok 0 docs {len(texts)} {first}" if word == "mbox" else f"ok 0 doc {first}")
         elif word == "counts" and not self.has(".plain"):
-            self.say(f"ok 0 counts documents {len(self.docs)} notes 0 moment {self.moment if self.moment is not None else self.last}")
+            moment = self.moment if self.moment is not None else self.last
+            self.say(f"ok 0 counts documents {len(self.docs)} notes {len(self.notes)} moment {moment}")
+        elif word == "note":
+            self.note(line)
+        elif word == "notes":
+            found = [(n, it) for n, it in enumerate(self.notes, 1) if it["doc"] == int(words[1])]
+            shown = [f"note {n} ts {it['at']} author {it['user']} kind {it['of']} value {it['value']} text {it['text']}" for n, it in found]
+            self.say(f"ok {len(found)} notes {words[1]}", shown)
         elif word == "show" and not self.has(".plain"):
             if not 0 < int(words[1]) <= len(self.docs):
                 return self.say("no 11")
             lines = [it.rstrip("\r") for it in self.docs[int(words[1]) - 1]["text"].split("\n")[:-1]]
-            self.say(f"ok {len(lines)} show {words[1]} at 0", lines)
+            self.say(f"ok {len(lines)} show {words[1]} at {self.docs[int(words[1]) - 1]['at']}", lines)
         elif word == "query":
             if key in self.queries:
                 return self.say("no 9")

@@ -81,7 +81,7 @@ class Decode(unittest.TestCase):
         with mock.patch.object(decode, "decoded", slow):
             self.assertEqual(decoded_or_raw(b"raw", 0.1), b"raw")
         self.assertLess(time.monotonic() - began, 5)
-        self.assertEqual(signal.getitimer(signal.ITIMER_REAL)[0], 0)
+        self.assertEqual(signal.getitimer(signal.ITIMER_VIRTUAL)[0], 0)
 
     def test_the_script_of_the_examples(self) -> None:
         script = os.path.join(os.path.dirname(SERVICE), "examples", "decode-mail.py")

@@ -327,6 +327,13 @@ class Passes(Case):
         self.assertEqual(self.numbers(), [90])
         self.assertIsNone(due.seconds_until_ready(None))
 
+    def test_a_command_that_cannot_be_started_is_named(self) -> None:
+        Marks(self.place("digests")).put(OF, Mark(0, 0, "-"))
+        self.box.runs = [[(1, 5, b"x\n")]]
+        due = Due(Rules({}, (OF,), (), (Digest(OF, (self.place("none"), "-t")),)), self.place("digests"))
+        self.driver.run(due.run(self.session()))
+        self.assertIn(f"{self.place('none')} can't be started (No such file or directory); trying again in 5 seconds", self.said.getvalue())
+
     def test_a_command_of_old_rules_ends_before_another_begins(self) -> None:
         Marks(self.place("digests")).put(OF, Mark(0, 0, "-"))
         self.box.runs = [[(1, 5, b"x\n")]]

@@ -65,8 +65,7 @@ class Messages(unittest.TestCase):
             self.assertEqual(by_mail(text.mail), wanted, raw)
 
     def test_a_mailbox_file_stores_the_same(self) -> None:
-        texts = [stored_text(it) for it in RAWS]
-        self.assertTrue(all(it.is_plain for it in texts))
+        texts = [stored_text(it) for it in RAWS + ODD]
         self.assertEqual(by_mbox(mbox_of(it.mbox for it in texts)), [it.text for it in texts])
 
     def test_random_messages(self) -> None:
@@ -74,16 +73,14 @@ class Messages(unittest.TestCase):
         for seed in range(200):
             random = draw(seed)
             raws = [b"".join(random.choice(pieces) for _ in range(random.randrange(30))) for _ in range(8)]
-            texts = [it for it in map(stored_text, raws) if it.is_plain]
+            texts = list(map(stored_text, raws))
             self.assertEqual(by_mbox(mbox_of(it.mbox for it in texts)), [it.text for it in texts], seed)
-            for it in map(stored_text, raws):
+            for it in texts:
                 self.assertEqual(by_mail(it.mail), it.text, seed)
 
-    def test_what_a_mailbox_file_would_change_goes_alone(self) -> None:
-        for raw in ODD:
-            self.assertFalse(stored_text(raw).is_plain, raw)
-        self.assertTrue(stored_text(b"x" * (MESSAGE_LIMIT - 1)).is_plain)
-        self.assertFalse(stored_text(b"x" * MESSAGE_LIMIT).is_plain)
+    def test_what_is_too_long(self) -> None:
+        self.assertFalse(stored_text(b"x" * (MESSAGE_LIMIT - 1)).is_too_long)
+        self.assertTrue(stored_text(b"x" * MESSAGE_LIMIT).is_too_long)
 
     def test_the_sum_is_that_of_the_shown_lines(self) -> None:
         for raw in RAWS + ODD:

@@ -115,8 +115,6 @@ class Held(Folder):
 
     def test_pop3(self) -> None:
         """Each reply of `tapestry_pop` comes before the next request."""
-        if not os.environ.get("TAPESTRY_POP"):
-            self.skipTest("TAPESTRY_POP names no program")
         script = b"at 1000\nas ann\nmail\nSubject: x\n\nhello\n.\nquery q TRUE\nat 1001\nrun q\n"
         subprocess.run([the_program(), "--store", self.place("store")], input=script, stdout=subprocess.PIPE, check=True)
         words = [the_program("TAPESTRY_POP"), "--store", self.place("store"), "--user", "ann", "--box", "q", "--pass", "s"]

@@ -135,6 +135,21 @@ class Failing(WithService):
         service.wait_empty()
         self.assertEqual(self.documents(service), 1)
 
+    def test_commands_behind_a_large_reply(self) -> None:
+        """What came with a command whose reply is large is performed, though nothing more comes."""
+        service = self.start()
+        service.put(b"line\n" * 20_000)
+        service.wait_empty()
+        talk = service.talk()
+        talk.socket.sendall(b"show 1\ncounts\nshow 1\nnonsense\ncounts\n")
+        replies = [talk.say(b"") for _ in range(5)]
+        self.assertEqual([len(it.lines) for it in replies if it is not None], [20_000, 0, 20_000, 0, 0])
+        talk.socket.sendall(b"show 1\ncounts\n")
+        talk.socket.shutdown(socket.SHUT_WR)
+        replies = [read_reply(talk.file) for _ in range(3)]
+        self.assertEqual([it and len(it.lines) for it in replies], [20_000, 0, None])
+        talk.close()
+
     def test_a_store_that_is_refused(self) -> None:
         """Status 6 and its line are shown, and the service waits for a store that can be used."""
         with open(self.place("store"), "w") as file:
@@ -284,6 +299,26 @@ class Failing(WithService):
         service.start()
         self.assertTrue(service.once(b"counts\n").startswith("ok 0 counts"))
         self.assertEqual(stat.S_IMODE(os.stat(service.socket).st_mode), 0o666)
+
+    def test_a_file_in_the_place_of_the_socket_stays(self) -> None:
+        service = self.service(FAKE, RULES)
+        with open(service.socket, "w") as file:
+            file.write("a store, say")
+        service.start(is_ready=False)
+        assert service.process is not None
+        self.assertEqual(service.process.wait(90), 2)
+        self.assertIn(f"something else is at {service.socket}", service.said())
+        self.assertEqual(self.read("socket"), b"a store, say")
+
+    def test_two_services_at_one_socket(self) -> None:
+        service = self.start()
+        other = Service(self.place("other"), FAKE, RULES)
+        other.socket = service.socket
+        other.start(is_ready=False)
+        assert other.process is not None
+        self.assertEqual(other.process.wait(90), 2)
+        self.assertIn(f"something else is at {service.socket}", other.said())
+        self.assertTrue(service.once(b"counts\n").startswith("ok 0 counts"))
 
     def test_a_program_that_is_not_there(self) -> None:
         service = self.service(self.place("none"), RULES)

@@ -7,11 +7,13 @@ import errno
 import io
 import os
 import select
+import shutil
 import socket
 import unittest
 from unittest import mock
 
-from support import Folder
+from support import SERVICE, Folder
+from tapestry_service import main
 from tapestry_service.clock import LAST_MOMENT, Clock
 from tapestry_service.files import read_or_none, remove, replace_synced
 from tapestry_service.log import WARNING, advice, say
@@ -110,6 +112,23 @@ class Watches(Folder):
         os.unlink(self.place("new", "a"))
         self.assertFalse(has_news())
 
+    def test_a_folder_that_another_one_replaces(self) -> None:
+        for remove_old in (os.rmdir, lambda it: os.rename(it, it + ".old")):
+            os.mkdir(self.place("new"))
+            watch = Watch(self.place("new"))
+            self.addCleanup(watch.close)
+            remove_old(self.place("new"))
+            self.assertTrue(select.select([watch.fd], [], [], 10)[0])
+            watch.clear()
+            os.mkdir(self.place("new"))
+            watch.clear()
+            watch.clear()
+            self.assertFalse(select.select([watch.fd], [], [], 0.05)[0])
+            with open(self.place("new", "a"), "w"):
+                pass
+            self.assertTrue(select.select([watch.fd], [], [], 10)[0])
+            shutil.rmtree(self.place("new"))
+
     def test_a_folder_that_is_not_there(self) -> None:
         self.assertIsNone(Watch(self.place("none")).fd)
 
@@ -134,6 +153,43 @@ class Files(Folder):
         self.assertEqual(read_or_none(path), b"one")
 
 
+class Words(Folder):
+    def test_a_full_disk_at_the_start_is_waited_for(self) -> None:
+        class Ended:
+            def run(self) -> int:
+                return 0
+
+        with open(self.place("rules"), "w"):
+            pass
+        words = [f"--{it}={self.place(it)}" for it in ("store", "spool", "socket", "rules")]
+        full = OSError(errno.ENOSPC, "No space left on device", self.place("socket"))
+        said, slept = io.StringIO(), []
+        with mock.patch.object(main, "Daemon", side_effect=[full, full, Ended()]), mock.patch("time.sleep", slept.append):
+            with mock.patch.dict(os.environ, {"TAPESTRY": "tapestry"}), contextlib.redirect_stderr(said):
+                self.assertEqual(main.main(words), 0)
+        self.assertEqual(slept, [1.0, 2.0])
+        self.assertEqual(said.getvalue().count("make room on that disk"), 2)
+
+
+class Unit(unittest.TestCase):
+    """The unit for systemd; tools/systemd_trial.sh tries it."""
+
+    def setUp(self) -> None:
+        with open(os.path.join(SERVICE, "tapestryd.service")) as file:
+            lines = [it.strip() for it in file if "=" in it and not it.startswith("#")]
+        self.unit = dict(it.split("=", 1) for it in lines)
+
+    def test_the_words_of_its_command(self) -> None:
+        words = self.unit["ExecStart"].split()
+        self.assertEqual(words[0], "/usr/sbin/tapestryd")
+        given = main._parser().parse_args(words[1:])
+        self.assertTrue(all(it.startswith("/") for it in (given.store, given.spool, given.socket, given.rules)))
+
+    def test_only_the_service_gets_the_signal_to_end(self) -> None:
+        """It ends the program. If the program gets the signal, too, the store is two files."""
+        self.assertEqual((self.unit["KillMode"], self.unit["Type"], self.unit["NotifyAccess"]), ("mixed", "notify", "main"))
+
+
 class Logs(unittest.TestCase):
     def test_lines(self) -> None:
         for environment, wanted in (({}, "tapestryd: a b\n"), ({"JOURNAL_STREAM": "1:2"}, "<4>tapestryd: a b\n")):
@@ -148,6 +204,7 @@ class Logs(unittest.TestCase):
             (errno.EROFS, "mount it writable"),
             (errno.EACCES, "may not write at /x"),
             (errno.ENOENT, "make its folder"),
+            (errno.EADDRINUSE, "something else is at /x"),
             (errno.EIO, "Input/output error at /x"),
         ):
             self.assertIn(wanted, advice(OSError(number, os.strerror(number), "/x"), "/y"))

@@ -6,6 +6,7 @@ import contextlib
 import errno
 import io
 import os
+import time
 import unittest
 from typing import Callable, List, Optional
 from unittest import mock
@@ -169,10 +170,77 @@ class Spooled(SpoolCase):
             self.assertEqual(self.load(), 1)
             self.spool.has_news = True
             self.assertEqual(self.load(), 0)
-        self.assertEqual(self.said.getvalue().count("can't be read"), 1)
-        self.assertTrue(self.spool.try_unreadable_again())
+            self.spool.look_again()
+            self.assertEqual(self.load(), 0)
+        self.assertEqual(self.said.getvalue().count("can't be used"), 1)
+        self.spool.look_again()
         self.assertEqual(self.load(), 1)
         self.assertEqual(self.store.docs, [b"b\n", b"a\n"])
+
+    def test_what_cannot_be_moved_away_holds_nobody_up(self) -> None:
+        """As a folder that somebody made in new, and that is his own."""
+        os.mkdir(self.place("new", "folder"))
+        self.put("message", b"x")
+        real = os.rename
+
+        def denied(source, target):
+            if os.fsencode(source).endswith(b"/folder"):
+                raise PermissionError(errno.EACCES, "Permission denied", source)
+            return real(source, target)
+
+        with mock.patch.object(spool_module.os, "rename", denied):
+            for _ in range(3):
+                self.load()
+                self.spool.look_again()
+        self.assertEqual(self.store.docs, [b"x\n"])
+        self.assertEqual(os.listdir(self.place("refused")), [])
+        self.assertEqual(self.said.getvalue().count("folder can't be used"), 1)
+        os.rmdir(self.place("new", "folder"))
+        self.spool.has_news = True
+        self.assertEqual(self.load(), 0)
+        self.put("folder", b"y")
+        self.assertEqual(self.load(), 1)
+
+    def test_many_that_cannot_be_used_fill_no_log(self) -> None:
+        for number in range(300):
+            self.spool._pass_over(b"%d" % number, PermissionError(errno.EACCES, "Permission denied"))
+        self.assertEqual(self.said.getvalue().count("\n"), 101)
+
+    def test_a_long_name_is_refused_with_its_reason(self) -> None:
+        for name in ("x" * 255, "x" * 254 + "y"):
+            os.mkfifo(self.place("new", name))
+        self.put("message", b"x")
+        self.assertEqual(self.load(), 1)
+        name = "x" * 200
+        self.assertEqual(sorted(os.listdir(self.place("refused"))), [name, name + ".1", name + ".1.reason", name + ".reason"])
+
+    def test_another_file_of_the_same_name(self) -> None:
+        """Somebody uses a name again while the message that had it is being stored."""
+        self.put("a", b"one")
+        self.put("b", b"two")
+
+        def answer(data: bytes) -> List[Reply]:
+            if data.startswith(b"mbox\nF"):
+                self.put("a", b"three")
+            return self.store.answer(data)
+
+        Driver(answer).run(self.spool.load(self.session))
+        self.assertEqual(os.listdir(self.place("new")), ["a"])
+        self.assertEqual(self.load(), 1)
+        self.assertEqual(self.store.docs, [b"one\n", b"two\n", b"three\n"])
+
+    def test_reading_takes_no_long_turn(self) -> None:
+        def slow(raw: bytes) -> bytes:
+            time.sleep(0.03)
+            return raw
+
+        self.restart(slow)
+        for number in range(20):
+            self.put(f"{number:02d}", b"%d" % number)
+        with mock.patch.object(spool_module, "BATCH_SECONDS", 0.1):
+            self.assertEqual(self.load(), 20)
+        self.assertGreater(self.store.puts, 4)
+        self.assertEqual(self.store.docs, [b"%d\n" % it for it in range(20)])
 
     def test_a_message_that_is_far_too_large_is_not_read(self) -> None:
         self.put("large", b"x" * 3_000_000)
@@ -266,6 +334,29 @@ class Settled(SpoolCase):
                 self.assertEqual(len(os.listdir(self.place("new"))), 0 if is_stored else 3)
                 self.load()
                 self.assertEqual(self.store.docs, [b"a\n", b"b\n", b"c\n"])
+
+    def test_another_file_of_the_same_name_after_a_stop(self) -> None:
+        for shows in (True, False):
+            self.store.shows, self.store.docs = shows, []
+            self.restart()
+            for name in "abc":
+                self.put(name, name.encode())
+
+            def answer(data: bytes) -> List[Reply]:
+                replies = self.store.answer(data)
+                if data.startswith(b"mbox\nF"):
+                    raise Stopped
+                return replies
+
+            with self.assertRaises(Stopped):
+                Driver(answer).run(self.spool.load(self.session))
+            self.put("b", b"another")
+            # The spool may have been moved to another disk, where its files have other numbers.
+            self.put("c", b"c")
+            self.restart()
+            self.assertEqual(os.listdir(self.place("new")), ["b"])
+            self.load()
+            self.assertEqual(self.store.docs, [b"a\n", b"b\n", b"c\n", b"another\n"])
 
     def test_another_program_added_documents(self) -> None:
         """With `show` they aren't taken for the batch, whose messages would be lost."""

@@ -14,9 +14,9 @@ import time
 import unittest
 
 from fake_daemon import Ended, tap
-from support import SERVICE
+from support import SERVICE, wait_until
 from tapestry_service import PROGRAM_VARIABLE
-from tapestry_service.client.framing import ended as with_end
+from tapestry_service.messages import stored_text
 
 MAILBOX = b"""From a Tue Dec  1 08:00:00 2026
 From: =?utf-8?q?J=C3=BCrgen?= <j@example.org>
@@ -120,33 +120,39 @@ class Together(unittest.TestCase):
         self.assertEqual(ended.status, 0, ended)
         return json.loads(ended.out)
 
-    def test_bytes_are_stored_as_given(self) -> None:
+    def test_a_file_is_stored_the_same_whichever_way_it_comes(self) -> None:
+        """By `tap load` of many files, of one file and of a maildir, and by the spool."""
         draw = random.Random(3)
         pieces = [b"\n", b"\r", b".", b">", b"From ", b"a", b"\r\n", b"\n\n", b"\xff", b".\n", b"Subject: x\n"]
-        texts = [b"".join(draw.choice(pieces) for _ in range(draw.randrange(1, 15))) for _ in range(150)]
-        texts += [b".\r\n.\n..\n", b"From x\n\nFrom y\n", b"\r\r\n\r\n", b"x" * 1000 + b"\n" * 1000]
+        texts = [b"".join(draw.choice(pieces) for _ in range(draw.randrange(15))) for _ in range(150)]
+        texts += [b".\r\n.\n..\n", b"From x\n\nFrom y\n", b"\r\r\n\r\n", b"x" * 1000 + b"\n" * 1000, b"Subject: x\r\n\r\ny\r\n"]
         with tempfile.TemporaryDirectory() as folder:
-            paths = []
-            for at, text in enumerate(texts):
-                paths.append(os.path.join(folder, f"{at:04}"))
-                with open(paths[-1], "wb") as file:
+            for part in ("new", "cur"):
+                os.mkdir(os.path.join(folder, part))
+            paths = [os.path.join(folder, "new", f"{at:04}") for at in range(len(texts))]
+            for path, text in zip(paths, texts):
+                with open(path, "wb") as file:
                     file.write(text)
-            together = json.loads(self.tap("--json", "load", "--single", *paths).out)
-            self.assertEqual((together["stored"], together["refused"]), (len(texts), []))
-            alone = [json.loads(self.tap("--json", "load", "--single", path).out) for path in paths[-30:]]
-        first = together["documents"][0][0]
-        stored = [(first + at, text) for at, text in enumerate(texts)]
-        stored += [(it["documents"][0][0], text) for it, text in zip(alone, texts[-30:])]
+            first = [json.loads(self.tap("--json", "load", "--single", path).out)["documents"][0][0] for path in paths[-30:]]
+            for words in (["--single", *paths], [folder]):
+                loaded = json.loads(self.tap("--json", "load", *words).out)
+                self.assertEqual((loaded["stored"], loaded["refused"]), (len(texts), []))
+                first.append(loaded["documents"][0][0])
+            before = self.json("counts")["documents"] if self.can_show else first[-1] + len(texts) - 1
+            for path in paths:
+                os.rename(path, os.path.join(self.folder.name, "spool", "new", os.path.basename(path)))
+            wait_until(lambda: not os.listdir(os.path.join(self.folder.name, "spool", "new")), "the spool is empty")
+        stored = list(zip(first[:30], texts[-30:]))
+        for start in (first[30], first[31], before + 1):
+            stored += [(start + at, text) for at, text in enumerate(texts)]
         self.next_second()
-        sizes = " OR ".join(f"m.id = {doc} AND m.size = {len(with_end(text))}" for doc, text in stored[-30:])
-        self.assertEqual([it["doc"] for it in self.json("ask", "now", sizes)["documents"]], [doc for doc, _ in stored[-30:]])
         for at in range(0, len(stored), 25):
             some = stored[at : at + 25]
-            sizes = " OR ".join(f"m.id = {doc} AND m.size = {len(with_end(text))}" for doc, text in some)
+            sizes = " OR ".join(f"m.id = {doc} AND m.size = {len(stored_text(text).text)}" for doc, text in some)
             self.assertEqual([it["doc"] for it in self.json("ask", "now", sizes)["documents"]], [doc for doc, _ in some])
         if self.can_show:
             for doc, text in stored:
-                lines = [line.rstrip(b"\r") + b"\n" for line in with_end(text).split(b"\n")[:-1]]
+                lines = [line.rstrip(b"\r") + b"\n" for line in stored_text(text).text.split(b"\n")[:-1]]
                 raw = self.json("show", str(doc))["text"]
                 self.assertEqual(raw, b"".join(lines).decode("utf-8", "replace"))
 
@@ -174,6 +180,7 @@ class Together(unittest.TestCase):
             ended = self.tap(*words, COLUMNS="200")
             self.assertEqual((ended.status, ended.out), (status, ""), ended)
             self.assertEqual(ended.err.splitlines()[1:][-len(lines) :] if lines else ended.err.splitlines()[1:], lines, words)
+        self.assertEqual(self.ok("filter", given=b"WHEN TRUE PRIORITY 1 CLASS 'a'\r\n"), "you have 1 rule from now on\n")
         ended = self.tap("filter", given=b"# one\nWHEN NOW > m.ts PRIORITY 1 CLASS 'a'\n")
         self.assertEqual(
             ended.err.splitlines()[-3:], ["    in line 2:", "    WHEN NOW > m.ts PRIORITY 1 CLASS 'a'", "         ^~~"]

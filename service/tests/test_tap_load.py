@@ -30,7 +30,7 @@ class Store:
         return self._put(1, b"ok 0 doc %d\n" % (self.documents + 1))
 
     def mbox(self, block: bytes) -> bytes:
-        count = block.count(b"\nFrom tap\n")
+        count = block.count(b"\nFrom -\n")
         return self._put(count, b"ok 0 docs %d %d\n" % (count, self.documents + 1))
 
     def _put(self, count: int, reply: bytes) -> bytes:
@@ -71,7 +71,7 @@ class Loads(unittest.TestCase):
         path = self.file("m", b"Subject: x\r\n\r\n.\r\nFrom me")
         ended = self.load(Store().answers, path)
         self.assertEqual((ended.status, ended.out, ended.err), (0, "1 message is stored: document 1\n", ""))
-        self.assertEqual(self.sent, [b"mail\nSubject: x\r\r\n\r\r\n..\r\r\nFrom me\n.\n"])
+        self.assertEqual(self.sent, [b"mail\nSubject: x\n\n..\nFrom me\n.\n"])
 
     def test_a_field_from_begins_no_mailbox(self) -> None:
         ended = self.load(Store().answers, self.file("m", b"From: a@b\n\nFrom b\n"))
@@ -80,7 +80,7 @@ class Loads(unittest.TestCase):
     def test_a_mailbox(self) -> None:
         ended = self.load(Store().answers, self.file("box", MAILBOX))
         self.assertEqual((ended.status, ended.out), (0, "2 messages are stored: documents 1 to 2\n"))
-        self.assertEqual(self.sent, [b"mbox\nFrom tap\nSubject: 1\n\n..one\n\nFrom tap\nSubject: 2\n\n>From two\n\n.\n"])
+        self.assertEqual(self.sent, [b"mbox\nFrom -\nSubject: 1\n\n..one\n\nFrom -\nSubject: 2\n\n>From two\n\n.\n"])
         ended = self.load(Store().answers, "-", given=MAILBOX)
         self.assertEqual(ended.out, "2 messages are stored: documents 1 to 2\n")
 
@@ -99,7 +99,7 @@ class Loads(unittest.TestCase):
         ended = self.load(Store().answers, os.path.join(self._folder.name, "md"), empty, self.file("m", b"Subject: c\n"))
         self.assertEqual((ended.status, ended.out), (0, "3 messages are stored: documents 1 to 3\n"))
         self.assertEqual(
-            self.sent, [b"mbox\nFrom tap\n>From a\nSubject: a\n\nFrom tap\nSubject: b\n\nFrom tap\nSubject: c\n\n.\n"]
+            self.sent, [b"mbox\nFrom -\n>From a\nSubject: a\n\nFrom -\nSubject: b\n\nFrom -\nSubject: c\n\n.\n"]
         )
         ended = self.load({}, self._folder.name)
         self.assertEqual(ended.status, 2)
@@ -116,11 +116,11 @@ class Loads(unittest.TestCase):
     def test_blocks_have_about_a_megabyte(self) -> None:
         ended = self.load(Store().answers, self.big(35))
         self.assertEqual(ended.out, "35 messages are stored: documents 1 to 35\n")
-        self.assertEqual([it.count(b"\nFrom tap\n") for it in self.sent], [9, 9, 9, 8])
+        self.assertEqual([it.count(b"\nFrom -\n") for it in self.sent], [9, 9, 9, 8])
         self.assertTrue(all(len(it) < 1_050_000 for it in self.sent))
         path = self.file("many", b"From a\nx\n\n" * 2500)
         self.load(Store().answers, path)
-        self.assertEqual([it.count(b"\nFrom tap\n") for it in self.sent], [1000, 1000, 500])
+        self.assertEqual([it.count(b"\nFrom -\n") for it in self.sent], [1000, 1000, 500])
 
     def test_a_message_that_is_too_long(self) -> None:
         path = self.file("box", b"From a\nSubject: 1\n\nFrom b\n" + b"x" * (1 << 20) + b"\n\nFrom c\nSubject: 3\n")

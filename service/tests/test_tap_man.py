@@ -137,7 +137,7 @@ class Pages(unittest.TestCase):
         self.assertEqual(
             set(re.findall(r"Fl -(\w+)", page)) | {"help"}, set(re.findall(r"--(\w+)", daemon_parser().format_help()))
         )
-        for number in range(40, 46):
+        for number in range(40, 47):
             self.assertIn(f".It Li no {number}\n", page)
 
     def test_the_programs_commands_are_described(self) -> None:

@@ -112,7 +112,7 @@ class Words(unittest.TestCase):
             + ["no 12 byte 2", "no 12 string 2", "no 12 number 2", "no 12 long 5000", "no 14 nodes"]
             + [f"no 14 {it} 2" for it in faults]
             + [f"no 16 {it}" for it in limits]
-            + ["no 40 at", "no 41", "no 42", "no 43", "no 44 ann", "no 45"]
+            + ["no 40 at", "no 41", "no 42", "no 43", "no 44 ann", "no 45", "no 46 ann"]
         )
         said = {}
         for first in replies:

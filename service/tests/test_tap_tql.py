@@ -10,10 +10,16 @@ import unittest
 
 from support import SERVICE
 from tapestry_service import PROGRAM_VARIABLE
-from tapestry_service.client.framing import block, mail
+from tapestry_service.messages import Text
 from tapestry_service.replies import Reply, read_reply
 
 PAGE = os.path.join(SERVICE, "man", "tql.7")
+
+
+def mail(text: bytes) -> bytes:
+    """The command that stores a message."""
+    return Text(text).mail
+
 
 # Four messages and two notes. The questions are about the second ASKED.
 ASKED = b"2026-12-08T12:00:00Z"
@@ -149,7 +155,7 @@ class Page(unittest.TestCase):
     def test_the_program_gives_what_the_examples_say(self) -> None:
         commands = [*STORE, b"at %s\n" % ASKED]
         commands += [b"query n%d %s\n" % (at, text.encode()) for at, text in enumerate(FROM_NOW)]
-        commands += [b"query all TRUE\n", block(b"filter", "\n".join(examples()["RULES"]).encode())]
+        commands += [b"query all TRUE\n", Text("\n".join(examples()["RULES"]).encode() + b"\n").block(b"filter")]
         commands += [b"at 2026-12-08T12:00:01Z\nrun all\nlist all\n"]
         commands += [b"ask %s %s\n" % (ASKED, text.encode()) for text in CONDITIONS]
         commands += [b"run n%d\n" % at for at in range(len(FROM_NOW))]

@@ -9,13 +9,13 @@ from typing import Callable
 from .connection import Connection
 from .documents import Listing, ask_with_probe, clock, rows_of
 from .fields import text_of
-from .framing import block
 from .layout import Column, Kind, printable, table
 from .loading import load
 from .outcome import Faulty, Outcome, need, shape_of
 from .readable import readable
 from .refusals import Asked, from_now
 from ..digests import documents_of
+from ..messages import stored_text
 from ..replies import Reply
 from .times import parse_moment, shown_second
 
@@ -238,7 +238,7 @@ def filter_(connection: Connection, words: Namespace, width: int) -> Outcome:
     """Replaces the user's rules by those of a file or of the standard input."""
     text = _file(words.file)
     asked = Asked("filter", "", text)
-    reply = need(connection.one(block(b"filter", text)), asked)
+    reply = need(connection.one(stored_text(text).block(b"filter")), asked)
     count = int(reply.words.split()[1])
     lines = [f"you have {count} rule{'' if count == 1 else 's'} from now on"]
     return Outcome(shape_of(asked, rules=count), lines)

@@ -9,10 +9,11 @@ from dataclasses import dataclass, field
 from typing import Any, BinaryIO, Iterator
 
 from .connection import Connection, Dismissed, NoDaemon
-from .framing import Message, cut_mailbox, mail, mbox, one_message
+from .framing import Message, cut_mailbox, one_message
 from .layout import fitted, terminal_width
 from .outcome import INTERRUPTED, NO_DAEMON, REFUSED, Faulty, Outcome, shape_of
 from .refusals import Asked, refusal_of, words_of
+from ..messages import Text, mbox_of
 from ..replies import UNKNOWN_END, NotAReply, Reply
 
 BLOCK_BYTES = 1_000_000
@@ -134,7 +135,7 @@ def _maildir(path: str) -> list[tuple[str, bool]]:
 def messages_of(files: list[tuple[str, bool]], single: bool) -> Iterator[tuple[Place, Message]]:
     """Yields the messages of the files. A file whose first line begins with `From ` is a mailbox file, any other one message.
 
-    With `single`, and in a maildir, each file is one message. An empty file has none.
+    With `single`, and in a maildir, each file is one message. Any other empty file has none.
     """
     for path, in_maildir in files:
         if path == "-":
@@ -145,11 +146,11 @@ def messages_of(files: list[tuple[str, bool]], single: bool) -> Iterator[tuple[P
 
 
 def _of_file(path: str, file: BinaryIO, single: bool) -> Iterator[tuple[Place, Message]]:
-    line = file.readline()
-    if not single and line.startswith(b"From "):
+    line = b"" if single else file.readline()
+    if line.startswith(b"From "):
         for number, message in enumerate(cut_mailbox(itertools.chain([line], file)), 1):
             yield Place(path, number), message
-    elif line:
+    elif line or single:
         yield Place(path, None), one_message(file, line)
 
 
@@ -196,9 +197,9 @@ class Loader:
 
     def _put(self) -> bool:
         """Stores the messages gathered, all or none, and returns whether they are stored."""
-        texts = [message.text for _, message in self._batch]
+        texts = [Text(message.text) for _, message in self._batch]
         self._under_way = True
-        reply = self._connection.one(mail(texts[0]) if len(texts) == 1 else mbox(texts))
+        reply = self._connection.one(texts[0].mail if len(texts) == 1 else mbox_of(it.mbox for it in texts))
         self._under_way = not reply.ok and reply.number == UNKNOWN_END
         if not reply.ok:
             self._stop(_why(reply), REFUSED)

@@ -3,7 +3,7 @@
 import re
 from dataclasses import dataclass
 
-from ..replies import BUSY, NO_NAME, OWN_COMMAND, SLOW, UNKNOWN_END, WAITING, Reply
+from ..replies import BUSY, NO_NAME, OTHER_SHARD, OWN_COMMAND, SLOW, UNKNOWN_END, WAITING, Reply
 from .layout import paragraph, printable, text_width
 
 INDENT = "    "
@@ -121,6 +121,7 @@ def _plain(refusal: Refusal, asked: Asked) -> str | None:
         WAITING: "the daemon can't use its store now; nothing was done; its log says why",
         UNKNOWN_END: "the program ended within the command, which may have been performed: look first",
         NO_NAME: "your login is no user of the filter; a line `user LOGIN NAME' in the daemon's rules makes it one",
+        OTHER_SHARD: "another shard serves you; --socket or TAPESTRY_SOCKET names its socket",
         SLOW: "the daemon waited too long for the rest of the command, or for its replies to be read",
     }.get(refusal.number)
 
