@@ -242,7 +242,7 @@ def is_like(one: str, other: str) -> bool:
 
 def use_like(out: str, name: str) -> None:
     """Puts in the place of a library just made one of the store that is like it, if there is one."""
-    for it in os.scandir(STORE):
+    for it in list(os.scandir(STORE)):
         library = f"out/rlib/{name}.rlib"
         if not it.name.startswith("new-") and os.path.isdir(f"{it.path}/{library}") and is_like(f"{it.path}/{library}", f"{out}/rlib/{name}.rlib"):
             shutil.copytree(f"{it.path}/out", f"{out}.like", copy_function=os.link)

@@ -61,9 +61,9 @@ def share(
 ) -> List[Tuple[str, int]]:
     """Returns the crates to begin now, the longest chain first, and the jobs of each.
 
-    `ready` wait for no other crate, `running` has the jobs of those at work. The crate with the longest chain of all has two
-    jobs at least, and every processor if no other could begin. Another begins only if half a processor is free. At most as many
-    crates run as there are processors, each within the memory `room`; if nothing runs, the first begins in any case.
+    `ready` wait for no other crate, `running` has the jobs of those at work. The crate with the longest chain of all has as many
+    jobs as there are processors. Another begins only if half a processor is free. At most as many crates run as there are
+    processors, each within the memory `room`; if nothing runs, the first begins in any case.
     """
     running, begun = dict(running), []
     # Of a crate that is at work only what stands above it counts: it may be almost done.
@@ -75,7 +75,7 @@ def share(
         if len(running) >= processors or not is_head and free < 0.5:
             break
         if is_head:
-            jobs = max(2, processors - len(running) - others) if others else processors
+            jobs = processors
         else:
             jobs = max(1, int((free + 0.5) // (others + 1)))
         jobs = fitting(needs[name], min(jobs, processors, most, MOST_JOBS), room)
