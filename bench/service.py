@@ -275,7 +275,12 @@ def update():
                 last = f"{at}/q{queries - 1}/new"
                 wait_until(lambda: all(len(names_in(f"{at}/q{n}")) == count for n in range(queries)), "all are delivered", 120)
                 pids = [it.process.pid, *it.children()]
-                rounds, before, waits = 10, cpu_of(pids), []
+                # What is left to do of these mails isn't part of the next one.
+                before = -1.0
+                while cpu_of(pids) > before:
+                    before = cpu_of(pids)
+                    time.sleep(1.0)
+                rounds, waits = 10, []
                 for n in range(rounds):
                     began = time.monotonic()
                     it.put(message(count + n, 1000))

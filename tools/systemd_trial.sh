@@ -74,7 +74,7 @@ cp /etc/resolv.conf "$root/etc/resolv.conf"
 echo 'APT::Get::Assume-Yes "true";' >"$root/etc/apt/apt.conf.d/90trial"
 # What is lost with the machine needs no sync.
 echo force-unsafe-io >"$root/etc/dpkg/dpkg.cfg.d/90trial"
-echo "127.0.1.1 $(uname -n)" >>"$root/etc/hosts"
+printf "127.0.0.1 localhost\n127.0.1.1 %s\n" "$(uname -n)" >>"$root/etc/hosts"
 {
   chroot "$root" apt-get -qq update
   chroot "$root" apt-get -qq install --no-install-recommends systemd-sysv sudo procps curl
