@@ -218,7 +218,7 @@ inside systemctl reload tapestryd
 until_well 'the wrong line is named' inside sh -c 'journalctl -u tapestryd | grep -q "rules:[0-9]*: it wants: run NAME QUERY: the rules stay as they were"'
 sed -i '$d' "$root/etc/tapestry/rules"
 inside systemctl reload tapestryd
-until_well 'the rules are read again' inside sh -c 'journalctl -u tapestryd | tail -n 1 | grep -q "read /etc/tapestry/rules: 1 queries"'
+until_well 'the rules are read again' inside sh -c 'journalctl -u tapestryd | sed "1,/it wants: run NAME QUERY/d" | grep -q "read /etc/tapestry/rules: 1 queries"'
 [ "$(main)" = "$pid" ] || wrong 'a reload began another process'
 well 'a reload names a wrong line and changes nothing, then reads the rules'
 
@@ -266,8 +266,8 @@ inside systemctl start tapestryd
 # A shard, as GUIDE sets it up, with the log on the same machine.
 heading='### Set it up'
 paste_block "$heading" 1 "s/ 10\.0\.0\.5'/'/"
-mkdir "$root/etc/systemd/system/tapestryd.service.d"
-blocks_of "$heading" | awk '/^#block$/ { at++; next } at == 3' | sed 's/10\.0\.0\.5/127.0.0.1/' >"$root/etc/systemd/system/tapestryd.service.d/override.conf"
+mkdir -p "$root/etc/systemd/system/tapestryd.service.d"
+blocks_of "$heading" | awk '/^#block$/ { at++; next } at == 3' | sed 's/10\.0\.0\.5/127.0.0.1/' >"$root/etc/systemd/system/tapestryd.service.d/shard.conf"
 paste_block "$heading" 2 's/10\.0\.0\.5/127.0.0.1/; s/systemctl edit tapestryd/systemctl daemon-reload/'
 put s1
 shown() {
