@@ -97,7 +97,8 @@ impl Prefixes {
         }
     }
 
-    /// Tells whether a run wrote what the first `n` commands write, and shows what it shows after `then` of them.
+    /// Tells whether a run wrote what the first `n` commands write, and shows what it shows after
+    /// `then` of them.
     pub fn is_after(&self, n: usize, then: usize, written: &Text, probe: &Text) -> bool {
         self.are_replies(n, written) && self.shows(then, probe)
     }

@@ -1,4 +1,5 @@
-//! What is out each time that a run asks for more: the replies to the commands that are complete in the bytes taken, and no others.
+//! What is out each time that a run asks for more: the replies to the commands that are complete in
+//! the bytes taken, and no others.
 
 ghost use Rattle.std.specs.Prelude.{◌<◌};
 ghost use Rattle.tap_base.specs.Ledgers.{IsBlankOf};
@@ -69,7 +70,8 @@ fn watched(alloc: Global, size: usize) -> Result<(u8, WatchedSource), Memory>
     }
 }
 
-// Returns how often more was asked for while exactly the right replies were out, up to the first time that they weren't.
+// Returns how often more was asked for while exactly the right replies were out, up to the first time
+// that they weren't.
 fn prompt_asks(prefixes: &Prefixes, seen: &[Seen]) -> usize {
     for (n, ask) in seen.iter().enumerate() {
         let complete = complete_in(&TWO_USERS, ask.at as u64);
@@ -80,7 +82,8 @@ fn prompt_asks(prefixes: &Prefixes, seen: &[Seen]) -> usize {
     seen.len()
 }
 
-// Runs the script in pieces of this many bytes: the status, how often more was asked for, and how often rightly.
+// Runs the script in pieces of this many bytes: the status, how often more was asked for, and how
+// often rightly.
 fn asked(alloc: Global, prefixes: &Prefixes, size: usize) -> Result<(u8, usize, usize), Memory>
     requires { 0 < size }
 {
