@@ -25,8 +25,8 @@ use Rattle.tql_core.specs.Row.{Row}
 use Rattle.tql_core.specs.Values.{Env, lookup, on_row, field, number, text_field, text, list_field, both, both_texts, has, true_atom}
 use Rattle.access_plan.specs.declared.access.Access.{Access}
 use Rattle.access_plan.specs.declared.access.Access.TheVariants.{ById, ByMsgId, ByParent, BySender, BySubject, ReferencedBy, ByReference, ByWord, NotesOf}
-use Rattle.access_plan.specs.declared.kind.Kind.{Kind}
-use Rattle.access_plan.specs.declared.kind.Kind.TheVariants as K
+use Rattle.access_plan.specs.declared.kind.AccessKind.{AccessKind}
+use Rattle.access_plan.specs.declared.kind.AccessKind.TheVariants as K
 use Rattle.access_plan.specs.Accesses.{admits, is_known_number, is_known_text, other_number, other_text, number_side, text_side, referring_side, reference_side, word_side, guard_access}
 use Rattle.access_plan.specs.Laws.{AreSame}
 use Rattle.access_plan.proofs.Fields.{number_is, text_is, both_round, texts_round}
@@ -110,7 +110,7 @@ module _ (known : ℕ → Bool) (v : Var) (env final : Env) (row : Row) (same : 
   by_reference _ e h t = absurd (none-some e h)
 
   -- a guard that gives an access admits by it every row of which it is true
-  pub guard_admits : (kind : Kind) (a : Atom) (access : Access) → guard_access known v kind a ≡ Some access → true_atom a final ≡ true → admits access env row ≡ true
+  pub guard_admits : (kind : AccessKind) (a : Atom) (access : Access) → guard_access known v kind a ≡ Some access → true_atom a final ≡ true → admits access env row ≡ true
   guard_admits K.ById a access h t = let m = made_of ById (number_side known v Id a) access h in subst (λ z. admits z env row ≡ true) m.2 (by_number Id a m.0 m.1 t)
   guard_admits K.ByMsgId a access h t = let m = made_of ByMsgId (text_side known v MsgId a) access h in subst (λ z. admits z env row ≡ true) m.2 (by_text MsgId a m.0 m.1 t)
   guard_admits K.ByParent a access h t = let m = made_of ByParent (text_side known v InReplyTo a) access h in subst (λ z. admits z env row ≡ true) m.2 (by_text InReplyTo a m.0 m.1 t)

@@ -10,13 +10,13 @@ ghost use Rattle.access_plan.specs.Views.{access_at, option_access};
 use crate::access_ref::whole;
 use crate::guards::guard_access;
 use crate::kind::near_kinds;
-use crate::{AccessRef, Kind, Known};
+use crate::{AccessRef, AccessKind, Known};
 use node_pool::{NodeId, Pool};
 use tql_core::{Atom, TNode, Var, node_at};
 use tql_tree::Table;
 
 // Returns the access of this kind that the first such guard of the condition at the number gives.
-fn first_inner<'a>(pool: &'a Pool<TNode>, id: NodeId, var: Var, kind: Kind) -> Option<AccessRef<'a>>
+fn first_inner<'a>(pool: &'a Pool<TNode>, id: NodeId, var: Var, kind: AccessKind) -> Option<AccessRef<'a>>
     requires { IsPlaceOf pool.now id.0 }
     ensures { option_access result ≡ first_some (guard_access (is_other var) var kind) (guards_of (tree_at pool.now id.0)) }
 {

@@ -7,7 +7,7 @@ use tql_tree::Table;
 
 /// A kind of access of the index.
 #[derive(Clone, Copy, Debug, PartialEq, Eq)]
-pub enum Kind {
+pub enum AccessKind {
     ById,
     ByMsgId,
     ByParent,
@@ -21,36 +21,36 @@ pub enum Kind {
 
 // Returns the kinds of access to a table's rows by which a plan's orders go, in the order in which they are tried: the most
 // selective first.
-pub(crate) fn kinds(table: Table) -> &'static [Kind]
+pub(crate) fn kinds(table: Table) -> &'static [AccessKind]
     ensures { result.now ≡ kinds table }
 {
     match table {
         Table::Docs => &[
-            Kind::ById,
-            Kind::ByMsgId,
-            Kind::ByParent,
-            Kind::BySender,
-            Kind::ByWord,
+            AccessKind::ById,
+            AccessKind::ByMsgId,
+            AccessKind::ByParent,
+            AccessKind::BySender,
+            AccessKind::ByWord,
         ],
-        Table::Notes => &[Kind::NotesOf],
+        Table::Notes => &[AccessKind::NotesOf],
     }
 }
 
 // Returns all kinds of access to a table's rows, in the order in which they are tried: the most selective first.
-pub(crate) fn near_kinds(table: Table) -> &'static [Kind]
+pub(crate) fn near_kinds(table: Table) -> &'static [AccessKind]
     ensures { result.now ≡ near_kinds table }
 {
     match table {
         Table::Docs => &[
-            Kind::ById,
-            Kind::ByMsgId,
-            Kind::ByParent,
-            Kind::ReferencedBy,
-            Kind::ByReference,
-            Kind::BySubject,
-            Kind::BySender,
-            Kind::ByWord,
+            AccessKind::ById,
+            AccessKind::ByMsgId,
+            AccessKind::ByParent,
+            AccessKind::ReferencedBy,
+            AccessKind::ByReference,
+            AccessKind::BySubject,
+            AccessKind::BySender,
+            AccessKind::ByWord,
         ],
-        Table::Notes => &[Kind::NotesOf],
+        Table::Notes => &[AccessKind::NotesOf],
     }
 }

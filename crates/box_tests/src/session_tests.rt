@@ -1,7 +1,7 @@
 //! Tests of sessions.
 
 ghost use Rattle.std.specs.Prelude.{◌≡◌, ◌<◌, ◌≤◌, length, IfOk};
-ghost use Rattle.pop_session.specs.Sessions.{AreShort, IsReady};
+ghost use Rattle.pop_session.specs.Sessions.{AreShort, CanTakeBytes};
 
 use pop_session::{Letter, PopSession};
 use std::alloc::Global;
@@ -35,7 +35,7 @@ fn give(
     size: usize,
     sink: &mut MemSink,
 ) -> Result<bool, usize>
-    requires ready { IsReady session.old }
+    requires ready { CanTakeBytes session.old }
     requires some { 0 < size }
 {
     let mut rest = bytes;

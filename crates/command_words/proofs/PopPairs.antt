@@ -12,7 +12,7 @@ use Rattle.clap.specs.declared.builder.value_parser.ValueParser.TheVariants as v
 use Rattle.clap.specs.declared.parser.matches.ValueSource.TheVariants.{CommandLine}
 use Rattle.clap.proofs.OnLiterals.{clap_on_literals}
 use Rattle.command_words.specs.PopOptions.{pop_app}
-use Rattle.command_words.specs.PopWords.{PopOption, Store, User, Box, Pass, option_name, option_word, is_option, Pair, words_of_pairs, values_given}
+use Rattle.command_words.specs.PopWords.{PopOption, Store, User, Box, Pass, option_name, option_word, is_option, OptionWithValue, words_of_pairs, values_given}
 use Rattle.command_words.proofs.Taken.{IsPlainWord}
 
 pub is_simple_pop : is_simple pop_app ≡ true
@@ -51,7 +51,7 @@ pair-passes rows pending Box v rest q e = rw (e, q.long, q.short, q.end) refl
 pair-passes rows pending Pass v rest q e = rw (e, q.long, q.short, q.end) refl
 
 -- the row of a pair
-abbrev pub row_of_pair : Pair → Row
+abbrev pub row_of_pair : OptionWithValue → Row
 row_of_pair pair = record { id = option_name pair.option; values = pair.value ∷ []; count = None; source = Some CommandLine; reading = reading_of vp.String }
 
 pub or-false : (a b : Bool) → (a || b) ≡ false → (a ≡ false) × (b ≡ false)
@@ -110,7 +110,7 @@ same-option Box = refl
 same-option Pass = refl
 
 -- the head of the pairs doesn't give a value to the option
-head-other : (o : PopOption) (p : Pair) (ps : List Pair) → values_given o (p ∷ ps) ≡ [] → (is_option p.option o ≡ false) × (values_given o ps ≡ [])
+head-other : (o : PopOption) (p : OptionWithValue) (ps : List OptionWithValue) → values_given o (p ∷ ps) ≡ [] → (is_option p.option o ≡ false) × (values_given o ps ≡ [])
 head-other o p ps e = elim (cases_Bool (is_option p.option o)) [
   | inl same ↦ absurd (none (p.value) (values_given o ps) (sym (ap (λ b. if b then p.value ∷ values_given o ps else values_given o ps) same) ∙ e))
   | inr other ↦ (other, sym (ap (λ b. if b then p.value ∷ values_given o ps else values_given o ps) other) ∙ e)
@@ -118,7 +118,7 @@ head-other o p ps e = elim (cases_Bool (is_option p.option o)) [
   none : (v : List ℕ) (vs : List (List ℕ)) → v ∷ vs ≡ [] → ⊥
   none v vs e = cc
 
-pub no-row : (o : PopOption) (ps : List Pair) → values_given o ps ≡ [] → has_row (option_name o) (map row_of_pair ps) ≡ false
+pub no-row : (o : PopOption) (ps : List OptionWithValue) → values_given o ps ≡ [] → has_row (option_name o) (map row_of_pair ps) ≡ false
 no-row o [] e = refl
 no-row o (p ∷ ps) e =
     let other = head-other o p ps e in
@@ -128,12 +128,12 @@ either-append : (b : Bool) (v : List ℕ) (xs ys zs : List (List ℕ)) → zs �
 either-append true v xs ys zs e = ap (λ vs. v ∷ vs) e
 either-append false v xs ys zs e = e
 
-values-append : (o : PopOption) (xs ys : List Pair) → values_given o (xs ++ ys) ≡ values_given o xs ++ values_given o ys
+values-append : (o : PopOption) (xs ys : List OptionWithValue) → values_given o (xs ++ ys) ≡ values_given o xs ++ values_given o ys
 values-append o [] ys = refl
 values-append o (p ∷ xs) ys = either-append (is_option p.option o) p.value (values_given o xs) (values_given o ys) (values_given o (xs ++ ys)) (values-append o xs ys)
 
 -- no option is given twice
-abbrev pub AreApart : List Pair → Type 0
+abbrev pub AreApart : List OptionWithValue → Type 0
 AreApart ps = (o : PopOption) → length (values_given o ps) ≤ 1
 
 nothing : (vs : List (List ℕ)) → length vs ≤ 0 → vs ≡ []
@@ -141,7 +141,7 @@ nothing [] e = refl
 nothing (v ∷ vs) e = absurd (omega (arith, e))
 
 -- an option that comes next wasn't given before
-not-before : (done : List Pair) (p : Pair) (ps : List Pair) → AreApart (done ++ p ∷ ps) → values_given p.option done ≡ []
+not-before : (done : List OptionWithValue) (p : OptionWithValue) (ps : List OptionWithValue) → AreApart (done ++ p ∷ ps) → values_given p.option done ≡ []
 not-before done p ps apart =
     let here : values_given p.option (p ∷ ps) ≡ p.value ∷ values_given p.option ps = ap (λ b. if b then p.value ∷ values_given p.option ps else values_given p.option ps) (same-option p.option) in
     let all : values_given p.option (done ++ p ∷ ps) ≡ values_given p.option done ++ p.value ∷ values_given p.option ps = values-append p.option done (p ∷ ps) ∙ ap (λ vs. values_given p.option done ++ vs) here in
@@ -150,12 +150,12 @@ not-before done p ps apart =
     nothing (values_given p.option done) (omega (arith, few, long))
 
 -- no value is taken for a flag
-abbrev pub ArePlain : List Pair → Type 0
+abbrev pub ArePlain : List OptionWithValue → Type 0
 ArePlain [] = Unit {0}
 ArePlain (p ∷ ps) = IsPlainWord p.value × ArePlain ps
 
 -- the walk over pairs: it passes, and leaves a row for each
-pub record IsWalked (rows : List Row) (pending : Option (Text × List Text)) (done ps : List Pair) : Type 0 where
+pub record IsWalked (rows : List Row) (pending : Option (Text × List Text)) (done ps : List OptionWithValue) : Type 0 where
   pub rows' : List Row
   pub pending' : Option (Text × List Text)
   pub end : fold (walked pop_rules (names_of (built pop_app))) (between rows pending) (words_of_pairs ps) ≡ between rows' pending'
@@ -163,7 +163,7 @@ pub record IsWalked (rows : List Row) (pending : Option (Text × List Text)) (do
   pub passes : walk_passes (built pop_app).top (names_of (built pop_app)) (between rows pending) (words_of_pairs ps) ≡ true
   pub last : settle_passes pop_rules false (record { rows = rows'; pending = pending'; skip = 0 }) ≡ true
 
-map-snoc : (done : List Pair) (p : Pair) → map row_of_pair (done ++ p ∷ []) ≡ map row_of_pair done ++ row_of_pair p ∷ []
+map-snoc : (done : List OptionWithValue) (p : OptionWithValue) → map row_of_pair (done ++ p ∷ []) ≡ map row_of_pair done ++ row_of_pair p ∷ []
 map-snoc [] p = refl
 map-snoc (d ∷ done) p = ap (λ xs. row_of_pair d ∷ xs) (map-snoc done p)
 
@@ -171,7 +171,7 @@ none-passes : (rows : List Row) (pending : Option (Text × List Text)) → walk_
 unfolding walk_passes
 none-passes rows pending = refl
 
-pub walk-pairs : (rows : List Row) (pending : Option (Text × List Text)) (done ps : List Pair) → settled_rows pop_rules pending rows ≡ map row_of_pair done
+pub walk-pairs : (rows : List Row) (pending : Option (Text × List Text)) (done ps : List OptionWithValue) → settled_rows pop_rules pending rows ≡ map row_of_pair done
     → settle_passes pop_rules false (record { rows = rows; pending = pending; skip = 0 }) ≡ true → AreApart (done ++ ps) → ArePlain ps → IsWalked rows pending done ps
 walk-pairs rows pending done [] settled passes apart plain = record {
   rows' = rows;

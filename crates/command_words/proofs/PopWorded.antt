@@ -14,26 +14,26 @@ use Rattle.clap.specs.declared.builder.value_parser.ValueParser.TheVariants as v
 use Rattle.clap.specs.declared.parser.matches.ValueSource.TheVariants.{DefaultValue}
 use Rattle.clap.proofs.OnLiterals.{clap_on_literals}
 use Rattle.command_words.specs.Options.{default_place}
-use Rattle.command_words.specs.WellWorded.{is_path, place_of}
+use Rattle.command_words.specs.WellWorded.{is_path, path_or_default}
 use Rattle.command_words.specs.PopOptions.{pop_app}
-use Rattle.command_words.specs.PopWords.{PopOption, Store, User, Box, Pass, option_name, is_option, Pair, words_of_pairs, values_given, pop_place_in, user_in, box_in, secret_in, IsPopWorded}
+use Rattle.command_words.specs.PopWords.{PopOption, Store, User, Box, Pass, option_name, is_option, OptionWithValue, words_of_pairs, values_given, pop_place_in, user_in, box_in, secret_in, IsPopWorded}
 use Rattle.command_words.proofs.Worded.{plain_path}
 use Rattle.command_words.proofs.PopPairs.{pop_rules, between, row_of_pair, same-name, no-row, or-false, at-absent, ArePlain, walk-pairs}
 
 -- the words are taken, and ask for the place of this path, for this user, this box and this secret
 pub record IsPopAsked (words : List (List ℕ)) (path : Option (List ℕ)) (user name secret : List ℕ) : Type 0 where
   pub taken : takes pop_app words ≡ true
-  pub place : pop_place_in words ≡ place_of path
+  pub place : pop_place_in words ≡ path_or_default path
   pub user_is : user_in words ≡ user
   pub name_is : box_in words ≡ name
   pub secret_is : secret_in words ≡ secret
 
-all-plain : (ps : List Pair) → All (λ p. is_path p.value ≡ true) ps → ArePlain ps
+all-plain : (ps : List OptionWithValue) → All (λ p. is_path p.value ≡ true) ps → ArePlain ps
 all-plain [] all = tt
 all-plain (p ∷ ps) all = (plain_path p.value (all 0 p (omega arith)), all-plain ps (λ k d lt. all (suc k) d (omega (arith, lt))))
 
 -- the rows of some pairs, and more
-abbrev rows_and : List Pair → List Row → List Row
+abbrev rows_and : List OptionWithValue → List Row → List Row
 rows_and ps more = map row_of_pair ps ++ more
 
 -- the first row of this name is that of the first pair that gives the option a value
@@ -45,7 +45,7 @@ pub record IsFirst (o : PopOption) (rows : List Row) (v : List ℕ) : Type 0 whe
 head-is : (v p : List ℕ) (vs ps : List (List ℕ)) → p ∷ ps ≡ v ∷ vs → p ≡ v
 head-is v p vs ps e = cc
 
-first-is : (o : PopOption) (ps : List Pair) (more : List Row) (v : List ℕ) (vs : List (List ℕ)) → values_given o ps ≡ v ∷ vs → IsFirst o (rows_and ps more) v
+first-is : (o : PopOption) (ps : List OptionWithValue) (more : List Row) (v : List ℕ) (vs : List (List ℕ)) → values_given o ps ≡ v ∷ vs → IsFirst o (rows_and ps more) v
 first-is o [] more v vs e = absurd (cc)
 first-is o (p ∷ ps) more v vs e = elim (cases_Bool (is_option p.option o)) [
   | inl same ↦
@@ -63,7 +63,7 @@ first-is o (p ∷ ps) more v vs e = elim (cases_Bool (is_option p.option o)) [
 ]
 
 -- no pair asks for help
-no-help : (ps : List Pair) (more : List Row) → has_row (codes "help") more ≡ false → has_row (codes "help") (rows_and ps more) ≡ false
+no-help : (ps : List OptionWithValue) (more : List Row) → has_row (codes "help") more ≡ false → has_row (codes "help") (rows_and ps more) ≡ false
 no-help [] more e = e
 no-help (p ∷ ps) more e = ap (λ b. b || has_row (codes "help") (rows_and ps more)) (other p.option) ∙ no-help ps more e where
   other : (o : PopOption) → bytes_eq (option_name o) (codes "help") ≡ false
@@ -112,11 +112,11 @@ unfolding taken-at
 taken-end rows pending last ok = rw last ok
 
 -- the rows of all arguments, after pairs
-all-rows : List Pair → Option (List ℕ) → List Row
+all-rows : List OptionWithValue → Option (List ℕ) → List Row
 all-rows ps None = map row_of_pair ps ++ default_row ∷ []
 all-rows ps (Some path) = map row_of_pair ps ++ []
 
-rows-are : (ps : List Pair) (path : Option (List ℕ)) (user name secret : List ℕ) → values_given Store ps ≡ option_to_list path → values_given User ps ≡ user ∷ [] → values_given Box ps ≡ name ∷ []
+rows-are : (ps : List OptionWithValue) (path : Option (List ℕ)) (user name secret : List ℕ) → values_given Store ps ≡ option_to_list path → values_given User ps ≡ user ∷ [] → values_given Box ps ≡ name ∷ []
     → values_given Pass ps ≡ secret ∷ [] → fold with_default (map row_of_pair ps) pop_rules ≡ all-rows ps path
 unfolding all-rows default_row
 rows-are ps None user name secret s u b p =
@@ -129,7 +129,7 @@ rows-are ps (Some path) user name secret s u b p =
     ∙ store-there (rows_and ps []) (first-is Store ps [] path [] s).there
     ∙ others-stay (rows_and ps []) (first-is User ps [] user [] u).there (first-is Box ps [] name [] b).there (first-is Pass ps [] secret [] p).there (no-help ps [] refl)
 
-first-all : (ps : List Pair) (path : Option (List ℕ)) (o : PopOption) (v : List ℕ) → values_given o ps ≡ v ∷ [] → IsFirst o (all-rows ps path) v
+first-all : (ps : List OptionWithValue) (path : Option (List ℕ)) (o : PopOption) (v : List ℕ) → values_given o ps ≡ v ∷ [] → IsFirst o (all-rows ps path) v
 unfolding all-rows
 first-all ps None o v e = first-is o ps (default_row ∷ []) v [] e
 first-all ps (Some path) o v e = first-is o ps [] v [] e
@@ -141,12 +141,12 @@ default-first (r ∷ rs) e =
     let both = or-false (bytes_eq r.id (codes "store")) (has_row (codes "store") rs) e in
     rw both.0 (default-first rs both.1)
 
-store-first : (ps : List Pair) (path : Option (List ℕ)) → values_given Store ps ≡ option_to_list path → first_of (codes "store") (all-rows ps path) ≡ Some (place_of path)
+store-first : (ps : List OptionWithValue) (path : Option (List ℕ)) → values_given Store ps ≡ option_to_list path → first_of (codes "store") (all-rows ps path) ≡ Some (path_or_default path)
 unfolding all-rows default_row
 store-first ps None e = default-first (map row_of_pair ps) (no-row Store ps e)
 store-first ps (Some path) e = (first-is Store ps [] path [] e).first
 
-few-of : (o : PopOption) (ps : List Pair) (path : Option (List ℕ)) (user name secret : List ℕ) → values_given Store ps ≡ option_to_list path → values_given User ps ≡ user ∷ [] → values_given Box ps ≡ name ∷ []
+few-of : (o : PopOption) (ps : List OptionWithValue) (path : Option (List ℕ)) (user name secret : List ℕ) → values_given Store ps ≡ option_to_list path → values_given User ps ≡ user ∷ [] → values_given Box ps ≡ name ∷ []
     → values_given Pass ps ≡ secret ∷ [] → length (values_given o ps) ≤ 1
 few-of Store ps None user name secret s u b p = rw s (omega arith)
 few-of Store ps (Some path) user name secret s u b p = rw s (omega arith)

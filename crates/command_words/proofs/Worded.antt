@@ -6,21 +6,21 @@ use Rattle.std.proofs.lemmas.Bool.{not-true}
 use Rattle.clap.specs.Words.{takes}
 use Rattle.command_words.specs.Options.{app, default_place}
 use Rattle.command_words.specs.Words.{number_in, place_in, sample_in}
-use Rattle.command_words.specs.WellWorded.{is_path, IsPathOrNone, IsNumberOrNone, store_words, sample_words, IsWellWorded, place_of}
+use Rattle.command_words.specs.WellWorded.{is_path, IsPathOrNone, IsNumberOrNone, store_words, sample_words, IsWellWorded, path_or_default}
 use Rattle.command_words.proofs.Taken.{Asks, IsPlainWord, plain_from_head, none_asks, store_asks, sample_asks, store_sample_asks, sample_store_asks}
 use Rattle.command_words.proofs.Numbers.{number_word}
 
 -- the words are taken, and ask for the place of this path and for this number
 pub record IsAsked (words : List (List ℕ)) (path : Option (List ℕ)) (number : Option ℕ) : Type 0 where
   pub taken : takes app words ≡ true
-  pub place : place_in words ≡ place_of path
+  pub place : place_in words ≡ path_or_default path
   pub sample : sample_in words ≡ number
 
 pub plain_path : (p : List ℕ) → is_path p ≡ true → IsPlainWord p
 plain_path [] q = absurd (cc)
 plain_path (b ∷ p) q = plain_from_head b p (not-true _ q)
 
-given : (words : List (List ℕ)) (path : Option (List ℕ)) (number : Option ℕ) (text : Option (List ℕ)) → Asks words (Some (place_of path)) text → option_and_then number_in text ≡ number
+given : (words : List (List ℕ)) (path : Option (List ℕ)) (number : Option ℕ) (text : Option (List ℕ)) → Asks words (Some (path_or_default path)) text → option_and_then number_in text ≡ number
     → IsAsked words path number
 given words path number text a n = record {
   taken = a.taken;

@@ -55,24 +55,24 @@ is_option Pass Pass = true
 is_option one other = false
 
 -- an option with its value
-pub record Pair : Type 0 where
+pub record OptionWithValue : Type 0 where
   pub option : PopOption
   pub value : List ℕ
 
 -- the words of some pairs, in their order
-abbrev pub words_of_pairs : List Pair → List (List ℕ)
+abbrev pub words_of_pairs : List OptionWithValue → List (List ℕ)
 words_of_pairs [] = []
 words_of_pairs (pair ∷ pairs) = option_word pair.option ∷ pair.value ∷ words_of_pairs pairs
 
 -- the values that some pairs give to an option
-abbrev pub values_given : PopOption → List Pair → List (List ℕ)
+abbrev pub values_given : PopOption → List OptionWithValue → List (List ℕ)
 values_given option [] = []
 values_given option (pair ∷ pairs) = if is_option pair.option option then pair.value ∷ values_given option pairs else values_given option pairs
 
 -- the words are well worded: pairs in any order, one each of the user, the box and the secret, at most one of the store; no
 -- value is empty or begins with `-`
 pub record IsPopWorded (words : List (List ℕ)) (path : Option (List ℕ)) (user name secret : List ℕ) : Type 0 where
-  pub pairs : List Pair
+  pub pairs : List OptionWithValue
   pub words_are : words ≡ words_of_pairs pairs
   pub store_is : values_given Store pairs ≡ option_to_list path
   pub user_is : values_given User pairs ≡ user ∷ []

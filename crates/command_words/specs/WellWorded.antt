@@ -36,5 +36,5 @@ pub record IsWellWorded (words : List (List ℕ)) (path : Option (List ℕ)) (nu
   pub order : (words ≡ store_words path ++ sample_words number) ⊎ (words ≡ sample_words number ++ store_words path)
 
 -- the path of the store: the named one, or `:memory:`
-abbrev pub place_of : Option (List ℕ) → List ℕ
-place_of path = unwrap_or path default_place
+abbrev pub path_or_default : Option (List ℕ) → List ℕ
+path_or_default path = unwrap_or path default_place

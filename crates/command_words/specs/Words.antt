@@ -7,8 +7,8 @@ use Rattle.clap.specs.Words.{first_of, matches_of}
 use Rattle.command_words.specs.Options.{app, default_place}
 
 -- the bytes of the words
-abbrev pub texts_of : List (Bor (List ℕ)) → List (List ℕ)
-texts_of words = map (λ s. s.now) words
+abbrev pub word_bytes : List (Bor (List ℕ)) → List (List ℕ)
+word_bytes words = map (λ s. s.now) words
 
 -- the number of a text of digits, before which a plus may stand, if it is from 1 to 100,000
 unfoldable pub number_in : List ℕ → Option ℕ

@@ -3,7 +3,7 @@ ghost use Rattle.std.specs.Prelude.{◌≡◌, ◌≢◌, [], true, codes, IfOk,
 ghost use Rattle.clap.specs.Words.{takes, fault_of, first_of, app_of};
 ghost use Rattle.clap.specs.Simple.{matches_of};
 ghost use Rattle.command_words.specs.Options.{app};
-ghost use Rattle.command_words.specs.Words.{texts_of};
+ghost use Rattle.command_words.specs.Words.{word_bytes};
 
 use crate::option_fault::OptionFault;
 use clap::error::ErrorKind;
@@ -38,11 +38,11 @@ fn options<'a>(alloc: Global) -> Result<Command<'a>, AllocError>
 /// Returns the values that the words after the program's name give to the two options. `Refused` comes if and only if
 /// `clap` refuses the words and memory suffices.
 pub fn parse_options<'a>(alloc: Global, words: &'a [&'a str]) -> Result<Values<'a>, OptionFault>
-    ensures store { IfOk result (λ values. option_copied values.store ≡ first_of (codes "store") (matches_of app (texts_of words.now))) }
-    ensures sample { IfOk result (λ values. option_copied values.sample ≡ first_of (codes "sample") (matches_of app (texts_of words.now))) }
-    ensures accepted { OnOk result (fault_of app (texts_of words.now) ≡ []) }
-    ensures taken { takes app (texts_of words.now) ≡ true → IfErr result (λ fault. fault ≡ OptionFault.Memory) }
-    ensures refused { IfErr result (λ fault. fault ≡ OptionFault.Refused → fault_of app (texts_of words.now) ≢ []) }
+    ensures store { IfOk result (λ values. option_copied values.store ≡ first_of (codes "store") (matches_of app (word_bytes words.now))) }
+    ensures sample { IfOk result (λ values. option_copied values.sample ≡ first_of (codes "sample") (matches_of app (word_bytes words.now))) }
+    ensures accepted { OnOk result (fault_of app (word_bytes words.now) ≡ []) }
+    ensures taken { takes app (word_bytes words.now) ≡ true → IfErr result (λ fault. fault ≡ OptionFault.Memory) }
+    ensures refused { IfErr result (λ fault. fault ≡ OptionFault.Refused → fault_of app (word_bytes words.now) ≢ []) }
 {
     let Ok(command) = options(alloc) else {
         return Err(OptionFault::Memory);

@@ -6,7 +6,7 @@ ghost use Rattle.std.specs.Str.{IsUtf8};
 ghost use Rattle.clap.specs.Words.{fault_of, takes};
 ghost use Rattle.command_words.specs.Options.{app, default_place};
 ghost use Rattle.command_words.specs.Words.{number_in, place_in, sample_in};
-ghost use Rattle.command_words.specs.WellWorded.{IsWellWorded, place_of};
+ghost use Rattle.command_words.specs.WellWorded.{IsWellWorded, path_or_default};
 
 use crate::clap_words::parse_options;
 use crate::number::read_count;
@@ -59,7 +59,7 @@ pub fn read_words(alloc: Global, words: &Texts) -> Result<CommandWords, OptionFa
     ensures fine { (path : Option (List ℕ)) (number : Option ℕ) → IsWellWorded words.now path number
         → IfErr result (λ fault. fault ≡ OptionFault.Memory) }
     ensures named { (path : Option (List ℕ)) (number : Option ℕ) → IsWellWorded words.now path number
-        → IfOk result (λ asked. (asked.place ≡ place_of path) × (asked.sample ≡ number)) }
+        → IfOk result (λ asked. (asked.place ≡ path_or_default path) × (asked.sample ≡ number)) }
 {
     let words = as_strs(alloc, words)?;
     let values = parse_options(alloc, &words)?;

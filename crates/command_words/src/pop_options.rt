@@ -3,7 +3,7 @@ ghost use Rattle.std.specs.Prelude.{◌≡◌, ◌≢◌, [], true, false, codes
 ghost use Rattle.clap.specs.Words.{takes, fault_of, first_of, app_of, rule_of};
 ghost use Rattle.clap.specs.Simple.{matches_of};
 ghost use Rattle.command_words.specs.PopOptions.{pop_app, required_rule};
-ghost use Rattle.command_words.specs.Words.{texts_of};
+ghost use Rattle.command_words.specs.Words.{word_bytes};
 
 use crate::option_fault::OptionFault;
 use clap::error::ErrorKind;
@@ -52,13 +52,13 @@ pub fn parse_pop_options<'a>(
     alloc: Global,
     words: &'a [&'a str],
 ) -> Result<PopValues<'a>, OptionFault>
-    ensures store { IfOk result (λ values. option_copied values.store ≡ first_of (codes "store") (matches_of pop_app (texts_of words.now))) }
-    ensures user { IfOk result (λ values. option_copied values.user ≡ first_of (codes "user") (matches_of pop_app (texts_of words.now))) }
-    ensures name { IfOk result (λ values. option_copied values.name ≡ first_of (codes "box") (matches_of pop_app (texts_of words.now))) }
-    ensures secret { IfOk result (λ values. option_copied values.secret ≡ first_of (codes "pass") (matches_of pop_app (texts_of words.now))) }
-    ensures accepted { OnOk result (fault_of pop_app (texts_of words.now) ≡ []) }
-    ensures taken { takes pop_app (texts_of words.now) ≡ true → IfErr result (λ fault. fault ≡ OptionFault.Memory) }
-    ensures refused { IfErr result (λ fault. fault ≡ OptionFault.Refused → fault_of pop_app (texts_of words.now) ≢ []) }
+    ensures store { IfOk result (λ values. option_copied values.store ≡ first_of (codes "store") (matches_of pop_app (word_bytes words.now))) }
+    ensures user { IfOk result (λ values. option_copied values.user ≡ first_of (codes "user") (matches_of pop_app (word_bytes words.now))) }
+    ensures name { IfOk result (λ values. option_copied values.name ≡ first_of (codes "box") (matches_of pop_app (word_bytes words.now))) }
+    ensures secret { IfOk result (λ values. option_copied values.secret ≡ first_of (codes "pass") (matches_of pop_app (word_bytes words.now))) }
+    ensures accepted { OnOk result (fault_of pop_app (word_bytes words.now) ≡ []) }
+    ensures taken { takes pop_app (word_bytes words.now) ≡ true → IfErr result (λ fault. fault ≡ OptionFault.Memory) }
+    ensures refused { IfErr result (λ fault. fault ≡ OptionFault.Refused → fault_of pop_app (word_bytes words.now) ≢ []) }
 {
     let Ok(command) = pop_options(alloc) else {
         return Err(OptionFault::Memory);

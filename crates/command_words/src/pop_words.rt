@@ -5,7 +5,7 @@ ghost use Rattle.std.specs.Str.{IsUtf8};
 ghost use Rattle.clap.specs.Words.{fault_of, takes};
 ghost use Rattle.command_words.specs.PopOptions.{pop_app};
 ghost use Rattle.command_words.specs.PopWords.{pop_place_in, user_in, box_in, secret_in, IsPopWorded};
-ghost use Rattle.command_words.specs.WellWorded.{place_of};
+ghost use Rattle.command_words.specs.WellWorded.{path_or_default};
 
 use crate::command_words::place_text;
 use crate::option_fault::OptionFault;
@@ -50,7 +50,7 @@ pub fn read_pop_words(alloc: Global, words: &Texts) -> Result<PopWords, OptionFa
     ensures fine { (path : Option (List ℕ)) (user name secret : List ℕ) → IsPopWorded words.now path user name secret
         → IfErr result (λ fault. fault ≡ OptionFault.Memory) }
     ensures named { (path : Option (List ℕ)) (user name secret : List ℕ) → IsPopWorded words.now path user name secret
-        → IfOk result (λ asked. (asked.place ≡ place_of path) × ((asked.user ≡ user) × ((asked.name ≡ name) × (asked.secret ≡ secret)))) }
+        → IfOk result (λ asked. (asked.place ≡ path_or_default path) × ((asked.user ≡ user) × ((asked.name ≡ name) × (asked.secret ≡ secret)))) }
 {
     let words = as_strs(alloc, words)?;
     let values = parse_pop_options(alloc, &words)?;

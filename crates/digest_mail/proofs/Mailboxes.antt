@@ -4,11 +4,11 @@ use Rattle.std.specs.Prelude.{◌==◌, ◌&&◌, nat_lt, cond, codes, if◌then
 use Rattle.std.specs.List.{flat_map}
 use Rattle.mail_lines.specs.Lines.{without_empty_end, NoEnd}
 use Rattle.mail_lines.specs.Mbox.{is_from_line, message_from, messages_from, quotes, unquoted, line_text, message_text, mbox_messages, at_message}
-use Rattle.mail_fields.specs.Digests.{Digested, lined, lined_text, quoted, text_of_lines, subject_line, digested_lines, digest_lines, digest_text}
+use Rattle.mail_fields.specs.Digests.{Digested, lined, lined_text, from_quoted, text_of_lines, subject_line, digested_lines, digest_lines, digest_text}
 use Rattle.digest_mail.proofs.Plain.{lines-of-text, digest-lines-are}
 
 -- a quoted line is no `From ` line
-not-from : (line : List ℕ) → is_from_line (quoted line) ≡ false
+not-from : (line : List ℕ) → is_from_line (from_quoted line) ≡ false
 not-from line = go (is_from_line (drop (quotes line) line)) refl where
   whole : (line : List ℕ) → is_from_line (drop (quotes line) line) ≡ false → is_from_line line ≡ false
   whole [] e = e
@@ -25,7 +25,7 @@ not-from line = go (is_from_line (drop (quotes line) line)) refl where
   go false e = whole line e
 
 -- a quoted line, unquoted, is the line
-unquoted-quoted : (line : List ℕ) → unquoted (quoted line) ≡ line
+unquoted-quoted : (line : List ℕ) → unquoted (from_quoted line) ≡ line
 unquoted-quoted line = go (is_from_line (drop (quotes line) line)) refl where
   more : (n : ℕ) → 1 + n ≡ suc n
   more n = omega arith
@@ -53,7 +53,7 @@ messages-line false line rest e = refl
 
 -- the lines of a message in a digest
 abbrev body : List (List ℕ) → List (List ℕ)
-body ls = map quoted ls ++ [] ∷ []
+body ls = map from_quoted ls ++ [] ∷ []
 
 -- a message ends before the next
 message-ends : (rest : List (List ℕ)) → at_message rest ≡ true → message_from true rest ≡ []
@@ -63,11 +63,11 @@ message-ends (line ∷ rest) at = ap (λ t. if t then [] else line ∷ message_f
 one-message : (opens : Bool) (ls rest : List (List ℕ)) → at_message rest ≡ true → message_from opens (body ls ++ rest) ≡ body ls
 one-message opens [] rest at = message-line opens [] rest refl ∙ ap (λ r. [] ∷ r) (message-ends rest at)
 one-message opens (l ∷ ls) rest at =
-    message-line opens (quoted l) (body ls ++ rest) (not-from l) ∙ ap (λ r. quoted l ∷ r) (one-message (length (quoted l) == 0) ls rest at)
+    message-line opens (from_quoted l) (body ls ++ rest) (not-from l) ∙ ap (λ r. from_quoted l ∷ r) (one-message (length (from_quoted l) == 0) ls rest at)
 
 more-messages : (opens : Bool) (ls rest : List (List ℕ)) → messages_from opens (body ls ++ rest) ≡ messages_from true rest
 more-messages opens [] rest = messages-line opens [] rest refl
-more-messages opens (l ∷ ls) rest = messages-line opens (quoted l) (body ls ++ rest) (not-from l) ∙ more-messages (length (quoted l) == 0) ls rest
+more-messages opens (l ∷ ls) rest = messages-line opens (from_quoted l) (body ls ++ rest) (not-from l) ∙ more-messages (length (from_quoted l) == 0) ls rest
 
 -- the messages of the documents
 at-docs : (docs : List Digested) → at_message (flat_map digested_lines docs) ≡ true
@@ -96,14 +96,14 @@ body-lines [] = refl
 body-lines (l ∷ []) = refl
 body-lines (l ∷ m ∷ ls) = ap (λ r. l ∷ r) (body-lines (m ∷ ls))
 
-unquoted-lines : (ls : List (List ℕ)) → flat_map line_text (map quoted ls) ≡ text_of_lines ls
+unquoted-lines : (ls : List (List ℕ)) → flat_map line_text (map from_quoted ls) ≡ text_of_lines ls
 unquoted-lines [] = refl
 unquoted-lines (l ∷ ls) =
-    ap (λ line. (line ++ 10 ∷ []) ++ flat_map line_text (map quoted ls)) (unquoted-quoted l)
+    ap (λ line. (line ++ 10 ∷ []) ++ flat_map line_text (map from_quoted ls)) (unquoted-quoted l)
     ∙ ap (λ r. (l ++ 10 ∷ []) ++ r) (unquoted-lines ls)
 
 body-text : (ls : List (List ℕ)) → message_text (body ls) ≡ text_of_lines ls
-body-text ls = ap (flat_map line_text) (body-lines (map quoted ls)) ∙ unquoted-lines ls
+body-text ls = ap (flat_map line_text) (body-lines (map from_quoted ls)) ∙ unquoted-lines ls
 
 body-texts : (docs : List Digested) → map message_text (map (λ d. body (lined d.text)) docs) ≡ map (λ d. lined_text d.text) docs
 body-texts [] = refl

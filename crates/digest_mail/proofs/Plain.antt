@@ -10,7 +10,7 @@ use Rattle.std.proofs.lemmas.List.Sums.{prefix_len_stops}
 use Rattle.std.proofs.lemmas.Grind.{common_steps}
 use Rattle.mail_lines.specs.Lines.{is_end, without_empty_end, NoEnd}
 use Rattle.mail_lines.proofs.Ends.{NoEnd-append, NoEnd-take, has_first, parts-line}
-use Rattle.mail_fields.specs.Digests.{Digested, without_returns, lined, quoted, text_of_lines, from_line, subject_line, digested_lines, digest_lines}
+use Rattle.mail_fields.specs.Digests.{Digested, without_returns, lined, from_quoted, text_of_lines, from_line, subject_line, digested_lines, digest_lines}
 use Rattle.mail_lines.specs.Mbox.{is_from_line, quotes}
 
 -- the last byte is no CR
@@ -169,7 +169,7 @@ returns-gone line = go (suffix_len (λ b. b == 13) line) refl (cases_lt (suffix_
       ap (λ b. b == 13) (same ∙ sym at) ∙ stops
 
 -- a line that is quoted
-quoted-line : (line : List ℕ) → NoEnd line → NoReturn line → NoEnd (quoted line) × NoReturn (quoted line)
+quoted-line : (line : List ℕ) → NoEnd line → NoReturn line → NoEnd (from_quoted line) × NoReturn (from_quoted line)
 quoted-line line none last = go (is_from_line (drop (quotes line) line)) where
   other : (b : ℕ) → b ≡ 62 → b ≢ 10
   other b is same = grind (arith, is, same)
@@ -182,7 +182,7 @@ quoted-line line none last = go (is_from_line (drop (quotes line) line)) where
   go true = ((other 62 refl, none), longer line last)
   go false = (none, last)
 
-quoted-lines : (parts : List (List ℕ)) → AllNoEnd parts → AreLines (map quoted (map without_returns parts))
+quoted-lines : (parts : List (List ℕ)) → AllNoEnd parts → AreLines (map from_quoted (map without_returns parts))
 unfolding AllNoEnd
 quoted-lines [] none = tt
 quoted-lines (part ∷ parts) none =
@@ -194,7 +194,7 @@ document-lines : (d : Digested) → AreLines (digested_lines d)
 document-lines d =
     let text = quoted-lines (without_empty_end (slice_split is_end d.text)) (without-NoEnd (slice_split is_end d.text) (parts-NoEnd d.text)) in
     let plain = from-plain d.doc d.first in
-    (plain-NoEnd (from_line d.doc d.first) plain, plain-last (from_line d.doc d.first) plain, AreLines-append (map quoted (lined d.text)) ([] ∷ []) text (tt, refl, tt))
+    (plain-NoEnd (from_line d.doc d.first) plain, plain-last (from_line d.doc d.first) plain, AreLines-append (map from_quoted (lined d.text)) ([] ∷ []) text (tt, refl, tt))
 
 all-lines : (docs : List Digested) → AreLines (flat_map digested_lines docs)
 all-lines [] = tt

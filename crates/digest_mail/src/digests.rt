@@ -4,7 +4,7 @@ ghost use Rattle.std.specs.Option.{option_copied};
 ghost use Rattle.std.specs.List.{flat_map};
 ghost use Rattle.std.specs.Fmt.{decimal, signed_decimal};
 ghost use Rattle.mail_lines.specs.Mbox.{is_from_line, quotes};
-ghost use Rattle.mail_fields.specs.Digests.{lined, quoted, from_line, subject_line, digested_lines, digested_with, digested, digest_lines};
+ghost use Rattle.mail_fields.specs.Digests.{lined, from_quoted, from_line, subject_line, digested_lines, digested_with, digested, digest_lines};
 
 use crate::lined::first_lined;
 use itoa::{Buffer, Integer};
@@ -57,7 +57,7 @@ fn needs_quote(line: &[u8]) -> bool
 
 // Returns a line of a document as it stands in a digest.
 fn quoted_line(alloc: Global, line: &[u8]) -> Result<Text, Memory>
-    ensures { IfOk result (λ text. text ≡ quoted line.now) }
+    ensures { IfOk result (λ text. text ≡ from_quoted line.now) }
 {
     if !needs_quote(line) {
         return Text::from_slice(alloc, line);
@@ -69,7 +69,7 @@ fn quoted_line(alloc: Global, line: &[u8]) -> Result<Text, Memory>
 
 // Appends the lines of a document's text.
 fn push_text(alloc: Global, lines: &mut Texts, text: &[u8]) -> Result<(), Memory>
-    ensures { OnOk result (lines.new ≡ lines.old ++ map quoted (lined text.now)) }
+    ensures { OnOk result (lines.new ≡ lines.old ++ map from_quoted (lined text.now)) }
 {
     let mut rest = text;
     'lines: while !rest.is_empty() {

@@ -10,7 +10,7 @@ ghost use Rattle.sqlite_wal.specs.Files.{image_at};
 ghost use Rattle.tap_rows.specs.declared.tables.Tables.{Tables};
 ghost use Rattle.file_session.specs.Closes.{CallEnd, SessionEnd};
 
-use crate::session::Session;
+use crate::session::StoreProgram;
 use keeper_file::{FileKeeper, Opener, PathOpener};
 use peer_edges::Peer;
 use sqlite::{Alter, Error, FileFrom, FileStore, Files, Start};
@@ -19,7 +19,7 @@ use tap_base::{HashKey, Steps, Texts};
 use tap_edges::Sink;
 
 // Makes the call over a keeper with this opener, which has opened nothing. Returns the status, and the keeper.
-fn run_over<C: Session, I: Peer<K>, K: Sink, A: Alter + Drop, O: Opener<A>, L: Ledger>(
+fn run_over<C: StoreProgram, I: Peer<K>, K: Sink, A: Alter + Drop, O: Opener<A>, L: Ledger>(
     rt: &HostRuntime,
     words: &Texts,
     source: &mut I,
@@ -51,7 +51,7 @@ fn run_over<C: Session, I: Peer<K>, K: Sink, A: Alter + Drop, O: Opener<A>, L: L
 
 // Makes the call over a keeper with this opener. Returns the status, and, unless the keeper failed or the store was refused, the
 // keeper: first if it has files open, else second.
-fn run_apart<C: Session, I: Peer<K>, K: Sink, A: Alter + Drop, O: Opener<A>, L: Ledger>(
+fn run_apart<C: StoreProgram, I: Peer<K>, K: Sink, A: Alter + Drop, O: Opener<A>, L: Ledger>(
     rt: &HostRuntime,
     words: &Texts,
     source: &mut I,
@@ -92,7 +92,7 @@ fn run_apart<C: Session, I: Peer<K>, K: Sink, A: Alter + Drop, O: Opener<A>, L: 
 /// Makes the call over the files that the words name, and closes them unless the keeper failed or the store was refused. Returns
 /// the status; what the close gave, which is both files, none if no file was open, or an error and what is left of the store;
 /// and, unless the status is 5 or 6, the keeper if it has no file open.
-pub fn run_to_close<'a, C: Session, I: Peer<K>, K: Sink, S: Start, L: Ledger>(
+pub fn run_to_close<'a, C: StoreProgram, I: Peer<K>, K: Sink, S: Start, L: Ledger>(
     rt: &'a HostRuntime,
     words: &Texts,
     source: &mut I,
@@ -145,7 +145,7 @@ pub fn run_to_close<'a, C: Session, I: Peer<K>, K: Sink, S: Start, L: Ledger>(
 
 /// Makes the call over the files that the words name, and closes them unless the keeper failed or the store was refused. Returns
 /// the status.
-pub fn run_session<C: Session, I: Peer<K>, K: Sink, S: Start, L: Ledger>(
+pub fn run_session<C: StoreProgram, I: Peer<K>, K: Sink, S: Start, L: Ledger>(
     rt: &HostRuntime,
     words: &Texts,
     source: &mut I,

@@ -5,4 +5,4 @@ mod files;
 mod session;
 
 pub use files::{run_session, run_to_close};
-pub use session::Session;
+pub use session::StoreProgram;

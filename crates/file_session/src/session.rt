@@ -14,7 +14,7 @@ use tap_base::{HashKey, Steps, Texts};
 use tap_edges::Sink;
 
 /// The call that a program makes over its store: it reads the words of the command line, and returns a status.
-pub trait Session {
+pub trait StoreProgram {
     // How it ended, whatever the store: by the words and the status; by the bytes that were left in the source before and
     // after, and those that were written to the sink; and by the counts of faults of both.
     ghost ends: { List (List ℕ) → ℕ → Option (List ℕ) → Option (List ℕ) → Option (List ℕ) → Option (List ℕ)

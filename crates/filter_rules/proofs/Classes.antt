@@ -21,7 +21,7 @@ use Rattle.tql_text.specs.Texts.{of_tree}
 use Rattle.filter_rules.specs.declared.fault.RuleFault.{RuleFault}
 use Rattle.filter_rules.specs.declared.fault.RuleFault.TheVariants.{Line, ManyRules}
 use Rattle.filter_rules.specs.Rules.{Rule}
-use Rattle.filter_rules.specs.RuleLines.{is_priority, is_word, number_of, text_of, place_of_now, rated, timeless_rule, rule_with, shaped, rule_at, rule_of_tokens, rule_of_reading, rule_of}
+use Rattle.filter_rules.specs.RuleLines.{is_priority, is_this_word, number_in_token, text_in_token, place_of_now, rated, timeless_rule, rule_with, shaped, rule_at, rule_of_tokens, rule_of_reading, rule_of}
 use Rattle.filter_rules.specs.RuleTexts.{rule_lines, rules_at, with_rule, rules_of}
 use Rattle.filter_rules.specs.Ratings.{holds_for, holding, first_class, class_of}
 use Rattle.filter_rules.specs.Listings.{listed_of, rated_entry, is_above, put_by, sorted_by, listing_of}
@@ -53,7 +53,7 @@ shaped-named : (len begins : ℕ) (middle : List Token) (p : Token) (n : Option 
 shaped-named len begins middle p None n_place c class class_place = tt
 shaped-named len begins middle p (Some n) n_place false class class_place = tt
 shaped-named len begins middle p (Some n) n_place true None class_place = tt
-shaped-named len begins middle p (Some n) n_place true (Some class) class_place = go (is_word (codes "priority") p.kind) where
+shaped-named len begins middle p (Some n) n_place true (Some class) class_place = go (is_this_word (codes "priority") p.kind) where
   go : (b : Bool) → IfRule {E = ℕ} (if b then rule_with (of_tree (query_at 32 middle)) begins p.place middle n n_place class class_place else Err len)
   go true = with-named (of_tree (query_at 32 middle)) begins p.place middle n n_place class class_place
   go false = tt
@@ -63,12 +63,12 @@ at-named len begins middle [] = tt
 at-named len begins middle (p ∷ []) = tt
 at-named len begins middle (p ∷ n ∷ []) = tt
 at-named len begins middle (p ∷ n ∷ c ∷ []) = tt
-at-named len begins middle (p ∷ n ∷ c ∷ t ∷ []) = shaped-named len begins middle p (number_of n.kind) n.place (is_word (codes "class") c.kind) (text_of t.kind) t.place
+at-named len begins middle (p ∷ n ∷ c ∷ t ∷ []) = shaped-named len begins middle p (number_in_token n.kind) n.place (is_this_word (codes "class") c.kind) (text_in_token t.kind) t.place
 at-named len begins middle (p ∷ n ∷ c ∷ t ∷ u ∷ more) = tt
 
 tokens-named : (len : ℕ) (tokens : List Token) → IfRule (rule_of_tokens len tokens)
 tokens-named len [] = tt
-tokens-named len (first ∷ rest) = go (is_word (codes "when") first.kind) where
+tokens-named len (first ∷ rest) = go (is_this_word (codes "when") first.kind) where
   go : (b : Bool) → IfRule {E = ℕ} (if b then rule_at len first.place (take (length rest - 4) rest) (drop (length rest - 4) rest) else Err first.place)
   go true = at-named len first.place (take (length rest - 4) rest) (drop (length rest - 4) rest)
   go false = tt

@@ -58,29 +58,29 @@ fault_place begins ends (Types fault) = type_place begins fault
 fault_place begins ends Memory = 0
 
 -- is the token this word?
-abbrev pub is_word : List ℕ → Kind → Bool
-is_word name (Word w) = bytes_eq w name
-is_word name (Number n) = false
-is_word name (Str text) = false
-is_word name (Mark sign) = false
+abbrev pub is_this_word : List ℕ → Kind → Bool
+is_this_word name (Word w) = bytes_eq w name
+is_this_word name (Number n) = false
+is_this_word name (Str text) = false
+is_this_word name (Mark sign) = false
 
 -- the number of a token, if it is one
-abbrev pub number_of : Kind → Option ℤ
-number_of (Number n) = Some n
-number_of (Word w) = None
-number_of (Str text) = None
-number_of (Mark sign) = None
+abbrev pub number_in_token : Kind → Option ℤ
+number_in_token (Number n) = Some n
+number_in_token (Word w) = None
+number_in_token (Str text) = None
+number_in_token (Mark sign) = None
 
 -- the bytes of a text, if the token is one
-abbrev pub text_of : Kind → Option (List ℕ)
-text_of (Str text) = Some text
-text_of (Word w) = None
-text_of (Number n) = None
-text_of (Mark sign) = None
+abbrev pub text_in_token : Kind → Option (List ℕ)
+text_in_token (Str text) = Some text
+text_in_token (Word w) = None
+text_in_token (Number n) = None
+text_in_token (Mark sign) = None
 
 -- is the token a word that names now or other rows?
 abbrev pub is_of_now : Kind → Bool
-is_of_now kind = is_word (codes "now") kind || is_word (codes "today") kind || is_word (codes "exists") kind
+is_of_now kind = is_this_word (codes "now") kind || is_this_word (codes "today") kind || is_this_word (codes "exists") kind
 
 -- the place of the first such word
 abbrev pub place_of_now : List Token → Option ℕ
@@ -110,7 +110,7 @@ rule_with (Ok c) begins ends middle priority priority_place class class_place = 
 -- the rule of the tokens of a condition and of PRIORITY, its number, CLASS and its text; the line has this length
 abbrev pub shaped : ℕ → ℕ → List Token → Token → Option ℤ → ℕ → Bool → Option (List ℕ) → ℕ → Result Rule ℕ
 shaped len begins middle priority (Some n) n_place true (Some class) class_place =
-    if is_word (codes "priority") priority.kind then rule_with (of_tree (query_at 32 middle)) begins priority.place middle n n_place class class_place
+    if is_this_word (codes "priority") priority.kind then rule_with (of_tree (query_at 32 middle)) begins priority.place middle n n_place class class_place
     else Err len
 shaped len begins middle priority (Some n) n_place true None class_place = Err len
 shaped len begins middle priority (Some n) n_place false class class_place = Err len
@@ -119,7 +119,7 @@ shaped len begins middle priority None n_place is_class class class_place = Err 
 -- the rule of the tokens after WHEN, the last four apart
 abbrev pub rule_at : ℕ → ℕ → List Token → List Token → Result Rule ℕ
 rule_at len begins middle (p ∷ n ∷ c ∷ t ∷ []) =
-    shaped len begins middle p (number_of n.kind) n.place (is_word (codes "class") c.kind) (text_of t.kind) t.place
+    shaped len begins middle p (number_in_token n.kind) n.place (is_this_word (codes "class") c.kind) (text_in_token t.kind) t.place
 rule_at len begins middle [] = Err len
 rule_at len begins middle (p ∷ []) = Err len
 rule_at len begins middle (p ∷ n ∷ []) = Err len
@@ -130,7 +130,7 @@ rule_at len begins middle (p ∷ n ∷ c ∷ t ∷ u ∷ more) = Err len
 abbrev pub rule_of_tokens : ℕ → List Token → Result Rule ℕ
 rule_of_tokens len [] = Err 0
 rule_of_tokens len (first ∷ rest) =
-    if is_word (codes "when") first.kind then rule_at len first.place (take (length rest - 4) rest) (drop (length rest - 4) rest) else Err first.place
+    if is_this_word (codes "when") first.kind then rule_at len first.place (take (length rest - 4) rest) (drop (length rest - 4) rest) else Err first.place
 
 -- the rule of a reading of a line's tokens
 abbrev pub rule_of_reading : ℕ → Result (List Token) LexFault → Result Rule ℕ

@@ -39,9 +39,9 @@ IsWithin most ManyRules = Unit {0}
 IsWithin most Memory = Unit {0}
 
 -- rules that are read already, and then others
-abbrev pub joined : List Rule → Result (List Rule) RuleFault → Result (List Rule) RuleFault
-joined rules (Err fault) = Err fault
-joined rules (Ok others) = Ok (rules ++ others)
+abbrev pub with_rules_before : List Rule → Result (List Rule) RuleFault → Result (List Rule) RuleFault
+with_rules_before rules (Err fault) = Err fault
+with_rules_before rules (Ok others) = Ok (rules ++ others)
 
 -- the result is what the definition gives, or out of memory
 abbrev pub ReadsRules : Result (List Rule) RuleFault → Result Rules RuleFault → Type 0

@@ -2,7 +2,7 @@
 ghost use Rattle.std.specs.Prelude.{◌≡◌, ◌⊎◌, ℕ, suc, List, ◌∷◌, map, length, Err, OnOk, IfOk, IfErr, ◌≤◌, if◌then◌else◌};
 ghost use Rattle.tap_base.specs.LineWords.{is_skipped};
 ghost use Rattle.filter_rules.specs.Rules.{rule_view, rules_in};
-ghost use Rattle.filter_rules.specs.RuleTexts.{rule_lines, rule_lines_from, rules_at, rules_of, joined, IsWithin, ReadsRules};
+ghost use Rattle.filter_rules.specs.RuleTexts.{rule_lines, rule_lines_from, rules_at, rules_of, with_rules_before, IsWithin, ReadsRules};
 
 use crate::line_fault::LineFault;
 use crate::rule_line::read_rule;
@@ -44,8 +44,8 @@ fn read_line(
     items: &mut Rows<KeptRule>,
 ) -> Result<(), RuleFault>
     ensures ok { OnOk result ((more : List (List ℕ)) →
-        joined (map rule_view items.old) (rules_at (rule_lines_from number (line.now ∷ more)))
-        ≡ joined (map rule_view items.new) (rules_at (rule_lines_from (suc number) more))) }
+        with_rules_before (map rule_view items.old) (rules_at (rule_lines_from number (line.now ∷ more)))
+        ≡ with_rules_before (map rule_view items.new) (rules_at (rule_lines_from (suc number) more))) }
     ensures err { IfErr result (λ fault.
         ((more : List (List ℕ)) → rules_at (rule_lines_from number (line.now ∷ more)) ≡ Err fault) ⊎ (fault ≡ RuleFault.Memory)) }
     ensures within { IfErr result (λ fault. IsWithin number fault) }

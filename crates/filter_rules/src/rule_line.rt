@@ -6,7 +6,7 @@ ghost use Rattle.tql_text.specs.Texts.{of_tree};
 ghost use Rattle.tql_parse.specs.Reading.{query_at};
 ghost use Rattle.tql_core.specs.Condition.{condition};
 ghost use Rattle.filter_rules.specs.Rules.{rule_view};
-ghost use Rattle.filter_rules.specs.RuleLines.{lex_place, parse_place, type_place, fault_place, is_word, number_of, text_of, is_of_now, place_of_now};
+ghost use Rattle.filter_rules.specs.RuleLines.{lex_place, parse_place, type_place, fault_place, is_this_word, number_in_token, text_in_token, is_of_now, place_of_now};
 ghost use Rattle.filter_rules.specs.RuleLines.{is_priority, rated, timeless_rule, rule_with, rule_at, rule_of_tokens, rule_of, ReadsRule};
 
 use crate::KeptRule;
@@ -76,8 +76,8 @@ fn fault_place(begins: u32, ends: u32, fault: TextFault) -> u32
 }
 
 // Is the token this word?
-fn is_word(kind: &Kind, name: &[u8]) -> bool
-    ensures { result ≡ is_word name.now kind.now }
+fn is_this_word(kind: &Kind, name: &[u8]) -> bool
+    ensures { result ≡ is_this_word name.now kind.now }
 {
     match kind {
         Kind::Word(word) => word.as_slice() == name,
@@ -86,8 +86,8 @@ fn is_word(kind: &Kind, name: &[u8]) -> bool
 }
 
 // Returns the number of a token, if it is one.
-fn number_of(kind: &Kind) -> Option<i64>
-    ensures { result ≡ number_of kind.now }
+fn number_in_token(kind: &Kind) -> Option<i64>
+    ensures { result ≡ number_in_token kind.now }
 {
     match kind {
         Kind::Number(n) => Some(*n),
@@ -96,8 +96,8 @@ fn number_of(kind: &Kind) -> Option<i64>
 }
 
 // Returns the text of a token, if it is one.
-fn text_of(kind: &Kind) -> Option<&Text>
-    ensures { option_copied result ≡ text_of kind.now }
+fn text_in_token(kind: &Kind) -> Option<&Text>
+    ensures { option_copied result ≡ text_in_token kind.now }
 {
     match kind {
         Kind::Str(text) => Some(text),
@@ -109,7 +109,7 @@ fn text_of(kind: &Kind) -> Option<&Text>
 fn is_of_now(kind: &Kind) -> bool
     ensures { result ≡ is_of_now kind.now }
 {
-    is_word(kind, b"now") || is_word(kind, b"today") || is_word(kind, b"exists")
+    is_this_word(kind, b"now") || is_this_word(kind, b"today") || is_this_word(kind, b"exists")
 }
 
 // Returns the place of the first token that names now or other rows.
@@ -205,10 +205,10 @@ fn rule_at(
     requires { length last.now ≡ 4 }
     ensures { ReadsRule (rule_at len begins middle.now last.now) result }
 {
-    let (Some(n), Some(class)) = (number_of(&last[1].kind), text_of(&last[3].kind)) else {
+    let (Some(n), Some(class)) = (number_in_token(&last[1].kind), text_in_token(&last[3].kind)) else {
         return Err(LineFault::At(len));
     };
-    if !is_word(&last[0].kind, b"priority") || !is_word(&last[2].kind, b"class") {
+    if !is_this_word(&last[0].kind, b"priority") || !is_this_word(&last[2].kind, b"class") {
         return Err(LineFault::At(len));
     }
     rule_with(
@@ -241,7 +241,7 @@ fn rule_of_tokens(alloc: Global, len: u32, tokens: &[Token]) -> Result<KeptRule,
     let Some((first, rest)) = tokens.split_first() else {
         return Err(LineFault::At(0));
     };
-    if is_word(&first.kind, b"when") {
+    if is_this_word(&first.kind, b"when") {
         rule_after(alloc, len, first.place, rest)
     } else {
         Err(LineFault::At(first.place))

@@ -8,79 +8,79 @@ use Rattle.tql_core.specs.declared.term.Term.{Term}
 use Rattle.tql_core.specs.declared.atom.Atom.TheVariants.{Times}
 use Rattle.tql_core.specs.Condition.{Condition, Always, Never, Plain, NowAtLeast, NowBefore, All, Either, Not, Exists}
 use Rattle.time_marks.specs.Marks.{arrival_term, body}
-use Rattle.monotone_rewrite.specs.Folding.{Known, Yes, No, Open, known, fold_atom, fold_all, fold_either, fold_not, fold_exists, fold}
+use Rattle.monotone_rewrite.specs.Folding.{KnownTruth, Yes, No, Open, known, fold_atom, fold_all, fold_either, fold_not, fold_exists, fold}
 use Rattle.query_form.specs.declared.place.Place.{Place}
 use Rattle.query_form.specs.declared.place.Place.TheVariants.{Before, Inside, After}
 use Rattle.query_form.specs.Form.{has_key, may_split, conjoined, place_of, same_place, only_if, conjuncts, beside, narrowed, cross_right}
 use Rattle.query_form.specs.Form.{cross, distributed, exists_each, split, formed, node_count, form_of}
 
 -- what is known of both, of either, and of an EXISTS
-abbrev kall : Known → Known → Known
+abbrev kall : KnownTruth → KnownTruth → KnownTruth
 kall No k = No
 kall Yes k = k
 kall Open No = No
 kall Open Yes = Open
 kall Open Open = Open
 
-abbrev keither : Known → Known → Known
+abbrev keither : KnownTruth → KnownTruth → KnownTruth
 keither Yes k = Yes
 keither No k = k
 keither Open Yes = Yes
 keither Open No = Open
 keither Open Open = Open
 
-abbrev kexists : Known → Known
+abbrev kexists : KnownTruth → KnownTruth
 kexists No = No
 kexists Yes = Open
 kexists Open = Open
 
-abbrev knot : Known → Known
+abbrev knot : KnownTruth → KnownTruth
 knot Yes = No
 knot No = Yes
 knot Open = Open
 
-all_known : (k k' : Known) (l r : Condition) → known l ≡ k → known r ≡ k' → known (fold_all k k' l r) ≡ kall k k'
+all_known : (k k' : KnownTruth) (l r : Condition) → known l ≡ k → known r ≡ k' → known (fold_all k k' l r) ≡ kall k k'
 all_known No k' l r e f = refl
 all_known Yes k' l r e f = f
 all_known Open No l r e f = refl
 all_known Open Yes l r e f = e
 all_known Open Open l r e f = refl
 
-either_known : (k k' : Known) (l r : Condition) → known l ≡ k → known r ≡ k' → known (fold_either k k' l r) ≡ keither k k'
+either_known : (k k' : KnownTruth) (l r : Condition) → known l ≡ k → known r ≡ k' → known (fold_either k k' l r) ≡ keither k k'
 either_known Yes k' l r e f = refl
 either_known No k' l r e f = f
 either_known Open Yes l r e f = refl
 either_known Open No l r e f = e
 either_known Open Open l r e f = refl
 
-not_known : (k : Known) (x : Condition) → known (fold_not k x) ≡ knot k
+not_known : (k : KnownTruth) (x : Condition) → known (fold_not k x) ≡ knot k
 not_known Yes x = refl
 not_known No x = refl
 not_known Open x = refl
 
-exists_known : (k : Known) (v : Var) (t : Table) (x : Condition) → known (fold_exists k v t x) ≡ kexists k
+exists_known : (k : KnownTruth) (v : Var) (t : Table) (x : Condition) → known (fold_exists k v t x) ≡ kexists k
 exists_known Yes v t x = refl
 exists_known No v t x = refl
 exists_known Open v t x = refl
 
-all_yes : (k : Known) → kall k Yes ≡ k
+all_yes : (k : KnownTruth) → kall k Yes ≡ k
 all_yes Yes = refl
 all_yes No = refl
 all_yes Open = refl
 
-all_no : (k : Known) → kall k No ≡ No
+all_no : (k : KnownTruth) → kall k No ≡ No
 all_no Yes = refl
 all_no No = refl
 all_no Open = refl
 
-swapped : (a b : Known) → kall a b ≡ kall b a
+swapped : (a b : KnownTruth) → kall a b ≡ kall b a
 swapped No b = sym (all_no b)
 swapped Yes b = sym (all_yes b)
 swapped Open No = refl
 swapped Open Yes = refl
 swapped Open Open = refl
 
-grouped : (a b c : Known) → kall (kall a b) c ≡ kall a (kall b c)
+grouped : (a b c : KnownTruth) → kall (kall a b) c ≡ kall a (kall b c)
 grouped No b c = refl
 grouped Yes b c = refl
 grouped Open No c = refl
@@ -89,16 +89,16 @@ grouped Open Open No = refl
 grouped Open Open Yes = refl
 grouped Open Open Open = refl
 
-crossed : (a b c d : Known) → kall (kall a b) (kall c d) ≡ kall (kall a c) (kall b d)
+crossed : (a b c d : KnownTruth) → kall (kall a b) (kall c d) ≡ kall (kall a c) (kall b d)
 crossed a b c d =
     grouped a b (kall c d)
     ∙ ap (kall a) (sym (grouped b c d) ∙ ap (λ k. kall k d) (swapped b c) ∙ grouped c b d)
     ∙ sym (grouped a c (kall b d))
 
-shuffled : (a b c d e f : Known) → kall (kall a b) (kall (kall c d) (kall e f)) ≡ kall (kall a (kall c e)) (kall b (kall d f))
+shuffled : (a b c d e f : KnownTruth) → kall (kall a b) (kall (kall c d) (kall e f)) ≡ kall (kall a (kall c e)) (kall b (kall d f))
 shuffled a b c d e f = ap (kall (kall a b)) (crossed c d e f) ∙ crossed a b (kall c e) (kall d f)
 
-over_right : (l a b : Known) → keither (kall l a) (kall l b) ≡ kall l (keither a b)
+over_right : (l a b : KnownTruth) → keither (kall l a) (kall l b) ≡ kall l (keither a b)
 over_right No a b = refl
 over_right Yes a b = refl
 over_right Open Yes Yes = refl
@@ -111,11 +111,11 @@ over_right Open Open Yes = refl
 over_right Open Open No = refl
 over_right Open Open Open = refl
 
-over_left : (a b r : Known) → keither (kall a r) (kall b r) ≡ kall (keither a b) r
+over_left : (a b r : KnownTruth) → keither (kall a r) (kall b r) ≡ kall (keither a b) r
 over_left a b r = ap (λ k. keither k (kall b r)) (swapped a r) ∙ ap (keither (kall r a)) (swapped b r) ∙ over_right r a b
     ∙ swapped r (keither a b)
 
-exists_either : (a b : Known) → keither (kexists a) (kexists b) ≡ kexists (keither a b)
+exists_either : (a b : KnownTruth) → keither (kexists a) (kexists b) ≡ kexists (keither a b)
 exists_either Yes Yes = refl
 exists_either Yes No = refl
 exists_either Yes Open = refl
@@ -124,7 +124,7 @@ exists_either Open Yes = refl
 exists_either Open No = refl
 exists_either Open Open = refl
 
-exists_all : (b x : Known) → kexists (kall b x) ≡ kall b (kexists x)
+exists_all : (b x : KnownTruth) → kexists (kall b x) ≡ kall b (kexists x)
 exists_all No x = refl
 exists_all Yes x = refl
 exists_all Open Yes = refl
@@ -132,7 +132,7 @@ exists_all Open No = refl
 exists_all Open Open = refl
 
 -- what doesn't change from row to row may be known outside
-pulled : (a b x h : Known) → kexists (kall a (kall b (kall x h))) ≡ kall b (kall (kexists (kall a x)) h)
+pulled : (a b x h : KnownTruth) → kexists (kall a (kall b (kall x h))) ≡ kall b (kall (kexists (kall a x)) h)
 pulled a b x h =
     ap kexists (sym (grouped a b (kall x h)) ∙ ap (λ k. kall k (kall x h)) (swapped a b) ∙ grouped b a (kall x h))
     ∙ exists_all b (kall a (kall x h))
@@ -140,11 +140,11 @@ pulled a b x h =
 
 module _ (at : Term) where
   -- what is known of a condition's body
-  abbrev kn : Condition → Known
+  abbrev kn : Condition → KnownTruth
   kn c = known (fold at (body c at))
 
   -- what is known of a row's arrival
-  abbrev come : Var → Known
+  abbrev come : Var → KnownTruth
   come v = known (fold_atom at (Times (arrival_term v) Le at))
 
   all_kn : (l r : Condition) → kn (All l r) ≡ kall (kn l) (kn r)
@@ -167,7 +167,7 @@ module _ (at : Term) where
   conjoined_kn l Always = sym (all_yes (kn l))
   conjoined_kn l r = all_kn l r
 
-  chosen : (b : Bool) (x y : Condition) (k : Known) → kn x ≡ k → kn y ≡ k → kn (if b then x else y) ≡ k
+  chosen : (b : Bool) (x y : Condition) (k : KnownTruth) → kn x ≡ k → kn y ≡ k → kn (if b then x else y) ≡ k
   chosen true x y k e f = e
   chosen false x y k e f = f
 

@@ -2,7 +2,7 @@
 use Rattle.std.specs.Prelude.{ℕ, ◌-◌, ℤ, pos, negsuc, suc, zero, List, [], ◌∷◌, ◌++◌, map, codes, nat_lt, ◌==◌, if◌then◌else◌}
 use Rattle.std.specs.List.{flat_map}
 use Rattle.std.specs.Fmt.{decimal, signed_decimal}
-use Rattle.tql_tree.specs.Canonical.{text_of_bytes, text_of_table, text_of_op, within}
+use Rattle.tql_tree.specs.Canonical.{text_of_bytes, text_of_table, text_of_op, parenthesized}
 use Rattle.tql_core.specs.declared.term.Var.{Var}
 use Rattle.tql_core.specs.declared.term.Base.{Base}
 use Rattle.tql_core.specs.declared.term.Base.TheVariants.{Arrival, Date, Fixed, ArrivalDay, DateDay}
@@ -91,10 +91,10 @@ atom_text (Times x op y) = term_text x ++ codes " " ++ text_of_op op ++ codes " 
 atom_text (Has v f y) = var_text v ++ codes "." ++ list_field_text f ++ codes " HAS " ++ text_text y
 
 -- the strength of the operator: 0 for OR, 1 for AND, 2 for a unit
-abbrev pub strength : Condition → ℕ
-strength (Either l r) = 0
-strength (All l r) = 1
-strength _ = 2
+abbrev pub condition_strength : Condition → ℕ
+condition_strength (Either l r) = 0
+condition_strength (All l r) = 1
+condition_strength _ = 2
 
 -- a condition in the syntax of a query
 abbrev pub body_text : Condition → List ℕ
@@ -103,9 +103,9 @@ body_text Never = codes "FALSE"
 body_text (Plain a) = atom_text a
 body_text (NowAtLeast e) = codes "NOW >= " ++ term_text e
 body_text (NowBefore e) = codes "NOW < " ++ term_text e
-body_text (All l r) = within (nat_lt (strength l) 1) (body_text l) ++ codes " AND " ++ within (nat_lt (strength r) 2) (body_text r)
-body_text (Either l r) = body_text l ++ codes " OR " ++ within (nat_lt (strength r) 1) (body_text r)
-body_text (Not x) = codes "NOT " ++ within (nat_lt (strength x) 2) (body_text x)
+body_text (All l r) = parenthesized (nat_lt (condition_strength l) 1) (body_text l) ++ codes " AND " ++ parenthesized (nat_lt (condition_strength r) 2) (body_text r)
+body_text (Either l r) = body_text l ++ codes " OR " ++ parenthesized (nat_lt (condition_strength r) 1) (body_text r)
+body_text (Not x) = codes "NOT " ++ parenthesized (nat_lt (condition_strength x) 2) (body_text x)
 body_text (Exists v t x) = codes "EXISTS (" ++ var_text v ++ codes ": " ++ text_of_table t ++ codes " WHERE " ++ body_text x ++ codes ")"
 
 -- the guards of a step in brackets, if it has any
@@ -117,9 +117,9 @@ abbrev pub step_text : Step → List ℕ
 step_text step = var_text step.var ++ codes ": " ++ text_of_table step.table ++ guards_text step.guards
 
 -- the line of a probe
-abbrev pub line_of : Probe → List ℕ
-line_of p = codes "OVER " ++ joined (codes ", ") step_text p.path ++ codes " AT " ++ term_text p.at ++ codes " WHERE " ++ body_text p.body
+abbrev pub probe_line : Probe → List ℕ
+probe_line p = codes "OVER " ++ joined (codes ", ") step_text p.path ++ codes " AT " ++ term_text p.at ++ codes " WHERE " ++ body_text p.body
 
 -- a line for each probe
 abbrev pub explain_lines : List Probe → List (List ℕ)
-explain_lines X = map line_of X
+explain_lines X = map probe_line X

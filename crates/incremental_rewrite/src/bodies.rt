@@ -3,8 +3,8 @@
 ghost use Rattle.std.specs.Prelude.{◌≡◌, ◌++◌, codes, OnOk, nat_lt, Some};
 ghost use Rattle.tap_base.specs.Bytes.{IsPlaceOf};
 ghost use Rattle.tql_core.specs.Trees.{node_tree, tree_at};
-ghost use Rattle.tql_tree.specs.Canonical.{text_of_table, within};
-ghost use Rattle.incremental_rewrite.specs.Lines.{var_text, strength, body_text};
+ghost use Rattle.tql_tree.specs.Canonical.{text_of_table, parenthesized};
+ghost use Rattle.incremental_rewrite.specs.Lines.{var_text, condition_strength, body_text};
 
 use crate::texts::{put_atom, put_var};
 use node_pool::{NodeId, Pool};
@@ -15,7 +15,7 @@ use tql_tree::{Table, name_of_table, put_if};
 
 // Returns the strength of the node's operator.
 fn strength_of(pool: &Pool<TNode>, node: &TNode) -> u8
-    ensures { result ≡ strength (node_tree (Some node.now) (tree_at pool.now)) }
+    ensures { result ≡ condition_strength (node_tree (Some node.now) (tree_at pool.now)) }
 {
     let _pool = pool;
     match node {
@@ -45,7 +45,7 @@ pub(crate) fn put_body(
     into: &mut Text,
 ) -> Result<(), Memory>
     requires { IsPlaceOf pool.now id.0 }
-    ensures { OnOk result (into.new ≡ into.old ++ within (nat_lt (strength (tree_at pool.now id.0)) least) (body_text (tree_at pool.now id.0))) }
+    ensures { OnOk result (into.new ≡ into.old ++ parenthesized (nat_lt (condition_strength (tree_at pool.now id.0)) least) (body_text (tree_at pool.now id.0))) }
 {
     let node = node_at(pool, id);
     let weak = strength_of(pool, node) < least;

@@ -5,7 +5,7 @@ ghost use Rattle.std.specs.List.{flat_map};
 ghost use Rattle.tap_base.specs.Bytes.{IsPlaceOf};
 ghost use Rattle.time_marks.specs.KeptParts.{parts_kept};
 ghost use Rattle.time_marks.specs.Views.{probe_in, ranged_probes};
-ghost use Rattle.incremental_rewrite.specs.Lines.{joined, atom_text, guards_text, step_text, line_of, explain_lines};
+ghost use Rattle.incremental_rewrite.specs.Lines.{joined, atom_text, guards_text, step_text, probe_line, explain_lines};
 
 use crate::bodies::put_body;
 use crate::texts::{put_atom, put_term, put_var};
@@ -77,9 +77,9 @@ fn put_path(alloc: Global, path: &[Step], into: &mut Text) -> Result<(), Memory>
 }
 
 // Returns the line of a probe.
-fn line_of(alloc: Global, pool: &Pool<TNode>, probe: &Probe) -> Result<Text, Memory>
+fn probe_line(alloc: Global, pool: &Pool<TNode>, probe: &Probe) -> Result<Text, Memory>
     requires { IsPlaceOf pool.now probe.now.body.0 }
-    ensures { IfOk result (λ line. line ≡ line_of (probe_in pool.now probe.now)) }
+    ensures { IfOk result (λ line. line ≡ probe_line (probe_in pool.now probe.now)) }
 {
     let mut line = Text::new(alloc);
     line.push_slice(b"OVER ")?;
@@ -94,11 +94,11 @@ fn line_of(alloc: Global, pool: &Pool<TNode>, probe: &Probe) -> Result<Text, Mem
 // Returns the lines of some parts.
 fn lines_of(alloc: Global, pool: &Pool<TNode>, parts: &[Ranged]) -> Result<Texts, Memory>
     requires { parts_kept pool.now parts.now ≡ true }
-    ensures { IfOk result (λ lines. lines ≡ map (λ part. line_of (probe_in pool.now part.probe)) parts.now) }
+    ensures { IfOk result (λ lines. lines ≡ map (λ part. probe_line (probe_in pool.now part.probe)) parts.now) }
 {
     let mut lines = Texts::new(alloc);
     for part in parts {
-        lines.push(line_of(alloc, pool, &part.probe)?)?;
+        lines.push(probe_line(alloc, pool, &part.probe)?)?;
     }
     Ok(lines)
 }

@@ -14,7 +14,7 @@ pub record IsDurable (tells leaves : Tables → Type 0) (tables : Tables) : Type
   pub alone : (x : Tables) → leaves x → x ≡ tables
 
 -- the change has rows, and they stand in order behind those of well formed tables
-pub record Extends (change : Change) (tables : Tables) : Type 0 where
+pub record AddsRowsTo (change : Change) (tables : Tables) : Type 0 where
   pub formed : is_well_formed tables ≡ true
   pub fits : fits tables change ≡ true
   pub some : change ≢ Docs []

@@ -31,13 +31,13 @@ pub record Sure : Type 0 where
   pub place : List ℕ
 
 -- if the plan lets this call fail, whether a crash then leaves the new tables
-abbrev pub planned : List KeepPlan → ℕ → Option Bool
-planned [] call = None
-planned (plan ∷ plans) call = if plan.call == call then Some plan.kept else planned plans call
+abbrev pub planned_fault : List KeepPlan → ℕ → Option Bool
+planned_fault [] call = None
+planned_fault (plan ∷ plans) call = if plan.call == call then Some plan.kept else planned_fault plans call
 
 -- a store of this version can be attached
-abbrev pub is_known : ℤ → Bool
-is_known version = int_eq version (pos 1) || int_eq version (pos 2)
+abbrev pub is_attachable : ℤ → Bool
+is_attachable version = int_eq version (pos 1) || int_eq version (pos 2)
 
 -- the tables that a crash leaves after a failed commit, by the plan
 abbrev pub left_by : Bool → Tables → Change → Tables
@@ -58,16 +58,16 @@ abbrev pub attached_at : List ℕ → Option Bool → Stored → Stored
 attached_at place (Some kept) keeper = stopped_with keeper.left (record keeper { place = place })
 attached_at place None keeper =
     record keeper {
-      version = if is_known keeper.version then pos 2 else keeper.version;
+      version = if is_attachable keeper.version then pos 2 else keeper.version;
       calls = next_count keeper.calls;
-      attached = is_known keeper.version;
+      attached = is_attachable keeper.version;
       place = place;
     }
 
 -- what an attach returns
 abbrev pub attach_answer : Option Bool → Stored → Result Tables AttachFault
 attach_answer (Some kept) keeper = Err Failed
-attach_answer None keeper = if is_known keeper.version then Ok keeper.tables else Err (Alien keeper.version)
+attach_answer None keeper = if is_attachable keeper.version then Ok keeper.tables else Err (Alien keeper.version)
 
 -- the keeper after a commit
 abbrev pub committed : Change → Option Bool → Stored → Stored

@@ -3,7 +3,7 @@
 ghost use Rattle.std.specs.Prelude.{◌≡◌, ◌≢◌, ◌⊎◌, ◌↔◌, ◌≤◌, ℕ, ℤ, pos, List, Bool, true, false, Err, IsOk, IfOk, OnOk};
 ghost use Rattle.tap_rows.specs.Tables.{after};
 ghost use Rattle.tap_rows.specs.declared.tables.Tables.{Tables as TableRows};
-ghost use Rattle.keeper_core.specs.Keeping.{IsDurable, IfAlien, Extends};
+ghost use Rattle.keeper_core.specs.Keeping.{IsDurable, IfAlien, AddsRowsTo};
 ghost use Rattle.tap_base.specs.Counts.{Rose};
 
 use crate::{AttachFault, CommitFault};
@@ -109,13 +109,13 @@ pub trait Keeper {
         ensures honest { honest self.new → honest self.old }
 
         // The tables, if the change adds rows that fit them.
-        ensures ok { honest self.new → (s : TableRows) → tells self.old s → Extends change.now s
+        ensures ok { honest self.new → (s : TableRows) → tells self.old s → AddsRowsTo change.now s
             → OnOk result (IsDurable (tells self.new) (may_leave self.new) (after s change.now)) }
         ensures memory { honest self.new → (s : TableRows) → tells self.old s → result ≡ Err CommitFault.Memory
             → IsDurable (tells self.new) (may_leave self.new) s }
-        ensures crash { honest self.new → (s : TableRows) → tells self.old s → Extends change.now s
+        ensures crash { honest self.new → (s : TableRows) → tells self.old s → AddsRowsTo change.now s
             → (x : TableRows) → may_leave self.new x → (x ≡ s) ⊎ (x ≡ after s change.now) }
-        ensures version { honest self.new → (s : TableRows) → tells self.old s → Extends change.now s
+        ensures version { honest self.new → (s : TableRows) → tells self.old s → AddsRowsTo change.now s
             → (v : ℤ) → has_version self.old v → stopped self.new ≡ false → has_version self.new v };
 
     // It tells the tables of one store at most.

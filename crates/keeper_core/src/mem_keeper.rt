@@ -4,7 +4,7 @@ ghost use Rattle.std.specs.Prelude.{◌≡◌, ◌≢◌, ◌⊎◌, ◌↔◌, 
 ghost use Rattle.std.specs.Prelude.{List, [], Bool, true, false, Option, Some, None, Err, IsOk, IfOk, OnOk, OnErr, unwrap_or, is_some};
 ghost use Rattle.keeper_core.specs.States.{IsRunning};
 ghost use Rattle.tap_rows.specs.Tables.{after};
-ghost use Rattle.keeper_core.specs.Stored.{Stored, planned, left_now, stopped_with, attached_at, attach_answer, committed, commit_answer};
+ghost use Rattle.keeper_core.specs.Stored.{Stored, planned_fault, left_now, stopped_with, attached_at, attach_answer, committed, commit_answer};
 ghost use Rattle.tap_base.specs.Counts.{next_count};
 
 use crate::{AttachFault, CommitFault, Keeper};
@@ -55,7 +55,7 @@ impl Model for MemKeeper {
 
 // Returns `kept` of the plan for this call, if the call is to fail.
 fn plan_of(fails: &[KeepPlan], call: u64) -> Option<bool>
-    ensures { result ≡ planned fails.now call }
+    ensures { result ≡ planned_fault fails.now call }
 {
     for plan in fails {
         if plan.call == call {
@@ -171,8 +171,8 @@ impl Keeper for MemKeeper {
 
         // The plan.
         ensures plan { ((result ≡ Err AttachFault.Memory) × (self.new ≡ self.old))
-            ⊎ ((result ≡ attach_answer (planned self.old.fails self.old.calls) self.old)
-            × (self.new ≡ attached_at at.now (planned self.old.fails self.old.calls) self.old)) }
+            ⊎ ((result ≡ attach_answer (planned_fault self.old.fails self.old.calls) self.old)
+            × (self.new ≡ attached_at at.now (planned_fault self.old.fails self.old.calls) self.old)) }
     {
         // All memory is taken first, so that a call that is out of memory changes nothing.
         let tables = self.tables.copy()?;
@@ -201,8 +201,8 @@ impl Keeper for MemKeeper {
 
         // The plan.
         ensures plan { ((result ≡ Err CommitFault.Memory) × (self.new ≡ self.old))
-            ⊎ ((result ≡ commit_answer (planned self.old.fails self.old.calls))
-            × (self.new ≡ committed change.now (planned self.old.fails self.old.calls) self.old)) }
+            ⊎ ((result ≡ commit_answer (planned_fault self.old.fails self.old.calls))
+            × (self.new ≡ committed change.now (planned_fault self.old.fails self.old.calls) self.old)) }
     {
         let call = self.calls;
         let more = change.copy()?;

@@ -10,7 +10,7 @@ use Rattle.keeper_core.specs.declared.fault.AttachFault.TheVariants as fault
 use Rattle.sqlite_trees.specs.declared.store.Store.{Ghosts}
 use Rattle.keeper_file.specs.OpenerFiles.{FilesOf}
 use Rattle.keeper_file.specs.Attaching.{Attaches}
-use Rattle.keeper_file.specs.Cases.{Tells, HasVersion, IsHonest, MayLeave, is_attached, is_stopped, faults_of, place_of, stopped_with, memory_place}
+use Rattle.keeper_file.specs.Cases.{Tells, HasVersion, IsHonest, MayLeave, is_attached, is_stopped, faults_of, place_of, is_stopped_at, memory_place}
 use Rattle.keeper_file.specs.declared.inner.Inner.{Inner}
 use Rattle.keeper_file.specs.declared.inner.Inner.TheVariants.{Memory}
 use Rattle.keeper_file.specs.declared.inner.InMemory.{InMemory}
@@ -105,7 +105,7 @@ attaches_from files g old now new at result is a = subst (λ k. Attaches files g
 -- ---- a store in memory
 
 pub attaches_with : {A O : Type 0} (files : FilesOf O) (g : Ghosts A) (old : InMemory) (now : SqlKeeper MemStore over_memory) (at : List ℕ) (result : Result Tables AttachFault)
-    → stopped_with old.misplaced_at old.keeper.stopped ≡ false
+    → is_stopped_at old.misplaced_at old.keeper.stopped ≡ false
     → Attaches {A = A} files g (Memory (record { keeper = old.keeper; misplaced_at = None })) (Memory (record { keeper = now; misplaced_at = None })) at result
     → Attaches {A = A} files g (Memory old) (Memory (record { keeper = now; misplaced_at = old.misplaced_at })) at result
 attaches_with {A} files g old now at result runs a =

@@ -2,16 +2,16 @@
 use Rattle.std.proofs.Common.{◌≡◌, ℕ, Bool, false, List, [], ◌∷◌, Option, Some, None, inl, inr, refl, sym, ap, ◌∙◌}
 use Rattle.std.specs.Prelude.{codes, unwrap_or, is_some}
 use Rattle.sqlite_trees.specs.declared.store.Store.{Ghosts}
-use Rattle.keeper_file.specs.Cases.{IsInMemory, has_files, is_stopped, place_of, stopped_with, memory_place, place_with}
+use Rattle.keeper_file.specs.Cases.{IsInMemory, has_files, is_stopped, place_of, is_stopped_at, memory_place, place_with}
 use Rattle.keeper_file.specs.declared.inner.Inner.{Inner}
 use Rattle.keeper_file.specs.declared.inner.Inner.TheVariants.{Unopened, Memory, File}
 
 -- while it runs it isn't misplaced
-pub not_misplaced : (path : Option (List ℕ)) (b : Bool) → stopped_with path b ≡ false → path ≡ None
+pub not_misplaced : (path : Option (List ℕ)) (b : Bool) → is_stopped_at path b ≡ false → path ≡ None
 not_misplaced None b runs = refl
 not_misplaced (Some path) b runs = absurd (let e = runs in cc)
 
-pub runs_with : (path : Option (List ℕ)) (b : Bool) → stopped_with path b ≡ false → b ≡ false
+pub runs_with : (path : Option (List ℕ)) (b : Bool) → is_stopped_at path b ≡ false → b ≡ false
 runs_with None b runs = runs
 runs_with (Some path) b runs = absurd (let e = runs in cc)
 
@@ -22,7 +22,7 @@ in_memory : (place : List ℕ) → IsInMemory (memory_place place)
 in_memory [] = inl refl
 in_memory (byte ∷ bytes) = inr refl
 
-memory_with : (path : Option (List ℕ)) (b : Bool) (place : List ℕ) → stopped_with path b ≡ false → IsInMemory (place_with path place)
+memory_with : (path : Option (List ℕ)) (b : Bool) (place : List ℕ) → is_stopped_at path b ≡ false → IsInMemory (place_with path place)
 memory_with None b place runs = in_memory place
 memory_with (Some path) b place runs = absurd (let e = runs in cc)
 

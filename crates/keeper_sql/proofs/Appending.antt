@@ -9,7 +9,7 @@ use Rattle.sqlite_value.specs.declared.value.Value.TheVariants.{Int}
 use Rattle.sqlite_value.specs.Order.{Row, column, value_cmp}
 use Rattle.sqlite_value.proofs.OrderLemmas.{value_cmp-Int}
 use Rattle.sqlite_trees.specs.Tree.{IsAscending, rowid, put_row}
-use Rattle.keeper_sql.specs.RowsAsValues.{number_of}
+use Rattle.keeper_sql.specs.RowsAsValues.{number_in_value}
 use Rattle.keeper_sql.specs.Store.{Cells, as_row, AreKeyed, put_all}
 
 -- each has its place as its number, from this one on
@@ -18,7 +18,7 @@ NumberedBy num place [] = Unit {0}
 NumberedBy num place (x ∷ xs) = (num x ≡ place) × NumberedBy num (place + 1) xs
 
 abbrev pub key_number : Row → ℕ
-key_number r = number_of (column r 0)
+key_number r = number_in_value (column r 0)
 
 pub numbered_map : {X : Type 0} (f : Row → X) (num : X → ℕ) (place : ℕ) (rows : List Row) → NumberedBy num place (map f rows) → NumberedBy (λ r. num (f r)) place rows
 numbered_map f num place [] h = tt
@@ -28,7 +28,7 @@ numbered_more : (place : ℕ) (rows : List Row) (row : Row) → NumberedBy key_n
 numbered_more place [] row h is = (is ∙ omega arith, tt)
 numbered_more place (r ∷ rows) row h is = (h.0, numbered_more (place + 1) rows row h.1 (omega (arith, is)))
 
-key_is : (k : ℤ) (place : ℕ) → 0 < place → number_of (Int k) ≡ place → k ≡ pos place
+key_is : (k : ℤ) (place : ℕ) → 0 < place → number_in_value (Int k) ≡ place → k ≡ pos place
 key_is (negsuc n) place low is = absurd (omega (arith, is))
 key_is (pos n) place low is = elim (cases_Bool (nat_lt n (2 ^ 32))) [
   | inl fits ↦ ap pos (rw fits at is)

@@ -14,7 +14,7 @@ use Rattle.sqlite.specs.State.{State, HasCleanDisk, IsLive}
 use Rattle.keeper_sql.specs.Schema.{no_schema}
 use Rattle.keeper_sql.specs.RowsAsValues.{tables_in, tables_listed, tables_of, doc_in, note_in, query_in, run_in, pick_in, filter_in}
 use Rattle.keeper_sql.specs.Store.{IsOurs, WritesVersion, OpensTo, IsAfterOpen, AreAllKeyed, AreKeyed, AreEmpty, HoldsStore, TellsAs, MayLeave, HasVersion, LeavesOnlyTrees}
-use Rattle.keeper_sql.specs.Opening.{IsHeld, AreRead}
+use Rattle.keeper_sql.specs.Opening.{IsOpenedWithTables, AreRead}
 use Rattle.keeper_sql.proofs.TablesAfter.{listed}
 
 pub told_ours : (s : State) (t : Tables) → TellsAs false s t → IsOurs s.now
@@ -88,7 +88,7 @@ opened_holds old s new sound (inr told) to =
       filters = keyed_none _ e.1.1.1.1.1.0;
     }
 
-pub held_given : (old new : State) (s t : Tables) → IsLive new → TellsAs false old s → IsHeld old new t → s ≡ t
+pub held_given : (old new : State) (s t : Tables) → IsLive new → TellsAs false old s → IsOpenedWithTables old new t → s ≡ t
 held_given old new s t live told held =
     let holds = opened_holds old s new.now (live held.1).0 told held.3 in
     let keyed : AreAllKeyed new.now = record { docs = holds.docs; notes = holds.notes; queries = holds.queries; runs = holds.runs; picks = holds.picks; filters = holds.filters } in
@@ -106,7 +106,7 @@ pub read_version : (new : State) (given t : Tables) → AreRead new.now given �
 read_version new given t read told =
     record { clean = told.clean; is_open = told.is_open; row = inr (told.holds.schema, read.version told.holds.schema told.holds.meta) }
 
-pub held_told : (old new : State) (s t : Tables) → HasCleanDisk new → IsLive new → LeavesOnlyTrees new new.now.trees → TellsAs false old s → IsHeld old new t → IsDurable (TellsAs true new) (MayLeave new) s
+pub held_told : (old new : State) (s t : Tables) → HasCleanDisk new → IsLive new → LeavesOnlyTrees new new.now.trees → TellsAs false old s → IsOpenedWithTables old new t → IsDurable (TellsAs true new) (MayLeave new) s
 held_told old new s t clean live alone told held =
     let holds = opened_holds old s new.now (live held.1).0 told held.3 in
     let tables = opened_tables old s new.now told held.3 in

@@ -12,7 +12,7 @@ use Rattle.sqlite_schema.specs.declared.schema.Schema.{Schema}
 use Rattle.sqlite.specs.Effect.{Database}
 use Rattle.sqlite.specs.State.{State, HasCleanDisk, Survives}
 use Rattle.keeper_sql.specs.Schema.{store_schema, no_schema}
-use Rattle.keeper_sql.specs.RowsAsValues.{rows_of, IsReadBack, tables_of}
+use Rattle.keeper_sql.specs.RowsAsValues.{added_rows, IsReadBack, tables_of}
 use Rattle.keeper_sql.specs.Store.{Commits, IsAfter, LeavesOnlyTrees, HoldsStore, Tells, TellsAs, MayLeave, HasVersion, put_all}
 use Rattle.keeper_sql.specs.Calls.{LeavesItsTrees, LeavesOldOr}
 use Rattle.keeper_sql.proofs.TablesAfter.{tables_after}
@@ -28,7 +28,7 @@ told_as false s t is told = absurd (let e = is in cc)
 pub holds_as : (b : Bool) (s : State) (t : Tables) → b ≡ true → IsDurable (Tells s) (MayLeave s) t → IsDurable (TellsAs b s) (MayLeave s) t
 holds_as b s t is holds = record { told = told_as b s t is holds.told; alone = holds.alone }
 
-pub told_after : (change : Change) (old new : State) (s : Tables) → HasCleanDisk new → Tells old s → is_well_formed s ≡ true → fits s change ≡ true → Commits (rows_of change) old new → IsReadBack change → LeavesOnlyTrees new new.now.trees
+pub told_after : (change : Change) (old new : State) (s : Tables) → HasCleanDisk new → Tells old s → is_well_formed s ≡ true → fits s change ≡ true → Commits (added_rows change) old new → IsReadBack change → LeavesOnlyTrees new new.now.trees
     → IsDurable (Tells new) (MayLeave new) (after s change)
 told_after change old new s clean told formed fit done back alone =
     let all = tables_after change s old.now new.now told.holds told.tables formed fit back (done.puts told.holds.schema) in
@@ -52,7 +52,7 @@ left_after change old new s told formed fit crash x left = elim (crash left.0 le
   | inr made ↦ inr (left.2 ∙ ap tables_of made.is ∙ (tables_after change s old.now made.db told.holds told.tables formed fit made.read (made.puts told.holds.schema)).1)
 ]
 
-no_meta : (change : Change) → rows_of change 0 ≡ []
+no_meta : (change : Change) → added_rows change 0 ≡ []
 no_meta (Docs docs) = refl
 no_meta (OneNote note) = refl
 no_meta (OneQuery query) = refl
@@ -62,7 +62,7 @@ no_meta (OneFilter filter) = refl
 bare : store_schema ≡ no_schema → ⊥
 bare e = let tables = ap (λ (s : Schema). s.tables) e in cc
 
-pub version_after : (change : Change) (old new : State) (s : Tables) (v : ℤ) → HasCleanDisk new → Tells old s → Commits (rows_of change) old new → HasVersion old v → HasVersion new v
+pub version_after : (change : Change) (old new : State) (s : Tables) (v : ℤ) → HasCleanDisk new → Tells old s → Commits (added_rows change) old new → HasVersion old v → HasVersion new v
 version_after change old new s v clean told done has =
     let puts = done.puts told.holds.schema in
     let meta : new.now.trees 0 ≡ old.now.trees 0 = puts.meta ∙ ap (λ rows. put_all rows (old.now.trees 0)) (no_meta change) in

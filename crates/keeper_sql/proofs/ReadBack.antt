@@ -10,9 +10,9 @@ use Rattle.tap_rows.specs.declared.rows.Pick.{Pick}
 use Rattle.tap_rows.specs.declared.rows.FilterRow.{FilterRow}
 use Rattle.sqlite_value.specs.declared.value.Value.TheVariants.{Int}
 use Rattle.sqlite_value.specs.Order.{Row}
-use Rattle.keeper_sql.specs.RowsAsValues.{number_of, as_kept, given_doc, doc_in, given_note, note_in, given_query, query_in, given_run, run_in, given_pick, pick_in, given_filter, filter_in}
+use Rattle.keeper_sql.specs.RowsAsValues.{number_in_value, as_kept, given_doc, doc_in, given_note, note_in, given_query, query_in, given_run, run_in, given_pick, pick_in, given_filter, filter_in}
 
-pub number : (n : ℕ) → n < 2 ^ 32 → number_of (Int (pos n)) ≡ n
+pub number : (n : ℕ) → n < 2 ^ 32 → number_in_value (Int (pos n)) ≡ n
 number n low = grind (arith, nat_tests)
 
 pub read_doc : (d : Doc) → d.num.0 < 2 ^ 32 → doc_in (as_kept (given_doc d)) ≡ d

@@ -21,7 +21,7 @@ use Rattle.sqlite_trees.specs.Tree.{Trees}
 use Rattle.sqlite_catalog.specs.Listing.{IsSound, IsTableRow}
 use Rattle.sqlite.specs.Effect.{Database}
 use Rattle.keeper_sql.specs.Schema.{store_schema}
-use Rattle.keeper_sql.specs.RowsAsValues.{tables_in, tables_listed, tables_of, rows_of, IsReadBack, as_kept, given_doc, doc_in, given_note, note_in, given_query, query_in, given_run, run_in, given_pick, pick_in, given_filter, filter_in}
+use Rattle.keeper_sql.specs.RowsAsValues.{tables_in, tables_listed, tables_of, added_rows, IsReadBack, as_kept, given_doc, doc_in, given_note, note_in, given_query, query_in, given_run, run_in, given_pick, pick_in, given_filter, filter_in}
 use Rattle.keeper_sql.specs.Store.{Puts, HoldsStore, AreKeyed, IsMeta, put_all}
 use Rattle.keeper_sql.proofs.Appending.{NumberedBy, key_number, numbered_map, append_rows, read_appended, back_numbers}
 use Rattle.keeper_sql.proofs.Numbered.{two, docs_numbered, note_numbered, notes_numbered, query_numbered, queries_numbered, run_numbered, runs_numbered, picks_numbered, filter_numbered, filters_numbered}
@@ -130,7 +130,7 @@ filters_appended old new xs holds formed next back put =
     let all = append_rows write number (λ x. tail_of (write x)) (λ x. refl) tree xs holds.filters numbered next' (back_numbers write filter_in number (λ r. refl) xs back) in
     (subst AreKeyed (sym (put ∙ all.0)) all.1, read_appended filter_in tree (new.trees 6) (map write xs) xs (put ∙ all.0) back)
 
-pub rows_after : (change : Change) (old new : Database) → HoldsStore old → is_well_formed (tables_in old.trees) ≡ true → fits (tables_in old.trees) change ≡ true → IsReadBack change → Puts (rows_of change) old new
+pub rows_after : (change : Change) (old new : Database) → HoldsStore old → is_well_formed (tables_in old.trees) ≡ true → fits (tables_in old.trees) change ≡ true → IsReadBack change → Puts (added_rows change) old new
     → HoldsStore new × (tables_in new.trees ≡ after (tables_in old.trees) change)
 rows_after (Docs docs) old new holds formed fit back puts =
     let docs = docs_appended old new docs holds formed (docs_numbered _ _ docs fit) back puts.docs in
@@ -150,7 +150,7 @@ rows_after (OneFilter filter) old new holds formed fit back puts =
     (record { sound = puts.sound holds.sound; schema = puts.schema; meta = subst IsMeta (sym puts.meta) holds.meta; docs = subst AreKeyed (sym puts.docs) holds.docs; notes = subst AreKeyed (sym puts.notes) holds.notes; queries = subst AreKeyed (sym puts.queries) holds.queries; runs = subst AreKeyed (sym puts.runs) holds.runs; picks = subst AreKeyed (sym puts.picks) holds.picks; filters = filters.0 }, λ i. record { docs = map doc_in (puts.docs i); notes = map note_in (puts.notes i); queries = map query_in (puts.queries i); runs = map run_in (puts.runs i); picks = map pick_in (puts.picks i); filters = filters.1 i })
 
 -- the tables of a store after the rows of a change were put
-pub tables_after : (change : Change) (s : Tables) (old new : Database) → HoldsStore old → s ≡ tables_of old.trees → is_well_formed s ≡ true → fits s change ≡ true → IsReadBack change → Puts (rows_of change) old new
+pub tables_after : (change : Change) (s : Tables) (old new : Database) → HoldsStore old → s ≡ tables_of old.trees → is_well_formed s ≡ true → fits s change ≡ true → IsReadBack change → Puts (added_rows change) old new
     → HoldsStore new × (tables_of new.trees ≡ after s change)
 tables_after change s old new holds is formed fit back puts =
     let same : s ≡ tables_in old.trees = is ∙ listed old holds in

@@ -112,7 +112,7 @@ FailsToOpenStore old new e = FailsToPrepare old new e ⊎ FailsToReadTables old 
 -- ---- several statements, in one transaction
 
 -- the transaction goes on from one state to the other, and commits nothing
-pub record Reaches {S : Type 0} (g : Ghosts S) (old mid : Held S) : Type 0 where
+pub record GoesOn {S : Type 0} (g : Ghosts S) (old mid : Held S) : Type 0 where
   pub survives : Survives (state g old) (state g mid) (λ _. ⊥)
   pub mode : IsTrue (state g mid).in_transaction
   pub is_open : IsTrue (state g old).is_open → IsTrue (state g mid).is_open
@@ -121,7 +121,7 @@ pub record Reaches {S : Type 0} (g : Ghosts S) (old mid : Held S) : Type 0 where
 module _ {S : Type 0} (g : Ghosts S) (old new : Held S) where
   -- after a call that succeeds the transaction goes on
   abbrev pub ReachesOnSuccess : {T : Type 0} → Result T Error → Type 0
-  ReachesOnSuccess result = HasCleanDisk (state g new) → IsTrue (state g old).in_transaction → OnOk result (Reaches g old new)
+  ReachesOnSuccess result = HasCleanDisk (state g new) → IsTrue (state g old).in_transaction → OnOk result (GoesOn g old new)
 
   -- a call in a transaction that fails does so by this, between the states before and after it
   abbrev pub FailsBy : {T : Type 0} → Result T Error → (State → State → Error → Type 0) → Type 0
@@ -129,7 +129,7 @@ module _ {S : Type 0} (g : Ghosts S) (old new : Held S) where
 
   -- this failed from a state that the transaction reached
   abbrev pub FailsLater : (State → State → Error → Type 0) → Error → Type 0
-  FailsLater How e = (mid : Held S) × Reaches g old mid × How (state g mid) (state g new) e
+  FailsLater How e = (mid : Held S) × GoesOn g old mid × How (state g mid) (state g new) e
 
   -- a call in a transaction that fails does so by this, from a state that it reached before
   abbrev pub FailsWithin : {T : Type 0} → Result T Error → (State → State → Error → Type 0) → Type 0
@@ -149,7 +149,7 @@ module _ {S : Type 0} (g : Ghosts S) (old new : Held S) where
 
   -- its commit failed
   abbrev pub FailsAtCommit : Error → Type 0
-  FailsAtCommit e = (mid : Held S) × Reaches g (begun old) mid × FailsToCommit (state g mid) (state g new) e
+  FailsAtCommit e = (mid : Held S) × GoesOn g (begun old) mid × FailsToCommit (state g mid) (state g new) e
 
   -- a transaction fails so
   abbrev pub FailsWhole : (State → State → Error → Type 0) → Error → Type 0

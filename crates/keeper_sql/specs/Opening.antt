@@ -46,8 +46,8 @@ UnlessHeld (Ok (Alien version)) P = P
 UnlessHeld (Err e) P = P
 
 -- the store was opened so
-abbrev pub IsHeld : State → State → Tables → Type 0
-IsHeld old new tables = IsStored old new (Held tables)
+abbrev pub IsOpenedWithTables : State → State → Tables → Type 0
+IsOpenedWithTables old new tables = IsStored old new (Held tables)
 
 -- if the attach ended by a version or by memory, this holds
 abbrev pub UnlessFailed : {T : Type 0} → Result T AttachFault → Type 0 → Type 0

@@ -48,13 +48,13 @@ as_kept (key ∷ values) = key ∷ Null ∷ values
 -- ---- as they are read
 
 -- a number that isn't between 0 and 4,294,967,295 is read as 0
-abbrev pub number_of : Value → ℕ
-number_of (Int (pos n)) = if nat_lt n (2 ^ 32) then n else 0
-number_of (Int (negsuc n)) = 0
-number_of Null = 0
-number_of (Real x) = 0
-number_of (Text t) = 0
-number_of (Blob b) = 0
+abbrev pub number_in_value : Value → ℕ
+number_in_value (Int (pos n)) = if nat_lt n (2 ^ 32) then n else 0
+number_in_value (Int (negsuc n)) = 0
+number_in_value Null = 0
+number_in_value (Real x) = 0
+number_in_value (Text t) = 0
+number_in_value (Blob b) = 0
 
 abbrev pub integer_of : Value → ℤ
 integer_of (Int n) = n
@@ -71,12 +71,12 @@ bytes_of (Real x) = []
 bytes_of (Text t) = []
 
 abbrev pub doc_in : Row → Doc
-doc_in r = record { num = record { 0 = number_of (column r 0) }; arrival = integer_of (column r 2); text = bytes_of (column r 3) }
+doc_in r = record { num = record { 0 = number_in_value (column r 0) }; arrival = integer_of (column r 2); text = bytes_of (column r 3) }
 
 abbrev pub note_in : Row → Note
 note_in r = record {
-  num = record { 0 = number_of (column r 0) };
-  doc = record { 0 = number_of (column r 2) };
+  num = record { 0 = number_in_value (column r 0) };
+  doc = record { 0 = number_in_value (column r 2) };
   author = bytes_of (column r 3);
   kind = bytes_of (column r 4);
   value = integer_of (column r 5);
@@ -86,7 +86,7 @@ note_in r = record {
 
 abbrev pub query_in : Row → QueryRow
 query_in r = record {
-  num = record { 0 = number_of (column r 0) };
+  num = record { 0 = number_in_value (column r 0) };
   owner = bytes_of (column r 2);
   name = bytes_of (column r 3);
   source = bytes_of (column r 4);
@@ -94,19 +94,19 @@ query_in r = record {
 }
 
 abbrev pub run_in : Row → RunRow
-run_in r = record { num = number_of (column r 0); query = record { 0 = number_of (column r 2) }; moment = integer_of (column r 3) }
+run_in r = record { num = number_in_value (column r 0); query = record { 0 = number_in_value (column r 2) }; moment = integer_of (column r 3) }
 
 abbrev pub pick_in : Row → Pick
 pick_in r = record {
-  num = number_of (column r 0);
-  query = record { 0 = number_of (column r 2) };
-  run = number_of (column r 3);
-  doc = record { 0 = number_of (column r 4) };
+  num = number_in_value (column r 0);
+  query = record { 0 = number_in_value (column r 2) };
+  run = number_in_value (column r 3);
+  doc = record { 0 = number_in_value (column r 4) };
   first = integer_of (column r 5);
 }
 
 abbrev pub filter_in : Row → FilterRow
-filter_in r = record { num = number_of (column r 0); owner = bytes_of (column r 2); source = bytes_of (column r 3); arrival = integer_of (column r 4) }
+filter_in r = record { num = number_in_value (column r 0); owner = bytes_of (column r 2); source = bytes_of (column r 3); arrival = integer_of (column r 4) }
 
 -- the version in the row of `meta`, if there is one
 abbrev pub version_in : List Row → Option ℤ
@@ -166,12 +166,12 @@ filter_kinds = kind.Integer ∷ kind.Blob ∷ kind.Blob ∷ kind.Integer ∷ []
 -- ---- as they are read from what a query shows
 
 abbrev pub doc_shown : Row → Doc
-doc_shown r = record { num = record { 0 = number_of (column r 0) }; arrival = integer_of (column r 1); text = bytes_of (column r 2) }
+doc_shown r = record { num = record { 0 = number_in_value (column r 0) }; arrival = integer_of (column r 1); text = bytes_of (column r 2) }
 
 abbrev pub note_shown : Row → Note
 note_shown r = record {
-  num = record { 0 = number_of (column r 0) };
-  doc = record { 0 = number_of (column r 1) };
+  num = record { 0 = number_in_value (column r 0) };
+  doc = record { 0 = number_in_value (column r 1) };
   author = bytes_of (column r 2);
   kind = bytes_of (column r 3);
   value = integer_of (column r 4);
@@ -181,7 +181,7 @@ note_shown r = record {
 
 abbrev pub query_shown : Row → QueryRow
 query_shown r = record {
-  num = record { 0 = number_of (column r 0) };
+  num = record { 0 = number_in_value (column r 0) };
   owner = bytes_of (column r 1);
   name = bytes_of (column r 2);
   source = bytes_of (column r 3);
@@ -189,19 +189,19 @@ query_shown r = record {
 }
 
 abbrev pub run_shown : Row → RunRow
-run_shown r = record { num = number_of (column r 0); query = record { 0 = number_of (column r 1) }; moment = integer_of (column r 2) }
+run_shown r = record { num = number_in_value (column r 0); query = record { 0 = number_in_value (column r 1) }; moment = integer_of (column r 2) }
 
 abbrev pub pick_shown : Row → Pick
 pick_shown r = record {
-  num = number_of (column r 0);
-  query = record { 0 = number_of (column r 1) };
-  run = number_of (column r 2);
-  doc = record { 0 = number_of (column r 3) };
+  num = number_in_value (column r 0);
+  query = record { 0 = number_in_value (column r 1) };
+  run = number_in_value (column r 2);
+  doc = record { 0 = number_in_value (column r 3) };
   first = integer_of (column r 4);
 }
 
 abbrev pub filter_shown : Row → FilterRow
-filter_shown r = record { num = number_of (column r 0); owner = bytes_of (column r 1); source = bytes_of (column r 2); arrival = integer_of (column r 3) }
+filter_shown r = record { num = number_in_value (column r 0); owner = bytes_of (column r 1); source = bytes_of (column r 2); arrival = integer_of (column r 3) }
 
 -- the tables that the trees of the store's schema hold
 abbrev pub tables_in : Trees → Tables
@@ -229,15 +229,15 @@ abbrev pub only : ℕ → List Row → ℕ → List Row
 only tree rows t = if t == tree then rows else []
 
 -- the rows of two writes, one after the other
-abbrev pub both : (ℕ → List Row) → (ℕ → List Row) → ℕ → List Row
-both first second t = first t ++ second t
+abbrev pub appended_rows : (ℕ → List Row) → (ℕ → List Row) → ℕ → List Row
+appended_rows first second t = first t ++ second t
 
-abbrev pub rows_of : Change → ℕ → List Row
-rows_of (Docs docs) = only 1 (map (λ d. as_kept (given_doc d)) docs)
-rows_of (OneNote note) = only 2 (as_kept (given_note note) ∷ [])
-rows_of (OneQuery query) = only 3 (as_kept (given_query query) ∷ [])
-rows_of (RunDone run picks) = both (only 4 (as_kept (given_run run) ∷ [])) (only 5 (map (λ p. as_kept (given_pick p)) picks))
-rows_of (OneFilter filter) = only 6 (as_kept (given_filter filter) ∷ [])
+abbrev pub added_rows : Change → ℕ → List Row
+added_rows (Docs docs) = only 1 (map (λ d. as_kept (given_doc d)) docs)
+added_rows (OneNote note) = only 2 (as_kept (given_note note) ∷ [])
+added_rows (OneQuery query) = only 3 (as_kept (given_query query) ∷ [])
+added_rows (RunDone run picks) = appended_rows (only 4 (as_kept (given_run run) ∷ [])) (only 5 (map (λ p. as_kept (given_pick p)) picks))
+added_rows (OneFilter filter) = only 6 (as_kept (given_filter filter) ∷ [])
 
 -- the rows of a change are read back as they were written
 abbrev pub IsReadBack : Change → Type 0

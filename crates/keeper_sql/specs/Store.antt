@@ -10,7 +10,7 @@ use Rattle.sqlite.specs.Effect.{Database, IsDatabase}
 use Rattle.sqlite.specs.State.{State, HasCleanDisk}
 use Rattle.keeper_sql.specs.Schema.{store_schema, no_schema}
 pub use Rattle.keeper_sql.specs.RowsAsValues.{only, tables_in, tables_of}
-use Rattle.keeper_sql.specs.RowsAsValues.{rows_of, IsReadBack}
+use Rattle.keeper_sql.specs.RowsAsValues.{added_rows, IsReadBack}
 use Rattle.tap_rows.specs.declared.change.Change.{Change}
 
 -- the rows of a tree, after these were put one by one
@@ -120,7 +120,7 @@ pub record Commits (rows : ℕ → List Row) (old new : State) : Type 0 where
 pub record IsAfter (change : Change) (old : State) (trees : Trees) : Type 0 where
   pub read : IsReadBack change
   pub db : Database
-  pub puts : old.now.schema ≡ store_schema → Puts (rows_of change) old.now db
+  pub puts : old.now.schema ≡ store_schema → Puts (added_rows change) old.now db
   pub is : trees ≡ db.trees
 
 -- a crash leaves these trees alone

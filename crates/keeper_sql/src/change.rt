@@ -3,7 +3,7 @@
 ghost use Rattle.std.specs.Prelude.{◌≡◌, [], ◌∷◌, map, IfErr, OnOk, OnErr};
 ghost use Rattle.sqlite.specs.Held.{state};
 ghost use Rattle.sqlite.specs.State.{HasCleanDisk, Survives};
-ghost use Rattle.keeper_sql.specs.RowsAsValues.{rows_of, IsReadBack, only, both, as_kept, given_run, given_pick, run_in, pick_in};
+ghost use Rattle.keeper_sql.specs.RowsAsValues.{added_rows, IsReadBack, only, appended_rows, as_kept, given_run, given_pick, run_in, pick_in};
 ghost use Rattle.keeper_sql.specs.Store.{RowsWritten, Commits, IsAfter, IsIdle};
 ghost use Rattle.keeper_sql.specs.Calls.{CommitsNothing, Does, DoesOrUndoes, IsRolledBack, LeavesItsTrees, WasOpen};
 ghost use Rattle.keeper_sql.specs.Failing.{FailsToInsertRows, FailsWhole, FailsWithin};
@@ -25,7 +25,7 @@ fn insert_run_done<S: Alter>(
 ) -> Result<(), Error>
     ensures same_reference { tx.new.conn.ghost_name ≡ tx.old.conn.ghost_name }
     ensures ok { Does S.Store tx.old.conn.now tx.new.conn.now result
-        (RowsWritten (both (only 4 (as_kept (given_run run.now) ∷ [])) (only 5 (map (λ p. as_kept (given_pick p)) picks.now)))) }
+        (RowsWritten (appended_rows (only 4 (as_kept (given_run run.now) ∷ [])) (only 5 (map (λ p. as_kept (given_pick p)) picks.now)))) }
     ensures err { DoesOrUndoes S.Store tx.old.conn.now tx.new.conn.now result }
     ensures survives { CommitsNothing S.Store tx.old.conn.now tx.new.conn.now }
     ensures fails { FailsWithin S.Store tx.old.conn.now tx.new.conn.now result (FailsToInsertRows (Change.RunDone run.now picks.now)) }
@@ -41,7 +41,7 @@ fn insert_run_done<S: Alter>(
 // Inserts the rows of a change.
 fn insert_change<S: Alter>(tx: &mut Transaction<'_, S>, change: &Change) -> Result<(), Error>
     ensures same_reference { tx.new.conn.ghost_name ≡ tx.old.conn.ghost_name }
-    ensures ok { Does S.Store tx.old.conn.now tx.new.conn.now result (RowsWritten (rows_of change.now)) }
+    ensures ok { Does S.Store tx.old.conn.now tx.new.conn.now result (RowsWritten (added_rows change.now)) }
     ensures err { DoesOrUndoes S.Store tx.old.conn.now tx.new.conn.now result }
     ensures survives { CommitsNothing S.Store tx.old.conn.now tx.new.conn.now }
     ensures fails { FailsWithin S.Store tx.old.conn.now tx.new.conn.now result (FailsToInsertRows change.now) }
@@ -60,7 +60,7 @@ fn insert_change<S: Alter>(tx: &mut Transaction<'_, S>, change: &Change) -> Resu
 pub fn commit_change<S: Alter>(conn: &mut Connection<S>, change: &Change) -> Result<(), Error>
     requires { IsIdle (state S.Store conn.old) }
     ensures ended { IsIdle (state S.Store conn.new) }
-    ensures ok { HasCleanDisk (state S.Store conn.new) → OnOk result (Commits (rows_of change.now) (state S.Store conn.old) (state S.Store conn.new)) }
+    ensures ok { HasCleanDisk (state S.Store conn.new) → OnOk result (Commits (added_rows change.now) (state S.Store conn.old) (state S.Store conn.new)) }
     ensures settled { HasCleanDisk (state S.Store conn.new) → OnOk result (LeavesItsTrees (state S.Store conn.new)) }
     ensures was_open { HasCleanDisk (state S.Store conn.new) → OnErr result (WasOpen (state S.Store conn.old) (state S.Store conn.new)) }
     ensures undone { HasCleanDisk (state S.Store conn.new) → OnErr result (IsRolledBack (state S.Store conn.old) (state S.Store conn.new)) }

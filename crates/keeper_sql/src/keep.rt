@@ -3,7 +3,7 @@
 ghost use Rattle.std.specs.Prelude.{◌≡◌, ◌↔◌, false, IsTrue, IfErr, OnOk, Err};
 ghost use Rattle.sqlite.specs.Held.{state};
 ghost use Rattle.sqlite.specs.State.{HasCleanDisk, Survives, IsUnchanged, IsLive};
-ghost use Rattle.keeper_sql.specs.RowsAsValues.{rows_of, IsReadBack};
+ghost use Rattle.keeper_sql.specs.RowsAsValues.{added_rows, IsReadBack};
 ghost use Rattle.keeper_sql.specs.Store.{Commits, IsAfter, IsIdle};
 ghost use Rattle.keeper_sql.specs.Calls.{IsRefused, IsSettled, LeavesItsTrees, LeavesOldOr};
 ghost use Rattle.keeper_sql.specs.Failing.{FailsAtTest, FailsToKeep, IsNotOnlyMemory};
@@ -72,7 +72,7 @@ pub fn keep<S: Alter>(conn: &mut Connection<S>, change: &Change) -> Result<(), C
     requires { IsIdle (state S.Store conn.old) }
     ensures ended { IsIdle (state S.Store conn.new) }
     ensures honest { HasCleanDisk (state S.Store conn.new) → HasCleanDisk (state S.Store conn.old) }
-    ensures ok { HasCleanDisk (state S.Store conn.new) → OnOk result (Commits (rows_of change.now) (state S.Store conn.old) (state S.Store conn.new)) }
+    ensures ok { HasCleanDisk (state S.Store conn.new) → OnOk result (Commits (added_rows change.now) (state S.Store conn.old) (state S.Store conn.new)) }
     ensures read { OnOk result (IsReadBack change.now) }
     ensures alone { HasCleanDisk (state S.Store conn.new) → OnOk result (LeavesItsTrees (state S.Store conn.new)) }
     ensures memory { HasCleanDisk (state S.Store conn.new) → result ≡ Err CommitFault.Memory

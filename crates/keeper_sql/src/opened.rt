@@ -6,7 +6,7 @@ ghost use Rattle.sqlite.specs.Effect.{Database};
 ghost use Rattle.sqlite.specs.Held.{state};
 ghost use Rattle.sqlite.specs.State.{HasCleanDisk, Survives, IsLive};
 ghost use Rattle.keeper_sql.specs.Store.{Undone, OpensTo, OpensAt, IsAfterOpen, IsAtVersion, IsIdle};
-ghost use Rattle.keeper_sql.specs.Opening.{IsOpened, IsRead, AreRead, IsRefusedAt, IsStored, IsHeld, UnlessHeld, UnlessFailed};
+ghost use Rattle.keeper_sql.specs.Opening.{IsOpened, IsRead, AreRead, IsRefusedAt, IsStored, IsOpenedWithTables, UnlessHeld, UnlessFailed};
 ghost use Rattle.keeper_sql.specs.Calls.{CommitsNothing, InOurs, IsRolledBack, LeavesItsTrees, LeavesOldOr, OverOurs, ShowsTheSame, WasOpen};
 ghost use Rattle.keeper_sql.specs.Failing.{FailsToAttach, FailsToOpenStore, FailsToPrepare, FailsWhole, FailsWithin, ReachesOnSuccess};
 
@@ -95,7 +95,7 @@ pub fn open_kept<S: Alter>(alloc: Global, conn: &mut Connection<S>) -> Result<Ta
     ensures ended { IsIdle (state S.Store conn.new) }
     ensures honest { HasCleanDisk (state S.Store conn.new) → HasCleanDisk (state S.Store conn.old) }
     ensures never { IfAlien result (λ v. (v ≢ pos 1) × (v ≢ pos 2)) }
-    ensures ok { OverOurs S.Store conn.old conn.new (IfOk result (IsHeld (state S.Store conn.old) (state S.Store conn.new))) }
+    ensures ok { OverOurs S.Store conn.old conn.new (IfOk result (IsOpenedWithTables (state S.Store conn.old) (state S.Store conn.new))) }
     ensures read { HasCleanDisk (state S.Store conn.new) → IfOk result (AreRead (state S.Store conn.new).now) }
     ensures live { OnOk result (IsLive (state S.Store conn.new)) }
     ensures given_alone { OverOurs S.Store conn.old conn.new (OnOk result (LeavesItsTrees (state S.Store conn.new))) }

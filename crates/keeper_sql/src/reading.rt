@@ -4,7 +4,7 @@ ghost use Rattle.std.specs.Prelude.{◌≡◌, ◌++◌, ◌∷◌, [], List, ma
 ghost use Rattle.sqlite_value.specs.Order.{column, Row as Values};
 ghost use Rattle.sqlite.specs.declared.types.Type.{«Type» as SqlType};
 ghost use Rattle.sqlite.specs.declared.types.Type.TheVariants.{Integer, Blob};
-ghost use Rattle.keeper_sql.specs.RowsAsValues.{number_of, integer_of, bytes_of};
+ghost use Rattle.keeper_sql.specs.RowsAsValues.{number_in_value, integer_of, bytes_of};
 ghost use Rattle.keeper_sql.specs.Failing.{FailsToTake, FailsToTakeRow, FailsToTakeRows};
 
 use sqlite::{Error, ErrorCode, Row};
@@ -29,7 +29,7 @@ pub trait TableRow: Drop {
 
 /// Returns the number in a column, or 0 if it isn't between 0 and 4,294,967,295. A row with the number 0 is damaged.
 pub fn number(row: &Row, at: usize) -> Result<u32, Error>
-    ensures ok { IfOk result (λ n. n ≡ number_of (column row.now at)) }
+    ensures ok { IfOk result (λ n. n ≡ number_in_value (column row.now at)) }
     ensures fails { IfErr result (FailsToTake Integer row.now at) }
 {
     let number: i64 = integer(row, at)?;

@@ -6,7 +6,7 @@ ghost use Rattle.sqlite.specs.State.{HasCleanDisk};
 ghost use Rattle.tap_base.specs.Counts.{Rose};
 ghost use Rattle.tap_rows.specs.Tables.{after};
 ghost use Rattle.tap_rows.specs.declared.tables.Tables.{Tables as TableRows};
-ghost use Rattle.keeper_core.specs.Keeping.{IsDurable, IfAlien, Extends};
+ghost use Rattle.keeper_core.specs.Keeping.{IsDurable, IfAlien, AddsRowsTo};
 ghost use Rattle.keeper_sql.specs.Calls.{IsSettled, IsSettled-prop};
 ghost use Rattle.keeper_sql.specs.Failing.{FailsToAttach, FailsToKeep};
 ghost use Rattle.keeper_sql.specs.Store.{TellsAs, HasVersion, MayLeave};
@@ -161,17 +161,17 @@ impl<S: Alter> Keeper for SqlKeeper<S> {
         ensures calm { self.new.stopped ≡ false → self.new.faults ≡ self.old.faults }
         ensures honest { HasCleanDisk (state S.Store self.new.connection) → HasCleanDisk (state S.Store self.old.connection) }
         ensures ok { HasCleanDisk (state S.Store self.new.connection) → (s : TableRows)
-            → TellsAs self.old.attached (state S.Store self.old.connection) s → Extends change.now s
+            → TellsAs self.old.attached (state S.Store self.old.connection) s → AddsRowsTo change.now s
             → OnOk result (IsDurable (TellsAs self.new.attached (state S.Store self.new.connection))
             (MayLeave (state S.Store self.new.connection)) (after s change.now)) }
         ensures memory { HasCleanDisk (state S.Store self.new.connection) → (s : TableRows)
             → TellsAs self.old.attached (state S.Store self.old.connection) s → result ≡ Err CommitFault.Memory
             → IsDurable (TellsAs self.new.attached (state S.Store self.new.connection)) (MayLeave (state S.Store self.new.connection)) s }
         ensures crash { HasCleanDisk (state S.Store self.new.connection) → (s : TableRows)
-            → TellsAs self.old.attached (state S.Store self.old.connection) s → Extends change.now s
+            → TellsAs self.old.attached (state S.Store self.old.connection) s → AddsRowsTo change.now s
             → (x : TableRows) → MayLeave (state S.Store self.new.connection) x → (x ≡ s) ⊎ (x ≡ after s change.now) }
         ensures version { HasCleanDisk (state S.Store self.new.connection) → (s : TableRows)
-            → TellsAs self.old.attached (state S.Store self.old.connection) s → Extends change.now s
+            → TellsAs self.old.attached (state S.Store self.old.connection) s → AddsRowsTo change.now s
             → (v : ℤ) → HasVersion (state S.Store self.old.connection) v → self.new.stopped ≡ false
             → HasVersion (state S.Store self.new.connection) v }
 

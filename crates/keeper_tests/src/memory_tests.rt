@@ -3,7 +3,7 @@
 ghost use Rattle.std.specs.Prelude.{◌≡◌, ◌≢◌, ◌⊎◌, ◌↔◌, ℤ, pos, true, codes};
 ghost use Rattle.tap_rows.specs.Tables.{after};
 ghost use Rattle.tap_rows.specs.declared.tables.Tables.{Tables as TableRows};
-ghost use Rattle.keeper_core.specs.Keeping.{IsDurable, Extends};
+ghost use Rattle.keeper_core.specs.Keeping.{IsDurable, AddsRowsTo};
 ghost use Rattle.tap_base.specs.Counts.{Rose};
 ghost use Rattle.keeper_core.specs.States.{IsFree};
 
@@ -24,12 +24,12 @@ fn keep_two<P: Keeper>(alloc: Global, keeper: &mut P, one: &Change, two: &Change
     ensures placed { (P.place keeper.new ≡ codes "store") ⊎ (result ≡ 7) }
     ensures known { P.honest keeper.new → (v : ℤ) → P.has_version keeper.old v → (v ≡ pos 1) ⊎ (v ≡ pos 2) → result ≢ 6 }
     ensures done { result ≡ 0 → P.honest keeper.new → (s : TableRows) → P.tells keeper.old s
-        → Extends one.now s → Extends two.now (after s one.now)
+        → AddsRowsTo one.now s → AddsRowsTo two.now (after s one.now)
         → IsDurable (P.tells keeper.new) (P.may_leave keeper.new) (after (after s one.now) two.now) }
     ensures refused { result ≡ 6 → P.honest keeper.new → (s : TableRows) → P.tells keeper.old s
         → IsDurable (P.tells keeper.new) (P.may_leave keeper.new) s }
     ensures crash { P.honest keeper.new → (s : TableRows) → P.tells keeper.old s
-        → Extends one.now s → Extends two.now (after s one.now)
+        → AddsRowsTo one.now s → AddsRowsTo two.now (after s one.now)
         → (x : TableRows) → P.may_leave keeper.new x → (x ≡ s) ⊎ ((x ≡ after s one.now) ⊎ (x ≡ after (after s one.now) two.now)) }
 {
     match keeper.attach(alloc, "store") {

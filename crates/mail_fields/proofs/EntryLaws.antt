@@ -8,26 +8,26 @@ use Rattle.std.proofs.lemmas.List.{append-nil, append_assoc, drop_all, take_all}
 use Rattle.tap_base.proofs.Parts.{whole_part, first_part}
 use Rattle.tap_base.specs.Bytes.{is_blank}
 use Rattle.tap_rows.specs.Headers.{trimmed}
-use Rattle.tap_rows.specs.Entries.{entries_of, address_of, listed, referred, comma_parts_from}
+use Rattle.tap_rows.specs.Entries.{addresses_in, address_of, listed, referred, comma_parts_from}
 use Rattle.mail_fields.specs.Rests.{comma_place}
 
 abbrev not_empty : List ℕ → Bool
 not_empty entry = not (length entry == 0)
 
 -- the entries of a first part, and then of the others
-pub entries-cons : (part : List ℕ) (parts : List (List ℕ)) → entries_of (part ∷ parts) ≡ entries_of (part ∷ []) ++ entries_of parts
+pub entries-cons : (part : List ℕ) (parts : List (List ℕ)) → addresses_in (part ∷ parts) ≡ addresses_in (part ∷ []) ++ addresses_in parts
 entries-cons part parts =
-    elim (not_empty (str_to_ascii_lowercase (address_of part))) as (λ b. (if b then str_to_ascii_lowercase (address_of part) ∷ entries_of parts else entries_of parts) ≡ (if b then str_to_ascii_lowercase (address_of part) ∷ [] else []) ++ entries_of parts) [ true ↦ refl | false ↦ refl ]
+    elim (not_empty (str_to_ascii_lowercase (address_of part))) as (λ b. (if b then str_to_ascii_lowercase (address_of part) ∷ addresses_in parts else addresses_in parts) ≡ (if b then str_to_ascii_lowercase (address_of part) ∷ [] else []) ++ addresses_in parts) [ true ↦ refl | false ↦ refl ]
 
 -- parts between blanks
-pub referred-first : (value : List ℕ) (n : ℕ) → n ≡ position_or_len is_blank value → referred value ≡ entries_of (take n value ∷ []) ++ referred (drop (n + 1) value)
+pub referred-first : (value : List ℕ) (n : ℕ) → n ≡ position_or_len is_blank value → referred value ≡ addresses_in (take n value ∷ []) ++ referred (drop (n + 1) value)
 referred-first value n e =
     elim (cases_lt n (length value)) [
       | inl lt ↦ rw (first_part is_blank value n e lt) (entries-cons (take n value) (slice_split is_blank (drop (n + 1) value)))
       | inr le ↦ let w = whole_part is_blank value n e le in rw (w.0, w.1) (sym (append-nil _))
     ]
 
-pub referred-step : (all done done' : List (List ℕ)) (value : List ℕ) (n : ℕ) → all ≡ done ++ referred value → n ≡ position_or_len is_blank value → done' ≡ done ++ entries_of (take n value ∷ []) → all ≡ done' ++ referred (drop (n + 1) value)
+pub referred-step : (all done done' : List (List ℕ)) (value : List ℕ) (n : ℕ) → all ≡ done ++ referred value → n ≡ position_or_len is_blank value → done' ≡ done ++ addresses_in (take n value ∷ []) → all ≡ done' ++ referred (drop (n + 1) value)
 referred-step all done done' value n before e is = before ∙ rw (referred-first value n e, is) (sym (append_assoc done _ _))
 
 -- one more byte
@@ -76,17 +76,17 @@ comma-cut quoted (b ∷ value) lt = go (b == 34) refl (b == 44 && not quoted) re
       let parts : comma_parts_from quoted (b ∷ value) ≡ onto_first b (comma_parts_from quoted value) = rw (e, f) refl in
       parts ∙ ap (onto_first b) (rec quoted (omega arith)) ∙ sym (subst (λ k. take k (b ∷ value) ∷ comma_parts_from false (drop (k + 1) (b ∷ value)) ≡ (b ∷ take (comma_place quoted value) value) ∷ comma_parts_from false (drop (comma_place quoted value + 1) value)) (sym place) (rw (take-one b value (comma_place quoted value), drop-one b value (comma_place quoted value)) refl))
 
-listed-here : (value : List ℕ) → listed value ≡ entries_of (take (comma_place false value) value ∷ []) ++ listed (drop (comma_place false value + 1) value)
+listed-here : (value : List ℕ) → listed value ≡ addresses_in (take (comma_place false value) value ∷ []) ++ listed (drop (comma_place false value + 1) value)
 listed-here value =
     elim (cases_lt (comma_place false value) (length value)) [
-      | inl lt ↦ ap entries_of (comma-cut false value lt) ∙ entries-cons (take (comma_place false value) value) (comma_parts_from false (drop (comma_place false value + 1) value))
-      | inr le ↦ ap entries_of (comma-whole false value le) ∙ rw (take_all (comma_place false value) value le, drop_all (comma_place false value + 1) value (omega arith)) (sym (append-nil _))
+      | inl lt ↦ ap addresses_in (comma-cut false value lt) ∙ entries-cons (take (comma_place false value) value) (comma_parts_from false (drop (comma_place false value + 1) value))
+      | inr le ↦ ap addresses_in (comma-whole false value le) ∙ rw (take_all (comma_place false value) value le, drop_all (comma_place false value + 1) value (omega arith)) (sym (append-nil _))
     ]
 
-pub listed-first : (value : List ℕ) (n : ℕ) → n ≡ comma_place false value → listed value ≡ entries_of (take n value ∷ []) ++ listed (drop (n + 1) value)
-listed-first value n e = subst (λ k. listed value ≡ entries_of (take k value ∷ []) ++ listed (drop (k + 1) value)) (sym e) (listed-here value)
+pub listed-first : (value : List ℕ) (n : ℕ) → n ≡ comma_place false value → listed value ≡ addresses_in (take n value ∷ []) ++ listed (drop (n + 1) value)
+listed-first value n e = subst (λ k. listed value ≡ addresses_in (take k value ∷ []) ++ listed (drop (k + 1) value)) (sym e) (listed-here value)
 
-pub listed-step : (all done done' : List (List ℕ)) (value : List ℕ) (n : ℕ) → all ≡ done ++ listed value → n ≡ comma_place false value → done' ≡ done ++ entries_of (take n value ∷ []) → all ≡ done' ++ listed (drop (n + 1) value)
+pub listed-step : (all done done' : List (List ℕ)) (value : List ℕ) (n : ℕ) → all ≡ done ++ listed value → n ≡ comma_place false value → done' ≡ done ++ addresses_in (take n value ∷ []) → all ≡ done' ++ listed (drop (n + 1) value)
 listed-step all done done' value n before e is = before ∙ rw (listed-first value n e, is) (sym (append_assoc done _ _))
 
 -- is one of the bytes there?

@@ -31,8 +31,8 @@ abbrev pub lined_text : List ℕ → List ℕ
 lined_text text = text_of_lines (lined text)
 
 -- a line of zero or more `>` and then `From ` gets one `>` before it
-abbrev pub quoted : List ℕ → List ℕ
-quoted line = if is_from_line (drop (quotes line) line) then 62 ∷ line else line
+abbrev pub from_quoted : List ℕ → List ℕ
+from_quoted line = if is_from_line (drop (quotes line) line) then 62 ∷ line else line
 
 -- the line before a document's lines: its number and its first second
 abbrev pub from_line : ℕ → ℤ → List ℕ
@@ -40,7 +40,7 @@ from_line doc first = codes "From doc " ++ decimal doc ++ codes " first " ++ sig
 
 -- the lines of a document: its `From ` line, the lines of its text, quoted, and an empty line
 abbrev pub digested_lines : Digested → List (List ℕ)
-digested_lines d = from_line d.doc d.first ∷ map quoted (lined d.text) ++ [] ∷ []
+digested_lines d = from_line d.doc d.first ∷ map from_quoted (lined d.text) ++ [] ∷ []
 
 -- the subject of a digest: the query's name and the ordinal of its run
 abbrev pub subject_line : List ℕ → ℕ → List ℕ

@@ -7,7 +7,7 @@ ghost use Rattle.std.specs.Str.{all_ascii_digits, str_eq_ignore_ascii_case};
 ghost use Rattle.jiff_core.specs.Calendar.{days_from_civil, IsWithin};
 ghost use Rattle.tap_rows.specs.Dates.{month_of, time_of, hours_west, offset_of, zone_of, first_zone, has_day, second_of};
 ghost use Rattle.tap_rows.specs.Dates.{second_of_parts, digits_within, date_from, date_of, date_parts, without_weekday};
-ghost use Rattle.tap_rows.specs.Dates.{begins_with_letter, clock_of, clock_second};
+ghost use Rattle.tap_rows.specs.Dates.{begins_with_letter, second_of_day, clock_second};
 
 use crate::bytes::place_of;
 use crate::numbers::{number, number_at_most, value_of_digits, year};

@@ -2,7 +2,7 @@
 ghost use Rattle.std.specs.Prelude.{◌≡◌, ◌≤◌, ◌<◌, ◌++◌, ◌∷◌, List, [], ℕ, false, length, drop, take, OnOk, OnErr, IfOk};
 ghost use Rattle.std.specs.List.{list_any, slice_split};
 ghost use Rattle.tap_base.specs.Bytes.{is_blank};
-ghost use Rattle.tap_rows.specs.Entries.{address_of, entries_of, listed, referred};
+ghost use Rattle.tap_rows.specs.Entries.{address_of, addresses_in, listed, referred};
 ghost use Rattle.mail_fields.specs.Rests.{comma_place};
 
 use crate::bytes::{place_of, trim};
@@ -24,7 +24,7 @@ fn address(part: &[u8]) -> &[u8]
 
 // Appends the entry of this part, unless it is empty.
 pub(crate) fn push_entry(alloc: Global, part: &[u8], into: &mut Texts) -> Result<(), Memory>
-    ensures { OnOk result (into.new ≡ into.old ++ entries_of (part.now ∷ [])) }
+    ensures { OnOk result (into.new ≡ into.old ++ addresses_in (part.now ∷ [])) }
 {
     let entry = lower(alloc, address(part))?;
     if entry.len() == 0 {

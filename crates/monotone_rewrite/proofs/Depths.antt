@@ -15,7 +15,7 @@ use Rattle.time_marks.specs.declared.mark.Mark.{Mark}
 use Rattle.time_marks.specs.Marks.{copy, copy_term, arrival_term, step_of, under_step, mark_if, marks, document_var, fixed_term, marks_from, body}
 use Rattle.time_marks.specs.Found.{higher, nested}
 use Rattle.time_marks.proofs.Lists.{append_in, map_in}
-use Rattle.monotone_rewrite.specs.Folding.{Known, Yes, No, Open, known, constant, same_base, is_there, fold_all, fold_either, fold_not, fold_exists, fold}
+use Rattle.monotone_rewrite.specs.Folding.{KnownTruth, Yes, No, Open, known, constant, same_base, is_there, fold_all, fold_either, fold_not, fold_exists, fold}
 
 high_left : (a b : ℕ) → a ≤ higher a b
 high_left a b = elim (cases_Bool (nat_le a b)) [ inl y ↦ rw y (le y) | inr n ↦ rw n (omega arith) ] where
@@ -140,26 +140,26 @@ constant_none : (b : Bool) → nested (constant b) ≤ 0
 constant_none true = omega arith
 constant_none false = omega arith
 
-all_nested : (k k' : Known) (l r : Condition) → nested (fold_all k k' l r) ≤ higher (nested l) (nested r)
+all_nested : (k k' : KnownTruth) (l r : Condition) → nested (fold_all k k' l r) ≤ higher (nested l) (nested r)
 all_nested No k' l r = omega arith
 all_nested Yes k' l r = high_right (nested l) (nested r)
 all_nested Open No l r = omega arith
 all_nested Open Yes l r = high_left (nested l) (nested r)
 all_nested Open Open l r = omega arith
 
-either_nested : (k k' : Known) (l r : Condition) → nested (fold_either k k' l r) ≤ higher (nested l) (nested r)
+either_nested : (k k' : KnownTruth) (l r : Condition) → nested (fold_either k k' l r) ≤ higher (nested l) (nested r)
 either_nested Yes k' l r = omega arith
 either_nested No k' l r = high_right (nested l) (nested r)
 either_nested Open Yes l r = omega arith
 either_nested Open No l r = high_left (nested l) (nested r)
 either_nested Open Open l r = omega arith
 
-not_nested : (k : Known) (x : Condition) → nested (fold_not k x) ≤ nested x
+not_nested : (k : KnownTruth) (x : Condition) → nested (fold_not k x) ≤ nested x
 not_nested Yes x = omega arith
 not_nested No x = omega arith
 not_nested Open x = omega arith
 
-exists_nested : (k : Known) (v : Var) (t : Table) (x : Condition) → nested (fold_exists k v t x) ≤ suc (nested x)
+exists_nested : (k : KnownTruth) (v : Var) (t : Table) (x : Condition) → nested (fold_exists k v t x) ≤ suc (nested x)
 exists_nested No v t x = omega arith
 exists_nested Yes v t x = omega arith
 exists_nested Open v t x = omega arith

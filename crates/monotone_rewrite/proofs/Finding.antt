@@ -18,7 +18,7 @@ use Rattle.tap_rows.specs.Kept.{In}
 use Rattle.time_marks.specs.declared.mark.Step.{Step}
 use Rattle.time_marks.specs.declared.mark.Mark.{Mark}
 use Rattle.time_marks.specs.Marks.{copied, copy, copy_term, arrival_term, step_of, under_step, mark_if, marks, document_var, fixed_term, marks_from, rising_from, body}
-use Rattle.time_marks.specs.Probes.{choices, some_rows, come_by, fits, finds, found}
+use Rattle.time_marks.specs.Probes.{choices, some_rows, come_by, is_satisfied, finds, found}
 use Rattle.monotone_rewrite.specs.Query.{probe_of, unfolded}
 use Rattle.time_marks.specs.Laws.{Keeps, Same, Along, Crossed}
 use Rattle.time_marks.proofs.Orders.{is_value_of, value_is}
@@ -106,10 +106,10 @@ module _ (c : Condition) (a : ℤ) (q : IsQuery c) (T : Tables) (d : Doc) where
       let true_body = subst (λ t. truth T (pos 0) (body c t) k.final ≡ true) (sym f.is_copy) (body_truth T (pos 0) s f.term c (0 ∷ []) (asked_of d) k.final q (only_m k.final (k.keeps 0 (inl refl))) here ∙ y) in
       let guards = and_from _ _ (guards_hold (0 ∷ []) (asked_of d) k.final k.keeps (visible T s) s c q y) k.guards in
       let come' = along_come T d s k.mark.path (asked_of d) k.final k.along (and_from _ _ come refl) in
-      let fit : fits (probe_of c mark) T s k.final ≡ true = and_from _ _ (and_from _ _ (and_from _ _ guards (value_is _ s k.reaches)) come') true_body in
+      let fit : is_satisfied (probe_of c mark) T s k.final ≡ true = and_from _ _ (and_from _ _ (and_from _ _ guards (value_is _ s k.reaches)) come') true_body in
       in_any (finds T d s) (unfolded c a) (probe_of c mark)
       (in_map (probe_of c) (rising_from c a) mark (in_map (under_step (step_of document_var Docs c)) (marks_from c a) k.mark k.is_mark))
-      (or_left _ false (rows_pass T d s k.mark.path (asked_of d) k.final (fits (probe_of c mark) T s) f.apart k.along fit))
+      (or_left _ false (rows_pass T d s k.mark.path (asked_of d) k.final (is_satisfied (probe_of c mark) T s) f.apart k.along fit))
 
   -- a document that begins to be given is found in that second
   pub begins : (u s : ℤ) → s ≡ u +ℤ pos 1 → given c T d u ≡ false → given c T d s ≡ true → found (unfolded c a) T d s ≡ true
@@ -144,8 +144,8 @@ module _ (c : Condition) (a : ℤ) (q : IsQuery c) (T : Tables) (d : Doc) where
       let l = map_in (under_step step) (marks_from c a) k.0 k.1 in
       let f = fine_from c a q l.0 l.1 in
       let finds' : finds T d b (probe_of c (under_step step l.0)) ≡ true = subst (λ z. finds T d b z ≡ true) (k.2 ∙ ap (probe_of c) l.2) p.2 in
-      let some : some_rows T d l.0.path (asked_of d) (fits (probe_of c (under_step step l.0)) T b) ≡ true = elim (or_cases _ false finds') [ inl y ↦ y | inr n ↦ absurd (false≢true n) ] in
-      let e = some_pass T d b l.0.path (asked_of d) (fits (probe_of c (under_step step l.0)) T b) f.apart some in
+      let some : some_rows T d l.0.path (asked_of d) (is_satisfied (probe_of c (under_step step l.0)) T b) ≡ true = elim (or_cases _ false finds') [ inl y ↦ y | inr n ↦ absurd (false≢true n) ] in
+      let e = some_pass T d b l.0.path (asked_of d) (is_satisfied (probe_of c (under_step step l.0)) T b) f.apart some in
       let w = and_parts _ _ e.1 in
       let x = and_parts _ _ w.0 in
       let v = and_parts _ _ x.0 in

@@ -27,8 +27,8 @@ use Rattle.tql_core.specs.Holds.{truth}
 use Rattle.tql_core.specs.Scope.{BaseIn, NumIn, TextIn, AtomIn, Scoped}
 use Rattle.tap_rows.specs.Kept.{In}
 use Rattle.time_marks.specs.Marks.{copy_base, copy_term, body}
-use Rattle.monotone_rewrite.specs.Folding.{Known, Yes, No, Open, known, is_no, constant, same_base, is_there, fold_atom, fold_all, fold_either, fold_not, fold_exists, fold}
-use Rattle.time_marks.specs.Found.{Named}
+use Rattle.monotone_rewrite.specs.Folding.{KnownTruth, Yes, No, Open, known, is_no, constant, same_base, is_there, fold_atom, fold_all, fold_either, fold_not, fold_exists, fold}
+use Rattle.time_marks.specs.Found.{NamesInScope}
 use Rattle.time_marks.proofs.Lists.{any_same}
 use Rattle.time_marks.proofs.Envs.{bind_same, bind_other, base_stays}
 
@@ -42,7 +42,7 @@ no_is Always e = absurd cc
 no_is Never e = refl
 no_is _ e = absurd cc
 
-pub is_no_is : (k : Known) → is_no k ≡ true → k ≡ No
+pub is_no_is : (k : KnownTruth) → is_no k ≡ true → k ≡ No
 is_no_is No e = refl
 is_no_is _ e = absurd (false≢true e)
 
@@ -116,7 +116,7 @@ base_wider v scope Fixed i = tt
 base_wider v scope (ArrivalDay w n) i = inr i
 base_wider v scope (DateDay w n) i = inr i
 
-pub body_named : (at : Term) (c : Condition) (scope outer : List ℕ) → Scoped scope c → ((k : ℕ) → In k scope → In k outer) → BaseIn outer at.base → Named outer (body c at)
+pub body_named : (at : Term) (c : Condition) (scope outer : List ℕ) → Scoped scope c → ((k : ℕ) → In k scope → In k outer) → BaseIn outer at.base → NamesInScope outer (body c at)
 body_named at Always scope outer sc h b = tt
 body_named at Never scope outer sc h b = tt
 body_named at (Plain a) scope outer sc h b = atom_within scope outer h a sc
@@ -158,7 +158,7 @@ module _ (T : Tables) (n : ℤ) (e : Term) where
         | inr f ↦ rw f
       ]
 
-  all_truth : (k k' : Known) (l r : Condition) (env : Env) → known l ≡ k → known r ≡ k' → truth T n (fold_all k k' l r) env ≡ (truth T n l env && truth T n r env)
+  all_truth : (k k' : KnownTruth) (l r : Condition) (env : Env) → known l ≡ k → known r ≡ k' → truth T n (fold_all k k' l r) env ≡ (truth T n l env && truth T n r env)
   all_truth No k' l r env a b = rw (no_is l a)
   all_truth Yes k' l r env a b = rw (yes_is l a)
   all_truth Open No l r env a b = rw (no_is r b) (sym (and_false (truth T n l env)))
@@ -173,7 +173,7 @@ module _ (T : Tables) (n : ℤ) (e : Term) where
       and_true false = refl
   all_truth Open Open l r env a b = refl
 
-  either_truth : (k k' : Known) (l r : Condition) (env : Env) → known l ≡ k → known r ≡ k' → truth T n (fold_either k k' l r) env ≡ (truth T n l env || truth T n r env)
+  either_truth : (k k' : KnownTruth) (l r : Condition) (env : Env) → known l ≡ k → known r ≡ k' → truth T n (fold_either k k' l r) env ≡ (truth T n l env || truth T n r env)
   either_truth Yes k' l r env a b = rw (yes_is l a)
   either_truth No k' l r env a b = rw (no_is l a)
   either_truth Open Yes l r env a b = rw (yes_is r b) (sym (or_true (truth T n l env)))
@@ -188,7 +188,7 @@ module _ (T : Tables) (n : ℤ) (e : Term) where
       or_false false = refl
   either_truth Open Open l r env a b = refl
 
-  not_truth : (k : Known) (x : Condition) (env : Env) → known x ≡ k → truth T n (fold_not k x) env ≡ not (truth T n x env)
+  not_truth : (k : KnownTruth) (x : Condition) (env : Env) → known x ≡ k → truth T n (fold_not k x) env ≡ not (truth T n x env)
   not_truth Yes x env a = rw (yes_is x a)
   not_truth No x env a = rw (no_is x a)
   not_truth Open x env a = refl
@@ -197,13 +197,13 @@ module _ (T : Tables) (n : ℤ) (e : Term) where
   any_false [] = refl
   any_false (x ∷ xs) = any_false xs
 
-  exists_truth : (k : Known) (v : Var) (t : Table) (x : Condition) (env : Env) → known x ≡ k → truth T n (fold_exists k v t x) env ≡ truth T n (Exists v t x) env
+  exists_truth : (k : KnownTruth) (v : Var) (t : Table) (x : Condition) (env : Env) → known x ≡ k → truth T n (fold_exists k v t x) env ≡ truth T n (Exists v t x) env
   exists_truth Yes v t x env a = refl
   exists_truth Open v t x env a = refl
   exists_truth No v t x env a = rw (no_is x a) (sym (any_false (rows_of t T)))
 
   -- folding keeps the truth of a body if at is present
-  pub fold_truth : (x : Condition) (scope : List ℕ) (env : Env) → Named scope x → Bounds scope env → Present env → truth T n (fold (copy_term e) x) env ≡ truth T n x env
+  pub fold_truth : (x : Condition) (scope : List ℕ) (env : Env) → NamesInScope scope x → Bounds scope env → Present env → truth T n (fold (copy_term e) x) env ≡ truth T n x env
   fold_truth Always scope env na h p = refl
   fold_truth Never scope env na h p = refl
   fold_truth (Plain (Numbers x op y)) scope env na h p = refl

@@ -7,7 +7,7 @@ use Rattle.std.proofs.lemmas.Int.{ints}
 use Rattle.tap_rows.specs.declared.rows.Doc.{Doc}
 use Rattle.tql_core.specs.Condition.{Condition}
 use Rattle.tap_rows.specs.declared.tables.Tables.{Tables}
-use Rattle.tap_rows.specs.Results.{is_before, put_in, hit_of, in_order, at_least}
+use Rattle.tap_rows.specs.Results.{is_before, put_in, hit_of, hits_in_order, at_least}
 use Rattle.tql_core.specs.Holds.{truth_of}
 use Rattle.time_marks.proofs.Asked.{given, gives, first, count_between, union}
 use Rattle.tap_rows.specs.Seconds.{first_from}
@@ -60,14 +60,14 @@ put_out a (b ∷ bs) h i =
           elim j [ inl e ↦ inr (inl e) | inr k ↦ elim (put_out a bs h k) [ inl e ↦ inl e | inr l ↦ inr (inr l) ] ]
     ]
 
-in_ordered : (hs : List Hit) (h : Hit) → In h hs → In h (in_order hs)
+in_ordered : (hs : List Hit) (h : Hit) → In h hs → In h (hits_in_order hs)
 in_ordered [] h i = i
-in_ordered (a ∷ hs) h (inl e) = in_put a (in_order hs) h (inl e)
-in_ordered (a ∷ hs) h (inr i) = in_put a (in_order hs) h (inr (in_ordered hs h i))
+in_ordered (a ∷ hs) h (inl e) = in_put a (hits_in_order hs) h (inl e)
+in_ordered (a ∷ hs) h (inr i) = in_put a (hits_in_order hs) h (inr (in_ordered hs h i))
 
-ordered_in : (hs : List Hit) (h : Hit) → In h (in_order hs) → In h hs
+ordered_in : (hs : List Hit) (h : Hit) → In h (hits_in_order hs) → In h hs
 ordered_in [] h i = i
-ordered_in (a ∷ hs) h i = elim (put_out a (in_order hs) h i) [ inl e ↦ inl e | inr j ↦ inr (ordered_in hs h j) ]
+ordered_in (a ∷ hs) h i = elim (put_out a (hits_in_order hs) h i) [ inl e ↦ inl e | inr j ↦ inr (ordered_in hs h j) ]
 
 cons_in : (o : Option Hit) (hs : List Hit) (h : Hit) → In h hs → In h (cons_option o hs)
 cons_in None hs h i = i

@@ -15,7 +15,7 @@ use Rattle.tql_core.specs.Scope.{IsQuery}
 use Rattle.tap_rows.specs.Kept.{In}
 use Rattle.time_marks.specs.Probes.{found, least}
 use Rattle.monotone_rewrite.specs.Query.{unfolded}
-use Rattle.tap_rows.specs.Results.{hit_of, in_order, at_least}
+use Rattle.tap_rows.specs.Results.{hit_of, hits_in_order, at_least}
 use Rattle.monotone_rewrite.specs.Laws.{IsUnionOf}
 use Rattle.time_marks.proofs.Seconds.{first_same}
 use Rattle.monotone_rewrite.proofs.Finding.{begins, starts, found_given}
@@ -92,9 +92,9 @@ module _ (c : Condition) (a : ℤ) (q : IsQuery c) (start : pos 0 ≤ℤ a) (T :
 
 pub unfolded_is_union : (c : Condition) (a : ℤ) → IsQuery c → pos 0 ≤ℤ a → IsUnionOf c a (unfolded c a)
 unfolded_is_union c a q st = record {
-  whole = λ T t from. ap in_order (hits_same (λ d. least (unfolded c a) T d (record { low = a; high = t })) (λ d. at_least a (first c T d a t)) T.docs
+  whole = λ T t from. ap hits_in_order (hits_same (λ d. least (unfolded c a) T d (record { low = a; high = t })) (λ d. at_least a (first c T d a t)) T.docs
       (λ d i. first_whole c a q st T d (from d i) t ∙ sym (keep_all a (first c T d a t) (λ f y. (first_from-within (given c T d) (count_between a t) a f y).0))));
-  since = λ T tau t from h k. ap in_order (hits_without (λ d. is_some (first c T d a tau)) (λ d. least (unfolded c a) T d (record { low = tau; high = t })) T.docs
+  since = λ T tau t from h k. ap hits_in_order (hits_without (λ d. is_some (first c T d a tau)) (λ d. least (unfolded c a) T d (record { low = tau; high = t })) T.docs
       ∙ hits_same (λ d. none_if (is_some (first c T d a tau)) (least (unfolded c a) T d (record { low = tau; high = t }))) (λ d. at_least tau (first c T d a t)) T.docs
       (λ d i. first_since c a q st T d (from d i) tau t h k));
 }

@@ -10,7 +10,7 @@ use Rattle.tql_core.specs.declared.term.Base.TheVariants.{Arrival, Date, Fixed, 
 use Rattle.tql_core.specs.Condition.{Condition, Never}
 use Rattle.tql_core.specs.Row.{Row, OfDoc, arrival, date}
 use Rattle.tap_rows.specs.declared.tables.Tables.{Tables}
-use Rattle.tap_rows.specs.Results.{in_order}
+use Rattle.tap_rows.specs.Results.{hits_in_order}
 use Rattle.tql_core.specs.Values.{Env, bind, lookup, on_row, round_up_to_day, day_of, base_value, plus_to, value}
 use Rattle.tql_core.specs.Holds.{truth, asked_of}
 use Rattle.tql_core.specs.Scope.{BaseIn, IsQuery}
@@ -19,7 +19,7 @@ use Rattle.time_marks.specs.declared.mark.Step.{Step}
 use Rattle.time_marks.specs.declared.mark.Mark.{Mark}
 use Rattle.time_marks.specs.Marks.{copy_base, copy_term, step_of, under_step, document_var, marks_from, rising_from, body}
 use Rattle.monotone_rewrite.specs.Folding.{known, is_no, fold}
-use Rattle.time_marks.specs.Probes.{Probe, least, choices, some_rows, is_value, guards_true, come_by, fits, finds, found}
+use Rattle.time_marks.specs.Probes.{Probe, least, choices, some_rows, is_value, guards_true, come_by, is_satisfied, finds, found}
 use Rattle.time_marks.specs.Distinct.{same_probe, distinct_probes}
 use Rattle.time_marks.proofs.Repeats.{probe_is, distinct_found}
 use Rattle.monotone_rewrite.specs.Query.{fold_probe, can_find, probe_of, unfolded, window}
@@ -123,7 +123,7 @@ module _ (c : Condition) (a : ℤ) (q : IsQuery c) (T : Tables) (d : Doc) (b : �
   -- a probe finds the same after folding
   fold_finds : (mark : Mark) → Fine mark → finds T d b (fold_probe (probe_at c mark)) ≡ finds T d b (probe_at c mark)
   fold_finds mark f =
-      ap (λ y. y || false) (some_same T d mark.path (asked_of d) (fits (fold_probe (probe_at c mark)) T b) (fits (probe_at c mark) T b) f.apart (λ final e.
+      ap (λ y. y || false) (some_same T d mark.path (asked_of d) (is_satisfied (fold_probe (probe_at c mark)) T b) (is_satisfied (probe_at c mark) T b) f.apart (λ final e.
       and_last (guards_true (probe_at c mark).path final) (is_value (value mark.at final) b) (come_by b final) _ _ (λ y.
       let v = subst (λ t. value t final ≡ Some b) f.is_copy (is_value_of (value mark.at final) b y) in
       let z = base_there (base_value (copy_base f.term.base) final) f.term.plus b v in
@@ -136,7 +136,7 @@ module _ (c : Condition) (a : ℤ) (q : IsQuery c) (T : Tables) (d : Doc) (b : �
   never_finds : (p : Probe) → can_find p ≡ false → finds T d b p ≡ false
   never_finds p h =
       let never : p.body ≡ Never = no_is p.body (is_no_is (known p.body) (not-false (is_no (known p.body)) h)) in
-      some_never T d p.path [] (fits p T b) (λ final. and_never _ _ (ap (λ x. truth T (pos 0) x final) never))
+      some_never T d p.path [] (is_satisfied p T b) (λ final. and_never _ _ (ap (λ x. truth T (pos 0) x final) never))
 
   pub window_found : found (window c a) T d b ≡ found (unfolded c a) T d b
   window_found =
@@ -154,8 +154,8 @@ first_from_same p q (suc n) a h = rw (h a, first_from_same p q n (a +ℤ pos 1) 
 -- queries that find the same have the same meaning
 pub same_union : (c : Condition) (a : ℤ) (X Y : List Probe) → ((T : Tables) (d : Doc) (b : ℤ) → found X T d b ≡ found Y T d b) → IsUnionOf c a Y → IsUnionOf c a X
 same_union c a X Y h u = record {
-  whole = λ T t from. ap in_order (hits_same (λ d. least X T d (record { low = a; high = t })) (λ d. least Y T d (record { low = a; high = t })) T.docs (λ d i. first_from_same (found X T d) (found Y T d) (count_between a t) a (h T d))) ∙ u.whole T t from;
-  since = λ T tau t from g b. ap in_order (hits_same (λ d. least X T d (record { low = tau; high = t })) (λ d. least Y T d (record { low = tau; high = t })) (filter (λ d. not (is_some (first c T d a tau))) T.docs) (λ d i. first_from_same (found X T d) (found Y T d) (count_between tau t) tau (h T d))) ∙ u.since T tau t from g b;
+  whole = λ T t from. ap hits_in_order (hits_same (λ d. least X T d (record { low = a; high = t })) (λ d. least Y T d (record { low = a; high = t })) T.docs (λ d i. first_from_same (found X T d) (found Y T d) (count_between a t) a (h T d))) ∙ u.whole T t from;
+  since = λ T tau t from g b. ap hits_in_order (hits_same (λ d. least X T d (record { low = tau; high = t })) (λ d. least Y T d (record { low = tau; high = t })) (filter (λ d. not (is_some (first c T d a tau))) T.docs) (λ d i. first_from_same (found X T d) (found Y T d) (count_between tau t) tau (h T d))) ∙ u.since T tau t from g b;
 }
 
 pub window_is_union : WindowIsUnion

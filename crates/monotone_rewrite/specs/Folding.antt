@@ -12,17 +12,17 @@ use Rattle.tql_core.specs.Condition.{Condition, Always, Never, Plain, NowAtLeast
 use Rattle.tql_core.specs.Values.{compare}
 
 -- what is known of a condition: it is True, it is False, or neither
-pub data Known : Type 0 where
-  Yes : Known
-  No : Known
-  Open : Known
+pub data KnownTruth : Type 0 where
+  Yes : KnownTruth
+  No : KnownTruth
+  Open : KnownTruth
 
-abbrev pub known : Condition → Known
+abbrev pub known : Condition → KnownTruth
 known Always = Yes
 known Never = No
 known _ = Open
 
-abbrev pub is_no : Known → Bool
+abbrev pub is_no : KnownTruth → Bool
 is_no No = true
 is_no _ = false
 
@@ -53,26 +53,26 @@ fold_atom at (Texts x op y) = Plain (Texts x op y)
 fold_atom at (Has v f y) = Plain (Has v f y)
 fold_atom at (Times x op y) = if same_base x.base y.base && is_there at x.base then constant (compare op x.plus y.plus) else Plain (Times x op y)
 
-abbrev pub fold_all : Known → Known → Condition → Condition → Condition
+abbrev pub fold_all : KnownTruth → KnownTruth → Condition → Condition → Condition
 fold_all No k l r = Never
 fold_all Yes k l r = r
 fold_all Open No l r = Never
 fold_all Open Yes l r = l
 fold_all Open Open l r = All l r
 
-abbrev pub fold_either : Known → Known → Condition → Condition → Condition
+abbrev pub fold_either : KnownTruth → KnownTruth → Condition → Condition → Condition
 fold_either Yes k l r = Always
 fold_either No k l r = r
 fold_either Open Yes l r = Always
 fold_either Open No l r = l
 fold_either Open Open l r = Either l r
 
-abbrev pub fold_not : Known → Condition → Condition
+abbrev pub fold_not : KnownTruth → Condition → Condition
 fold_not Yes x = Never
 fold_not No x = Always
 fold_not Open x = Not x
 
-abbrev pub fold_exists : Known → Var → Table → Condition → Condition
+abbrev pub fold_exists : KnownTruth → Var → Table → Condition → Condition
 fold_exists No v t x = Never
 fold_exists Yes v t x = Exists v t x
 fold_exists Open v t x = Exists v t x

@@ -14,7 +14,7 @@ use tql_tree::Table;
 
 // What is known of a node: it is True, it is False, or neither.
 #[derive(Clone, Copy)]
-pub(crate) enum Kind {
+pub(crate) enum FoldedNode {
     Yes,
     No,
     Open,
@@ -34,14 +34,14 @@ pub(crate) fn shared(pool: &mut Pool<TNode>, node: TNode) -> Result<NodeId, Memo
 }
 
 // Returns what is known of the node of this number.
-pub(crate) fn kind_of(pool: &Pool<TNode>, id: NodeId) -> Kind
+pub(crate) fn kind_of(pool: &Pool<TNode>, id: NodeId) -> FoldedNode
     requires { IsPlaceOf pool.now id.0 }
     ensures { kind_is result ≡ known (tree_at pool.now id.0) }
 {
     match pool.get(id) {
-        TNode::True => Kind::Yes,
-        TNode::False => Kind::No,
-        _ => Kind::Open,
+        TNode::True => FoldedNode::Yes,
+        TNode::False => FoldedNode::No,
+        _ => FoldedNode::Open,
     }
 }
 
@@ -66,10 +66,10 @@ pub(crate) fn shared_all(pool: &mut Pool<TNode>, l: NodeId, r: NodeId) -> Result
         (tree_at pool.old r.0))) }
 {
     match (kind_of(pool, l), kind_of(pool, r)) {
-        (Kind::No, _) => shared(pool, TNode::False),
-        (Kind::Yes, _) => Ok(r),
-        (_, Kind::No) => shared(pool, TNode::False),
-        (_, Kind::Yes) => Ok(l),
+        (FoldedNode::No, _) => shared(pool, TNode::False),
+        (FoldedNode::Yes, _) => Ok(r),
+        (_, FoldedNode::No) => shared(pool, TNode::False),
+        (_, FoldedNode::Yes) => Ok(l),
         _ => shared(pool, TNode::All(l, r)),
     }
 }
@@ -83,10 +83,10 @@ pub(crate) fn shared_either(pool: &mut Pool<TNode>, l: NodeId, r: NodeId) -> Res
         (tree_at pool.old r.0))) }
 {
     match (kind_of(pool, l), kind_of(pool, r)) {
-        (Kind::Yes, _) => shared(pool, TNode::True),
-        (Kind::No, _) => Ok(r),
-        (_, Kind::Yes) => shared(pool, TNode::True),
-        (_, Kind::No) => Ok(l),
+        (FoldedNode::Yes, _) => shared(pool, TNode::True),
+        (FoldedNode::No, _) => Ok(r),
+        (_, FoldedNode::Yes) => shared(pool, TNode::True),
+        (_, FoldedNode::No) => Ok(l),
         _ => shared(pool, TNode::Either(l, r)),
     }
 }
@@ -98,9 +98,9 @@ pub(crate) fn shared_not(pool: &mut Pool<TNode>, x: NodeId) -> Result<NodeId, Me
     ensures tree { IfOk result (λ id. IsTreeAt pool.new id.0 (fold_not (known (tree_at pool.old x.0)) (tree_at pool.old x.0))) }
 {
     match kind_of(pool, x) {
-        Kind::Yes => shared(pool, TNode::False),
-        Kind::No => shared(pool, TNode::True),
-        Kind::Open => shared(pool, TNode::Not(x)),
+        FoldedNode::Yes => shared(pool, TNode::False),
+        FoldedNode::No => shared(pool, TNode::True),
+        FoldedNode::Open => shared(pool, TNode::Not(x)),
     }
 }
 
@@ -116,7 +116,7 @@ pub(crate) fn shared_exists(
     ensures tree { IfOk result (λ id. IsTreeAt pool.new id.0 (fold_exists (known (tree_at pool.old x.0)) var table (tree_at pool.old x.0))) }
 {
     match kind_of(pool, x) {
-        Kind::No => shared(pool, TNode::False),
+        FoldedNode::No => shared(pool, TNode::False),
         _ => shared(pool, TNode::Exists(var, table, x)),
     }
 }

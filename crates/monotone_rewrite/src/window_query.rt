@@ -13,7 +13,7 @@ ghost use Rattle.monotone_rewrite.specs.Query.{can_find, fold_probe, probe_of, w
 ghost use Rattle.monotone_rewrite.specs.Laws.{IsUnionOf, AreProbes};
 
 use crate::folded::folded_body;
-use crate::shared::{Kind, kind_of};
+use crate::shared::{FoldedNode, kind_of};
 use node_pool::{NodeId, Pool};
 use std::alloc::Global;
 use tap_base::{Memory, Rows};
@@ -26,7 +26,7 @@ fn can_find(pool: &Pool<TNode>, body: NodeId) -> bool
     ensures { result ≡ not (is_no (known (tree_at pool.now body.0))) }
 {
     match kind_of(pool, body) {
-        Kind::No => false,
+        FoldedNode::No => false,
         _ => true,
     }
 }

@@ -5,7 +5,7 @@ use Rattle.std.specs.Io.KnownBytes.{IsAtEnd}
 use Rattle.tap_rows.specs.declared.tables.Tables.{Tables}
 use Rattle.tap_top.specs.Premises.{IfKnown}
 use Rattle.pop_session.specs.declared.letter.Letter.{Letter}
-use Rattle.pop_session.specs.Ends.{IsSession, LettersEnd, IsUpToDate}
+use Rattle.pop_session.specs.Ends.{IsSession, LettersEnd, IsSessionUpToDate}
 use Rattle.peer_edges.specs.Asks.{AskedOnlyWhen}
 use Rattle.peer_edges.proofs.Asks.{asked_as}
 use Rattle.pop_box.specs.Prompt.{IsBoxUpToDate, AskedUpToDate}
@@ -139,9 +139,9 @@ pub served-not-two : (status : ℕ) → IsSession status ⊎ ((status ≡ 7) ⊎
 served-not-two status one is = grind (arith, one, is)
 
 up-as : (letters letters' : List Letter) (found : Option (List Letter)) (user secret : List ℕ) (left left' out out' : Option (List ℕ))
-    → letters' ≡ letters → Some letters ≡ found → IsUpToDate user secret letters' left left' out out' → IsBoxUpToDate found user secret left left' out out'
+    → letters' ≡ letters → Some letters ≡ found → IsSessionUpToDate user secret letters' left left' out out' → IsBoxUpToDate found user secret left left' out out'
 up-as letters letters' found user secret left left' out out' same is now =
-    subst (λ f. IsBoxUpToDate f user secret left left' out out') is (subst (λ x. IsUpToDate user secret x left left' out out') same now)
+    subst (λ f. IsBoxUpToDate f user secret left left' out out') is (subst (λ x. IsSessionUpToDate user secret x left left' out out') same now)
 
 -- when the source was asked, with the words' own user, box and secret
 pub asked-words : (t : Tables) (user user' name name' secret secret' : List ℕ) (left out : Option (List ℕ)) (asked asked' : Option (List ℕ) → Option (List ℕ) → Type 0)
@@ -155,8 +155,8 @@ asked-words t user user' name name' secret secret' left out asked asked' u n s a
 -- when it was asked, over the letters of the box of this user and name
 pub asked-letters : (letters letters' : List Letter) (t : Tables) (user user' name name' secret secret' : List ℕ) (left out : Option (List ℕ)) (asked asked' : Option (List ℕ) → Option (List ℕ) → Type 0)
     → user ≡ user' → name ≡ name' → secret ≡ secret' → letters' ≡ letters → Some letters ≡ letters_in user name t
-    → AskedOnlyWhen (λ l o. IsUpToDate user secret letters' left l out o) asked asked' → AskedUpToDate (letters_in user' name' t) user' secret' left out asked asked'
+    → AskedOnlyWhen (λ l o. IsSessionUpToDate user secret letters' left l out o) asked asked' → AskedUpToDate (letters_in user' name' t) user' secret' left out asked asked'
 asked-letters letters letters' t user user' name name' secret secret' left out asked asked' u n s same is asks =
     asked-words t user user' name name' secret secret' left out asked asked' u n s
-    (asked_as (λ l o. IsUpToDate user secret letters' left l out o) (λ l o. IsBoxUpToDate (letters_in user name t) user secret left l out o) asked asked'
+    (asked_as (λ l o. IsSessionUpToDate user secret letters' left l out o) (λ l o. IsBoxUpToDate (letters_in user name t) user secret left l out o) asked asked'
     (λ l o now. up-as letters letters' (letters_in user name t) user secret left l out o same is now) asks)

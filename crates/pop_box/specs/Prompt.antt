@@ -2,13 +2,13 @@
 use Rattle.std.specs.Prelude.{ℕ, List, Option, Some, None}
 use Rattle.peer_edges.specs.Asks.{AskedOnlyWhen}
 use Rattle.pop_session.specs.declared.letter.Letter.{Letter}
-use Rattle.pop_session.specs.Ends.{IsUpToDate}
+use Rattle.pop_session.specs.Ends.{IsSessionUpToDate}
 
 -- the box was found, and the session over its letters goes on: the greeting and the replies to the bytes taken so far were put
 abbrev pub IsBoxUpToDate : Option (List Letter) → List ℕ → List ℕ
     → Option (List ℕ) → Option (List ℕ) → Option (List ℕ) → Option (List ℕ) → Type 0
 IsBoxUpToDate None user secret left left' out out' = ⊥
-IsBoxUpToDate (Some letters) user secret left left' out out' = IsUpToDate user secret letters left left' out out'
+IsBoxUpToDate (Some letters) user secret left left' out out' = IsSessionUpToDate user secret letters left left' out out'
 
 -- the source was asked for more only while the session was up to date
 abbrev pub AskedUpToDate : Option (List Letter) → List ℕ → List ℕ → Option (List ℕ) → Option (List ℕ)

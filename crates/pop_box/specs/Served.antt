@@ -4,14 +4,14 @@ use Rattle.std.specs.Io.KnownBytes.{Appends}
 use Rattle.tap_rows.specs.declared.tables.Tables.{Tables}
 use Rattle.tap_top.specs.Premises.{IfKnown}
 use Rattle.pop_session.specs.declared.letter.Letter.{Letter}
-use Rattle.pop_session.specs.Letters.{line}
+use Rattle.pop_session.specs.Letters.{crlf_line}
 use Rattle.pop_session.specs.declared.hold.TheConstants.{SESSION_LIMIT, PIECE}
 use Rattle.pop_session.specs.Sessions.{has_quit}
-use Rattle.pop_session.specs.Ends.{IsSession, LettersEnd, Taken}
+use Rattle.pop_session.specs.Ends.{IsSession, LettersEnd, TookBytes}
 
 -- the line that says that there is no such box
 abbrev pub box_line : List ℕ
-box_line = line (codes "-ERR box")
+box_line = crlf_line (codes "-ERR box")
 
 -- of the line the first n bytes were put, all of them with status 9
 pub record BoxLine (status : ℕ) (out out' : Option (List ℕ)) : Type 0 where
@@ -42,8 +42,8 @@ abbrev pub IsUnserved : ℕ → Type 0
 IsUnserved status = (status ≡ 2) ⊎ ((status ≡ 5) ⊎ ((status ≡ 6) ⊎ (status ≡ 7)))
 
 -- the status of a run that no fault cut off
-abbrev pub IsUndisturbed : ℕ → Type 0
-IsUndisturbed status = (status ≤ 1) ⊎ ((status ≡ 6) ⊎ ((status ≡ 7) ⊎ ((status ≡ 8) ⊎ (status ≡ 9))))
+abbrev pub IsUndisturbedSession : ℕ → Type 0
+IsUndisturbedSession status = (status ≤ 1) ⊎ ((status ≡ 6) ⊎ ((status ≡ 7) ⊎ ((status ≡ 8) ⊎ (status ≡ 9))))
 
 -- over the store of tables in which the letters of the box are these: with a status that says that nothing was served,
 -- nothing was read, and nothing was written unless the store was refused; else the box was served. Status 4 also comes if
@@ -57,7 +57,7 @@ pub record Served (status : ℕ) (found : Option (List Letter)) (user secret : L
 
 -- an accepted QUIT of this user and secret is among the bytes that were taken
 pub record TookQuit (user secret : List ℕ) (left left' : Option (List ℕ)) : Type 0 where
-  pub taken : Taken left left'
+  pub taken : TookBytes left left'
   pub quit : has_quit (take SESSION_LIMIT taken.bytes) user secret ≡ true
 
 -- the tables are unchanged: a crash leaves them alone, and unless the keeper failed it tells them
@@ -66,6 +66,6 @@ pub record Unchanged (status : ℕ) (tables : Tables) (tells leaves : Tables →
   pub told : status ≢ 5 → tells tables
 
 -- the sizes that definitions name by a constant, as numbers: the most bytes of a session and of one read
-pub record ConstantSizes : Type 0 where
+pub record SessionSizes : Type 0 where
   pub session : SESSION_LIMIT ≡ 268435456
   pub piece : PIECE ≡ 65536

@@ -6,7 +6,7 @@ ghost use Rattle.std.specs.Io.KnownBytes.{IsAtEnd};
 ghost use Rattle.clap.specs.Words.{takes, fault_of as faults_of};
 ghost use Rattle.command_words.specs.PopOptions.{pop_app};
 ghost use Rattle.command_words.specs.PopWords.{pop_place_in, user_in, box_in, secret_in, IsPopWorded};
-ghost use Rattle.command_words.specs.WellWorded.{place_of};
+ghost use Rattle.command_words.specs.WellWorded.{path_or_default};
 ghost use Rattle.tap_base.specs.Counts.{Rose};
 ghost use Rattle.keeper_core.specs.States.{IsFree, IsPlacedUnless, IsPlacedBy};
 ghost use Rattle.tap_rows.specs.declared.tables.Tables.{Tables};
@@ -18,9 +18,9 @@ ghost use Rattle.tap_top.specs.Opened.{HasShortTexts};
 ghost use Rattle.tap_top.specs.Causes.{Causes};
 ghost use Rattle.pop_box.specs.Letters.{letters_in};
 ghost use Rattle.tap_engine.specs.Standing.{OverSound};
-ghost use Rattle.pop_session.specs.Ends.{IsSession, TookMany};
+ghost use Rattle.pop_session.specs.Ends.{IsSession, PassedSessionLimit};
 ghost use Rattle.pop_box.specs.Prompt.{AskedUpToDate};
-ghost use Rattle.pop_box.specs.Served.{LettersServed, Served, TookQuit, Unchanged, IsUndisturbed};
+ghost use Rattle.pop_box.specs.Served.{LettersServed, Served, TookQuit, Unchanged, IsUndisturbedSession};
 
 use crate::letters::letters_from;
 use crate::no_box::refuse_box;
@@ -56,7 +56,7 @@ fn serve_with<S: Peer<K>, K: Sink, L: Ledger>(
     ensures read_calm { result ≢ 3 → S.faults source.new ≡ S.faults source.old }
     ensures put_cause { result ≡ 4 → Rose (K.faults sink.old) (K.faults sink.new) }
     ensures put_calm { result ≢ 4 → K.faults sink.new ≡ K.faults sink.old }
-    ensures many { result ≡ 8 → TookMany (S.left source.old) (S.left source.new) }
+    ensures many { result ≡ 8 → PassedSessionLimit (S.left source.old) (S.left source.new) }
     ensures quit { result ≡ 0 → TookQuit asked.now.user asked.now.secret (S.left source.old) (S.left source.new) }
     ensures ended { result ≡ 1 → IsAtEnd (S.left source.new) }
 {
@@ -99,11 +99,11 @@ fn serve_box<S: Peer<K>, K: Sink, P: Keeper, L: Ledger>(
         (S.left source.old) (S.left source.new) (K.out sink.old) (K.out sink.new) }
     ensures causes { Causes result (S.faults source.old) (S.faults source.new) (K.faults sink.old) (K.faults sink.new)
         (P.faults keeper.old) (P.faults keeper.new) (P.stopped keeper.new) }
-    ensures many { result ≡ 8 → TookMany (S.left source.old) (S.left source.new) }
+    ensures many { result ≡ 8 → PassedSessionLimit (S.left source.old) (S.left source.new) }
     ensures quit { result ≡ 0 → TookQuit asked.now.user asked.now.secret (S.left source.old) (S.left source.new) }
     ensures ended { result ≡ 1 → IsAtEnd (S.left source.new) }
     ensures complete { IfCalm (S.faults source.old) (S.faults source.new)
-        (K.faults sink.old) (K.faults sink.new) (P.faults keeper.old) (P.faults keeper.new) (IsUndisturbed result) }
+        (K.faults sink.old) (K.faults sink.new) (P.faults keeper.old) (P.faults keeper.new) (IsUndisturbedSession result) }
     ensures statuses { (result ≤ 9) × (result ≢ 2) }
     ensures place { IsPlacedUnless (result ≡ 7) (P.place keeper.old) (P.place keeper.new) asked.now.place }
 {
@@ -153,7 +153,7 @@ pub fn serve<S: Peer<K>, K: Sink, P: Keeper, L: Ledger>(
         (keeper.new ≡ keeper.old) × ((K.out sink.new ≡ K.out sink.old) × (S.left source.new ≡ S.left source.old)) }
     ensures place { IsPlacedBy result (P.place keeper.old) (P.place keeper.new) (pop_place_in words.now) }
     ensures named { (path : Option (List ℕ)) (user name secret : List ℕ) → IsPopWorded words.now path user name secret →
-        (pop_place_in words.now ≡ place_of path) × ((user_in words.now ≡ user) × ((box_in words.now ≡ name) × (secret_in words.now ≡ secret))) }
+        (pop_place_in words.now ≡ path_or_default path) × ((user_in words.now ≡ user) × ((box_in words.now ≡ name) × (secret_in words.now ≡ secret))) }
 
     // A box of a store that a session left: how it was served, by the status.
     ensures session { FromStore P.Keeper keeper.old keeper.new (λ t.
@@ -180,12 +180,12 @@ pub fn serve<S: Peer<K>, K: Sink, P: Keeper, L: Ledger>(
     // When each status comes.
     ensures causes { Causes result (S.faults source.old) (S.faults source.new) (K.faults sink.old) (K.faults sink.new)
         (P.faults keeper.old) (P.faults keeper.new) (P.stopped keeper.new) }
-    ensures many { result ≡ 8 → TookMany (S.left source.old) (S.left source.new) }
+    ensures many { result ≡ 8 → PassedSessionLimit (S.left source.old) (S.left source.new) }
     ensures quit { result ≡ 0 → TookQuit (user_in words.now) (secret_in words.now) (S.left source.old) (S.left source.new) }
     ensures ended { result ≡ 1 → IsAtEnd (S.left source.new) }
     ensures complete { (path : Option (List ℕ)) (user name secret : List ℕ) → IsPopWorded words.now path user name secret →
         IfCalm (S.faults source.old) (S.faults source.new) (K.faults sink.old) (K.faults sink.new)
-        (P.faults keeper.old) (P.faults keeper.new) (IsUndisturbed result) }
+        (P.faults keeper.old) (P.faults keeper.new) (IsUndisturbedSession result) }
     ensures statuses { result ≤ 9 }
 {
     let asked = match read_pop_words(alloc, words) {

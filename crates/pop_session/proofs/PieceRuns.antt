@@ -14,10 +14,10 @@ use Rattle.pop_session.specs.declared.hold.TheConstants.{SESSION_LIMIT, PIECE}
 use Rattle.pop_session.specs.declared.letter.Letter.{Letter}
 use Rattle.pop_session.specs.Replies.{greeting}
 use Rattle.pop_session.specs.Requests.{requests}
-use Rattle.pop_session.specs.Sessions.{Session, replies_from, quits_from, replies_to, phase_after, is_ended}
+use Rattle.pop_session.specs.Sessions.{PopSessionState, replies_from, quits_from, replies_to, phase_after, is_ended}
 use Rattle.pop_session.specs.Laws.{RepliesGrow}
 use Rattle.pop_session.specs.declared.outcome.Phase.TheVariants.{Authorization}
-use Rattle.pop_session.specs.Ends.{IsFront, Taken, TookMany, QuitEnd, OpenEnd, LongEnd, PutEnd, SessionEnds}
+use Rattle.pop_session.specs.Ends.{IsFront, TookBytes, PassedSessionLimit, QuitEnd, OpenEnd, LongEnd, PutEnd, SessionEnds}
 
 -- the bytes taken so far
 pub record Taking (left left' : Option (List ℕ)) (taken : ℕ) : Type 0 where
@@ -118,7 +118,7 @@ looked : (left left' : Option (List ℕ)) (taken n room : ℕ) (piece : List ℕ
 looked left left' taken n room piece t le is =
     fits SESSION_LIMIT t.bytes piece n room (subst (λ k. k ≤ SESSION_LIMIT) t.count le) (is ∙ ap (λ k. min n (SESSION_LIMIT - k)) t.count)
 
-taken-of : (left left' : Option (List ℕ)) (taken : ℕ) → Taking left left' taken → taken ≤ SESSION_LIMIT + PIECE → Taken left left'
+taken-of : (left left' : Option (List ℕ)) (taken : ℕ) → Taking left left' taken → taken ≤ SESSION_LIMIT + PIECE → TookBytes left left'
 taken-of left left' taken t few = record { bytes = t.bytes; taken = t.consumed; few = subst (λ n. n ≤ SESSION_LIMIT + PIECE) t.count few }
 
 pub few-taken : (taken n : ℕ) → taken ≤ SESSION_LIMIT → n ≤ PIECE → taken + n ≤ SESSION_LIMIT + PIECE
@@ -217,7 +217,7 @@ none-taken a b n piece e took = subst (λ k. Consumes a b (take k piece)) e took
 
 -- more bytes were taken than a session looks at
 pub many-taken : (left mid : Option (List ℕ)) (taken : ℕ)
-    → Taking left mid taken → SESSION_LIMIT < taken → taken ≤ SESSION_LIMIT + PIECE → TookMany left mid
+    → Taking left mid taken → SESSION_LIMIT < taken → taken ≤ SESSION_LIMIT + PIECE → PassedSessionLimit left mid
 unfolding taken-of
 many-taken left mid taken t many few = record { taken = taken-of left mid taken t few; many = subst (λ n. SESSION_LIMIT < n) t.count many }
 
@@ -361,21 +361,21 @@ cancel (x ∷ xs) ys zs e = cancel xs ys zs (tail e) where
   tail e = cc
 
 -- the replies of a session that begins, and whether it ends
-begun-replies : (s : Session)
+begun-replies : (s : PopSessionState)
     → s.front ≡ [] → s.phase ≡ Authorization → (rest : List ℕ)
     → replies_from s rest ≡ replies_to s.user s.secret s.letters Authorization (requests rest)
 begun-replies s front phase rest =
     ap (λ xs. replies_to s.user s.secret s.letters s.phase (requests (xs ++ rest))) front ∙ ap (λ p. replies_to s.user s.secret s.letters p (requests rest)) phase
 
-pub begun-none : (s : Session) → s.front ≡ [] → s.phase ≡ Authorization → replies_from s [] ≡ []
+pub begun-none : (s : PopSessionState) → s.front ≡ [] → s.phase ≡ Authorization → replies_from s [] ≡ []
 begun-none s front phase = begun-replies s front phase []
 
-pub begun-open : (s : Session) → s.front ≡ [] → s.phase ≡ Authorization → quits_from s [] ≡ false
+pub begun-open : (s : PopSessionState) → s.front ≡ [] → s.phase ≡ Authorization → quits_from s [] ≡ false
 begun-open s front phase =
     ap (λ xs. is_ended (phase_after s.user s.secret s.phase (requests (xs ++ [])))) front ∙ ap (λ p. is_ended (phase_after s.user s.secret p (requests []))) phase
 
 -- the replies of a session that begins grow with the bytes
-pub begun-grows : (s : Session) → s.front ≡ [] → s.phase ≡ Authorization → RepliesGrow → Grows (replies_from s)
+pub begun-grows : (s : PopSessionState) → s.front ≡ [] → s.phase ≡ Authorization → RepliesGrow → Grows (replies_from s)
 begun-grows s front phase law a b =
     let grown = law a b s.user s.secret s.letters in
     let from : List ℕ → List ℕ = λ bytes. replies_to s.user s.secret s.letters Authorization (requests bytes) in

@@ -10,12 +10,12 @@ use Rattle.mail_lines.specs.Lines.{is_end, without_end, NoEnd}
 use Rattle.mail_lines.proofs.Ends.{glue, has_first, parts-front, parts-line, NoEnd-append, NoEnd-take, NoEnd-front}
 use Rattle.pop_session.specs.declared.letter.Letter.{Letter}
 use Rattle.pop_session.specs.declared.outcome.Phase.{Phase}
-use Rattle.pop_session.specs.declared.reply.Refusal.TheVariants.{Long}
-use Rattle.pop_session.specs.Requests.{requests, outcome_of, refused}
-use Rattle.pop_session.specs.Replies.{reply_bytes}
-use Rattle.pop_session.specs.Sessions.{replies_to, phase_after, is_ended, grown}
+use Rattle.pop_session.specs.declared.reply.PopRefusal.TheVariants.{Long}
+use Rattle.pop_session.specs.Requests.{requests, outcome_of, refused_request}
+use Rattle.pop_session.specs.Replies.{pop_reply_bytes}
+use Rattle.pop_session.specs.Sessions.{replies_to, phase_after, is_ended, request_grown}
 
-pub NoEnd-grown : (front bytes : List ℕ) → NoEnd front → NoEnd bytes → NoEnd (grown front bytes)
+pub NoEnd-grown : (front bytes : List ℕ) → NoEnd front → NoEnd bytes → NoEnd (request_grown front bytes)
 NoEnd-grown front bytes a b = NoEnd-append front (take (513 - length front) bytes) a (NoEnd-take (513 - length front) bytes b)
 
 -- no request is complete without an LF
@@ -29,7 +29,7 @@ requests-line line rest none = let h = has_first rest in rw (parts-line line res
 
 -- a request that is too long
 outcome-long : (user secret : List ℕ) (phase : Phase) (part more : List ℕ)
-    → 512 < length part → outcome_of user secret phase (part ++ more) ≡ refused phase Long
+    → 512 < length part → outcome_of user secret phase (part ++ more) ≡ refused_request phase Long
 outcome-long user secret phase part more lt = let e : nat_le (length (part ++ more)) 512 ≡ false = grind (arith, common_steps) in rw e refl
 
 -- what is said of requests and doesn't tell two that are too long
@@ -38,7 +38,7 @@ Same f = (a b more : List ℕ) (rest : List (List ℕ)) → 512 < length a → 5
 
 same-replies : (user secret : List ℕ) (letters : List Letter) (phase : Phase) → Same (replies_to user secret letters phase)
 same-replies user secret letters phase a b more rest la lb =
-    ap (λ o. if is_ended phase then [] else reply_bytes letters o.reply ++ replies_to user secret letters o.phase rest) (outcome-long user secret phase a more la ∙ sym (outcome-long user secret phase b more lb))
+    ap (λ o. if is_ended phase then [] else pop_reply_bytes letters o.reply ++ replies_to user secret letters o.phase rest) (outcome-long user secret phase a more la ∙ sym (outcome-long user secret phase b more lb))
 
 same-phases : (user secret : List ℕ) (phase : Phase) → Same (phase_after user secret phase)
 same-phases user secret phase a b more rest la lb =
@@ -55,7 +55,7 @@ long-same f same a b rest na nb la lb =
       go part [] = refl
       go part (other ∷ more) = same a b part (without_end (other ∷ more)) la lb
 
-grown-long : (front bytes : List ℕ) → 513 - length front < length bytes → 512 < length (grown front bytes)
+grown-long : (front bytes : List ℕ) → 513 - length front < length bytes → 512 < length (request_grown front bytes)
 grown-long front bytes lt = grind (arith, common_steps)
 
 whole-long : (front bytes : List ℕ) → 513 - length front < length bytes → 512 < length (front ++ bytes)
@@ -64,22 +64,22 @@ whole-long front bytes lt = grind (arith, common_steps)
 -- the front that a session holds serves as the open request does
 grown-same : {A : Type 0} (f : List (List ℕ) → A)
     → Same f → (front bytes rest : List ℕ) → NoEnd front → NoEnd bytes
-    → f (requests (front ++ bytes ++ rest)) ≡ f (requests (grown front bytes ++ rest))
+    → f (requests (front ++ bytes ++ rest)) ≡ f (requests (request_grown front bytes ++ rest))
 grown-same f same front bytes rest nf nb = go (cases_lt (513 - length front) (length bytes)) where
-  go : (513 - length front < length bytes) ⊎ (length bytes ≤ 513 - length front) → f (requests ((front ++ bytes) ++ rest)) ≡ f (requests (grown front bytes ++ rest))
-  go (inl lt) = long-same f same (front ++ bytes) (grown front bytes) rest (NoEnd-append front bytes nf nb) (NoEnd-grown front bytes nf nb) (whole-long front bytes lt) (grown-long front bytes lt)
+  go : (513 - length front < length bytes) ⊎ (length bytes ≤ 513 - length front) → f (requests ((front ++ bytes) ++ rest)) ≡ f (requests (request_grown front bytes ++ rest))
+  go (inl lt) = long-same f same (front ++ bytes) (request_grown front bytes) rest (NoEnd-append front bytes nf nb) (NoEnd-grown front bytes nf nb) (whole-long front bytes lt) (grown-long front bytes lt)
   go (inr le) = rw (take_all (513 - length front) bytes le) refl
 
 pub grown-replies : (user secret : List ℕ) (letters : List Letter) (phase : Phase) (front bytes rest : List ℕ)
     → NoEnd front → NoEnd bytes
-    → replies_to user secret letters phase (requests (front ++ (bytes ++ rest))) ≡ replies_to user secret letters phase (requests (grown front bytes ++ rest))
+    → replies_to user secret letters phase (requests (front ++ (bytes ++ rest))) ≡ replies_to user secret letters phase (requests (request_grown front bytes ++ rest))
 grown-replies user secret letters phase front bytes rest nf nb =
     ap (λ xs. replies_to user secret letters phase (requests xs)) (sym (append_assoc front bytes rest))
     ∙ grown-same (replies_to user secret letters phase) (same-replies user secret letters phase) front bytes rest nf nb
 
 pub grown-phases : (user secret : List ℕ) (phase : Phase) (front bytes rest : List ℕ)
     → NoEnd front → NoEnd bytes
-    → phase_after user secret phase (requests (front ++ (bytes ++ rest))) ≡ phase_after user secret phase (requests (grown front bytes ++ rest))
+    → phase_after user secret phase (requests (front ++ (bytes ++ rest))) ≡ phase_after user secret phase (requests (request_grown front bytes ++ rest))
 grown-phases user secret phase front bytes rest nf nb =
     ap (λ xs. phase_after user secret phase (requests xs)) (sym (append_assoc front bytes rest))
     ∙ grown-same (phase_after user secret phase) (same-phases user secret phase) front bytes rest nf nb
@@ -97,30 +97,30 @@ sides piece rest n e lt = ap (λ xs. xs ++ rest) (with_end piece n e lt) ∙ app
 -- the replies to a piece up to its first LF: one reply, and those to what follows
 pub cut-replies : (user secret : List ℕ) (letters : List Letter) (phase : Phase) (front piece rest : List ℕ) (n : ℕ)
     → NoEnd front → n ≡ position_or_len is_end piece → n < length piece → is_ended phase ≡ false
-    → replies_to user secret letters phase (requests (front ++ (take (n + 1) piece ++ rest))) ≡ reply_bytes letters (outcome_of user secret phase (grown front (take n piece))).reply ++ replies_to user secret letters (outcome_of user secret phase (grown front (take n piece))).phase (requests rest)
+    → replies_to user secret letters phase (requests (front ++ (take (n + 1) piece ++ rest))) ≡ pop_reply_bytes letters (outcome_of user secret phase (request_grown front (take n piece))).reply ++ replies_to user secret letters (outcome_of user secret phase (request_grown front (take n piece))).phase (requests rest)
 cut-replies user secret letters phase front piece rest n none e lt going =
     ap (λ xs. replies_to user secret letters phase (requests (front ++ xs))) (sides piece rest n e lt)
     ∙ grown-replies user secret letters phase front (take n piece) (10 ∷ rest) none (NoEnd-front piece n e)
-    ∙ ap (replies_to user secret letters phase) (requests-line (grown front (take n piece)) rest (NoEnd-grown front (take n piece) none (NoEnd-front piece n e)))
-    ∙ ap (λ b. if b then [] else reply_bytes letters (outcome_of user secret phase (grown front (take n piece))).reply ++ replies_to user secret letters (outcome_of user secret phase (grown front (take n piece))).phase (requests rest)) going
+    ∙ ap (replies_to user secret letters phase) (requests-line (request_grown front (take n piece)) rest (NoEnd-grown front (take n piece) none (NoEnd-front piece n e)))
+    ∙ ap (λ b. if b then [] else pop_reply_bytes letters (outcome_of user secret phase (request_grown front (take n piece))).reply ++ replies_to user secret letters (outcome_of user secret phase (request_grown front (take n piece))).phase (requests rest)) going
 
 pub cut-phases : (user secret : List ℕ) (phase : Phase) (front piece rest : List ℕ) (n : ℕ)
     → NoEnd front → n ≡ position_or_len is_end piece → n < length piece → is_ended phase ≡ false
-    → phase_after user secret phase (requests (front ++ (take (n + 1) piece ++ rest))) ≡ phase_after user secret (outcome_of user secret phase (grown front (take n piece))).phase (requests rest)
+    → phase_after user secret phase (requests (front ++ (take (n + 1) piece ++ rest))) ≡ phase_after user secret (outcome_of user secret phase (request_grown front (take n piece))).phase (requests rest)
 cut-phases user secret phase front piece rest n none e lt going =
     ap (λ xs. phase_after user secret phase (requests (front ++ xs))) (sides piece rest n e lt)
     ∙ grown-phases user secret phase front (take n piece) (10 ∷ rest) none (NoEnd-front piece n e)
-    ∙ ap (phase_after user secret phase) (requests-line (grown front (take n piece)) rest (NoEnd-grown front (take n piece) none (NoEnd-front piece n e)))
-    ∙ ap (λ b. if b then phase else phase_after user secret (outcome_of user secret phase (grown front (take n piece))).phase (requests rest)) going
+    ∙ ap (phase_after user secret phase) (requests-line (request_grown front (take n piece)) rest (NoEnd-grown front (take n piece) none (NoEnd-front piece n e)))
+    ∙ ap (λ b. if b then phase else phase_after user secret (outcome_of user secret phase (request_grown front (take n piece))).phase (requests rest)) going
 
 -- the one reply to a piece up to its first LF
 pub cut-reply : (user secret : List ℕ) (letters : List Letter) (phase : Phase) (front piece : List ℕ) (n : ℕ)
     → NoEnd front → n ≡ position_or_len is_end piece → n < length piece → is_ended phase ≡ false
-    → replies_to user secret letters phase (requests (front ++ take (n + 1) piece)) ≡ reply_bytes letters (outcome_of user secret phase (grown front (take n piece))).reply
+    → replies_to user secret letters phase (requests (front ++ take (n + 1) piece)) ≡ pop_reply_bytes letters (outcome_of user secret phase (request_grown front (take n piece))).reply
 cut-reply user secret letters phase front piece n none e lt going =
     ap (λ xs. replies_to user secret letters phase (requests (front ++ xs))) (sym (append-nil (take (n + 1) piece)))
     ∙ cut-replies user secret letters phase front piece [] n none e lt going
-    ∙ append-nil (reply_bytes letters (outcome_of user secret phase (grown front (take n piece))).reply)
+    ∙ append-nil (pop_reply_bytes letters (outcome_of user secret phase (request_grown front (take n piece))).reply)
 
 -- a session that has ended replies nothing
 pub ended-replies : (user secret : List ℕ) (letters : List Letter) (phase : Phase) (rs : List (List ℕ))

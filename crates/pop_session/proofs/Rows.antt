@@ -8,26 +8,26 @@ use Rattle.std.proofs.lemmas.Bool.Decides.{Decides-eqb}
 use Rattle.std.proofs.lemmas.List.{at_drop_all, nil_from_length}
 use Rattle.pop_session.specs.declared.letter.Letter.{Letter}
 use Rattle.pop_session.specs.declared.reply.Listing.{Listing}
-use Rattle.pop_session.specs.Letters.{line, stuffed, sent_lines, row_text, rows_from}
+use Rattle.pop_session.specs.Letters.{crlf_line, stuffed, sent_lines, row_text, rows_from}
 
 -- the row of the next letter, and those of the letters after it
 pub rows-next : (listing : Listing) (letters : List Letter) (i : ℕ) (letter : Letter) (bytes : List ℕ)
-    → i < length letters → letter ≡ get_or letters i letter → bytes ≡ line (row_text listing (i + 1) letter)
+    → i < length letters → letter ≡ get_or letters i letter → bytes ≡ crlf_line (row_text listing (i + 1) letter)
     → rows_from listing (i + 1) (drop i letters) ≡ bytes ++ rows_from listing (i + 1 + 1) (drop (i + 1) letters)
 rows-next listing letters i letter bytes lt is row =
     let one : suc i ≡ i + 1 = omega arith in
     ap (rows_from listing (i + 1)) (drop-cons letters i letter lt)
-    ∙ ap (λ l. line (row_text listing (i + 1) l) ++ rows_from listing (i + 1 + 1) (drop (suc i) letters)) (sym is)
+    ∙ ap (λ l. crlf_line (row_text listing (i + 1) l) ++ rows_from listing (i + 1 + 1) (drop (suc i) letters)) (sym is)
     ∙ ap (λ xs. xs ++ rows_from listing (i + 1 + 1) (drop (suc i) letters)) (sym row)
     ∙ ap (λ k. bytes ++ rows_from listing (i + 1 + 1) (drop k letters)) one
 
 -- a line that begins with a dot
-pub dotted : (text : List ℕ) → (slice_index text 0 == 46) ≡ true → line (stuffed text) ≡ (46 ∷ []) ++ line text
-dotted text e = ap (λ b. line (if b then 46 ∷ text else text)) e
+pub dotted : (text : List ℕ) → (slice_index text 0 == 46) ≡ true → crlf_line (stuffed text) ≡ (46 ∷ []) ++ crlf_line text
+dotted text e = ap (λ b. crlf_line (if b then 46 ∷ text else text)) e
 
 -- the lines of a text are the first and those of the rest
-pub lines-next : (text first rest : List ℕ) → lined text ≡ first ∷ lined rest → sent_lines text ≡ line (stuffed first) ++ sent_lines rest
-lines-next text first rest e = ap (flat_map (λ t. line (stuffed t))) e
+pub lines-next : (text first rest : List ℕ) → lined text ≡ first ∷ lined rest → sent_lines text ≡ crlf_line (stuffed first) ++ sent_lines rest
+lines-next text first rest e = ap (flat_map (λ t. crlf_line (stuffed t))) e
 
 -- behind the last letter there is no row
 pub no-rows : (listing : Listing) (letters : List Letter) (i : ℕ) → length letters ≤ i → rows_from listing (i + 1) (drop i letters) ≡ []

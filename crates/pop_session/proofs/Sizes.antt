@@ -8,7 +8,7 @@ use Rattle.mail_lines.specs.Lines.{is_end, parts, without_empty_end}
 use Rattle.mail_lines.proofs.Ends.{HasFirst, has_first}
 use Rattle.mail_fields.specs.Digests.{lined, without_returns}
 use Rattle.pop_session.specs.declared.letter.Letter.{Letter}
-use Rattle.pop_session.specs.Letters.{line, size_of, total_size}
+use Rattle.pop_session.specs.Letters.{crlf_line, size_of, total_size}
 use Rattle.pop_session.specs.Sessions.{AreShort}
 
 -- how many bytes some parts have, with the LFs between them
@@ -38,30 +38,30 @@ parts-weight (x ∷ xs) = go (is_end x) (has_first xs) (parts-weight xs) where
 shorter : (p : List ℕ) → length (without_returns p) ≤ length p
 shorter p = let l = length-take (length p - suffix_len (λ b. b == 13) p) p in omega arith
 
-line-size : (p : List ℕ) → length (line (without_returns p)) ≤ length p + 2
+line-size : (p : List ℕ) → length (crlf_line (without_returns p)) ≤ length p + 2
 line-size p =
     let s = shorter p in
     let l : length (without_returns p ++ 13 ∷ 10 ∷ []) ≡ length (without_returns p) + 2 = length-append (without_returns p) (13 ∷ 10 ∷ []) in
     omega arith
 
 abbrev all-lines : List (List ℕ) → List ℕ
-all-lines ps = flat_map line (map without_returns (without_empty_end ps))
+all-lines ps = flat_map crlf_line (map without_returns (without_empty_end ps))
 
 parts-size : (ps : List (List ℕ)) → length (all-lines ps) ≤ 3 * weight ps
 unfolding weight
 parts-size [] = omega arith
 parts-size (p ∷ []) = go (length p == 0) refl where
-  go : (b : Bool) → (length p == 0) ≡ b → length (flat_map line (map without_returns (if b then [] else p ∷ []))) ≤ 3 * length p
+  go : (b : Bool) → (length p == 0) ≡ b → length (flat_map crlf_line (map without_returns (if b then [] else p ∷ []))) ≤ 3 * length p
   go true e = omega arith
   go false e =
       let some : 0 < length p = grind (arith, e) in
       let s = line-size p in
-      let l : length (line (without_returns p) ++ []) ≡ length (line (without_returns p)) + 0 = length-append (line (without_returns p)) [] in
+      let l : length (crlf_line (without_returns p) ++ []) ≡ length (crlf_line (without_returns p)) + 0 = length-append (crlf_line (without_returns p)) [] in
       omega arith
 parts-size (p ∷ q ∷ ps) =
     let more = parts-size (q ∷ ps) in
     let s = line-size p in
-    let l = length-append (line (without_returns p)) (all-lines (q ∷ ps)) in
+    let l = length-append (crlf_line (without_returns p)) (all-lines (q ∷ ps)) in
     omega arith
 
 -- the size of a text is at most three times its length
@@ -74,8 +74,8 @@ size-short text le = let s = size-within text in omega arith
 -- the size of some lines is that of the first and that of the others
 pub size-more : (text line rest : List ℕ) → lined text ≡ line ∷ lined rest → size_of text ≡ length line + 2 + size_of rest
 size-more text first rest e =
-    ap (λ ls. length (flat_map line ls)) e
-    ∙ length-append (line first) (flat_map line (lined rest))
+    ap (λ ls. length (flat_map crlf_line ls)) e
+    ∙ length-append (crlf_line first) (flat_map crlf_line (lined rest))
     ∙ ap (λ n. n + size_of rest) (length-append first (13 ∷ 10 ∷ []))
 
 rest-short : (l : Letter) (letters : List Letter) → AreShort (l ∷ letters) → AreShort letters

@@ -12,40 +12,40 @@ pub record IsFront (front bytes : List ℕ) : Type 0 where
   pub is : bytes ≡ front ++ rest
 
 -- bytes were taken from the source, at most one piece more than a session looks at
-pub record Taken (left left' : Option (List ℕ)) : Type 0 where
+pub record TookBytes (left left' : Option (List ℕ)) : Type 0 where
   pub bytes : List ℕ
   pub taken : Consumes left left' bytes
   pub few : length bytes ≤ SESSION_LIMIT + PIECE
 
 -- more bytes were taken than a session looks at
-pub record TookMany (left left' : Option (List ℕ)) : Type 0 where
-  pub taken : Taken left left'
+pub record PassedSessionLimit (left left' : Option (List ℕ)) : Type 0 where
+  pub taken : TookBytes left left'
   pub many : SESSION_LIMIT < length taken.bytes
 
 module _ (replies : List ℕ → List ℕ) (quits : List ℕ → Bool) (left left' out out' : Option (List ℕ)) where
   -- status 0: an accepted QUIT is among the bytes that a session looks at, and all replies were put
   pub record QuitEnd : Type 0 where
-    pub taken : Taken left left'
+    pub taken : TookBytes left left'
     pub quit : quits (take SESSION_LIMIT taken.bytes) ≡ true
     pub written : Appends out out' (replies taken.bytes)
 
   -- statuses 1 and 3: no QUIT was accepted, and the replies to the bytes taken were put
   pub record OpenEnd : Type 0 where
-    pub taken : Taken left left'
+    pub taken : TookBytes left left'
     pub fits : length taken.bytes ≤ SESSION_LIMIT
     pub no_quit : quits taken.bytes ≡ false
     pub written : Appends out out' (replies taken.bytes)
 
   -- status 8: no QUIT was accepted among the bytes that a session looks at, and the replies to these were put
   pub record LongEnd : Type 0 where
-    pub long : TookMany left left'
+    pub long : PassedSessionLimit left left'
     pub no_quit : quits (take SESSION_LIMIT long.taken.bytes) ≡ false
     pub written : Appends out out' (replies (take SESSION_LIMIT long.taken.bytes))
 
   -- status 4: a front of the replies to the bytes taken was put. If the greeting isn't whole in it, no byte was taken; if it is,
   -- all replies to the bytes before the last piece are in it
   pub record PutEnd (greeting : List ℕ) : Type 0 where
-    pub taken : Taken left left'
+    pub taken : TookBytes left left'
     pub put : List ℕ
     pub written : Appends out out' put
     pub front : IsFront put (replies taken.bytes)
@@ -72,7 +72,7 @@ LettersEnd status user secret letters left left' out out' =
 
 -- a session of this user over these letters that goes on: the greeting and the replies to the bytes taken so far were put, and
 -- no QUIT among them was accepted
-abbrev pub IsUpToDate :
+abbrev pub IsSessionUpToDate :
     List ℕ → List ℕ → List Letter → Option (List ℕ) → Option (List ℕ) → Option (List ℕ) → Option (List ℕ) → Type 0
-IsUpToDate user secret letters left left' out out' =
+IsSessionUpToDate user secret letters left left' out out' =
     OpenEnd (λ bytes. pop_replies bytes user secret letters) (λ bytes. has_quit bytes user secret) left left' out out'

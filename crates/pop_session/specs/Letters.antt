@@ -9,12 +9,12 @@ use Rattle.pop_session.specs.declared.reply.Listing.{Listing}
 use Rattle.pop_session.specs.declared.reply.Listing.TheVariants.{Sizes, Ids}
 
 -- a line: a text and CRLF
-abbrev pub line : List ℕ → List ℕ
-line text = text ++ 13 ∷ 10 ∷ []
+abbrev pub crlf_line : List ℕ → List ℕ
+crlf_line text = text ++ 13 ∷ 10 ∷ []
 
 -- the size of a text: the bytes of its lines, each with CRLF
 abbrev pub size_of : List ℕ → ℕ
-size_of text = length (flat_map line (lined text))
+size_of text = length (flat_map crlf_line (lined text))
 
 -- the size of all letters together
 abbrev pub total_size : List Letter → ℕ
@@ -27,7 +27,7 @@ stuffed text = if slice_index text 0 == 46 then 46 ∷ text else text
 
 -- the lines of a text as they are sent
 abbrev pub sent_lines : List ℕ → List ℕ
-sent_lines text = flat_map (λ text. line (stuffed text)) (lined text)
+sent_lines text = flat_map (λ text. crlf_line (stuffed text)) (lined text)
 
 -- the letter of a number, from 1, if there is one
 abbrev pub letter_at : List Letter → ℕ → Option Letter
@@ -41,4 +41,4 @@ row_text Ids n letter = decimal n ++ codes " d" ++ decimal letter.doc.0
 -- the rows of letters, the first of which has this number
 abbrev pub rows_from : Listing → ℕ → List Letter → List ℕ
 rows_from listing n [] = []
-rows_from listing n (letter ∷ letters) = line (row_text listing n letter) ++ rows_from listing (n + 1) letters
+rows_from listing n (letter ∷ letters) = crlf_line (row_text listing n letter) ++ rows_from listing (n + 1) letters

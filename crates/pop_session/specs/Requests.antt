@@ -11,10 +11,10 @@ use Rattle.pop_session.specs.declared.keyword.Keyword.{Keyword}
 use Rattle.pop_session.specs.declared.keyword.Keyword.TheVariants.{User, Pass, Quit, Stat, List as ListOf, Uidl, Retr, Dele, Noop, Rset}
 use Rattle.pop_session.specs.declared.reply.Listing.{Listing}
 use Rattle.pop_session.specs.declared.reply.Listing.TheVariants.{Sizes, Ids}
-use Rattle.pop_session.specs.declared.reply.Refusal.{Refusal}
-use Rattle.pop_session.specs.declared.reply.Refusal.TheVariants.{Long, Unknown, State, Form, Denied, Kept}
-use Rattle.pop_session.specs.declared.reply.Reply.{Reply}
-use Rattle.pop_session.specs.declared.reply.Reply.TheVariants.{Accepted, Refused, Totals, Rows, Row, Text}
+use Rattle.pop_session.specs.declared.reply.PopRefusal.{PopRefusal}
+use Rattle.pop_session.specs.declared.reply.PopRefusal.TheVariants.{Long, Unknown, State, Form, Denied, Kept}
+use Rattle.pop_session.specs.declared.reply.PopReply.{PopReply}
+use Rattle.pop_session.specs.declared.reply.PopReply.TheVariants.{Accepted, Refused, Totals, Rows, Row, Text}
 use Rattle.pop_session.specs.declared.outcome.Phase.{Phase}
 use Rattle.pop_session.specs.declared.outcome.Phase.TheVariants.{Authorization, Named, Transaction, Ended}
 use Rattle.pop_session.specs.declared.outcome.Outcome.{Outcome}
@@ -61,33 +61,33 @@ unnamed Transaction = Transaction
 unnamed Ended = Ended
 
 -- a reply that ends no phase
-abbrev pub replied : Phase → Reply → Outcome
+abbrev pub replied : Phase → PopReply → Outcome
 replied phase reply = record { reply = reply; phase = unnamed phase }
 
 -- a request that is refused
-abbrev pub refused : Phase → Refusal → Outcome
-refused phase refusal = replied phase (Refused refusal)
+abbrev pub refused_request : Phase → PopRefusal → Outcome
+refused_request phase refusal = replied phase (Refused refusal)
 
 -- the bytes after the one blank that follows the keyword
 abbrev pub after_keyword : List ℕ → List ℕ
 after_keyword text = drop (position_or_len is_blank (after_blanks text) + 1) (after_blanks text)
 
 -- the number that the argument of a request is: 1 to 10 digits
-abbrev pub number_in : List ℕ → Option ℕ
-number_in text = if has_words 2 text then number_of 10 9999999999 (word 1 text) else None
+abbrev pub letter_number : List ℕ → Option ℕ
+letter_number text = if has_words 2 text then number_of 10 9999999999 (word 1 text) else None
 
 -- a request that has no argument
 abbrev pub bare : List ℕ → Phase → Outcome → Outcome
-bare text phase outcome = if has_words 1 text then outcome else refused phase Form
+bare text phase outcome = if has_words 1 text then outcome else refused_request phase Form
 
 -- a request that names a letter
-abbrev pub lettered : Phase → Option ℕ → (ℕ → Reply) → Outcome
-lettered phase None reply = refused phase Form
+abbrev pub lettered : Phase → Option ℕ → (ℕ → PopReply) → Outcome
+lettered phase None reply = refused_request phase Form
 lettered phase (Some n) reply = replied phase (reply n)
 
 -- a request for the row of one letter or of all
-abbrev pub listed : List ℕ → Phase → Listing → Outcome
-listed text phase listing = if has_words 1 text then replied phase (Rows listing) else lettered phase (number_in text) (Row listing)
+abbrev pub list_outcome : List ℕ → Phase → Listing → Outcome
+list_outcome text phase listing = if has_words 1 text then replied phase (Rows listing) else lettered phase (letter_number text) (Row listing)
 
 -- has the phase the right name?
 abbrev pub is_right : Phase → Bool
@@ -99,14 +99,14 @@ is_right Ended = false
 -- the outcome of USER: with one word it opens PASS
 abbrev pub user_outcome : List ℕ → Phase → List ℕ → Outcome
 user_outcome user phase text =
-    if has_words 2 text then record { reply = Accepted; phase = Named (bytes_eq (word 1 text) user) } else refused phase Form
+    if has_words 2 text then record { reply = Accepted; phase = Named (bytes_eq (word 1 text) user) } else refused_request phase Form
 
 -- the outcome of PASS: with the right name and the secret it opens TRANSACTION
 abbrev pub pass_outcome : List ℕ → Phase → List ℕ → Outcome
 pass_outcome secret phase text =
-    if length (after_keyword text) == 0 then refused phase Form
+    if length (after_keyword text) == 0 then refused_request phase Form
     else if is_right phase && bytes_eq (after_keyword text) secret then record { reply = Accepted; phase = Transaction }
-    else refused phase Denied
+    else refused_request phase Denied
 
 -- the outcome of a request whose keyword is allowed
 abbrev pub allowed_outcome : List ℕ → List ℕ → Phase → Keyword → List ℕ → Outcome
@@ -114,18 +114,18 @@ allowed_outcome user secret phase User text = user_outcome user phase text
 allowed_outcome user secret phase Pass text = pass_outcome secret phase text
 allowed_outcome user secret phase Quit text = bare text phase (record { reply = Accepted; phase = Ended })
 allowed_outcome user secret phase Stat text = bare text phase (replied phase Totals)
-allowed_outcome user secret phase ListOf text = listed text phase Sizes
-allowed_outcome user secret phase Uidl text = listed text phase Ids
-allowed_outcome user secret phase Retr text = lettered phase (number_in text) Text
-allowed_outcome user secret phase Dele text = lettered phase (number_in text) (λ n. Refused Kept)
+allowed_outcome user secret phase ListOf text = list_outcome text phase Sizes
+allowed_outcome user secret phase Uidl text = list_outcome text phase Ids
+allowed_outcome user secret phase Retr text = lettered phase (letter_number text) Text
+allowed_outcome user secret phase Dele text = lettered phase (letter_number text) (λ n. Refused Kept)
 allowed_outcome user secret phase Noop text = bare text phase (replied phase Accepted)
 allowed_outcome user secret phase Rset text = bare text phase (replied phase Accepted)
 
 -- the outcome of a request by its keyword
 abbrev pub keyword_outcome : List ℕ → List ℕ → Phase → Option Keyword → List ℕ → Outcome
-keyword_outcome user secret phase None text = refused phase Unknown
+keyword_outcome user secret phase None text = refused_request phase Unknown
 keyword_outcome user secret phase (Some keyword) text =
-    if is_allowed keyword phase then allowed_outcome user secret phase keyword text else refused phase State
+    if is_allowed keyword phase then allowed_outcome user secret phase keyword text else refused_request phase State
 
 -- the outcome of a request's text
 abbrev pub text_outcome : List ℕ → List ℕ → Phase → List ℕ → Outcome
@@ -134,4 +134,4 @@ text_outcome user secret phase text = keyword_outcome user secret phase (keyword
 -- the outcome of a request of at most 512 bytes, a CR before its LF counted but not of its text; a longer one is refused
 abbrev pub outcome_of : List ℕ → List ℕ → Phase → List ℕ → Outcome
 outcome_of user secret phase request =
-    if nat_le (length request) 512 then text_outcome user secret phase (strip_carriage_return request) else refused phase Long
+    if nat_le (length request) 512 then text_outcome user secret phase (strip_carriage_return request) else refused_request phase Long

@@ -7,7 +7,7 @@ use Rattle.pop_session.specs.declared.outcome.Phase.{Phase}
 use Rattle.pop_session.specs.declared.outcome.Phase.TheVariants.{Authorization, Named, Transaction, Ended}
 use Rattle.pop_session.specs.declared.outcome.Outcome.{Outcome}
 use Rattle.pop_session.specs.Requests.{requests, outcome_of}
-use Rattle.pop_session.specs.Replies.{greeting, reply_bytes}
+use Rattle.pop_session.specs.Replies.{greeting, pop_reply_bytes}
 
 -- has an accepted QUIT ended the session?
 abbrev pub is_ended : Phase → Bool
@@ -21,7 +21,7 @@ abbrev pub replies_to : List ℕ → List ℕ → List Letter → Phase → List
 replies_to user secret letters phase [] = []
 replies_to user secret letters phase (request ∷ requests) =
     if is_ended phase then []
-    else reply_bytes letters (outcome_of user secret phase request).reply
+    else pop_reply_bytes letters (outcome_of user secret phase request).reply
     ++ replies_to user secret letters (outcome_of user secret phase request).phase requests
 
 -- the phase after some requests
@@ -40,7 +40,7 @@ has_quit bytes user secret = is_ended (phase_after user secret Authorization (re
 
 -- a session: its user, secret and letters, the bytes of the open request or a front of them that is too long, its phase,
 -- whether it has greeted, and whether a put has failed
-pub record Session : Type 0 where
+pub record PopSessionState : Type 0 where
   pub user : List ℕ
   pub secret : List ℕ
   pub letters : List Letter
@@ -50,59 +50,59 @@ pub record Session : Type 0 where
   pub failed : Bool
 
 -- a session before its greeting
-abbrev pub new_session : List ℕ → List ℕ → List Letter → Session
+abbrev pub new_session : List ℕ → List ℕ → List Letter → PopSessionState
 new_session user secret letters =
     record { user = user; secret = secret; letters = letters; front = []; phase = Authorization; greeted = false; failed = false }
 
 -- a session after its greeting
-abbrev pub greeted : Session → Session
+abbrev pub greeted : PopSessionState → PopSessionState
 greeted s = record { user = s.user; secret = s.secret; letters = s.letters; front = s.front; phase = s.phase; greeted = true; failed = s.failed }
 
 -- the replies to the bytes that follow
-abbrev pub replies_from : Session → List ℕ → List ℕ
+abbrev pub replies_from : PopSessionState → List ℕ → List ℕ
 replies_from s rest = replies_to s.user s.secret s.letters s.phase (requests (s.front ++ rest))
 
 -- is an accepted QUIT among the requests so far and those of the bytes that follow?
-abbrev pub quits_from : Session → List ℕ → Bool
+abbrev pub quits_from : PopSessionState → List ℕ → Bool
 quits_from s rest = is_ended (phase_after s.user s.secret s.phase (requests (s.front ++ rest)))
 
 -- may the session take bytes? It has greeted, and neither ended nor failed
-pub record IsReady (s : Session) : Type 0 where
+pub record CanTakeBytes (s : PopSessionState) : Type 0 where
   pub greeted : s.greeted ≡ true
   pub not_ended : is_ended s.phase ≡ false
   pub not_failed : s.failed ≡ false
 
 -- is nothing more looked at? The piece is at its end, or the session is
-abbrev pub IsOver : Session → List ℕ → Type 0
+abbrev pub IsOver : PopSessionState → List ℕ → Type 0
 IsOver s rest = (length rest ≡ 0) ⊎ (is_ended s.phase ≡ true)
 
 -- the open request with some more bytes; of one that is too long a front is enough
-abbrev pub grown : List ℕ → List ℕ → List ℕ
-grown front bytes = front ++ take (513 - length front) bytes
+abbrev pub request_grown : List ℕ → List ℕ → List ℕ
+request_grown front bytes = front ++ take (513 - length front) bytes
 
 -- a letter as long as a message may be, whose size has at most seven digits
-abbrev pub IsShort : Letter → Type 0
-IsShort letter = length letter.text ≤ 1048576
+abbrev pub IsWithinLimit : Letter → Type 0
+IsWithinLimit letter = length letter.text ≤ 1048576
 
 -- the text of each letter has at most 1,048,576 bytes
 abbrev pub AreShort : List Letter → Type 0
-AreShort letters = All IsShort letters
+AreShort letters = All IsWithinLimit letters
 
 -- a session that holds more bytes of its open request
-abbrev pub held : Session → List ℕ → Session
+abbrev pub held : PopSessionState → List ℕ → PopSessionState
 held s bytes =
-    record { user = s.user; secret = s.secret; letters = s.letters; front = grown s.front bytes; phase = s.phase; greeted = s.greeted; failed = s.failed }
+    record { user = s.user; secret = s.secret; letters = s.letters; front = request_grown s.front bytes; phase = s.phase; greeted = s.greeted; failed = s.failed }
 
 -- the outcome of the open request, if an LF ends it here
-abbrev pub open_outcome : Session → Outcome
+abbrev pub open_outcome : PopSessionState → Outcome
 open_outcome s = outcome_of s.user s.secret s.phase s.front
 
 -- the reply to the open request
-abbrev pub open_reply : Session → List ℕ
-open_reply s = reply_bytes s.letters (open_outcome s).reply
+abbrev pub open_reply : PopSessionState → List ℕ
+open_reply s = pop_reply_bytes s.letters (open_outcome s).reply
 
 -- a session after the reply to its open request
-abbrev pub answered : Session → Session
+abbrev pub answered : PopSessionState → PopSessionState
 answered s =
     record { user = s.user; secret = s.secret; letters = s.letters; front = []; phase = (open_outcome s).phase; greeted = s.greeted; failed = s.failed }
 

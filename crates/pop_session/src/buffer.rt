@@ -1,14 +1,14 @@
 //! Lines of replies in a buffer of fixed size, made without memory.
 ghost use Rattle.std.specs.Prelude.{◌≡◌, ◌≤◌, ◌+◌, ◌++◌, List, ℕ, ◌==◌, slice_index, length, codes};
 ghost use Rattle.std.specs.Fmt.{decimal};
-ghost use Rattle.pop_session.specs.Sessions.{HasRowRoom, IsShort};
+ghost use Rattle.pop_session.specs.Sessions.{HasRowRoom, IsWithinLimit};
 ghost use Rattle.arrayvec.specs.ArrayVec.{array_vec_len};
-ghost use Rattle.pop_session.specs.Letters.{line, stuffed, size_of, row_text};
-ghost use Rattle.pop_session.specs.Replies.{rows_head, refusal_text};
+ghost use Rattle.pop_session.specs.Letters.{crlf_line, stuffed, size_of, row_text};
+ghost use Rattle.pop_session.specs.Replies.{rows_head, pop_refusal_text};
 ghost use Rattle.pop_session.specs.declared.reply.Listing.TheVariants.{Sizes, Ids};
 
 use crate::letter::{Letter, size_of};
-use crate::reply::{Listing, Refusal};
+use crate::reply::{Listing, PopRefusal};
 use arrayvec::ArrayVec;
 use itoa::{Buffer, Integer};
 
@@ -33,7 +33,7 @@ fn push_number<I: Integer>(buffer: &mut ArrayVec<u8, 128>, n: I)
 // Returns a line of a text.
 fn text_line(text: &[u8]) -> ArrayVec<u8, 128>
     requires { length text.now ≤ 20 }
-    ensures { result.items ≡ line text.now }
+    ensures { result.items ≡ crlf_line text.now }
 {
     let mut buffer = ArrayVec::new();
     push_bytes(&mut buffer, text);
@@ -43,36 +43,36 @@ fn text_line(text: &[u8]) -> ArrayVec<u8, 128>
 
 /// Returns the greeting.
 pub(crate) fn greeting_line() -> ArrayVec<u8, 128>
-    ensures { result.items ≡ line (codes "+OK tapestry") }
+    ensures { result.items ≡ crlf_line (codes "+OK tapestry") }
 {
     text_line(b"+OK tapestry")
 }
 
 /// Returns the reply to a request that is accepted.
 pub(crate) fn accepted_line() -> ArrayVec<u8, 128>
-    ensures { result.items ≡ line (codes "+OK") }
+    ensures { result.items ≡ crlf_line (codes "+OK") }
 {
     text_line(b"+OK")
 }
 
 /// Returns the line of a refusal.
-pub(crate) fn refusal_line(refusal: Refusal) -> ArrayVec<u8, 128>
-    ensures { result.items ≡ line (refusal_text refusal) }
+pub(crate) fn refusal_line(refusal: PopRefusal) -> ArrayVec<u8, 128>
+    ensures { result.items ≡ crlf_line (pop_refusal_text refusal) }
 {
     match refusal {
-        Refusal::Long => text_line(b"-ERR long"),
-        Refusal::Unknown => text_line(b"-ERR unknown"),
-        Refusal::State => text_line(b"-ERR state"),
-        Refusal::Form => text_line(b"-ERR form"),
-        Refusal::Denied => text_line(b"-ERR denied"),
-        Refusal::Kept => text_line(b"-ERR kept"),
-        Refusal::NoMessage => text_line(b"-ERR message"),
+        PopRefusal::Long => text_line(b"-ERR long"),
+        PopRefusal::Unknown => text_line(b"-ERR unknown"),
+        PopRefusal::State => text_line(b"-ERR state"),
+        PopRefusal::Form => text_line(b"-ERR form"),
+        PopRefusal::Denied => text_line(b"-ERR denied"),
+        PopRefusal::Kept => text_line(b"-ERR kept"),
+        PopRefusal::NoMessage => text_line(b"-ERR message"),
     }
 }
 
 /// Returns the reply of one number.
 pub(crate) fn number_line(n: u64) -> ArrayVec<u8, 128>
-    ensures { result.items ≡ line (codes "+OK " ++ decimal n) }
+    ensures { result.items ≡ crlf_line (codes "+OK " ++ decimal n) }
 {
     let mut buffer = ArrayVec::new();
     push_bytes(&mut buffer, b"+OK ");
@@ -83,7 +83,7 @@ pub(crate) fn number_line(n: u64) -> ArrayVec<u8, 128>
 
 /// Returns the reply to STAT: the number of letters and their size.
 pub(crate) fn totals_line(count: usize, size: u128) -> ArrayVec<u8, 128>
-    ensures { result.items ≡ line (codes "+OK " ++ decimal count ++ codes " " ++ decimal size) }
+    ensures { result.items ≡ crlf_line (codes "+OK " ++ decimal count ++ codes " " ++ decimal size) }
 {
     let mut buffer = ArrayVec::new();
     push_bytes(&mut buffer, b"+OK ");
@@ -96,7 +96,7 @@ pub(crate) fn totals_line(count: usize, size: u128) -> ArrayVec<u8, 128>
 
 /// Returns the line before the rows of all letters.
 pub(crate) fn head_line(listing: Listing, count: usize) -> ArrayVec<u8, 128>
-    ensures { result.items ≡ line (rows_head listing count) }
+    ensures { result.items ≡ crlf_line (rows_head listing count) }
 {
     match listing {
         Listing::Sizes => number_line(count as u64),
@@ -107,7 +107,7 @@ pub(crate) fn head_line(listing: Listing, count: usize) -> ArrayVec<u8, 128>
 // Appends the row of a letter: its number, and its size.
 fn push_size(buffer: &mut ArrayVec<u8, 128>, number: u64, letter: &Letter)
     requires room { HasRowRoom (array_vec_len buffer.old) }
-    requires short { IsShort letter.now }
+    requires short { IsWithinLimit letter.now }
     ensures row { buffer.new.items ≡ buffer.old.items ++ row_text Sizes number letter.now }
     ensures short { array_vec_len buffer.new ≤ array_vec_len buffer.old + 81 }
 {
@@ -130,7 +130,7 @@ fn push_id(buffer: &mut ArrayVec<u8, 128>, number: u64, letter: &Letter)
 // Appends the row of a letter.
 fn push_row(buffer: &mut ArrayVec<u8, 128>, listing: Listing, number: u64, letter: &Letter)
     requires room { HasRowRoom (array_vec_len buffer.old) }
-    requires short { IsShort letter.now }
+    requires short { IsWithinLimit letter.now }
     ensures row { buffer.new.items ≡ buffer.old.items ++ row_text listing number letter.now }
     ensures short { array_vec_len buffer.new ≤ array_vec_len buffer.old + 82 }
 {
@@ -142,8 +142,8 @@ fn push_row(buffer: &mut ArrayVec<u8, 128>, listing: Listing, number: u64, lette
 
 /// Returns the row of a letter in a list.
 pub(crate) fn row_line(listing: Listing, number: u64, letter: &Letter) -> ArrayVec<u8, 128>
-    requires { IsShort letter.now }
-    ensures { result.items ≡ line (row_text listing number letter.now) }
+    requires { IsWithinLimit letter.now }
+    ensures { result.items ≡ crlf_line (row_text listing number letter.now) }
 {
     let mut buffer = ArrayVec::new();
     push_row(&mut buffer, listing, number, letter);
@@ -153,8 +153,8 @@ pub(crate) fn row_line(listing: Listing, number: u64, letter: &Letter) -> ArrayV
 
 /// Returns the reply that is the row of a letter.
 pub(crate) fn one_row_line(listing: Listing, number: u64, letter: &Letter) -> ArrayVec<u8, 128>
-    requires { IsShort letter.now }
-    ensures { result.items ≡ line (codes "+OK " ++ row_text listing number letter.now) }
+    requires { IsWithinLimit letter.now }
+    ensures { result.items ≡ crlf_line (codes "+OK " ++ row_text listing number letter.now) }
 {
     let mut buffer = ArrayVec::new();
     push_bytes(&mut buffer, b"+OK ");
@@ -167,7 +167,7 @@ pub(crate) fn one_row_line(listing: Listing, number: u64, letter: &Letter) -> Ar
 fn line_after(front: &[u8], text: &[u8]) -> ArrayVec<u8, 1024>
     requires front { length front.now ≤ 1 }
     requires text { length text.now ≤ 1000 }
-    ensures { result.items ≡ front.now ++ line text.now }
+    ensures { result.items ≡ front.now ++ crlf_line text.now }
 {
     let mut buffer = ArrayVec::new();
     let _front = buffer.try_extend_from_slice(front);
@@ -186,7 +186,7 @@ pub(crate) fn has_dot(text: &[u8]) -> bool
 /// Returns a line of a letter as it is sent: with one more dot before one that begins with a dot (RFC 1939 3).
 pub(crate) fn sent_line(text: &[u8]) -> ArrayVec<u8, 1024>
     requires { length text.now ≤ 1000 }
-    ensures { result.items ≡ line (stuffed text.now) }
+    ensures { result.items ≡ crlf_line (stuffed text.now) }
 {
     if has_dot(text) {
         line_after(b".", text)

@@ -2,8 +2,8 @@
 ghost use Rattle.std.specs.Prelude.{◌≡◌, ◌≢◌, [], min};
 ghost use Rattle.tap_base.specs.Counts.{Rose};
 ghost use Rattle.pop_session.specs.declared.outcome.Phase.{Phase};
-ghost use Rattle.pop_session.specs.Sessions.{AreShort, IsReady, replies_from, quits_from};
-ghost use Rattle.pop_session.specs.Ends.{SessionEnds, TookMany, IsSession, LettersEnd, OpenEnd, IsUpToDate};
+ghost use Rattle.pop_session.specs.Sessions.{AreShort, CanTakeBytes, replies_from, quits_from};
+ghost use Rattle.pop_session.specs.Ends.{SessionEnds, PassedSessionLimit, IsSession, LettersEnd, OpenEnd, IsSessionUpToDate};
 ghost use Rattle.peer_edges.specs.Asks.{AskedOnlyWhen};
 
 use crate::laws::replies_grow;
@@ -30,7 +30,7 @@ fn answer_pieces<S: Peer<K>, K: Sink>(
     source: &mut S,
     sink: &mut K,
 ) -> u8
-    requires ready { IsReady session.old }
+    requires ready { CanTakeBytes session.old }
     requires unread { session.old.front ≡ [] }
     requires first { session.old.phase ≡ Phase.Authorization }
     ensures ends { SessionEnds (replies_from session.old) (quits_from session.old) (S.left source.old) (S.left source.new)
@@ -43,7 +43,7 @@ fn answer_pieces<S: Peer<K>, K: Sink>(
     ensures read_calm { result ≢ 3 → S.faults source.new ≡ S.faults source.old }
     ensures put_cause { result ≡ 4 → Rose (K.faults sink.old) (K.faults sink.new) }
     ensures put_calm { result ≢ 4 → K.faults sink.new ≡ K.faults sink.old }
-    ensures many { result ≡ 8 → TookMany (S.left source.old) (S.left source.new) }
+    ensures many { result ≡ 8 → PassedSessionLimit (S.left source.old) (S.left source.new) }
 {
     replies_grow();
     let mut piece = [0u8; PIECE];
@@ -80,14 +80,14 @@ pub fn hold_session<S: Peer<K>, K: Sink>(
     ensures ends { LettersEnd result user.now secret.now letters.now (S.left source.old) (S.left source.new) (K.out sink.old) (K.out sink.new) }
 
     // Whenever the source was asked for more, exactly the greeting and the replies to the bytes taken so far were out.
-    ensures prompt { AskedOnlyWhen (λ l o. IsUpToDate user.now secret.now letters.now (S.left source.old) l (K.out sink.old) o)
+    ensures prompt { AskedOnlyWhen (λ l o. IsSessionUpToDate user.now secret.now letters.now (S.left source.old) l (K.out sink.old) o)
         (S.was_asked source.old) (S.was_asked source.new) }
     ensures statuses { IsSession result }
     ensures read_cause { result ≡ 3 → Rose (S.faults source.old) (S.faults source.new) }
     ensures read_calm { result ≢ 3 → S.faults source.new ≡ S.faults source.old }
     ensures put_cause { result ≡ 4 → Rose (K.faults sink.old) (K.faults sink.new) }
     ensures put_calm { result ≢ 4 → K.faults sink.new ≡ K.faults sink.old }
-    ensures many { result ≡ 8 → TookMany (S.left source.old) (S.left source.new) }
+    ensures many { result ≡ 8 → PassedSessionLimit (S.left source.old) (S.left source.new) }
 {
     let mut session = PopSession::new(user, secret, letters);
     match session.greet(sink) {

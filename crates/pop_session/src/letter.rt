@@ -2,7 +2,7 @@
 ghost use Rattle.std.specs.Prelude.{◌≡◌, ◌≤◌, length};
 ghost use Rattle.std.specs.List.{flat_map};
 ghost use Rattle.mail_fields.specs.Digests.{lined};
-ghost use Rattle.pop_session.specs.Letters.{line, size_of, total_size, letter_at};
+ghost use Rattle.pop_session.specs.Letters.{crlf_line, size_of, total_size, letter_at};
 ghost use Rattle.std.specs.Prelude.{option_copied};
 ghost use Rattle.pop_session.specs.Sessions.{AreShort};
 

@@ -1,5 +1,5 @@
 //! What a request does: its reply, and the phase after it.
-use crate::reply::Reply;
+use crate::reply::PopReply;
 
 /// The phase of a session (RFC 1939 3).
 #[derive(Clone, Copy)]
@@ -15,6 +15,6 @@ pub enum Phase {
 /// The reply to a request, and the phase after it.
 #[derive(Clone, Copy)]
 pub struct Outcome {
-    pub reply: Reply,
+    pub reply: PopReply,
     pub phase: Phase,
 }

@@ -1,23 +1,23 @@
 //! Puts replies into a sink.
 ghost use Rattle.std.specs.Prelude.{◌++◌, Some, codes};
 ghost use Rattle.tap_edges.specs.Puts.{PutBehind};
-ghost use Rattle.pop_session.specs.Letters.{line, stuffed, sent_lines, letter_at, rows_from};
-ghost use Rattle.pop_session.specs.Replies.{row_reply, text_reply, reply_bytes};
-ghost use Rattle.pop_session.specs.declared.reply.Reply.TheVariants.{Rows};
-ghost use Rattle.pop_session.specs.Sessions.{AreShort, IsShort};
+ghost use Rattle.pop_session.specs.Letters.{crlf_line, stuffed, sent_lines, letter_at, rows_from};
+ghost use Rattle.pop_session.specs.Replies.{row_reply, text_reply, pop_reply_bytes};
+ghost use Rattle.pop_session.specs.declared.reply.PopReply.TheVariants.{Rows};
+ghost use Rattle.pop_session.specs.Sessions.{AreShort, IsWithinLimit};
 
 use crate::buffer::{
     accepted_line, has_dot, head_line, number_line, one_row_line, refusal_line, row_line,
     sent_line, totals_line,
 };
 use crate::letter::{Letter, letter_at, size_of, total_size};
-use crate::reply::{Listing, Refusal, Reply};
+use crate::reply::{Listing, PopRefusal, PopReply};
 use digest_mail::first_lined;
 use tap_edges::{PutFailed, Sink, put_next};
 
 // Puts a line of a letter: the bytes and the CRLF each by a call, so that no copy is made.
 fn put_line<K: Sink>(sink: &mut K, start: usize, text: &[u8]) -> Result<usize, PutFailed>
-    ensures { PutBehind K.Sink start (line text.now) sink.old sink.new result }
+    ensures { PutBehind K.Sink start (crlf_line text.now) sink.old sink.new result }
 {
     match put_next(sink, start, text) {
         Ok(done) => put_next(sink, done, b"\r\n"),
@@ -27,7 +27,7 @@ fn put_line<K: Sink>(sink: &mut K, start: usize, text: &[u8]) -> Result<usize, P
 
 // Puts a long line of a letter as it is sent, without a copy.
 fn put_long_line<K: Sink>(sink: &mut K, start: usize, text: &[u8]) -> Result<usize, PutFailed>
-    ensures { PutBehind K.Sink start (line (stuffed text.now)) sink.old sink.new result }
+    ensures { PutBehind K.Sink start (crlf_line (stuffed text.now)) sink.old sink.new result }
 {
     if !has_dot(text) {
         return put_line(sink, start, text);
@@ -40,7 +40,7 @@ fn put_long_line<K: Sink>(sink: &mut K, start: usize, text: &[u8]) -> Result<usi
 
 // Puts a line of a letter as it is sent: a line that isn't long by one call.
 fn put_stuffed<K: Sink>(sink: &mut K, start: usize, text: &[u8]) -> Result<usize, PutFailed>
-    ensures { PutBehind K.Sink start (line (stuffed text.now)) sink.old sink.new result }
+    ensures { PutBehind K.Sink start (crlf_line (stuffed text.now)) sink.old sink.new result }
 {
     if text.len() <= 1000 {
         put_next(sink, start, sent_line(text).as_slice())
@@ -98,7 +98,7 @@ fn put_all_rows<K: Sink>(
     letters: &[Letter],
 ) -> Result<usize, PutFailed>
     requires { AreShort letters.now }
-    ensures { PutBehind K.Sink start (rows_from listing 1 letters.now ++ line (codes ".")) sink.old sink.new result }
+    ensures { PutBehind K.Sink start (rows_from listing 1 letters.now ++ crlf_line (codes ".")) sink.old sink.new result }
 {
     match put_rows(sink, start, listing, letters) {
         Ok(done) => put_line(sink, done, b"."),
@@ -108,7 +108,7 @@ fn put_all_rows<K: Sink>(
 
 // Puts the lines of a text, and a line of one dot.
 fn put_all_lines<K: Sink>(sink: &mut K, start: usize, text: &[u8]) -> Result<usize, PutFailed>
-    ensures { PutBehind K.Sink start (sent_lines text.now ++ line (codes ".")) sink.old sink.new result }
+    ensures { PutBehind K.Sink start (sent_lines text.now ++ crlf_line (codes ".")) sink.old sink.new result }
 {
     match put_lines(sink, start, text) {
         Ok(done) => put_line(sink, done, b"."),
@@ -128,7 +128,7 @@ fn put_row<K: Sink>(
     ensures { PutBehind K.Sink start (row_reply listing number (letter_at letters.now number)) sink.old sink.new result }
 {
     match letter_at(letters, number) {
-        None => put_next(sink, start, refusal_line(Refusal::NoMessage).as_slice()),
+        None => put_next(sink, start, refusal_line(PopRefusal::NoMessage).as_slice()),
         Some(letter) => put_next(
             sink,
             start,
@@ -139,7 +139,7 @@ fn put_row<K: Sink>(
 
 // Puts the text of a letter: its size, its lines, and a line of one dot.
 fn put_letter<K: Sink>(sink: &mut K, start: usize, letter: &Letter) -> Result<usize, PutFailed>
-    requires { IsShort letter.now }
+    requires { IsWithinLimit letter.now }
     ensures { PutBehind K.Sink start (text_reply (Some letter.now)) sink.old sink.new result }
 {
     let text = letter.text.as_slice();
@@ -160,7 +160,7 @@ fn put_text<K: Sink>(
     ensures { PutBehind K.Sink start (text_reply (letter_at letters.now number)) sink.old sink.new result }
 {
     match letter_at(letters, number) {
-        None => put_next(sink, start, refusal_line(Refusal::NoMessage).as_slice()),
+        None => put_next(sink, start, refusal_line(PopRefusal::NoMessage).as_slice()),
         Some(letter) => put_letter(sink, start, letter),
     }
 }
@@ -173,7 +173,7 @@ fn put_list<K: Sink>(
     letters: &[Letter],
 ) -> Result<usize, PutFailed>
     requires { AreShort letters.now }
-    ensures { PutBehind K.Sink start (reply_bytes letters.now (Rows listing)) sink.old sink.new result }
+    ensures { PutBehind K.Sink start (pop_reply_bytes letters.now (Rows listing)) sink.old sink.new result }
 {
     match put_next(sink, start, head_line(listing, letters.len()).as_slice()) {
         Ok(done) => put_all_rows(sink, done, listing, letters),
@@ -187,20 +187,20 @@ pub(crate) fn put_reply<K: Sink>(
     sink: &mut K,
     start: usize,
     letters: &[Letter],
-    reply: Reply,
+    reply: PopReply,
 ) -> Result<usize, PutFailed>
     requires { AreShort letters.now }
-    ensures { PutBehind K.Sink start (reply_bytes letters.now reply) sink.old sink.new result }
+    ensures { PutBehind K.Sink start (pop_reply_bytes letters.now reply) sink.old sink.new result }
 {
     match reply {
-        Reply::Accepted => put_next(sink, start, accepted_line().as_slice()),
-        Reply::Refused(refusal) => put_next(sink, start, refusal_line(refusal).as_slice()),
-        Reply::Totals => {
+        PopReply::Accepted => put_next(sink, start, accepted_line().as_slice()),
+        PopReply::Refused(refusal) => put_next(sink, start, refusal_line(refusal).as_slice()),
+        PopReply::Totals => {
             let size = total_size(letters);
             put_next(sink, start, totals_line(letters.len(), size).as_slice())
         }
-        Reply::Rows(listing) => put_list(sink, start, listing, letters),
-        Reply::Row(listing, number) => put_row(sink, start, listing, number, letters),
-        Reply::Text(number) => put_text(sink, start, number, letters),
+        PopReply::Rows(listing) => put_list(sink, start, listing, letters),
+        PopReply::Row(listing, number) => put_row(sink, start, listing, number, letters),
+        PopReply::Text(number) => put_text(sink, start, number, letters),
     }
 }

@@ -11,7 +11,7 @@ pub enum Listing {
 
 /// Why a request is refused.
 #[derive(Clone, Copy)]
-pub enum Refusal {
+pub enum PopRefusal {
     Long,
     Unknown,
     State,
@@ -23,9 +23,9 @@ pub enum Refusal {
 
 /// The reply to a request. A letter is named by its number, from 1; if there is no such letter, the request is refused.
 #[derive(Clone, Copy)]
-pub enum Reply {
+pub enum PopReply {
     Accepted,
-    Refused(Refusal),
+    Refused(PopRefusal),
     Totals,
     Rows(Listing),
     Row(Listing, u64),

@@ -6,17 +6,17 @@ ghost use Rattle.std.specs.Str.{bytes_eq};
 ghost use Rattle.std.specs.Str.Lines.{strip_carriage_return};
 ghost use Rattle.tap_base.specs.LineWords.{word, has_words, after_blanks};
 ghost use Rattle.tap_base.specs.Numbers.{number_of};
-ghost use Rattle.pop_session.specs.Requests.{keyword_of, is_allowed, unnamed, replied, refused, after_keyword, number_in, bare, lettered, listed, is_right};
+ghost use Rattle.pop_session.specs.Requests.{keyword_of, is_allowed, unnamed, replied, refused_request, after_keyword, letter_number, bare, lettered, list_outcome, is_right};
 ghost use Rattle.pop_session.specs.Requests.{user_outcome, pass_outcome, allowed_outcome, keyword_outcome, text_outcome, outcome_of};
-ghost use Rattle.pop_session.specs.declared.reply.Reply.{Reply};
-ghost use Rattle.pop_session.specs.declared.reply.Reply.TheVariants.{Row, Text, Refused};
-ghost use Rattle.pop_session.specs.declared.reply.Refusal.TheVariants.{Kept};
-ghost use Rattle.pop_session.specs.declared.reply.Reply.TheVariants.{Accepted};
+ghost use Rattle.pop_session.specs.declared.reply.PopReply.{PopReply};
+ghost use Rattle.pop_session.specs.declared.reply.PopReply.TheVariants.{Row, Text, Refused};
+ghost use Rattle.pop_session.specs.declared.reply.PopRefusal.TheVariants.{Kept};
+ghost use Rattle.pop_session.specs.declared.reply.PopReply.TheVariants.{Accepted};
 ghost use Rattle.pop_session.specs.declared.outcome.Phase.TheVariants.{Ended};
 
 use crate::keyword::{Keyword, keyword_of};
 use crate::outcome::{Outcome, Phase};
-use crate::reply::{Listing, Refusal, Reply};
+use crate::reply::{Listing, PopRefusal, PopReply};
 use tap_base::{after_byte, blank_place, has_words, nth_word, read_number, skip_blanks};
 
 // The most bytes of a request, without its LF.
@@ -60,7 +60,7 @@ fn unnamed(phase: Phase) -> Phase
 }
 
 // Returns the outcome of a reply that ends no phase.
-fn replied(phase: Phase, reply: Reply) -> Outcome
+fn replied(phase: Phase, reply: PopReply) -> Outcome
     ensures { result ≡ replied phase reply }
 {
     Outcome {
@@ -70,10 +70,10 @@ fn replied(phase: Phase, reply: Reply) -> Outcome
 }
 
 // Returns the outcome of a request that is refused.
-fn refused(phase: Phase, refusal: Refusal) -> Outcome
-    ensures { result ≡ refused phase refusal }
+fn refused_request(phase: Phase, refusal: PopRefusal) -> Outcome
+    ensures { result ≡ refused_request phase refusal }
 {
-    replied(phase, Reply::Refused(refusal))
+    replied(phase, PopReply::Refused(refusal))
 }
 
 // Returns the bytes after the one blank that follows the keyword.
@@ -85,8 +85,8 @@ fn after_keyword(text: &[u8]) -> &[u8]
 }
 
 // Returns the number that the argument of a request is.
-fn number_in(text: &[u8]) -> Option<u64>
-    ensures { result ≡ number_in text.now }
+fn letter_number(text: &[u8]) -> Option<u64>
+    ensures { result ≡ letter_number text.now }
 {
     if has_words(text, 2) {
         read_number(nth_word(text, 1), DIGIT_LIMIT, LARGEST_NUMBER)
@@ -102,40 +102,40 @@ fn bare(text: &[u8], phase: Phase, outcome: Outcome) -> Outcome
     if has_words(text, 1) {
         outcome
     } else {
-        refused(phase, Refusal::Form)
+        refused_request(phase, PopRefusal::Form)
     }
 }
 
 // Returns the outcome of LIST or UIDL.
-fn listed(text: &[u8], phase: Phase, listing: Listing) -> Outcome
-    ensures { result ≡ listed text.now phase listing }
+fn list_outcome(text: &[u8], phase: Phase, listing: Listing) -> Outcome
+    ensures { result ≡ list_outcome text.now phase listing }
 {
     if has_words(text, 1) {
-        return replied(phase, Reply::Rows(listing));
+        return replied(phase, PopReply::Rows(listing));
     }
-    match number_in(text) {
-        Some(number) => replied(phase, Reply::Row(listing, number)),
-        None => refused(phase, Refusal::Form),
+    match letter_number(text) {
+        Some(number) => replied(phase, PopReply::Row(listing, number)),
+        None => refused_request(phase, PopRefusal::Form),
     }
 }
 
 // Returns the outcome of RETR.
 fn retrieved(text: &[u8], phase: Phase) -> Outcome
-    ensures { result ≡ lettered phase (number_in text.now) Text }
+    ensures { result ≡ lettered phase (letter_number text.now) Text }
 {
-    match number_in(text) {
-        Some(number) => replied(phase, Reply::Text(number)),
-        None => refused(phase, Refusal::Form),
+    match letter_number(text) {
+        Some(number) => replied(phase, PopReply::Text(number)),
+        None => refused_request(phase, PopRefusal::Form),
     }
 }
 
 // Returns the outcome of DELE: no letter is deleted.
 fn kept(text: &[u8], phase: Phase) -> Outcome
-    ensures { result ≡ lettered phase (number_in text.now) (λ n. Refused Kept) }
+    ensures { result ≡ lettered phase (letter_number text.now) (λ n. Refused Kept) }
 {
-    match number_in(text) {
-        Some(_) => refused(phase, Refusal::Kept),
-        None => refused(phase, Refusal::Form),
+    match letter_number(text) {
+        Some(_) => refused_request(phase, PopRefusal::Kept),
+        None => refused_request(phase, PopRefusal::Form),
     }
 }
 
@@ -145,11 +145,11 @@ fn user_outcome(user: &[u8], phase: Phase, text: &[u8]) -> Outcome
 {
     if has_words(text, 2) {
         Outcome {
-            reply: Reply::Accepted,
+            reply: PopReply::Accepted,
             phase: Phase::Named(nth_word(text, 1) == user),
         }
     } else {
-        refused(phase, Refusal::Form)
+        refused_request(phase, PopRefusal::Form)
     }
 }
 
@@ -169,14 +169,14 @@ fn pass_outcome(secret: &[u8], phase: Phase, text: &[u8]) -> Outcome
 {
     let given = after_keyword(text);
     if given.is_empty() {
-        refused(phase, Refusal::Form)
+        refused_request(phase, PopRefusal::Form)
     } else if is_right(phase) && given == secret {
         Outcome {
-            reply: Reply::Accepted,
+            reply: PopReply::Accepted,
             phase: Phase::Transaction,
         }
     } else {
-        refused(phase, Refusal::Denied)
+        refused_request(phase, PopRefusal::Denied)
     }
 }
 
@@ -185,7 +185,7 @@ fn quit_outcome(phase: Phase, text: &[u8]) -> Outcome
     ensures { result ≡ bare text.now phase (record { reply = Accepted; phase = Ended }) }
 {
     let ended = Outcome {
-        reply: Reply::Accepted,
+        reply: PopReply::Accepted,
         phase: Phase::Ended,
     };
     bare(text, phase, ended)
@@ -205,13 +205,13 @@ fn allowed_outcome(
         Keyword::User => user_outcome(user, phase, text),
         Keyword::Pass => pass_outcome(secret, phase, text),
         Keyword::Quit => quit_outcome(phase, text),
-        Keyword::Stat => bare(text, phase, replied(phase, Reply::Totals)),
-        Keyword::List => listed(text, phase, Listing::Sizes),
-        Keyword::Uidl => listed(text, phase, Listing::Ids),
+        Keyword::Stat => bare(text, phase, replied(phase, PopReply::Totals)),
+        Keyword::List => list_outcome(text, phase, Listing::Sizes),
+        Keyword::Uidl => list_outcome(text, phase, Listing::Ids),
         Keyword::Retr => retrieved(text, phase),
         Keyword::Dele => kept(text, phase),
-        Keyword::Noop => bare(text, phase, replied(phase, Reply::Accepted)),
-        Keyword::Rset => bare(text, phase, replied(phase, Reply::Accepted)),
+        Keyword::Noop => bare(text, phase, replied(phase, PopReply::Accepted)),
+        Keyword::Rset => bare(text, phase, replied(phase, PopReply::Accepted)),
     }
 }
 
@@ -220,12 +220,12 @@ fn text_outcome(user: &[u8], secret: &[u8], phase: Phase, text: &[u8]) -> Outcom
     ensures { result ≡ text_outcome user.now secret.now phase text.now }
 {
     match keyword_of(nth_word(text, 0)) {
-        None => refused(phase, Refusal::Unknown),
+        None => refused_request(phase, PopRefusal::Unknown),
         Some(keyword) => {
             if is_allowed(keyword, phase) {
                 allowed_outcome(user, secret, phase, keyword, text)
             } else {
-                refused(phase, Refusal::State)
+                refused_request(phase, PopRefusal::State)
             }
         }
     }
@@ -249,6 +249,6 @@ pub(crate) fn outcome_of(user: &[u8], secret: &[u8], phase: Phase, request: &[u8
     if request.len() <= REQUEST_LIMIT {
         text_outcome(user, secret, phase, without_return(request))
     } else {
-        refused(phase, Refusal::Long)
+        refused_request(phase, PopRefusal::Long)
     }
 }

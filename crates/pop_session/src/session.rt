@@ -6,8 +6,8 @@ ghost use Rattle.std.specs.Io.KnownBytes.{Appends};
 ghost use Rattle.mail_lines.specs.Lines.{is_end, NoEnd};
 ghost use Rattle.tap_edges.specs.Edges.{HasCause};
 ghost use Rattle.tap_edges.specs.Puts.{counted, TookSome, PutBehind};
-ghost use Rattle.pop_session.specs.Replies.{greeting, reply_bytes};
-ghost use Rattle.pop_session.specs.Sessions.{Session, new_session, greeted, replies_from, quits_from, IsReady, is_ended, grown, AreShort};
+ghost use Rattle.pop_session.specs.Replies.{greeting, pop_reply_bytes};
+ghost use Rattle.pop_session.specs.Sessions.{PopSessionState, new_session, greeted, replies_from, quits_from, CanTakeBytes, is_ended, request_grown, AreShort};
 ghost use Rattle.pop_session.specs.Sessions.{held, open_reply, answered, IsOver};
 
 use crate::buffer::greeting_line;
@@ -37,9 +37,9 @@ pub struct PopSession<'a> {
 impl<'a> Model for PopSession<'a> {
     ghost use Rattle.std.specs.Prelude.{◌≡◌};
     ghost use Rattle.mail_lines.specs.Lines.{NoEnd};
-    ghost use Rattle.pop_session.specs.Sessions.{Session, AreShort};
+    ghost use Rattle.pop_session.specs.Sessions.{PopSessionState, AreShort};
 
-    ghost Value = { Session };
+    ghost Value = { PopSessionState };
 
     ghost view = { λ s. record {
       user = s.user.now;
@@ -67,7 +67,7 @@ fn end_of_request(bytes: &[u8]) -> usize
 
 // Appends bytes of the open request, up to one byte more than a request may have, which shows that it is too long.
 fn grow(front: &mut ArrayVec<u8, 513>, bytes: &[u8])
-    ensures { front.new.items ≡ grown front.old.items bytes.now }
+    ensures { front.new.items ≡ request_grown front.old.items bytes.now }
 {
     let room = front.remaining_capacity();
     if bytes.len() <= room {
@@ -126,7 +126,7 @@ impl<'a> PopSession<'a> {
         requires going { self.old.failed ≡ false }
         ensures ok { OnOk result (Appends (K.out sink.old) (K.out sink.new) greeting) }
         ensures next { OnOk result (self.new ≡ greeted self.old) }
-        ensures ready { OnOk result (IsReady self.new) }
+        ensures ready { OnOk result (CanTakeBytes self.new) }
         ensures err { IfErr result (λ failed. TookSome 0 (K.out sink.old) (K.out sink.new) greeting failed) }
         ensures cause { HasCause (K.faults sink.old) (K.faults sink.new) result }
         ensures failed { OnErr result (self.new.failed ≡ true) }
@@ -188,7 +188,7 @@ impl<'a> PopSession<'a> {
         sink: &mut K,
     ) -> Result<Step, PutFailed>
         requires some { 0 < length piece.now }
-        requires ready { IsReady self.old }
+        requires ready { CanTakeBytes self.old }
         ensures within { IfOk result (λ step. (0 < step.used) × (step.used ≤ length piece.now)) }
         ensures count { IfOk result (λ step. step.done ≡ counted (start + length (replies_from self.old (take step.used piece.now)))) }
         ensures ok { IfOk result (λ step. Appends (K.out sink.old) (K.out sink.new) (replies_from self.old (take step.used piece.now))) }
@@ -224,7 +224,7 @@ impl<'a> PopSession<'a> {
     /// the replies to all of them are those that were put and those to the rest. Fails only if a put fails, with the number
     /// of bytes that this call put before, and the session has failed then.
     pub fn take<K: Sink>(&mut self, piece: &[u8], sink: &mut K) -> Result<bool, PutFailed>
-        requires ready { IsReady self.old }
+        requires ready { CanTakeBytes self.old }
         ensures ok { OnOk result (Appends (K.out sink.old) (K.out sink.new) (replies_from self.old piece.now)) }
         ensures next { OnOk result ((rest : List ℕ) →
             replies_from self.old (piece.now ++ rest) ≡ replies_from self.old piece.now ++ replies_from self.new rest) }
@@ -232,7 +232,7 @@ impl<'a> PopSession<'a> {
         ensures quits { OnOk result ((rest : List ℕ) → quits_from self.old (piece.now ++ rest) ≡ quits_from self.new rest) }
         ensures quit { IfOk result (λ quit. quit ≡ quits_from self.old piece.now) }
         ensures over { IfOk result (λ quit. quit ≡ true → (rest : List ℕ) → replies_from self.new rest ≡ []) }
-        ensures ready { IfOk result (λ quit. quit ≡ false → IsReady self.new) }
+        ensures ready { IfOk result (λ quit. quit ≡ false → CanTakeBytes self.new) }
         ensures err { IfErr result (λ failed. TookSome 0 (K.out sink.old) (K.out sink.new) (replies_from self.old piece.now) failed) }
         ensures cause { HasCause (K.faults sink.old) (K.faults sink.new) result }
         ensures failed { OnErr result (self.new.failed ≡ true) }

@@ -22,7 +22,7 @@ use Rattle.tql_core.specs.Values.{field, both, both_texts, text_cmp, text_field,
 use Rattle.row_index.specs.Texts as texts
 use Rattle.row_index.specs.Texts.{with_text, msgids, parents, senders, subjects, references_in, words_in}
 use Rattle.row_index.specs.Orders.{Numbered, doc_number, IsMoment}
-use Rattle.row_index.specs.Held.{notes_on}
+use Rattle.row_index.specs.Held.{indexed_notes}
 
 module _ {A : Type 0} (of : A → Row) where
   -- rows picked before or after they are seen as rows
@@ -108,9 +108,9 @@ no_doc docs o out n r = none_numbered (λ row. both Eq (field Id row) o) 1 docs 
     small : (a l : ℕ) → a < 1 + l → l < 4294967296 → a ≤ 4294967295
     small a l h k = omega (arith, h, k)
 
-pub notes_picked : (notes : List Note) (o : Option ℤ) (k : ℕ) → o ≡ Some (pos k) → map OfNote (notes_on k notes) ≡ filter (λ row. both Eq (field DocOf row) o) (map OfNote notes)
+pub notes_picked : (notes : List Note) (o : Option ℤ) (k : ℕ) → o ≡ Some (pos k) → map OfNote (indexed_notes k notes) ≡ filter (λ row. both Eq (field DocOf row) o) (map OfNote notes)
 notes_picked notes o k e =
-    subst (λ z. map OfNote (notes_on k notes) ≡ filter (λ row. both Eq (field DocOf row) z) (map OfNote notes)) (sym e)
+    subst (λ z. map OfNote (indexed_notes k notes) ≡ filter (λ row. both Eq (field DocOf row) z) (map OfNote notes)) (sym e)
     (picked OfNote (λ note. (nat_eq k note.doc.0 || false)) (λ row. both Eq (field DocOf row) (Some (pos k))) notes (λ n. turned k n.doc.0))
   where
     or_false : (b : Bool) → (b || false) ≡ b

@@ -33,8 +33,8 @@ use Rattle.time_marks.proofs.Lists.{any_in, any_same, all_in, or_right}
 use Rattle.time_marks.proofs.Envs.{bind_other}
 use Rattle.access_plan.specs.declared.access.Access.{Access}
 use Rattle.access_plan.specs.declared.access.Access.TheVariants.{ById, ByMsgId, ByParent, BySender, BySubject, ReferencedBy, ByReference, ByWord, NotesOf, AllDocs, AllNotes}
-use Rattle.access_plan.specs.declared.kind.Kind.{Kind}
-use Rattle.access_plan.specs.declared.kind.Kind.TheVariants as K
+use Rattle.access_plan.specs.declared.kind.AccessKind.{AccessKind}
+use Rattle.access_plan.specs.declared.kind.AccessKind.TheVariants as K
 use Rattle.access_plan.specs.declared.reach.Reach.{Reach}
 use Rattle.access_plan.specs.Accesses.{table_of, first_some, is_other, is_held, is_held_or, is_known_number, is_known_text, other_number, other_text, number_side, text_side, referring_side, reference_side, word_side, guard_access, near_kinds, whole}
 use Rattle.access_plan.specs.Laws.{AreSame}
@@ -43,7 +43,7 @@ use Rattle.access_plan.proofs.Admits.{made_of, one_of}
 use Rattle.access_plan.proofs.Enough.{first_of}
 use Rattle.access_plan.proofs.Fields as same
 use Rattle.access_plan.proofs.Nearests.{nearest_serves}
-use Rattle.probe_eval.specs.Open.{number_known, text_known, atom_known, atom_held, is_open, are_open, path_open, is_apart, are_apart, path_apart, may_go}
+use Rattle.probe_eval.specs.Open.{number_known, text_known, atom_known, atom_held, may_hold, are_open, path_open, is_apart, are_apart, path_apart, may_go}
 use Rattle.probe_eval.specs.Work.{admits_by, docs_of_id, rows_by}
 use Rattle.probe_eval.specs.Laws.{RestsAreAlike}
 use Rattle.probe_eval.specs.Rests.{all_or, rest_of}
@@ -141,7 +141,7 @@ module _ (some known : ℕ → Bool) (u : Var) where
       let k = n m.0 m.1 in
       (k.0, subst (λ z. access_known some z ≡ true) m.2 (is m.0 ∙ k.1))
 
-  guard_names : (kind : Kind) (a : Atom) (access : Access) → guard_access known u kind a ≡ Some access → atom_known some a ≡ true → (some u.0 ≡ true) × (access_known some access ≡ true)
+  guard_names : (kind : AccessKind) (a : Atom) (access : Access) → guard_access known u kind a ≡ Some access → atom_known some a ≡ true → (some u.0 ≡ true) × (access_known some access ≡ true)
   guard_names K.ById a access h t = number_access ById (λ e. refl) (number_side known u Id a) access (λ e i. by_number Id a e i t) h
   guard_names K.ByMsgId a access h t = text_access ByMsgId (λ e. refl) (text_side known u MsgId a) access (λ e i. by_text MsgId a e i t) h
   guard_names K.ByParent a access h t = text_access ByParent (λ e. refl) (text_side known u InReplyTo a) access (λ e i. by_text InReplyTo a e i t) h
@@ -195,7 +195,7 @@ module _ (T : Tables) (path : List Step) (b : ℤ) (v : Var) (known : ℕ → Bo
     second : AreSame known two f
     come : come_by b e ≡ come_by b f
 
-  open_same : (e f : Env) → Alike e f → (step : Step) → In step path → (a : Atom) → In a step.guards → is_open e a ≡ is_open f a
+  open_same : (e f : Env) → Alike e f → (step : Step) → In step path → (a : Atom) → In a step.guards → may_hold e a ≡ may_hold f a
   open_same e f x step i a j =
       elim (settled step i a j) [
         | inl n ↦ ap (λ h. not (atom_known h a) || true_atom a e) x.held ∙ ap (λ t. not (atom_held f a) || t) (sym (atom_is (is_other v) e f x.same a n))
@@ -205,7 +205,7 @@ module _ (T : Tables) (path : List Step) (b : ℤ) (v : Var) (known : ℕ → Bo
   go_same : (e f : Env) → Alike e f → may_go path b e ≡ may_go path b f
   go_same e f x =
       ap (λ c. c && path_open path e) x.come
-      ∙ ap (λ o. come_by b f && o) (all_same (λ (step : Step). are_open e step.guards) (λ (step : Step). are_open f step.guards) path (λ step i. all_same (is_open e) (is_open f) step.guards (λ a j. open_same e f x step i a j)))
+      ∙ ap (λ o. come_by b f && o) (all_same (λ (step : Step). are_open e step.guards) (λ (step : Step). are_open f step.guards) path (λ step i. all_same (may_hold e) (may_hold f) step.guards (λ a j. open_same e f x step i a j)))
 
   held_by : (e f : Env) (u : Var) (row : Row) → is_held e ≡ is_held f → (k : ℕ) → is_held (bind u row e) k ≡ is_held (bind u row f) k
   held_by e f u row h k = go (nat_eq k u.0)
@@ -286,7 +286,7 @@ module _ (T : Tables) (path : List Step) (b : ℤ) (env : Env) (v : Var) (apart 
   is_true : (row : Row) (step : Step) (a : Atom) → In step path → In a step.guards → atom_known (is_held_or env v) a ≡ true → path_open path (bind v row env) ≡ true → true_atom a (bind v row env) ≡ true
   is_true row step a i j m o =
       let y : atom_held (bind v row env) a ≡ true = subst (λ h. atom_known h a ≡ true) (held_is row) m in
-      let p : is_open (bind v row env) a ≡ true = all_in (is_open (bind v row env)) step.guards a (all_in (λ (step : Step). are_open (bind v row env) step.guards) path step o i) j in
+      let p : may_hold (bind v row env) a ≡ true = all_in (may_hold (bind v row env)) step.guards a (all_in (λ (step : Step). are_open (bind v row env) step.guards) path step o i) j in
       rw y at p
 
   -- beside rows that may go on the rest exists or not alike

@@ -13,7 +13,7 @@ use Rattle.access_plan.specs.Accesses.{is_other}
 use Rattle.access_plan.specs.declared.reach.Reach.{Reach}
 use Rattle.time_marks.specs.Probes.{Probe}
 use Rattle.time_marks.proofs.Envs.{bind_same, bind_other}
-use Rattle.probe_eval.specs.Conjuncts.{names, fixed_part}
+use Rattle.probe_eval.specs.Conjuncts.{mentions, fixed_part}
 use Rattle.probe_eval.specs.Answers.{IsNever, query_var}
 use Rattle.probe_eval.specs.Nested.{new_doc, holds_here, hits_over}
 use Rattle.probe_eval.specs.Rests.{rest_of}
@@ -22,7 +22,7 @@ use Rattle.probe_eval.proofs.HitSteps.{doc_hits, note_hits}
 use Rattle.probe_eval.proofs.LevelLaws.{no_hit}
 
 -- one that is false and doesn't name v is so
-pub never_named : (T : Tables) (v : Var) (x : Condition) (env : Env) → names v x ≡ false → truth T (pos 0) x env ≡ false → IsNever T v x env
+pub never_named : (T : Tables) (v : Var) (x : Condition) (env : Env) → mentions v x ≡ false → truth T (pos 0) x env ≡ false → IsNever T v x env
 never_named T v x env n f final s = stays T (pos 0) v x env final s n ∙ f
 
 -- one of two conjuncts is enough

@@ -14,7 +14,7 @@ use Rattle.access_plan.specs.Accesses.{is_other}
 use Rattle.access_plan.specs.Laws.{AreSame}
 use Rattle.probe_eval.specs.Open.{base_known, atom_known}
 use Rattle.probe_eval.specs.Work.{work, total}
-use Rattle.probe_eval.specs.Conjuncts.{names, fixed_part, own_part}
+use Rattle.probe_eval.specs.Conjuncts.{mentions, fixed_part, own_part}
 use Rattle.probe_eval.proofs.OpenLaws.{value_is, atom_is}
 
 pub is_apart_from : (v : Var) (k : ℕ) → is_other v k ≡ true → k ≡ v.0 → ⊥
@@ -43,27 +43,27 @@ neither false b h = (refl, h)
 neither true b h = absurd (false≢true (sym h))
 
 -- a condition that doesn't name v has one truth for all rows of v
-pub stays : (T : Tables) (n : ℤ) (v : Var) (x : Condition) (env final : Env) → AreSame (is_other v) env final → names v x ≡ false → truth T n x final ≡ truth T n x env
+pub stays : (T : Tables) (n : ℤ) (v : Var) (x : Condition) (env final : Env) → AreSame (is_other v) env final → mentions v x ≡ false → truth T n x final ≡ truth T n x env
 stays T n v Always env final s h = refl
 stays T n v Never env final s h = refl
 stays T n v (Plain a) env final s h = atom_is (is_other v) env final s a (not_true (atom_known (is_other v) a) h)
 stays T n v (NowAtLeast e) env final s h = rw (value_is (is_other v) env final s e (not_true (base_known (is_other v) e.base) h))
 stays T n v (NowBefore e) env final s h = rw (value_is (is_other v) env final s e (not_true (base_known (is_other v) e.base) h))
 stays T n v (All l r) env final s h =
-    let k = neither (names v l) (names v r) h in
+    let k = neither (mentions v l) (mentions v r) h in
     rw (stays T n v l env final s k.0, stays T n v r env final s k.1)
 stays T n v (Either l r) env final s h =
-    let k = neither (names v l) (names v r) h in
+    let k = neither (mentions v l) (mentions v r) h in
     rw (stays T n v l env final s k.0, stays T n v r env final s k.1)
 stays T n v (Not x) env final s h = ap not (stays T n v x env final s h)
 stays T n v (Exists w t x) env final s h =
     any_same _ _ (rows_of t T) (λ r. stays T n v x (bind w r env) (bind w r final) (bound_same (is_other v) w r env final s) h)
 
 fixed_one : (T : Tables) (n : ℤ) (v : Var) (x : Condition) (env final : Env) → AreSame (is_other v) env final
-    → truth T n (if names v x then Always else x) final ≡ truth T n (if names v x then Always else x) env
-fixed_one T n v x env final s = go (names v x) refl
+    → truth T n (if mentions v x then Always else x) final ≡ truth T n (if mentions v x then Always else x) env
+fixed_one T n v x env final s = go (mentions v x) refl
   where
-    go : (b : Bool) → names v x ≡ b → truth T n (if b then Always else x) final ≡ truth T n (if b then Always else x) env
+    go : (b : Bool) → mentions v x ≡ b → truth T n (if b then Always else x) final ≡ truth T n (if b then Always else x) env
     go true e = refl
     go false e = stays T n v x env final s e
 
@@ -102,24 +102,24 @@ splits : (T : Tables) (n : ℤ) (v : Var) (x : Condition) (env : Env) → truth 
 splits T n v (All l r) env = rw (splits T n v l env, splits T n v r env) (paired (truth T n (fixed_part v l) env) (truth T n (own_part v l) env) (truth T n (fixed_part v r) env) (truth T n (own_part v r) env))
 splits T n v Always env = refl
 splits T n v Never env = refl
-splits T n v (Plain a) env = split_one T n (names v (Plain a)) (Plain a) env
-splits T n v (NowAtLeast e) env = split_one T n (names v (NowAtLeast e)) (NowAtLeast e) env
-splits T n v (NowBefore e) env = split_one T n (names v (NowBefore e)) (NowBefore e) env
-splits T n v (Either l r) env = split_one T n (names v (Either l r)) (Either l r) env
-splits T n v (Not x) env = split_one T n (names v (Not x)) (Not x) env
-splits T n v (Exists w t x) env = split_one T n (names v (Exists w t x)) (Exists w t x) env
+splits T n v (Plain a) env = split_one T n (mentions v (Plain a)) (Plain a) env
+splits T n v (NowAtLeast e) env = split_one T n (mentions v (NowAtLeast e)) (NowAtLeast e) env
+splits T n v (NowBefore e) env = split_one T n (mentions v (NowBefore e)) (NowBefore e) env
+splits T n v (Either l r) env = split_one T n (mentions v (Either l r)) (Either l r) env
+splits T n v (Not x) env = split_one T n (mentions v (Not x)) (Not x) env
+splits T n v (Exists w t x) env = split_one T n (mentions v (Exists w t x)) (Exists w t x) env
 
 -- and the parts together take no more steps than the whole
 work_splits : (T : Tables) (v : Var) (x : Condition) (env : Env) → work T (fixed_part v x) env + work T (own_part v x) env ≡ work T x env
 work_splits T v (All l r) env = let a = work_splits T v l env in let b = work_splits T v r env in omega (arith, a, b)
 work_splits T v Always env = refl
 work_splits T v Never env = refl
-work_splits T v (Plain a) env = work_one T (names v (Plain a)) (Plain a) env
-work_splits T v (NowAtLeast e) env = work_one T (names v (NowAtLeast e)) (NowAtLeast e) env
-work_splits T v (NowBefore e) env = work_one T (names v (NowBefore e)) (NowBefore e) env
-work_splits T v (Either l r) env = work_one T (names v (Either l r)) (Either l r) env
-work_splits T v (Not x) env = work_one T (names v (Not x)) (Not x) env
-work_splits T v (Exists w t x) env = work_one T (names v (Exists w t x)) (Exists w t x) env
+work_splits T v (Plain a) env = work_one T (mentions v (Plain a)) (Plain a) env
+work_splits T v (NowAtLeast e) env = work_one T (mentions v (NowAtLeast e)) (NowAtLeast e) env
+work_splits T v (NowBefore e) env = work_one T (mentions v (NowBefore e)) (NowBefore e) env
+work_splits T v (Either l r) env = work_one T (mentions v (Either l r)) (Either l r) env
+work_splits T v (Not x) env = work_one T (mentions v (Not x)) (Not x) env
+work_splits T v (Exists w t x) env = work_one T (mentions v (Exists w t x)) (Exists w t x) env
 
 -- what the first of a variable's rows and those that are left decide
 module _ (T : Tables) (x : Condition) (v : Var) (env : Env) where

@@ -19,7 +19,7 @@ use Rattle.time_marks.specs.declared.seek.Seek.{Seek}
 use Rattle.time_marks.specs.declared.seek.Seek.TheVariants.{Arrived, Dated, Fixed, ArrivedDay, DatedDay}
 use Rattle.time_marks.specs.declared.window.Window.{Window}
 use Rattle.time_marks.specs.Windows.{is_within}
-use Rattle.time_marks.specs.Seeks.{seek_of, seek_window, stored, lies_in}
+use Rattle.time_marks.specs.Seeks.{seek_of, seek_window, driving_second, lies_in}
 use Rattle.time_marks.specs.Probes.{Probe}
 use Rattle.time_marks.proofs.Envs.{bind_same}
 use Rattle.time_marks.proofs.Lists.{in_map, map_in}
@@ -146,14 +146,14 @@ module _ (w : Window) (T : Tables) where
     date_stored : (u : Var) → Some u ≡ Some v → on_row (lookup u.0 (bind v row [])) date ≡ date row
     date_stored u e = ap (λ (z : Var). on_row (lookup z.0 (bind v row [])) date) (some_same e) ∙ ap (λ o. on_row o date) (bind_same v row [])
 
-    pub stored_are : (s : Seek) (t : Table) → seek_var s ≡ Some v → In row (stored_rows s t w T) → In row (rows_of t T) × (lies_in w (stored s (bind v row [])) ≡ true)
+    pub stored_are : (s : Seek) (t : Table) → seek_var s ≡ Some v → In row (stored_rows s t w T) → In row (rows_of t T) × (lies_in w (driving_second s (bind v row [])) ≡ true)
     stored_are (Arrived u n) t e i = let k = arrived_are t row i in (k.0, ap (lies_in w) (arrival_stored u e) ∙ k.1)
     stored_are (Dated u n) t e i = let k = dated_are t row i in (k.0, ap (lies_in w) (date_stored u e) ∙ k.1)
     stored_are (Fixed moment) t e i = absurd i
     stored_are (ArrivedDay u n) t e i = let k = arrived_are t row i in (k.0, ap (lies_in w) (arrival_stored u e) ∙ k.1)
     stored_are (DatedDay u n) t e i = let k = dated_are t row i in (k.0, ap (lies_in w) (date_stored u e) ∙ k.1)
 
-    pub are_stored : (s : Seek) (t : Table) → seek_var s ≡ Some v → In row (rows_of t T) → lies_in w (stored s (bind v row [])) ≡ true → In row (stored_rows s t w T)
+    pub are_stored : (s : Seek) (t : Table) → seek_var s ≡ Some v → In row (rows_of t T) → lies_in w (driving_second s (bind v row [])) ≡ true → In row (stored_rows s t w T)
     are_stored (Arrived u n) t e i h = are_arrived t row i (ap (lies_in w) (sym (arrival_stored u e)) ∙ h)
     are_stored (Dated u n) t e i h = are_dated t row i (ap (lies_in w) (sym (date_stored u e)) ∙ h)
     are_stored (Fixed moment) t e i h = absurd (none_some e)

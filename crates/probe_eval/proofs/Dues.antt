@@ -19,7 +19,7 @@ use Rattle.time_marks.specs.declared.seek.Seek.TheVariants.{Arrived, Dated, Fixe
 use Rattle.time_marks.specs.declared.window.Window.{Window}
 use Rattle.time_marks.specs.Marks.{document_var}
 use Rattle.time_marks.specs.Windows.{is_within}
-use Rattle.time_marks.specs.Seeks.{seek_of, seek_window, stored, lies_in}
+use Rattle.time_marks.specs.Seeks.{seek_of, seek_window, driving_second, lies_in}
 use Rattle.time_marks.specs.Probes.{Probe}
 use Rattle.time_marks.specs.Found.{vars_of, Distinct, IsProbe}
 use Rattle.time_marks.proofs.Envs.{value_same}
@@ -76,15 +76,15 @@ module _ (G : Row → ℕ) (w : Window) (T : Tables) where
       ∙ dated_total (λ d. G (OfDoc d)) w T.docs
       ∙ ap (total (λ d. G (OfDoc d))) (filter_same (λ d. lies_in w (date (OfDoc d))) (λ d. lies_in w (of d)) T.docs (λ d. ap (lies_in w) (sym (h d))))
 
-  stored_total : (s : Seek) → seek_var s ≡ Some document_var → total G (stored_rows s Docs w T) ≡ total (λ d. G (OfDoc d)) (filter (λ d. lies_in w (stored s (asked_of d))) T.docs)
-  stored_total (Arrived u n) e = arrived_total u _ (λ d. ap (λ (z : Var). stored (Arrived z n) (asked_of d)) (some_same e))
-  stored_total (Dated u n) e = dates_total u _ (λ d. ap (λ (z : Var). stored (Dated z n) (asked_of d)) (some_same e))
+  stored_total : (s : Seek) → seek_var s ≡ Some document_var → total G (stored_rows s Docs w T) ≡ total (λ d. G (OfDoc d)) (filter (λ d. lies_in w (driving_second s (asked_of d))) T.docs)
+  stored_total (Arrived u n) e = arrived_total u _ (λ d. ap (λ (z : Var). driving_second (Arrived z n) (asked_of d)) (some_same e))
+  stored_total (Dated u n) e = dates_total u _ (λ d. ap (λ (z : Var). driving_second (Dated z n) (asked_of d)) (some_same e))
   stored_total (Fixed moment) e = absurd (none e)
     where
       none : None ≡ Some document_var → ⊥
       none e = cc
-  stored_total (ArrivedDay u n) e = arrived_total u _ (λ d. ap (λ (z : Var). stored (ArrivedDay z n) (asked_of d)) (some_same e))
-  stored_total (DatedDay u n) e = dates_total u _ (λ d. ap (λ (z : Var). stored (DatedDay z n) (asked_of d)) (some_same e))
+  stored_total (ArrivedDay u n) e = arrived_total u _ (λ d. ap (λ (z : Var). driving_second (ArrivedDay z n) (asked_of d)) (some_same e))
+  stored_total (DatedDay u n) e = dates_total u _ (λ d. ap (λ (z : Var). driving_second (DatedDay z n) (asked_of d)) (some_same e))
 
 module _ (T : Tables) (w : Window) (p : Probe) (order : List Reach) (k : IsProbe p) (o : IsOrder p.path p.at.base order) (bounded : is_bounded p.at ≡ true) where
   -- if nothing is marked there is no step
@@ -175,7 +175,7 @@ module _ (T : Tables) (w : Window) (p : Probe) (order : List Reach) (k : IsProbe
         same =
             ap (λ t. total (λ row. 1 + work T p.body (bind document_var row [])) (stored_rows (seek_of p.at) t (seek_window w (seek_of p.at)) T)) (asked_table p k)
             ∙ stored_total (λ row. 1 + work T p.body (bind document_var row [])) (seek_window w (seek_of p.at)) T (seek_of p.at) e_m
-            ∙ ap (total due) (filter_same (λ d. lies_in (seek_window w (seek_of p.at)) (stored (seek_of p.at) (asked_of d))) (λ d. lies_in w (value p.at (asked_of d))) T.docs (λ d. sym (solved p.at w (asked_of d) bounded)))
+            ∙ ap (total due) (filter_same (λ d. lies_in (seek_window w (seek_of p.at)) (driving_second (seek_of p.at) (asked_of d))) (λ d. lies_in w (value p.at (asked_of d))) T.docs (λ d. sym (solved p.at w (asked_of d) bounded)))
 
         by_m : total (λ row. 1 + cost_at T w p order (bind document_var row [])) (driving T w p (seek_of p.at) document_var) ≤ rows_due T w p
         by_m = subst (λ z. total (λ row. 1 + cost_at T w p order (bind document_var row [])) (driving T w p (seek_of p.at) document_var) ≤ z) same less

@@ -24,7 +24,7 @@ use Rattle.time_marks.proofs.Envs.{bind_same}
 use Rattle.access_plan.specs.declared.access.Access.{Access}
 use Rattle.access_plan.specs.declared.access.Access.TheVariants.{ByMsgId}
 use Rattle.access_plan.specs.declared.reach.Reach.{Reach}
-use Rattle.access_plan.specs.declared.kind.Kind.TheVariants as K
+use Rattle.access_plan.specs.declared.kind.AccessKind.TheVariants as K
 use Rattle.access_plan.specs.Accesses.{is_held, whole, first_some}
 use Rattle.access_plan.specs.Nearest.{kind_access, near, IsNearest}
 use Rattle.access_plan.specs.Orders.{order_of}

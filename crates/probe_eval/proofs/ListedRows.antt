@@ -26,9 +26,9 @@ use Rattle.access_plan.specs.Nearest.{nearest}
 use Rattle.access_plan.specs.declared.reach.Reach.{Reach}
 use Rattle.probe_eval.specs.Drivers.{driving, walked, mark_in, marked_hits, hits_at}
 use Rattle.probe_eval.specs.Listed.{is_by_arrival, is_docs, is_implied, asks_literal, guard_goes_by_list, path_goes_by_list, goes_by_list, listed_hit, marked_hit, listed_hits}
-use Rattle.probe_eval.specs.Literals.{literal_kind, rarer, rarest, chosen, narrowed}
+use Rattle.probe_eval.specs.Literals.{literal_kind, rarer, rarest, chosen, rows_where}
 use Rattle.probe_eval.specs.Nested.{hit_if, new_doc, holds_here, hits_over}
-use Rattle.probe_eval.specs.Open.{atom_held, is_open, are_open, path_open, may_go}
+use Rattle.probe_eval.specs.Open.{atom_held, may_hold, are_open, path_open, may_go}
 use Rattle.probe_eval.specs.Rests.{rest_of, all_or}
 use Rattle.probe_eval.specs.Tables.{table_in}
 use Rattle.probe_eval.proofs.HitSteps.{doc_hits, note_hits}
@@ -68,7 +68,7 @@ module _ (T : Tables) (v : Var) where
   rarest_one step a g h = ap (λ guards. fold (rarer T v) None guards) g ∙ rarer_one a h
 
 module _ (env : Env) (a : Atom) (t : true_atom a env ≡ true) where
-  open_atom : is_open env a ≡ true
+  open_atom : may_hold env a ≡ true
   open_atom = ap (λ b. not (atom_held env a) || b) t ∙ or_true (not (atom_held env a))
 
   -- a guard that is true is open
@@ -113,7 +113,7 @@ module _ (T : Tables) (w : Window) (p : Probe) (seek : Seek) (v : Var) (step : S
       ∙ rarest_one T v step a guards literal
 
   walked_true : (row : Row) → In row (walked T w p seek v) → true_atom a (bind v row []) ≡ true
-  walked_true row i = (in_filter (λ row. true_atom a (bind v row [])) (driving T w p seek v) row (subst (λ o. In row (narrowed v o (driving T w p seek v))) chosen_one i)).1
+  walked_true row i = (in_filter (λ row. true_atom a (bind v row [])) (driving T w p seek v) row (subst (λ o. In row (rows_where v o (driving T w p seek v))) chosen_one i)).1
 
   may_go_is : (row : Row) → true_atom a (bind v row []) ≡ true → (b : ℤ) → may_go p.path b (bind v row []) ≡ int_le (arrival row) b
   may_go_is row t b =

@@ -13,7 +13,7 @@ use Rattle.access_plan.specs.Orders.{reach_of}
 use Rattle.access_plan.specs.Nearest.{from_row, nearest}
 use Rattle.probe_eval.specs.declared.next.Next.{Next}
 use Rattle.probe_eval.specs.declared.next.Next.TheVariants.{Unknown, Known}
-use Rattle.probe_eval.specs.Nexts.{IsNext}
+use Rattle.probe_eval.specs.Nexts.{IsNearestIfKnown}
 
 module _ (path : List Step) (known : ℕ → Bool) where
   near_known : Step → Option Access
@@ -47,6 +47,6 @@ nearest_alike : (path : List Step) (v : Var) (row other : Row) (env : Env) → n
 nearest_alike path v row other env = nearest_held path (bind v row env) (bind v other env) (held_alike v row other env)
 
 -- so what was found beside one row of a variable serves beside each other
-pub next_alike : (path : List Step) (v : Var) (row other : Row) (env : Env) (next : Next) → IsNext path (bind v row env) next → IsNext path (bind v other env) next
+pub next_alike : (path : List Step) (v : Var) (row other : Row) (env : Env) (next : Next) → IsNearestIfKnown path (bind v row env) next → IsNearestIfKnown path (bind v other env) next
 next_alike path v row other env Unknown h = h
 next_alike path v row other env (Known reach) h = h ∙ nearest_alike path v row other env

@@ -22,7 +22,7 @@ use Rattle.time_marks.proofs.Envs.{bind_same, bind_other}
 use Rattle.time_marks.proofs.Orders.{all_from}
 use Rattle.access_plan.specs.Accesses.{is_held}
 use Rattle.access_plan.specs.Laws.{AreSame}
-use Rattle.probe_eval.specs.Open.{base_known, number_known, text_known, atom_known, atom_held, is_open, are_open, path_open}
+use Rattle.probe_eval.specs.Open.{base_known, number_known, text_known, atom_known, atom_held, may_hold, are_open, path_open}
 
 -- what is bound has a row
 pub held_same : (env : Env) (v : Var) (row : Row) → is_held (bind v row env) v.0 ≡ true
@@ -83,7 +83,7 @@ module _ (known : ℕ → Bool) (env final : Env) (h : AreSame known env final) 
 
 -- a guard that can be evaluated has the truth that it has in the end
 module _ (env final : Env) (h : AreSame (is_held env) env final) where
-  open_one : (a : Atom) → true_atom a final ≡ true → is_open env a ≡ true
+  open_one : (a : Atom) → true_atom a final ≡ true → may_hold env a ≡ true
   open_one a t = elim (cases_Bool (atom_held env a)) [
     | inl y ↦ let e : true_atom a env ≡ true = sym (atom_is (is_held env) env final h a y) ∙ t in rw (y, e) refl
     | inr n ↦ rw n refl
@@ -91,7 +91,7 @@ module _ (env final : Env) (h : AreSame (is_held env) env final) where
 
   -- guards that are true in the end are open before
   pub stays_open : (path : List Step) → ((step : Step) → In step path → (a : Atom) → In a step.guards → true_atom a final ≡ true) → path_open path env ≡ true
-  stays_open path g = all_from (λ (step : Step). are_open env step.guards) path (λ step i. all_from (is_open env) step.guards (λ a j. open_one a (g step i a j)))
+  stays_open path g = all_from (λ (step : Step). are_open env step.guards) path (λ step i. all_from (may_hold env) step.guards (λ a j. open_one a (g step i a j)))
 
 -- if each variable that is named has a row, a guard can be evaluated
 module _ (env : Env) (scope : List ℕ) (h : (k : ℕ) → In k scope → is_held env k ≡ true) where
@@ -116,9 +116,9 @@ module _ (env : Env) (scope : List ℕ) (h : (k : ℕ) → In k scope → is_hel
   held_atom (Has v f y) i = and_from _ _ (h v.0 i.0) (held_text y i.1)
   held_atom (Times x op y) i = and_from _ _ (held_base x.base i.0) (held_base y.base i.1)
 
-  open_true : (a : Atom) → AtomIn scope a → is_open env a ≡ true → true_atom a env ≡ true
+  open_true : (a : Atom) → AtomIn scope a → may_hold env a ≡ true → true_atom a env ≡ true
   open_true a i o = let y = held_atom a i in rw y at o
 
   -- open guards are then true
   pub all_true : (path : List Step) → ((step : Step) → In step path → (a : Atom) → In a step.guards → AtomIn scope a) → path_open path env ≡ true → (step : Step) → In step path → (a : Atom) → In a step.guards → true_atom a env ≡ true
-  all_true path s o step i a j = open_true a (s step i a j) (all_in (is_open env) step.guards a (all_in (λ (step : Step). are_open env step.guards) path step o i) j)
+  all_true path s o step i a j = open_true a (s step i a j) (all_in (may_hold env) step.guards a (all_in (λ (step : Step). are_open env step.guards) path step o i) j)

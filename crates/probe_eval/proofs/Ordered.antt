@@ -4,7 +4,7 @@ use Rattle.std.specs.Prelude.{◌⊎◌}
 use Rattle.std.proofs.lemmas.Bool.{cases_Bool}
 use Rattle.tap_rows.specs.declared.results.Hit.{Hit}
 use Rattle.tap_rows.specs.Kept.{In}
-use Rattle.tap_rows.specs.Results.{is_before, put_in, in_order}
+use Rattle.tap_rows.specs.Results.{is_before, put_in, hits_in_order}
 
 pub out_put : (a h : Hit) (bs : List Hit) → In h (put_in a bs) → (h ≡ a) ⊎ In h bs
 out_put a h [] i = i
@@ -31,11 +31,11 @@ in_put a h (b ∷ bs) i =
     other (inr (inl q)) f = inl q
     other (inr (inr j)) f = inr (f (inr j))
 
-pub ordered_in : (h : Hit) (hs : List Hit) → In h (in_order hs) → In h hs
+pub ordered_in : (h : Hit) (hs : List Hit) → In h (hits_in_order hs) → In h hs
 ordered_in h [] i = i
-ordered_in h (x ∷ xs) i = elim (out_put x h (in_order xs) i) [ inl q ↦ inl q | inr j ↦ inr (ordered_in h xs j) ]
+ordered_in h (x ∷ xs) i = elim (out_put x h (hits_in_order xs) i) [ inl q ↦ inl q | inr j ↦ inr (ordered_in h xs j) ]
 
-pub in_ordered : (h : Hit) (hs : List Hit) → In h hs → In h (in_order hs)
+pub in_ordered : (h : Hit) (hs : List Hit) → In h hs → In h (hits_in_order hs)
 in_ordered h [] i = i
-in_ordered h (x ∷ xs) (inl q) = in_put x h (in_order xs) (inl q)
-in_ordered h (x ∷ xs) (inr i) = in_put x h (in_order xs) (inr (in_ordered h xs i))
+in_ordered h (x ∷ xs) (inl q) = in_put x h (hits_in_order xs) (inl q)
+in_ordered h (x ∷ xs) (inr i) = in_put x h (hits_in_order xs) (inr (in_ordered h xs i))

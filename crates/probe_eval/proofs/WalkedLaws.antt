@@ -25,9 +25,9 @@ use Rattle.time_marks.specs.Probes.{Probe, come_by}
 use Rattle.time_marks.proofs.Lists.{all_in}
 use Rattle.access_plan.specs.declared.reach.Reach.{Reach}
 use Rattle.probe_eval.specs.Drivers.{driving, walked, mark_in, marked_hits, hits_at}
-use Rattle.probe_eval.specs.Literals.{field_kind, list_field_kind, literal_kind, chosen, narrowed}
+use Rattle.probe_eval.specs.Literals.{field_kind, list_field_kind, literal_kind, chosen, rows_where}
 use Rattle.probe_eval.specs.Nested.{hit_if, new_doc, over_rows, holds_here, asked_or, hits_over}
-use Rattle.probe_eval.specs.Open.{atom_held, is_open, are_open, path_open, may_go}
+use Rattle.probe_eval.specs.Open.{atom_held, may_hold, are_open, path_open, may_go}
 use Rattle.probe_eval.specs.Rests.{further}
 use Rattle.probe_eval.specs.Tables.{table_in}
 use Rattle.probe_eval.specs.Work.{total}
@@ -59,8 +59,8 @@ refused : (path : List Step) (b : ℤ) (v : Var) (row : Row) (a : Atom) (step : 
 refused path b v row a step i j h e =
     let kind = some_kind (literal_kind v a) h in
     let held = held_of v a kind.0 row kind.1 in
-    let shut : is_open (bind v row []) a ≡ false = rw (held, e) refl in
-    let guards : are_open (bind v row []) step.guards ≡ false = not_all (is_open (bind v row [])) step.guards a j shut in
+    let shut : may_hold (bind v row []) a ≡ false = rw (held, e) refl in
+    let guards : are_open (bind v row []) step.guards ≡ false = not_all (may_hold (bind v row [])) step.guards a j shut in
     let all : path_open path (bind v row []) ≡ false = not_all (λ (s : Step). are_open (bind v row []) s.guards) path step i guards in
     and_none (come_by b (bind v row [])) (path_open path (bind v row [])) all
   where
@@ -115,21 +115,21 @@ module _ (T : Tables) (w : Window) (p : Probe) (seek : Seek) (v : Var) where
   walked_hits entries order = go (chosen T v p.path seek (table_in p.path v.0)) refl
     where
       go : (o : Option Atom) → chosen T v p.path seek (table_in p.path v.0) ≡ o
-          → flat_map (λ row. hits_at entries T w p order (bind v row [])) (narrowed v o (driving T w p seek v)) ≡ flat_map (λ row. hits_at entries T w p order (bind v row [])) (driving T w p seek v)
+          → flat_map (λ row. hits_at entries T w p order (bind v row [])) (rows_where v o (driving T w p seek v)) ≡ flat_map (λ row. hits_at entries T w p order (bind v row [])) (driving T w p seek v)
       go None e = refl
       go (Some a) e = flat_filter (λ row. hits_at entries T w p order (bind v row [])) (λ row. true_atom a (bind v row [])) (driving T w p seek v) (none_beside entries order a e)
 
   pub walked_in : (row : Row) → In row (walked T w p seek v) → In row (driving T w p seek v)
   walked_in row i = go (chosen T v p.path seek (table_in p.path v.0)) i
     where
-      go : (o : Option Atom) → In row (narrowed v o (driving T w p seek v)) → In row (driving T w p seek v)
+      go : (o : Option Atom) → In row (rows_where v o (driving T w p seek v)) → In row (driving T w p seek v)
       go None i = i
       go (Some a) i = (in_filter (λ row. true_atom a (bind v row [])) (driving T w p seek v) row i).0
 
   pub walked_total : (f : Row → ℕ) → total f (walked T w p seek v) ≤ total f (driving T w p seek v)
   walked_total f = go (chosen T v p.path seek (table_in p.path v.0))
     where
-      go : (o : Option Atom) → total f (narrowed v o (driving T w p seek v)) ≤ total f (driving T w p seek v)
+      go : (o : Option Atom) → total f (rows_where v o (driving T w p seek v)) ≤ total f (driving T w p seek v)
       go None = omega arith
       go (Some a) = total_filter f (λ row. true_atom a (bind v row [])) (driving T w p seek v)
 
@@ -138,4 +138,4 @@ module _ (T : Tables) (w : Window) (p : Probe) (seek : Seek) (v : Var) where
       → filter (λ row. true_atom a (bind v row [])) (map OfDoc (in_window doc_arrival (seek_window w seek).low (seek_window w seek).high T.docs)) ≡ walked T w p seek v
   walked_is a e =
       ap (filter (λ row. true_atom a (bind v row []))) (sym (chosen_rows T v a p.path seek (table_in p.path v.0) (seek_window w seek) e))
-      ∙ ap (λ o. narrowed v o (driving T w p seek v)) (sym e)
+      ∙ ap (λ o. rows_where v o (driving T w p seek v)) (sym e)

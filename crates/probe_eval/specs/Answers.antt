@@ -7,11 +7,11 @@ use Rattle.tql_core.specs.Holds.{truth}
 use Rattle.tql_core.specs.Values.{Env}
 use Rattle.access_plan.specs.Accesses.{is_other}
 use Rattle.access_plan.specs.Laws.{AreSame}
-use Rattle.probe_eval.specs.declared.answer.Answer.{Answer}
-use Rattle.probe_eval.specs.declared.answer.Answer.TheVariants.{True, False, Never}
+use Rattle.probe_eval.specs.declared.answer.TruthOfRows.{TruthOfRows}
+use Rattle.probe_eval.specs.declared.answer.TruthOfRows.TheVariants.{True, False, Never}
 
 -- the condition is true
-abbrev pub is_true : Answer → Bool
+abbrev pub is_true : TruthOfRows → Bool
 is_true True = true
 is_true False = false
 is_true Never = false

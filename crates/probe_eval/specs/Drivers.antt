@@ -18,7 +18,7 @@ use Rattle.time_marks.specs.Windows.{is_within}
 use Rattle.time_marks.specs.Seeks.{seek_window}
 use Rattle.time_marks.specs.Probes.{Probe}
 use Rattle.access_plan.specs.declared.reach.Reach.{Reach}
-use Rattle.probe_eval.specs.Literals.{chosen, narrowed}
+use Rattle.probe_eval.specs.Literals.{chosen, rows_where}
 use Rattle.probe_eval.specs.Tables.{table_in}
 use Rattle.probe_eval.specs.Work.{total}
 use Rattle.probe_eval.specs.Nested.{hits_over, work_over}
@@ -55,7 +55,7 @@ driving T w p seek v = stored_rows seek (table_in p.path v.0) (seek_window w see
 
 -- the driving rows that are walked: of documents by their arrival those of the shortest posting list that a guard names
 abbrev pub walked : Tables → Window → Probe → Seek → Var → List Row
-walked T w p seek v = narrowed v (chosen T v p.path seek (table_in p.path v.0)) (driving T w p seek v)
+walked T w p seek v = rows_where v (chosen T v p.path seek (table_in p.path v.0)) (driving T w p seek v)
 
 -- the second, if it lies in the window
 abbrev pub mark_in : Window → Option ℤ → Option ℤ

@@ -81,6 +81,6 @@ module _ (T : Tables) (v : Var) where
   chosen path _ _ = None
 
 -- the rows of which the guard is true, if there is one
-abbrev pub narrowed : Var → Option Atom → List Row → List Row
-narrowed v None rows = rows
-narrowed v (Some a) rows = filter (λ row. true_atom a (bind v row [])) rows
+abbrev pub rows_where : Var → Option Atom → List Row → List Row
+rows_where v None rows = rows
+rows_where v (Some a) rows = filter (λ row. true_atom a (bind v row [])) rows

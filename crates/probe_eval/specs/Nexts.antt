@@ -8,6 +8,6 @@ use Rattle.probe_eval.specs.declared.next.Next.{Next}
 use Rattle.probe_eval.specs.declared.next.Next.TheVariants.{Unknown, Known}
 
 -- it wasn't found yet, or is the nearest beside these rows
-abbrev pub IsNext : List Step → Env → Next → Type 0
-IsNext path env Unknown = Unit {0}
-IsNext path env (Known reach) = option_reach reach ≡ nearest path env
+abbrev pub IsNearestIfKnown : List Step → Env → Next → Type 0
+IsNearestIfKnown path env Unknown = Unit {0}
+IsNearestIfKnown path env (Known reach) = option_reach reach ≡ nearest path env

@@ -7,16 +7,16 @@ ghost use Rattle.tql_core.specs.Condition.{Exists};
 ghost use Rattle.tql_tree.specs.declared.table.Table.{Table};
 ghost use Rattle.tql_core.specs.Holds.{truth};
 ghost use Rattle.tql_core.specs.Values.{bind};
-ghost use Rattle.probe_eval.specs.declared.answer.Answer.TheVariants.{Never};
+ghost use Rattle.probe_eval.specs.declared.answer.TruthOfRows.TheVariants.{Never};
 ghost use Rattle.probe_eval.specs.Answers.{is_true, IsNever};
-ghost use Rattle.probe_eval.specs.Conjuncts.{names, fixed_part};
+ghost use Rattle.probe_eval.specs.Conjuncts.{mentions, fixed_part};
 ghost use Rattle.probe_eval.specs.Work.{work, total};
 ghost use Rattle.probe_eval.specs.Searches.{pool_of, condition_at, CanEvaluate, CanEvaluateInner, IsExists};
 
 use crate::bodies::{any_own, body_holds, own_holds};
 use crate::inner_rows::rows_left;
 use crate::names::names;
-use crate::{Answer, RowWalk, Search};
+use crate::{TruthOfRows, RowWalk, Search};
 use node_pool::NodeId;
 use std::sync::ledger::Ledger;
 use tap_base::Steps;
@@ -24,15 +24,15 @@ use tql_core::{Env, TNode, Var, node_at};
 use tql_tree::Table;
 
 // Returns the answer of a condition that is false: it is never true if it doesn't name the variable.
-fn false_answer(search: &Search, body: NodeId, var: Var) -> Answer
+fn false_answer(search: &Search, body: NodeId, var: Var) -> TruthOfRows
     requires { IsPlaceOf (pool_of search.now) body.0 }
     ensures truth { is_true result ≡ false }
-    ensures never { result ≡ Never → names var (condition_at search.now body.0) ≡ false }
+    ensures never { result ≡ Never → mentions var (condition_at search.now body.0) ≡ false }
 {
     if names(&search.plan.query.pool, body, var) {
-        Answer::False
+        TruthOfRows::False
     } else {
-        Answer::Never
+        TruthOfRows::Never
     }
 }
 
@@ -43,7 +43,7 @@ fn whole_answer<'a, L: Ledger>(
     var: Var,
     env: &Env<'a>,
     steps: &mut Steps<L>,
-) -> Answer
+) -> TruthOfRows
     requires { CanEvaluate search.now body.0 env.now }
     ensures truth { is_true result ≡ truth search.now.index.now (pos 0) (condition_at search.now body.0) env.now }
     ensures never { result ≡ Never → IsNever search.now.index.now var (condition_at search.now body.0) env.now }
@@ -51,7 +51,7 @@ fn whole_answer<'a, L: Ledger>(
     ensures more { steps.old ≤ steps.new }
 {
     if body_holds(search, body, env, steps) {
-        Answer::True
+        TruthOfRows::True
     } else {
         false_answer(search, body, var)
     }
@@ -65,7 +65,7 @@ fn fixed_answer<'a, L: Ledger>(
     var: Var,
     env: &Env<'a>,
     steps: &mut Steps<L>,
-) -> Answer
+) -> TruthOfRows
     requires { CanEvaluate search.now body.0 env.now }
     ensures truth { is_true result ≡ truth search.now.index.now (pos 0) (fixed_part of (condition_at search.now body.0)) env.now }
     ensures never { result ≡ Never → IsNever search.now.index.now var (fixed_part of (condition_at search.now body.0)) env.now }
@@ -74,13 +74,13 @@ fn fixed_answer<'a, L: Ledger>(
 {
     match node_at(&search.plan.query.pool, body) {
         TNode::All(l, r) => match fixed_answer(search, *l, of, var, env, steps) {
-            Answer::True => fixed_answer(search, *r, of, var, env, steps),
-            Answer::False => Answer::False,
-            Answer::Never => Answer::Never,
+            TruthOfRows::True => fixed_answer(search, *r, of, var, env, steps),
+            TruthOfRows::False => TruthOfRows::False,
+            TruthOfRows::Never => TruthOfRows::Never,
         },
         _ => {
             if names(&search.plan.query.pool, body, of) {
-                Answer::True
+                TruthOfRows::True
             } else {
                 whole_answer(search, body, var, env, steps)
             }
@@ -97,7 +97,7 @@ fn later_answer<'a, L: Ledger>(
     var: Var,
     env: &Env<'a>,
     steps: &mut Steps<L>,
-) -> Answer
+) -> TruthOfRows
     requires { CanEvaluateInner search.now inner.0 env.now }
     ensures truth { is_true result ≡ list_any
         (λ row. truth search.now.index.now (pos 0) (condition_at search.now inner.0) (bind of row env.now)) rows.entry }
@@ -107,22 +107,22 @@ fn later_answer<'a, L: Ledger>(
     ensures more { steps.old ≤ steps.new }
 {
     match rows.next(steps) {
-        None => Answer::False,
+        None => TruthOfRows::False,
         Some(row) => {
             let more = env.bind(of, row);
             match fixed_answer(search, inner, of, var, &more, steps) {
-                Answer::True => {
+                TruthOfRows::True => {
                     if own_holds(search, inner, of, &more, steps) {
-                        return Answer::True;
+                        return TruthOfRows::True;
                     }
                     if any_own(search, inner, of, rows, env, steps) {
-                        Answer::True
+                        TruthOfRows::True
                     } else {
-                        Answer::False
+                        TruthOfRows::False
                     }
                 }
-                Answer::False => Answer::False,
-                Answer::Never => Answer::Never,
+                TruthOfRows::False => TruthOfRows::False,
+                TruthOfRows::Never => TruthOfRows::Never,
             }
         }
     }
@@ -138,7 +138,7 @@ fn rows_answer<'a, L: Ledger>(
     var: Var,
     env: &Env<'a>,
     steps: &mut Steps<L>,
-) -> Answer
+) -> TruthOfRows
     requires inner { CanEvaluateInner search.now inner.0 env.now }
     requires exists { IsExists search.now body.0 of table inner.0 }
     ensures truth { is_true result ≡ truth search.now.index.now (pos 0) (Exists of table (condition_at search.now inner.0)) env.now }
@@ -148,10 +148,10 @@ fn rows_answer<'a, L: Ledger>(
 {
     let mut rows = rows_left(search, body, inner, of, table, env);
     match rows.next(steps) {
-        None => Answer::False,
+        None => TruthOfRows::False,
         Some(row) => {
             if body_holds(search, inner, &env.bind(of, row), steps) {
-                Answer::True
+                TruthOfRows::True
             } else {
                 later_answer(search, inner, of, rows, var, env, steps)
             }
@@ -169,7 +169,7 @@ fn exists_answer<'a, L: Ledger>(
     var: Var,
     env: &Env<'a>,
     steps: &mut Steps<L>,
-) -> Answer
+) -> TruthOfRows
     requires inner { CanEvaluateInner search.now inner.0 env.now }
     requires exists { IsExists search.now body.0 of table inner.0 }
     ensures truth { is_true result ≡ truth search.now.index.now (pos 0) (Exists of table (condition_at search.now inner.0)) env.now }
@@ -178,9 +178,9 @@ fn exists_answer<'a, L: Ledger>(
     ensures more { steps.old ≤ steps.new }
 {
     match rows_answer(search, body, inner, of, table, var, env, steps) {
-        Answer::True => Answer::True,
-        Answer::False => false_answer(search, inner, var),
-        Answer::Never => Answer::Never,
+        TruthOfRows::True => TruthOfRows::True,
+        TruthOfRows::False => false_answer(search, inner, var),
+        TruthOfRows::Never => TruthOfRows::Never,
     }
 }
 
@@ -193,7 +193,7 @@ pub(crate) fn body_answer<'a, L: Ledger>(
     var: Var,
     env: &Env<'a>,
     steps: &mut Steps<L>,
-) -> Answer
+) -> TruthOfRows
     requires { CanEvaluate search.now body.0 env.now }
     ensures truth { is_true result ≡ truth search.now.index.now (pos 0) (condition_at search.now body.0) env.now }
     ensures never { result ≡ Never → IsNever search.now.index.now var (condition_at search.now body.0) env.now }
@@ -202,9 +202,9 @@ pub(crate) fn body_answer<'a, L: Ledger>(
 {
     match node_at(&search.plan.query.pool, body) {
         TNode::All(l, r) => match body_answer(search, *l, var, env, steps) {
-            Answer::True => body_answer(search, *r, var, env, steps),
-            Answer::False => Answer::False,
-            Answer::Never => Answer::Never,
+            TruthOfRows::True => body_answer(search, *r, var, env, steps),
+            TruthOfRows::False => TruthOfRows::False,
+            TruthOfRows::Never => TruthOfRows::Never,
         },
         TNode::Exists(of, table, x) => {
             exists_answer(search, body, *x, *of, *table, var, env, steps)

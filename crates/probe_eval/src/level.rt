@@ -2,7 +2,7 @@
 
 ghost use Rattle.std.specs.Prelude.{◌≡◌, ◌+◌, ◌≤◌, [], Bool, None, IfSome};
 ghost use Rattle.tql_core.specs.Values.{lookup};
-ghost use Rattle.probe_eval.specs.Nexts.{IsNext};
+ghost use Rattle.probe_eval.specs.Nexts.{IsNearestIfKnown};
 ghost use Rattle.probe_eval.specs.Searches.{searched};
 ghost use Rattle.probe_eval.specs.Nested.{has_more, is_once, is_walked, once_cost, hits_over, work_over};
 ghost use Rattle.probe_eval.specs.Levels.{IsLevel, level_cost};
@@ -55,7 +55,7 @@ fn is_walked<'a, L: Ledger>(
 ) -> bool
     requires { CanWalk search.now order.now next.old env.now }
     ensures walked { result ≡ is_walked search.now.index.now (searched search.now) mark once order.now env.now }
-    ensures next { IsNext search.now.probe.now.path env.now next.new }
+    ensures next { IsNearestIfKnown search.now.probe.now.path env.now next.new }
     ensures steps { steps.new ≤ steps.old + once_cost search.now.index.now (searched search.now) mark once order.now env.now 0 }
     ensures more { steps.old ≤ steps.new }
 {
@@ -89,7 +89,7 @@ pub fn next_level<'a, L: Ledger>(
     requires fresh { lookup 0 env.now ≡ None }
     ensures some { IfSome result (λ level. IsLevel search.now.seen.now search.now.index.now (searched search.now) mark order.now env.now level) }
     ensures none { result ≡ None → hits_over search.now.seen.now search.now.index.now (searched search.now) mark order.now env.now ≡ [] }
-    ensures next { IsNext search.now.probe.now.path env.now next.new }
+    ensures next { IsNearestIfKnown search.now.probe.now.path env.now next.new }
     ensures steps { (sure : Bool) → steps.new + level_cost search.now.index.now (searched search.now) mark env.now result
         ≤ steps.old + work_over search.now.index.now (searched search.now) mark sure order.now env.now }
     ensures more { steps.old ≤ steps.new }

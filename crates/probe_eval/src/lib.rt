@@ -23,7 +23,7 @@ mod side;
 mod single_lists;
 
 pub use access_rows::rows_by;
-pub use answer::Answer;
+pub use answer::TruthOfRows;
 pub use drivers::{mark_in, seek_var, walked};
 pub use level::{Level, next_level};
 pub use listed::goes_by_list;

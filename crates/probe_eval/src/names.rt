@@ -3,7 +3,7 @@
 ghost use Rattle.std.specs.Prelude.{◌≡◌};
 ghost use Rattle.tap_base.specs.Bytes.{IsPlaceOf};
 ghost use Rattle.tql_core.specs.Trees.{tree_at};
-ghost use Rattle.probe_eval.specs.Conjuncts.{names};
+ghost use Rattle.probe_eval.specs.Conjuncts.{mentions};
 
 use crate::open::atom_known;
 use access_plan::Known;
@@ -13,7 +13,7 @@ use tql_core::{TNode, Var, node_at};
 /// Returns whether the body at the number names the variable.
 pub(crate) fn names(pool: &Pool<TNode>, body: NodeId, var: Var) -> bool
     requires { IsPlaceOf pool.now body.0 }
-    ensures { result ≡ names var (tree_at pool.now body.0) }
+    ensures { result ≡ mentions var (tree_at pool.now body.0) }
 {
     match node_at(pool, body) {
         TNode::True => false,

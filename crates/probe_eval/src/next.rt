@@ -3,7 +3,7 @@
 ghost use Rattle.std.specs.Prelude.{◌≡◌, Option};
 ghost use Rattle.access_plan.specs.Views.{option_reach};
 ghost use Rattle.access_plan.specs.Nearest.{nearest};
-ghost use Rattle.probe_eval.specs.Nexts.{IsNext};
+ghost use Rattle.probe_eval.specs.Nexts.{IsNearestIfKnown};
 
 use access_plan::{ReachRef, nearest};
 use time_marks::Step;
@@ -19,9 +19,9 @@ pub enum Next<'a> {
 impl<'a> Next<'a> {
     /// Returns the step of the path that is looked for next beside the rows of `env`. It is found the first time.
     pub fn get(&mut self, path: &'a [Step], env: &Env) -> Option<ReachRef<'a>>
-        requires { IsNext path.now env.now self.old }
+        requires { IsNearestIfKnown path.now env.now self.old }
         ensures reach { option_reach result ≡ nearest path.now env.now }
-        ensures next { IsNext path.now env.now self.new }
+        ensures next { IsNearestIfKnown path.now env.now self.new }
     {
         match *self {
             Next::Known(reach) => reach,

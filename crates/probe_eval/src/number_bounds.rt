@@ -5,7 +5,7 @@ ghost use Rattle.tql_core.specs.Row.{OfDoc};
 ghost use Rattle.tql_core.specs.Values.{bind, true_atom};
 ghost use Rattle.row_index.specs.Orders.{Rising, doc_rank};
 ghost use Rattle.probe_eval.specs.declared.side.Side.TheVariants.{Above, Below};
-ghost use Rattle.probe_eval.specs.Open.{is_open};
+ghost use Rattle.probe_eval.specs.Open.{may_hold};
 ghost use Rattle.probe_eval.specs.NumberBounds.{HasNumber, IsBoundBeside, RulesOut, cut_above, cut_below, between};
 
 use crate::side::Side;
@@ -40,7 +40,7 @@ fn bound_beside(higher: Var, lower: Var, side: Side, var: Var, env: &Env) -> Opt
 /// Returns the bound on this side of the numbers of the variable's documents, if the guard gives one.
 pub(crate) fn bound_by(guard: &Atom, side: Side, var: Var, env: &Env) -> Option<DocNum>
     ensures truth { IfSome result (λ num. RulesOut side (λ d. true_atom guard.now (bind var (OfDoc d) env.now)) num.0) }
-    ensures open { IfSome result (λ num. RulesOut side (λ d. is_open (bind var (OfDoc d) env.now) guard.now) num.0) }
+    ensures open { IfSome result (λ num. RulesOut side (λ d. may_hold (bind var (OfDoc d) env.now) guard.now) num.0) }
 {
     match guard {
         Atom::Numbers(

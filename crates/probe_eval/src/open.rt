@@ -2,7 +2,7 @@
 
 ghost use Rattle.std.specs.Prelude.{◌≡◌, ◌&&◌};
 ghost use Rattle.access_plan.specs.Views.{is_known};
-ghost use Rattle.probe_eval.specs.Open.{base_known, number_known, text_known, atom_known, is_open, are_open, path_open, may_go};
+ghost use Rattle.probe_eval.specs.Open.{base_known, number_known, text_known, atom_known, may_hold, are_open, path_open, may_go};
 ghost use Rattle.probe_eval.specs.Open.{is_apart, are_apart, path_apart};
 
 use access_plan::Known;
@@ -55,8 +55,8 @@ pub(crate) fn atom_known(known: Known, guard: &Atom) -> bool
 }
 
 // Returns whether the guard is true, or can't be evaluated yet.
-fn is_open<'a>(env: &Env<'a>, guard: &'a Atom) -> bool
-    ensures { result ≡ is_open env.now guard.now }
+fn may_hold<'a>(env: &Env<'a>, guard: &'a Atom) -> bool
+    ensures { result ≡ may_hold env.now guard.now }
 {
     !atom_known(Known::Held(env), guard) || true_atom(guard, env)
 }
@@ -66,7 +66,7 @@ fn are_open<'a>(env: &Env<'a>, guards: &'a [Atom]) -> bool
     ensures { result ≡ are_open env.now guards.now }
 {
     for guard in guards {
-        if !is_open(env, guard) {
+        if !may_hold(env, guard) {
             return false;
         }
     }

@@ -2,7 +2,7 @@
 
 ghost use Rattle.std.specs.Prelude.{◌≡◌, ◌+◌, ◌≤◌, length, Option};
 ghost use Rattle.access_plan.specs.Views.{option_reach};
-ghost use Rattle.probe_eval.specs.Nexts.{IsNext};
+ghost use Rattle.probe_eval.specs.Nexts.{IsNearestIfKnown};
 ghost use Rattle.probe_eval.specs.Rests.{further, rest_of, rest_cost};
 
 use crate::Next;
@@ -23,9 +23,9 @@ pub(crate) fn further_once<'a>(
     mark: i64,
     env: &Env<'a>,
 ) -> Option<ReachRef<'a>>
-    requires { IsNext path.now env.now next.old }
+    requires { IsNearestIfKnown path.now env.now next.old }
     ensures reach { option_reach result ≡ further path.now mark env.now }
-    ensures next { IsNext path.now env.now next.new }
+    ensures next { IsNearestIfKnown path.now env.now next.new }
 {
     if may_go(path, mark, env) {
         next.get(path, env)
@@ -48,9 +48,9 @@ pub(crate) fn rest_exists<'a, L: Ledger>(
     steps: &mut Steps<L>,
 ) -> bool
     requires room { length env.now + length order.now ≤ 16 }
-    requires next { IsNext path.now env.now next.old }
+    requires next { IsNearestIfKnown path.now env.now next.old }
     ensures exists { result ≡ rest_of index.now path.now mark order.now env.now }
-    ensures next { IsNext path.now env.now next.new }
+    ensures next { IsNearestIfKnown path.now env.now next.new }
     ensures steps { steps.new ≤ steps.old + rest_cost index.now path.now mark order.now env.now }
     ensures more { steps.old ≤ steps.new }
 {

@@ -2,11 +2,11 @@
 
 ghost use Rattle.std.specs.Prelude.{◌≡◌, ◌+◌, ◌≤◌, slice_get, Some, if◌then◌else◌};
 ghost use Rattle.time_marks.specs.declared.ranged.Ranged.{Ranged};
-ghost use Rattle.probe_eval.specs.declared.answer.Answer.TheVariants.{Never};
+ghost use Rattle.probe_eval.specs.declared.answer.TruthOfRows.TheVariants.{Never};
 ghost use Rattle.probe_eval.specs.Answers.{is_true, IsNever, query_var};
 ghost use Rattle.probe_eval.specs.Runs.{part_order};
 ghost use Rattle.probe_eval.specs.Searches.{searched};
-ghost use Rattle.probe_eval.specs.Nexts.{IsNext};
+ghost use Rattle.probe_eval.specs.Nexts.{IsNearestIfKnown};
 ghost use Rattle.probe_eval.specs.Rests.{rest_of, rest_cost};
 ghost use Rattle.probe_eval.specs.Levels.{IsSure};
 ghost use Rattle.probe_eval.specs.Nested.{new_doc, holds_here, cost_here};
@@ -16,7 +16,7 @@ use crate::answers::body_answer;
 use crate::bodies::body_holds;
 use crate::open::may_go;
 use crate::rests::rest_exists;
-use crate::{Answer, Next};
+use crate::{TruthOfRows, Next};
 use access_plan::{Plan, Reach};
 use little_box::LittleBox;
 use row_index::RowIndex;
@@ -56,7 +56,7 @@ fn has_rest<'a, L: Ledger>(
     requires walk { CanWalk search.now order.now next.old env.now }
     requires sure { IsSure search.now.index.now search.now.probe.now.path mark order.now env.now sure }
     ensures rest { result ≡ rest_of search.now.index.now search.now.probe.now.path mark order.now env.now }
-    ensures next { IsNext search.now.probe.now.path env.now next.new }
+    ensures next { IsNearestIfKnown search.now.probe.now.path env.now next.new }
     ensures steps { steps.new ≤ steps.old + (if sure then 0 else rest_cost search.now.index.now search.now.probe.now.path mark order.now env.now) }
     ensures more { steps.old ≤ steps.new }
 {
@@ -79,11 +79,11 @@ pub fn answer_here<'a, L: Ledger>(
     env: &Env<'a>,
     mark: i64,
     steps: &mut Steps<L>,
-) -> Answer
+) -> TruthOfRows
     requires { CanAnswer search.now order.now next.old sure env.now mark }
     ensures holds { is_true result ≡ holds_here search.now.index.now (searched search.now) mark order.now env.now }
     ensures never { result ≡ Never → IsNever search.now.index.now query_var (searched search.now).body env.now }
-    ensures next { IsNext search.now.probe.now.path env.now next.new }
+    ensures next { IsNearestIfKnown search.now.probe.now.path env.now next.new }
     ensures steps { steps.new ≤ steps.old + cost_here search.now.index.now (searched search.now) mark sure order.now env.now }
     ensures more { steps.old ≤ steps.new }
 {
@@ -91,7 +91,7 @@ pub fn answer_here<'a, L: Ledger>(
         let body = search.probe.body;
         body_answer(search, body, Var(0), env, steps)
     } else {
-        Answer::False
+        TruthOfRows::False
     }
 }
 
@@ -108,7 +108,7 @@ pub fn holds_here<'a, L: Ledger>(
 ) -> bool
     requires { CanAnswer search.now order.now next.old sure env.now mark }
     ensures holds { result ≡ holds_here search.now.index.now (searched search.now) mark order.now env.now }
-    ensures next { IsNext search.now.probe.now.path env.now next.new }
+    ensures next { IsNearestIfKnown search.now.probe.now.path env.now next.new }
     ensures steps { steps.new ≤ steps.old + cost_here search.now.index.now (searched search.now) mark sure order.now env.now }
     ensures more { steps.old ≤ steps.new }
 {

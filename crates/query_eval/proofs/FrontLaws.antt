@@ -18,7 +18,7 @@ use Rattle.access_plan.specs.declared.reach.Reach.{Reach}
 use Rattle.row_index.specs.declared.text_kind.TextKind.{TextKind}
 use Rattle.row_index.specs.declared.text_kind.TextKind.TheVariants.{MsgId, Parent, Sender, Subject, Reference, Word}
 use Rattle.row_index.specs.contracts.text_kind.TextKindPartialEq.TheImpl as kind
-use Rattle.row_index.specs.Orders.{Rising, InPlace, doc_number, doc_arrival, doc_rank, number_of}
+use Rattle.row_index.specs.Orders.{Rising, InPlace, doc_number, doc_arrival, doc_rank, doc_num}
 use Rattle.row_index.specs.Texts.{is_single, texts_of, with_text}
 use Rattle.row_index.proofs.SingleLists.{lists_of_one_kind_are_apart}
 use Rattle.probe_eval.specs.declared.search.Search.{Search}
@@ -31,10 +31,10 @@ use Rattle.probe_eval.specs.Work.{total}
 use Rattle.probe_eval.proofs.HitSteps.{doc_hits}
 use Rattle.probe_eval.proofs.LeftOutLaws.{all_left, docs_as_rows, total_left}
 use Rattle.probe_eval.proofs.WalkedLaws.{none_over}
-use Rattle.query_eval.specs.declared.kept_hits.KeptHits.{KeptHits}
+use Rattle.query_eval.specs.declared.least_hits.LeastHits.{LeastHits}
 use Rattle.query_eval.specs.declared.fronts.Front.{Front}
 use Rattle.query_eval.specs.Lowest.{keeping}
-use Rattle.query_eval.specs.Fronts.{IsDone, BeginsWith, IsPassed, IsFront, ArePassed, IsFrontOf, AreDoneDocs, AreDocsBehind, AreBehind}
+use Rattle.query_eval.specs.Fronts.{IsDone, BeginsWith, IsPassed, IsFrontPassed, ArePassed, IsFrontOf, AreDoneDocs, AreDocsBehind, AreBehind}
 use Rattle.query_eval.proofs.StableHits.{done_stays, done_later}
 use Rattle.query_eval.proofs.Steps.{keeping_append}
 
@@ -104,7 +104,7 @@ module _ (entries : List Entry) (docs : List Doc) (n : ℕ) (kept : List Hit) wh
   -- what a stored front says of its list
   pub passed_by : (fronts : List Front) (front : Front) (kind : TextKind) (first : ℕ) (b : ℤ) → ArePassed entries docs n kept fronts → In front fronts → IsFrontOf kind first b front → IsPassed entries docs n kept kind first b front.len
   passed_by fronts front kind first b a i o =
-      let own = each_one (IsFront entries docs n kept) fronts front a.each i in
+      let own = each_one (IsFrontPassed entries docs n kept) fronts front a.each i in
       let same : IsPassed entries docs n kept kind first front.mark front.len =
       subst (λ f. IsPassed entries docs n kept kind f front.mark front.len) o.first_is
       (subst (λ k. IsPassed entries docs n kept k front.first front.mark front.len) o.kind_is own) in
@@ -115,19 +115,19 @@ module _ (entries : List Entry) (docs : List Doc) (n : ℕ) (kept : List Hit) wh
             (same.done text begins);
       }
 
-  pub passed_put : (fronts : List Front) (k : ℕ) (front : Front) → ArePassed entries docs n kept fronts → IsFront entries docs n kept front → ArePassed entries docs n kept (slice_set fronts k front)
-  passed_put fronts k front a p = record { each = each_put (IsFront entries docs n kept) fronts k front a.each p }
+  pub passed_put : (fronts : List Front) (k : ℕ) (front : Front) → ArePassed entries docs n kept fronts → IsFrontPassed entries docs n kept front → ArePassed entries docs n kept (slice_set fronts k front)
+  passed_put fronts k front a p = record { each = each_put (IsFrontPassed entries docs n kept) fronts k front a.each p }
 
-  pub passed_more : (fronts : List Front) (front : Front) → ArePassed entries docs n kept fronts → IsFront entries docs n kept front → ArePassed entries docs n kept (fronts ++ front ∷ [])
-  passed_more fronts front a p = record { each = each-append (IsFront entries docs n kept) fronts (front ∷ []) a.each (p, tt) }
+  pub passed_more : (fronts : List Front) (front : Front) → ArePassed entries docs n kept fronts → IsFrontPassed entries docs n kept front → ArePassed entries docs n kept (fronts ++ front ∷ [])
+  passed_more fronts front a p = record { each = each-append (IsFrontPassed entries docs n kept) fronts (front ∷ []) a.each (p, tt) }
 
   pub passed_empty : (fronts : List Front) → fronts ≡ [] → ArePassed entries docs n kept fronts
-  passed_empty fronts e = record { each = subst (λ fs. Each (IsFront entries docs n kept) fs) (sym e) tt }
+  passed_empty fronts e = record { each = subst (λ fs. Each (IsFrontPassed entries docs n kept) fs) (sym e) tt }
 
   -- they stay passed as more hits are stored
   pub passed_stay : (fronts : List Front) (hs : List Hit) → ArePassed entries docs n kept fronts → ArePassed entries docs n (keeping n kept hs) fronts
   passed_stay fronts hs a = record {
-    each = each-map (IsFront entries docs n kept) (IsFront entries docs n (keeping n kept hs)) fronts
+    each = each-map (IsFrontPassed entries docs n kept) (IsFrontPassed entries docs n (keeping n kept hs)) fronts
         (λ front p.
         record {
           done = λ text begins.
@@ -145,14 +145,14 @@ passed_on entries docs n m kept now fronts hs q e a =
     (subst (λ hits. ArePassed entries docs n hits fronts) (sym e) (passed_stay entries docs n kept fronts hs a))
 
 -- the number of the document at a place
-pub number_at : (docs : List Doc) (place : ℕ) (num : DocNum) (d : Doc) → Some num ≡ number_of (slice_get docs place) → slice_get docs place ≡ Some d → d.num ≡ num
-number_at docs place num d e g = sym (num_is (e ∙ ap number_of g))
+pub number_at : (docs : List Doc) (place : ℕ) (num : DocNum) (d : Doc) → Some num ≡ doc_num (slice_get docs place) → slice_get docs place ≡ Some d → d.num ≡ num
+number_at docs place num d e g = sym (num_is (e ∙ ap doc_num g))
   where
     num_is : {x y : DocNum} → Some x ≡ Some y → x ≡ y
     num_is q = cc
 
 -- the front of one list is that of each list of its kind that begins with the same document
-pub passed_here : (entries : List Entry) (docs : List Doc) (n : ℕ) (kept : List Hit) (kind : TextKind) (text : List ℕ) (list : List Doc) (first : DocNum) (b : ℤ) (len : ℕ) → is_single kind ≡ true → InPlace doc_number doc_arrival docs → list ≡ with_text (texts_of kind) text docs → Some first ≡ number_of (slice_get list 0) → Each (IsDone entries n kept b) (take len list) → IsPassed entries docs n kept kind first.0 b len
+pub passed_here : (entries : List Entry) (docs : List Doc) (n : ℕ) (kept : List Hit) (kind : TextKind) (text : List ℕ) (list : List Doc) (first : DocNum) (b : ℤ) (len : ℕ) → is_single kind ≡ true → InPlace doc_number doc_arrival docs → list ≡ with_text (texts_of kind) text docs → Some first ≡ doc_num (slice_get list 0) → Each (IsDone entries n kept b) (take len list) → IsPassed entries docs n kept kind first.0 b len
 passed_here entries docs n kept kind text list first b len single stand is number done = record {
   done = λ other begins.
       subst (λ ds. Each (IsDone entries n kept b) (take len ds)) (is ∙ same other begins) done;
@@ -164,17 +164,17 @@ passed_here entries docs n kept kind text list first b len single stand is numbe
     none_is : {x : DocNum} → Some x ≡ None → ⊥
     none_is e = cc
 
-    meet : (other : List ℕ) (ls os : List Doc) → with_text (texts_of kind) text docs ≡ ls → with_text (texts_of kind) other docs ≡ os → Some first ≡ number_of (slice_get ls 0) → BeginsWith first.0 os → with_text (texts_of kind) text docs ≡ with_text (texts_of kind) other docs
+    meet : (other : List ℕ) (ls os : List Doc) → with_text (texts_of kind) text docs ≡ ls → with_text (texts_of kind) other docs ≡ os → Some first ≡ doc_num (slice_get ls 0) → BeginsWith first.0 os → with_text (texts_of kind) text docs ≡ with_text (texts_of kind) other docs
     meet other ls [] l o n begins = absurd begins
     meet other [] (e ∷ es) l o n begins = absurd (none_is n)
     meet other (d ∷ ds) (e ∷ es) l o n begins =
         lists_of_one_kind_are_apart kind text other docs d e ds es single stand l o (ap (λ (z : DocNum). z.0) (sym (num_is n)) ∙ sym begins)
 
     same : (other : List ℕ) → BeginsWith first.0 (with_text (texts_of kind) other docs) → with_text (texts_of kind) text docs ≡ with_text (texts_of kind) other docs
-    same other begins = meet other _ _ refl refl (number ∙ ap (λ ds. number_of (slice_get ds 0)) is) begins
+    same other begins = meet other _ _ refl refl (number ∙ ap (λ ds. doc_num (slice_get ds 0)) is) begins
 
 -- what the fronts say of this list
-pub known_here : (entries : List Entry) (docs : List Doc) (n : ℕ) (kept : List Hit) (kind : TextKind) (text : List ℕ) (list : List Doc) (first : DocNum) (b : ℤ) (len : ℕ) → list ≡ with_text (texts_of kind) text docs → Some first ≡ number_of (slice_get list 0) → IsPassed entries docs n kept kind first.0 b len → Each (IsDone entries n kept b) (take len list)
+pub known_here : (entries : List Entry) (docs : List Doc) (n : ℕ) (kept : List Hit) (kind : TextKind) (text : List ℕ) (list : List Doc) (first : DocNum) (b : ℤ) (len : ℕ) → list ≡ with_text (texts_of kind) text docs → Some first ≡ doc_num (slice_get list 0) → IsPassed entries docs n kept kind first.0 b len → Each (IsDone entries n kept b) (take len list)
 known_here entries docs n kept kind text list first b len is number p =
     subst (λ ds. Each (IsDone entries n kept b) (take len ds)) (sym is) (p.done text (subst (BeginsWith first.0) is (begins list number)))
   where
@@ -184,12 +184,12 @@ known_here entries docs n kept kind text list first b len is number p =
     none_is : {x : DocNum} → Some x ≡ None → ⊥
     none_is e = cc
 
-    begins : (ds : List Doc) → Some first ≡ number_of (slice_get ds 0) → BeginsWith first.0 ds
+    begins : (ds : List Doc) → Some first ≡ doc_num (slice_get ds 0) → BeginsWith first.0 ds
     begins [] e = absurd (none_is e)
     begins (d ∷ ds) e = ap (λ (z : DocNum). z.0) (sym (num_is e))
 
 -- all documents may be walked
-pub all_docs : (s : Search) (into : KeptHits) (b : ℤ) (v : Var) (env : Env) (docs left : List Doc) → left ≡ docs → AreDocsBehind s into b v env docs left
+pub all_docs : (s : Search) (into : LeastHits) (b : ℤ) (v : Var) (env : Env) (docs left : List Doc) → left ≡ docs → AreDocsBehind s into b v env docs left
 all_docs s into b v env docs left e = record {
   passed = [];
   others = docs;
@@ -199,7 +199,7 @@ all_docs s into b v env docs left e = record {
 }
 
 -- rows may be walked without some with which there is no way on
-pub behind_none : (s : Search) (into : KeptHits) (b : ℤ) (v : Var) (env : Env) (rows left : List Row) → LeavesFalse (λ row. may_go s.probe.now.path b (bind v row env)) rows left → AreBehind s into b v env rows left
+pub behind_none : (s : Search) (into : LeastHits) (b : ℤ) (v : Var) (env : Env) (rows left : List Row) → LeavesFalse (λ row. may_go s.probe.now.path b (bind v row env)) rows left → AreBehind s into b v env rows left
 behind_none s into b v env rows left k = record {
   passed = [];
   others = rows;
@@ -210,7 +210,7 @@ behind_none s into b v env rows left k = record {
 }
 
 -- documents of the query that are behind others are rows that are
-pub behind_docs : (s : Search) (into : KeptHits) (b : ℤ) (v : Var) (env : Env) (docs left : List Doc) (all rows : List Row) → v.0 ≡ 0 → all ≡ map OfDoc docs → rows ≡ map OfDoc left → AreDocsBehind s into b v env docs left → AreBehind s into b v env all rows
+pub behind_docs : (s : Search) (into : LeastHits) (b : ℤ) (v : Var) (env : Env) (docs left : List Doc) (all rows : List Row) → v.0 ≡ 0 → all ≡ map OfDoc docs → rows ≡ map OfDoc left → AreDocsBehind s into b v env docs left → AreBehind s into b v env all rows
 behind_docs s into b v env docs left all rows z e l w = record {
   passed = w.passed;
   others = map OfDoc w.others;
@@ -235,7 +235,7 @@ flat_kept f keeps (x ∷ xs) h =
     ]
 
 -- no row that is left out changes what is stored
-module _ (s : Search) (into : KeptHits) (b : ℤ) (rest : List Reach) (env : Env) (v : Var) where
+module _ (s : Search) (into : LeastHits) (b : ℤ) (rest : List Reach) (env : Env) (v : Var) where
   abbrev over : Row → List Hit
   over row = hits_over s.seen.now s.index.now (searched s) b rest (bind v row env)
 
@@ -278,7 +278,7 @@ module _ (cost : Row → ℕ) where
   fewer_passed [] others = omega arith
   fewer_passed (d ∷ ds) others = let k = fewer_passed ds others in omega (arith, k)
 
-  pub behind_cost : (s : Search) (into : KeptHits) (b : ℤ) (v : Var) (env : Env) (rows left : List Row) → AreBehind s into b v env rows left → total cost left ≤ total cost rows
+  pub behind_cost : (s : Search) (into : LeastHits) (b : ℤ) (v : Var) (env : Env) (rows left : List Row) → AreBehind s into b v env rows left → total cost left ≤ total cost rows
   behind_cost s into b v env rows left w =
       let r = ap (total cost) w.rows_are in
       let l = total_left (λ row. may_go s.probe.now.path b (bind v row env)) w.others left w.leaves cost in

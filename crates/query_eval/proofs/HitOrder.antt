@@ -4,9 +4,9 @@ use Rattle.std.specs.Prelude.{◌⊎◌}
 use Rattle.std.proofs.lemmas.Int.{ints}
 use Rattle.std.proofs.lemmas.Bool.{cases_Bool}
 use Rattle.tap_rows.specs.declared.results.Hit.{Hit}
-use Rattle.tap_rows.specs.Results.{is_before, put_in, in_order}
+use Rattle.tap_rows.specs.Results.{is_before, put_in, hits_in_order}
 use Rattle.probe_eval.proofs.Ordered.{out_put, ordered_in}
-use Rattle.query_eval.specs.HitLists.{InOrder, AreApart}
+use Rattle.query_eval.specs.HitLists.{InOrder, HitsAreApart}
 use Rattle.tap_rows.specs.Kept.{In}
 
 not_self : (x : Hit) → is_before x x ≡ true → ⊥
@@ -63,6 +63,6 @@ rising_put a (b ∷ bs) r n =
     later e y (inl q) = subst (λ z. is_before b z ≡ true) (sym q) (otherwise a b e (n b (inl refl)))
     later e y (inr i) = r.0 y i
 
-pub rising_order : (hs : List Hit) → AreApart hs → InOrder (in_order hs)
+pub rising_order : (hs : List Hit) → HitsAreApart hs → InOrder (hits_in_order hs)
 rising_order [] a = tt
-rising_order (x ∷ xs) a = rising_put x (in_order xs) (rising_order xs a.1) (λ y i. a.0 y (ordered_in y xs i))
+rising_order (x ∷ xs) a = rising_put x (hits_in_order xs) (rising_order xs a.1) (λ y i. a.0 y (ordered_in y xs i))

@@ -5,8 +5,8 @@ use Rattle.std.proofs.lemmas.Int.{ints}
 use Rattle.std.proofs.lemmas.Bool.{cases_Bool}
 use Rattle.tap_rows.specs.declared.results.Hit.{Hit}
 use Rattle.tap_rows.specs.Kept.{In}
-use Rattle.query_eval.specs.Lowest.{lower, lowered, lowest}
-use Rattle.query_eval.specs.HitLists.{AreApart, AreLowest}
+use Rattle.query_eval.specs.Lowest.{lower, with_lowered, lowest}
+use Rattle.query_eval.specs.HitLists.{HitsAreApart, AreLowest}
 
 nat_is : (n m : ℕ) → nat_eq n m ≡ true → n ≡ m
 nat_is n m h = grind arith
@@ -41,14 +41,14 @@ pub record IsLow (xs : List Hit) (h k : Hit) : Type 0 where
   pub new : k.doc.0 ≡ h.doc.0 → int_le k.first h.first ≡ true
   pub old : (x : Hit) → In x xs → x.doc.0 ≡ k.doc.0 → int_le k.first x.first ≡ true
 
-apart_le : (xs : List Hit) (k x : Hit) → AreApart xs → In k xs → In x xs → x.doc.0 ≡ k.doc.0 → int_le k.first x.first ≡ true
+apart_le : (xs : List Hit) (k x : Hit) → HitsAreApart xs → In k xs → In x xs → x.doc.0 ≡ k.doc.0 → int_le k.first x.first ≡ true
 apart_le [] k x a i j d = absurd i
 apart_le (z ∷ zs) k x a (inl p) (inl q) d = subst (λ (y : Hit). int_le k.first y.first ≡ true) (p ∙ sym q) (le_self k.first)
 apart_le (z ∷ zs) k x a (inl p) (inr j) d = absurd (a.0 x j (d ∙ ap (λ (y : Hit). y.doc.0) p))
 apart_le (z ∷ zs) k x a (inr i) (inl q) d = absurd (a.0 k i (sym d ∙ ap (λ (y : Hit). y.doc.0) q))
 apart_le (z ∷ zs) k x a (inr i) (inr j) d = apart_le zs k x a.1 i j d
 
-pub lowered_is : (xs : List Hit) (h k : Hit) → AreApart xs → In k (lowered xs h) → IsLow xs h k
+pub lowered_is : (xs : List Hit) (h k : Hit) → HitsAreApart xs → In k (with_lowered xs h) → IsLow xs h k
 lowered_is [] h k a (inl e) = record { from = inl e; new = λ d. subst (λ (z : Hit). int_le z.first h.first ≡ true) (sym e) (le_self h.first); old = λ x i d. absurd i }
 lowered_is [] h k a (inr i) = absurd i
 lowered_is (x ∷ xs) h k a i = elim (cases_Bool (nat_eq x.doc.0 h.doc.0)) [
@@ -72,7 +72,7 @@ lowered_is (x ∷ xs) h k a i = elim (cases_Bool (nat_eq x.doc.0 h.doc.0)) [
       old = λ y i f. apart_le (x ∷ xs) k y a (inr j) i f;
     }
 
-    there : (x.doc.0 ≡ h.doc.0 → ⊥) → (k ≡ x) ⊎ In k (lowered xs h) → (In k (lowered xs h) → IsLow xs h k) → IsLow (x ∷ xs) h k
+    there : (x.doc.0 ≡ h.doc.0 → ⊥) → (k ≡ x) ⊎ In k (with_lowered xs h) → (In k (with_lowered xs h) → IsLow xs h k) → IsLow (x ∷ xs) h k
     there n (inl e) r = record {
       from = inr (inl e);
       new = λ f. absurd (n (sym (ap (λ (z : Hit). z.doc.0) e) ∙ f));
@@ -95,7 +95,7 @@ lowered_is (x ∷ xs) h k a i = elim (cases_Bool (nat_eq x.doc.0 h.doc.0)) [
                 first (inr i) = absurd (a.0 k i (sym f ∙ ap (λ (z : Hit). z.doc.0) q))
             old_one y (inr j) f = l.old y j f
 
-pub lowered_has : (xs : List Hit) (h x : Hit) → (x ≡ h) ⊎ In x xs → (k : Hit) × In k (lowered xs h) × (k.doc.0 ≡ x.doc.0)
+pub lowered_has : (xs : List Hit) (h x : Hit) → (x ≡ h) ⊎ In x xs → (k : Hit) × In k (with_lowered xs h) × (k.doc.0 ≡ x.doc.0)
 lowered_has [] h x (inl e) = (h, inl refl, sym (ap (λ (z : Hit). z.doc.0) e))
 lowered_has [] h x (inr i) = absurd i
 lowered_has (z ∷ zs) h x i = elim (cases_Bool (nat_eq z.doc.0 h.doc.0)) [
@@ -108,15 +108,15 @@ lowered_has (z ∷ zs) h x i = elim (cases_Bool (nat_eq z.doc.0 h.doc.0)) [
     here d (inr (inl q)) = (lower z h, inl refl, lower_doc z h d ∙ sym (ap (λ (z : Hit). z.doc.0) q))
     here d (inr (inr j)) = (x, inr j, refl)
 
-    onto : (k : Hit) × In k (lowered zs h) × (k.doc.0 ≡ x.doc.0) → (k : Hit) × In k (z ∷ lowered zs h) × (k.doc.0 ≡ x.doc.0)
+    onto : (k : Hit) × In k (with_lowered zs h) × (k.doc.0 ≡ x.doc.0) → (k : Hit) × In k (z ∷ with_lowered zs h) × (k.doc.0 ≡ x.doc.0)
     onto k = (k.0, inr k.1, k.2)
 
-    there : (x ≡ h) ⊎ In x (z ∷ zs) → ((x ≡ h) ⊎ In x zs → (k : Hit) × In k (lowered zs h) × (k.doc.0 ≡ x.doc.0)) → (k : Hit) × In k (z ∷ lowered zs h) × (k.doc.0 ≡ x.doc.0)
+    there : (x ≡ h) ⊎ In x (z ∷ zs) → ((x ≡ h) ⊎ In x zs → (k : Hit) × In k (with_lowered zs h) × (k.doc.0 ≡ x.doc.0)) → (k : Hit) × In k (z ∷ with_lowered zs h) × (k.doc.0 ≡ x.doc.0)
     there (inl e) r = onto (r (inl e))
     there (inr (inl q)) r = (z, inl refl, sym (ap (λ (z : Hit). z.doc.0) q))
     there (inr (inr j)) r = onto (r (inr j))
 
-pub lowered_apart : (xs : List Hit) (h : Hit) → AreApart xs → AreApart (lowered xs h)
+pub lowered_apart : (xs : List Hit) (h : Hit) → HitsAreApart xs → HitsAreApart (with_lowered xs h)
 lowered_apart [] h a = ((λ y i f. absurd i), tt)
 lowered_apart (z ∷ zs) h a = elim (cases_Bool (nat_eq z.doc.0 h.doc.0)) [
   | inl e ↦ rw e ((λ y i f. a.0 y i (f ∙ lower_doc z h (nat_is z.doc.0 h.doc.0 e))), a.1)
@@ -127,7 +127,7 @@ lowered_apart (z ∷ zs) h a = elim (cases_Bool (nat_eq z.doc.0 h.doc.0)) [
     away n y f (inl e) = n (sym f ∙ ap (λ (z : Hit). z.doc.0) e)
     away n y f (inr i) = a.0 y i f
 
-pub kept_one : (D : Hit → Type 0) (kept : List Hit) (h : Hit) → AreLowest D kept → AreLowest (λ y. (y ≡ h) ⊎ D y) (lowered kept h)
+pub kept_one : (D : Hit → Type 0) (kept : List Hit) (h : Hit) → AreLowest D kept → AreLowest (λ y. (y ≡ h) ⊎ D y) (with_lowered kept h)
 kept_one D kept h s = record {
   among = λ k i. from k (lowered_is kept h k s.apart i).from;
   least = λ k y i d f. low k y (lowered_is kept h k s.apart i) d f;
@@ -145,7 +145,7 @@ kept_one D kept h s = record {
         let x = s.all y d in
         le_trans k.first x.0.first y.first (l.old x.0 x.1 (x.2 ∙ f)) (s.least x.0 y x.1 d (sym x.2))
 
-    has : (y : Hit) → (y ≡ h) ⊎ D y → (k : Hit) × In k (lowered kept h) × (k.doc.0 ≡ y.doc.0)
+    has : (y : Hit) → (y ≡ h) ⊎ D y → (k : Hit) × In k (with_lowered kept h) × (k.doc.0 ≡ y.doc.0)
     has y (inl e) = lowered_has kept h y (inl e)
     has y (inr d) =
         let x = s.all y d in
@@ -167,7 +167,7 @@ kept_all D kept [] s = kept_same D (λ y. D y ⊎ In y []) kept (λ y d. inl d) 
     only : (y : Hit) → D y ⊎ In y [] → D y
     only y (inl d) = d
     only y (inr i) = absurd i
-kept_all D kept (h ∷ hs) s = kept_same (λ y. ((y ≡ h) ⊎ D y) ⊎ In y hs) (λ y. D y ⊎ In y (h ∷ hs)) (lowest (lowered kept h) hs) (λ y d. to y d) (λ y d. back y d) (kept_all (λ y. (y ≡ h) ⊎ D y) (lowered kept h) hs (kept_one D kept h s))
+kept_all D kept (h ∷ hs) s = kept_same (λ y. ((y ≡ h) ⊎ D y) ⊎ In y hs) (λ y. D y ⊎ In y (h ∷ hs)) (lowest (with_lowered kept h) hs) (λ y d. to y d) (λ y d. back y d) (kept_all (λ y. (y ≡ h) ⊎ D y) (with_lowered kept h) hs (kept_one D kept h s))
   where
     to : (y : Hit) → ((y ≡ h) ⊎ D y) ⊎ In y hs → D y ⊎ In y (h ∷ hs)
     to y (inl (inl e)) = inr (inl e)

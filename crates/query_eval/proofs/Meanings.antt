@@ -14,7 +14,7 @@ use Rattle.tap_rows.specs.Results.{hit_of}
 use Rattle.time_marks.specs.declared.window.Window.{Window}
 use Rattle.time_marks.specs.Probes.{Probe, found, least, meaning_without}
 use Rattle.probe_eval.specs.Found.{AreFound}
-use Rattle.query_eval.specs.HitLists.{AreApart, AreLowest, InOrder, HaveSame}
+use Rattle.query_eval.specs.HitLists.{HitsAreApart, AreLowest, InOrder, HaveSame}
 use Rattle.query_eval.specs.Lowest.{lowest}
 use Rattle.query_eval.proofs.Lows.{kept_all}
 use Rattle.query_eval.specs.Laws.{LowestHitsAreTheMeaning}
@@ -65,7 +65,7 @@ hit_same : (f h : Hit) → f.doc ≡ h.doc → f.first ≡ h.first → f ≡ h
 hit_same f h d e = ap (λ n. record { doc = n; first = f.first }) d ∙ ap (λ s. record { doc = h.doc; first = s }) e
 
 module _ (seen : Doc → Bool) (X : List Probe) (T : Tables) (w : Window) (numbered : Numbered 1 T.docs) where
-  apart_from : (n : ℕ) (ds : List Doc) → Numbered n ds → AreApart (filter_map (λ d. hit_of d (least X T d w)) (filter (λ d. not (seen d)) ds))
+  apart_from : (n : ℕ) (ds : List Doc) → Numbered n ds → HitsAreApart (filter_map (λ d. hit_of d (least X T d w)) (filter (λ d. not (seen d)) ds))
   apart_from n [] u = tt
   apart_from n (x ∷ xs) u = elim (cases_Bool (not (seen x))) [
     | inl e ↦ rw e (go (least X T x w) refl (apart_from (n + 1) xs u.1))
@@ -81,7 +81,7 @@ module _ (seen : Doc → Bool) (X : List Probe) (T : Tables) (w : Window) (numbe
           let v = u.0 in
           omega (arith, b, c, q, v)
 
-      go : (o : Option ℤ) → least X T x w ≡ o → AreApart (filter_map (λ d. hit_of d (least X T d w)) (filter (λ d. not (seen d)) xs)) → AreApart (filter_map (λ d. hit_of d (least X T d w)) (x ∷ filter (λ d. not (seen d)) xs))
+      go : (o : Option ℤ) → least X T x w ≡ o → HitsAreApart (filter_map (λ d. hit_of d (least X T d w)) (filter (λ d. not (seen d)) xs)) → HitsAreApart (filter_map (λ d. hit_of d (least X T d w)) (x ∷ filter (λ d. not (seen d)) xs))
       go None e r = rw e r
       go (Some s) e r = rw e ((λ y i q. above y i q), r)
 

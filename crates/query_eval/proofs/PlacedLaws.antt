@@ -6,9 +6,9 @@ use Rattle.std.proofs.lemmas.Bool.{cases_Bool, true≢false, both_ways}
 use Rattle.std.proofs.lemmas.Map.Steps.{length-le_from_distinct_below}
 use Rattle.tap_rows.specs.declared.results.Hit.{Hit}
 use Rattle.tap_rows.specs.Kept.{In}
-use Rattle.query_eval.specs.HitLists.{AreApart}
-use Rattle.query_eval.specs.Lowest.{lower, lowered}
-use Rattle.query_eval.specs.Placed.{IsPlaced, has_at, is_of}
+use Rattle.query_eval.specs.HitLists.{HitsAreApart}
+use Rattle.query_eval.specs.Lowest.{lower, with_lowered}
+use Rattle.query_eval.specs.Placed.{IsPlaced, has_hit_at, is_of}
 
 some_same : {A : Type 0} {x y : A} → Some x ≡ Some y → x ≡ y
 some_same e = cc
@@ -68,13 +68,13 @@ module _ {A : Type 0} where
 
 -- the kept hits with one more
 
-lowered_absent : (hs : List Hit) (h : Hit) → ((k : ℕ) (x : Hit) → slice_get hs k ≡ Some x → x.doc.0 ≡ h.doc.0 → ⊥) → lowered hs h ≡ hs ++ h ∷ []
+lowered_absent : (hs : List Hit) (h : Hit) → ((k : ℕ) (x : Hit) → slice_get hs k ≡ Some x → x.doc.0 ≡ h.doc.0 → ⊥) → with_lowered hs h ≡ hs ++ h ∷ []
 lowered_absent [] h n = refl
 lowered_absent (x ∷ hs) h n =
     let e = nat_no x.doc.0 h.doc.0 (n 0 x refl) in
     rw e (ap (λ z. x ∷ z) (lowered_absent hs h (λ k y g. n (suc k) y g)))
 
-lowered_present : (hs : List Hit) (k : ℕ) (x h : Hit) → slice_get hs k ≡ Some x → x.doc.0 ≡ h.doc.0 → ((j : ℕ) (y : Hit) → j < k → slice_get hs j ≡ Some y → y.doc.0 ≡ h.doc.0 → ⊥) → lowered hs h ≡ slice_set hs k (lower x h)
+lowered_present : (hs : List Hit) (k : ℕ) (x h : Hit) → slice_get hs k ≡ Some x → x.doc.0 ≡ h.doc.0 → ((j : ℕ) (y : Hit) → j < k → slice_get hs j ≡ Some y → y.doc.0 ≡ h.doc.0 → ⊥) → with_lowered hs h ≡ slice_set hs k (lower x h)
 lowered_present [] k x h g d n = absurd (none_some g)
 lowered_present (z ∷ hs) zero x h g d n =
     let q : z ≡ x = some_same g in
@@ -97,23 +97,23 @@ module _ (hs : List Hit) (ps : List ℕ) (placed : IsPlaced hs ps) (doc place : 
       let p : slice_get ps (doc - 1) ≡ Some k = subst (λ n. slice_get ps (n - 1) ≡ Some k) e (placed k x g).2 in
       some_same (sym known ∙ p)
 
-  pub none_of : has_at hs place doc ≡ false → NoneOf hs doc
+  pub none_of : has_hit_at hs place doc ≡ false → NoneOf hs doc
   none_of h k x g e =
       let q : slice_get hs place ≡ Some x = ap (λ n. slice_get hs n) (at_place k x g e) ∙ g in
-      both_ways (has_at hs place doc) h (ap (λ o. is_of doc o) q ∙ nat_yes x.doc.0 doc e)
+      both_ways (has_hit_at hs place doc) h (ap (λ o. is_of doc o) q ∙ nat_yes x.doc.0 doc e)
 
-  pub there : has_at hs place doc ≡ true → (x : Hit) × (slice_get hs place ≡ Some x) × (x.doc.0 ≡ doc)
+  pub there : has_hit_at hs place doc ≡ true → (x : Hit) × (slice_get hs place ≡ Some x) × (x.doc.0 ≡ doc)
   there h = go (slice_get hs place) refl
     where
       go : (o : Option Hit) → slice_get hs place ≡ o → (x : Hit) × (slice_get hs place ≡ Some x) × (x.doc.0 ≡ doc)
-      go None e = absurd (both_ways (has_at hs place doc) (ap (λ o. is_of doc o) e) h)
+      go None e = absurd (both_ways (has_hit_at hs place doc) (ap (λ o. is_of doc o) e) h)
       go (Some x) e = (x, e, nat_is x.doc.0 doc (sym (ap (λ o. is_of doc o) e) ∙ h))
 
   none_before : (j : ℕ) (y : Hit) → j < place → slice_get hs j ≡ Some y → y.doc.0 ≡ doc → ⊥
   none_before j y w g e = less_not j place w (at_place j y g e)
 
 -- a hit lowered at its place
-pub kept_lower : (hs : List Hit) (ps : List ℕ) (h : Hit) (place : ℕ) (d : Hit) → IsPlaced hs ps → slice_get ps (h.doc.0 - 1) ≡ Some place → has_at hs place h.doc.0 ≡ true → lowered hs h ≡ slice_set hs place (lower (slice_index_or hs place d) h)
+pub kept_lower : (hs : List Hit) (ps : List ℕ) (h : Hit) (place : ℕ) (d : Hit) → IsPlaced hs ps → slice_get ps (h.doc.0 - 1) ≡ Some place → has_hit_at hs place h.doc.0 ≡ true → with_lowered hs h ≡ slice_set hs place (lower (slice_index_or hs place d) h)
 kept_lower hs ps h place d p k t =
     let x = there hs ps p h.doc.0 place k t in
     lowered_present hs place x.0 h x.1 x.2 (none_before hs ps p h.doc.0 place k) ∙ ap (λ y. slice_set hs place (lower y h)) (sym (get_or_is hs place x.0 d x.1))
@@ -125,7 +125,7 @@ lower_doc x h e =
       | inr b ↦ rw b (sym e)
     ]
 
-pub placed_lower : (hs : List Hit) (ps : List ℕ) (h : Hit) (place : ℕ) (d : Hit) → IsPlaced hs ps → slice_get ps (h.doc.0 - 1) ≡ Some place → has_at hs place h.doc.0 ≡ true → IsPlaced (slice_set hs place (lower (slice_index_or hs place d) h)) ps
+pub placed_lower : (hs : List Hit) (ps : List ℕ) (h : Hit) (place : ℕ) (d : Hit) → IsPlaced hs ps → slice_get ps (h.doc.0 - 1) ≡ Some place → has_hit_at hs place h.doc.0 ≡ true → IsPlaced (slice_set hs place (lower (slice_index_or hs place d) h)) ps
 placed_lower hs ps h place d p k t = λ j y g. go j y g (there hs ps p h.doc.0 place k t)
   where
     moved : (j : ℕ) (x y : Hit) → slice_get hs j ≡ Some x → y.doc.0 ≡ x.doc.0 → (0 < y.doc.0) × (y.doc.0 ≤ length ps) × (slice_get ps (y.doc.0 - 1) ≡ Some j)
@@ -166,7 +166,7 @@ placed_append hs ps h p n a w = λ k x g. go k x (get_onto hs h x k g)
         let s : slice_get (slice_set ps (h.doc.0 - 1) (length hs)) (h.doc.0 - 1) ≡ Some (length hs) = set_same ps (h.doc.0 - 1) (length hs) (omega (arith, a, w)) in
         (subst (λ z. 0 < z) d a, subst (λ z. z ≤ length (slice_set ps (h.doc.0 - 1) (length hs))) d (subst (λ z. h.doc.0 ≤ z) (sym len) w), subst (λ z. slice_get (slice_set ps (h.doc.0 - 1) (length hs)) (z - 1) ≡ Some k) d (s ∙ ap (λ z. Some z) (sym e.0)))
 
-pub kept_append : (hs : List Hit) (ps : List ℕ) (h : Hit) (place : ℕ) → IsPlaced hs ps → slice_get ps (h.doc.0 - 1) ≡ Some place → has_at hs place h.doc.0 ≡ false → lowered hs h ≡ hs ++ h ∷ []
+pub kept_append : (hs : List Hit) (ps : List ℕ) (h : Hit) (place : ℕ) → IsPlaced hs ps → slice_get ps (h.doc.0 - 1) ≡ Some place → has_hit_at hs place h.doc.0 ≡ false → with_lowered hs h ≡ hs ++ h ∷ []
 kept_append hs ps h place p k t = lowered_absent hs h (none_of hs ps p h.doc.0 place k t)
 
 -- there are no more hits than documents
@@ -229,7 +229,7 @@ pub known_at : (ps : List ℕ) (doc p : ℕ) → 0 < doc → doc ≤ length ps �
 known_at ps doc p a w e = get_there ps (doc - 1) p (omega (arith, a, w)) ∙ ap (λ z. Some z) (sym e)
 
 -- the place under the number of a document that has a hit is below the number of hits
-pub place_below : (hs : List Hit) (place doc : ℕ) → has_at hs place doc ≡ true → place < length hs
+pub place_below : (hs : List Hit) (place doc : ℕ) → has_hit_at hs place doc ≡ true → place < length hs
 place_below hs place doc h = go (slice_get hs place) refl
   where
     go : (o : Option Hit) → slice_get hs place ≡ o → place < length hs
@@ -246,12 +246,12 @@ in_at [] x i = absurd i
 in_at (z ∷ zs) x (inl e) = (0, ap (λ y. Some y) (sym e))
 in_at (z ∷ zs) x (inr i) = let r = in_at zs x i in (suc r.0, r.1)
 
-apart_from : (n : ℕ) (hs : List Hit) (ps : List ℕ) → FromPlace n hs ps → AreApart hs
+apart_from : (n : ℕ) (hs : List Hit) (ps : List ℕ) → FromPlace n hs ps → HitsAreApart hs
 apart_from n [] ps f = tt
 apart_from n (x ∷ hs) ps f = (apart, apart_from (n + 1) hs ps (λ k y g. let e : n + suc k ≡ n + 1 + k = omega arith in subst (λ z. slice_get ps (y.doc.0 - 1) ≡ Some z) e (f (suc k) y g)))
   where
     apart : (y : Hit) → In y hs → y.doc.0 ≡ x.doc.0 → ⊥
     apart y i d = let r = in_at hs y i in head_apart n r.0 x y ps (f 0 x refl) (f (suc r.0) y r.1) (ap (λ z. z - 1) (sym d))
 
-pub apart_placed : (hs : List Hit) (ps : List ℕ) → IsPlaced hs ps → AreApart hs
+pub apart_placed : (hs : List Hit) (ps : List ℕ) → IsPlaced hs ps → HitsAreApart hs
 apart_placed hs ps p = apart_from 0 hs ps (λ k y g. let e : k ≡ 0 + k = omega arith in (p k y g).2 ∙ ap (λ z. Some z) e)

@@ -13,7 +13,7 @@ use Rattle.time_marks.specs.declared.window.Window.{Window}
 use Rattle.time_marks.specs.Found.{Distinct}
 use Rattle.time_marks.specs.Probes.{Probe}
 use Rattle.time_marks.specs.Views.{ranged_probes}
-use Rattle.query_eval.specs.Lowest.{lowered, lowest, has_place, with_hit, keeping}
+use Rattle.query_eval.specs.Lowest.{with_lowered, lowest, has_place, with_hit, keeping}
 use Rattle.query_eval.specs.Placed.{IsPlaced}
 use Rattle.probe_eval.specs.Work.{total}
 use Rattle.probe_eval.specs.Runs.{query_hits, query_cost, HasValidProbes, HasNoMark, PathIsDocument, rows_due}
@@ -26,8 +26,8 @@ use Rattle.probe_eval.proofs.Steps.{get_in}
 all_placed : (n : ℕ) (ks hs : List Hit) → ((h : Hit) → In h hs → has_place n h.doc.0 ≡ true) → keeping n ks hs ≡ lowest ks hs
 all_placed n ks [] f = refl
 all_placed n ks (h ∷ hs) f =
-    let e : with_hit n ks h ≡ lowered ks h = ap (λ b. if b then lowered ks h else ks) (f h (inl refl)) in
-    ap (λ z. keeping n z hs) e ∙ all_placed n (lowered ks h) hs (λ x i. f x (inr i))
+    let e : with_hit n ks h ≡ with_lowered ks h = ap (λ b. if b then with_lowered ks h else ks) (f h (inl refl)) in
+    ap (λ z. keeping n z hs) e ∙ all_placed n (with_lowered ks h) hs (λ x i. f x (inr i))
 
 number_within : (n : ℕ) (docs : List Doc) (d : Doc) → Numbered doc_number n docs → In d docs → (n ≤ d.num.0) × (d.num.0 < n + length docs)
 number_within n [] d h i = absurd i

@@ -12,7 +12,7 @@ use Rattle.std.proofs.lemmas.Bool.{cases_Bool, true≢false}
 use Rattle.tap_rows.specs.declared.results.Hit.{Hit}
 use Rattle.tap_rows.specs.Kept.{In}
 use Rattle.tap_rows.specs.Results.{is_before}
-use Rattle.query_eval.specs.HitLists.{AreApart, InOrder, HaveSame}
+use Rattle.query_eval.specs.HitLists.{HitsAreApart, InOrder, HaveSame}
 
 -- the order
 
@@ -84,20 +84,20 @@ apart_all x [] a y i = absurd i
 apart_all x (z ∷ zs) a y (inl e) = λ d. eq_no x.doc.0 z.doc.0 a.0 (sym (ap (λ (h : Hit). h.doc.0) e) ∙ d)
 apart_all x (z ∷ zs) a y (inr i) = apart_all x zs a.1 y i
 
-distinct_of : (xs : List Hit) → AreApart xs → IsDistinct same_doc xs
+distinct_of : (xs : List Hit) → HitsAreApart xs → IsDistinct same_doc xs
 unfolding IsDistinct
 distinct_of [] a = tt
 distinct_of (x ∷ xs) a = (all_apart x xs a.0, distinct_of xs a.1)
 
-apart_of : (xs : List Hit) → IsDistinct same_doc xs → AreApart xs
+apart_of : (xs : List Hit) → IsDistinct same_doc xs → HitsAreApart xs
 unfolding IsDistinct
 apart_of [] d = tt
 apart_of (x ∷ xs) d = (apart_all x xs d.0, apart_of xs d.1)
 
-apart_moved : (xs ys : List Hit) → IsPermutation xs ys → AreApart xs → AreApart ys
+apart_moved : (xs ys : List Hit) → IsPermutation xs ys → HitsAreApart xs → HitsAreApart ys
 apart_moved xs ys p a = apart_of ys (IsDistinct-IsPermutation same_doc flips xs ys p (distinct_of xs a))
 
-pub same_hits : (xs ys : List Hit) → IsPermutation xs ys → AreApart xs → HaveSame xs ys
+pub same_hits : (xs ys : List Hit) → IsPermutation xs ys → HitsAreApart xs → HaveSame xs ys
 same_hits xs ys p a = record {
   to = λ h i. moved xs ys h (same h) i;
   back = λ h i. moved ys xs h (sym (same h)) i;
@@ -115,7 +115,7 @@ strictly a b h n = grind (arith, ints)
 onward : (x y z : Hit) → is_before x y ≡ true → is_before y z ≡ true → is_before x z ≡ true
 onward x y z h k = grind (arith, ints)
 
-in_order_all : (xs : List Hit) → AreApart xs → ((k : ℕ) (d : Hit) → 0 ≤ k → k + 1 < length xs → is_before (slice_index_or xs (k + 1) d) (slice_index_or xs k d) ≡ false) → InOrder xs
+in_order_all : (xs : List Hit) → HitsAreApart xs → ((k : ℕ) (d : Hit) → 0 ≤ k → k + 1 < length xs → is_before (slice_index_or xs (k + 1) d) (slice_index_or xs k d) ≡ false) → InOrder xs
 in_order_all [] a s = tt
 in_order_all (x ∷ []) a s = ((λ y i. absurd i), tt)
 in_order_all (x ∷ y ∷ zs) a s =
@@ -132,5 +132,5 @@ in_order_all (x ∷ y ∷ zs) a s =
     first e r h (inl q) = subst (λ z. is_before x z ≡ true) (sym q) e
     first e r h (inr i) = onward x y h e (r.0 h i)
 
-pub sorted_in_order : (xs ys : List Hit) → IsPermutation xs ys → AreApart xs → IsSortedBy is_before ys → InOrder ys
+pub sorted_in_order : (xs ys : List Hit) → IsPermutation xs ys → HitsAreApart xs → IsSortedBy is_before ys → InOrder ys
 sorted_in_order xs ys p a s = in_order_all ys (apart_moved xs ys p a) s

@@ -9,7 +9,7 @@ use Rattle.tap_rows.specs.declared.results.Hit.{Hit}
 use Rattle.tap_rows.specs.declared.results.Entry.{Entry}
 use Rattle.little_box.specs.Boxes.{is_in}
 use Rattle.probe_eval.specs.Nested.{hit_if, new_doc}
-use Rattle.query_eval.specs.Lowest.{lower, lowered, has_place, with_hit, keeping}
+use Rattle.query_eval.specs.Lowest.{lower, with_lowered, has_place, with_hit, keeping}
 use Rattle.query_eval.specs.Fronts.{IsDone}
 use Rattle.query_eval.proofs.HitSteps.{left_out}
 
@@ -50,10 +50,10 @@ unchanged_le x h e = elim (cases_Bool (int_le x.first h.first)) [
       subst (λ (y : Hit). int_le x.first y.first ≡ true) (sym e ∙ k) (self_le x.first)
 ]
 
-at_same : (x : Hit) (xs : List Hit) (g : Hit) → nat_eq x.doc.0 g.doc.0 ≡ true → lowered (x ∷ xs) g ≡ lower x g ∷ xs
+at_same : (x : Hit) (xs : List Hit) (g : Hit) → nat_eq x.doc.0 g.doc.0 ≡ true → with_lowered (x ∷ xs) g ≡ lower x g ∷ xs
 at_same x xs g q = rw q refl
 
-at_other : (x : Hit) (xs : List Hit) (g : Hit) → nat_eq x.doc.0 g.doc.0 ≡ false → lowered (x ∷ xs) g ≡ x ∷ lowered xs g
+at_other : (x : Hit) (xs : List Hit) (g : Hit) → nat_eq x.doc.0 g.doc.0 ≡ false → with_lowered (x ∷ xs) g ≡ x ∷ with_lowered xs g
 at_other x xs g q = rw q refl
 
 head_is : (x y : Hit) (xs ys : List Hit) → x ∷ xs ≡ y ∷ ys → x ≡ y
@@ -62,28 +62,28 @@ head_is x y xs ys e = cc
 tail_is : (x y : Hit) (xs ys : List Hit) → x ∷ xs ≡ y ∷ ys → xs ≡ ys
 tail_is x y xs ys e = cc
 
-stays_head : (y : Hit) (xs : List Hit) (h : Hit) → nat_eq y.doc.0 h.doc.0 ≡ true → int_le y.first h.first ≡ true → lowered (y ∷ xs) h ≡ y ∷ xs
+stays_head : (y : Hit) (xs : List Hit) (h : Hit) → nat_eq y.doc.0 h.doc.0 ≡ true → int_le y.first h.first ≡ true → with_lowered (y ∷ xs) h ≡ y ∷ xs
 stays_head y xs h q l =
     let low : lower y h ≡ y = rw l refl in
     at_same y xs h q ∙ ap (λ z. z ∷ xs) low
 
-stays_tail : (y : Hit) (xs : List Hit) (h : Hit) → nat_eq y.doc.0 h.doc.0 ≡ false → lowered xs h ≡ xs → lowered (y ∷ xs) h ≡ y ∷ xs
+stays_tail : (y : Hit) (xs : List Hit) (h : Hit) → nat_eq y.doc.0 h.doc.0 ≡ false → with_lowered xs h ≡ xs → with_lowered (y ∷ xs) h ≡ y ∷ xs
 stays_tail y xs h q e = at_other y xs h q ∙ ap (λ zs. y ∷ zs) e
 
 -- a later hit of the document changes nothing either
-pub lowered_later : (xs : List Hit) (h g : Hit) → h.doc.0 ≡ g.doc.0 → int_le h.first g.first ≡ true → lowered xs h ≡ xs → lowered xs g ≡ xs
+pub lowered_later : (xs : List Hit) (h g : Hit) → h.doc.0 ≡ g.doc.0 → int_le h.first g.first ≡ true → with_lowered xs h ≡ xs → with_lowered xs g ≡ xs
 lowered_later [] h g d l e = absurd cc
 lowered_later (x ∷ xs) h g d l e = elim (cases_Bool (nat_eq x.doc.0 h.doc.0)) [
   | inl q ↦
       let low : lower x h ≡ x = head_is (lower x h) x xs xs (sym (at_same x xs h q) ∙ e) in
       stays_head x xs g (subst (λ k. nat_eq x.doc.0 k ≡ true) d q) (le_after x.first h.first g.first (unchanged_le x h low) l)
   | inr q ↦
-      let rest : lowered xs h ≡ xs = tail_is x x (lowered xs h) xs (sym (at_other x xs h q) ∙ e) in
+      let rest : with_lowered xs h ≡ xs = tail_is x x (with_lowered xs h) xs (sym (at_other x xs h q) ∙ e) in
       stays_tail x xs g (subst (λ k. nat_eq x.doc.0 k ≡ false) d q) (lowered_later xs h g d l rest)
 ]
 
 -- nor does it after another hit was stored
-pub lowered_stays : (xs : List Hit) (h g : Hit) → lowered xs h ≡ xs → lowered (lowered xs g) h ≡ lowered xs g
+pub lowered_stays : (xs : List Hit) (h g : Hit) → with_lowered xs h ≡ xs → with_lowered (with_lowered xs g) h ≡ with_lowered xs g
 lowered_stays [] h g e = absurd cc
 lowered_stays (x ∷ xs) h g e = elim (cases_Bool (nat_eq x.doc.0 h.doc.0)) [
   | inl q ↦
@@ -92,21 +92,21 @@ lowered_stays (x ∷ xs) h g e = elim (cases_Bool (nat_eq x.doc.0 h.doc.0)) [
       elim (cases_Bool (nat_eq x.doc.0 g.doc.0)) [
         | inl r ↦
             let d = lower_doc x g (doc_is x.doc.0 g.doc.0 r) in
-            subst (λ zs. lowered zs h ≡ zs) (sym (at_same x xs g r))
+            subst (λ zs. with_lowered zs h ≡ zs) (sym (at_same x xs g r))
             (stays_head (lower x g) xs h (subst (λ k. nat_eq k h.doc.0 ≡ true) (sym d) q) (le_after (lower x g).first x.first h.first (lower_le x g) l))
-        | inr r ↦ subst (λ zs. lowered zs h ≡ zs) (sym (at_other x xs g r)) (stays_head x (lowered xs g) h q l)
+        | inr r ↦ subst (λ zs. with_lowered zs h ≡ zs) (sym (at_other x xs g r)) (stays_head x (with_lowered xs g) h q l)
       ]
   | inr q ↦
-      let rest : lowered xs h ≡ xs = tail_is x x (lowered xs h) xs (sym (at_other x xs h q) ∙ e) in
+      let rest : with_lowered xs h ≡ xs = tail_is x x (with_lowered xs h) xs (sym (at_other x xs h q) ∙ e) in
       elim (cases_Bool (nat_eq x.doc.0 g.doc.0)) [
         | inl r ↦
             let d = lower_doc x g (doc_is x.doc.0 g.doc.0 r) in
-            subst (λ zs. lowered zs h ≡ zs) (sym (at_same x xs g r)) (stays_tail (lower x g) xs h (subst (λ k. nat_eq k h.doc.0 ≡ false) (sym d) q) rest)
-        | inr r ↦ subst (λ zs. lowered zs h ≡ zs) (sym (at_other x xs g r)) (stays_tail x (lowered xs g) h q (lowered_stays xs h g rest))
+            subst (λ zs. with_lowered zs h ≡ zs) (sym (at_same x xs g r)) (stays_tail (lower x g) xs h (subst (λ k. nat_eq k h.doc.0 ≡ false) (sym d) q) rest)
+        | inr r ↦ subst (λ zs. with_lowered zs h ≡ zs) (sym (at_other x xs g r)) (stays_tail x (with_lowered xs g) h q (lowered_stays xs h g rest))
       ]
 ]
 
-with_place : (n : ℕ) (kept : List Hit) (h : Hit) → has_place n h.doc.0 ≡ true → with_hit n kept h ≡ lowered kept h
+with_place : (n : ℕ) (kept : List Hit) (h : Hit) → has_place n h.doc.0 ≡ true → with_hit n kept h ≡ with_lowered kept h
 with_place n kept h p = rw p refl
 
 without_place : (n : ℕ) (kept : List Hit) (h : Hit) → has_place n h.doc.0 ≡ false → with_hit n kept h ≡ kept
@@ -124,7 +124,7 @@ hit_stays n kept h g e = elim (cases_Bool (has_place n h.doc.0)) [
       elim (cases_Bool (has_place n g.doc.0)) [
         | inl q ↦
             subst (λ zs. with_hit n zs h ≡ zs) (sym (with_place n kept g q))
-            (with_place n (lowered kept g) h p ∙ lowered_stays kept h g (sym (with_place n kept h p) ∙ e))
+            (with_place n (with_lowered kept g) h p ∙ lowered_stays kept h g (sym (with_place n kept h p) ∙ e))
         | inr q ↦ subst (λ zs. with_hit n zs h ≡ zs) (sym (without_place n kept g q)) e
       ]
   | inr p ↦ without_place n (with_hit n kept g) h p

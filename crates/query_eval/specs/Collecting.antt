@@ -5,10 +5,10 @@ use Rattle.access_plan.specs.declared.reach.Reach.{Reach}
 use Rattle.probe_eval.specs.declared.next.Next.{Next}
 use Rattle.probe_eval.specs.declared.search.Search.{Search}
 use Rattle.probe_eval.specs.Walks.{CanAnswer}
-use Rattle.query_eval.specs.declared.kept_hits.KeptHits.{KeptHits}
-use Rattle.query_eval.specs.Placed.{IsReady}
+use Rattle.query_eval.specs.declared.least_hits.LeastHits.{LeastHits}
+use Rattle.query_eval.specs.Placed.{CanStoreHits}
 
 -- the body can be asked for beside these rows, and hits can be stored
-pub record CanCollect (s : Search) (order : List Reach) (next : Next) (sure : Bool) (env : Env) (mark : ℤ) (into : KeptHits) : Type 0 where
+pub record CanCollect (s : Search) (order : List Reach) (next : Next) (sure : Bool) (env : Env) (mark : ℤ) (into : LeastHits) : Type 0 where
   pub answer : CanAnswer s order next sure env mark
-  pub ready : IsReady into
+  pub ready : CanStoreHits into

@@ -13,7 +13,7 @@ use Rattle.probe_eval.specs.declared.search.Search.{Search}
 use Rattle.probe_eval.specs.LeftOut.{LeavesFalse}
 use Rattle.probe_eval.specs.Nested.{hit_if, new_doc}
 use Rattle.probe_eval.specs.Open.{may_go}
-use Rattle.query_eval.specs.declared.kept_hits.KeptHits.{KeptHits}
+use Rattle.query_eval.specs.declared.least_hits.LeastHits.{LeastHits}
 use Rattle.query_eval.specs.declared.fronts.Front.{Front}
 use Rattle.query_eval.specs.declared.fronts.Fronts.{Fronts}
 use Rattle.query_eval.specs.Lowest.{keeping}
@@ -33,15 +33,15 @@ pub record IsPassed (entries : List Entry) (docs : List Doc) (n : ℕ) (kept : L
       → Each (IsDone entries n kept b) (take len (with_text (texts_of kind) text docs))
 
 -- the same of a front
-abbrev pub IsFront : List Entry → List Doc → ℕ → List Hit → Front → Type 0
-IsFront entries docs n kept front = IsPassed entries docs n kept front.kind front.first front.mark front.len
+abbrev pub IsFrontPassed : List Entry → List Doc → ℕ → List Hit → Front → Type 0
+IsFrontPassed entries docs n kept front = IsPassed entries docs n kept front.kind front.first front.mark front.len
 
 -- the documents of each front are done
 pub record ArePassed (entries : List Entry) (docs : List Doc) (n : ℕ) (kept : List Hit) (fronts : List Front) : Type 0 where
-  pub each : Each (IsFront entries docs n kept) fronts
+  pub each : Each (IsFrontPassed entries docs n kept) fronts
 
 -- the same over the rows and deliveries of a search
-abbrev pub AreDone : Search → KeptHits → Fronts → Type 0
+abbrev pub AreDone : Search → LeastHits → Fronts → Type 0
 AreDone s into fronts = ArePassed s.seen.now s.index.now.docs (length into.places.items) into.hits.items fronts.fronts.items
 
 -- the front is that of the list of this kind that begins with this document, and holds at this mark
@@ -51,11 +51,11 @@ pub record IsFrontOf (kind : TextKind) (first : ℕ) (b : ℤ) (front : Front) :
   pub by : front.mark ≤ℤ b
 
 -- these documents are done
-abbrev pub AreDoneDocs : Search → KeptHits → ℤ → List Doc → Type 0
+abbrev pub AreDoneDocs : Search → LeastHits → ℤ → List Doc → Type 0
 AreDoneDocs s into b docs = Each (IsDone s.seen.now (length into.places.items) into.hits.items b) docs
 
 -- the documents behind those that are done, without some with which there is no way on
-pub record AreDocsBehind (s : Search) (into : KeptHits) (b : ℤ) (v : Var) (env : Env) (docs left : List Doc) : Type 0 where
+pub record AreDocsBehind (s : Search) (into : LeastHits) (b : ℤ) (v : Var) (env : Env) (docs left : List Doc) : Type 0 where
   pub passed : List Doc
   pub others : List Doc
   pub docs_are : docs ≡ passed ++ others
@@ -63,7 +63,7 @@ pub record AreDocsBehind (s : Search) (into : KeptHits) (b : ℤ) (v : Var) (env
   pub leaves : LeavesFalse (λ d. may_go s.probe.now.path b (bind v (OfDoc d) env)) others left
 
 -- the rows of a variable behind those of the query's documents that are done, without some with which there is no way on
-pub record AreBehind (s : Search) (into : KeptHits) (b : ℤ) (v : Var) (env : Env) (rows left : List Row) : Type 0 where
+pub record AreBehind (s : Search) (into : LeastHits) (b : ℤ) (v : Var) (env : Env) (rows left : List Row) : Type 0 where
   pub passed : List Doc
   pub others : List Row
   pub rows_are : rows ≡ map OfDoc passed ++ others

@@ -7,14 +7,14 @@ abbrev pub lower : Hit → Hit → Hit
 lower x h = if int_le x.first h.first then x else h
 
 -- the stored hits with one more, or with that of its document lowered
-abbrev pub lowered : List Hit → Hit → List Hit
-lowered [] h = h ∷ []
-lowered (x ∷ xs) h = if nat_eq x.doc.0 h.doc.0 then lower x h ∷ xs else x ∷ lowered xs h
+abbrev pub with_lowered : List Hit → Hit → List Hit
+with_lowered [] h = h ∷ []
+with_lowered (x ∷ xs) h = if nat_eq x.doc.0 h.doc.0 then lower x h ∷ xs else x ∷ with_lowered xs h
 
 -- the stored hits after all of these
 abbrev pub lowest : List Hit → List Hit → List Hit
 lowest kept [] = kept
-lowest kept (h ∷ hs) = lowest (lowered kept h) hs
+lowest kept (h ∷ hs) = lowest (with_lowered kept h) hs
 
 -- has the document a place among n?
 abbrev pub has_place : ℕ → ℕ → Bool
@@ -22,7 +22,7 @@ has_place n doc = nat_lt 0 doc && nat_le doc n
 
 -- the stored hits with one more, if its document has a place
 abbrev pub with_hit : ℕ → List Hit → Hit → List Hit
-with_hit n kept h = if has_place n h.doc.0 then lowered kept h else kept
+with_hit n kept h = if has_place n h.doc.0 then with_lowered kept h else kept
 
 -- the stored hits after all of these
 abbrev pub keeping : ℕ → List Hit → List Hit → List Hit

@@ -6,11 +6,11 @@ ghost use Rattle.tap_rows.specs.Kept.{Each};
 ghost use Rattle.access_plan.specs.Views.{access_at};
 ghost use Rattle.probe_eval.specs.SingleLists.{IsSingleList};
 ghost use Rattle.probe_eval.specs.Work.{rows_by};
-ghost use Rattle.query_eval.specs.Placed.{IsReady};
+ghost use Rattle.query_eval.specs.Placed.{CanStoreHits};
 ghost use Rattle.query_eval.specs.Fronts.{IsDone, AreDone, AreDoneDocs, AreDocsBehind, AreBehind};
 
 use crate::fronts::{Front, Fronts};
-use crate::kept_hits::KeptHits;
+use crate::least_hits::LeastHits;
 use access_plan::ReachRef;
 use probe_eval::{
     LONG, RowWalk, Search, SingleList, docs_beside, rows_beside, rows_by, single_list,
@@ -21,8 +21,8 @@ use tap_rows::Hit;
 use tql_core::{Env, Var};
 
 // Returns whether the document of this number is in the box, or a hit of it is stored that is no later than this mark.
-fn is_done(search: &Search, num: DocNum, mark: i64, into: &KeptHits) -> bool
-    requires { IsReady into.now }
+fn is_done(search: &Search, num: DocNum, mark: i64, into: &LeastHits) -> bool
+    requires { CanStoreHits into.now }
     ensures { result ≡ true → (d : Doc) → d.num ≡ num
         → IsDone search.now.seen.now (length into.now.places.items) into.now.hits.items mark d }
 {
@@ -36,8 +36,8 @@ fn is_done(search: &Search, num: DocNum, mark: i64, into: &KeptHits) -> bool
 }
 
 // Returns whether the list has a document at this place, and it is done.
-fn is_done_at(search: &Search, docs: &PostingList, place: usize, mark: i64, into: &KeptHits) -> bool
-    requires { IsReady into.now }
+fn is_done_at(search: &Search, docs: &PostingList, place: usize, mark: i64, into: &LeastHits) -> bool
+    requires { CanStoreHits into.now }
     ensures { result ≡ true → (d : Doc) → slice_get docs.now place ≡ Some d
         → IsDone search.now.seen.now (length into.now.places.items) into.now.hits.items mark d }
 {
@@ -48,8 +48,8 @@ fn is_done_at(search: &Search, docs: &PostingList, place: usize, mark: i64, into
 }
 
 // Returns how many documents at the front of the list are done, of which the first `len` are known to be.
-fn done_from(search: &Search, docs: &PostingList, len: usize, mark: i64, into: &KeptHits) -> usize
-    requires ready { IsReady into.now }
+fn done_from(search: &Search, docs: &PostingList, len: usize, mark: i64, into: &LeastHits) -> usize
+    requires ready { CanStoreHits into.now }
     requires done { AreDoneDocs search.now into.now mark (take len docs.now) }
     ensures { AreDoneDocs search.now into.now mark (take result docs.now) }
 {
@@ -72,10 +72,10 @@ fn docs_behind<'a>(
     var: Var,
     env: &Env,
     mark: i64,
-    into: &KeptHits,
+    into: &LeastHits,
     fronts: &mut Fronts,
 ) -> PostingList<'a>
-    requires ready { IsReady into.now }
+    requires ready { CanStoreHits into.now }
     requires list { IsSingleList search.now.index.now found }
     requires fronts { AreDone search.now into.now fronts.old }
     ensures rows { AreDocsBehind search.now into.now mark var env.now found.entry.docs result }
@@ -111,10 +111,10 @@ pub(crate) fn open_rows<'a>(
     reach: ReachRef<'a>,
     env: &Env<'a>,
     mark: i64,
-    into: &KeptHits,
+    into: &LeastHits,
     fronts: &mut Fronts,
 ) -> RowWalk<'a>
-    requires ready { IsReady into.now }
+    requires ready { CanStoreHits into.now }
     requires fronts { AreDone search.now into.now fronts.old }
     ensures rows { AreBehind search.now into.now mark reach.entry.var env.now
         (rows_by mark (access_at reach.entry.access) env.now search.now.index.now) result }

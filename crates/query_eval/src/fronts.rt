@@ -9,7 +9,7 @@ ghost use Rattle.tap_rows.specs.Kept.{In};
 ghost use Rattle.tap_rows.specs.declared.rows.Doc.{Doc};
 ghost use Rattle.tap_rows.specs.declared.results.Hit.{Hit};
 ghost use Rattle.tap_rows.specs.declared.results.Entry.{Entry};
-ghost use Rattle.query_eval.specs.Fronts.{IsPassed, IsFront, ArePassed, IsFrontOf};
+ghost use Rattle.query_eval.specs.Fronts.{IsPassed, IsFrontPassed, ArePassed, IsFrontOf};
 
 use probe_eval::LONG;
 use row_index::TextKind;
@@ -115,7 +115,7 @@ impl Fronts {
     /// Stores a front in place of that of its list. It is left out if there is no room; no memory is taken.
     pub(crate) fn put(&mut self, front: Front)
         ensures { (entries : List Entry) (docs : List Doc) (n : ℕ) (kept : List Hit) → ArePassed entries docs n kept self.old.fronts.items
-            → IsFront entries docs n kept front → ArePassed entries docs n kept self.new.fronts.items }
+            → IsFrontPassed entries docs n kept front → ArePassed entries docs n kept self.new.fronts.items }
     {
         let under = front.first as usize;
         if under >= self.places.len() {

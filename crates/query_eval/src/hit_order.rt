@@ -4,7 +4,7 @@ ghost use Rattle.std.specs.Prelude.{◌≡◌};
 ghost use Rattle.std.specs.Ordering.{is_lt};
 ghost use Rattle.tap_rows.specs.Results.{is_before};
 ghost use Rattle.tap_rows.specs.declared.results.Hit.{Hit};
-ghost use Rattle.query_eval.specs.HitLists.{AreApart, InOrder, HaveSame};
+ghost use Rattle.query_eval.specs.HitLists.{HitsAreApart, InOrder, HaveSame};
 
 use std::cmp::Ordering;
 use tap_rows::Hit;
@@ -18,7 +18,7 @@ fn compare(a: &Hit, b: &Hit) -> Ordering
 
 /// Puts hits of distinct documents in order. It takes no memory.
 pub(crate) fn put_in_order(hits: &mut [Hit])
-    requires { AreApart hits.old }
+    requires { HitsAreApart hits.old }
     ensures order { InOrder hits.new }
     ensures same { HaveSame hits.old hits.new }
 {

@@ -5,7 +5,7 @@ ghost use Rattle.tap_rows.specs.declared.results.Hit.{Hit};
 ghost use Rattle.query_eval.specs.Hits.{HitsWithRoom};
 
 use crate::fronts::Fronts;
-use crate::kept_hits::KeptHits;
+use crate::least_hits::LeastHits;
 use std::alloc::Global;
 use std::marker::Model;
 use tap_base::{Memory, Rows};
@@ -13,7 +13,7 @@ use tap_rows::Hit;
 
 /// A list of hits, with room for a hit of each document up to a number.
 pub struct Hits {
-    pub(crate) kept: KeptHits,
+    pub(crate) kept: LeastHits,
     pub(crate) fronts: Fronts,
 }
 
@@ -42,7 +42,7 @@ impl Hits {
         ensures { result ≡ record { hits = []; room = 0 } }
     {
         Hits {
-            kept: KeptHits {
+            kept: LeastHits {
                 hits: Vec::new(alloc),
                 places: Vec::new(alloc),
             },
@@ -60,7 +60,7 @@ impl Hits {
         let mut fronts = Fronts::new(alloc);
         fronts.grow_to(n)?;
         Ok(Hits {
-            kept: KeptHits { hits, places },
+            kept: LeastHits { hits, places },
             fronts,
         })
     }
@@ -98,7 +98,7 @@ impl Hits {
         ensures { result ≡ self.hits }
     {
         let Hits { kept, fronts: _ } = self;
-        let KeptHits { hits, .. } = kept;
+        let LeastHits { hits, .. } = kept;
         Rows::from_vec(hits)
     }
 

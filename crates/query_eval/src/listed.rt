@@ -8,9 +8,9 @@ ghost use Rattle.time_marks.specs.Seeks.{CanSeek};
 ghost use Rattle.probe_eval.specs.Drivers.{walked};
 ghost use Rattle.probe_eval.specs.Listed.{listed_hit, marked_hit, listed_hits};
 ghost use Rattle.probe_eval.specs.Searches.{searched};
-ghost use Rattle.query_eval.specs.Placed.{IsReady, Stores};
+ghost use Rattle.query_eval.specs.Placed.{CanStoreHits, Stores};
 
-use crate::kept_hits::KeptHits;
+use crate::least_hits::LeastHits;
 use probe_eval::{Search, mark_in, new_doc, walked};
 use std::sync::ledger::Ledger;
 use tap_base::Steps;
@@ -19,10 +19,10 @@ use time_marks::{Seek, Window};
 use tql_core::{Env, RowRef, Var, value};
 
 // Stores the hit of the document with the mark, if the mark isn't before it and it isn't in the box.
-fn collect_doc(search: &Search, doc: &KeptDoc, mark: i64, into: &mut KeptHits)
-    requires { IsReady into.old }
+fn collect_doc(search: &Search, doc: &KeptDoc, mark: i64, into: &mut LeastHits)
+    requires { CanStoreHits into.old }
     ensures hits { Stores into.old into.new (listed_hit search.now.seen.now mark (OfDoc doc.now)) }
-    ensures ready { IsReady into.new }
+    ensures ready { CanStoreHits into.new }
     ensures places { length into.new.places.items ≡ length into.old.places.items }
 {
     if doc.doc().arrival <= mark {
@@ -37,10 +37,10 @@ fn collect_doc(search: &Search, doc: &KeptDoc, mark: i64, into: &mut KeptHits)
 
 // Stores the hit of the row with the mark, if there is one, it isn't before the row, and the row is a document that isn't in
 // the box.
-fn collect_marked(search: &Search, row: RowRef<'_>, mark: Option<i64>, into: &mut KeptHits)
-    requires { IsReady into.old }
+fn collect_marked(search: &Search, row: RowRef<'_>, mark: Option<i64>, into: &mut LeastHits)
+    requires { CanStoreHits into.old }
     ensures hits { Stores into.old into.new (marked_hit search.now.seen.now (row_of row.entry) mark) }
-    ensures ready { IsReady into.new }
+    ensures ready { CanStoreHits into.new }
     ensures places { length into.new.places.items ≡ length into.old.places.items }
 {
     match (mark, row) {
@@ -55,14 +55,14 @@ pub(crate) fn collect_listed<'a, L: Ledger>(
     seek: Seek,
     var: Var,
     w: Window,
-    into: &mut KeptHits,
+    into: &mut LeastHits,
     steps: &mut Steps<L>,
 )
     requires window { CanSeek seek w }
-    requires ready { IsReady into.old }
+    requires ready { CanStoreHits into.old }
     ensures hits { Stores into.old into.new
         (flat_map (listed_hits search.now.seen.now w (searched search.now) var) (walked search.now.index.now w (searched search.now) seek var)) }
-    ensures ready { IsReady into.new }
+    ensures ready { CanStoreHits into.new }
     ensures places { length into.new.places.items ≡ length into.old.places.items }
     ensures steps { steps.new ≤ steps.old + length (walked search.now.index.now w (searched search.now) seek var) }
     ensures more { steps.old ≤ steps.new }

@@ -2,15 +2,15 @@
 
 ghost use Rattle.std.specs.Prelude.{◌≡◌, ◌+◌, ◌≤◌, [], length, option_to_list};
 ghost use Rattle.time_marks.specs.Seeks.{CanSeek};
-ghost use Rattle.query_eval.specs.Placed.{IsReady, Stores};
+ghost use Rattle.query_eval.specs.Placed.{CanStoreHits, Stores};
 ghost use Rattle.query_eval.specs.Fronts.{AreDone};
-ghost use Rattle.probe_eval.specs.Nexts.{IsNext};
+ghost use Rattle.probe_eval.specs.Nexts.{IsNearestIfKnown};
 ghost use Rattle.probe_eval.specs.Searches.{searched, CanSearch};
 ghost use Rattle.probe_eval.specs.Drivers.{seek_var, hits_at, seek_hits, cost_at, seek_cost};
 ghost use Rattle.query_eval.specs.Driven.{driven_hits, driven_cost};
 
 use crate::fronts::Fronts;
-use crate::kept_hits::KeptHits;
+use crate::least_hits::LeastHits;
 use crate::listed::collect_listed;
 use crate::nested::collect_hits;
 use access_plan::Reach;
@@ -27,18 +27,18 @@ fn collect_at<'a, L: Ledger>(
     w: Window,
     next: &mut Next<'a>,
     env: &Env<'a>,
-    into: &mut KeptHits,
+    into: &mut LeastHits,
     fronts: &mut Fronts,
     steps: &mut Steps<L>,
 )
     requires search { CanSearch search.now (length env.now + length order.now) }
-    requires next { IsNext search.now.probe.now.path env.now next.old }
-    requires ready { IsReady into.old }
+    requires next { IsNearestIfKnown search.now.probe.now.path env.now next.old }
+    requires ready { CanStoreHits into.old }
     requires fronts { AreDone search.now into.old fronts.old }
     ensures hits { Stores into.old into.new
         (hits_at search.now.seen.now search.now.index.now w (searched search.now) order.now env.now) }
-    ensures next { IsNext search.now.probe.now.path env.now next.new }
-    ensures ready { IsReady into.new }
+    ensures next { IsNearestIfKnown search.now.probe.now.path env.now next.new }
+    ensures ready { CanStoreHits into.new }
     ensures places { length into.new.places.items ≡ length into.old.places.items }
     ensures fronts { AreDone search.now into.new fronts.new }
     ensures steps { steps.new ≤ steps.old + cost_at search.now.index.now w (searched search.now) order.now env.now }
@@ -56,17 +56,17 @@ fn collect_driven<'a, L: Ledger>(
     seek: Seek,
     var: Var,
     w: Window,
-    into: &mut KeptHits,
+    into: &mut LeastHits,
     fronts: &mut Fronts,
     steps: &mut Steps<L>,
 )
     requires window { CanSeek seek w }
     requires search { CanSearch search.now (1 + length order.now) }
-    requires ready { IsReady into.old }
+    requires ready { CanStoreHits into.old }
     requires fronts { AreDone search.now into.old fronts.old }
     ensures hits { Stores into.old into.new
         (driven_hits search.now.seen.now search.now.index.now w (searched search.now) order.now seek var) }
-    ensures ready { IsReady into.new }
+    ensures ready { CanStoreHits into.new }
     ensures places { length into.new.places.items ≡ length into.old.places.items }
     ensures fronts { AreDone search.now into.new fronts.new }
     ensures steps { steps.new ≤ steps.old + driven_cost search.now.index.now w (searched search.now) order.now seek var }
@@ -97,17 +97,17 @@ fn collect_walked<'a, L: Ledger>(
     seek: Seek,
     var: Var,
     w: Window,
-    into: &mut KeptHits,
+    into: &mut LeastHits,
     fronts: &mut Fronts,
     steps: &mut Steps<L>,
 )
     requires window { CanSeek seek w }
     requires search { CanSearch search.now (1 + length order.now) }
-    requires ready { IsReady into.old }
+    requires ready { CanStoreHits into.old }
     requires fronts { AreDone search.now into.old fronts.old }
     ensures hits { Stores into.old into.new
         (driven_hits search.now.seen.now search.now.index.now w (searched search.now) order.now seek var) }
-    ensures ready { IsReady into.new }
+    ensures ready { CanStoreHits into.new }
     ensures places { length into.new.places.items ≡ length into.old.places.items }
     ensures fronts { AreDone search.now into.new fronts.new }
     ensures steps { steps.new ≤ steps.old + driven_cost search.now.index.now w (searched search.now) order.now seek var }
@@ -126,17 +126,17 @@ pub(crate) fn collect_part<'a, L: Ledger>(
     order: &'a [Reach],
     seek: Seek,
     w: Window,
-    into: &mut KeptHits,
+    into: &mut LeastHits,
     fronts: &mut Fronts,
     steps: &mut Steps<L>,
 )
     requires window { CanSeek seek w }
     requires search { CanSearch search.now (length (option_to_list (seek_var seek)) + length order.now) }
-    requires ready { IsReady into.old }
+    requires ready { CanStoreHits into.old }
     requires fronts { AreDone search.now into.old fronts.old }
     ensures hits { Stores into.old into.new
         (seek_hits search.now.seen.now search.now.index.now w (searched search.now) order.now seek (seek_var seek)) }
-    ensures ready { IsReady into.new }
+    ensures ready { CanStoreHits into.new }
     ensures places { length into.new.places.items ≡ length into.old.places.items }
     ensures fronts { AreDone search.now into.new fronts.new }
     ensures steps { steps.new ≤ steps.old + seek_cost search.now.index.now w (searched search.now) order.now seek (seek_var seek) }

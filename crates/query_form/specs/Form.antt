@@ -99,17 +99,17 @@ abbrev pub finds_by_texts : Var → TextExpr → TextExpr → Bool
 finds_by_texts v x y = (is_text_key v x && not (text_names v y)) || (is_text_key v y && not (text_names v x))
 
 -- does the index find the variable's rows by an atom?
-abbrev pub is_key : Var → Atom → Bool
-is_key v (Numbers x O.Eq y) = finds_by_numbers v x y
-is_key v (Numbers x _ y) = false
-is_key v (Texts x O.Eq y) = finds_by_texts v x y
-is_key v (Texts x _ y) = false
-is_key v (Times x op y) = false
-is_key v (Has w f y) = if nat_eq w.0 v.0 then is_list_key f && not (text_names v y) else is_reference_key v f y
+abbrev pub is_index_key : Var → Atom → Bool
+is_index_key v (Numbers x O.Eq y) = finds_by_numbers v x y
+is_index_key v (Numbers x _ y) = false
+is_index_key v (Texts x O.Eq y) = finds_by_texts v x y
+is_index_key v (Texts x _ y) = false
+is_index_key v (Times x op y) = false
+is_index_key v (Has w f y) = if nat_eq w.0 v.0 then is_list_key f && not (text_names v y) else is_reference_key v f y
 
 -- does each alternative have a key of the variable?
 abbrev pub has_key : Var → Condition → Bool
-has_key v (Plain a) = is_key v a
+has_key v (Plain a) = is_index_key v a
 has_key v (All l r) = has_key v l || has_key v r
 has_key v (Either l r) = has_key v l && has_key v r
 has_key v _ = false

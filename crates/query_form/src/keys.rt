@@ -3,7 +3,7 @@
 ghost use Rattle.std.specs.Prelude.{◌≡◌};
 ghost use Rattle.tql_core.specs.Condition.{condition};
 ghost use Rattle.query_form.specs.Form.{is_number_key, is_text_key, is_list_key, is_reference_key};
-ghost use Rattle.query_form.specs.Form.{finds_by_numbers, finds_by_texts, is_key, has_key};
+ghost use Rattle.query_form.specs.Form.{finds_by_numbers, finds_by_texts, is_index_key, has_key};
 
 use crate::names::{number_names, text_names};
 use tap_base::Op;
@@ -70,8 +70,8 @@ fn finds_by_texts(var: Var, x: &TextExpr, y: &TextExpr) -> bool
 }
 
 // Returns whether the index finds the variable's rows by an atom.
-fn is_key(var: Var, atom: &Atom) -> bool
-    ensures { result ≡ is_key var atom.now }
+fn is_index_key(var: Var, atom: &Atom) -> bool
+    ensures { result ≡ is_index_key var atom.now }
 {
     match atom {
         Atom::Numbers(x, Op::Eq, y) => finds_by_numbers(var, *x, *y),
@@ -92,7 +92,7 @@ pub(crate) fn has_key(var: Var, cond: &Cond) -> bool
     ensures { result ≡ has_key var (condition cond.now) }
 {
     match cond {
-        Cond::Plain(atom) => is_key(var, atom),
+        Cond::Plain(atom) => is_index_key(var, atom),
         Cond::All(l, r) => has_key(var, l) || has_key(var, r),
         Cond::Either(l, r) => has_key(var, l) && has_key(var, r),
         _ => false,

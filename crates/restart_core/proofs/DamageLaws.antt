@@ -22,16 +22,16 @@ use Rattle.restart_core.specs.declared.fault.TableName.TheVariants.{Docs, Notes,
 use Rattle.restart_core.specs.declared.fault.Why.{Why}
 use Rattle.restart_core.specs.declared.fault.Why.TheVariants.{Number, Moment, Reference, Name, Twice, Text, Second, Order}
 use Rattle.restart_core.specs.declared.fault.RestartFault.{RestartFault}
-use Rattle.restart_core.specs.Damages.{damaged_unless, first_of, row_damage, is_condition, is_readable, doc_reason, note_reason, query_reason, run_reason, refers, is_within, is_same_pick, pick_reason, filter_reason, docs_damage, notes_damage, queries_damage, runs_damage, picks_damage, filters_damage, damage_of}
+use Rattle.restart_core.specs.Damages.{damaged_unless, first_reason, row_damage, is_condition, is_readable, doc_reason, note_reason, query_reason, run_reason, refers, is_second_possible, is_same_pick, pick_reason, filter_reason, docs_damage, notes_damage, queries_damage, runs_damage, picks_damage, filters_damage, damage_of}
 
 -- reasons, and what they deny
-three : (a b c : Bool) (x y z : Why) → is_none (first_of (damaged_unless a x ∷ damaged_unless b y ∷ damaged_unless c z ∷ [])) ≡ (a && b && c)
+three : (a b c : Bool) (x y z : Why) → is_none (first_reason (damaged_unless a x ∷ damaged_unless b y ∷ damaged_unless c z ∷ [])) ≡ (a && b && c)
 three true true true x y z = refl
 three true true false x y z = refl
 three true false c x y z = refl
 three false b c x y z = refl
 
-four : (a b c d e : Bool) (w x y z : Why) → is_none (first_of (damaged_unless a w ∷ damaged_unless b x ∷ damaged_unless c y ∷ damaged_unless (d && e) z ∷ [])) ≡ (a && b && c && d && e)
+four : (a b c d e : Bool) (w x y z : Why) → is_none (first_reason (damaged_unless a w ∷ damaged_unless b x ∷ damaged_unless c y ∷ damaged_unless (d && e) z ∷ [])) ≡ (a && b && c && d && e)
 four true true true true true w x y z = refl
 four true true true true false w x y z = refl
 four true true true false e w x y z = refl
@@ -39,7 +39,7 @@ four true true false d e w x y z = refl
 four true false c d e w x y z = refl
 four false b c d e w x y z = refl
 
-five : (a b c d e f : Bool) (v w x y z : Why) → is_none (first_of (first_of (damaged_unless a v ∷ damaged_unless b w ∷ damaged_unless (c && d) x ∷ []) ∷ damaged_unless e y ∷ damaged_unless f z ∷ [])) ≡ ((a && b && c && d && e) && f)
+five : (a b c d e f : Bool) (v w x y z : Why) → is_none (first_reason (first_reason (damaged_unless a v ∷ damaged_unless b w ∷ damaged_unless (c && d) x ∷ []) ∷ damaged_unless e y ∷ damaged_unless f z ∷ [])) ≡ ((a && b && c && d && e) && f)
 five true true true true true true v w x y z = refl
 five true true true true true false v w x y z = refl
 five true true true true false f v w x y z = refl
@@ -49,9 +49,9 @@ five true false c d e f v w x y z = refl
 five false b c d e f v w x y z = refl
 
 -- the same, where two of them are one test
-parted : (a r t s o p : Bool) (v w x y z : Why) → p ≡ (r && s) → is_none (first_of (damaged_unless a v ∷ damaged_unless r w ∷ damaged_unless t x ∷ damaged_unless s y ∷ damaged_unless o z ∷ [])) ≡ (a && p && t && o)
+parted : (a r t s o p : Bool) (v w x y z : Why) → p ≡ (r && s) → is_none (first_reason (damaged_unless a v ∷ damaged_unless r w ∷ damaged_unless t x ∷ damaged_unless s y ∷ damaged_unless o z ∷ [])) ≡ (a && p && t && o)
 parted a r t s o p v w x y z e = go a r t s o ∙ sym (ap (λ b. a && b && t && o) e) where
-  go : (a r t s o : Bool) → is_none (first_of (damaged_unless a v ∷ damaged_unless r w ∷ damaged_unless t x ∷ damaged_unless s y ∷ damaged_unless o z ∷ [])) ≡ (a && (r && s) && t && o)
+  go : (a r t s o : Bool) → is_none (first_reason (damaged_unless a v ∷ damaged_unless r w ∷ damaged_unless t x ∷ damaged_unless s y ∷ damaged_unless o z ∷ [])) ≡ (a && (r && s) && t && o)
   go true true true true true = refl
   go true true true true false = refl
   go true true true false o = refl
@@ -105,7 +105,7 @@ runs-none queries place low (run ∷ runs) =
     (three (run.num == place) (may_follow low run.moment) (was_defined queries run.query.0 run.moment) Number Moment Reference)
     (runs-none queries (place + 1) run.moment runs)
 
-picked-is : (pick : Pick) (run : Option RunRow) (doc : Option Doc) → is_picked pick run doc ≡ (refers pick run doc && is_within pick run doc)
+picked-is : (pick : Pick) (run : Option RunRow) (doc : Option Doc) → is_picked pick run doc ≡ (refers pick run doc && is_second_possible pick run doc)
 picked-is pick None doc = refl
 picked-is pick (Some run) None = refl
 picked-is pick (Some run) (Some doc) = assoc (run.query.0 == pick.query.0) (int_lt pick.first run.moment) (int_le doc.arrival pick.first) where
@@ -118,7 +118,7 @@ picks-none runs docs earlier place before [] = refl
 picks-none runs docs earlier place before (pick ∷ picks) =
     rows-none Picks place (pick_reason runs docs earlier place before pick) (picks_damage runs docs (earlier ++ pick ∷ []) (place + 1) (Some pick) picks)
     (pick_stands runs docs earlier place before pick) (picks_stand runs docs (earlier ++ pick ∷ []) (place + 1) (Some pick) picks)
-    (parted (pick.num == place) (refers pick (row_at pick.run runs) (row_at pick.doc.0 docs)) (not (list_any (is_same_pick pick) earlier)) (is_within pick (row_at pick.run runs) (row_at pick.doc.0 docs)) (comes_after before pick)
+    (parted (pick.num == place) (refers pick (row_at pick.run runs) (row_at pick.doc.0 docs)) (not (list_any (is_same_pick pick) earlier)) (is_second_possible pick (row_at pick.run runs) (row_at pick.doc.0 docs)) (comes_after before pick)
     (is_picked pick (row_at pick.run runs) (row_at pick.doc.0 docs)) Number Reference Twice Second Order (picked-is pick (row_at pick.run runs) (row_at pick.doc.0 docs)))
     (picks-none runs docs (earlier ++ pick ∷ []) (place + 1) (Some pick) picks)
 

@@ -29,19 +29,19 @@ abbrev pub damaged_unless : Bool → Why → Option Why
 damaged_unless holds why = if holds then None else Some why
 
 -- the first of some reasons
-abbrev pub first_of : List (Option Why) → Option Why
-first_of [] = None
-first_of (None ∷ reasons) = first_of reasons
-first_of (Some why ∷ reasons) = Some why
+abbrev pub first_reason : List (Option Why) → Option Why
+first_reason [] = None
+first_reason (None ∷ reasons) = first_reason reasons
+first_reason (Some why ∷ reasons) = Some why
 
 -- a row's place, or 0 if it is above the greatest number of 32 bits
-abbrev pub number_of : ℕ → ℕ
-number_of place = if nat_le place 4294967295 then place else 0
+abbrev pub damaged_number : ℕ → ℕ
+damaged_number place = if nat_le place 4294967295 then place else 0
 
 -- the damage of the row at this place, for this reason
 abbrev pub row_damage : TableName → ℕ → Option Why → Option RestartFault
 row_damage table place None = None
-row_damage table place (Some why) = Some (Damaged table (number_of place) why)
+row_damage table place (Some why) = Some (Damaged table (damaged_number place) why)
 
 -- is the reading a condition?
 abbrev pub is_condition : Result Condition TextFault → Bool
@@ -55,7 +55,7 @@ is_readable query = is_condition (condition_of (condition_text query.source))
 -- why a document at this place, behind this moment, is damaged
 abbrev pub doc_reason : ℕ → ℤ → Doc → Option Why
 doc_reason place low doc =
-    first_of (
+    first_reason (
     damaged_unless (doc.num.0 == place) Number
     ∷ damaged_unless (may_follow low doc.arrival) Moment
     ∷ damaged_unless (nat_le (length doc.text) 1048576) Text
@@ -64,7 +64,7 @@ doc_reason place low doc =
 -- why a note is damaged
 abbrev pub note_reason : List Doc → ℕ → ℤ → Note → Option Why
 note_reason docs place low note =
-    first_of (
+    first_reason (
     damaged_unless (note.num.0 == place) Number
     ∷ damaged_unless (may_follow low note.arrival) Moment
     ∷ damaged_unless (has_arrived docs note.doc.0 note.arrival) Reference
@@ -74,7 +74,7 @@ note_reason docs place low note =
 -- why a query by itself is damaged, its text aside
 abbrev pub own_reason : ℕ → ℤ → QueryRow → Option Why
 own_reason place low query =
-    first_of (
+    first_reason (
     damaged_unless (query.num.0 == place) Number
     ∷ damaged_unless (may_follow low query.arrival) Moment
     ∷ damaged_unless (is_name query.owner && is_name query.name) Name
@@ -83,7 +83,7 @@ own_reason place low query =
 -- why a query behind these is damaged
 abbrev pub query_reason : List QueryRow → ℕ → ℤ → QueryRow → Option Why
 query_reason earlier place low query =
-    first_of (
+    first_reason (
     own_reason place low query
     ∷ damaged_unless (not (list_any (is_query_of query.owner query.name) earlier)) Twice
     ∷ damaged_unless (is_readable query) Text
@@ -92,7 +92,7 @@ query_reason earlier place low query =
 -- why a run is damaged
 abbrev pub run_reason : List QueryRow → ℕ → ℤ → RunRow → Option Why
 run_reason queries place low run =
-    first_of (
+    first_reason (
     damaged_unless (run.num == place) Number
     ∷ damaged_unless (may_follow low run.moment) Moment
     ∷ damaged_unless (was_defined queries run.query.0 run.moment) Reference
@@ -105,10 +105,10 @@ refers pick (Some run) None = false
 refers pick None doc = false
 
 -- does its first second lie from the document's arrival on and below the run's moment?
-abbrev pub is_within : Pick → Option RunRow → Option Doc → Bool
-is_within pick (Some run) (Some doc) = int_lt pick.first run.moment && int_le doc.arrival pick.first
-is_within pick (Some run) None = false
-is_within pick None doc = false
+abbrev pub is_second_possible : Pick → Option RunRow → Option Doc → Bool
+is_second_possible pick (Some run) (Some doc) = int_lt pick.first run.moment && int_le doc.arrival pick.first
+is_second_possible pick (Some run) None = false
+is_second_possible pick None doc = false
 
 -- is the other a pick of the same document for the same query?
 abbrev pub is_same_pick : Pick → Pick → Bool
@@ -117,18 +117,18 @@ is_same_pick pick other = (other.query.0 == pick.query.0) && (other.doc.0 == pic
 -- why a pick behind these is damaged
 abbrev pub pick_reason : List RunRow → List Doc → List Pick → ℕ → Option Pick → Pick → Option Why
 pick_reason runs docs earlier place before pick =
-    first_of (
+    first_reason (
     damaged_unless (pick.num == place) Number
     ∷ damaged_unless (refers pick (row_at pick.run runs) (row_at pick.doc.0 docs)) Reference
     ∷ damaged_unless (not (list_any (is_same_pick pick) earlier)) Twice
-    ∷ damaged_unless (is_within pick (row_at pick.run runs) (row_at pick.doc.0 docs)) Second
+    ∷ damaged_unless (is_second_possible pick (row_at pick.run runs) (row_at pick.doc.0 docs)) Second
     ∷ damaged_unless (comes_after before pick) Order
     ∷ [])
 
 -- why a filter is damaged
 abbrev pub filter_reason : ℕ → ℤ → FilterRow → Option Why
 filter_reason place low filter =
-    first_of (
+    first_reason (
     damaged_unless (filter.num == place) Number
     ∷ damaged_unless (may_follow low filter.arrival) Moment
     ∷ damaged_unless (is_name filter.owner) Name

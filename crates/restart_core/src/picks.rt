@@ -3,7 +3,7 @@ ghost use Rattle.std.specs.Prelude.{◌≡◌, ◌++◌, ◌∷◌, ◌||◌, �
 ghost use Rattle.std.specs.Option.{option_copied};
 ghost use Rattle.tap_rows.specs.WellFormed.{comes_after};
 ghost use Rattle.tap_rows.specs.declared.rows.Pick.{Pick};
-ghost use Rattle.restart_core.specs.Damages.{refers, is_within, pick_reason, picks_damage};
+ghost use Rattle.restart_core.specs.Damages.{refers, is_second_possible, pick_reason, picks_damage};
 ghost use Rattle.restart_core.specs.Earlier.{pair_of};
 
 use crate::picked::Picked;
@@ -24,8 +24,8 @@ fn refers(pick: &Pick, run: Option<&RunRow>, doc: Option<&Doc>) -> bool
 }
 
 // Does its first second lie from the document's arrival on and below the run's moment?
-fn is_within(pick: &Pick, run: Option<&RunRow>, doc: Option<&Doc>) -> bool
-    ensures { result ≡ is_within pick.now (option_copied run.entry) (option_copied doc.entry) }
+fn is_second_possible(pick: &Pick, run: Option<&RunRow>, doc: Option<&Doc>) -> bool
+    ensures { result ≡ is_second_possible pick.now (option_copied run.entry) (option_copied doc.entry) }
 {
     match (run, doc) {
         (Some(run), Some(doc)) => pick.first < run.moment && doc.arrival <= pick.first,
@@ -75,7 +75,7 @@ fn reason(
         Ok(Some(Why::Reference))
     } else if !picked.add(pick)? {
         Ok(Some(Why::Twice))
-    } else if !is_within(pick, run, doc) {
+    } else if !is_second_possible(pick, run, doc) {
         Ok(Some(Why::Second))
     } else if !comes_after(before, pick) {
         Ok(Some(Why::Order))

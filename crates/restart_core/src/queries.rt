@@ -2,7 +2,7 @@
 ghost use Rattle.std.specs.Prelude.{◌≡◌, ◌⊎◌, ◌++◌, ◌∷◌, List, map, pos, [], None, Some, Ok, OnOk, IfOk, IfErr};
 ghost use Rattle.tap_rows.specs.declared.rows.QueryRow.{QueryRow};
 ghost use Rattle.tql_core.specs.Condition.{condition};
-ghost use Rattle.tql_text.specs.Texts.{Reads};
+ghost use Rattle.tql_text.specs.Texts.{AgreesWithText};
 ghost use Rattle.restart_core.specs.declared.fault.TableName.{TableName};
 ghost use Rattle.restart_core.specs.declared.fault.RestartFault.{RestartFault};
 ghost use Rattle.restart_core.specs.Damages.{row_damage, own_reason, query_reason, queries_damage};
@@ -35,7 +35,7 @@ fn own_reason(place: usize, low: i64, query: &QueryRow) -> Option<Why>
 
 // Reads the condition of a query's text.
 fn read_text(alloc: Global, query: &QueryRow) -> Result<Cond, TextFault>
-    ensures { Reads (reading_of query.now) result }
+    ensures { AgreesWithText (reading_of query.now) result }
 {
     let source = query.source.as_slice();
     read_condition(alloc, &source[cut_start(source).at..])

@@ -3,7 +3,7 @@ ghost use Rattle.std.specs.Prelude.{◌≡◌, Option};
 ghost use Rattle.std.specs.Option.{option_copied};
 ghost use Rattle.tap_rows.specs.WellFormed.{may_follow, row_at};
 ghost use Rattle.restart_core.specs.declared.fault.RestartFault.{RestartFault};
-ghost use Rattle.restart_core.specs.Damages.{number_of, row_damage};
+ghost use Rattle.restart_core.specs.Damages.{damaged_number, row_damage};
 
 use crate::{RestartFault, TableName, Why};
 use tap_base::LAST_MOMENT;
@@ -30,8 +30,8 @@ pub(crate) fn follows(low: i64, moment: i64) -> bool
 const PLACE_LIMIT: usize = 4294967295;
 
 // Returns a row's place as a number of 32 bits, 0 if it is above them.
-fn number_of(place: usize) -> u32
-    ensures { result ≡ number_of place }
+fn damaged_number(place: usize) -> u32
+    ensures { result ≡ damaged_number place }
 {
     if place <= PLACE_LIMIT {
         place as u32
@@ -42,11 +42,11 @@ fn number_of(place: usize) -> u32
 
 // Returns the damage of the row at this place for a reason.
 pub(crate) fn damaged(table: TableName, place: usize, why: Why) -> RestartFault
-    ensures { result ≡ RestartFault.Damaged table (number_of place) why }
+    ensures { result ≡ RestartFault.Damaged table (damaged_number place) why }
 {
     RestartFault::Damaged {
         table,
-        num: number_of(place),
+        num: damaged_number(place),
         why,
     }
 }

@@ -7,7 +7,7 @@ use Rattle.row_index.specs.declared.doc_places.DocPlaces.{DocPlaces}
 use Rattle.row_index.specs.Orders.{InPlace, IsMoment, doc_number, doc_arrival, note_number, note_arrival}
 use Rattle.row_index.specs.Places.{posted, unposted}
 use Rattle.row_index.specs.Texts.{IsNext}
-use Rattle.row_index.specs.Held.{DocPosts, IsHeld, AreOnDocs, noted}
+use Rattle.row_index.specs.Held.{DocPosts, IsIndexOf, AreOnDocs, noted}
 use Rattle.row_index.proofs.InPlaces.{in_place_more, in_place_less, number_of_last}
 use Rattle.row_index.proofs.PostLaws.{posts_more, posts_less}
 
@@ -22,10 +22,10 @@ next_doc : (docs : List Doc) (doc : Doc) (p : ℕ) → InPlace doc_number doc_ar
 next_doc docs doc p h e q = record { numbered = h.numbered; number = e; behind = place_behind p doc.num.0 (length docs) q e }
 
 pub held_doc_more : (docs more : List Doc) (doc : Doc) (p : ℕ) (old new : DocPlaces) (notes : List Note) (on_doc : List (ℕ × List ℕ))
-    → IsHeld docs old notes on_doc → doc.num.0 ≡ length docs + 1 → doc.num.0 < 2 ^ 32 → IsMoment doc.arrival → Each (λ other. other.arrival ≤ℤ doc.arrival) docs
+    → IsIndexOf docs old notes on_doc → doc.num.0 ≡ length docs + 1 → doc.num.0 < 2 ^ 32 → IsMoment doc.arrival → Each (λ other. other.arrival ≤ℤ doc.arrival) docs
     → p ≡ doc.num.0 - 1 → ((docs : List Doc) → IsNext docs doc p → DocPosts docs old → DocPosts (docs ++ doc ∷ []) new) → more ≡ docs ++ doc ∷ []
-    → IsHeld more new notes on_doc
-held_doc_more docs more doc p old new notes on_doc h e w m a q f s = subst (λ z. IsHeld z new notes on_doc) (sym s) (record {
+    → IsIndexOf more new notes on_doc
+held_doc_more docs more doc p old new notes on_doc h e w m a q f s = subst (λ z. IsIndexOf z new notes on_doc) (sym s) (record {
   docs_stand = in_place_more doc_number doc_arrival docs doc h.docs_stand e w m a;
   notes_stand = h.notes_stand;
   docs_found = f docs (next_doc docs doc p h.docs_stand e q) h.docs_found;
@@ -34,11 +34,11 @@ held_doc_more docs more doc p old new notes on_doc h e w m a q f s = subst (λ z
 })
 
 pub held_doc_less : (docs all : List Doc) (doc : Doc) (p : ℕ) (old new : DocPlaces) (notes : List Note) (on_doc : List (ℕ × List ℕ))
-    → IsHeld all old notes on_doc → all ≡ docs ++ doc ∷ [] → p ≡ length docs
+    → IsIndexOf all old notes on_doc → all ≡ docs ++ doc ∷ [] → p ≡ length docs
     → ((docs : List Doc) → IsNext docs doc p → DocPosts (docs ++ doc ∷ []) old → DocPosts docs new)
-    → IsHeld docs new notes on_doc
+    → IsIndexOf docs new notes on_doc
 held_doc_less docs all doc p old new notes on_doc h s q f =
-    let h' = subst (λ z. IsHeld z old notes on_doc) s h in
+    let h' = subst (λ z. IsIndexOf z old notes on_doc) s h in
     let stand = in_place_less doc_number doc_arrival docs doc h'.docs_stand in
     record {
       docs_stand = stand;
@@ -57,12 +57,12 @@ on_docs_less [] note h = tt
 on_docs_less (n ∷ ns) note h = (h.0, on_docs_less ns note h.1)
 
 pub held_note_more : (docs : List Doc) (places : DocPlaces) (notes more : List Note) (note : Note) (p : ℕ) (old new : List (ℕ × List ℕ))
-    → IsHeld docs places notes old → note.num.0 ≡ length notes + 1 → note.num.0 < 2 ^ 32 → note.doc.0 < 2 ^ 32 → IsMoment note.arrival → Each (λ other. other.arrival ≤ℤ note.arrival) notes
+    → IsIndexOf docs places notes old → note.num.0 ≡ length notes + 1 → note.num.0 < 2 ^ 32 → note.doc.0 < 2 ^ 32 → IsMoment note.arrival → Each (λ other. other.arrival ≤ℤ note.arrival) notes
     → p ≡ note.num.0 - 1 → new ≡ posted nat_eq note.doc.0 p old → more ≡ notes ++ note ∷ []
-    → IsHeld docs places more new
+    → IsIndexOf docs places more new
 held_note_more docs places notes more note p old new h e w d m a q f s =
     let b : p ≡ length notes = place_behind p note.num.0 (length notes) q e in
-    subst (λ z. IsHeld docs places z new) (sym s) (record {
+    subst (λ z. IsIndexOf docs places z new) (sym s) (record {
       docs_stand = h.docs_stand;
       notes_stand = in_place_more note_number note_arrival notes note h.notes_stand e w m a;
       docs_found = h.docs_found;
@@ -71,10 +71,10 @@ held_note_more docs places notes more note p old new h e w d m a q f s =
     })
 
 pub held_note_less : (docs : List Doc) (places : DocPlaces) (notes all : List Note) (note : Note) (p : ℕ) (old new : List (ℕ × List ℕ))
-    → IsHeld docs places all old → all ≡ notes ++ note ∷ [] → p ≡ length notes → new ≡ unposted nat_eq note.doc.0 p old
-    → IsHeld docs places notes new
+    → IsIndexOf docs places all old → all ≡ notes ++ note ∷ [] → p ≡ length notes → new ≡ unposted nat_eq note.doc.0 p old
+    → IsIndexOf docs places notes new
 held_note_less docs places notes all note p old new h s q f =
-    let h' = subst (λ z. IsHeld docs places z old) s h in
+    let h' = subst (λ z. IsIndexOf docs places z old) s h in
     let stand = in_place_less note_number note_arrival notes note h'.notes_stand in
     record {
       docs_stand = h'.docs_stand;

@@ -8,8 +8,8 @@ use Rattle.tap_base.specs.declared.numbers.DocNum.{DocNum}
 use Rattle.tap_rows.specs.declared.rows.Doc.{Doc}
 use Rattle.tap_rows.specs.Kept.{Each}
 use Rattle.row_index.specs.Walks.{ArePlaces, HasRows, at_places, put_before}
-use Rattle.row_index.specs.Orders.{Rising, InPlace, in_window, doc_number, doc_rank, doc_arrival, number_of, arrival_of, place_arrival}
-use Rattle.row_index.specs.Posts.{places_of, has}
+use Rattle.row_index.specs.Orders.{Rising, InPlace, in_window, doc_number, doc_rank, doc_arrival, doc_num, arrival_of, place_arrival}
+use Rattle.row_index.specs.Posts.{places_of, is_one_of}
 use Rattle.row_index.specs.Texts.{with_text}
 use Rattle.row_index.proofs.Halves.{rising_kept}
 use Rattle.row_index.proofs.InPlaces.{numbers_rise}
@@ -56,14 +56,14 @@ own_arrivals all (doc ∷ docs) e = (ap arrival_of e.0, own_arrivals all docs e.
 module _ (texts : Doc → List (List ℕ)) (text : List ℕ) (docs : List Doc) (stand : InPlace doc_number doc_arrival docs) where
   -- the documents of a posting list arrived one after another
   pub listed_arrive : Rising doc_arrival (with_text texts text docs)
-  listed_arrive = rising_kept doc_arrival (λ doc. has bytes_eq text (texts doc)) docs stand.rising
+  listed_arrive = rising_kept doc_arrival (λ doc. is_one_of bytes_eq text (texts doc)) docs stand.rising
 
   -- and their numbers rise
   pub listed_numbers : Rising doc_rank (with_text texts text docs)
-  listed_numbers = rising_kept doc_rank (λ doc. has bytes_eq text (texts doc)) docs (numbers_rise doc_number 1 docs stand.numbered)
+  listed_numbers = rising_kept doc_rank (λ doc. is_one_of bytes_eq text (texts doc)) docs (numbers_rise doc_number 1 docs stand.numbered)
 
   pub own_listed : Each (IsOwn docs) (with_text texts text docs)
-  own_listed = each_kept (IsOwn docs) (λ doc. has bytes_eq text (texts doc)) docs (all_own doc_number docs stand.numbered)
+  own_listed = each_kept (IsOwn docs) (λ doc. is_one_of bytes_eq text (texts doc)) docs (all_own doc_number docs stand.numbered)
 
   -- the documents of a posting list never fall in arrival
   pub listed_rise : (places : List ℕ) → places ≡ places_of doc_number (with_text texts text docs) → Rising (place_arrival docs) places
@@ -147,11 +147,11 @@ abbrev numbered : ℕ → DocNum
 numbered n = record { 0 = n }
 
 -- a document's number is the one after its place
-pub number_here : (docs : List Doc) (places : List ℕ) (k p : ℕ) → ArePlaces docs places → slice_get places k ≡ Some p → (p + 1 < 2 ^ 32) × (Some (numbered (p + 1)) ≡ number_of (slice_get docs p))
+pub number_here : (docs : List Doc) (places : List ℕ) (k p : ℕ) → ArePlaces docs places → slice_get places k ≡ Some p → (p + 1 < 2 ^ 32) × (Some (numbered (p + 1)) ≡ doc_num (slice_get docs p))
 number_here docs places k p h e =
     let row = row_at_place docs places k p h.rows e in
     let at = number_at_place doc_number 1 p docs row.0 h.stand.numbered row.1 in
     let room = h.stand.room in
     let within = at.1 in
     let n : p + 1 ≡ row.0.num.0 = let q = at.0 in omega (arith, q) in
-    (omega (arith, room, within), ap (λ m. Some (numbered m)) n ∙ ap number_of (sym row.1))
+    (omega (arith, room, within), ap (λ m. Some (numbered m)) n ∙ ap doc_num (sym row.1))

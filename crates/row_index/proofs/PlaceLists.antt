@@ -8,7 +8,7 @@ use Rattle.tap_rows.specs.Kept.{Each}
 use Rattle.row_index.specs.Walks.{HasRows, at_places, put_before}
 use Rattle.row_index.specs.Orders.{Numbered}
 use Rattle.row_index.specs.Places.{under}
-use Rattle.row_index.specs.Posts.{places_of, with_key, has, Posts}
+use Rattle.row_index.specs.Posts.{places_of, with_key, is_one_of, Posts}
 
 module _ {A : Type 0} where
   pub none_picked : (rows : List A) (places : List ℕ) → places ≡ [] → at_places rows places ≡ []
@@ -49,7 +49,7 @@ module _ {A : Type 0} where
   -- the rows that stand at the places of those that have the key
   pub found_listed : {K : Type 0} (eq : K → K → Bool) (keys : A → List K) (number : A → ℕ) (rows : List A) (key : K) (places : List ℕ) (left : List A) → Numbered number 1 rows → left ≡ at_places rows places → places ≡ places_of number (with_key eq keys key rows) → left ≡ with_key eq keys key rows
   found_listed eq keys number rows key places left h l e =
-      l ∙ ap (λ z. at_places rows z) e ∙ own_picked number rows (with_key eq keys key rows) (each_kept (λ row. slice_get rows (number row - 1) ≡ Some row) (λ row. has eq key (keys row)) rows (all_own number rows h))
+      l ∙ ap (λ z. at_places rows z) e ∙ own_picked number rows (with_key eq keys key rows) (each_kept (λ row. slice_get rows (number row - 1) ≡ Some row) (λ row. is_one_of eq key (keys row)) rows (all_own number rows h))
 
   -- the rows that are found under a key
   pub found_under : {K : Type 0} (eq : K → K → Bool) (keys : A → List K) (number : A → ℕ) (rows : List A) (es : List (K × List ℕ)) (key : K) (places : List ℕ) (left : List A) → Numbered number 1 rows → Posts eq keys number rows es → left ≡ at_places rows places → places ≡ under eq key es → left ≡ with_key eq keys key rows

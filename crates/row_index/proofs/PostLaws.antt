@@ -2,8 +2,8 @@
 use Rattle.std.proofs.Common.{◌≡◌, ℕ, zero, suc, ◌+◌, ◌-◌, ◌<◌, ◌≤◌, Bool, true, false, List, [], ◌∷◌, ◌++◌, Some, length, take, filter, refl, sym, ap, ◌∙◌, subst, inl, inr, arith, nat_eq, length-append, if◌then◌else◌}
 use Rattle.std.specs.Prelude.{slice_get, slice_index_or, ◌||◌}
 use Rattle.std.proofs.lemmas.Bool.{cases_Bool, true≢false}
-use Rattle.row_index.specs.Places.{is_number, ends_with, with_place, without_place, under, posted, unposted}
-use Rattle.row_index.specs.Posts.{posted_all, unposted_all, has, with_key, places_of, Posts}
+use Rattle.row_index.specs.Places.{is_row_number, ends_with, with_place, without_place, under, posted, unposted}
+use Rattle.row_index.specs.Posts.{posted_all, unposted_all, is_one_of, with_key, places_of, Posts}
 use Rattle.tap_rows.specs.Kept.{Each}
 use Rattle.row_index.specs.Orders.{Numbered}
 
@@ -20,7 +20,7 @@ same_number : (p : ℕ) → nat_eq p p ≡ true
 same_number p = grind arith
 
 pub ends_put : (p : ℕ) (xs : List ℕ) → ends_with p (xs ++ p ∷ []) ≡ true
-ends_put p xs = ap (λ k. is_number p (slice_get (xs ++ p ∷ []) k)) (last_place p xs) ∙ ap (λ o. is_number p o) (at_end p xs) ∙ same_number p
+ends_put p xs = ap (λ k. is_row_number p (slice_get (xs ++ p ∷ []) k)) (last_place p xs) ∙ ap (λ o. is_row_number p o) (at_end p xs) ∙ same_number p
 
 front_of : (p : ℕ) (xs : List ℕ) → take (length xs) (xs ++ p ∷ []) ≡ xs
 front_of p [] = refl
@@ -113,29 +113,29 @@ module _ {K : Type 0} (eq : K → K → Bool) (sound : (x y : K) → eq x y ≡ 
 
   -- several keys
 
-  pub under_posted_all : (other : K) (keys : List K) (p : ℕ) (es : List (K × List ℕ)) → under eq other (posted_all eq keys p es) ≡ (if has eq other keys then with_place p (under eq other es) else under eq other es)
+  pub under_posted_all : (other : K) (keys : List K) (p : ℕ) (es : List (K × List ℕ)) → under eq other (posted_all eq keys p es) ≡ (if is_one_of eq other keys then with_place p (under eq other es) else under eq other es)
   under_posted_all other [] p es = refl
   under_posted_all other (key ∷ keys) p es =
       let i = under_posted_all other keys p (posted eq key p es) in
       let u = under_posted other key p es in
-      i ∙ ap (λ xs. if has eq other keys then with_place p xs else xs) u ∙ both
+      i ∙ ap (λ xs. if is_one_of eq other keys then with_place p xs else xs) u ∙ both
     where
-      both : (if has eq other keys then with_place p (if eq other key then with_place p (under eq other es) else under eq other es) else (if eq other key then with_place p (under eq other es) else under eq other es)) ≡ (if eq other key || has eq other keys then with_place p (under eq other es) else under eq other es)
+      both : (if is_one_of eq other keys then with_place p (if eq other key then with_place p (under eq other es) else under eq other es) else (if eq other key then with_place p (under eq other es) else under eq other es)) ≡ (if eq other key || is_one_of eq other keys then with_place p (under eq other es) else under eq other es)
       both =
           elim (cases_Bool (eq other key)) [
             | inl b ↦
-                elim (cases_Bool (has eq other keys)) [
+                elim (cases_Bool (is_one_of eq other keys)) [
                   | inl c ↦ rw (b, c) (put_twice p (under eq other es))
                   | inr c ↦ rw (b, c) refl
                 ]
             | inr b ↦
-                elim (cases_Bool (has eq other keys)) [
+                elim (cases_Bool (is_one_of eq other keys)) [
                   | inl c ↦ rw (b, c) refl
                   | inr c ↦ rw (b, c) refl
                 ]
           ]
 
-  pub under_unposted_all : (other : K) (keys : List K) (p : ℕ) (es : List (K × List ℕ)) → without_place p (without_place p (under eq other es)) ≡ without_place p (under eq other es) → under eq other (unposted_all eq keys p es) ≡ (if has eq other keys then without_place p (under eq other es) else under eq other es)
+  pub under_unposted_all : (other : K) (keys : List K) (p : ℕ) (es : List (K × List ℕ)) → without_place p (without_place p (under eq other es)) ≡ without_place p (under eq other es) → under eq other (unposted_all eq keys p es) ≡ (if is_one_of eq other keys then without_place p (under eq other es) else under eq other es)
   under_unposted_all other [] p es t = refl
   under_unposted_all other (key ∷ keys) p es t =
       let u = under_unposted other key p es refl in
@@ -144,22 +144,22 @@ module _ {K : Type 0} (eq : K → K → Bool) (sound : (x y : K) → eq x y ≡ 
             let v : under eq other (unposted eq key p es) ≡ without_place p (under eq other es) = (rw b at u) in
             let t' : without_place p (without_place p (under eq other (unposted eq key p es))) ≡ without_place p (under eq other (unposted eq key p es)) = rw v (ap (λ z. without_place p z) t) in
             let i = under_unposted_all other keys p (unposted eq key p es) t' in
-            rw b (i ∙ ap (λ xs. if has eq other keys then without_place p xs else xs) v ∙ same t)
+            rw b (i ∙ ap (λ xs. if is_one_of eq other keys then without_place p xs else xs) v ∙ same t)
         | inr b ↦
             let v : under eq other (unposted eq key p es) ≡ under eq other es = (rw b at u) in
             let t' : without_place p (without_place p (under eq other (unposted eq key p es))) ≡ without_place p (under eq other (unposted eq key p es)) = rw v t in
             let i = under_unposted_all other keys p (unposted eq key p es) t' in
-            rw b (i ∙ ap (λ xs. if has eq other keys then without_place p xs else xs) v)
+            rw b (i ∙ ap (λ xs. if is_one_of eq other keys then without_place p xs else xs) v)
       ]
     where
-      same : without_place p (without_place p (under eq other es)) ≡ without_place p (under eq other es) → (if has eq other keys then without_place p (without_place p (under eq other es)) else without_place p (under eq other es)) ≡ without_place p (under eq other es)
+      same : without_place p (without_place p (under eq other es)) ≡ without_place p (under eq other es) → (if is_one_of eq other keys then without_place p (without_place p (under eq other es)) else without_place p (under eq other es)) ≡ without_place p (under eq other es)
       same t =
-          elim (cases_Bool (has eq other keys)) [
+          elim (cases_Bool (is_one_of eq other keys)) [
             | inl c ↦ rw c t
             | inr c ↦ rw c refl
           ]
 
-  none_of_fewer : (other : K) (n : ℕ) (keys : List K) → has eq other keys ≡ false → has eq other (take n keys) ≡ false
+  none_of_fewer : (other : K) (n : ℕ) (keys : List K) → is_one_of eq other keys ≡ false → is_one_of eq other (take n keys) ≡ false
   none_of_fewer other zero keys h = refl
   none_of_fewer other (suc n) [] h = refl
   none_of_fewer other (suc n) (key ∷ keys) h =
@@ -171,21 +171,21 @@ module _ {K : Type 0} (eq : K → K → Bool) (sound : (x y : K) → eq x y ≡ 
   -- a place that was put under some of the keys only is taken away again
   pub undone : (other : K) (n : ℕ) (keys : List K) (p : ℕ) (es part : List (K × List ℕ)) → ends_with p (under eq other es) ≡ false → part ≡ posted_all eq (take n keys) p es → under eq other (unposted_all eq keys p part) ≡ under eq other es
   undone other n keys p es part f e =
-      let a : under eq other part ≡ (if has eq other (take n keys) then with_place p (under eq other es) else under eq other es) = ap (λ z. under eq other z) e ∙ under_posted_all other (take n keys) p es in
+      let a : under eq other part ≡ (if is_one_of eq other (take n keys) then with_place p (under eq other es) else under eq other es) = ap (λ z. under eq other z) e ∙ under_posted_all other (take n keys) p es in
       let w : without_place p (under eq other part) ≡ under eq other es = ap (λ z. without_place p z) a ∙ first in
       let t : without_place p (without_place p (under eq other part)) ≡ without_place p (under eq other part) = ap (λ z. without_place p z) w ∙ not_taken p (under eq other es) f ∙ sym w in
       under_unposted_all other keys p part t ∙ ended a w
     where
-      first : without_place p (if has eq other (take n keys) then with_place p (under eq other es) else under eq other es) ≡ under eq other es
+      first : without_place p (if is_one_of eq other (take n keys) then with_place p (under eq other es) else under eq other es) ≡ under eq other es
       first =
-          elim (cases_Bool (has eq other (take n keys))) [
+          elim (cases_Bool (is_one_of eq other (take n keys))) [
             | inl c ↦ rw c (taken_put p (under eq other es) f)
             | inr c ↦ rw c (not_taken p (under eq other es) f)
           ]
 
-      ended : under eq other part ≡ (if has eq other (take n keys) then with_place p (under eq other es) else under eq other es) → without_place p (under eq other part) ≡ under eq other es → (if has eq other keys then without_place p (under eq other part) else under eq other part) ≡ under eq other es
+      ended : under eq other part ≡ (if is_one_of eq other (take n keys) then with_place p (under eq other es) else under eq other es) → without_place p (under eq other part) ≡ under eq other es → (if is_one_of eq other keys then without_place p (under eq other part) else under eq other part) ≡ under eq other es
       ended a w =
-          elim (cases_Bool (has eq other keys)) [
+          elim (cases_Bool (is_one_of eq other keys)) [
             | inl c ↦ rw c w
             | inr c ↦ rw c (a ∙ rw (none_of_fewer other n keys c) refl)
           ]
@@ -220,7 +220,7 @@ module _ {K A : Type 0} (eq : K → K → Bool) (sound : (x y : K) → eq x y �
   below_none : (m k : ℕ) → m < k → nat_eq m k ≡ false
   below_none m k h = grind (arith, h)
 
-  smaller : (p m : ℕ) (xs : List ℕ) → Each (λ k. k < p) xs → is_number p (slice_get xs m) ≡ false
+  smaller : (p m : ℕ) (xs : List ℕ) → Each (λ k. k < p) xs → is_row_number p (slice_get xs m) ≡ false
   smaller p m [] e = refl
   smaller p zero (x ∷ xs) e = below_none x p e.0
   smaller p (suc m) (x ∷ xs) e = smaller p m xs e.1
@@ -239,7 +239,7 @@ module _ {K A : Type 0} (eq : K → K → Bool) (sound : (x y : K) → eq x y �
   -- no place is yet that of the next row
   pub fresh_place : (rows : List A) (es : List (K × List ℕ)) (key : K) → Numbered number 1 rows → Posts eq keys number rows es → ends_with (length rows) (under eq key es) ≡ false
   fresh_place rows es key h posts =
-      let b = below_each (λ row. has eq key (keys row)) (length rows) 1 rows h (omega arith) (omega arith) in
+      let b = below_each (λ row. is_one_of eq key (keys row)) (length rows) 1 rows h (omega arith) (omega arith) in
       let xs = places_of number (with_key eq keys key rows) in
       ap (λ xs. ends_with (length rows) xs) (posts key) ∙ smaller (length rows) (length xs - 1) xs b
 
@@ -263,13 +263,13 @@ module _ {K A : Type 0} (eq : K → K → Bool) (sound : (x y : K) → eq x y �
   row_place rows row e = omega (arith, e)
 
   -- the places under a key, of rows with one more
-  places_more : (rows : List A) (row : A) (key : K) → number row ≡ length rows + 1 → places_of number (with_key eq keys key (rows ++ row ∷ [])) ≡ (if has eq key (keys row) then places_of number (with_key eq keys key rows) ++ length rows ∷ [] else places_of number (with_key eq keys key rows))
+  places_more : (rows : List A) (row : A) (key : K) → number row ≡ length rows + 1 → places_of number (with_key eq keys key (rows ++ row ∷ [])) ≡ (if is_one_of eq key (keys row) then places_of number (with_key eq keys key rows) ++ length rows ∷ [] else places_of number (with_key eq keys key rows))
   places_more rows row key e =
-      ap (λ z. places_of number z) (filter_onto (λ row. has eq key (keys row)) rows row) ∙ places_onto (with_key eq keys key rows) (if has eq key (keys row) then row ∷ [] else []) ∙ last
+      ap (λ z. places_of number z) (filter_onto (λ row. is_one_of eq key (keys row)) rows row) ∙ places_onto (with_key eq keys key rows) (if is_one_of eq key (keys row) then row ∷ [] else []) ∙ last
     where
-      last : places_of number (with_key eq keys key rows) ++ places_of number (if has eq key (keys row) then row ∷ [] else []) ≡ (if has eq key (keys row) then places_of number (with_key eq keys key rows) ++ length rows ∷ [] else places_of number (with_key eq keys key rows))
+      last : places_of number (with_key eq keys key rows) ++ places_of number (if is_one_of eq key (keys row) then row ∷ [] else []) ≡ (if is_one_of eq key (keys row) then places_of number (with_key eq keys key rows) ++ length rows ∷ [] else places_of number (with_key eq keys key rows))
       last =
-          elim (cases_Bool (has eq key (keys row))) [
+          elim (cases_Bool (is_one_of eq key (keys row))) [
             | inl b ↦ rw b (ap (λ k. places_of number (with_key eq keys key rows) ++ k ∷ []) (row_place rows row e))
             | inr b ↦ rw b (nothing_more (places_of number (with_key eq keys key rows)))
           ]
@@ -278,35 +278,35 @@ module _ {K A : Type 0} (eq : K → K → Bool) (sound : (x y : K) → eq x y �
   posts_more rows row es fs h e f posts = λ key.
       ap (λ z. under eq key z) f ∙ under_posted_all eq sound key (keys row) (length rows) es ∙ more key ∙ sym (places_more rows row key e)
     where
-      more : (key : K) → (if has eq key (keys row) then with_place (length rows) (under eq key es) else under eq key es) ≡ (if has eq key (keys row) then places_of number (with_key eq keys key rows) ++ length rows ∷ [] else places_of number (with_key eq keys key rows))
+      more : (key : K) → (if is_one_of eq key (keys row) then with_place (length rows) (under eq key es) else under eq key es) ≡ (if is_one_of eq key (keys row) then places_of number (with_key eq keys key rows) ++ length rows ∷ [] else places_of number (with_key eq keys key rows))
       more key =
           let p = posts key in
           let n = put_new (length rows) (under eq key es) (fresh_place rows es key h posts) in
-          elim (cases_Bool (has eq key (keys row))) [
+          elim (cases_Bool (is_one_of eq key (keys row))) [
             | inl b ↦ rw b (n ∙ ap (λ z. z ++ length rows ∷ []) p)
             | inr b ↦ rw b p
           ]
 
   pub posts_less : (rows : List A) (row : A) (es fs : List (K × List ℕ)) → Numbered number 1 rows → number row ≡ length rows + 1 → fs ≡ unposted_all eq (keys row) (length rows) es → Posts eq keys number (rows ++ row ∷ []) es → Posts eq keys number rows fs
   posts_less rows row es fs h e f posts = λ key.
-      let b = below_each (λ row. has eq key (keys row)) (length rows) 1 rows h (omega arith) (omega arith) in
+      let b = below_each (λ row. is_one_of eq key (keys row)) (length rows) 1 rows h (omega arith) (omega arith) in
       let xs = places_of number (with_key eq keys key rows) in
       let n : ends_with (length rows) xs ≡ false = smaller (length rows) (length xs - 1) xs b in
-      let u : under eq key es ≡ (if has eq key (keys row) then xs ++ length rows ∷ [] else xs) = posts key ∙ places_more rows row key e in
+      let u : under eq key es ≡ (if is_one_of eq key (keys row) then xs ++ length rows ∷ [] else xs) = posts key ∙ places_more rows row key e in
       let w : without_place (length rows) (under eq key es) ≡ xs = ap (λ z. without_place (length rows) z) u ∙ first key n in
       let t : without_place (length rows) (without_place (length rows) (under eq key es)) ≡ without_place (length rows) (under eq key es) = ap (λ z. without_place (length rows) z) w ∙ not_taken (length rows) xs n ∙ sym w in
       ap (λ z. under eq key z) f ∙ under_unposted_all eq sound key (keys row) (length rows) es t ∙ ended key u w
     where
-      first : (key : K) → ends_with (length rows) (places_of number (with_key eq keys key rows)) ≡ false → without_place (length rows) (if has eq key (keys row) then places_of number (with_key eq keys key rows) ++ length rows ∷ [] else places_of number (with_key eq keys key rows)) ≡ places_of number (with_key eq keys key rows)
+      first : (key : K) → ends_with (length rows) (places_of number (with_key eq keys key rows)) ≡ false → without_place (length rows) (if is_one_of eq key (keys row) then places_of number (with_key eq keys key rows) ++ length rows ∷ [] else places_of number (with_key eq keys key rows)) ≡ places_of number (with_key eq keys key rows)
       first key n =
-          elim (cases_Bool (has eq key (keys row))) [
+          elim (cases_Bool (is_one_of eq key (keys row))) [
             | inl c ↦ rw c (put_taken (length rows) (places_of number (with_key eq keys key rows)))
             | inr c ↦ rw c (not_taken (length rows) (places_of number (with_key eq keys key rows)) n)
           ]
 
-      ended : (key : K) → under eq key es ≡ (if has eq key (keys row) then places_of number (with_key eq keys key rows) ++ length rows ∷ [] else places_of number (with_key eq keys key rows)) → without_place (length rows) (under eq key es) ≡ places_of number (with_key eq keys key rows) → (if has eq key (keys row) then without_place (length rows) (under eq key es) else under eq key es) ≡ places_of number (with_key eq keys key rows)
+      ended : (key : K) → under eq key es ≡ (if is_one_of eq key (keys row) then places_of number (with_key eq keys key rows) ++ length rows ∷ [] else places_of number (with_key eq keys key rows)) → without_place (length rows) (under eq key es) ≡ places_of number (with_key eq keys key rows) → (if is_one_of eq key (keys row) then without_place (length rows) (under eq key es) else under eq key es) ≡ places_of number (with_key eq keys key rows)
       ended key u w =
-          elim (cases_Bool (has eq key (keys row))) [
+          elim (cases_Bool (is_one_of eq key (keys row))) [
             | inl c ↦ rw c w
             | inr c ↦ rw c (rw c at u)
           ]

@@ -10,7 +10,7 @@ use Rattle.tap_rows.specs.Kept.{Each}
 use Rattle.row_index.specs.declared.text_kind.TextKind.{TextKind}
 use Rattle.row_index.specs.declared.text_kind.TextKind.TheVariants.{MsgId, Parent, Sender, Subject, Reference, Word}
 use Rattle.row_index.specs.Orders.{InPlace, doc_number, doc_arrival}
-use Rattle.row_index.specs.Posts.{has}
+use Rattle.row_index.specs.Posts.{is_one_of}
 use Rattle.row_index.specs.Texts.{fields, is_single, texts_of, with_text}
 use Rattle.row_index.proofs.ListWindows.{IsOwn, own_listed}
 use Rattle.row_index.proofs.TextLaws.{same_text}
@@ -20,15 +20,15 @@ or_false true = refl
 or_false false = refl
 
 -- who has one text at most has no other
-alone : (o : Option (List ℕ)) (t u : List ℕ) → has bytes_eq t (option_to_list o) ≡ true → has bytes_eq u (option_to_list o) ≡ true → t ≡ u
+alone : (o : Option (List ℕ)) (t u : List ℕ) → is_one_of bytes_eq t (option_to_list o) ≡ true → is_one_of bytes_eq u (option_to_list o) ≡ true → t ≡ u
 alone None t u h k = absurd cc
 alone (Some x) t u h k = is t h ∙ sym (is u k)
   where
-    is : (y : List ℕ) → has bytes_eq y (option_to_list (Some x)) ≡ true → y ≡ x
+    is : (y : List ℕ) → is_one_of bytes_eq y (option_to_list (Some x)) ≡ true → y ≡ x
     is y e = same_text y x (sym (or_false (bytes_eq y x)) ∙ e)
 
 -- a document has at most one text of a single kind
-one_text : (kind : TextKind) (doc : Doc) (t u : List ℕ) → is_single kind ≡ true → has bytes_eq t (texts_of kind doc) ≡ true → has bytes_eq u (texts_of kind doc) ≡ true → t ≡ u
+one_text : (kind : TextKind) (doc : Doc) (t u : List ℕ) → is_single kind ≡ true → is_one_of bytes_eq t (texts_of kind doc) ≡ true → is_one_of bytes_eq u (texts_of kind doc) ≡ true → t ≡ u
 one_text MsgId doc t u s h k = alone (fields doc).msgid t u h k
 one_text Parent doc t u s h k = alone (fields doc).inreplyto t u h k
 one_text Sender doc t u s h k = alone (fields doc).from t u h k
@@ -51,7 +51,7 @@ lists_of_one_kind_are_apart kind t u docs d e ds es single stand p q n =
     let own_d = (subst (Each (IsOwn docs)) p (own_listed (texts_of kind) t docs stand)).0 in
     let own_e = (subst (Each (IsOwn docs)) q (own_listed (texts_of kind) u docs stand)).0 in
     let same : d ≡ e = same_Some d e (sym own_d ∙ ap (λ k. slice_get docs (k - 1)) n ∙ own_e) in
-    let of_d = (subst (Each (λ doc. has bytes_eq t (texts_of kind doc) ≡ true)) p (all_pass (λ doc. has bytes_eq t (texts_of kind doc)) docs)).0 in
-    let of_e = (subst (Each (λ doc. has bytes_eq u (texts_of kind doc) ≡ true)) q (all_pass (λ doc. has bytes_eq u (texts_of kind doc)) docs)).0 in
-    let also : has bytes_eq u (texts_of kind d) ≡ true = subst (λ doc. has bytes_eq u (texts_of kind doc) ≡ true) (sym same) of_e in
+    let of_d = (subst (Each (λ doc. is_one_of bytes_eq t (texts_of kind doc) ≡ true)) p (all_pass (λ doc. is_one_of bytes_eq t (texts_of kind doc)) docs)).0 in
+    let of_e = (subst (Each (λ doc. is_one_of bytes_eq u (texts_of kind doc) ≡ true)) q (all_pass (λ doc. is_one_of bytes_eq u (texts_of kind doc)) docs)).0 in
+    let also : is_one_of bytes_eq u (texts_of kind d) ≡ true = subst (λ doc. is_one_of bytes_eq u (texts_of kind doc) ≡ true) (sym same) of_e in
     ap (λ z. with_text (texts_of kind) z docs) (one_text kind d t u single of_d also)

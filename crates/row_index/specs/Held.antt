@@ -19,15 +19,15 @@ abbrev pub noted : Note → List ℕ
 noted note = note.doc.0 ∷ []
 
 -- the notes on a document
-abbrev pub notes_on : ℕ → List Note → List Note
-notes_on doc notes = with_key nat_eq noted doc notes
+abbrev pub indexed_notes : ℕ → List Note → List Note
+indexed_notes doc notes = with_key nat_eq noted doc notes
 
 -- each note is on a document whose number has 32 bits
 abbrev pub AreOnDocs : List Note → Type 0
 AreOnDocs notes = Each (λ note. note.doc.0 < 2 ^ 32) notes
 
 -- rows in their places, and what finds them
-pub record IsHeld (docs : List Doc) (places : DocPlaces) (notes : List Note) (on_doc : List (ℕ × List ℕ)) : Type 0 where
+pub record IsIndexOf (docs : List Doc) (places : DocPlaces) (notes : List Note) (on_doc : List (ℕ × List ℕ)) : Type 0 where
   pub docs_stand : InPlace doc_number doc_arrival docs
   pub notes_stand : InPlace note_number note_arrival notes
   pub docs_found : DocPosts docs places

@@ -43,9 +43,9 @@ abbrev pub doc_number : Doc → ℕ
 doc_number doc = doc.num.0
 
 -- the number of a document, if there is one
-abbrev pub number_of : Option Doc → Option DocNum
-number_of None = None
-number_of (Some doc) = Some doc.num
+abbrev pub doc_num : Option Doc → Option DocNum
+doc_num None = None
+doc_num (Some doc) = Some doc.num
 
 -- the documents whose number is greater than this one
 abbrev pub above_number : ℕ → List Doc → List Doc

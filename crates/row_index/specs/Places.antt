@@ -4,13 +4,13 @@ use Rattle.std.specs.Prelude.{[], ◌∷◌, ◌++◌, length, take, nat_eq, sli
 use Rattle.std.specs.List.{list_any}
 
 -- is there a number, and is it this one?
-abbrev pub is_number : ℕ → Option ℕ → Bool
-is_number n None = false
-is_number n (Some m) = nat_eq m n
+abbrev pub is_row_number : ℕ → Option ℕ → Bool
+is_row_number n None = false
+is_row_number n (Some m) = nat_eq m n
 
 -- is this the last place?
 abbrev pub ends_with : ℕ → List ℕ → Bool
-ends_with place places = is_number place (slice_get places (length places - 1))
+ends_with place places = is_row_number place (slice_get places (length places - 1))
 
 -- the place at the end, if it isn't there yet
 abbrev pub with_place : ℕ → List ℕ → List ℕ

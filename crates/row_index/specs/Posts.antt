@@ -19,12 +19,12 @@ abbrev pub IsPartlyPosted : List (List ℕ) → ℕ → List (List ℕ × List �
 IsPartlyPosted keys place es fs = (n : ℕ) × (fs ≡ posted_all bytes_eq (take n keys) place es)
 
 -- is this key one of these?
-abbrev pub has : {K : Type 0} → (K → K → Bool) → K → List K → Bool
-has eq key keys = list_any (λ other. eq key other) keys
+abbrev pub is_one_of : {K : Type 0} → (K → K → Bool) → K → List K → Bool
+is_one_of eq key keys = list_any (λ other. eq key other) keys
 
 -- the rows that have the key
 abbrev pub with_key : {K A : Type 0} → (K → K → Bool) → (A → List K) → K → List A → List A
-with_key eq keys key rows = filter (λ row. has eq key (keys row)) rows
+with_key eq keys key rows = filter (λ row. is_one_of eq key (keys row)) rows
 
 -- the places of rows, by their numbers from 1
 abbrev pub places_of : {A : Type 0} → (A → ℕ) → List A → List ℕ

@@ -2,7 +2,7 @@
 
 ghost use Rattle.std.specs.Prelude.{◌≡◌, length, drop, slice_get};
 ghost use Rattle.row_index.specs.Walks.{ArePlaces, at_places};
-ghost use Rattle.row_index.specs.Orders.{Rising, doc_arrival, doc_rank, number_of, up_to, above_number, below_number};
+ghost use Rattle.row_index.specs.Orders.{Rising, doc_arrival, doc_rank, doc_num, up_to, above_number, below_number};
 
 use crate::arrivals::places_up_to;
 use crate::numbers::{places_above, places_below};
@@ -60,7 +60,7 @@ impl<'a> PostingList<'a> {
     /// Returns the number of the document at this place, from 0, without a step. `None` comes if and only if there is no such
     /// place.
     pub fn number(&self, place: usize) -> Option<DocNum>
-        ensures { result ≡ number_of (slice_get self.now place) }
+        ensures { result ≡ doc_num (slice_get self.now place) }
     {
         match self.places.get(place) {
             None => None,

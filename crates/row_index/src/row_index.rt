@@ -13,7 +13,7 @@ ghost use Rattle.tap_rows.specs.Tables.{no_rows, after};
 ghost use Rattle.row_index.specs.Orders.{InPlace, IsMoment, doc_number, doc_arrival, note_number, note_arrival, in_window, up_to};
 ghost use Rattle.row_index.specs.Texts.{with_text, texts_of, msgids, parents, senders, subjects, references_in, words_in};
 ghost use Rattle.row_index.specs.Dates.{dated_in};
-ghost use Rattle.row_index.specs.Held.{notes_on, AreOnDocs};
+ghost use Rattle.row_index.specs.Held.{indexed_notes, AreOnDocs};
 ghost use Rattle.row_index.specs.Rows.{without_last_doc, without_last_note};
 
 use crate::arrivals::{docs_up_to, docs_within, notes_up_to, notes_within, places_within};
@@ -40,13 +40,13 @@ pub struct RowIndex {
 impl Model for RowIndex {
     ghost use Rattle.tap_rows.specs.declared.tables.Tables.{Tables};
     ghost use Rattle.row_index.specs.Rows.{rows_alone};
-    ghost use Rattle.row_index.specs.Held.{IsHeld};
+    ghost use Rattle.row_index.specs.Held.{IsIndexOf};
 
     ghost Value = { Tables };
 
     ghost view = { λ index. rows_alone index.docs.items index.notes.items };
 
-    ghost invariant = { λ index. IsHeld index.docs.items index.places index.notes.items index.on_doc };
+    ghost invariant = { λ index. IsIndexOf index.docs.items index.places index.notes.items index.on_doc };
 }
 
 impl Drop for RowIndex {
@@ -194,7 +194,7 @@ impl RowIndex {
 
     /// Returns the notes on this document, by one look-up.
     pub fn notes_of(&self, doc: DocNum) -> NoteWalk<'_>
-        ensures { result ≡ notes_on doc.0 self.now.notes }
+        ensures { result ≡ indexed_notes doc.0 self.now.notes }
     {
         Walk::placed(&self.notes, self.on_doc.under(doc.0))
     }
@@ -260,7 +260,7 @@ impl RowIndex {
         ensures ok { OnOk result (self.new ≡ after self.old (Docs (doc ∷ []))) }
         ensures err { OnErr result (self.new ≡ self.old) }
     {
-        let place = number_of(&doc) - 1;
+        let place = doc_num(&doc) - 1;
         // Memory first, so that the push after the indexes can't fail.
         self.docs.reserve(1)?;
         self.places.add(&doc, place)?;
@@ -308,7 +308,7 @@ impl RowIndex {
 }
 
 // Returns the document's number.
-fn number_of(doc: &KeptDoc) -> u32
+fn doc_num(doc: &KeptDoc) -> u32
     ensures { result ≡ doc.now.num.0 }
 {
     doc.doc().num.0

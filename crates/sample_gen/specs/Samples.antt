@@ -12,13 +12,13 @@ abbrev pub next_state : ℕ → ℕ
 next_state x = (x * 1103515245 + 12345) % 2147483648
 
 -- the generator's number after i steps from 1
-abbrev pub state_after : ℕ → ℕ
-state_after zero = 1
-state_after (suc i) = next_state (state_after i)
+abbrev pub generator_after : ℕ → ℕ
+generator_after zero = 1
+generator_after (suc i) = next_state (generator_after i)
 
 -- what is drawn for message i: the number without its lower 16 bits
 abbrev pub draw : ℕ → ℕ
-draw i = state_after i / 65536
+draw i = generator_after i / 65536
 
 -- the word of message i
 abbrev pub word_of : ℕ → List ℕ
@@ -46,8 +46,8 @@ abbrev pub parent_line : ℕ → ℕ → List ℕ
 parent_line i drawn = if is_answer i drawn then answer_line (parent_of i drawn) else []
 
 -- the text of message i, for which drawn is drawn
-unfoldable pub message_text : ℕ → ℕ → List ℕ
-message_text i drawn =
+unfoldable pub sample_message : ℕ → ℕ → List ℕ
+sample_message i drawn =
     line (codes "From: user@parc") ++ line (codes "Message-ID: " ++ message_id i) ++ parent_line i drawn ++ line (codes "Subject: " ++ word_of drawn)
     ++ line [] ++ line (codes "about " ++ word_of drawn)
 
@@ -65,7 +65,7 @@ runs_after i = if i % 10 == 0 then both_runs else []
 
 -- the commands of message i, for which drawn is drawn
 abbrev pub commands_of_message : ℕ → ℕ → List Command
-commands_of_message i drawn = At (decimal (1000 + 10 * i)) ∷ Mail (Whole (message_text i drawn)) ∷ note_after i drawn ++ runs_after i
+commands_of_message i drawn = At (decimal (1000 + 10 * i)) ∷ Mail (Whole (sample_message i drawn)) ∷ note_after i drawn ++ runs_after i
 
 -- the commands of the first n messages
 abbrev pub commands_of_messages : ℕ → List Command
@@ -73,14 +73,14 @@ commands_of_messages zero = []
 commands_of_messages (suc i) = commands_of_messages i ++ commands_of_message (suc i) (draw (suc i))
 
 -- the user and the two queries
-abbrev pub opening : List Command
-opening =
+abbrev pub first_commands : List Command
+first_commands =
     At (decimal 1000) ∷ AsUser (codes "alice") ∷ Define (codes "q1") (codes "m.words HAS 'alpha'")
     ∷ Define (codes "q2") (codes "now >= m.ts + 60 SECONDS AND NOT EXISTS (r: DOC WHERE r.inreplyto = m.msgid)") ∷ []
 
 -- the sample with n messages
 abbrev pub sample_of : ℕ → List Command
-sample_of n = opening ++ commands_of_messages n ++ At (decimal (1000 + 10 * n + 1000)) ∷ both_runs
+sample_of n = first_commands ++ commands_of_messages n ++ At (decimal (1000 + 10 * n + 1000)) ∷ both_runs
 
 -- a sample has this many messages: at least one, and not too many
 pub record IsSampleSize (n : ℕ) : Type 0 where

@@ -4,10 +4,10 @@ ghost use Rattle.std.specs.Fmt.{decimal};
 ghost use Rattle.std.specs.List.{list_all};
 ghost use Rattle.script_lang.specs.declared.command.Command.{Command};
 ghost use Rattle.script_lang.specs.Proper.{is_proper};
-ghost use Rattle.sample_gen.specs.Samples.{commands_of_message, commands_of_messages, opening, both_runs, note_after, runs_after, sample_of, IsSampleSize};
+ghost use Rattle.sample_gen.specs.Samples.{commands_of_message, commands_of_messages, first_commands, both_runs, note_after, runs_after, sample_of, IsSampleSize};
 
 use crate::generator::next_state;
-use crate::message::message_text;
+use crate::message::sample_message;
 use mail_lines::Block;
 use script_lang::Command;
 use std::alloc::Global;
@@ -83,7 +83,7 @@ fn push_message(
     ensures { OnOk result (commands.new ≡ commands.old ++ commands_of_message i drawn) }
 {
     push_moment(alloc, commands, 1000 + 10 * i)?;
-    commands.push(Command::Mail(Block::Whole(message_text(alloc, i, drawn)?)))?;
+    commands.push(Command::Mail(Block::Whole(sample_message(alloc, i, drawn)?)))?;
     push_note(alloc, commands, i, drawn)?;
     push_runs_after(alloc, commands, i)
 }
@@ -106,7 +106,7 @@ fn push_messages(alloc: Global, commands: &mut Rows<Command>, n: u32) -> Result<
 
 // Returns the first commands: the user and the two queries.
 fn open_sample(alloc: Global) -> Result<Rows<Command>, Memory>
-    ensures { IfOk result (λ commands. commands ≡ opening) }
+    ensures { IfOk result (λ commands. commands ≡ first_commands) }
 {
     let mut commands = Rows::new(alloc);
     push_moment(alloc, &mut commands, 1000)?;

@@ -1,7 +1,7 @@
 //! The messages of a sample.
 ghost use Rattle.std.specs.Prelude.{◌≡◌, ◌<◌, ◌++◌, true, OnOk, IfOk};
 ghost use Rattle.script_lang.specs.Replies.{line};
-ghost use Rattle.sample_gen.specs.Samples.{word_of, message_id, is_answer, parent_line, message_text};
+ghost use Rattle.sample_gen.specs.Samples.{word_of, message_id, is_answer, parent_line, sample_message};
 
 use std::alloc::Global;
 use tap_base::{Memory, Text};
@@ -68,8 +68,8 @@ fn push_parent(alloc: Global, into: &mut Text, i: u32, drawn: u32) -> Result<(),
 
 /// Returns the text of message `i`, for which `drawn` is drawn. `Memory` means out of memory.
 #[tactic(auto, unfolding(crate::specs::Samples::message_text))]
-pub fn message_text(alloc: Global, i: u32, drawn: u32) -> Result<Text, Memory>
-    ensures { IfOk result (λ text. text ≡ message_text i drawn) }
+pub fn sample_message(alloc: Global, i: u32, drawn: u32) -> Result<Text, Memory>
+    ensures { IfOk result (λ text. text ≡ sample_message i drawn) }
 {
     let word = word_of(drawn);
     let mut text = Text::from_slice(alloc, b"From: user@parc\n")?;

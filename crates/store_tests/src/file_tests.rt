@@ -1,7 +1,7 @@
 //! Sessions over files in memory, and over stores that statements make.
 
 ghost use Rattle.std.specs.Prelude.{◌≡◌, false, IfSome};
-ghost use Rattle.store_tests.specs.Usable.{AreUsable};
+ghost use Rattle.store_tests.specs.Usable.{AreBothUsable};
 
 use crate::scripts::{FIRST, FIRST_REPLIES, SECOND, SECOND_REPLIES, THIRD, THIRD_REPLIES};
 use crate::sessions::{Ran, new_files, run_over, session};
@@ -17,8 +17,8 @@ fn next_session<D: Disk + Drop>(
     script: &[u8],
     want: &[u8],
 ) -> Option<Files<D>>
-    requires usable { AreUsable D.Disk files }
-    ensures usable { IfSome result (λ left. AreUsable D.Disk left) }
+    requires usable { AreBothUsable D.Disk files }
+    ensures usable { IfSome result (λ left. AreBothUsable D.Disk left) }
 {
     let (status, written, files) = session(alloc, files, script)?;
     let is_right = status == 0 && written.as_slice() == want;

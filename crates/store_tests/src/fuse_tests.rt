@@ -2,7 +2,7 @@
 //! whose replies were whole, or those of the next command too.
 
 ghost use Rattle.std.specs.Prelude.{◌≡◌, false};
-ghost use Rattle.store_tests.specs.Usable.{AreUsable};
+ghost use Rattle.store_tests.specs.Usable.{AreBothUsable};
 
 use crate::scripts::{FIRST, SECOND};
 use crate::sessions::{Ran, new_files, run_over, session};

@@ -4,7 +4,7 @@ ghost use Rattle.std.specs.Prelude.{◌≡◌, false, IsTrue, IfSome};
 ghost use Rattle.sqlite_disk.specs.Memory.{memory_is_usable};
 ghost use Rattle.tap_base.specs.Ledgers.{IsBlankOf};
 ghost use Rattle.keeper_core.specs.States.{IsFree};
-ghost use Rattle.store_tests.specs.Usable.{AreUsable};
+ghost use Rattle.store_tests.specs.Usable.{AreBothUsable};
 
 use keeper_core::Keeper;
 use keeper_sql::SqlKeeper;
@@ -80,7 +80,7 @@ pub fn run_over<A: Alter + Drop>(
 
 // Opens the files of a store.
 fn opened<D: Disk + Drop>(alloc: Global, files: Files<D>) -> Option<Connection<FileStore<D>>>
-    requires usable { AreUsable D.Disk files }
+    requires usable { AreBothUsable D.Disk files }
     ensures idle { IfSome result (λ connection. connection.in_transaction ≡ false) }
 {
     match Connection::open_files(alloc, files, Options::new(1)) {
@@ -91,7 +91,7 @@ fn opened<D: Disk + Drop>(alloc: Global, files: Files<D>) -> Option<Connection<F
 
 // Closes the files of a store.
 fn closed<D: Disk + Drop>(connection: Connection<FileStore<D>>) -> Option<Files<D>>
-    ensures usable { IfSome result (λ files. AreUsable D.Disk files) }
+    ensures usable { IfSome result (λ files. AreBothUsable D.Disk files) }
 {
     match connection.close_files() {
         Ok(files) => Some(files),
@@ -104,8 +104,8 @@ fn closed<D: Disk + Drop>(connection: Connection<FileStore<D>>) -> Option<Files<
 
 // Joins what a session ended with and the files that it left, if there are both.
 fn joined<D: Disk + Drop>(ran: Ran, files: Option<Files<D>>) -> Option<(u8, Text, Files<D>)>
-    requires usable { IfSome files (λ left. AreUsable D.Disk left) }
-    ensures usable { IfSome result (λ left. AreUsable D.Disk left.2) }
+    requires usable { IfSome files (λ left. AreBothUsable D.Disk left) }
+    ensures usable { IfSome result (λ left. AreBothUsable D.Disk left.2) }
 {
     match files {
         Some(files) => match ran {
@@ -128,8 +128,8 @@ pub fn session<D: Disk + Drop>(
     files: Files<D>,
     script: &[u8],
 ) -> Option<(u8, Text, Files<D>)>
-    requires usable { AreUsable D.Disk files }
-    ensures usable { IfSome result (λ left. AreUsable D.Disk left.2) }
+    requires usable { AreBothUsable D.Disk files }
+    ensures usable { IfSome result (λ left. AreBothUsable D.Disk left.2) }
 {
     match opened(alloc, files) {
         Some(connection) => {

@@ -7,6 +7,6 @@ pieces [] bytes = []
 pieces (len ∷ lens) bytes = take len bytes ∷ pieces lens (drop len bytes)
 
 -- the bytes of all texts of these lengths
-abbrev pub total : List ℕ → ℕ
-total [] = 0
-total (len ∷ lens) = len + total lens
+abbrev pub total_length : List ℕ → ℕ
+total_length [] = 0
+total_length (len ∷ lens) = len + total_length lens

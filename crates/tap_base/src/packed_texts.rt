@@ -1,6 +1,6 @@
 //! A list of texts that takes little memory.
 ghost use Rattle.std.specs.Prelude.{◌≡◌, ◌++◌, ◌∷◌, [], IfOk, OnOk, OnErr, None, length, option_to_list, option_copied};
-ghost use Rattle.tap_base.specs.Packed.{pieces, total};
+ghost use Rattle.tap_base.specs.Packed.{pieces, total_length};
 
 use crate::Memory;
 use std::alloc::Global;
@@ -18,13 +18,13 @@ pub struct PackedTexts {
 
 impl Model for PackedTexts {
     ghost use Rattle.std.specs.Prelude.{ℕ, List, ◌≡◌, length};
-    ghost use Rattle.tap_base.specs.Packed.{pieces, total};
+    ghost use Rattle.tap_base.specs.Packed.{pieces, total_length};
 
     ghost Value = { List (List ℕ) };
 
     ghost view = { λ t. pieces t.lens.items t.bytes.items };
 
-    ghost invariant = { λ t. total t.lens.items ≡ length t.bytes.items };
+    ghost invariant = { λ t. total_length t.lens.items ≡ length t.bytes.items };
 }
 
 /// The texts of a list that are left.
@@ -36,13 +36,13 @@ pub struct PackedWalk<'a> {
 
 impl<'a> Model for PackedWalk<'a> {
     ghost use Rattle.std.specs.Prelude.{ℕ, List, ◌≡◌, length};
-    ghost use Rattle.tap_base.specs.Packed.{pieces, total};
+    ghost use Rattle.tap_base.specs.Packed.{pieces, total_length};
 
     ghost Value = { List (List ℕ) };
 
     ghost view = { λ w. pieces w.lens.now w.bytes.now };
 
-    ghost invariant = { λ w. total w.lens.now ≡ length w.bytes.now };
+    ghost invariant = { λ w. total_length w.lens.now ≡ length w.bytes.now };
 }
 
 impl PackedTexts {

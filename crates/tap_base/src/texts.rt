@@ -1,6 +1,6 @@
 //! A list of texts.
 ghost use Rattle.std.specs.Prelude.{◌≡◌, ◌++◌, ◌∷◌, ◌<◌, ◌^◌, List, [], ℕ, OnOk, OnErr, IfOk, length, slice_get, take};
-ghost use Rattle.tap_base.specs.Words.{holds};
+ghost use Rattle.tap_base.specs.Words.{has_text};
 ghost use Rattle.std.specs.Option.{option_copied};
 
 use crate::{Memory, Rows, SharedText, Text};
@@ -79,7 +79,7 @@ impl Texts {
 
     /// Returns whether this text is one of them. It compares with each.
     pub fn holds(&self, text: &[u8]) -> bool
-        ensures { result ≡ holds self.now text.now }
+        ensures { result ≡ has_text self.now text.now }
     {
         self.items.iter().any(|other| text == other.as_slice())
     }

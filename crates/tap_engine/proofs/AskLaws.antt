@@ -22,7 +22,7 @@ use Rattle.tap_model.specs.Replies.{ask_at}
 use Rattle.tap_model.specs.Stories.{Refuses}
 use Rattle.tap_kept.proofs.TextLaws.{read-fine}
 use Rattle.tap_engine.specs.Answering.{Answers}
-use Rattle.tap_engine.proofs.AnswerTurns.{answers-accepted}
+use Rattle.tap_engine.proofs.UndoLaws.{answers-accepted}
 
 one : (x : Option Refusal) → first_refusal (x ∷ []) ≡ x
 one None = refl

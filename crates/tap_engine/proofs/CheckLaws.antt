@@ -8,7 +8,7 @@ use Rattle.std.proofs.lemmas.List.{length-map}
 use Rattle.tap_rows.specs.declared.tables.Tables.{Tables}
 use Rattle.tap_rows.specs.declared.rows.QueryRow.{QueryRow}
 use Rattle.tap_rows.specs.declared.results.Hit.{Hit}
-use Rattle.tap_base.specs.Words.{holds}
+use Rattle.tap_base.specs.Words.{has_text}
 use Rattle.tql_core.specs.Condition.{Condition}
 use Rattle.tql_text.specs.declared.fault.TextFault.{TextFault}
 use Rattle.tql_text.specs.declared.fault.TextFault.TheVariants as T
@@ -29,7 +29,7 @@ use Rattle.tap_model.specs.declared.session.Session.{Session}
 use Rattle.tap_engine.specs.declared.engine.Engine.{Engine}
 use Rattle.tap_model.specs.Sessions.{or_zero, user_of, moment_or_zero}
 use Rattle.tap_kept.specs.declared.cached_query.CachedQuery.{CachedQuery}
-use Rattle.tap_model.specs.Queries.{query_named, truth_of, start_of, hits_of}
+use Rattle.tap_model.specs.Queries.{query_named, query_truth, start_of, hits_of}
 use Rattle.tap_rows.specs.WellFormed.{is_query_of}
 use Rattle.tap_rows.specs.Results.{covered}
 use Rattle.restart_core.specs.Starts.{condition_text, stored_source}
@@ -40,7 +40,7 @@ use Rattle.tap_engine.specs.Standing.{Represents, name_refusal, query_limits, ea
 use Rattle.tap_model.specs.Sound.{IsSound, IsSoundFor, IsNow}
 use Rattle.tap_model.specs.Stories.{Refuses}
 use Rattle.tap_engine.specs.Answering.{Answers}
-use Rattle.tap_engine.proofs.AnswerTurns.{answers-accepted, refused-after}
+use Rattle.tap_engine.proofs.UndoLaws.{answers-accepted, refused-after}
 use Rattle.tap_model.specs.Replies.{next_query, show_box}
 use Rattle.tap_rows.specs.Deliveries.{delivered}
 use Rattle.tap_rows.specs.declared.results.Entry.{Entry}
@@ -255,7 +255,7 @@ answers-box e t name entries represents sound none is = go (query_named (user_of
   go None none' = absurd (some-entries entries (kept ∙ ap (λ o. cached_entries (option_map (cached_query t) o)) none'))
   go (Some q) some =
       let same : entries ≡ delivered q.num.0 t = some-same entries (delivered q.num.0 t) (kept ∙ ap (λ o. cached_entries (option_map (cached_query t) o)) some) in
-      let box = box-is truth_of start_of truth-of-second t q t.queries (find-in (is_query_of (user_of e.session) name) t.queries q some) (sound.kept refl).each in
+      let box = box-is query_truth start_of truth-of-second t q t.queries (find-in (is_query_of (user_of e.session) name) t.queries q some) (sound.kept refl).each in
       record {
         fine = accepted.fine;
         reply_is = ap (Boxed name) (same ∙ box.box) ∙ sym (ap (λ o. (show_box o name e.session t).reply) some) ∙ accepted.reply_is;

@@ -27,7 +27,7 @@ use Rattle.tap_model.specs.Sound.{IsSound}
 use Rattle.tap_engine.specs.declared.engine.Engine.{Engine}
 use Rattle.tap_engine.specs.declared.run.Due.{Due}
 use Rattle.tap_model.specs.Sessions.{user_of, moment_or_zero}
-use Rattle.tap_model.specs.Queries.{query_named, hits_of, truth_of, start_of}
+use Rattle.tap_model.specs.Queries.{query_named, hits_of, query_truth, start_of}
 use Rattle.tap_rows.specs.WellFormed.{is_query_of}
 use Rattle.tap_model.specs.Verdicts.{verdict}
 use Rattle.tap_kept.specs.Keeping.{cached_query, after_run}
@@ -35,7 +35,7 @@ use Rattle.tap_engine.specs.Standing.{Represents, cached_named, cached_hits, due
 use Rattle.tap_model.specs.Replies.{run_query}
 use Rattle.tap_model.proofs.AnswerLaws.{find-in}
 use Rattle.tap_engine.specs.Answering.{Answers}
-use Rattle.tap_engine.proofs.AnswerTurns.{answers-accepted}
+use Rattle.tap_engine.proofs.UndoLaws.{answers-accepted}
 use Rattle.tap_kept.proofs.PlaceLaws.{placed, placed-set, same-cached}
 use Rattle.tap_engine.proofs.CheckLaws.{named-is, hits-of-query}
 
@@ -71,7 +71,7 @@ both-parts : (a a' b b' : List Entry) → a ≡ a' → b ≡ b' → a ++ b ≡ a
 both-parts a a' b b' e f = rw (e, f) refl
 
 -- a query after its run
-own-after : (t : Tables) (q : QueryRow) (m : ℤ) → IsKept truth_of start_of t → cached_query (after t (run_change (truth_of q) (start_of q) t q.num m)) q ≡ after_run m (map (entry_at (length (run_moments q.num.0 t.runs) + 1)) (hits_of q t m)) (cached_query t q)
+own-after : (t : Tables) (q : QueryRow) (m : ℤ) → IsKept query_truth start_of t → cached_query (after t (run_change (query_truth q) (start_of q) t q.num m)) q ≡ after_run m (map (entry_at (length (run_moments q.num.0 t.runs) + 1)) (hits_of q t m)) (cached_query t q)
 own-after t q m kept =
     let run = next_run t q.num m in
     let hits = hits_of q t m in
@@ -87,7 +87,7 @@ own-after t q m kept =
     ∙ both-parts _ _ _ _ (old-picks q.num.0 t.runs run t.picks kept.picks) (new-picks (t.runs ++ run ∷ []) (length t.picks + 1) q.num (length t.runs + 1) (length (run_moments q.num.0 t.runs) + 1) hits place))
 
 -- another query after that run
-other-after : (t : Tables) (q other : QueryRow) (m : ℤ) → IsKept truth_of start_of t → (q.num.0 ≡ other.num.0 → ⊥) → cached_query (after t (run_change (truth_of q) (start_of q) t q.num m)) other ≡ cached_query t other
+other-after : (t : Tables) (q other : QueryRow) (m : ℤ) → IsKept query_truth start_of t → (q.num.0 ≡ other.num.0 → ⊥) → cached_query (after t (run_change (query_truth q) (start_of q) t q.num m)) other ≡ cached_query t other
 other-after t q other m kept differs =
     let run = next_run t q.num m in
     let hits = hits_of q t m in
@@ -99,7 +99,7 @@ other-after t q other m kept differs =
     (ap (last_or (start_of other)) moments) (ap length moments) (ap (map (picked (t.runs ++ run ∷ []))) own ∙ old-picks other.num.0 t.runs run t.picks kept.picks)
 
 -- the query in memory there
-pub due-kept : (e : Engine) (t : Tables) (due : Due) (q : QueryRow) (x : CachedQuery) → Represents e t → IsKept truth_of start_of t → In q t.queries → due.query.0 ≡ q.num.0 → slice_index_or e.queries (due.query.0 - 1) x ≡ cached_query t q
+pub due-kept : (e : Engine) (t : Tables) (due : Due) (q : QueryRow) (x : CachedQuery) → Represents e t → IsKept query_truth start_of t → In q t.queries → due.query.0 ≡ q.num.0 → slice_index_or e.queries (due.query.0 - 1) x ≡ cached_query t q
 due-kept e t due q x represents kept has is =
     let bounds = query-bounds 1 t.queries q kept.queries has in
     rw represents.queries (placed (cached_query t) 1 (due.query.0 - 1) t.queries q x kept.queries has (omega (arith, is, bounds.0)))
@@ -110,11 +110,11 @@ rows-many num query run [] = refl
 rows-many num query run (hit ∷ hits) = ap suc (rows-many (num + 1) query run hits)
 
 -- the engine with one more run
-represents-placed : (e : Engine) (t : Tables) (h : HitsWithRoom) (q : QueryRow) (i : ℕ) (m : ℤ) (kept : CachedQuery) → Represents e t → IsKept truth_of start_of t → In q t.queries → q.num.0 ≡ 1 + i → (e.session.moment ≡ None → ⊥) → kept ≡ cached_query t q
-    → Represents (record e { hits = h; queries = slice_set e.queries i (after_run m (map (entry_at (length (run_moments q.num.0 t.runs) + 1)) (hits_of q t m)) kept); run_count = e.run_count + 1; pick_count = e.pick_count + length (hits_of q t m) }) (after t (run_change (truth_of q) (start_of q) t q.num m))
+represents-placed : (e : Engine) (t : Tables) (h : HitsWithRoom) (q : QueryRow) (i : ℕ) (m : ℤ) (kept : CachedQuery) → Represents e t → IsKept query_truth start_of t → In q t.queries → q.num.0 ≡ 1 + i → (e.session.moment ≡ None → ⊥) → kept ≡ cached_query t q
+    → Represents (record e { hits = h; queries = slice_set e.queries i (after_run m (map (entry_at (length (run_moments q.num.0 t.runs) + 1)) (hits_of q t m)) kept); run_count = e.run_count + 1; pick_count = e.pick_count + length (hits_of q t m) }) (after t (run_change (query_truth q) (start_of q) t q.num m))
 represents-placed e t h q i m kept represents is-kept has at there is = record {
   rows = represents.rows;
-  queries = rw (represents.queries, is, sym (own-after t q m is-kept)) (placed-set (cached_query t) (cached_query (after t (run_change (truth_of q) (start_of q) t q.num m))) 1 i t.queries q is-kept.queries has at (λ other differs. other-after t q other m is-kept differs));
+  queries = rw (represents.queries, is, sym (own-after t q m is-kept)) (placed-set (cached_query t) (cached_query (after t (run_change (query_truth q) (start_of q) t q.num m))) 1 i t.queries q is-kept.queries has at (λ other differs. other-after t q other m is-kept differs));
   run_count = ap (λ n. n + 1) represents.run_count ∙ sym (length-append t.runs (next_run t q.num m ∷ []));
   pick_count = ap (λ n. n + length (hits_of q t m)) represents.pick_count ∙ ap (λ n. length t.picks + n) (sym (rows-many (length t.picks + 1) q.num (length t.runs + 1) (hits_of q t m)))
       ∙ sym (length-append t.picks (pick_rows (length t.picks + 1) q.num (length t.runs + 1) (hits_of q t m)));
@@ -130,10 +130,10 @@ represents-placed e t h q i m kept represents is-kept has at there is = record {
 abbrev pub run_rows : ℕ → ℕ → Due → Change
 run_rows runs picks due = RunDone (record { num = runs + 1; query = due.query; moment = due.moment }) (pick_rows (picks + 1) due.query (runs + 1) due.hits)
 
-rows-are : (e : Engine) (t : Tables) (name : List ℕ) (due : Due) → Represents e t → (d : IsDue e t name due) → run_rows e.run_count e.pick_count due ≡ run_change (truth_of d.q) (start_of d.q) t d.q.num (moment_or_zero e.session)
+rows-are : (e : Engine) (t : Tables) (name : List ℕ) (due : Due) → Represents e t → (d : IsDue e t name due) → run_rows e.run_count e.pick_count due ≡ run_change (query_truth d.q) (start_of d.q) t d.q.num (moment_or_zero e.session)
 rows-are e t name due represents d = ap (λ n. run_rows n e.pick_count due) represents.run_count ∙ ap (λ n. run_rows (length t.runs) n due) represents.pick_count ∙ ap (run_rows (length t.runs) (length t.picks)) d.is
 
-pub represents-run : (e : Engine) (t : Tables) (name : List ℕ) (due : Due) (h : HitsWithRoom) (e' : Engine) → Represents e t → IsKept truth_of start_of t → (d : IsDue e t name due) → (e.session.moment ≡ None → ⊥)
+pub represents-run : (e : Engine) (t : Tables) (name : List ℕ) (due : Due) (h : HitsWithRoom) (e' : Engine) → Represents e t → IsKept query_truth start_of t → (d : IsDue e t name due) → (e.session.moment ≡ None → ⊥)
     → ((x : CachedQuery) → e' ≡ record e { hits = h; queries = slice_set e.queries (due.query.0 - 1) (after_run due.moment (map (entry_at (due.runs + 1)) due.hits) (slice_index_or e.queries (due.query.0 - 1) x)); run_count = e.run_count + 1; pick_count = e.pick_count + length due.hits })
     → Represents e' (after t (run_rows e.run_count e.pick_count due))
 represents-run e t name due h e' represents kept d there is-e =
@@ -144,8 +144,8 @@ represents-run e t name due h e' represents kept d there is-e =
     let bounds = query-bounds 1 t.queries q kept.queries d.has in
     let engine : e' ≡ record e { hits = h; queries = slice_set e.queries i (after_run (moment_or_zero e.session) (map (entry_at (length (run_moments q.num.0 t.runs) + 1)) (hits_of q t (moment_or_zero e.session))) (slice_index_or e.queries i x)); run_count = e.run_count + 1; pick_count = e.pick_count + length (hits_of q t (moment_or_zero e.session)) } =
     is-e x ∙ ap (λ y. record e { hits = h; queries = slice_set e.queries i (after_run y.moment (map (entry_at (y.runs + 1)) y.hits) (slice_index_or e.queries i x)); run_count = e.run_count + 1; pick_count = e.pick_count + length y.hits }) d.is in
-    let rows : run_rows e.run_count e.pick_count due ≡ run_change (truth_of q) (start_of q) t q.num (moment_or_zero e.session) = rows-are e t name due represents d in
-    subst (λ change. Represents e' (after t change)) (sym rows) (subst (λ k. Represents k (after t (run_change (truth_of q) (start_of q) t q.num (moment_or_zero e.session)))) (sym engine) (represents-placed e t h q i (moment_or_zero e.session) (slice_index_or e.queries i x) represents kept d.has (omega (arith, num, bounds.0)) there (due-kept e t due q x represents kept d.has num)))
+    let rows : run_rows e.run_count e.pick_count due ≡ run_change (query_truth q) (start_of q) t q.num (moment_or_zero e.session) = rows-are e t name due represents d in
+    subst (λ change. Represents e' (after t change)) (sym rows) (subst (λ k. Represents k (after t (run_change (query_truth q) (start_of q) t q.num (moment_or_zero e.session)))) (sym engine) (represents-placed e t h q i (moment_or_zero e.session) (slice_index_or e.queries i x) represents kept d.has (omega (arith, num, bounds.0)) there (due-kept e t due q x represents kept d.has num)))
 
 -- a run that isn't refused
 pub answers-run : (e : Engine) (t : Tables) (name : List ℕ) (due : Due) (change : Change) (s' : Session) → Represents e t → verdict (Run name) e.session t ≡ None → (d : IsDue e t name due)

@@ -6,7 +6,7 @@ use Rattle.std.proofs.lemmas.List.{map-append, append_assoc, append-nil}
 use Rattle.std.specs.List.{All}
 use Rattle.std.proofs.lemmas.List.Elements.{All-weaker}
 use Rattle.std.proofs.lemmas.List.Sums.{sum_by-append}
-use Rattle.tap_base.specs.Words.{holds}
+use Rattle.tap_base.specs.Words.{has_text}
 use Rattle.tap_rows.specs.declared.tables.Tables.{Tables}
 use Rattle.tap_rows.specs.declared.rows.Doc.{Doc}
 use Rattle.tap_rows.specs.declared.rows.QueryRow.{QueryRow}
@@ -37,9 +37,9 @@ use Rattle.tap_model.specs.declared.session.Session.{Session}
 use Rattle.tap_model.specs.Limits.{limit_refusal, different}
 use Rattle.tap_model.specs.Sessions.{user_of, moment_or_zero}
 use Rattle.tap_model.specs.Filters.{or_none, rules_in_text, last_filter, filter_rules, rules_of_user}
-use Rattle.tap_model.specs.Queries.{query_named, truth_of, start_of, box_in, lines_of}
+use Rattle.tap_model.specs.Queries.{query_named, query_truth, start_of, box_of_query, lines_of}
 use Rattle.tap_rows.specs.WellFormed.{is_query_of}
-use Rattle.tap_model.specs.Verdicts.{first_refusal, checks, verdict, missing, no_moment, no_user, long_filter, filter_fault, text_of}
+use Rattle.tap_model.specs.Verdicts.{first_refusal, checks, verdict, missing, no_moment, no_user, long_filter, filter_fault, block_text}
 use Rattle.tap_model.specs.Replies.{next_filter, show_list, show_lines}
 use Rattle.tap_model.specs.Sound.{IsSoundFor}
 use Rattle.tap_model.specs.Stories.{Refuses}
@@ -50,8 +50,8 @@ use Rattle.tap_engine.specs.Standing.{Represents, RefusedAfter, RefusedBy, look_
 use Rattle.tap_engine.specs.FilterChecks.{filter_limits, early_filter, filter_refusal}
 use Rattle.tap_engine.specs.Lists.{cached_rows, cached_lines}
 use Rattle.tap_engine.specs.Answering.{Answers}
-use Rattle.tap_engine.proofs.RowTurns.{docs-are}
-use Rattle.tap_engine.proofs.AnswerTurns.{answers-accepted, refused-after}
+use Rattle.tap_engine.proofs.AddedRows.{docs-are}
+use Rattle.tap_engine.proofs.UndoLaws.{answers-accepted, refused-after}
 use Rattle.tap_engine.proofs.OwnerLaws.{users-more, owners-more}
 use Rattle.tap_engine.proofs.CheckLaws.{named-is, box-verdict}
 
@@ -69,7 +69,7 @@ seven None None None None None None None = refl
 pub filter-verdict : (e : Engine) (t : Tables) (block : Block) → Represents e t → filter_refusal e block ≡ verdict (Filter block) e.session t
 unfolding filter_limits
 filter-verdict e t block represents =
-    seven (no_moment e.session) (no_user e.session) (long_filter block) (limit_refusal Users user_limit (length e.owners) (if holds e.owners (user_of e.session) then 0 else 1)) (limit_refusal Filters filter_limit (length e.filters) 1) (limit_refusal Store store_limit e.bytes (length (text_of block))) (filter_fault (text_of block))
+    seven (no_moment e.session) (no_user e.session) (long_filter block) (limit_refusal Users user_limit (length e.owners) (if has_text e.owners (user_of e.session) then 0 else 1)) (limit_refusal Filters filter_limit (length e.filters) 1) (limit_refusal Store store_limit e.bytes (length (block_text block))) (filter_fault (block_text block))
     ∙ rw (represents.filters, represents.users, represents.owners (user_of e.session), represents.bytes) refl
 
 six : (a b c x y z : Option Refusal) → option_or a (option_or b (option_or c (first_refusal (x ∷ y ∷ z ∷ [])))) ≡ first_refusal (a ∷ b ∷ c ∷ x ∷ y ∷ z ∷ [])
@@ -82,7 +82,7 @@ six None None None x y z = refl
 early-filter : (e : Engine) (t : Tables) (block : Block) → Represents e t → early_filter e block ≡ first_refusal (take 6 (checks (Filter block) e.session t))
 unfolding filter_limits
 early-filter e t block represents =
-    six (no_moment e.session) (no_user e.session) (long_filter block) (limit_refusal Users user_limit (length e.owners) (if holds e.owners (user_of e.session) then 0 else 1)) (limit_refusal Filters filter_limit (length e.filters) 1) (limit_refusal Store store_limit e.bytes (length (text_of block)))
+    six (no_moment e.session) (no_user e.session) (long_filter block) (limit_refusal Users user_limit (length e.owners) (if has_text e.owners (user_of e.session) then 0 else 1)) (limit_refusal Filters filter_limit (length e.filters) 1) (limit_refusal Store store_limit e.bytes (length (block_text block)))
     ∙ rw (represents.filters, represents.users, represents.owners (user_of e.session), represents.bytes) refl
 
 pub filter-refuses : (e : Engine) (block : Block) (refusal : Refusal) → RefusedAfter (early_filter e block) (filter_refusal e block) refusal → (t : Tables) → Represents e t → Refuses refusal (Filter block) e.session t
@@ -91,14 +91,14 @@ filter-refuses e block refusal by t represents =
 
 -- a filter isn't added without a moment
 pub filter-moment : (e : Engine) (block : Block) → filter_refusal e block ≡ None → e.session.moment ≡ None → ⊥
-filter-moment e block none no_m = some-none NoMoment (sym (ap (λ m. option_or (missing NoMoment m) (option_or (no_user e.session) (option_or (long_filter block) (option_or (first_refusal (filter_limits e (user_of e.session) (length (text_of block)))) (filter_fault (text_of block)))))) no_m) ∙ none)
+filter-moment e block none no_m = some-none NoMoment (sym (ap (λ m. option_or (missing NoMoment m) (option_or (no_user e.session) (option_or (long_filter block) (option_or (first_refusal (filter_limits e (user_of e.session) (length (block_text block)))) (filter_fault (block_text block)))))) no_m) ∙ none)
 
 -- a filter is refused for its text, or is out of memory, once it isn't refused before
-pub text-refused : (e : Engine) (block : Block) (refusal : Refusal) → no_moment e.session ≡ None → no_user e.session ≡ None → long_filter block ≡ None → first_refusal (filter_limits e (user_of e.session) (length (text_of block))) ≡ None
-    → (filter_fault (text_of block) ≡ Some refusal) ⊎ (refusal ≡ Memory) → RefusedAfter (early_filter e block) (filter_refusal e block) refusal
+pub text-refused : (e : Engine) (block : Block) (refusal : Refusal) → no_moment e.session ≡ None → no_user e.session ≡ None → long_filter block ≡ None → first_refusal (filter_limits e (user_of e.session) (length (block_text block))) ≡ None
+    → (filter_fault (block_text block) ≡ Some refusal) ⊎ (refusal ≡ Memory) → RefusedAfter (early_filter e block) (filter_refusal e block) refusal
 text-refused e block refusal moment user long limits by =
-    let fault = filter_fault (text_of block) in
-    let bound = first_refusal (filter_limits e (user_of e.session) (length (text_of block))) in
+    let fault = filter_fault (block_text block) in
+    let bound = first_refusal (filter_limits e (user_of e.session) (length (block_text block))) in
     let is : filter_refusal e block ≡ fault =
     ap (λ x. option_or x (option_or (no_user e.session) (option_or (long_filter block) (option_or bound fault)))) moment
     ∙ ap (λ x. option_or x (option_or (long_filter block) (option_or bound fault))) user
@@ -116,11 +116,11 @@ text-refused e block refusal moment user long limits by =
 
 -- a filter is added
 pub answers-filter : (t : Tables) (s : Session) (block : Block) (n count : ℕ) (row : FilterRow) (change : Change) (s' : Session) → verdict (Filter block) s t ≡ None → n ≡ length t.filters
-    → row ≡ record { num = n + 1; owner = user_of s; source = text_of block; arrival = moment_or_zero s } → count ≡ length (rules_in_text (text_of block)) → change ≡ OneFilter row → s' ≡ s
+    → row ≡ record { num = n + 1; owner = user_of s; source = block_text block; arrival = moment_or_zero s } → count ≡ length (rules_in_text (block_text block)) → change ≡ OneFilter row → s' ≡ s
     → Answers t s (Filter block) (FilterAdded count) (Some change) s'
 answers-filter t s block n count row change s' none at is-row is-count is-change is-s =
     let accepted = answers-accepted t s (Filter block) none in
-    let same : row ≡ next_filter t s (text_of block) = is-row ∙ ap (λ n. record { num = n + 1; owner = user_of s; source = text_of block; arrival = moment_or_zero s }) at in
+    let same : row ≡ next_filter t s (block_text block) = is-row ∙ ap (λ n. record { num = n + 1; owner = user_of s; source = block_text block; arrival = moment_or_zero s }) at in
     record {
       fine = none;
       reply_is = ap FilterAdded is-count ∙ accepted.reply_is;
@@ -138,8 +138,8 @@ represents-filter e t row represents there = record {
   pick_count = represents.pick_count;
   filters = ap (λ fs. fs ++ row ∷ []) represents.filters;
   bytes = more (sum_by (λ doc. length doc.text) t.docs) (sum_by (λ note. length note.text) t.notes) (sum_by (λ query. length query.source) t.queries) (sum_by (λ filter. length filter.source) t.filters) _ _ (length row.source) represents.bytes (sum_by-append (λ filter. length filter.source) t.filters (row ∷ []));
-  users = users-more e.owners names [] row.owner (represents.users ∙ ap different (sym none-after)) (represents.owners row.owner ∙ ap (λ texts. holds texts row.owner) (sym none-after)) ∙ ap different (sym all);
-  owners = λ user. owners-more e.owners names [] row.owner user (λ w. represents.owners w ∙ ap (λ texts. holds texts w) (sym none-after)) ∙ ap (λ texts. holds texts user) (sym all);
+  users = users-more e.owners names [] row.owner (represents.users ∙ ap different (sym none-after)) (represents.owners row.owner ∙ ap (λ texts. has_text texts row.owner) (sym none-after)) ∙ ap different (sym all);
+  owners = λ user. owners-more e.owners names [] row.owner user (λ w. represents.owners w ∙ ap (λ texts. has_text texts w) (sym none-after)) ∙ ap (λ texts. has_text texts user) (sym all);
   votes = represents.votes;
   greatest = λ none. absurd (there none);
 } where
@@ -201,8 +201,8 @@ answers-list e t name rows represents sound none is = go (query_named (user_of e
   go (Some q) some =
       let by-kept : Some rows ≡ Some (listing_of (filter_rules (last_filter (user_of e.session) e.filters)) e.index.docs (delivered q.num.0 t)) = kept ∙ ap (λ o. cached_rows e (option_map (cached_query t) o)) some in
       let same : rows ≡ listing_of (filter_rules (last_filter (user_of e.session) e.filters)) e.index.docs (delivered q.num.0 t) = some-same rows _ by-kept in
-      let box = box-is truth_of start_of truth-of-second t q t.queries (find-in (is_query_of (user_of e.session) name) t.queries q some) (sound.kept refl).each in
-      let whole : rows ≡ listing_of rules t.docs (box_in q t) =
+      let box = box-is query_truth start_of truth-of-second t q t.queries (find-in (is_query_of (user_of e.session) name) t.queries q some) (sound.kept refl).each in
+      let whole : rows ≡ listing_of rules t.docs (box_of_query q t) =
       same ∙ ap (λ fs. listing_of (filter_rules (last_filter (user_of e.session) fs)) e.index.docs (delivered q.num.0 t)) represents.filters
       ∙ ap (λ docs. listing_of rules docs (delivered q.num.0 t)) (docs-are represents) ∙ ap (listing_of rules t.docs) box.box in
       record {

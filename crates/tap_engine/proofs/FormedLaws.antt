@@ -14,7 +14,7 @@ use Rattle.tap_rows.specs.WellFormed.{docs_stand, doc_stands, note_stands, notes
 use Rattle.tap_rows.proofs.LaterLaws.{each-map}
 use Rattle.tap_model.specs.Sound.{IsMoment}
 use Rattle.tap_model.proofs.FormedRows.{equal, at-most, follows, one-of, placed}
-use Rattle.tap_kept.specs.Starting.{IsOneOf, AreInOrder, FollowInOrder, PicksAreDistinct}
+use Rattle.tap_kept.specs.Starting.{IsRowNumber, AreInOrder, FollowInOrder, PicksAreDistinct}
 
 docs-standing : (place : ℕ) (low : ℤ) (docs : List Doc) → pos 0 ≤ℤ low → docs_stand place low docs ≡ true → AreInOrder doc_number doc_arrival place low docs × Each (λ doc. length doc.text ≤ 1048576) docs
 docs-standing place low [] from e = (tt, tt)
@@ -28,11 +28,11 @@ docs-standing place low (doc ∷ docs) from e =
     ((equal doc.num.0 place here.0, moment.0, record { early = above; late = moment.1 }, rest.0), (at-most (length doc.text) 1048576 this.1, rest.1))
 
 -- the number of one of so many rows
-within : {num count : ℕ} → (1 ≤ num) × (num ≤ count) → IsOneOf num count
+within : {num count : ℕ} → (1 ≤ num) × (num ≤ count) → IsRowNumber num count
 within both = record { low = both.0; high = both.1 }
 
 notes-standing : (docs : List Doc) (place : ℕ) (low : ℤ) (notes : List Note) → pos 0 ≤ℤ low → notes_stand docs place low notes ≡ true
-    → AreInOrder note_number note_arrival place low notes × Each (λ note. IsOneOf note.doc.0 (length docs)) notes
+    → AreInOrder note_number note_arrival place low notes × Each (λ note. IsRowNumber note.doc.0 (length docs)) notes
 notes-standing docs place low [] from e = (tt, tt)
 notes-standing docs place low (note ∷ notes) from e =
     let both = and_parts (note_stands docs place low note) (notes_stand docs (place + 1) note.arrival notes) e in
@@ -62,13 +62,13 @@ picks-once runs docs earlier place before (pick ∷ picks) e =
 pub record Formed (tables : Tables) : Type 0 where
   pub docs : FollowInOrder doc_number doc_arrival [] tables.docs
   pub notes : FollowInOrder note_number note_arrival [] tables.notes
-  pub on : Each (λ note. IsOneOf note.doc.0 (length tables.docs)) tables.notes
+  pub on : Each (λ note. IsRowNumber note.doc.0 (length tables.docs)) tables.notes
   pub short : Each (λ doc. length doc.text ≤ 1048576) tables.docs
   pub queries : QueriesFrom 1 tables.queries
   pub moments : Each (λ query. IsMoment query.arrival) tables.queries
   pub runs : RunsFrom 1 tables.runs
   pub times : Each (λ run. IsMoment run.moment) tables.runs
-  pub owned : Each (λ run. IsOneOf run.query.0 (length tables.queries)) tables.runs
+  pub owned : Each (λ run. IsRowNumber run.query.0 (length tables.queries)) tables.runs
   pub picked : Each (λ pick. HasRun pick.run pick.query.0 tables.runs) tables.picks
   pub once : PicksAreDistinct [] tables.picks
 
@@ -92,7 +92,7 @@ formed tables holds =
       moments = rows.arrivals;
       runs = rows.runs;
       times = rows.times;
-      owned = each-map (λ run. (1 ≤ run.query.0) × (run.query.0 ≤ length tables.queries)) (λ run. IsOneOf run.query.0 (length tables.queries)) tables.runs (λ run owned. within owned) rows.owned;
+      owned = each-map (λ run. (1 ≤ run.query.0) × (run.query.0 ≤ length tables.queries)) (λ run. IsRowNumber run.query.0 (length tables.queries)) tables.runs (λ run owned. within owned) rows.owned;
       picked = rows.picks;
       once = picks-once tables.runs tables.docs [] 1 None tables.picks p.1;
     }

@@ -12,7 +12,7 @@ use Rattle.tap_rows.specs.WellFormed.{is_query_of}
 use Rattle.tap_rows.proofs.KeptLaws.{box-is}
 use Rattle.filter_rules.specs.Listings.{listing_of}
 use Rattle.tap_model.specs.Filters.{last_filter, filter_rules, rules_of_user}
-use Rattle.tap_model.specs.Queries.{query_named, truth_of, start_of, box_in}
+use Rattle.tap_model.specs.Queries.{query_named, query_truth, start_of, box_of_query}
 use Rattle.tap_model.specs.Sound.{IsSound}
 use Rattle.tap_model.proofs.AnswerLaws.{find-in, truth-of-second}
 use Rattle.tap_kept.specs.declared.cached_query.CachedQuery.{CachedQuery}
@@ -20,7 +20,7 @@ use Rattle.tap_kept.specs.Keeping.{cached_query, named_in}
 use Rattle.tap_engine.specs.declared.engine.Engine.{Engine}
 use Rattle.tap_engine.specs.Standing.{Represents}
 use Rattle.tap_engine.specs.Lists.{if_names, listing_in, cached_of, rated_by}
-use Rattle.tap_engine.proofs.RowTurns.{docs-are}
+use Rattle.tap_engine.proofs.AddedRows.{docs-are}
 use Rattle.tap_engine.proofs.CheckLaws.{named-kept}
 
 cached-is : (e : Engine) (t : Tables) (user name : List ℕ) → Represents e t → cached_of user name e ≡ if_names user name (option_map (cached_query t) (query_named user name t))
@@ -33,10 +33,10 @@ rated-is e t user q represents =
     ∙ ap (λ docs. listing_of (rules_of_user user t) docs (delivered q.num.0 t)) (docs-are represents)
 
 mapped : (e : Engine) (t : Tables) (user name : List ℕ) → Represents e t → IsSound t e.session → (o : Option QueryRow) → query_named user name t ≡ o
-    → option_map (rated_by user e) (option_map (cached_query t) o) ≡ option_map (λ query. listing_of (rules_of_user user t) t.docs (box_in query t)) o
+    → option_map (rated_by user e) (option_map (cached_query t) o) ≡ option_map (λ query. listing_of (rules_of_user user t) t.docs (box_of_query query t)) o
 mapped e t user name represents sound None is = refl
 mapped e t user name represents sound (Some q) is =
-    let box = box-is truth_of start_of truth-of-second t q t.queries (find-in (is_query_of user name) t.queries q is) sound.kept.each in
+    let box = box-is query_truth start_of truth-of-second t q t.queries (find-in (is_query_of user name) t.queries q is) sound.kept.each in
     ap Some (rated-is e t user q represents ∙ ap (listing_of (rules_of_user user t) t.docs) box.box)
 
 map-if : {A B : Type 0} (f : A → B) (b : Bool) (o : Option A) → option_map f (if b then o else None) ≡ (if b then option_map f o else None)

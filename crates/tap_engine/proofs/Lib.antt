@@ -1,13 +1,13 @@
 mod Moments
 mod OwnerLaws
-mod RowTurns
-mod AnswerTurns
+mod AddedRows
+mod UndoLaws
 mod ReadyLaws
 mod CheckLaws
 mod StandingLaws
 mod AskLaws
 mod DueLaws
-mod MemoryTurns
+mod MemoryRefusals
 mod PerformLaws
 mod CostLaws
 mod NoteLaws

@@ -11,7 +11,7 @@ use Rattle.tap_rows.specs.declared.results.Entry.{Entry}
 use Rattle.tap_rows.specs.WellFormed.{row_at}
 use Rattle.tap_rows.specs.Results.{last_or, run_moments}
 use Rattle.tap_rows.specs.Kept.{Each, IsKeptQuery}
-use Rattle.row_index.specs.Held.{notes_on as indexed_notes}
+use Rattle.row_index.specs.Held.{indexed_notes}
 use Rattle.row_index.specs.Orders.{Numbered, doc_number}
 use Rattle.appraiser.proofs.DocPlaces.{doc-placed}
 use Rattle.restart_core.specs.Starts.{condition_text}
@@ -26,10 +26,10 @@ use Rattle.script_lang.specs.declared.reply.Reply.{Reply}
 use Rattle.script_lang.specs.declared.reply.Reply.TheVariants.{Found}
 use Rattle.script_lang.specs.Rows.{note_text, query_text}
 use Rattle.tap_model.specs.Sessions.{or_zero, user_of, greatest_moment}
-use Rattle.tap_model.specs.Queries.{truth_of, start_of}
+use Rattle.tap_model.specs.Queries.{query_truth, start_of}
 use Rattle.tap_model.specs.Sound.{IsSoundFor}
 use Rattle.tap_model.specs.Verdicts.{first_refusal, verdict, missing, refuse_unless, no_user, no_doc}
-use Rattle.tap_model.specs.Lookups.{doc_numbered, notes_on, last_of, line_of, show_doc, lookup_reply}
+use Rattle.tap_model.specs.Lookups.{doc_numbered, notes_on, last_of, query_line, shown_doc, lookup_reply}
 use Rattle.tap_model.specs.Stories.{Refuses}
 use Rattle.tap_kept.specs.Keeping.{cached_query}
 use Rattle.tap_kept.specs.Lines.{last_run, cached_line, owned_lines}
@@ -40,8 +40,8 @@ use Rattle.tap_engine.specs.Standing.{Represents, RefusedBy}
 use Rattle.tap_engine.specs.Answering.{Answers, ReadsAsModel, RefusesAsModel}
 use Rattle.tap_engine.specs.Costs.{most_steps, lookup_work}
 use Rattle.tap_engine.specs.Lookups.{lookup_refusal, cached_found, LookupRefuses, cached_lookup_work}
-use Rattle.tap_engine.proofs.RowTurns.{docs-are, notes-are}
-use Rattle.tap_engine.proofs.AnswerTurns.{answers-accepted, refused-after}
+use Rattle.tap_engine.proofs.AddedRows.{docs-are, notes-are}
+use Rattle.tap_engine.proofs.UndoLaws.{answers-accepted, refused-after}
 
 -- the notes that the index hands out are those on the document
 notes-same : (num : ℕ) (notes : List Note) → indexed_notes num notes ≡ notes_on num notes
@@ -103,7 +103,7 @@ last-same start (m ∷ ms) = ap (λ b. if b then None else Some (last_or m ms)) 
   some : (n : ℕ) → (suc n == 0) ≡ false
   some n = grind arith
 
-line-same : (t : Tables) (q : QueryRow) → IsKeptQuery truth_of start_of t q → cached_line (cached_query t q) ≡ line_of t q
+line-same : (t : Tables) (q : QueryRow) → IsKeptQuery query_truth start_of t q → cached_line (cached_query t q) ≡ query_line t q
 line-same t q kept =
     let shows : Option ℤ → List Entry → List ℕ = λ last entries.
     query_text q.name
@@ -112,16 +112,16 @@ line-same t q kept =
     ap (λ last. shows last (cached_query t q).entries) (last-same (start_of q) (run_moments q.num.0 t.runs)) ∙ ap (shows (last_of (run_moments q.num.0 t.runs))) kept.box
 
 -- the lines of the user's queries, whose boxes are what they delivered
-lines-same : (user : List ℕ) (t : Tables) (qs : List QueryRow) → Each (IsKeptQuery truth_of start_of t) qs
-    → owned_lines user (map (cached_query t) qs) ≡ map (line_of t) (filter (λ q. bytes_eq q.owner user) qs)
+lines-same : (user : List ℕ) (t : Tables) (qs : List QueryRow) → Each (IsKeptQuery query_truth start_of t) qs
+    → owned_lines user (map (cached_query t) qs) ≡ map (query_line t) (filter (λ q. bytes_eq q.owner user) qs)
 lines-same user t [] each = refl
 lines-same user t (q ∷ qs) each = go (bytes_eq q.owner user) (lines-same user t qs each.1) where
   both : (x y : List ℕ) (xs ys : List (List ℕ)) → x ≡ y → xs ≡ ys → x ∷ xs ≡ y ∷ ys
   both x y xs ys e f = rw (e, f) refl
 
-  go : (b : Bool) → owned_lines user (map (cached_query t) qs) ≡ map (line_of t) (filter (λ q. bytes_eq q.owner user) qs)
+  go : (b : Bool) → owned_lines user (map (cached_query t) qs) ≡ map (query_line t) (filter (λ q. bytes_eq q.owner user) qs)
       → (if b then cached_line (cached_query t q) ∷ [] else []) ++ owned_lines user (map (cached_query t) qs)
-      ≡ map (line_of t) (if b then q ∷ filter (λ q. bytes_eq q.owner user) qs else filter (λ q. bytes_eq q.owner user) qs)
+      ≡ map (query_line t) (if b then q ∷ filter (λ q. bytes_eq q.owner user) qs else filter (λ q. bytes_eq q.owner user) qs)
   go true rest = both _ _ _ _ (line-same t q each.0) rest
   go false rest = rest
 
@@ -132,7 +132,7 @@ moment-same e t represents = go e.session.moment refl where
   go (Some m) is = ap (λ o. option_or o e.greatest) is ∙ sym (ap (λ o. option_or o (greatest_moment t)) is)
 
 found-same : (lookup : Lookup) (e : Engine) (t : Tables) → Represents e t → IsSoundFor (Find lookup) t e.session → cached_found lookup e ≡ lookup_reply lookup e.session t
-found-same (ShowDoc num) e t represents sound = ap (λ docs. show_doc num (doc_numbered num docs)) (docs-are represents)
+found-same (ShowDoc num) e t represents sound = ap (λ docs. shown_doc num (doc_numbered num docs)) (docs-are represents)
 found-same (ListNotes num) e t represents sound =
     ap (λ notes. Found (DocNotes num) (map note_text notes)) (notes-same num e.index.notes) ∙ ap (λ notes. Found (DocNotes num) (map note_text (notes_on num notes))) (notes-are represents)
 found-same ListQueries e t represents sound =

@@ -20,13 +20,13 @@ use Rattle.tap_model.specs.Limits.{document_limit, store_limit}
 use Rattle.tap_model.specs.declared.session.Session.{Session}
 use Rattle.tap_model.specs.Sessions.{moment_or_zero}
 use Rattle.tap_model.specs.Limits.{limit_refusal}
-use Rattle.tap_model.specs.Verdicts.{first_refusal, verdict, missing, refuse_unless, no_moment, messages_of, are_short, long_message, long_block, bytes_of}
+use Rattle.tap_model.specs.Verdicts.{first_refusal, verdict, missing, refuse_unless, no_moment, messages_of, are_short, long_message, long_block, bytes_of_all}
 use Rattle.tap_model.specs.Replies.{docs_from, next_docs, some_docs, tables_after}
 use Rattle.tap_model.specs.Stories.{Refuses}
 use Rattle.tap_model.proofs.AnswerLaws.{some-none}
 use Rattle.tap_engine.specs.Answering.{Answers}
-use Rattle.tap_engine.proofs.RowTurns.{docs-are}
-use Rattle.tap_engine.proofs.AnswerTurns.{answers-accepted, refused-after}
+use Rattle.tap_engine.proofs.AddedRows.{docs-are}
+use Rattle.tap_engine.proofs.UndoLaws.{answers-accepted, refused-after}
 use Rattle.query_eval.specs.Hits.{HitsWithRoom}
 use Rattle.tap_engine.specs.declared.engine.Engine.{Engine}
 use Rattle.tap_engine.specs.Standing.{Represents, mbox_bounds, mbox_refusal, RefusedAfter}
@@ -39,7 +39,7 @@ first-or (Some x) rest = refl
 pub mbox-verdict : (e : Engine) (t : Tables) (block : Block) → Represents e t → mbox_refusal e block ≡ verdict (Mbox block) e.session t
 unfolding mbox_bounds
 mbox-verdict e t block represents =
-    first-or (no_moment e.session) (long_message (messages_of block) ∷ long_block block ∷ limit_refusal Documents document_limit (length e.index.docs) (length (messages_of block)) ∷ limit_refusal Store store_limit e.bytes (bytes_of (messages_of block)) ∷ [])
+    first-or (no_moment e.session) (long_message (messages_of block) ∷ long_block block ∷ limit_refusal Documents document_limit (length e.index.docs) (length (messages_of block)) ∷ limit_refusal Store store_limit e.bytes (bytes_of_all (messages_of block)) ∷ [])
     ∙ rw (docs-are represents, represents.bytes) refl
 
 alone : (x : Option Refusal) → x ≡ first_refusal (x ∷ [])
@@ -60,12 +60,12 @@ both-true true false e = absurd cc
 both-true false b e = absurd cc
 
 -- short messages have few bytes
-pub few-bytes : (messages : List (List ℕ)) → are_short messages ≡ true → bytes_of messages ≤ 1048576 * length messages
+pub few-bytes : (messages : List (List ℕ)) → are_short messages ≡ true → bytes_of_all messages ≤ 1048576 * length messages
 few-bytes [] e = omega arith
 few-bytes (message ∷ messages) e =
     let both = both-true (nat_le (length message) 1048576) (are_short messages) e in
     let rest = few-bytes messages both.1 in
-    rw (sum_by-cons length message messages) (step (length message) (bytes_of messages) (length messages) (le (length message) both.0) rest)
+    rw (sum_by-cons length message messages) (step (length message) (bytes_of_all messages) (length messages) (le (length message) both.0) rest)
   where
     le : (n : ℕ) → nat_le n 1048576 ≡ true → n ≤ 1048576
     le n h = grind arith
@@ -78,7 +78,7 @@ pub docs-change : (t : Tables) (docs : List Doc) → tables_after (some_docs doc
 docs-change t [] = ap (λ docs. record t { docs = docs }) (sym (append-nil t.docs))
 docs-change t (doc ∷ docs) = refl
 
-docs-bytes : (num : ℕ) (moment : ℤ) (texts : List (List ℕ)) → sum_by (λ doc. length doc.text) (docs_from num moment texts) ≡ bytes_of texts
+docs-bytes : (num : ℕ) (moment : ℤ) (texts : List (List ℕ)) → sum_by (λ doc. length doc.text) (docs_from num moment texts) ≡ bytes_of_all texts
 docs-bytes num moment [] = refl
 docs-bytes num moment (text ∷ texts) =
     sum_by-cons (λ doc. length doc.text) (record { num = record { 0 = num }; arrival = moment; text = text }) (docs_from (num + 1) moment texts)
@@ -98,13 +98,13 @@ answers-mbox t s block texts count first n moment change s' none is at is-count 
 
 -- the engine with more documents
 pub represents-docs : (e : Engine) (t : Tables) (h : HitsWithRoom) (moment : ℤ) (texts : List (List ℕ)) → Represents e t → (e.session.moment ≡ None → ⊥)
-    → Represents (record e { index = after e.index (Docs (next_docs t moment texts)); hits = h; bytes = e.bytes + bytes_of texts }) (tables_after (some_docs (next_docs t moment texts)) t)
+    → Represents (record e { index = after e.index (Docs (next_docs t moment texts)); hits = h; bytes = e.bytes + bytes_of_all texts }) (tables_after (some_docs (next_docs t moment texts)) t)
 represents-docs e t h moment texts represents there = rw (docs-change t (next_docs t moment texts)) (record {
   rows = ap (λ rows. after rows (Docs (next_docs t moment texts))) represents.rows;
   queries = represents.queries;
   run_count = represents.run_count;
   pick_count = represents.pick_count;
-  bytes = more (sum_by (λ doc. length doc.text) t.docs) (sum_by (λ note. length note.text) t.notes) (sum_by (λ query. length query.source) t.queries) (sum_by (λ filter. length filter.source) t.filters) _ _ (bytes_of texts) represents.bytes
+  bytes = more (sum_by (λ doc. length doc.text) t.docs) (sum_by (λ note. length note.text) t.notes) (sum_by (λ query. length query.source) t.queries) (sum_by (λ filter. length filter.source) t.filters) _ _ (bytes_of_all texts) represents.bytes
       (sum_by-append (λ doc. length doc.text) t.docs (next_docs t moment texts) ∙ ap (λ n. sum_by (λ doc. length doc.text) t.docs + n) (docs-bytes (length t.docs + 1) moment texts));
   users = represents.users;
   owners = represents.owners;
@@ -117,9 +117,9 @@ represents-docs e t h moment texts represents there = rw (docs-change t (next_do
 
 -- the engine with more documents, by how many there are
 pub represents-more : (e : Engine) (t : Tables) (h : HitsWithRoom) (moment : ℤ) (texts : List (List ℕ)) → Represents e t → (e.session.moment ≡ None → ⊥)
-    → Represents (record e { index = after e.index (Docs (docs_from (length e.index.docs + 1) moment texts)); hits = h; bytes = e.bytes + bytes_of texts }) (tables_after (some_docs (docs_from (length e.index.docs + 1) moment texts)) t)
+    → Represents (record e { index = after e.index (Docs (docs_from (length e.index.docs + 1) moment texts)); hits = h; bytes = e.bytes + bytes_of_all texts }) (tables_after (some_docs (docs_from (length e.index.docs + 1) moment texts)) t)
 represents-more e t h moment texts represents there =
-    subst (λ n. Represents (record e { index = after e.index (Docs (docs_from (n + 1) moment texts)); hits = h; bytes = e.bytes + bytes_of texts }) (tables_after (some_docs (docs_from (n + 1) moment texts)) t)) (sym (ap length (docs-are represents))) (represents-docs e t h moment texts represents there)
+    subst (λ n. Represents (record e { index = after e.index (Docs (docs_from (n + 1) moment texts)); hits = h; bytes = e.bytes + bytes_of_all texts }) (tables_after (some_docs (docs_from (n + 1) moment texts)) t)) (sym (ap length (docs-are represents))) (represents-docs e t h moment texts represents there)
 
 -- documents that there are
 pub docs-there : (num : ℕ) (moment : ℤ) (texts : List (List ℕ)) → (length texts == 0) ≡ false → Some (Docs (docs_from num moment texts)) ≡ some_docs (docs_from num moment texts)

@@ -24,8 +24,8 @@ use Rattle.tap_engine.specs.Standing.{Represents, note_bounds, note_refusal, Ref
 use Rattle.tap_model.specs.Stories.{Refuses}
 use Rattle.tap_model.proofs.AnswerLaws.{some-none}
 use Rattle.tap_engine.specs.Answering.{Answers}
-use Rattle.tap_engine.proofs.RowTurns.{docs-are, notes-are}
-use Rattle.tap_engine.proofs.AnswerTurns.{answers-accepted, refused-after}
+use Rattle.tap_engine.proofs.AddedRows.{docs-are, notes-are}
+use Rattle.tap_engine.proofs.UndoLaws.{answers-accepted, refused-after}
 use Rattle.vote_scores.proofs.TallyLaws.{tally-more}
 use Rattle.vote_scores.specs.Tally.{with_vote}
 

@@ -7,7 +7,7 @@ use Rattle.tap_base.specs.Numbers.{moment_of}
 use Rattle.tap_rows.specs.declared.tables.Tables.{Tables}
 use Rattle.tap_rows.specs.declared.change.Change.{Change}
 use Rattle.tap_rows.specs.Tables.{after}
-use Rattle.keeper_core.specs.Keeping.{Extends}
+use Rattle.keeper_core.specs.Keeping.{AddsRowsTo}
 use Rattle.script_lang.specs.declared.command.Command.{Command}
 use Rattle.script_lang.specs.declared.command.Command.TheVariants.{At, AsUser, Mail, Mbox, AddNote, Define, Run, BoxOf, ListOf, Filter, Explain, Ask, Wake, ScoresOf, DigestOf, Find, Bad}
 use Rattle.script_lang.specs.declared.refusal.Refusal.{Refusal}
@@ -19,7 +19,7 @@ use Rattle.script_lang.specs.Replies.{first_text, is_accepted}
 use Rattle.tap_model.specs.declared.session.Session.{Session}
 use Rattle.tap_model.specs.Verdicts.{checks, verdict, is_spared}
 use Rattle.tap_model.specs.Replies.{answer_of, answer_by, tables_after, set_moment}
-use Rattle.tap_model.specs.Stories.{Step, GivesUp, Refuses, next_tables}
+use Rattle.tap_model.specs.Stories.{StoryStep, GivesUp, Refuses, next_tables}
 use Rattle.tap_model.specs.Sound.{IsSoundFor}
 use Rattle.tap_model.proofs.AnswerLaws.{some-none}
 use Rattle.tap_model.proofs.FitLaws.{accepted_fits}
@@ -27,7 +27,7 @@ use Rattle.tap_model.proofs.SomeRows.{change-rows}
 use Rattle.tap_model.proofs.NextLaws.{next-is}
 use Rattle.tap_model.proofs.MemoryLaws.{answers-apart}
 use Rattle.query_eval.specs.Hits.{HitsWithRoom}
-use Rattle.tap_engine.proofs.MemoryTurns.{first-none}
+use Rattle.tap_engine.proofs.MemoryRefusals.{first-none}
 use Rattle.tap_engine.specs.Standing.{Represents}
 use Rattle.tap_engine.specs.declared.engine.Engine.{Engine}
 use Rattle.tap_engine.specs.declared.fault.EngineFault.{EngineFault}
@@ -65,11 +65,11 @@ unspared (DigestOf name ordinal) s t change none is = ap is_some (first-none 3 (
 pub memory-gives : (t : Tables) (s : Session) (c : Command) (reply : Reply) (change : Change) (s' : Session) → Answers t s c reply (Some change) s' → GivesUp t s c (No Memory) t s
 memory-gives t s c reply change s' answers = record { reply_is = refl; tables_are = refl; session_is = refl; not_spared = unspared c s t change answers.fine (sym answers.change_is) }
 
-pub memory-step : (t : Tables) (s : Session) (c : Command) (reply : Reply) (change : Change) (s' : Session) → Answers t s c reply (Some change) s' → Step t s c (No Memory) t s
+pub memory-step : (t : Tables) (s : Session) (c : Command) (reply : Reply) (change : Change) (s' : Session) → Answers t s c reply (Some change) s' → StoryStep t s c (No Memory) t s
 memory-step t s c reply change s' answers = inr (memory-gives t s c reply change s' answers)
 
 -- the rows of a command follow those of the tables in order
-pub rows-fit : (t : Tables) (s : Session) (c : Command) (reply : Reply) (change : Change) (s' : Session) → IsSoundFor c t s → Answers t s c reply (Some change) s' → Extends change t
+pub rows-fit : (t : Tables) (s : Session) (c : Command) (reply : Reply) (change : Change) (s' : Session) → IsSoundFor c t s → Answers t s c reply (Some change) s' → AddsRowsTo change t
 rows-fit t s c reply change s' sound answers =
     record { formed = sound.formed; fits = accepted_fits t s c change sound (sym answers.change_is); some = change-rows c s t change (sym answers.change_is) }
 
@@ -78,10 +78,10 @@ pub rows-next : (t : Tables) (s : Session) (c : Command) (reply : Reply) (change
 rows-next t s c reply change s' answers = ap (λ change. tables_after change t) answers.change_is ∙ sym (next-is c reply s t answers.reply_is)
 
 -- the step if the keeper didn't commit
-pub fault-step : (fault : CommitFault) (t : Tables) (e back e' : Engine) (c : Command) (result : Result Reply EngineFault) → result ≡ fault_answer fault → e' ≡ fault_engine fault back → back.session ≡ e.session → Step t e.session c (No Memory) t e.session
-    → IfOk result (λ reply. Step t e.session c reply (next_tables c reply e.session t) e'.session)
-fault-step C.Memory t e back e' c result is to same step = subst (λ r. IfOk r (λ reply. Step t e.session c reply (next_tables c reply e.session t) e'.session)) (sym is) (subst (λ s. Step t e.session c (No Memory) t s) (sym (ap (λ k. k.session) to ∙ same)) step)
-fault-step C.Failed t e back e' c result is to same step = subst (λ r. IfOk r (λ reply. Step t e.session c reply (next_tables c reply e.session t) e'.session)) (sym is) tt
+pub fault-step : (fault : CommitFault) (t : Tables) (e back e' : Engine) (c : Command) (result : Result Reply EngineFault) → result ≡ fault_answer fault → e' ≡ fault_engine fault back → back.session ≡ e.session → StoryStep t e.session c (No Memory) t e.session
+    → IfOk result (λ reply. StoryStep t e.session c reply (next_tables c reply e.session t) e'.session)
+fault-step C.Memory t e back e' c result is to same step = subst (λ r. IfOk r (λ reply. StoryStep t e.session c reply (next_tables c reply e.session t) e'.session)) (sym is) (subst (λ s. StoryStep t e.session c (No Memory) t s) (sym (ap (λ k. k.session) to ∙ same)) step)
+fault-step C.Failed t e back e' c result is to same step = subst (λ r. IfOk r (λ reply. StoryStep t e.session c reply (next_tables c reply e.session t) e'.session)) (sym is) tt
 
 -- the step if the keeper was out of memory
 pub fault-gives : (fault : CommitFault) (t : Tables) (e back e' : Engine) (c : Command) (result : Result Reply EngineFault) → result ≡ fault_answer fault → e' ≡ fault_engine fault back → back.session ≡ e.session → GivesUp t e.session c (No Memory) t e.session

@@ -21,7 +21,7 @@ use Rattle.mail_fields.specs.Digests.{digested, digest_lines}
 use Rattle.time_marks.specs.NextWake.{next_wake}
 use Rattle.tap_model.specs.declared.session.Session.{Session}
 use Rattle.tap_model.specs.Sessions.{or_zero, moment_or_zero, user_of}
-use Rattle.tap_model.specs.Queries.{truth_of, start_of, query_named, box_in}
+use Rattle.tap_model.specs.Queries.{query_truth, start_of, query_named, box_of_query}
 use Rattle.tap_model.specs.Sound.{IsMoment, IsNow, IsSound, IsSoundFor}
 use Rattle.tap_model.specs.Wakes.{wake_moment}
 use Rattle.tap_model.specs.Verdicts.{first_refusal, verdict, missing, no_moment, no_user, bad_name, no_run, runs_found}
@@ -33,13 +33,13 @@ use Rattle.tap_model.proofs.SoundLaws.{sound-asked}
 use Rattle.tap_model.proofs.WakeLaws.{wakes-are-windows}
 use Rattle.tap_rows.specs.WellFormed.{is_query_of, is_well_formed}
 use Rattle.tap_kept.specs.Keeping.{cached_query, hits_since}
-use Rattle.tap_kept.specs.Starting.{IsOneOf}
+use Rattle.tap_kept.specs.Starting.{IsRowNumber}
 use Rattle.tap_engine.specs.declared.engine.Engine.{Engine}
 use Rattle.tap_engine.specs.Standing.{Represents, RefusedAfter, RefusedBy, look_refusal, wake_refusal, digest_refusal, cached_named, cached_runs, cached_wake}
 use Rattle.tap_engine.specs.Lists.{cached_digest}
 use Rattle.tap_engine.specs.Answering.{Answers}
-use Rattle.tap_engine.proofs.RowTurns.{docs-are}
-use Rattle.tap_engine.proofs.AnswerTurns.{answers-accepted, refused-after}
+use Rattle.tap_engine.proofs.AddedRows.{docs-are}
+use Rattle.tap_engine.proofs.UndoLaws.{answers-accepted, refused-after}
 use Rattle.tap_engine.proofs.CheckLaws.{named-is, box-verdict}
 use Rattle.tap_engine.proofs.FormedLaws.{formed}
 
@@ -122,7 +122,7 @@ scores-refuses e kind refusal by t = refused-after _ _ refusal (subst (λ v. Ref
 pub numbered-formed : (t : Tables) → is_well_formed t ≡ true → AreNumbered t
 numbered-formed t is = record {
   docs = (placed t is).docs;
-  notes = each-map (λ note. IsOneOf note.doc.0 (length t.docs)) (λ note. (1 ≤ note.doc.0) × (note.doc.0 ≤ length t.docs)) t.notes (λ note one. (one.low, one.high)) (formed t is).on;
+  notes = each-map (λ note. IsRowNumber note.doc.0 (length t.docs)) (λ note. (1 ≤ note.doc.0) × (note.doc.0 ≤ length t.docs)) t.notes (λ note one. (one.low, one.high)) (formed t is).on;
 }
 
 pub answers-scores : (e : Engine) (t : Tables) (kind : List ℕ) (rows : List Score) → Represents e t → is_well_formed t ≡ true → bad_name kind ≡ None
@@ -172,8 +172,8 @@ answers-digest e t name ordinal lines represents sound none is = go (query_named
   go (Some q) some =
       let text : List Doc → List Entry → List (List ℕ) = λ docs entries. digest_lines name ordinal (digested docs (entries_in_run ordinal entries)) in
       let same : lines ≡ text e.index.docs (delivered q.num.0 t) = lines-same lines _ (kept ∙ ap (λ o. cached_digest e name ordinal (option_map (cached_query t) o)) some) in
-      let box = box-is truth_of start_of truth-of-second t q t.queries (find-in (is_query_of (user_of e.session) name) t.queries q some) (sound.kept refl).each in
-      let whole : lines ≡ text t.docs (box_in q t) = same ∙ ap (λ docs. text docs (delivered q.num.0 t)) (docs-are represents) ∙ ap (text t.docs) box.box in
+      let box = box-is query_truth start_of truth-of-second t q t.queries (find-in (is_query_of (user_of e.session) name) t.queries q some) (sound.kept refl).each in
+      let whole : lines ≡ text t.docs (box_of_query q t) = same ∙ ap (λ docs. text docs (delivered q.num.0 t)) (docs-are represents) ∙ ap (text t.docs) box.box in
       record {
         fine = accepted.fine;
         reply_is = ap (Digest name ordinal) whole ∙ sym (ap (λ o. (show_digest o name ordinal e.session t).reply) some) ∙ accepted.reply_is;

@@ -11,7 +11,7 @@ use Rattle.tap_rows.specs.WellFormed.{is_well_formed}
 use Rattle.tap_rows.proofs.LaterLaws.{each-map}
 use Rattle.tap_rows.proofs.PlaceLaws.{runs-none, no-picks}
 use Rattle.tap_engine.specs.declared.engine.Engine.{Engine}
-use Rattle.tap_base.specs.Words.{holds}
+use Rattle.tap_base.specs.Words.{has_text}
 use Rattle.tap_model.specs.Limits.{different}
 use Rattle.tap_model.proofs.FormedRows.{placed}
 use Rattle.tap_kept.specs.Keeping.{cached_query, never_run, with_owner}
@@ -35,7 +35,7 @@ represents-query e t row represents formed num there = record {
   pick_count = represents.pick_count;
   bytes = more (sum_by (λ doc. length doc.text) t.docs) (sum_by (λ note. length note.text) t.notes) (sum_by (λ query. length query.source) t.queries) (sum_by (λ filter. length filter.source) t.filters) _ _ (length row.source) represents.bytes (sum_by-append (λ query. length query.source) t.queries (row ∷ []));
   users = users-more e.owners names (map (λ filter. filter.owner) t.filters) row.owner represents.users (represents.owners row.owner) ∙ ap different (sym all);
-  owners = λ user. owners-more e.owners names (map (λ filter. filter.owner) t.filters) row.owner user represents.owners ∙ ap (λ texts. holds texts user) (sym all);
+  owners = λ user. owners-more e.owners names (map (λ filter. filter.owner) t.filters) row.owner user represents.owners ∙ ap (λ texts. has_text texts user) (sym all);
   filters = represents.filters;
   votes = represents.votes;
   greatest = λ none. absurd (there none);

@@ -3,7 +3,7 @@ use Rattle.std.proofs.Common.{◌≡◌, ◌∙◌, sym, ap, subst, refl, arith,
 use Rattle.std.specs.Prelude.{◌⊎◌, ◌≤ℤ◌, int_le, is_some}
 use Rattle.std.proofs.lemmas.Int.{ints}
 use Rattle.std.proofs.lemmas.List.{append-nil}
-use Rattle.tap_base.specs.Words.{holds, with_new}
+use Rattle.tap_base.specs.Words.{has_text, with_new}
 use Rattle.tap_rows.specs.declared.tables.Tables.{Tables}
 use Rattle.tap_rows.specs.declared.rows.QueryRow.{QueryRow}
 use Rattle.std.specs.Option.{option_or, option_map}
@@ -35,10 +35,10 @@ use Rattle.tap_engine.proofs.FormedLaws.{Formed}
 -- the different ones of some texts, after those that are there
 record HasAllOwners (held all : List (List ℕ)) : Type 0 where
   pub count : length held ≡ different all
-  pub same : (text : List ℕ) → holds held text ≡ holds all text
+  pub same : (text : List ℕ) → has_text held text ≡ has_text all text
 
 with-more : (held xs : List (List ℕ)) (x : List ℕ) → with_new held (x ∷ xs) ≡ with_new (with_owner held x) xs
-with-more held xs x = go (holds held x) where
+with-more held xs x = go (has_text held x) where
   go : (b : Bool) → (if b then with_new held xs else with_new (held ++ x ∷ []) xs) ≡ with_new (if b then held else held ++ x ∷ []) xs
   go true = refl
   go false = refl
@@ -48,7 +48,7 @@ new-holds held all [] is = subst (λ l. HasAllOwners held l) (sym (append-nil al
 new-holds held all (x ∷ xs) is =
     let none : all ++ [] ≡ all = append-nil all in
     let count : length held ≡ different (all ++ []) = is.count ∙ ap different (sym none) in
-    let same : (text : List ℕ) → holds held text ≡ holds (all ++ []) text = λ text. is.same text ∙ ap (λ l. holds l text) (sym none) in
+    let same : (text : List ℕ) → has_text held text ≡ has_text (all ++ []) text = λ text. is.same text ∙ ap (λ l. has_text l text) (sym none) in
     let one : HasAllOwners (with_owner held x) (all ++ x ∷ []) = record { count = users-more held all [] x count (same x); same = λ text. owners-more held all [] x text same } in
     let rest = new-holds (with_owner held x) (all ++ x ∷ []) xs one in
     subst (λ l. HasAllOwners l (all ++ x ∷ xs)) (sym (with-more held xs x)) (subst (λ l. HasAllOwners (with_new (with_owner held x) xs) l) (append_assoc all (x ∷ []) xs) rest)
@@ -80,7 +80,7 @@ represents-start e t is = record {
   pick_count = is.pick_count;
   bytes = is.bytes;
   users = ap length is.owners ∙ (new-all (owners_in t)).count;
-  owners = λ user. ap (λ l. holds l user) is.owners ∙ (new-all (owners_in t)).same user;
+  owners = λ user. ap (λ l. has_text l user) is.owners ∙ (new-all (owners_in t)).same user;
   greatest = λ none. is.greatest;
 }
 

@@ -62,7 +62,7 @@ pub record AddsRows (command : Command) (session : Session) (tables : Tables) : 
 abbrev pub undone : Undo → Engine → Engine
 undone Nothing engine = engine
 undone (Docs len bytes) engine = record engine { index = record engine.index { docs = take len engine.index.docs }; bytes = bytes }
-undone (Note bytes vote) engine = record engine { index = without_last_note engine.index; votes = Tally.undone vote engine.votes; bytes = bytes }
+undone (Note bytes vote) engine = record engine { index = without_last_note engine.index; votes = Tally.without_vote vote engine.votes; bytes = bytes }
 undone (Query len owners bytes) engine = record engine { queries = take len engine.queries; owners = take owners engine.owners; bytes = bytes }
 undone (Filter len owners bytes) engine = record engine { filters = take len engine.filters; owners = take owners engine.owners; bytes = bytes }
 undone (Run place covered runs entries run_count pick_count) engine =
@@ -74,7 +74,7 @@ undo_run engine place kept = Run place kept.covered kept.runs (length kept.entri
 
 -- the note that is undone with its vote, or the query whose run is undone, is there
 abbrev pub CanUndo : Undo → Engine → Type 0
-CanUndo (Note bytes vote) engine = (0 < length engine.index.notes) × Tally.CanUndo vote engine.votes
+CanUndo (Note bytes vote) engine = (0 < length engine.index.notes) × Tally.CanUndoVote vote engine.votes
 CanUndo (Run place covered runs entries run_count pick_count) engine = place < length engine.queries
 CanUndo undo engine = ⊤
 

@@ -13,13 +13,13 @@ use Rattle.script_lang.specs.declared.lookup.Lookup.{Lookup}
 use Rattle.script_lang.specs.declared.lookup.Lookup.TheVariants.{ShowDoc, ListNotes, ListQueries, Count}
 use Rattle.tap_model.specs.declared.session.Session.{Session}
 use Rattle.tap_model.specs.Sessions.{moment_or_zero, user_of}
-use Rattle.tap_model.specs.Queries.{condition_in, start_of, query_named, probes_in}
+use Rattle.tap_model.specs.Queries.{condition_in, start_of, query_named, probes_of_query}
 use Rattle.tap_model.specs.Replies.{entries_in_run}
 use Rattle.tap_model.specs.Lookups.{notes_on}
 use Rattle.tap_model.specs.WindowRuns.{asked_rows, found_since}
 use Rattle.wake_plan.specs.Wakes.{wake_window}
 use Rattle.tap_kept.specs.declared.cached_query.CachedQuery.{CachedQuery}
-use Rattle.tap_kept.specs.Costs.{HasNoMark, AreAlone, rows_due, query_work, window_since, work_ahead, ask_work}
+use Rattle.tap_kept.specs.Costs.{NoProbeHasMark, AreAlone, query_rows_due, query_work, window_since, work_ahead, ask_work}
 use Rattle.tap_engine.specs.declared.engine.Engine.{Engine}
 use Rattle.tap_engine.specs.Standing.{OverTables}
 
@@ -30,7 +30,7 @@ next_window tables query moment = record { low = covered (start_of query) query.
 -- there is no such query, or no probe of it has a mark in the window of its next run
 abbrev pub IsQuietQuery : Option QueryRow → Session → Tables → Type 0
 IsQuietQuery None session tables = ⊤
-IsQuietQuery (Some query) session tables = HasNoMark tables (next_window tables query (moment_or_zero session)) query
+IsQuietQuery (Some query) session tables = NoProbeHasMark tables (next_window tables query (moment_or_zero session)) query
 
 -- there is no such query, or the path of each of its probes is the document alone
 abbrev pub IsShortQuery : Option QueryRow → Type 0
@@ -40,7 +40,7 @@ IsShortQuery (Some query) = AreAlone query
 -- the rows due in the window of the query's next run
 abbrev pub query_due : Option QueryRow → Session → Tables → ℕ
 query_due None session tables = 0
-query_due (Some query) session tables = rows_due tables (next_window tables query (moment_or_zero session)) query
+query_due (Some query) session tables = query_rows_due tables (next_window tables query (moment_or_zero session)) query
 
 -- the look-up looks at no row of the index
 abbrev pub IsQuietLookup : Lookup → Type 0
@@ -87,7 +87,7 @@ wake_window_of tables query = wake_window (covered (start_of query) query.num.0 
 -- the steps that looking for the next moment of this query may take: those up to that mark, and one for each probe
 abbrev pub wake_work : Option QueryRow → Tables → ℕ
 wake_work None tables = 0
-wake_work (Some query) tables = length (probes_in query) + query_work (asked_rows tables) (wake_window_of tables query) query
+wake_work (Some query) tables = length (probes_of_query query) + query_work (asked_rows tables) (wake_window_of tables query) query
 
 -- a step for each entry of this query's box
 abbrev pub list_work : Option QueryRow → Tables → ℕ

@@ -9,7 +9,7 @@ use Rattle.tap_rows.specs.declared.results.Listed.{Listed}
 use Rattle.filter_rules.specs.Listings.{listing_of}
 use Rattle.mail_fields.specs.Digests.{digested, digest_lines}
 use Rattle.tap_model.specs.Sessions.{user_of}
-use Rattle.tap_model.specs.Queries.{lines_of, query_named, box_in}
+use Rattle.tap_model.specs.Queries.{lines_of, query_named, box_of_query}
 use Rattle.tap_model.specs.Filters.{last_filter, filter_rules, rules_of_user}
 use Rattle.tap_model.specs.Replies.{entries_in_run}
 use Rattle.tap_engine.specs.declared.engine.Engine.{Engine}
@@ -39,7 +39,7 @@ if_names user name found = if is_name user && is_name name then found else None
 abbrev pub listing_in : List ℕ → List ℕ → Tables → Option (List Listed)
 listing_in user name tables =
     if_names user name
-    (option_map (λ query. listing_of (rules_of_user user tables) tables.docs (box_in query tables)) (query_named user name tables))
+    (option_map (λ query. listing_of (rules_of_user user tables) tables.docs (box_of_query query tables)) (query_named user name tables))
 
 -- a user's query of this name, by what the engine has in memory
 abbrev pub cached_of : List ℕ → List ℕ → Engine → Option CachedQuery

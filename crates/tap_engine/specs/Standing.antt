@@ -1,7 +1,7 @@
 -- The tables that an engine represents, and why a command is refused, by what the engine has in memory.
 use Rattle.std.specs.Prelude.{ℕ, ℤ, pos, ◌≡◌, ◌⊎◌, List, [], ◌∷◌, length, map, Option, Some, None, is_none, if◌then◌else◌}
 use Rattle.std.specs.Option.{option_or}
-use Rattle.tap_base.specs.Words.{holds}
+use Rattle.tap_base.specs.Words.{has_text}
 use Rattle.tap_base.specs.declared.moments.TheConstants.{LAST_MOMENT}
 use Rattle.tap_rows.specs.declared.tables.Tables.{Tables}
 use Rattle.tap_rows.specs.declared.results.Hit.{Hit}
@@ -22,7 +22,7 @@ use Rattle.tap_model.specs.Sessions.{moment_or_zero, user_of, greatest_moment}
 use Rattle.tap_model.specs.Limits.{stored_bytes, owners_in, different, limit_refusal}
 use Rattle.tap_model.specs.Sound.{IsSound, IsSoundFor}
 use Rattle.tap_model.specs.Verdicts.{missing, refuse_unless, first_refusal, no_moment, no_user, bad_name, text_fault}
-use Rattle.tap_model.specs.Verdicts.{messages_of, long_message, long_block, bytes_of, no_doc, long_note, no_run}
+use Rattle.tap_model.specs.Verdicts.{messages_of, long_message, long_block, bytes_of_all, no_doc, long_note, no_run}
 use Rattle.vote_scores.specs.Tally.{tally}
 use Rattle.time_marks.specs.NextWake.{next_wake}
 use Rattle.restart_core.specs.Starts.{condition_text, stored_source}
@@ -40,7 +40,7 @@ pub record Represents (engine : Engine) (tables : Tables) : Type 0 where
   pub pick_count : engine.pick_count ≡ length tables.picks
   pub bytes : engine.bytes ≡ stored_bytes tables
   pub users : length engine.owners ≡ different (owners_in tables)
-  pub owners : (user : List ℕ) → holds engine.owners user ≡ holds (owners_in tables) user
+  pub owners : (user : List ℕ) → has_text engine.owners user ≡ has_text (owners_in tables) user
   pub greatest : engine.session.moment ≡ None → engine.greatest ≡ greatest_moment tables
 
 -- for each tables that the engine represents
@@ -68,7 +68,7 @@ unfoldable pub query_limits : Engine → List ℕ → ℕ → List (Option Refus
 query_limits engine user len =
     limit_refusal Queries user_query_limit (owned_in user engine.queries) 1
     ∷ limit_refusal AllQueries query_limit (length engine.queries) 1
-    ∷ limit_refusal Users user_limit (length engine.owners) (if holds engine.owners user then 0 else 1)
+    ∷ limit_refusal Users user_limit (length engine.owners) (if has_text engine.owners user then 0 else 1)
     ∷ limit_refusal Store store_limit engine.bytes len
     ∷ []
 
@@ -92,7 +92,7 @@ mbox_bounds engine block messages =
     (long_message messages
     ∷ long_block block
     ∷ limit_refusal Documents document_limit (length engine.index.docs) (length messages)
-    ∷ limit_refusal Store store_limit engine.bytes (bytes_of messages)
+    ∷ limit_refusal Store store_limit engine.bytes (bytes_of_all messages)
     ∷ [])
 
 -- why a mailbox file is refused

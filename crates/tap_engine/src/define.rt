@@ -3,7 +3,7 @@
 ghost use Rattle.std.specs.Prelude.{◌≡◌, ◌<◌, ◌+◌, ◌^◌, ◌++◌, [], ◌∷◌, if◌then◌else◌};
 ghost use Rattle.std.specs.Prelude.{length, Some, None, true, is_none, OnOk, OnErr, IfOk, IfErr};
 ghost use Rattle.std.specs.Result.{result_err};
-ghost use Rattle.tap_base.specs.Words.{holds};
+ghost use Rattle.tap_base.specs.Words.{has_text};
 ghost use Rattle.tap_rows.specs.declared.change.Change.{Change as RowChange};
 ghost use Rattle.script_lang.specs.declared.command.Command.{Command};
 ghost use Rattle.script_lang.specs.Replies.{HasShortNames, is_accepted};
@@ -106,7 +106,7 @@ impl Engine {
 
     // Counts how many owners more there are once this user owns a query or a filter: 0 or 1.
     pub(crate) fn new_users(&self, user: &[u8]) -> usize
-        ensures { result ≡ if holds self.now.owners user.now then 0 else 1 }
+        ensures { result ≡ if has_text self.now.owners user.now then 0 else 1 }
     {
         if self.owners.holds(user) { 0 } else { 1 }
     }

@@ -11,7 +11,7 @@ ghost use Rattle.filter_rules.specs.Rules.{rules_in};
 ghost use Rattle.filter_rules.specs.RuleTexts.{IsWithin};
 ghost use Rattle.tap_model.specs.Filters.{rules_in_text};
 ghost use Rattle.tap_model.specs.Sessions.{moment_or_zero, user_of};
-ghost use Rattle.tap_model.specs.Verdicts.{first_refusal, rule_refusal, filter_fault, long_filter, text_of};
+ghost use Rattle.tap_model.specs.Verdicts.{first_refusal, rule_refusal, filter_fault, long_filter, block_text};
 ghost use Rattle.tap_kept.specs.Keeping.{with_owner};
 
 use crate::define::push_owner;
@@ -31,7 +31,7 @@ use tap_rows::{Change, FilterRow};
 // Gives the text of a block, or refuses one that is too long.
 fn text_in(block: Block) -> Result<Text, Refusal>
     ensures err { result_err result ≡ long_filter block }
-    ensures ok { IfOk result (λ text. text ≡ text_of block) }
+    ensures ok { IfOk result (λ text. text ≡ block_text block) }
     ensures within { IfOk result (λ text. length text ≤ FILTER_LIMIT) }
 {
     match block {
@@ -119,13 +119,13 @@ impl Engine {
         ensures row { IfOk result (λ made. made.0 ≡ record {
           num = length self.now.filters + 1;
           owner = user_of self.now.session;
-          source = text_of block;
+          source = block_text block;
           arrival = moment_or_zero self.now.session;
         }) }
-        ensures rules { IfOk result (λ made. rules_in made.1 ≡ rules_in_text (text_of block)) }
+        ensures rules { IfOk result (λ made. rules_in made.1 ≡ rules_in_text (block_text block)) }
         ensures few { IfOk result (λ made. length (rules_in made.1) ≤ RULE_LIMIT) }
         ensures refusal { IfErr result (λ refusal. RefusedAfter (early_filter self.now block) (filter_refusal self.now block) refusal) }
-        ensures bytes { OnOk result (self.now.bytes + length (text_of block) < 2 ^ 64) }
+        ensures bytes { OnOk result (self.now.bytes + length (block_text block) < 2 ^ 64) }
     {
         let Some(moment) = self.session.moment else {
             return Err(Refusal::NoMoment);

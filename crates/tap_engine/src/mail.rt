@@ -8,7 +8,7 @@ ghost use Rattle.row_index.specs.Orders.{doc_arrival};
 ghost use Rattle.tap_engine.specs.Arriving.{MayArrive};
 ghost use Rattle.script_lang.specs.declared.command.Command.{Command};
 ghost use Rattle.script_lang.specs.Replies.{HasShortNames, is_accepted};
-ghost use Rattle.tap_model.specs.Verdicts.{too_long, text_of};
+ghost use Rattle.tap_model.specs.Verdicts.{too_long, block_text};
 ghost use Rattle.tap_model.specs.Replies.{docs_from};
 
 use crate::engine::Engine;
@@ -26,7 +26,7 @@ use tap_rows::{Change, Doc};
 // Gives the text of a message, or refuses one that is too long.
 fn message_of(block: Block) -> Result<Text, Refusal>
     ensures err { result_err result ≡ too_long block }
-    ensures ok { IfOk result (λ text. text ≡ text_of block) }
+    ensures ok { IfOk result (λ text. text ≡ block_text block) }
     ensures within { IfOk result (λ text. length text ≤ MESSAGE_LIMIT) }
 {
     match block {

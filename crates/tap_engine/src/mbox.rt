@@ -10,7 +10,7 @@ ghost use Rattle.tap_engine.specs.Arriving.{MayArrive, AreShortTexts};
 ghost use Rattle.script_lang.specs.declared.command.Command.{Command};
 ghost use Rattle.script_lang.specs.Replies.{HasShortNames, is_accepted};
 ghost use Rattle.tap_model.specs.Sessions.{moment_or_zero};
-ghost use Rattle.tap_model.specs.Verdicts.{no_moment, messages_of, are_short, long_message, long_block, bytes_of};
+ghost use Rattle.tap_model.specs.Verdicts.{no_moment, messages_of, are_short, long_message, long_block, bytes_of_all};
 ghost use Rattle.tap_model.specs.Replies.{docs_from, some_docs};
 
 use crate::engine::Engine;
@@ -70,8 +70,8 @@ fn refuse_long_block(block: &Block) -> Result<(), Refusal>
 
 // Sums the lengths of the messages, in bytes.
 fn total(texts: &[SharedText]) -> usize
-    requires { bytes_of texts.now < 2 ^ 64 }
-    ensures { result ≡ bytes_of texts.now }
+    requires { bytes_of_all texts.now < 2 ^ 64 }
+    ensures { result ≡ bytes_of_all texts.now }
 {
     let mut bytes = 0;
     for text in texts {
@@ -175,7 +175,7 @@ impl Engine {
         ensures value { result_err result ≡ mbox_bounds self.now block.now texts.now }
         ensures short { OnOk result (are_short texts.now ≡ true) }
         ensures few { OnOk result (length self.now.index.docs + length texts.now ≤ max (length self.now.index.docs) DOCUMENT_LIMIT) }
-        ensures bytes { OnOk result (self.now.bytes + bytes_of texts.now < 2 ^ 64) }
+        ensures bytes { OnOk result (self.now.bytes + bytes_of_all texts.now < 2 ^ 64) }
     {
         refuse_long_message(texts)?;
         refuse_long_block(block)?;
@@ -196,7 +196,7 @@ impl Engine {
         ensures refusal { IfErr result (λ refusal. RefusedAfter (no_moment self.now.session) (mbox_refusal self.now block.now) refusal) }
         ensures short { IfOk result (λ made. are_short made.1 ≡ true) }
         ensures few { IfOk result (λ made. length self.now.index.docs + length made.1 ≤ max (length self.now.index.docs) DOCUMENT_LIMIT) }
-        ensures bytes { IfOk result (λ made. self.now.bytes + bytes_of made.1 < 2 ^ 64) }
+        ensures bytes { IfOk result (λ made. self.now.bytes + bytes_of_all made.1 < 2 ^ 64) }
     {
         let Some(moment) = self.session.moment else {
             return Err(Refusal::NoMoment);
@@ -216,14 +216,14 @@ impl Engine {
     ) -> Result<Option<Change>, Memory>
         requires few { length self.old.index.docs + length texts.now ≤ max (length self.old.index.docs) DOCUMENT_LIMIT }
         requires short { AreShortTexts texts.now }
-        requires bytes { self.old.bytes + bytes_of texts.now < 2 ^ 64 }
+        requires bytes { self.old.bytes + bytes_of_all texts.now < 2 ^ 64 }
         requires arrives { MayArrive doc_arrival moment self.old.index.docs }
         requires room { length self.old.index.docs ≤ self.old.hits.room }
         ensures change { IfOk result (λ change. change ≡ some_docs (docs_from (length self.old.index.docs + 1) moment texts.now)) }
         ensures engine { OnOk result (self.new ≡ record self.old {
           index = after self.old.index (RowChange.Docs (docs_from (length self.old.index.docs + 1) moment texts.now));
           hits = self.new.hits;
-          bytes = self.old.bytes + bytes_of texts.now;
+          bytes = self.old.bytes + bytes_of_all texts.now;
         }) }
         ensures room { OnOk result (length self.new.index.docs ≤ self.new.hits.room) }
         ensures more { self.old.hits.room ≤ self.new.hits.room }

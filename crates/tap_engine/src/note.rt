@@ -10,7 +10,7 @@ ghost use Rattle.script_lang.specs.declared.command.Command.{Command};
 ghost use Rattle.script_lang.specs.Replies.{HasShortNames, is_accepted};
 ghost use Rattle.tap_model.specs.Sessions.{moment_or_zero, user_of};
 ghost use Rattle.tap_model.specs.Verdicts.{no_doc, long_note};
-ghost use Rattle.vote_scores.specs.Tally.{CanUndo, undone, with_vote};
+ghost use Rattle.vote_scores.specs.Tally.{CanUndoVote, without_vote, with_vote};
 
 use crate::engine::Engine;
 use crate::limits::refuse_more;
@@ -22,7 +22,7 @@ use tap_base::{Copied, DocNum, Memory, NoteNum, Text};
 use tap_kept::add_vote;
 use tap_model::{NOTE_LIMIT, NOTE_TEXT_LIMIT, STORE_LIMIT};
 use tap_rows::{Change, Note};
-use vote_scores::Undo as VoteUndo;
+use vote_scores::VoteUndo;
 
 // Refuses a number that is not that of one of `count` documents.
 #[tactic(auto, unfolding(tap_model::specs::Verdicts::no_doc))]
@@ -112,7 +112,7 @@ impl Engine {
           votes = with_vote note self.old.votes;
           bytes = self.old.bytes + length note.text;
         }) }
-        ensures vote { IfOk result (λ made. CanUndo made.1 self.new.votes × (undone made.1 self.new.votes ≡ self.old.votes)) }
+        ensures vote { IfOk result (λ made. CanUndoVote made.1 self.new.votes × (without_vote made.1 self.new.votes ≡ self.old.votes)) }
         ensures err { OnErr result (self.new ≡ self.old) }
     {
         let len = note.text.len();

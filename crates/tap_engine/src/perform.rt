@@ -8,7 +8,7 @@ ghost use Rattle.tap_base.specs.Counts.{Rose};
 ghost use Rattle.script_lang.specs.Proper.{is_proper};
 ghost use Rattle.script_lang.specs.Replies.{HasShortNames, first_text, is_accepted};
 ghost use Rattle.tap_model.specs.Replies.{answer_of, tables_after};
-ghost use Rattle.tap_model.specs.Stories.{Step, GivesUp, next_tables};
+ghost use Rattle.tap_model.specs.Stories.{StoryStep, GivesUp, next_tables};
 ghost use Rattle.tap_model.specs.Verdicts.{verdict};
 
 use crate::engine::Engine;
@@ -113,7 +113,7 @@ impl Engine {
         // The reply and the step, over the tables that the engine represents. What was delivered matters only to a command
         // that looks at it.
         ensures step { OverSoundFor self.old command (λ t. IfOk result (λ reply.
-            Step t self.old.session command reply (next_tables command reply self.old.session t) self.new.session)) }
+            StoryStep t self.old.session command reply (next_tables command reply self.old.session t) self.new.session)) }
         ensures represents { OverSoundFor self.old command (λ t. IfOk result (λ reply.
             Represents self.new (next_tables command reply self.old.session t))) }
         ensures memory { OverSoundFor self.old command (λ t. is_proper command ≡ true → IfOk result (λ reply. first_text reply ≡ codes "no 18" →

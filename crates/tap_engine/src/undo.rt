@@ -1,5 +1,5 @@
 //! What undoes the rows of a command.
-use vote_scores::Undo as VoteUndo;
+use vote_scores::VoteUndo;
 
 /// What undoes the rows of a command that isn't committed: how many rows there were before it, and how many bytes.
 #[derive(Drop)]

@@ -19,7 +19,7 @@ use Rattle.tap_rows.proofs.RunLaws.{last-more}
 use Rattle.tap_model.specs.Queries.{start_of}
 use Rattle.tap_kept.specs.declared.cached_query.CachedQuery.{CachedQuery}
 use Rattle.tap_kept.specs.Keeping.{cached_query, never_run, after_run}
-use Rattle.tap_kept.specs.Starting.{rows_in, runs_alone, ordinal_in, with_entry, IsOneOf, picks_same}
+use Rattle.tap_kept.specs.Starting.{rows_in, runs_alone, ordinal_in, with_entry, IsRowNumber, picks_same}
 use Rattle.tap_kept.proofs.PlaceLaws.{placed, placed-set, runs-few, same-cached}
 use Rattle.tap_kept.proofs.NewLaws.{picked-in}
 
@@ -57,7 +57,7 @@ there k num (row ∷ rows) from low high = go (k == num) refl (λ above. there (
   go true e rest = record { q = row; has = inl refl; at = from.0 ∙ equal k num e }
   go false e rest = later (rest (above k num low (unequal k num e)))
 
-one-there : (num : ℕ) (rows : List QueryRow) → QueriesFrom 1 rows → IsOneOf num (length rows) → There rows num
+one-there : (num : ℕ) (rows : List QueryRow) → QueriesFrom 1 rows → IsRowNumber num (length rows) → There rows num
 one-there num rows from one = there 1 num rows from one.low (omega (arith, one.high))
 
 -- the query of a number in memory
@@ -65,7 +65,7 @@ pub kept-there : (f : QueryRow → CachedQuery) (num : ℕ) (rows : List QueryRo
 kept-there f num rows q d from has at low = placed f 1 (num - 1) rows q d from has (omega (arith, at, low))
 
 -- so many runs as there were before
-pub runs-before : (rows : List QueryRow) (before : List RunRow) (num : ℕ) (queries : List CachedQuery) (d : CachedQuery) → QueriesFrom 1 rows → IsOneOf num (length rows) → queries ≡ map (cached_query (runs_alone before [])) rows
+pub runs-before : (rows : List QueryRow) (before : List RunRow) (num : ℕ) (queries : List CachedQuery) (d : CachedQuery) → QueriesFrom 1 rows → IsRowNumber num (length rows) → queries ≡ map (cached_query (runs_alone before [])) rows
     → (slice_index_or queries (num - 1) d).runs ≡ length (run_moments num before)
 runs-before rows before num queries d from one is =
     let t = one-there num rows from one in
@@ -73,7 +73,7 @@ runs-before rows before num queries d from one is =
     ∙ ap (λ kept. kept.runs) (kept-there (cached_query (runs_alone before [])) num rows t.q d from t.has t.at one.low)
     ∙ ap (λ n. length (run_moments n before)) t.at
 
-pub few-before : (rows : List QueryRow) (before : List RunRow) (num i : ℕ) (queries : List CachedQuery) (d : CachedQuery) → QueriesFrom 1 rows → IsOneOf num (length rows) → queries ≡ map (cached_query (runs_alone before [])) rows → length before ≡ i
+pub few-before : (rows : List QueryRow) (before : List RunRow) (num i : ℕ) (queries : List CachedQuery) (d : CachedQuery) → QueriesFrom 1 rows → IsRowNumber num (length rows) → queries ≡ map (cached_query (runs_alone before [])) rows → length before ≡ i
     → (slice_index_or queries (num - 1) d).runs ≤ i
 few-before rows before num i queries d from one is len =
     let few = runs-few num before in
@@ -97,7 +97,7 @@ other-run before run other differs =
     same-cached other (last_or (start_of other) (run_moments other.num.0 (before ++ run ∷ []))) (last_or (start_of other) (run_moments other.num.0 before)) (length (run_moments other.num.0 (before ++ run ∷ []))) (length (run_moments other.num.0 before)) [] [] (ap (last_or (start_of other)) moments) (ap length moments) refl
 
 -- a run is added to its query
-pub run-joins : (rows : List QueryRow) (before : List RunRow) (run : RunRow) (queries new : List CachedQuery) → QueriesFrom 1 rows → IsOneOf run.query.0 (length rows) → queries ≡ map (cached_query (runs_alone before [])) rows
+pub run-joins : (rows : List QueryRow) (before : List RunRow) (run : RunRow) (queries new : List CachedQuery) → QueriesFrom 1 rows → IsRowNumber run.query.0 (length rows) → queries ≡ map (cached_query (runs_alone before [])) rows
     → ((d : CachedQuery) → new ≡ slice_set queries (run.query.0 - 1) (after_run run.moment [] (slice_index_or queries (run.query.0 - 1) d)))
     → new ≡ map (cached_query (runs_alone (before ++ run ∷ []) [])) rows
 run-joins rows before run queries new from one is set =
@@ -140,16 +140,16 @@ ordinal-at all k num query (suc i) (run ∷ runs) from (inl e) at = absurd (omeg
 ordinal-at all k num query zero (run ∷ runs) from (inr h) at = absurd (let bounds = has-bounds (suc k) num query runs from.1 h in omega (arith, bounds.0, at))
 ordinal-at all k num query (suc i) (run ∷ runs) from (inr h) at = ordinal-at all (suc k) num query i runs from.1 h (omega (arith, at))
 
-pub has-owned : (num query n : ℕ) (runs : List RunRow) → Each (λ run. IsOneOf run.query.0 n) runs → HasRun num query runs → IsOneOf query n
+pub has-owned : (num query n : ℕ) (runs : List RunRow) → Each (λ run. IsRowNumber run.query.0 n) runs → HasRun num query runs → IsRowNumber query n
 has-owned num query n [] each has = absurd has
-has-owned num query n (run ∷ runs) each (inl e) = subst (λ q. IsOneOf q n) e.1 each.0
+has-owned num query n (run ∷ runs) each (inl e) = subst (λ q. IsRowNumber q n) e.1 each.0
 has-owned num query n (run ∷ runs) each (inr h) = has-owned num query n runs each.1 h
 
-pub run-within : (num query : ℕ) (runs : List RunRow) → RunsFrom 1 runs → HasRun num query runs → IsOneOf num (length runs)
+pub run-within : (num query : ℕ) (runs : List RunRow) → RunsFrom 1 runs → HasRun num query runs → IsRowNumber num (length runs)
 run-within num query runs from has = let bounds = has-bounds 1 num query runs from has in record { low = bounds.0; high = omega (arith, bounds.1) }
 
 -- a pick is added to its query
-pub pick-joins : (rows : List QueryRow) (runs : List RunRow) (before : List Pick) (pick : Pick) (queries new : List CachedQuery) (ordinals : List ℕ) → QueriesFrom 1 rows → RunsFrom 1 runs → IsOneOf pick.query.0 (length rows) → HasRun pick.run pick.query.0 runs
+pub pick-joins : (rows : List QueryRow) (runs : List RunRow) (before : List Pick) (pick : Pick) (queries new : List CachedQuery) (ordinals : List ℕ) → QueriesFrom 1 rows → RunsFrom 1 runs → IsRowNumber pick.query.0 (length rows) → HasRun pick.run pick.query.0 runs
     → queries ≡ map (cached_query (runs_alone runs before)) rows → ordinals ≡ map (ordinal_in runs) runs
     → ((d : CachedQuery) → new ≡ slice_set queries (pick.query.0 - 1) (with_entry (record { doc = pick.doc; first = pick.first; run = slice_index_or ordinals (pick.run - 1) 0 }) (slice_index_or queries (pick.query.0 - 1) d)))
     → new ≡ map (cached_query (runs_alone runs (before ++ pick ∷ []))) rows
@@ -172,7 +172,7 @@ pick-joins rows runs before pick queries new ordinals from numbered one has is n
     ∙ placed-set f g 1 (pick.query.0 - 1) rows t.q from t.has at (λ other differs. other-pick runs before pick other (λ e. differs (t.at ∙ e)))
 
 -- its document isn't among what its query has delivered
-pub pick-unseen : (rows : List QueryRow) (runs : List RunRow) (before : List Pick) (pick : Pick) (queries : List CachedQuery) (d : CachedQuery) → QueriesFrom 1 rows → IsOneOf pick.query.0 (length rows) → queries ≡ map (cached_query (runs_alone runs before)) rows
+pub pick-unseen : (rows : List QueryRow) (runs : List RunRow) (before : List Pick) (pick : Pick) (queries : List CachedQuery) (d : CachedQuery) → QueriesFrom 1 rows → IsRowNumber pick.query.0 (length rows) → queries ≡ map (cached_query (runs_alone runs before)) rows
     → list_any (picks_same pick) before ≡ false → is_in pick.doc.0 (slice_index_or queries (pick.query.0 - 1) d).entries ≡ false
 pick-unseen rows runs before pick queries d from one is once =
     let t = one-there pick.query.0 rows from one in
@@ -231,15 +231,15 @@ never-run (row ∷ rows) = ap (λ l. row ∷ l) (never-run rows)
 pub record RunAt (rows : List QueryRow) (runs : List RunRow) (i : ℕ) (d : RunRow) : Type 0 where
   pub from : RunsFrom 1 (take i runs)
   pub num : (slice_index_or runs i d).num ≡ i + 1
-  pub one : IsOneOf (slice_index_or runs i d).query.0 (length rows)
+  pub one : IsRowNumber (slice_index_or runs i d).query.0 (length rows)
   pub len : length (take i runs) ≡ i
 
-pub run-at : (rows : List QueryRow) (runs : List RunRow) (i n : ℕ) (d : RunRow) → RunsFrom 1 runs → Each (λ run. IsOneOf run.query.0 n) runs → length rows ≡ n → i < length runs → RunAt rows runs i d
+pub run-at : (rows : List QueryRow) (runs : List RunRow) (i n : ℕ) (d : RunRow) → RunsFrom 1 runs → Each (λ run. IsRowNumber run.query.0 n) runs → length rows ≡ n → i < length runs → RunAt rows runs i d
 run-at rows runs i n d from owned len lt =
     let parts = runs-split 1 i runs d from lt in
     record {
       from = parts.0;
       num = omega (arith, parts.1);
-      one = subst (λ n. IsOneOf (slice_index_or runs i d).query.0 n) (sym len) (each-at (λ run. IsOneOf run.query.0 n) i runs d owned lt);
+      one = subst (λ n. IsRowNumber (slice_index_or runs i d).query.0 n) (sym len) (each-at (λ run. IsRowNumber run.query.0 n) i runs d owned lt);
       len = length-before i runs lt;
     }

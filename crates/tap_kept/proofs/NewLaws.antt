@@ -12,7 +12,7 @@ use Rattle.tap_rows.specs.declared.results.Entry.{Entry}
 use Rattle.tap_rows.specs.Arrivals.{Arrived}
 use Rattle.tap_rows.specs.Deliveries.{picked, picks_of}
 use Rattle.tap_rows.specs.Kept.{In}
-use Rattle.tap_rows.specs.Results.{entry_at, hit_of, put_in, in_order, is_before, hits_by}
+use Rattle.tap_rows.specs.Results.{entry_at, hit_of, put_in, hits_in_order, is_before, hits_by}
 use Rattle.little_box.specs.Boxes.{is_in}
 use Rattle.tap_kept.specs.Keeping.{AreNew}
 use Rattle.tap_kept.specs.Starting.{picks_same, PicksAreDistinct}
@@ -58,13 +58,13 @@ put-new entries a (b ∷ hits) unseen apart new = go (is_before a b) refl (put-n
   go true is rest = (unseen, apart, new)
   go false is rest = (new.0, (λ other has. away other (put-out a other hits has)), rest)
 
-order-out : (h : Hit) (hits : List Hit) → In h (in_order hits) → In h hits
+order-out : (h : Hit) (hits : List Hit) → In h (hits_in_order hits) → In h hits
 order-out h [] has = has
-order-out h (x ∷ hits) has = elim (put-out x h (in_order hits) has) [ inl e ↦ inl e | inr i ↦ inr (order-out h hits i) ]
+order-out h (x ∷ hits) has = elim (put-out x h (hits_in_order hits) has) [ inl e ↦ inl e | inr i ↦ inr (order-out h hits i) ]
 
-order-new : (entries : List Entry) (hits : List Hit) → AreNew entries hits → AreNew entries (in_order hits)
+order-new : (entries : List Entry) (hits : List Hit) → AreNew entries hits → AreNew entries (hits_in_order hits)
 order-new entries [] new = tt
-order-new entries (hit ∷ hits) new = put-new entries hit (in_order hits) new.0 (λ other has. new.1 other (order-out other hits has)) (order-new entries hits new.2)
+order-new entries (hit ∷ hits) new = put-new entries hit (hits_in_order hits) new.0 (λ other has. new.1 other (order-out other hits has)) (order-new entries hits new.2)
 
 -- the hits of unseen documents
 module _ (entries : List Entry) (seen : Doc → Bool) (unseen : (doc : Doc) → seen doc ≡ false → is_in doc.num.0 entries ≡ false) (second : Doc → Option ℤ) where

@@ -29,7 +29,7 @@ use Rattle.tql_types.specs.declared.fault.TypeFault.{TypeFault}
 use Rattle.tql_types.specs.Scopes.{variable_named, first_scope, next_variable, variables_after}
 use Rattle.tql_types.specs.Sorts.{field_in, sort_of}
 use Rattle.tql_types.specs.Clocks.{clock_of, turned, half_line, times_core}
-use Rattle.tql_types.specs.Core.{binder_fault, inner_scope, first_fault, text_of, lowered, has_field, has_core, compare_core, core, typed}
+use Rattle.tql_types.specs.Core.{binder_fault, inner_scope, first_fault, text_or_empty, lowered, has_field, has_core, compare_core, core, typed}
 use Rattle.tql_text.specs.Texts.{of_typing, of_tree, of_tokens, condition_of}
 use Rattle.snapshot_meaning.specs.Seen.{exists_in}
 
@@ -113,7 +113,7 @@ within scope count (Exists name place table body) high fine =
     one-within (exists_in (core inner (next_variable count) body)) count (next_variable count) (variables_after (next_variable count) body) (up count (binder-fine scope count name place parts.0))
     (within inner (next_variable count) body (next-grows count high).1 parts.1)
 within scope count (Compare left op place right) high fine = none-within (exists_in (compare_core (sort_of scope left) scope left op right)) count (compare-none (sort_of scope left) scope left op right)
-within scope count (Has left place right) high fine = none-within (exists_in (has_core scope left (lowered (text_of scope right)))) count (has-none scope left (lowered (text_of scope right)))
+within scope count (Has left place right) high fine = none-within (exists_in (has_core scope left (lowered (text_or_empty scope right)))) count (has-none scope left (lowered (text_or_empty scope right)))
 
 typed-few : (s : Syntax) (c : Condition) → typed s ≡ Ok c → exists_in c ≤ 5
 typed-few s c e =

@@ -15,21 +15,21 @@ use Rattle.probe_eval.specs.Work.{total}
 use Rattle.wake_plan.specs.Marked.{IsPlain, marked_ahead}
 use Rattle.wake_plan.specs.Wakes.{wake_window}
 use Rattle.tap_model.specs.Asks.{window_of_second}
-use Rattle.tap_model.specs.Queries.{probes_from, probes_in, written_in}
+use Rattle.tap_model.specs.Queries.{probes_from, probes_of_query, written_in}
 use Rattle.tap_kept.specs.declared.cached_query.CachedQuery.{CachedQuery}
 use Rattle.tap_kept.specs.Keeping.{hits_since}
 
 -- no probe of the query as it is written has a mark in the window
-abbrev pub HasNoMark : Tables → Window → QueryRow → Type 0
-HasNoMark rows w query = (p : Probe) → In p (written_in query) → runs.HasNoMark rows w p
+abbrev pub NoProbeHasMark : Tables → Window → QueryRow → Type 0
+NoProbeHasMark rows w query = (p : Probe) → In p (written_in query) → runs.HasNoMark rows w p
 
 -- the path of each probe of the query is the document alone
 abbrev pub AreAlone : QueryRow → Type 0
-AreAlone query = (p : Probe) → In p (probes_in query) → runs.PathIsDocument p
+AreAlone query = (p : Probe) → In p (probes_of_query query) → runs.PathIsDocument p
 
 -- for each probe of the query a step for each document whose mark lies in the window, and the work of the body there
-abbrev pub rows_due : Tables → Window → QueryRow → ℕ
-rows_due rows w query = total (runs.rows_due rows w) (probes_in query)
+abbrev pub query_rows_due : Tables → Window → QueryRow → ℕ
+query_rows_due rows w query = total (runs.rows_due rows w) (probes_of_query query)
 
 -- the window of a query's next run, by what is in memory: from the second that it has covered up to a moment
 abbrev pub window_since : CachedQuery → ℤ → Window
@@ -41,7 +41,7 @@ probe_work rows w p = seek_cost rows w p (order_of p.path p.at.base) (seek_of p.
 
 -- the steps that the probes of the query may take in a window
 abbrev pub query_work : Tables → Window → QueryRow → ℕ
-query_work rows w query = total (probe_work rows w) (probes_in query)
+query_work rows w query = total (probe_work rows w) (probes_of_query query)
 
 -- from the second that the query has covered up to and with the least mark at which a run would deliver
 abbrev pub window_ahead : CachedQuery → Tables → Window
@@ -49,15 +49,15 @@ window_ahead kept rows = wake_window kept.covered (hits_since kept rows (pos LAS
 
 -- the steps up to that mark, and one for each probe
 abbrev pub work_ahead : CachedQuery → Tables → ℕ
-work_ahead kept rows = length (probes_in kept.row) + query_work rows (window_ahead kept rows) kept.row
+work_ahead kept rows = length (probes_of_query kept.row) + query_work rows (window_ahead kept rows) kept.row
 
 -- the path of each probe of the query is the document alone, and no EXISTS stands in its body
 abbrev pub ArePlain : QueryRow → Type 0
-ArePlain query = (p : Probe) → In p (probes_in query) → IsPlain p
+ArePlain query = (p : Probe) → In p (probes_of_query query) → IsPlain p
 
 -- the rows marked up to that mark, and one for each probe
 abbrev pub marks_ahead : CachedQuery → Tables → ℕ
-marks_ahead kept rows = marked_ahead rows (window_ahead kept rows) (probes_in kept.row)
+marks_ahead kept rows = marked_ahead rows (window_ahead kept rows) (probes_of_query kept.row)
 
 -- the steps that a question may take: those of a run of its second
 abbrev pub ask_work : Tables → Condition → ℤ → ℕ

@@ -2,7 +2,7 @@
 use Rattle.std.specs.Prelude.{⊤, ℕ, zero, suc, ◌≡◌, ℤ, ◌+◌, List, [], ◌∷◌, ◌++◌, length, take, filter, find}
 use Rattle.std.specs.Prelude.{slice_index_or, slice_set, Option, false, if◌then◌else◌}
 use Rattle.std.specs.Str.{bytes_eq}
-use Rattle.tap_base.specs.Words.{holds}
+use Rattle.tap_base.specs.Words.{has_text}
 use Rattle.tap_rows.specs.declared.tables.Tables.{Tables}
 use Rattle.tap_rows.specs.declared.rows.QueryRow.{QueryRow}
 use Rattle.tap_rows.specs.declared.results.Entry.{Entry}
@@ -14,7 +14,7 @@ use Rattle.tap_rows.specs.Deliveries.{delivered}
 use Rattle.tap_rows.specs.Kept.{In}
 use Rattle.little_box.specs.Boxes.{is_in}
 use Rattle.tap_kept.specs.declared.cached_query.CachedQuery.{CachedQuery}
-use Rattle.tap_model.specs.Queries.{start_of, probes_in}
+use Rattle.tap_model.specs.Queries.{start_of, probes_of_query}
 use Rattle.tap_rows.specs.WellFormed.{is_query_of}
 
 -- what the tables say of a query: its row, the second that its runs have covered up to, how many they are, and what they
@@ -49,7 +49,7 @@ before_run second runs entries kept = record { row = kept.row; covered = second;
 
 -- what a run of a query at a moment delivers: what its window query finds since the last run, without what was delivered
 abbrev pub hits_since : CachedQuery → Tables → ℤ → List Hit
-hits_since kept rows moment = meaning_without (was_seen kept.entries) (probes_in kept.row) rows (record { low = kept.covered; high = moment })
+hits_since kept rows moment = meaning_without (was_seen kept.entries) (probes_of_query kept.row) rows (record { low = kept.covered; high = moment })
 
 -- no hit is of a document among these entries, and no two are of one document
 abbrev pub AreNew : List Entry → List Hit → Type 0
@@ -65,7 +65,7 @@ without_run (suc place) second runs entries (kept ∷ queries) = kept ∷ withou
 
 -- the owners, with one that may be among them
 abbrev pub with_owner : List (List ℕ) → List ℕ → List (List ℕ)
-with_owner owners owner = if holds owners owner then owners else owners ++ owner ∷ []
+with_owner owners owner = if has_text owners owner then owners else owners ++ owner ∷ []
 
 -- the query at a place is so; without such a place, any query is
 abbrev pub HoldsAt : ℕ → (CachedQuery → Type 0) → List CachedQuery → Type 0

@@ -53,7 +53,7 @@ PicksAreDistinct earlier [] = Unit {0}
 PicksAreDistinct earlier (pick ∷ picks) = (list_any (picks_same pick) earlier ≡ false) × PicksAreDistinct (earlier ++ pick ∷ []) picks
 
 -- the number of one of so many rows
-pub record IsOneOf (num count : ℕ) : Type 0 where
+pub record IsRowNumber (num count : ℕ) : Type 0 where
   pub low : 1 ≤ num
   pub high : num ≤ count
 

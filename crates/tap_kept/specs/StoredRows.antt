@@ -17,7 +17,7 @@ pub record AreDeliveries (runs : List RunRow) (picks : List Pick) : Type 0 where
   pub once : PicksAreDistinct [] picks
 
 -- stored queries with the conditions of their texts, each of which arrived at a moment
-pub record AreRead (rows : List QueryRow) (conditions : List Cond) : Type 0 where
+pub record HaveConditions (rows : List QueryRow) (conditions : List Cond) : Type 0 where
   pub conds : readings_of rows ≡ as_read conditions
   pub arrivals : Each (λ row. IsMoment row.arrival) rows
 

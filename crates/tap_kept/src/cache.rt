@@ -9,8 +9,8 @@ ghost use Rattle.restart_core.specs.Readings.{reading_of};
 ghost use Rattle.tap_model.specs.Sound.{IsMoment};
 ghost use Rattle.tap_kept.specs.declared.start_fault.StartFault.{StartFault as Fault};
 ghost use Rattle.tap_kept.specs.Keeping.{cached_query, never_run};
-ghost use Rattle.tap_kept.specs.Starting.{is_unread, first_unread, runs_alone, IsOneOf};
-ghost use Rattle.tap_kept.specs.StoredRows.{AreRead, AreDeliveries};
+ghost use Rattle.tap_kept.specs.Starting.{is_unread, first_unread, runs_alone, IsRowNumber};
+ghost use Rattle.tap_kept.specs.StoredRows.{HaveConditions, AreDeliveries};
 
 use crate::cached_filter::CachedFilter;
 use crate::cached_queries::CachedQueries;
@@ -41,7 +41,7 @@ fn push_queries(
     rows: Rows<QueryRow>,
     conds: Vec<Cond>,
 ) -> Result<(), Memory>
-    requires read { AreRead rows conds.items }
+    requires read { HaveConditions rows conds.items }
     ensures { OnOk result (queries.new ≡ queries.old ++ map never_run rows) }
 {
     for (row, cond) in rows.into_vec().into_iter().zip(conds) {
@@ -60,9 +60,9 @@ fn fill_queries(
     picks: &[Pick],
 ) -> Result<(), Memory>
     requires none { queries.old ≡ [] }
-    requires read { AreRead rows conds.items }
+    requires read { HaveConditions rows conds.items }
     requires numbered { QueriesFrom 1 rows }
-    requires owned { Each (λ run. IsOneOf run.query.0 (length rows)) runs.now }
+    requires owned { Each (λ run. IsRowNumber run.query.0 (length rows)) runs.now }
     requires deliveries { AreDeliveries runs.now picks.now }
     ensures { OnOk result (queries.new ≡ map (cached_query (runs_alone runs.now picks.now)) rows) }
 {
@@ -79,9 +79,9 @@ pub fn cache_delivered(
     runs: &[RunRow],
     picks: &[Pick],
 ) -> Result<CachedQueries, Memory>
-    requires read { AreRead rows conds.items }
+    requires read { HaveConditions rows conds.items }
     requires numbered { QueriesFrom 1 rows }
-    requires owned { Each (λ run. IsOneOf run.query.0 (length rows)) runs.now }
+    requires owned { Each (λ run. IsRowNumber run.query.0 (length rows)) runs.now }
     requires deliveries { AreDeliveries runs.now picks.now }
     ensures { IfOk result (λ queries. queries ≡ map (cached_query (runs_alone runs.now picks.now)) rows) }
 {

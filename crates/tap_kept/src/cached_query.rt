@@ -34,7 +34,7 @@ impl CachedQuery {
     ghost use Rattle.tap_kept.specs.Keeping.{never_run, after_run, before_run, hits_since, AreNew};
     ghost use Rattle.tap_kept.specs.Starting.{with_entry};
     ghost use Rattle.tap_kept.specs.Lines.{last_run, cached_state};
-    ghost use Rattle.tap_kept.specs.Costs.{HasNoMark, AreAlone, ArePlain, rows_due, query_work, work_ahead, marks_ahead, window_since};
+    ghost use Rattle.tap_kept.specs.Costs.{NoProbeHasMark, AreAlone, ArePlain, query_rows_due, query_work, work_ahead, marks_ahead, window_since};
 
     /// Makes a query that was never run: it has covered the seconds up to its start.
     pub fn new(alloc: Global, row: PlannedQuery) -> CachedQuery
@@ -65,8 +65,8 @@ impl CachedQuery {
         ensures new { AreNew self.now.entries hits.new.hits }
         ensures room { hits.new.room ≡ hits.old.room }
         ensures steps { steps.new ≤ steps.old + query_work index.now (window_since self.now moment) self.now.row }
-        ensures quiet { HasNoMark index.now (window_since self.now moment) self.now.row → steps.new ≡ steps.old }
-        ensures due { AreAlone self.now.row → steps.new ≤ steps.old + rows_due index.now (window_since self.now moment) self.now.row }
+        ensures quiet { NoProbeHasMark index.now (window_since self.now moment) self.now.row → steps.new ≡ steps.old }
+        ensures due { AreAlone self.now.row → steps.new ≤ steps.old + query_rows_due index.now (window_since self.now moment) self.now.row }
     {
         // This call only brings the order of the documents into scope, for the clause `new`.
         let _docs = index.docs();

@@ -4,7 +4,7 @@ ghost use Rattle.std.specs.Prelude.{◌≡◌, ◌+◌, ◌-◌, ◌^◌, ◌<�
 ghost use Rattle.little_box.specs.Boxes.{is_in};
 ghost use Rattle.tap_rows.specs.Kept.{Each, RunsFrom, QueriesFrom};
 ghost use Rattle.tap_kept.specs.Keeping.{cached_query, never_run, after_run, HoldsAt, ChangesAt};
-ghost use Rattle.tap_kept.specs.Starting.{rows_in, runs_alone, ordinal_in, with_entry, IsOneOf};
+ghost use Rattle.tap_kept.specs.Starting.{rows_in, runs_alone, ordinal_in, with_entry, IsRowNumber};
 ghost use Rattle.tap_kept.specs.StoredRows.{AreDeliveries};
 
 use crate::cached_queries::CachedQueries;
@@ -23,7 +23,7 @@ fn ordinal_after(runs: usize, num: u32) -> u32
 
 // Adds a run to its query, and gives its ordinal among that query's runs.
 fn add_run(queries: &mut CachedQueries, run: &RunRow) -> Result<u32, Memory>
-    requires query { IsOneOf run.now.query.0 (length queries.old) }
+    requires query { IsRowNumber run.now.query.0 (length queries.old) }
     requires few { HoldsAt (run.now.query.0 - 1) (λ query. query.runs + 1 ≤ run.now.num) queries.old }
     ensures ordinal { IfOk result (λ ordinal. HoldsAt (run.now.query.0 - 1) (λ query. ordinal ≡ query.runs + 1) queries.old) }
     ensures queries { OnOk result (ChangesAt (run.now.query.0 - 1) (after_run run.now.moment []) queries.old queries.new) }
@@ -39,7 +39,7 @@ fn add_runs(alloc: Global, queries: &mut CachedQueries, runs: &[RunRow]) -> Resu
     requires numbered { QueriesFrom 1 (rows_in queries.old) }
     requires fresh { queries.old ≡ map never_run (rows_in queries.old) }
     requires runs { RunsFrom 1 runs.now }
-    requires owned { Each (λ run. IsOneOf run.query.0 (length queries.old)) runs.now }
+    requires owned { Each (λ run. IsRowNumber run.query.0 (length queries.old)) runs.now }
     ensures queries { OnOk result (queries.new ≡ map (cached_query (runs_alone runs.now [])) (rows_in queries.old)) }
     ensures ordinals { IfOk result (λ ordinals. ordinals.items ≡ map (ordinal_in runs.now) runs.now) }
 {
@@ -52,8 +52,8 @@ fn add_runs(alloc: Global, queries: &mut CachedQueries, runs: &[RunRow]) -> Resu
 
 // Adds a pick as an entry to its query. The entry has the ordinal of the pick's run, which `ordinals` has at that run's place.
 fn add_pick(queries: &mut CachedQueries, ordinals: &[u32], pick: &Pick) -> Result<(), Memory>
-    requires query { IsOneOf pick.now.query.0 (length queries.old) }
-    requires run { IsOneOf pick.now.run (length ordinals.now) }
+    requires query { IsRowNumber pick.now.query.0 (length queries.old) }
+    requires run { IsRowNumber pick.now.run (length ordinals.now) }
     requires unseen { HoldsAt (pick.now.query.0 - 1) (λ query. is_in pick.now.doc.0 query.entries ≡ false) queries.old }
     ensures { OnOk result (ChangesAt (pick.now.query.0 - 1)
         (with_entry (record {
@@ -82,7 +82,7 @@ pub(crate) fn deliver(
 ) -> Result<(), Memory>
     requires numbered { QueriesFrom 1 (rows_in queries.old) }
     requires fresh { queries.old ≡ map never_run (rows_in queries.old) }
-    requires owned { Each (λ run. IsOneOf run.query.0 (length queries.old)) runs.now }
+    requires owned { Each (λ run. IsRowNumber run.query.0 (length queries.old)) runs.now }
     requires deliveries { AreDeliveries runs.now picks.now }
     ensures { OnOk result (queries.new ≡ map (cached_query (runs_alone runs.now picks.now)) (rows_in queries.old)) }
 {

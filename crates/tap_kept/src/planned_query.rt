@@ -8,7 +8,7 @@ ghost use Rattle.time_marks.specs.Views.{ranged_probes};
 ghost use Rattle.monotone_rewrite.specs.Query.{CanRewriteFrom};
 ghost use Rattle.probe_eval.specs.Runs.{HasValidProbes};
 ghost use Rattle.tap_rows.specs.declared.rows.QueryRow.{QueryRow};
-ghost use Rattle.tap_model.specs.Queries.{condition_by, start_of, probes_from, probes_in, lines_of};
+ghost use Rattle.tap_model.specs.Queries.{condition_by, start_of, probes_from, probes_of_query, lines_of};
 ghost use Rattle.tap_model.specs.Sound.{IsMoment};
 
 use access_plan::{Plan, plan};
@@ -38,7 +38,7 @@ impl Model for PlannedQuery {
     ghost view = { λ kept. kept.row };
 
     ghost invariant = { λ kept. (kept.start ≡ start_of kept.row)
-        × ((ranged_probes kept.plan.query ≡ probes_in kept.row) × HasValidProbes kept.plan.query)
+        × ((ranged_probes kept.plan.query ≡ probes_of_query kept.row) × HasValidProbes kept.plan.query)
         × ((condition kept.cond ≡ condition_by kept.row)
         × CanRewriteFrom (condition kept.cond) kept.start) };
 }
@@ -100,7 +100,7 @@ impl PlannedQuery {
 
     /// Gives the plan of its window query.
     pub fn plan(&self) -> &Plan
-        ensures query { ranged_probes result.now.query ≡ probes_in self.now }
+        ensures query { ranged_probes result.now.query ≡ probes_of_query self.now }
         ensures probes { HasValidProbes result.now.query }
     {
         &self.plan

@@ -20,7 +20,7 @@ use Rattle.tap_model.specs.declared.session.Session.{Session}
 use Rattle.tap_model.specs.Sessions.{or_empty, user_of, last_moment, greatest_moment}
 use Rattle.tap_model.specs.Queries.{query_named, owned_queries}
 use Rattle.tap_model.specs.Limits.{limit_refusal, queries_of, stored_bytes, different, owners_in, new_users}
-use Rattle.tap_model.specs.Verdicts.{first_refusal, verdict, checks, lookup_checks, missing, refuse_unless, is_back, taken, no_query, no_run, runs_found, text_of, delivers, messages_of, bytes_of}
+use Rattle.tap_model.specs.Verdicts.{first_refusal, verdict, checks, lookup_checks, missing, refuse_unless, is_back, taken, no_query, no_run, runs_found, block_text, delivers, messages_of, bytes_of_all}
 use Rattle.tap_model.specs.Privacy.{is_shared, is_user, concerns}
 use Rattle.tap_model.proofs.ViewLaws.{Core, core_of, cores, source_in, named-core}
 use Rattle.tap_model.proofs.CoreLaws.{same-text}
@@ -147,8 +147,8 @@ lookup-alike Count s t o = tt
 pub checks-alike : (c : Command) (user : List ℕ) (s : Session) (t o : Tables) (m : ℤ) → s.moment ≡ Some m → concerns user s c ≡ true → AreTwins user t o → AreAlike (checks c s t) (checks c s (twin t o))
 checks-alike (At text) user s t o m at by twins = (inl refl, (inl (back-same s t o m (moment_of text) at), tt))
 checks-alike (AsUser name) user s t o m at by twins = absurd (no-true by)
-checks-alike (Mail block) user s t o m at by twins = (inl refl, (inl refl, (inl refl, (inr (store-may t o (length (text_of block))), tt))))
-checks-alike (Mbox block) user s t o m at by twins = (inl refl, (inl refl, (inl refl, (inl refl, (inr (store-may t o (bytes_of (messages_of block))), tt)))))
+checks-alike (Mail block) user s t o m at by twins = (inl refl, (inl refl, (inl refl, (inr (store-may t o (length (block_text block))), tt))))
+checks-alike (Mbox block) user s t o m at by twins = (inl refl, (inl refl, (inl refl, (inl refl, (inr (store-may t o (bytes_of_all (messages_of block))), tt)))))
 checks-alike (AddNote doc kind value text) user s t o m at by twins = (inl refl, (inl refl, (inl refl, (inl refl, (inl refl, (inl refl, (inr (store-may t o (length text)), tt)))))))
 checks-alike (Define name source) user s t o m at by twins =
     let own = own-twins user s t o by twins in
@@ -158,7 +158,7 @@ checks-alike (Run name) user s t o m at by twins =
     (inl refl, (inl refl, (inl refl, (inl (missing-same s name t o own), (inr (both-may Runs run_limit (length t.runs) (length o.runs) 1 1 refl), (inr (both-may Picks pick_limit (length t.picks) (length o.picks) (delivers s name t) (delivers s name (twin t o)) refl), tt))))))
 checks-alike (BoxOf name) user s t o m at by twins = (inl refl, (inl refl, (inl (missing-same s name t o (own-twins user s t o by twins)), tt)))
 checks-alike (ListOf name) user s t o m at by twins = (inl refl, (inl refl, (inl (missing-same s name t o (own-twins user s t o by twins)), tt)))
-checks-alike (Filter block) user s t o m at by twins = (inl refl, (inl refl, (inl refl, (inr (users-may (user_of s) t o), (inr (both-may Filters filter_limit (length t.filters) (length o.filters) 1 1 refl), (inr (store-may t o (length (text_of block))), (inl refl, tt)))))))
+checks-alike (Filter block) user s t o m at by twins = (inl refl, (inl refl, (inl refl, (inr (users-may (user_of s) t o), (inr (both-may Filters filter_limit (length t.filters) (length o.filters) 1 1 refl), (inr (store-may t o (length (block_text block))), (inl refl, tt)))))))
 checks-alike (Explain name) user s t o m at by twins = (inl refl, (inl refl, (inl (missing-same s name t o (own-twins user s t o by twins)), tt)))
 checks-alike (Ask moment source) user s t o m at by twins = (inl refl, (inl refl, (inl refl, (inl refl, tt))))
 checks-alike (Wake name) user s t o m at by twins = (inl refl, (inl refl, (inl refl, (inl (missing-same s name t o (own-twins user s t o by twins)), tt))))

@@ -5,7 +5,7 @@ use Rattle.tap_rows.specs.declared.rows.QueryRow.{QueryRow}
 use Rattle.tap_rows.specs.Kept.{In, IsOfTheSecond}
 use Rattle.tql_core.proofs.OfTheSecond.{of-the-second}
 use Rattle.script_lang.specs.declared.refusal.Refusal.{Refusal}
-use Rattle.tap_model.specs.Queries.{condition_by, truth_of}
+use Rattle.tap_model.specs.Queries.{condition_by, query_truth}
 use Rattle.tap_model.specs.Verdicts.{first_refusal}
 
 pub some-none : (x : Refusal) → Some x ≡ None → ⊥
@@ -32,5 +32,5 @@ second-none (Some x) None rest e = refl
 second-none (Some x) (Some y) rest e = absurd (some-none x e)
 
 -- a query's truth looks at nothing but the documents and notes that arrived by its second
-pub truth-of-second : (q : QueryRow) → IsOfTheSecond (truth_of q)
+pub truth-of-second : (q : QueryRow) → IsOfTheSecond (query_truth q)
 truth-of-second q = of-the-second (condition_by q)

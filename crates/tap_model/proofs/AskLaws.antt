@@ -9,7 +9,7 @@ use Rattle.tap_rows.specs.declared.tables.Tables.{Tables}
 use Rattle.tap_rows.specs.declared.rows.Doc.{Doc}
 use Rattle.tap_rows.specs.declared.results.Hit.{Hit}
 use Rattle.tap_rows.specs.Arrivals.{Arrived}
-use Rattle.tap_rows.specs.Results.{Truth, is_given, first_second, is_before, put_in, in_order, hit_of, hits_by, at_least}
+use Rattle.tap_rows.specs.Results.{Truth, is_given, first_second, is_before, put_in, hits_in_order, hit_of, hits_by, at_least}
 use Rattle.tap_rows.proofs.SecondsLaws.{least_second-is, least_second-never}
 use Rattle.tql_core.specs.Holds.{truth_of}
 use Rattle.time_marks.specs.declared.window.Window.{Window}
@@ -58,13 +58,13 @@ module _ (g : Doc → Bool) (s : ℤ) where
       rw before refl
 
   stand : (num : ℕ) (low : ℤ) (docs : List Doc) → Arrived num low docs
-      → in_order (filter_map (λ d. hit_of d (if g d then Some s else None)) docs)
+      → hits_in_order (filter_map (λ d. hit_of d (if g d then Some s else None)) docs)
       ≡ filter_map (λ d. hit_of d (if g d then Some s else None)) docs
   stand num low [] arrived = refl
   stand num low (d ∷ docs) arrived =
       let rest = stand (suc num) d.arrival docs arrived.2 in
       let hits = filter_map (λ d. hit_of d (if g d then Some s else None)) docs in
-      elim (g d) as (λ b. in_order (cons_option (hit_of d (if b then Some s else None)) hits)
+      elim (g d) as (λ b. hits_in_order (cons_option (hit_of d (if b then Some s else None)) hits)
       ≡ cons_option (hit_of d (if b then Some s else None)) hits) [
         | true ↦ ap (put_in (record { doc = d.num; first = s })) rest
             ∙ put_first (record { doc = d.num; first = s }) (suc num) hits refl (omega (arith, arrived.1))

@@ -13,7 +13,7 @@ use Rattle.tap_rows.specs.Results.{runs_of, run_moments}
 use Rattle.tap_rows.specs.Kept.{Each, QueriesFrom, IsKept}
 use Rattle.tap_rows.proofs.LaterLaws.{filter-none, each-map}
 use Rattle.tap_rows.proofs.PlaceLaws.{moments-new, moments-other, query-bounds, runs-none}
-use Rattle.tap_model.specs.Queries.{truth_of, start_of}
+use Rattle.tap_model.specs.Queries.{query_truth, start_of}
 use Rattle.tap_rows.specs.WellFormed.{is_query_of}
 use Rattle.tap_model.specs.Filters.{last_filter}
 use Rattle.std.proofs.lemmas.List.{reverse-append}
@@ -32,7 +32,7 @@ less : (n : ℕ) (runs : List RunRow) → Each (λ run. run.query.0 ≤ n) runs 
 less n runs each = each-map (λ run. run.query.0 ≤ n) (λ run. run.query.0 < n + 1) runs (λ run le. omega (arith, le)) each
 
 -- a query of the user has no run yet
-pub cores-new : (user : List ℕ) (t : Tables) (q : QueryRow) → IsKept truth_of start_of t → q.num.0 ≡ length t.queries + 1 → bytes_eq q.owner user ≡ true
+pub cores-new : (user : List ℕ) (t : Tables) (q : QueryRow) → IsKept query_truth start_of t → q.num.0 ≡ length t.queries + 1 → bytes_eq q.owner user ≡ true
     → cores user t.runs (t.queries ++ q ∷ []) ≡ cores user t.runs t.queries ++ record { name = q.name; source = q.source; arrival = q.arrival; runs = [] } ∷ []
 cores-new user t q kept is own =
     let none : runs_of q.num.0 t.runs ≡ [] = runs-none q.num.0 t.runs (subst (λ n. Each (λ run. run.query.0 < n) t.runs) (sym is) (less (length t.queries) t.runs kept.owned)) in

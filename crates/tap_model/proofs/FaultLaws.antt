@@ -17,7 +17,7 @@ use Rattle.tql_types.specs.declared.scope.Variable.{Variable}
 use Rattle.tql_types.specs.declared.field.Field.{Field}
 use Rattle.tql_types.specs.declared.fault.TypeFault.{TypeFault}
 use Rattle.tql_types.specs.declared.fault.TypeFault.TheVariants.{Clash, Shadow, BadTime, BigSpan, ManyVars, ManyNodes, Memory}
-use Rattle.tql_types.specs.Faults.{place_of, sooner}
+use Rattle.tql_types.specs.Faults.{type_fault_place, sooner}
 use Rattle.tql_types.specs.Fields.{field_named, is_time}
 use Rattle.tql_types.specs.Scopes.{variable_named, first_scope, next_variable, variables_after}
 use Rattle.tql_types.specs.Spans.{span_of, span_fault, shift_fault}
@@ -51,7 +51,7 @@ calm fault = true
 sooner-calm : (a b : Option TypeFault) → calm a ≡ true → calm b ≡ true → calm (sooner a b) ≡ true
 sooner-calm None b x y = y
 sooner-calm (Some f) None x y = x
-sooner-calm (Some f) (Some g) x y = elim (nat_le (place_of f) (place_of g)) as (λ b. calm (if b then Some f else Some g) ≡ true) [ true ↦ x | false ↦ y ]
+sooner-calm (Some f) (Some g) x y = elim (nat_le (type_fault_place f) (type_fault_place g)) as (λ b. calm (if b then Some f else Some g) ≡ true) [ true ↦ x | false ↦ y ]
 
 span-calm : (shift : Option Shift) → calm (span_fault shift) ≡ true
 span-calm None = refl

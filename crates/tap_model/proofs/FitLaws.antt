@@ -27,8 +27,8 @@ use Rattle.script_lang.specs.declared.refusal.LimitName.TheVariants.{Message}
 use Rattle.restart_core.specs.Starts.{stored_source}
 use Rattle.tap_model.specs.declared.session.Session.{Session}
 use Rattle.tap_model.specs.Sessions.{moment_or_zero, or_zero, or_empty, user_of}
-use Rattle.tap_model.specs.Queries.{truth_of, start_of, query_named}
-use Rattle.tap_model.specs.Verdicts.{verdict, checks, first_refusal, missing, refuse_unless, bad_name, too_long, are_short, no_doc, text_of, messages_of}
+use Rattle.tap_model.specs.Queries.{query_truth, start_of, query_named}
+use Rattle.tap_model.specs.Verdicts.{verdict, checks, first_refusal, missing, refuse_unless, bad_name, too_long, are_short, no_doc, block_text, messages_of}
 use Rattle.tap_model.specs.Replies.{Answer, answer_of, answer_by, accepted, set_moment, docs_from, next_docs, some_docs, next_note, next_query, next_filter, run_query, show_box, show_list, show_lines, show_wake, show_digest, ask_at}
 use Rattle.tap_model.specs.Sound.{IsSoundFor, IsNow, IsMoment, IsUser}
 use Rattle.tap_model.proofs.AnswerLaws.{some-none, find-in}
@@ -107,7 +107,7 @@ texts-fit texts session tables at none short =
     let now = at-moment_or_zero tables session at none in
     docs-fit (length tables.docs + 1) (low_of (λ doc. doc.arrival) tables.docs) (moment_or_zero session) texts (low-by (λ doc. doc.arrival) (moment_or_zero session) tables.docs now.0.0 now.1.docs) now.0.1 short
 
-mail-short : (block : Block) → too_long block ≡ None → are_short (text_of block ∷ []) ≡ true
+mail-short : (block : Block) → too_long block ≡ None → are_short (block_text block ∷ []) ≡ true
 mail-short Long e = refl
 mail-short (Whole text) e = and_from _ _ (refuse_unless-holds (nat_le (length text) message_limit) (Limit Message) e) refl
 
@@ -144,11 +144,11 @@ filter-fit source session tables at is none user =
     and_from _ _ (and_from _ _ (same-num (length tables.filters + 1)) (behind (λ filter. filter.arrival) (moment_or_zero session) tables.filters now.0 now.1.filters)) (named session.user is user)
 
 -- a run, in which each document is delivered for the first time
-run-fit : (session : Session) (tables : Tables) (query : Option QueryRow) → ((q : QueryRow) → query ≡ Some q → In q tables.queries) → IsKept truth_of start_of tables → IsNow session.moment tables → missing NoMoment session.moment ≡ None → Fit tables (run_query query session tables)
+run-fit : (session : Session) (tables : Tables) (query : Option QueryRow) → ((q : QueryRow) → query ≡ Some q → In q tables.queries) → IsKept query_truth start_of tables → IsNow session.moment tables → missing NoMoment session.moment ≡ None → Fit tables (run_query query session tables)
 run-fit session tables None has kept at none change e = absurd (no-change change e)
 run-fit session tables (Some q) has kept at none change e =
     let now = at-moment_or_zero tables session at none in
-    made tables (run_change (truth_of q) (start_of q) tables q.num (moment_or_zero session)) change (run-fits truth_of start_of (moment_or_zero session) tables q kept now.1 now.0.0 now.0.1 (has q refl)) e
+    made tables (run_change (query_truth q) (start_of q) tables q.num (moment_or_zero session)) change (run-fits query_truth start_of (moment_or_zero session) tables q kept now.1 now.0.0 now.0.1 (has q refl)) e
 
 moment-fit : (second : Option ℤ) (session : Session) (tables : Tables) → Fit tables (set_moment second session)
 moment-fit None session tables change e = absurd (no-change change e)
@@ -183,7 +183,7 @@ command-fits (Bad refusal) session tables sound pass change e = absurd (no-chang
 command-fits (At text) session tables sound pass change e = moment-fit (moment_of text) session tables change e
 command-fits (AsUser name) session tables sound pass change e = absurd (no-change change e)
 command-fits (Mail block) session tables sound pass change e =
-    some-fit tables (next_docs tables (moment_or_zero session) (text_of block ∷ [])) change (texts-fit (text_of block ∷ []) session tables sound.now pass.0 (mail-short block pass.1.0)) e
+    some-fit tables (next_docs tables (moment_or_zero session) (block_text block ∷ [])) change (texts-fit (block_text block ∷ []) session tables sound.now pass.0 (mail-short block pass.1.0)) e
 command-fits (Define name source) session tables sound pass change e =
     made tables (OneQuery (next_query tables session name (stored_source source))) change (query-fit name (stored_source source) session tables sound.now sound.user pass.0 pass.1.0 pass.1.1.0 pass.1.1.1.0) e
 command-fits (Run name) session tables sound pass change e =
@@ -195,7 +195,7 @@ command-fits (AddNote doc kind value text) session tables sound pass change e =
     made tables (OneNote (next_note tables session doc kind value text)) change (note-fit doc kind value text session tables sound.now sound.user pass.0 pass.1.0 pass.1.1.0 pass.1.1.1.0) e
 command-fits (ListOf name) session tables sound pass change e = list-fit (query_named (user_of session) name tables) name session tables change e
 command-fits (Filter block) session tables sound pass change e =
-    made tables (OneFilter (next_filter tables session (text_of block))) change (filter-fit (text_of block) session tables sound.now sound.user pass.0 pass.1.0) e
+    made tables (OneFilter (next_filter tables session (block_text block))) change (filter-fit (block_text block) session tables sound.now sound.user pass.0 pass.1.0) e
 command-fits (Explain name) session tables sound pass change e = lines-fit (query_named (user_of session) name tables) name session tables change e
 command-fits (Ask moment source) session tables sound pass change e = ask-fit (moment_of moment) source session tables change e
 command-fits (Wake name) session tables sound pass change e = wake-fit (query_named (user_of session) name tables) name session tables change e

@@ -25,16 +25,16 @@ use Rattle.script_lang.specs.declared.refusal.Refusal.TheVariants.{BadMoment, Ba
 use Rattle.tap_model.specs.declared.session.Session.{Session}
 use Rattle.restart_core.specs.Starts.{is_from_now, stored_source}
 use Rattle.tap_model.specs.Sessions.{moment_or_zero, or_zero, user_of, later_of, greatest_of, moments_in, greatest_moment, last_moment}
-use Rattle.tap_model.specs.Queries.{truth_of, start_of, query_named}
+use Rattle.tap_model.specs.Queries.{query_truth, start_of, query_named}
 use Rattle.tap_rows.specs.WellFormed.{is_query_of}
-use Rattle.tap_model.specs.Verdicts.{verdict, first_refusal, missing, refuse_unless, is_back, text_of, messages_of}
+use Rattle.tap_model.specs.Verdicts.{verdict, first_refusal, missing, refuse_unless, is_back, block_text, messages_of}
 use Rattle.tap_model.specs.Replies.{Answer, answer_of, answer_by, accepted, tables_after, set_moment, next_doc, next_note, next_query, next_filter, run_query, show_box, show_list, show_lines, show_wake, show_digest, ask_at, docs_from, next_docs, some_docs, add_mbox}
 use Rattle.tap_model.specs.Sound.{IsNow, IsMoment}
 use Rattle.tap_model.proofs.AnswerLaws.{truth-of-second, find-in, second-none}
 
 -- the tables are kept, if that is asked, and no row is of a time after the session's moment
 pub record Held (Asked : Type 0) (tables : Tables) (session : Session) : Type 0 where
-  pub kept : Asked → IsKept truth_of start_of tables
+  pub kept : Asked → IsKept query_truth start_of tables
   pub now : IsNow session.moment tables
 
 -- what an answer leaves is held
@@ -166,12 +166,12 @@ mail-held : {Asked : Type 0} (block : Block) (session : Session) (tables : Table
 mail-held block session tables held there =
     let m = there.m in
     let now = now-at tables session m there.is held in
-    let doc : Doc = next_doc tables (moment_or_zero session) (text_of block) in
+    let doc : Doc = next_doc tables (moment_or_zero session) (block_text block) in
     let at : doc.arrival ≡ m = ap or_zero there.is in
     let le : doc.arrival ≤ℤ m = subst (λ z. z ≤ℤ m) (sym at) (omega (arith, ints)) in
     let ge : m ≤ℤ doc.arrival = subst (λ z. m ≤ℤ z) (sym at) (omega (arith, ints)) in
     record {
-      kept = λ asked. kept-docs truth_of start_of truth-of-second m tables (doc ∷ []) (held.kept asked) now.1 (ge, tt) (arrived-more 1 (pos 0) m tables.docs doc (held.kept asked).docs now.1.docs now.0.0 at (omega arith));
+      kept = λ asked. kept-docs query_truth start_of truth-of-second m tables (doc ∷ []) (held.kept asked) now.1 (ge, tt) (arrived-more 1 (pos 0) m tables.docs doc (held.kept asked).docs now.1.docs now.0.0 at (omega arith));
       now = subst (λ moment. IsNow moment (after tables (Docs (doc ∷ [])))) (sym there.is) (
         now.0,
         record {
@@ -207,7 +207,7 @@ docs-held [] m session tables held is by from arrived = held
 docs-held (doc ∷ docs) m session tables held is by from arrived =
     let now = now-at tables session m is held in
     record {
-      kept = λ asked. kept-docs truth_of start_of truth-of-second m tables (doc ∷ docs) (held.kept asked) now.1 from (arrived asked);
+      kept = λ asked. kept-docs query_truth start_of truth-of-second m tables (doc ∷ docs) (held.kept asked) now.1 from (arrived asked);
       now = subst (λ moment. IsNow moment (after tables (Docs (doc ∷ docs)))) (sym is) (
         now.0,
         record {
@@ -239,7 +239,7 @@ note-held doc kind value text session tables held there =
     let le : note.arrival ≤ℤ m = subst (λ z. z ≤ℤ m) (sym at) (omega (arith, ints)) in
     let ge : m ≤ℤ note.arrival = subst (λ z. m ≤ℤ z) (sym at) (omega (arith, ints)) in
     record {
-      kept = λ asked. kept-note truth_of start_of truth-of-second m tables note (held.kept asked) now.1 ge;
+      kept = λ asked. kept-note query_truth start_of truth-of-second m tables note (held.kept asked) now.1 ge;
       now = subst (λ moment. IsNow moment (after tables (OneNote note))) (sym there.is) (
         now.0,
         record {
@@ -260,7 +260,7 @@ define-held name source session tables held there =
     let at : query.arrival ≡ m = ap or_zero there.is in
     let le : query.arrival ≤ℤ m = subst (λ z. z ≤ℤ m) (sym at) (omega (arith, ints)) in
     record {
-      kept = λ asked. kept-query truth_of start_of truth-of-second m tables query (held.kept asked) now.1 refl;
+      kept = λ asked. kept-query query_truth start_of truth-of-second m tables query (held.kept asked) now.1 refl;
       now = subst (λ moment. IsNow moment (after tables (OneQuery query))) (sym there.is) (
         now.0,
         record {
@@ -279,9 +279,9 @@ run-held {Asked = Asked} session tables (Some q) has held there =
     let m = there.m in
     let now = now-at tables session m there.is held in
     let at : moment_or_zero session ≡ m = ap or_zero there.is in
-    subst (λ z. Leaves Asked tables (record { reply = (run_query (Some q) session tables).reply; session = session; change = Some (run_change (truth_of q) (start_of q) tables q.num z) })) (sym at) (record {
-      kept = λ asked. kept-run truth_of start_of truth-of-second m tables q (held.kept asked) now.1 (has q refl);
-      now = subst (λ moment. IsNow moment (after tables (run_change (truth_of q) (start_of q) tables q.num m))) (sym there.is) (
+    subst (λ z. Leaves Asked tables (record { reply = (run_query (Some q) session tables).reply; session = session; change = Some (run_change (query_truth q) (start_of q) tables q.num z) })) (sym at) (record {
+      kept = λ asked. kept-run query_truth start_of truth-of-second m tables q (held.kept asked) now.1 (has q refl);
+      now = subst (λ moment. IsNow moment (after tables (run_change (query_truth q) (start_of q) tables q.num m))) (sym there.is) (
         now.0,
         record {
           docs = now.1.docs;
@@ -309,11 +309,11 @@ filter-held : {Asked : Type 0} (block : Block) (session : Session) (tables : Tab
 filter-held block session tables held there =
     let m = there.m in
     let now = now-at tables session m there.is held in
-    let filter : FilterRow = next_filter tables session (text_of block) in
+    let filter : FilterRow = next_filter tables session (block_text block) in
     let at : filter.arrival ≡ m = ap or_zero there.is in
     let le : filter.arrival ≤ℤ m = subst (λ z. z ≤ℤ m) (sym at) (omega (arith, ints)) in
     record {
-      kept = λ asked. kept-filter truth_of start_of truth-of-second m tables filter (held.kept asked) now.1;
+      kept = λ asked. kept-filter query_truth start_of truth-of-second m tables filter (held.kept asked) now.1;
       now = subst (λ moment. IsNow moment (after tables (OneFilter filter))) (sym there.is) (
         now.0,
         record {

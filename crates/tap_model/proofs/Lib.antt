@@ -16,8 +16,8 @@ pub mod CoreLaws
 pub mod AlikeLaws
 pub mod PrivateLaws
 pub mod StepLaws
-pub mod OtherLaws
-pub mod TaleLaws
+pub mod OthersLaws
+pub mod StoryViewLaws
 pub mod FormLaws
 pub mod WindowLaws
 pub mod AskLaws

@@ -57,10 +57,10 @@ use Rattle.tap_model.specs.Limits.{message_limit, filter_text_limit, note_text_l
 use Rattle.tap_model.specs.Sessions.{user_of, last_moment}
 use Rattle.tap_model.specs.Queries.{query_named}
 use Rattle.tap_model.specs.Verdicts.{first_refusal, missing, refuse_unless, no_moment, no_user, bad_name, reading_refusal, text_fault, is_back, not_over}
-use Rattle.tap_model.specs.Verdicts.{taken, no_query, runs_found, no_run, too_long, messages_of, long_block, bytes_of, no_doc, long_note}
-use Rattle.tap_model.specs.Verdicts.{rules_refusal, filter_fault, long_filter, text_of, delivers, lookup_checks, checks, verdict}
-use Rattle.tap_model.specs.Lookups.{doc_numbered, show_doc, lookup_reply}
-use Rattle.tap_model.specs.Stories.{Step, GivesUp}
+use Rattle.tap_model.specs.Verdicts.{taken, no_query, runs_found, no_run, too_long, messages_of, long_block, bytes_of_all, no_doc, long_note}
+use Rattle.tap_model.specs.Verdicts.{rules_refusal, filter_fault, long_filter, block_text, delivers, lookup_checks, checks, verdict}
+use Rattle.tap_model.specs.Lookups.{doc_numbered, shown_doc, lookup_reply}
+use Rattle.tap_model.specs.Stories.{StoryStep, GivesUp}
 use Rattle.tap_model.specs.Replies.{answer_of, answer_by, accepted, set_moment, run_query, show_box, show_list, show_lines, show_wake, show_digest, ask_at}
 use Rattle.tap_model.specs.Laws.{AnswersAreNotMemory}
 use Rattle.script_lang.proofs.Proper.{commands-proper, end-proper}
@@ -309,9 +309,9 @@ module _ (s : Session) (t : Tables) where
   -- the reply to a look-up
   lookup-apart : (lookup : Lookup) → first_text (lookup_reply lookup s t) ≡ no_18 → ⊥
   lookup-apart (ShowDoc num) e = go (doc_numbered num t.docs) e where
-    go : (o : Option Doc) → first_text (show_doc num o) ≡ no_18 → ⊥
+    go : (o : Option Doc) → first_text (shown_doc num o) ≡ no_18 → ⊥
     go None e = text-apart NoDoc refl e
-    go (Some doc) e = ok-apart (show_doc num (Some doc)) refl e
+    go (Some doc) e = ok-apart (shown_doc num (Some doc)) refl e
   lookup-apart (ListNotes num) e = ok-apart (lookup_reply (ListNotes num) s t) refl e
   lookup-apart ListQueries e = ok-apart (lookup_reply ListQueries s t) refl e
   lookup-apart Count e = ok-apart (lookup_reply Count s t) refl e
@@ -321,7 +321,7 @@ module _ (s : Session) (t : Tables) where
   checks-fine (Bad refusal) p = (proper-fine refusal p, tt)
   checks-fine (At text) p = (missing-fine BadMoment (moment_of text) refl, (back-fine (last_moment s t) (moment_of text), tt))
   checks-fine (AsUser name) p = (name-fine name, tt)
-  checks-fine (Mail block) p = (now-fine, (message-fine block, (limit-fine N.Documents document_limit (length t.docs) 1, (limit-fine N.Store store_limit (stored_bytes t) (length (text_of block)), tt))))
+  checks-fine (Mail block) p = (now-fine, (message-fine block, (limit-fine N.Documents document_limit (length t.docs) 1, (limit-fine N.Store store_limit (stored_bytes t) (length (block_text block)), tt))))
   checks-fine (Define name source) p = (now-fine, (user-fine, (name-fine name, (taken-fine, (text-fine (condition_text source), (limit-fine N.Queries user_query_limit (queries_of (user_of s) t) 1, (limit-fine N.AllQueries query_limit (length t.queries) 1, (limit-fine N.Users user_limit (different (owners_in t)) (new_users (user_of s) t), (limit-fine N.Store store_limit (stored_bytes t) (length (stored_source source)), tt)))))))))
     where
       taken-fine : fine (taken s name t) ≡ true
@@ -329,11 +329,11 @@ module _ (s : Session) (t : Tables) where
   checks-fine (Run name) p = (now-fine, (user-fine, (name-fine name, (query-fine name, (limit-fine N.Runs run_limit (length t.runs) 1, (limit-fine N.Picks pick_limit (length t.picks) (delivers s name t), tt))))))
   checks-fine (BoxOf name) p = (user-fine, (name-fine name, (query-fine name, tt)))
   checks-fine (Mbox block) p =
-      (now-fine, (unless-fine _ (Limit N.Message) refl, (block-fine block, (limit-fine N.Documents document_limit (length t.docs) (length (messages_of block)), (limit-fine N.Store store_limit (stored_bytes t) (bytes_of (messages_of block)), tt)))))
+      (now-fine, (unless-fine _ (Limit N.Message) refl, (block-fine block, (limit-fine N.Documents document_limit (length t.docs) (length (messages_of block)), (limit-fine N.Store store_limit (stored_bytes t) (bytes_of_all (messages_of block)), tt)))))
   checks-fine (AddNote doc kind value text) p =
       (now-fine, (user-fine, (name-fine kind, (doc-fine doc (length t.docs), (note-fine (length text), (limit-fine N.Notes note_limit (length t.notes) 1, (limit-fine N.Store store_limit (stored_bytes t) (length text), tt)))))))
   checks-fine (ListOf name) p = (user-fine, (name-fine name, (query-fine name, tt)))
-  checks-fine (Filter block) p = (now-fine, (user-fine, (filter-block-fine block, (limit-fine N.Users user_limit (different (owners_in t)) (new_users (user_of s) t), (limit-fine N.Filters filter_limit (length t.filters) 1, (limit-fine N.Store store_limit (stored_bytes t) (length (text_of block)), (rules-fine (text_of block), tt)))))))
+  checks-fine (Filter block) p = (now-fine, (user-fine, (filter-block-fine block, (limit-fine N.Users user_limit (different (owners_in t)) (new_users (user_of s) t), (limit-fine N.Filters filter_limit (length t.filters) 1, (limit-fine N.Store store_limit (stored_bytes t) (length (block_text block)), (rules-fine (block_text block), tt)))))))
   checks-fine (Explain name) p = (user-fine, (name-fine name, (query-fine name, tt)))
   checks-fine (Ask moment source) p = (missing-fine BadMoment (moment_of moment) refl, (now-fine, (text-fine source, (over-fine (moment_of moment) s.moment, tt))))
   checks-fine (Wake name) p = (now-fine, (user-fine, (name-fine name, (query-fine name, tt))))
@@ -402,7 +402,7 @@ script-proper bytes =
     rw (list_all-append is_proper (commands_from Outside (lines bytes)) (at_end (state_after Outside (lines bytes))), lines-proper Outside (lines bytes), end-proper (state_after Outside (lines bytes))) refl
 
 -- a step of which `no 18` is the reply is out of memory
-step-gives-up : (t : Tables) (s : Session) (c : Command) (reply : Reply) (t' : Tables) (s' : Session) → is_proper c ≡ true → Step t s c reply t' s' → first_text reply ≡ no_18 → GivesUp t s c reply t' s'
+step-gives-up : (t : Tables) (s : Session) (c : Command) (reply : Reply) (t' : Tables) (s' : Session) → is_proper c ≡ true → StoryStep t s c reply t' s' → first_text reply ≡ no_18 → GivesUp t s c reply t' s'
 step-gives-up t s c reply t' s' proper (inl follows) e = absurd (answer-apart s t c proper (sym (ap first_text follows.reply_is) ∙ e))
 step-gives-up t s c reply t' s' proper (inr gives) e = gives
 

@@ -13,7 +13,7 @@ use Rattle.tap_model.specs.Sessions.{user_of}
 use Rattle.tap_model.specs.Queries.{query_named}
 use Rattle.tap_model.specs.Verdicts.{verdict}
 use Rattle.tap_model.specs.Replies.{Answer, answer_of, answer_by, accepted, tables_after, set_moment, run_query, show_box, show_list, show_lines, show_wake, show_digest, ask_at}
-use Rattle.tap_model.specs.Stories.{Step, next_tables}
+use Rattle.tap_model.specs.Stories.{StoryStep, next_tables}
 
 -- an answer that isn't accepted adds no rows
 abbrev Stays : Answer → Type 0
@@ -87,6 +87,6 @@ next-is command reply session tables is = go (is_accepted reply) refl where
   go false e = sym (ap (λ change. tables_after change tables) (refused-stays command session tables (sym (ap is_accepted is) ∙ e)))
 
 -- each step leads to the tables after its reply
-pub step-next : (tables : Tables) (session : Session) (command : Command) (reply : Reply) (tables' : Tables) (session' : Session) → Step tables session command reply tables' session' → tables' ≡ next_tables command reply session tables
+pub step-next : (tables : Tables) (session : Session) (command : Command) (reply : Reply) (tables' : Tables) (session' : Session) → StoryStep tables session command reply tables' session' → tables' ≡ next_tables command reply session tables
 step-next tables session command reply tables' session' (inl follows) = follows.tables_are ∙ sym (next-is command reply session tables follows.reply_is)
 step-next tables session command reply tables' session' (inr stays) = stays.tables_are ∙ sym (ap (λ reply. next_tables command reply session tables) stays.reply_is)

@@ -31,10 +31,10 @@ use Rattle.script_lang.specs.declared.reply.Reply.TheVariants.{Ran, BoxOf as Box
 use Rattle.restart_core.specs.Starts.{stored_source}
 use Rattle.tap_model.specs.declared.session.Session.{Session}
 use Rattle.tap_model.specs.Sessions.{or_zero, moment_or_zero, user_of, greatest_moment, last_moment}
-use Rattle.tap_model.specs.Queries.{condition_in, query_named, owned_queries, hits_of, box_in}
-use Rattle.tap_model.specs.Lookups.{line_of}
+use Rattle.tap_model.specs.Queries.{condition_in, query_named, owned_queries, hits_of, box_of_query}
+use Rattle.tap_model.specs.Lookups.{query_line}
 use Rattle.tap_model.specs.Filters.{last_filter, filter_rules, rules_in_text, rules_of_user}
-use Rattle.tap_model.specs.Verdicts.{verdict, text_of, messages_of}
+use Rattle.tap_model.specs.Verdicts.{verdict, block_text, messages_of}
 use Rattle.tap_model.specs.Replies.{Answer, answer_of, answer_by, accepted, tables_after, set_moment, next_query, next_filter, run_query, show_box, show_list, show_lines, show_wake, show_digest, entries_in_run, some_docs, next_docs, ask_at, add_query, add_filter, look_up}
 use Rattle.tap_model.specs.Sound.{IsSound}
 use Rattle.tap_model.specs.Wakes.{does_deliver, wake_moment}
@@ -97,7 +97,7 @@ some-core c e = cc
 core-some : (c : Core) → None ≡ Some c → ⊥
 core-some c e = cc
 
-box-same : (t o : Tables) (q p : QueryRow) → core_of t.runs q ≡ core_of o.runs p → box_in q t ≡ box_in p (twin t o)
+box-same : (t o : Tables) (q p : QueryRow) → core_of t.runs q ≡ core_of o.runs p → box_of_query q t ≡ box_of_query p (twin t o)
 box-same t o q p same = box-core q t ∙ ap (core_entries t.docs t.notes) same ∙ sym (box-core p (twin t o))
 
 run-one : (user name : List ℕ) (t o : Tables) (s : Session) (q p : QueryRow) → AreTwins user t o → IsSound t s → IsSound (twin t o) s → query_named user name t ≡ Some q → query_named user name o ≡ Some p → core_of t.runs q ≡ core_of o.runs p
@@ -140,9 +140,9 @@ list-told : (user name : List ℕ) (t o : Tables) (s : Session) (q p : Option Qu
     → told user t (show_list q name s t) ≡ told user (twin t o) (show_list p name s (twin t o))
 list-told user name t o s None None twins own same = answered user t o s _ _ twins refl
 list-told user name t o s (Some q) (Some p) twins own same =
-    let entries : box_in q t ≡ box_in p (twin t o) = box-same t o q p (core-same (core_of t.runs q) (core_of o.runs p) same) in
+    let entries : box_of_query q t ≡ box_of_query p (twin t o) = box-same t o q p (core-same (core_of t.runs q) (core_of o.runs p) same) in
     let rules : rules_of_user (user_of s) t ≡ rules_of_user (user_of s) o = subst (λ u. rules_of_user u t ≡ rules_of_user u o) (sym own) (rules-same user t o twins) in
-    answered user t o s _ _ twins (ap (λ rules. Listing name (listing_of rules t.docs (box_in q t))) rules ∙ ap (λ entries. Listing name (listing_of (rules_of_user (user_of s) o) t.docs entries)) entries)
+    answered user t o s _ _ twins (ap (λ rules. Listing name (listing_of rules t.docs (box_of_query q t))) rules ∙ ap (λ entries. Listing name (listing_of (rules_of_user (user_of s) o) t.docs entries)) entries)
 list-told user name t o s (Some q) None twins own same = absurd (some-core (core_of t.runs q) same)
 list-told user name t o s None (Some p) twins own same = absurd (core-some (core_of o.runs p) same)
 
@@ -204,7 +204,7 @@ no-true : false ≡ true → ⊥
 no-true e = cc
 
 -- the lines of the user's queries
-queries-same : (user : List ℕ) (t o : Tables) → AreTwins user t o → map (line_of t) (owned_queries user t) ≡ map (line_of (twin t o)) (owned_queries user (twin t o))
+queries-same : (user : List ℕ) (t o : Tables) → AreTwins user t o → map (query_line t) (owned_queries user t) ≡ map (query_line (twin t o)) (owned_queries user (twin t o))
 queries-same user t o twins =
     each-line-core t (owned_queries user t) ∙ ap (map (core_line t.docs t.notes)) twins.queries ∙ sym (each-line-core (twin t o) (owned_queries user (twin t o)))
 
@@ -215,7 +215,7 @@ lookup-told (ShowDoc num) user s t o m at own twins = answered user t o s _ _ tw
 lookup-told (ListNotes num) user s t o m at own twins = answered user t o s _ _ twins refl
 lookup-told ListQueries user s t o m at own twins =
     answered user t o s _ _ twins
-    (ap (Found UserQueries) (subst (λ u. map (line_of t) (owned_queries u t) ≡ map (line_of (twin t o)) (owned_queries u (twin t o))) (sym own) (queries-same user t o twins)))
+    (ap (Found UserQueries) (subst (λ u. map (query_line t) (owned_queries u t) ≡ map (query_line (twin t o)) (owned_queries u (twin t o))) (sym own) (queries-same user t o twins)))
 lookup-told Count user s t o m at own twins =
     let last : last_moment s t ≡ last_moment s (twin t o) = ap (λ x. option_or x (greatest_moment t)) at ∙ sym (ap (λ x. option_or x (greatest_moment (twin t o))) at) in
     answered user t o s _ _ twins (ap (λ moment. Found (Counts (length t.docs) (length t.notes) (or_zero moment)) []) last)
@@ -234,7 +234,7 @@ accepted-told (BoxOf name) user s t o m at by twins sound sound' =
     box-told user name t o s (query_named (user_of s) name t) (query_named (user_of s) name o) twins (found-same (user_of s) name t o (own-twins user s t o by twins))
 accepted-told (ListOf name) user s t o m at by twins sound sound' =
     list-told user name t o s (query_named (user_of s) name t) (query_named (user_of s) name o) twins (user-is user s by) (found-same (user_of s) name t o (own-twins user s t o by twins))
-accepted-told (Filter block) user s t o m at by twins sound sound' = filter-told user (text_of block) t o s twins (user-is user s by)
+accepted-told (Filter block) user s t o m at by twins sound sound' = filter-told user (block_text block) t o s twins (user-is user s by)
 accepted-told (Explain name) user s t o m at by twins sound sound' =
     lines-told user name t o s (query_named (user_of s) name t) (query_named (user_of s) name o) twins (found-same (user_of s) name t o (own-twins user s t o by twins))
 accepted-told (Ask moment source) user s t o m at by twins sound sound' = ask-told user source t o s (moment_of moment) twins

@@ -16,7 +16,7 @@ use Rattle.tap_rows.specs.declared.rows.Pick.{Pick}
 use Rattle.tap_rows.specs.declared.results.Hit.{Hit}
 use Rattle.tap_rows.specs.Arrivals.{Arrived}
 use Rattle.tap_rows.specs.Seconds.{first_from, least_second}
-use Rattle.tap_rows.specs.Results.{Truth, is_given, first_second, hit_of, at_least, put_in, is_before, in_order, run_of, entry_at, entries_of, entries_from, runs_of, run_moments, last_or, covered, union_until, fresh_in, box_of}
+use Rattle.tap_rows.specs.Results.{Truth, is_given, first_second, hit_of, at_least, put_in, is_before, hits_in_order, run_of, entry_at, entries_of, entries_from, runs_of, run_moments, last_or, covered, union_until, fresh_in, box_of}
 use Rattle.tap_rows.specs.Deliveries.{delivered, picked, picks_of, pick_rows, next_run, run_hits, run_change}
 use Rattle.tap_rows.specs.WellFormed.{may_follow, row_at, was_defined, is_picked, comes_after, picks_stand}
 use Rattle.tap_rows.specs.Fits.{last_row, low_of, fits}
@@ -80,9 +80,9 @@ put_in-each P hit (other ∷ hits) this each = elim (is_before hit other) as (λ
   | false ↦ (each.0, put_in-each P hit hits this each.1)
 ]
 
-in_order-each : (P : Hit → Type 0) (hits : List Hit) → Each P hits → Each P (in_order hits)
+in_order-each : (P : Hit → Type 0) (hits : List Hit) → Each P hits → Each P (hits_in_order hits)
 in_order-each P [] each = tt
-in_order-each P (hit ∷ hits) each = put_in-each P hit (in_order hits) each.0 (in_order-each P hits each.1)
+in_order-each P (hit ∷ hits) each = put_in-each P hit (hits_in_order hits) each.0 (in_order-each P hits each.1)
 
 -- what follows one that follows follows
 follow-all : (hit other : Hit) (hits : List Hit) → is_before hit other ≡ true → Each (AreOther hit) hits → Each (Follows other) hits → Each (Follows hit) hits
@@ -98,9 +98,9 @@ put_in-ordered hit (other ∷ hits) others order = go (is_before hit other) refl
   go true e rest = (((e, others.0), follow-all hit other hits e others.1 order.0), order)
   go false e rest = (put_in-each (Follows other) hit hits (before-total hit.first hit.doc.0 other.first other.doc.0 e others.0, other-turn hit other others.0) order.0, rest)
 
-in_order-ordered : (hits : List Hit) → Others hits → Ordered (in_order hits)
+in_order-ordered : (hits : List Hit) → Others hits → Ordered (hits_in_order hits)
 in_order-ordered [] others = tt
-in_order-ordered (hit ∷ hits) others = put_in-ordered hit (in_order hits) (in_order-each (AreOther hit) hits others.0) (in_order-ordered hits others.1)
+in_order-ordered (hit ∷ hits) others = put_in-ordered hit (hits_in_order hits) (in_order-each (AreOther hit) hits others.0) (in_order-ordered hits others.1)
 
 -- what holds of each document's hit holds of the hits
 abbrev hit_at : Doc → ℤ → Hit

@@ -14,7 +14,7 @@ use Rattle.script_lang.specs.declared.refusal.Refusal.{Refusal}
 use Rattle.tap_model.specs.declared.session.Session.{Session}
 use Rattle.tap_model.specs.Sessions.{moment_or_zero, user_of}
 use Rattle.tap_model.specs.Queries.{query_named}
-use Rattle.tap_model.specs.Verdicts.{verdict, text_of, messages_of}
+use Rattle.tap_model.specs.Verdicts.{verdict, block_text, messages_of}
 use Rattle.tap_model.specs.Replies.{Answer, answer_of, answer_by, accepted, next_docs, some_docs}
 use Rattle.tap_model.specs.Replies.{set_moment, run_query, show_box, show_list, show_lines, show_wake, show_digest, ask_at}
 
@@ -64,7 +64,7 @@ ask-rows (Some second) source session tables change e = no-change change e
 accepted-rows : (command : Command) (session : Session) (tables : Tables) → HasRows (accepted command session tables)
 accepted-rows (At text) session tables change e none = moment-rows (moment_of text) session change e none
 accepted-rows (AsUser name) session tables change e none = no-change change e none
-accepted-rows (Mail block) session tables change e none = docs-rows (next_docs tables (moment_or_zero session) (text_of block ∷ [])) change e none
+accepted-rows (Mail block) session tables change e none = docs-rows (next_docs tables (moment_or_zero session) (block_text block ∷ [])) change e none
 accepted-rows (Mbox block) session tables change e none = docs-rows (next_docs tables (moment_or_zero session) (messages_of block)) change e none
 accepted-rows (AddNote doc kind value text) session tables change e none = cc
 accepted-rows (Define name source) session tables change e none = cc

@@ -15,9 +15,9 @@ use Rattle.script_lang.specs.declared.reply.Reply.{Reply}
 use Rattle.restart_core.specs.Starts.{is_from_now}
 use Rattle.tap_model.specs.declared.session.Session.{Session}
 use Rattle.tap_model.specs.Sessions.{no_session, moment_or_zero, or_zero}
-use Rattle.tap_model.specs.Queries.{truth_of, start_of}
+use Rattle.tap_model.specs.Queries.{query_truth, start_of}
 use Rattle.tap_model.specs.Replies.{answer_of, tables_after}
-use Rattle.tap_model.specs.Stories.{Step}
+use Rattle.tap_model.specs.Stories.{StoryStep}
 use Rattle.tap_model.specs.Sound.{IsSound, IsSoundFor, IsStore, IsNow, IsMoment, asks_deliveries}
 use Rattle.tap_model.proofs.AnswerLaws.{truth-of-second}
 use Rattle.tap_model.proofs.HeldLaws.{Held, answer-held}
@@ -48,12 +48,12 @@ answer-sound command next session tables sound for-next =
     record { kept = held.kept; now = held.now; formed = answer-formed command session tables sound; sources = read.sources; rules = read.rules; user = read.user }
 
 -- so does each step of a story
-pub step-sound-for : (tables : Tables) (session : Session) (command : Command) (reply : Reply) (tables' : Tables) (session' : Session) (next : Command) → Step tables session command reply tables' session' → IsSoundFor command tables session → IsSoundFor next tables session → IsSoundFor next tables' session'
+pub step-sound-for : (tables : Tables) (session : Session) (command : Command) (reply : Reply) (tables' : Tables) (session' : Session) (next : Command) → StoryStep tables session command reply tables' session' → IsSoundFor command tables session → IsSoundFor next tables session → IsSoundFor next tables' session'
 step-sound-for tables session command reply tables' session' next (inl follows) sound for-next = rw (follows.tables_are, follows.session_is) (answer-sound command next session tables sound for-next)
 step-sound-for tables session command reply tables' session' next (inr stays) sound for-next = rw (stays.tables_are, stays.session_is) for-next
 
 -- each step from a sound point leads to a sound point
-pub step-sound : (tables : Tables) (session : Session) (command : Command) (reply : Reply) (tables' : Tables) (session' : Session) → Step tables session command reply tables' session' → IsSound tables session → IsSound tables' session'
+pub step-sound : (tables : Tables) (session : Session) (command : Command) (reply : Reply) (tables' : Tables) (session' : Session) → StoryStep tables session command reply tables' session' → IsSound tables session → IsSound tables' session'
 step-sound tables session command reply tables' session' step sound =
     sound-asked (Run []) tables' session' refl (step-sound-for tables session command reply tables' session' (Run []) step (sound-for command tables session sound) (sound-for (Run []) tables session sound))
 
@@ -71,7 +71,7 @@ start-moment query range = elim (is_from_now query.source) as (λ b. IsMoment (i
 
 -- a new session over no rows begins so
 pub sound-start : IsSound no_rows no_session
-sound-start = record { kept = kept-empty truth_of start_of truth-of-second; now = tt; formed = refl; sources = tt; rules = tt; user = tt }
+sound-start = record { kept = kept-empty query_truth start_of truth-of-second; now = tt; formed = refl; sources = tt; rules = tt; user = tt }
 
 -- a session leaves tables that another may begin with
 pub sound-store : (tables : Tables) (session : Session) → IsSound tables session → IsStore tables

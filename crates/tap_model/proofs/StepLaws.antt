@@ -10,10 +10,10 @@ use Rattle.script_lang.specs.declared.command.Command.TheVariants.{At, Mail, Mbo
 use Rattle.script_lang.specs.declared.refusal.Refusal.{Refusal}
 use Rattle.script_lang.specs.declared.reply.Reply.{Reply}
 use Rattle.tap_model.specs.declared.session.Session.{Session}
-use Rattle.tap_model.specs.Queries.{truth_of, start_of}
+use Rattle.tap_model.specs.Queries.{query_truth, start_of}
 use Rattle.tap_model.specs.Verdicts.{verdict}
 use Rattle.tap_model.specs.Replies.{answer_of, answer_by, set_moment}
-use Rattle.tap_model.specs.Stories.{Follows, GivesUp, Step}
+use Rattle.tap_model.specs.Stories.{Follows, GivesUp, StoryStep}
 use Rattle.tap_model.specs.Sound.{IsSound, IsNow}
 use Rattle.tap_model.specs.Privacy.{is_shared_reply, concerns, giver, Deed, deed_of, view_of, Move}
 use Rattle.tap_model.proofs.SoundLaws.{step-sound}
@@ -85,7 +85,7 @@ ends-same user c s s' t t' m at by same giver-is sound sound' =
     let moment : s'.moment ≡ s.moment = sym (ap (λ (b : Brief). b.moment) same) in
     let tables : t' ≡ twin t t' = ap (λ d. record { docs = d; notes = t'.notes; queries = t'.queries; runs = t'.runs; picks = t'.picks; filters = t'.filters }) docs ∙ ap (λ n. twin (record t { notes = n }) t') notes in
     let session : s' ≡ session_by s.moment s'.user = ap (λ m. session_by m s'.user) moment in
-    let kept : IsKept truth_of start_of (twin t t') = subst (λ t'. IsKept truth_of start_of t') tables sound'.kept in
+    let kept : IsKept query_truth start_of (twin t t') = subst (λ t'. IsKept query_truth start_of t') tables sound'.kept in
     let now : IsNow s.moment (twin t t') = subst (λ m. IsNow m (twin t t')) moment (subst (λ t'. IsNow s'.moment t') tables sound'.now) in
     let there : IsSound (twin t t') s = record {
       kept = kept;
@@ -144,7 +144,7 @@ step-same user moment a b at same deed by = go a.step b.step where
   ends : Ends user c a.session a.tables b.session b.tables
   ends = ends-same user c a.session b.session a.tables b.tables moment at by (brief-same user a.session b.session a.tables b.tables same) (ap (λ (d : Deed). d.giver) deed ∙ ap (λ c. giver b.session c) is) a.sound b.sound
 
-  go : Step a.tables a.session a.command a.reply a.tables' a.session' → Step b.tables b.session b.command b.reply b.tables' b.session' → Ended user a.reply a.session' a.tables' b.reply b.session' b.tables'
+  go : StoryStep a.tables a.session a.command a.reply a.tables' a.session' → StoryStep b.tables b.session b.command b.reply b.tables' b.session' → Ended user a.reply a.session' a.tables' b.reply b.session' b.tables'
   go (inr stays) g = inl (gives-up a.tables a.session a.command a.reply a.tables' a.session' stays)
   go (inl f) (inr stays) = inr (inl (gives-up b.tables b.session b.command b.reply b.tables' b.session' stays))
   go (inl f) (inl g) = both-follow user a b c f (subst (λ c. Follows b.tables b.session c b.reply b.tables' b.session') is g) after after' ends

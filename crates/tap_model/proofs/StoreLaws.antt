@@ -27,7 +27,7 @@ use Rattle.filter_rules.specs.RuleTexts.{rules_of, rules_at, rule_lines, with_ru
 use Rattle.script_lang.specs.declared.refusal.Refusal.TheVariants as refusal
 use Rattle.restart_core.specs.Starts.{is_from_now, condition_text}
 use Rattle.tap_model.specs.Verdicts.{text_fault, reading_refusal, filter_fault, rules_refusal}
-use Rattle.tap_model.specs.Queries.{truth_of, start_of, box_in}
+use Rattle.tap_model.specs.Queries.{query_truth, start_of, box_of_query}
 use Rattle.tap_model.specs.Sound.{IsMoment, IsStore}
 use Rattle.tap_model.specs.Laws.{AreBoxed}
 use Rattle.tap_model.proofs.AnswerLaws.{some-none}
@@ -92,7 +92,7 @@ store-boxed tables store = record {
   rows = store.formed;
   queries = sources-read tables store;
   filters = filters-read tables store;
-  boxes = each-map (IsKeptQuery truth_of start_of tables) (λ query. delivered query.num.0 tables ≡ box_in query tables) tables.queries (λ query kept. kept.box) store.kept.each;
+  boxes = each-map (IsKeptQuery query_truth start_of tables) (λ query. delivered query.num.0 tables ≡ box_of_query query tables) tables.queries (λ query kept. kept.box) store.kept.each;
 }
 
 -- a query's start isn't after its arrival
@@ -102,7 +102,7 @@ start-by query from = elim (is_from_now query.source) as (λ b. (if b then query
 
 module _ (tables : Tables) (rows : Placed tables) where
   kept-each : (queries : List QueryRow) → ((query : QueryRow) → In query queries → In query tables.queries) → Each (λ query. IsMoment query.arrival) queries
-      → Each (λ query. delivered query.num.0 tables ≡ box_in query tables) queries → Each (IsKeptQuery truth_of start_of tables) queries
+      → Each (λ query. delivered query.num.0 tables ≡ box_of_query query tables) queries → Each (IsKeptQuery query_truth start_of tables) queries
   kept-each [] has moments boxes = tt
   kept-each (query ∷ queries) has moments boxes = (
     record { rising = rows.rising query (start_of query) (has query (inl refl)) (start-by query moments.0.0); box = boxes.0 },

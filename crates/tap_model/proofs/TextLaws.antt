@@ -14,7 +14,7 @@ use Rattle.restart_core.proofs.StartLaws.{stored-text}
 use Rattle.tap_model.specs.declared.session.Session.{Session}
 use Rattle.tap_model.specs.Sessions.{moment_or_zero, user_of}
 use Rattle.tap_model.specs.Queries.{query_named}
-use Rattle.tap_model.specs.Verdicts.{verdict, checks, text_fault, filter_fault, text_of, messages_of}
+use Rattle.tap_model.specs.Verdicts.{verdict, checks, text_fault, filter_fault, block_text, messages_of}
 use Rattle.tap_model.specs.Replies.{Answer, answer_of, answer_by, accepted, tables_after, set_moment, next_docs, some_docs, next_query, next_filter, run_query, show_box, show_list, show_lines, show_wake, show_digest, ask_at}
 use Rattle.tap_model.specs.Sound.{IsUser}
 use Rattle.tap_model.proofs.FitLaws.{all-none, name-is}
@@ -67,7 +67,7 @@ accepted-read : (command : Command) (session : Session) (tables : Tables) → Re
 accepted-read (Bad refusal) session tables read pass = read
 accepted-read (At text) session tables read pass = moment-read (moment_of text) session tables read
 accepted-read (AsUser name) session tables read pass = record { sources = read.sources; rules = read.rules; user = name-is name pass.0 }
-accepted-read (Mail block) session tables read pass = docs-read (next_docs tables (moment_or_zero session) (text_of block ∷ [])) session tables read
+accepted-read (Mail block) session tables read pass = docs-read (next_docs tables (moment_or_zero session) (block_text block ∷ [])) session tables read
 accepted-read (Define name source) session tables read pass = record {
   sources = each-append (λ query. text_fault (condition_text query.source) ≡ None) tables.queries (next_query tables session name (stored_source source) ∷ []) read.sources (ap text_fault (stored-text source) ∙ pass.1.1.1.1.0, tt);
   rules = read.rules;
@@ -80,7 +80,7 @@ accepted-read (AddNote doc kind value text) session tables read pass = record { 
 accepted-read (ListOf name) session tables read pass = list-read (query_named (user_of session) name tables) name session tables read
 accepted-read (Filter block) session tables read pass = record {
   sources = read.sources;
-  rules = each-append (λ filter. filter_fault filter.source ≡ None) tables.filters (next_filter tables session (text_of block) ∷ []) read.rules (pass.1.1.1.1.1.1.0, tt);
+  rules = each-append (λ filter. filter_fault filter.source ≡ None) tables.filters (next_filter tables session (block_text block) ∷ []) read.rules (pass.1.1.1.1.1.1.0, tt);
   user = read.user;
 }
 accepted-read (Explain name) session tables read pass = lines-read (query_named (user_of session) name tables) name session tables read

@@ -17,8 +17,8 @@ use Rattle.tap_rows.proofs.LaterLaws.{fresh-later, grown-same}
 use Rattle.restart_core.specs.Starts.{condition_text}
 use Rattle.script_lang.specs.Rows.{query_text}
 use Rattle.tap_model.specs.declared.session.Session.{Session}
-use Rattle.tap_model.specs.Queries.{truth_of, start_of, hits_of, box_in, lines_of, owned_queries}
-use Rattle.tap_model.specs.Lookups.{last_of, line_of}
+use Rattle.tap_model.specs.Queries.{query_truth, start_of, hits_of, box_of_query, lines_of, owned_queries}
+use Rattle.tap_model.specs.Lookups.{last_of, query_line}
 use Rattle.tap_rows.specs.WellFormed.{is_query_of}
 use Rattle.tap_model.specs.Filters.{last_filter}
 use Rattle.tap_model.specs.Sound.{IsSound}
@@ -83,23 +83,23 @@ abbrev bare : List Doc → List Note → Tables
 bare docs notes = record { docs = docs; notes = notes; queries = []; runs = []; picks = []; filters = [] }
 
 abbrev pub core_hits : List Doc → List Note → Core → ℤ → List Hit
-core_hits docs notes core moment = fresh_in (truth_of (row_of core)) (bare docs notes) (start_of (row_of core)) (last_or (start_of (row_of core)) core.runs) moment
+core_hits docs notes core moment = fresh_in (query_truth (row_of core)) (bare docs notes) (start_of (row_of core)) (last_or (start_of (row_of core)) core.runs) moment
 
 abbrev pub core_entries : List Doc → List Note → Core → List Entry
-core_entries docs notes core = entries_from core.runs (union_until (truth_of (row_of core)) (bare docs notes) (start_of (row_of core)) (last_or (start_of (row_of core)) core.runs)) 1 core.runs
+core_entries docs notes core = entries_from core.runs (union_until (query_truth (row_of core)) (bare docs notes) (start_of (row_of core)) (last_or (start_of (row_of core)) core.runs)) 1 core.runs
 
 abbrev pub core_lines : Core → List (List ℕ)
 core_lines core = lines_of (row_of core)
 
-fresh-bare : (q : QueryRow) (t : Tables) (start tau until : ℤ) → fresh_in (truth_of q) t start tau until ≡ fresh_in (truth_of q) (bare t.docs t.notes) start tau until
-fresh-bare q t start tau until = fresh-later (truth_of q) until (bare t.docs t.notes) t start tau until (truth-of-second q) (grown-same until (bare t.docs t.notes) t refl refl) (omega (arith, ints))
+fresh-bare : (q : QueryRow) (t : Tables) (start tau until : ℤ) → fresh_in (query_truth q) t start tau until ≡ fresh_in (query_truth q) (bare t.docs t.notes) start tau until
+fresh-bare q t start tau until = fresh-later (query_truth q) until (bare t.docs t.notes) t start tau until (truth-of-second q) (grown-same until (bare t.docs t.notes) t refl refl) (omega (arith, ints))
 
 -- what a run delivers, and a box, are of the documents, the notes and the core alone
 pub hits-core : (q : QueryRow) (t : Tables) (moment : ℤ) → hits_of q t moment ≡ core_hits t.docs t.notes (core_of t.runs q) moment
 unfolding start_of
 hits-core q t moment = fresh-bare q t (start_of q) (covered (start_of q) q.num.0 t.runs) moment
 
-pub box-core : (q : QueryRow) (t : Tables) → box_in q t ≡ core_entries t.docs t.notes (core_of t.runs q)
+pub box-core : (q : QueryRow) (t : Tables) → box_of_query q t ≡ core_entries t.docs t.notes (core_of t.runs q)
 unfolding start_of
 box-core q t =
     ap (λ hits. entries_from (run_moments q.num.0 t.runs) hits 1 (run_moments q.num.0 t.runs)) (fresh-bare q t (start_of q) (start_of q) (covered (start_of q) q.num.0 t.runs))
@@ -122,7 +122,7 @@ core_line docs notes core =
     })
     (condition_text core.source)
 
-line-core : (q : QueryRow) (t : Tables) → line_of t q ≡ core_line t.docs t.notes (core_of t.runs q)
+line-core : (q : QueryRow) (t : Tables) → query_line t q ≡ core_line t.docs t.notes (core_of t.runs q)
 unfolding start_of
 line-core q t =
     ap
@@ -137,7 +137,7 @@ line-core q t =
     (condition_text q.source))
     (box-core q t)
 
-pub each-line-core : (t : Tables) (qs : List QueryRow) → map (line_of t) qs ≡ map (core_line t.docs t.notes) (map (core_of t.runs) qs)
+pub each-line-core : (t : Tables) (qs : List QueryRow) → map (query_line t) qs ≡ map (core_line t.docs t.notes) (map (core_of t.runs) qs)
 each-line-core t [] = refl
 each-line-core t (q ∷ qs) = both _ _ _ _ (line-core q t) (each-line-core t qs) where
   both : (x y : List ℕ) (xs ys : List (List ℕ)) → x ≡ y → xs ≡ ys → x ∷ xs ≡ y ∷ ys
@@ -149,10 +149,10 @@ full_query docs notes core = record { name = core.name; source = core.source; ar
 abbrev full_view : Brief → View
 full_view brief = record { docs = brief.docs; notes = brief.notes; queries = map (full_query brief.docs brief.notes) brief.queries; filter = brief.filter; moment = brief.moment }
 
-full-one : (q : QueryRow) (t : Tables) → IsKeptQuery truth_of start_of t q → query_view t q ≡ full_query t.docs t.notes (core_of t.runs q)
+full-one : (q : QueryRow) (t : Tables) → IsKeptQuery query_truth start_of t q → query_view t q ≡ full_query t.docs t.notes (core_of t.runs q)
 full-one q t kept = ap (λ entries. record { name = q.name; source = q.source; arrival = q.arrival; runs = run_moments q.num.0 t.runs; entries = entries }) (kept.box ∙ box-core q t)
 
-full-queries : (user : List ℕ) (t : Tables) (qs : List QueryRow) → Each (IsKeptQuery truth_of start_of t) qs → map (query_view t) (filter (λ query. bytes_eq query.owner user) qs) ≡ map (full_query t.docs t.notes) (cores user t.runs qs)
+full-queries : (user : List ℕ) (t : Tables) (qs : List QueryRow) → Each (IsKeptQuery query_truth start_of t) qs → map (query_view t) (filter (λ query. bytes_eq query.owner user) qs) ≡ map (full_query t.docs t.notes) (cores user t.runs qs)
 full-queries user t [] each = refl
 full-queries user t (q ∷ qs) each = go (bytes_eq q.owner user) (full-queries user t qs each.1) where
   both : (x y : QueryView) (xs ys : List QueryView) → x ≡ y → xs ≡ ys → x ∷ xs ≡ y ∷ ys

@@ -20,7 +20,7 @@ use Rattle.tap_rows.proofs.SecondsLaws.{gap-none, least_second-within, least_sec
 use Rattle.tap_rows.proofs.RunLaws.{Within, fresh-within}
 use Rattle.restart_core.specs.Starts.{is_from_now}
 use Rattle.time_marks.specs.NextWake.{lesser, lesser_or, greater, least_mark, after_mark, next_wake}
-use Rattle.tap_model.specs.Queries.{truth_of, start_of, hits_of}
+use Rattle.tap_model.specs.Queries.{query_truth, start_of, hits_of}
 use Rattle.tap_model.specs.Wakes.{does_deliver, wake_moment}
 use Rattle.tap_model.specs.WindowRuns.{WakesAreWindows}
 use Rattle.tap_model.proofs.WindowLaws.{order-any, first-part, second-part, run-of-sound}
@@ -226,6 +226,6 @@ wakes-are-windows tables session query now sound has moment =
     let from = covered (start_of query) query.num.0 tables.runs in
     let hits = hits_of query tables last in
     ap (next_wake now) (run-of-sound tables session query last sound has (covered-last tables query sound.formed has))
-    ∙ after-second (least_mark hits) now LAST_MOMENT moment.1 (λ b is. least-within (start_of query) last hits b (fresh-within (truth_of query) tables (start_of query) from last) is)
+    ∙ after-second (least_mark hits) now LAST_MOMENT moment.1 (λ b is. least-within (start_of query) last hits b (fresh-within (query_truth query) tables (start_of query) from last) is)
     ∙ sym (least_second-same (does_deliver query tables) (λ t. second_below t (least_mark hits)) now (pos (suc LAST_MOMENT))
-    (λ t lo hi. deliver-below (truth_of query) tables (start_of query) from t last (omega (arith, ints, hi)) ∙ least-below t hits))
+    (λ t lo hi. deliver-below (query_truth query) tables (start_of query) from t last (omega (arith, ints, hi)) ∙ least-below t hits))

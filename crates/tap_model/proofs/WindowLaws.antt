@@ -14,7 +14,7 @@ use Rattle.tap_base.specs.Names.{is_name}
 use Rattle.tap_rows.specs.Arrivals.{Arrived}
 use Rattle.tap_rows.specs.WellFormed.{may_follow, is_query_of, query_stands, queries_stand, docs_stand, notes_stand, runs_stand, picks_stand, filters_stand, is_well_formed}
 use Rattle.tap_rows.specs.Kept.{Each, In, Rising, IsKeptQuery}
-use Rattle.tap_rows.specs.Results.{Truth, is_given, first_second, hit_of, at_least, hits_by, put_in, is_before, in_order, run_of, entry_at, entries_of, entries_from, last_or, run_moments, covered, union_until, fresh_in}
+use Rattle.tap_rows.specs.Results.{Truth, is_given, first_second, hit_of, at_least, hits_by, put_in, is_before, hits_in_order, run_of, entry_at, entries_of, entries_from, last_or, run_moments, covered, union_until, fresh_in}
 use Rattle.tap_rows.specs.Deliveries.{delivered}
 use Rattle.tap_rows.proofs.SecondsLaws.{least_second-within, least_second-same}
 use Rattle.tap_rows.proofs.RunLaws.{rising-le, Within, fresh-within}
@@ -36,7 +36,7 @@ use Rattle.time_marks.specs.declared.window.Window.{Window}
 use Rattle.time_marks.specs.Probes.{Probe, meaning_without, least}
 use Rattle.tap_model.proofs.FormLaws.{form_is_union}
 use Rattle.restart_core.specs.Starts.{is_from_now, condition_text}
-use Rattle.tap_model.specs.Queries.{or_never, condition_in, condition_by, truth_of, start_of, probes_in, hits_of}
+use Rattle.tap_model.specs.Queries.{or_never, condition_in, condition_by, query_truth, start_of, probes_of_query, hits_of}
 use Rattle.tap_model.specs.WindowRuns.{is_delivered, asked_rows, found_since, was_given, UnseenIsFresh, RunsAreWindows}
 
 -- two tests that pass alike
@@ -172,9 +172,9 @@ put-any test hit (other ∷ hits) = elim (cases_Bool (is_before hit other)) [
   | inr n ↦ rw n (ap (λ b. test other || b) (put-any test hit hits) ∙ or-swap (test other) (test hit) (list_any test hits))
 ]
 
-pub order-any : (test : Hit → Bool) (hits : List Hit) → list_any test (in_order hits) ≡ list_any test hits
+pub order-any : (test : Hit → Bool) (hits : List Hit) → list_any test (hits_in_order hits) ≡ list_any test hits
 order-any test [] = refl
-order-any test (hit ∷ hits) = put-any test hit (in_order hits) ∙ ap (λ b. test hit || b) (order-any test hits)
+order-any test (hit ∷ hits) = put-any test hit (hits_in_order hits) ∙ ap (λ b. test hit || b) (order-any test hits)
 
 nat-self : (n : ℕ) → nat_eq n n ≡ true
 nat-self n = grind arith
@@ -249,7 +249,7 @@ filter_map-same f g [] same = refl
 filter_map-same f g (doc ∷ docs) same = rw (same doc, filter_map-same f g docs same) refl
 
 same-fresh : (c : Condition) (t : Tables) (start tau until : ℤ) → fresh_in (Holds.truth_of c) (asked_rows t) start tau until ≡ fresh_in (Holds.truth_of c) t start tau until
-same-fresh c t start tau until = ap in_order (filter_map-same (λ doc. hit_of doc (at_least tau (first_second (Holds.truth_of c) (asked_rows t) doc start until))) (λ doc. hit_of doc (at_least tau (first_second (Holds.truth_of c) t doc start until))) t.docs
+same-fresh c t start tau until = ap hits_in_order (filter_map-same (λ doc. hit_of doc (at_least tau (first_second (Holds.truth_of c) (asked_rows t) doc start until))) (λ doc. hit_of doc (at_least tau (first_second (Holds.truth_of c) t doc start until))) t.docs
     (λ doc. ap (λ o. hit_of doc (at_least tau o)) (same-first c t doc start until)))
 
 filter-in : (p q : Doc → Bool) (docs : List Doc) → ((d : Doc) → In d docs → p d ≡ q d) → filter (λ d. not (p d)) docs ≡ filter (λ d. not (q d)) docs
@@ -312,11 +312,11 @@ start-positive query le = elim (is_from_now query.source) as (λ b. pos 0 ≤ℤ
 
 -- no document was given before the start
 none-before : (query : QueryRow) (tables : Tables) (d : Doc) → false ≡ was_given query tables (start_of query) d
-none-before query tables d = go (first_second (truth_of query) tables d (start_of query) (start_of query)) refl where
-  go : (o : Option ℤ) → first_second (truth_of query) tables d (start_of query) (start_of query) ≡ o → false ≡ is_some o
+none-before query tables d = go (first_second (query_truth query) tables d (start_of query) (start_of query)) refl where
+  go : (o : Option ℤ) → first_second (query_truth query) tables d (start_of query) (start_of query) ≡ o → false ≡ is_some o
   go None e = refl
   go (Some f) e =
-      let at = least_second-within (is_given (truth_of query) tables d) (start_of query) (start_of query) f e in
+      let at = least_second-within (is_given (query_truth query) tables d) (start_of query) (start_of query) f e in
       absurd (omega (arith, ints, at.0, at.1))
 
 pub unseen-is-fresh : UnseenIsFresh
@@ -324,17 +324,17 @@ unseen-is-fresh query tables positive zero =
     let union = form_is_union (condition_by query) (start_of query) (is-query (condition_text query.source)) positive in
     let unseen : (seen : Doc → Bool) (from until : ℤ) → start_of query ≤ℤ from → from ≤ℤ until
     → ((doc : Doc) → In doc tables.docs → seen doc ≡ was_given query tables from doc)
-    → meaning_without seen (probes_in query) tables (record { low = from; high = until })
-    ≡ fresh_in (truth_of query) tables (start_of query) from until
+    → meaning_without seen (probes_of_query query) tables (record { low = from; high = until })
+    ≡ fresh_in (query_truth query) tables (start_of query) from until
     = λ seen from until late le same.
-    same-without seen (was_given query tables from) (probes_in query) tables (record { low = from; high = until }) same
+    same-without seen (was_given query tables from) (probes_of_query query) tables (record { low = from; high = until }) same
     ∙ union.since tables from until zero late le in
     record {
       unseen = unseen;
       first = λ until le. unseen (λ _. false) (start_of query) until (omega (arith, ints)) le (λ d has. none-before query tables d);
     }
 
-pub run-is-window : (tables : Tables) (query : QueryRow) (moment : ℤ) → IsKeptQuery truth_of start_of tables query → Arrived 1 (pos 0) tables.docs → pos 0 ≤ℤ start_of query
+pub run-is-window : (tables : Tables) (query : QueryRow) (moment : ℤ) → IsKeptQuery query_truth start_of tables query → Arrived 1 (pos 0) tables.docs → pos 0 ≤ℤ start_of query
     → covered (start_of query) query.num.0 tables.runs ≤ℤ moment → found_since query tables moment ≡ hits_of query tables moment
 run-is-window tables query moment kept arrived positive le =
     let start = start_of query in
@@ -342,8 +342,8 @@ run-is-window tables query moment kept arrived positive le =
     let last = covered start query.num.0 tables.runs in
     let w : Window = record { low = last; high = moment } in
     let rows = asked_rows tables in
-    same-without (is_delivered (delivered query.num.0 tables)) (λ d. is_some (first_second (Holds.truth_of c) rows d start last)) (probes_in query) rows w
-    (λ d has. delivered-before truth_of start_of tables query d kept arrived has ∙ ap is_some (sym (same-first c tables d start last)))
+    same-without (is_delivered (delivered query.num.0 tables)) (λ d. is_some (first_second (Holds.truth_of c) rows d start last)) (probes_of_query query) rows w
+    (λ d has. delivered-before query_truth start_of tables query d kept arrived has ∙ ap is_some (sym (same-first c tables d start last)))
     ∙ (form_is_union c start (is-query (condition_text query.source)) positive).since rows last moment
     (from-zero 1 (pos 0) tables.docs (omega (arith, ints)) arrived) (rising-le start (run_moments query.num.0 tables.runs) kept.rising) le
     ∙ same-fresh c tables start last moment
@@ -359,7 +359,7 @@ queries-late earlier place low (x ∷ queries) query stand le (inr has) =
 
 pub run-of-sound : RunsAreWindows
 run-of-sound tables session query moment sound has le =
-    run-is-window tables query moment (each-in (IsKeptQuery truth_of start_of tables) tables.queries query sound.kept.each has) sound.kept.docs (start-positive query (late tables query sound.formed has)) le
+    run-is-window tables query moment (each-in (IsKeptQuery query_truth start_of tables) tables.queries query sound.kept.each has) sound.kept.docs (start-positive query (late tables query sound.formed has)) le
   where
     late : (tables : Tables) (query : QueryRow) → is_well_formed tables ≡ true → In query tables.queries → pos 0 ≤ℤ query.arrival
     late t query formed has =

@@ -19,9 +19,9 @@ use Rattle.script_lang.specs.Replies.{first_text}
 use Rattle.script_lang.specs.Script.{script}
 use Rattle.tap_model.specs.declared.session.Session.{Session}
 use Rattle.tap_model.specs.Sessions.{no_session}
-use Rattle.tap_model.specs.Queries.{box_in}
+use Rattle.tap_model.specs.Queries.{box_of_query}
 use Rattle.tap_model.specs.Replies.{answer_of}
-use Rattle.tap_model.specs.Stories.{Step, GivesUp, next_tables}
+use Rattle.tap_model.specs.Stories.{StoryStep, GivesUp, next_tables}
 use Rattle.tap_model.specs.Sound.{IsSound, IsSoundFor, IsStore}
 
 -- a new session over no rows is sound; each step from a sound point leads to a sound point; and each step from a point that is
@@ -30,10 +30,10 @@ pub record StepsAreSound : Type 0 where
   pub first : IsSound no_rows no_session
   pub next :
       (tables : Tables) (session : Session) (command : Command) (reply : Reply) (tables' : Tables) (session' : Session)
-      → Step tables session command reply tables' session' → IsSound tables session → IsSound tables' session'
+      → StoryStep tables session command reply tables' session' → IsSound tables session → IsSound tables' session'
   pub each :
       (tables : Tables) (session : Session) (command : Command) (reply : Reply) (tables' : Tables) (session' : Session)
-      → Step tables session command reply tables' session' → IsSoundFor command tables session
+      → StoryStep tables session command reply tables' session' → IsSoundFor command tables session
       → (other : Command) → IsSoundFor other tables session → IsSoundFor other tables' session'
 
 -- the change of an answer has rows; at a point that is sound for the command they stand in order behind those of the tables
@@ -56,14 +56,14 @@ SessionsLeaveStores = (tables : Tables) (session : Session) → IsSound tables s
 abbrev pub StepsLeadToNextTables : Type 0
 StepsLeadToNextTables =
     (tables : Tables) (session : Session) (command : Command) (reply : Reply) (tables' : Tables) (session' : Session)
-    → Step tables session command reply tables' session' → tables' ≡ next_tables command reply session tables
+    → StoryStep tables session command reply tables' session' → tables' ≡ next_tables command reply session tables
 
 -- rows that stand in order, texts of queries and filters that can be read, and what each query has delivered is its box
 pub record AreBoxed (tables : Tables) : Type 0 where
   pub rows : is_well_formed tables ≡ true
   pub queries : Each (λ query. IsOk (condition_of (condition_text query.source))) tables.queries
   pub filters : Each (λ filter. IsOk (rules_of filter.source)) tables.filters
-  pub boxes : Each (λ query. delivered query.num.0 tables ≡ box_in query tables) tables.queries
+  pub boxes : Each (λ query. delivered query.num.0 tables ≡ box_of_query query tables) tables.queries
 
 -- a session may begin with tables if and only if they are so
 abbrev pub StoresAreBoxed : Type 0
@@ -76,5 +76,5 @@ pub record AnswersAreNotMemory : Type 0 where
   pub apart : (tables : Tables) (session : Session) (command : Command) → is_proper command ≡ true
       → first_text (answer_of command session tables).reply ≡ codes "no 18" → ⊥
   pub step : (tables : Tables) (session : Session) (command : Command) (reply : Reply) (tables' : Tables) (session' : Session)
-      → is_proper command ≡ true → Step tables session command reply tables' session' → first_text reply ≡ codes "no 18"
+      → is_proper command ≡ true → StoryStep tables session command reply tables' session' → first_text reply ≡ codes "no 18"
       → GivesUp tables session command reply tables' session'

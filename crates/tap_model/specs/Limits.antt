@@ -3,7 +3,7 @@ use Rattle.std.specs.Prelude.{◌≡◌, ℕ, ◌+◌, List, [], ◌∷◌, ◌+
 use Rattle.std.specs.Prelude.{None, sum_by}
 use Rattle.std.specs.Prelude.{if◌then◌else◌}
 use Rattle.std.specs.Str.{bytes_eq}
-use Rattle.tap_base.specs.Words.{holds}
+use Rattle.tap_base.specs.Words.{has_text}
 use Rattle.tap_base.specs.declared.moments.TheConstants.{LAST_MOMENT}
 use Rattle.tap_rows.specs.declared.tables.TheConstants.{MESSAGE_LIMIT}
 use Rattle.mail_lines.specs.declared.line.TheConstants.{LINE_LIMIT}
@@ -65,7 +65,7 @@ owners_in tables = map (λ query. query.owner) tables.queries ++ map (λ filter.
 -- how many different texts these are
 abbrev pub different : List (List ℕ) → ℕ
 different [] = 0
-different (text ∷ texts) = if holds texts text then different texts else different texts + 1
+different (text ∷ texts) = if has_text texts text then different texts else different texts + 1
 
 -- how many queries the user has
 abbrev pub queries_of : List ℕ → Tables → ℕ
@@ -73,7 +73,7 @@ queries_of user tables = length (filter (λ query. bytes_eq query.owner user) ta
 
 -- how many more users own a query or a filter once this one does
 abbrev pub new_users : List ℕ → Tables → ℕ
-new_users user tables = if holds (owners_in tables) user then 0 else 1
+new_users user tables = if has_text (owners_in tables) user then 0 else 1
 
 -- the limit, if so many more would pass it; none more pass no limit
 abbrev pub limit_refusal : LimitName → ℕ → ℕ → ℕ → Option Refusal

@@ -17,7 +17,7 @@ use Rattle.script_lang.specs.Rows.{note_text, query_text}
 use Rattle.restart_core.specs.Starts.{condition_text}
 use Rattle.tap_model.specs.declared.session.Session.{Session}
 use Rattle.tap_model.specs.Sessions.{or_zero, user_of, last_moment}
-use Rattle.tap_model.specs.Queries.{start_of, box_in, owned_queries}
+use Rattle.tap_model.specs.Queries.{start_of, box_of_query, owned_queries}
 
 -- the document of this number, if there is one
 abbrev pub doc_numbered : ℕ → List Doc → Option Doc
@@ -39,21 +39,21 @@ state_of tables query = record {
   start = start_of query;
   runs = length (run_moments query.num.0 tables.runs);
   last = last_of (run_moments query.num.0 tables.runs);
-  boxed = length (box_in query tables);
+  boxed = length (box_of_query query tables);
 }
 
 -- the line of a query: its name, what is known of it, and the text of its condition
-abbrev pub line_of : Tables → QueryRow → List ℕ
-line_of tables query = query_text query.name (state_of tables query) (condition_text query.source)
+abbrev pub query_line : Tables → QueryRow → List ℕ
+query_line tables query = query_text query.name (state_of tables query) (condition_text query.source)
 
 -- the lines of a document's text, if there is one
-abbrev pub show_doc : ℕ → Option Doc → Reply
-show_doc num None = No NoDoc
-show_doc num (Some doc) = Found (DocText num doc.arrival) (lined doc.text)
+abbrev pub shown_doc : ℕ → Option Doc → Reply
+shown_doc num None = No NoDoc
+shown_doc num (Some doc) = Found (DocText num doc.arrival) (lined doc.text)
 
 -- the reply to a look-up that is accepted
 abbrev pub lookup_reply : Lookup → Session → Tables → Reply
-lookup_reply (ShowDoc num) session tables = show_doc num (doc_numbered num tables.docs)
+lookup_reply (ShowDoc num) session tables = shown_doc num (doc_numbered num tables.docs)
 lookup_reply (ListNotes num) session tables = Found (DocNotes num) (map note_text (notes_on num tables.notes))
-lookup_reply ListQueries session tables = Found UserQueries (map (line_of tables) (owned_queries (user_of session) tables))
+lookup_reply ListQueries session tables = Found UserQueries (map (query_line tables) (owned_queries (user_of session) tables))
 lookup_reply Count session tables = Found (Counts (length tables.docs) (length tables.notes) (or_zero (last_moment session tables))) []

@@ -19,7 +19,7 @@ use Rattle.script_lang.specs.declared.reply.Reply.TheVariants.{No}
 use Rattle.tap_model.specs.declared.session.Session.{Session}
 use Rattle.tap_model.specs.Queries.{owned_queries}
 use Rattle.tap_model.specs.Filters.{last_filter}
-use Rattle.tap_model.specs.Stories.{Step, Story}
+use Rattle.tap_model.specs.Stories.{StoryStep, Story}
 use Rattle.tap_model.specs.Sound.{IsSound}
 
 -- a query as its user sees it: the moments of its runs, and what they delivered
@@ -119,7 +119,7 @@ pub record Move : Type 0 where
   pub tables' : Tables
   pub session' : Session
   pub sound : IsSound tables session
-  pub step : Step tables session command reply tables' session'
+  pub step : StoryStep tables session command reply tables' session'
 
 -- a story from a sound point
 pub record Tale : Type 0 where

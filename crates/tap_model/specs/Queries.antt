@@ -33,8 +33,8 @@ abbrev pub condition_by : QueryRow → Condition
 condition_by query = condition_in (condition_text query.source)
 
 -- a query's truth: that of its condition
-abbrev pub truth_of : QueryRow → Truth
-truth_of query = Holds.truth_of (condition_by query)
+abbrev pub query_truth : QueryRow → Truth
+query_truth query = Holds.truth_of (condition_by query)
 
 -- the first second that a query covers: its arrival if it is from now, else 0
 unfoldable pub start_of : QueryRow → ℤ
@@ -45,8 +45,8 @@ abbrev pub probes_from : Condition → ℤ → List Probe
 probes_from c start = distinct_probes (window (form_of c) start)
 
 -- the probes by which a query runs
-abbrev pub probes_in : QueryRow → List Probe
-probes_in query = probes_from (condition_by query) (start_of query)
+abbrev pub probes_of_query : QueryRow → List Probe
+probes_of_query query = probes_from (condition_by query) (start_of query)
 
 -- the probes of a query as it is written, which `explain` shows: the window query of its condition, without repeats
 abbrev pub written_in : QueryRow → List Probe
@@ -66,8 +66,8 @@ query_named owner name tables = find (is_query_of owner name) tables.queries
 
 -- what a run of the query at this moment delivers
 abbrev pub hits_of : QueryRow → Tables → ℤ → List Hit
-hits_of query tables moment = run_hits (truth_of query) (start_of query) tables query.num.0 moment
+hits_of query tables moment = run_hits (query_truth query) (start_of query) tables query.num.0 moment
 
 -- the box of the query, computed from the rows and the moments of its runs
-abbrev pub box_in : QueryRow → Tables → List Entry
-box_in query tables = box_of (truth_of query) tables (start_of query) query.num.0
+abbrev pub box_of_query : QueryRow → Tables → List Entry
+box_of_query query tables = box_of (query_truth query) tables (start_of query) query.num.0

@@ -25,7 +25,7 @@ use Rattle.script_lang.specs.declared.reply.Reply.TheVariants.{ListOf as Listing
 use Rattle.script_lang.specs.declared.reply.Reply.TheVariants.{Wake as Woken, ScoresOf as Scored, DigestOf as Digest}
 use Rattle.tap_model.specs.declared.session.Session.{Session}
 use Rattle.tap_model.specs.Sessions.{moment_or_zero, user_of}
-use Rattle.tap_model.specs.Queries.{condition_in, truth_of, start_of, query_named, hits_of, box_in, lines_of}
+use Rattle.tap_model.specs.Queries.{condition_in, query_truth, start_of, query_named, hits_of, box_of_query, lines_of}
 use Rattle.tap_model.specs.Wakes.{wake_moment}
 use Rattle.tap_model.specs.Lookups.{lookup_reply}
 use Rattle.filter_rules.specs.Listings.{listing_of}
@@ -33,7 +33,7 @@ use Rattle.tap_rows.specs.Votes.{scores_of}
 use Rattle.mail_fields.specs.Digests.{digested, digest_lines}
 use Rattle.tap_model.specs.Filters.{rules_in_text, rules_of_user}
 use Rattle.restart_core.specs.Starts.{stored_source}
-use Rattle.tap_model.specs.Verdicts.{text_of, messages_of, verdict}
+use Rattle.tap_model.specs.Verdicts.{block_text, messages_of, verdict}
 
 -- a command's reply, the session after it, and the rows that it adds
 pub record Answer : Type 0 where
@@ -127,19 +127,19 @@ run_query None session tables = refused NoQuery session
 run_query (Some query) session tables = record {
   reply = Ran (length (run_moments query.num.0 tables.runs) + 1) (moment_or_zero session) (hits_of query tables (moment_or_zero session));
   session = session;
-  change = Some (run_change (truth_of query) (start_of query) tables query.num (moment_or_zero session));
+  change = Some (run_change (query_truth query) (start_of query) tables query.num (moment_or_zero session));
 }
 
 -- `box`: the box of this query
 abbrev pub show_box : Option QueryRow → List ℕ → Session → Tables → Answer
 show_box None name session tables = refused NoQuery session
-show_box (Some query) name session tables = record { reply = Boxed name (box_in query tables); session = session; change = None }
+show_box (Some query) name session tables = record { reply = Boxed name (box_of_query query tables); session = session; change = None }
 
 -- `list`: the box of this query in the order of its documents' ratings by the user's rules
 abbrev pub show_list : Option QueryRow → List ℕ → Session → Tables → Answer
 show_list None name session tables = refused NoQuery session
 show_list (Some query) name session tables = record {
-  reply = Listing name (listing_of (rules_of_user (user_of session) tables) tables.docs (box_in query tables));
+  reply = Listing name (listing_of (rules_of_user (user_of session) tables) tables.docs (box_of_query query tables));
   session = session;
   change = None;
 }
@@ -192,7 +192,7 @@ entries_in_run ordinal entries = filter (λ entry. entry.run == ordinal) entries
 abbrev pub show_digest : Option QueryRow → List ℕ → ℕ → Session → Tables → Answer
 show_digest None name ordinal session tables = refused NoQuery session
 show_digest (Some query) name ordinal session tables = record {
-  reply = Digest name ordinal (digest_lines name ordinal (digested tables.docs (entries_in_run ordinal (box_in query tables))));
+  reply = Digest name ordinal (digest_lines name ordinal (digested tables.docs (entries_in_run ordinal (box_of_query query tables))));
   session = session;
   change = None;
 }
@@ -205,7 +205,7 @@ look_up lookup session tables = record { reply = lookup_reply lookup session tab
 abbrev pub accepted : Command → Session → Tables → Answer
 accepted (At text) session tables = set_moment (moment_of text) session
 accepted (AsUser name) session tables = set_user name session
-accepted (Mail block) session tables = add_mail (text_of block) session tables
+accepted (Mail block) session tables = add_mail (block_text block) session tables
 accepted (Define name source) session tables = add_query name source session tables
 accepted (Run name) session tables = run_query (query_named (user_of session) name tables) session tables
 accepted (BoxOf name) session tables = show_box (query_named (user_of session) name tables) name session tables
@@ -213,7 +213,7 @@ accepted (Bad refusal) session tables = refused refusal session
 accepted (Mbox block) session tables = add_mbox (messages_of block) session tables
 accepted (AddNote doc kind value text) session tables = add_note doc kind value text session tables
 accepted (ListOf name) session tables = show_list (query_named (user_of session) name tables) name session tables
-accepted (Filter block) session tables = add_filter (text_of block) session tables
+accepted (Filter block) session tables = add_filter (block_text block) session tables
 accepted (Explain name) session tables = show_lines (query_named (user_of session) name tables) name session tables
 accepted (Ask moment source) session tables = ask_at (moment_of moment) source session tables
 accepted (Wake name) session tables = show_wake (query_named (user_of session) name tables) name session tables

@@ -12,7 +12,7 @@ use Rattle.script_lang.specs.declared.command.Command.TheVariants.{ScoresOf, Dig
 use Rattle.script_lang.specs.declared.lookup.Lookup.TheVariants.{ShowDoc, ListNotes, ListQueries, Count}
 use Rattle.tap_model.specs.declared.session.Session.{Session}
 use Rattle.tap_model.specs.Sessions.{no_session}
-use Rattle.tap_model.specs.Queries.{truth_of, start_of}
+use Rattle.tap_model.specs.Queries.{query_truth, start_of}
 use Rattle.tap_model.specs.Verdicts.{text_fault, filter_fault}
 
 -- the second may be a moment
@@ -41,7 +41,7 @@ pub record IsSoundWith (deliveries : Type 0) (tables : Tables) (session : Sessio
 
 -- a sound point: each query's deliveries are its box, too
 abbrev pub IsSound : Tables → Session → Type 0
-IsSound tables session = IsSoundWith (IsKept truth_of start_of tables) tables session
+IsSound tables session = IsSoundWith (IsKept query_truth start_of tables) tables session
 
 -- tables that a session may begin with: those that one left
 abbrev pub IsStore : Tables → Type 0
@@ -72,4 +72,4 @@ asks_deliveries (Bad refusal) = false
 
 -- a sound point, but the deliveries need be boxes only if the command looks at them
 abbrev pub IsSoundFor : Command → Tables → Session → Type 0
-IsSoundFor command tables session = IsSoundWith (asks_deliveries command ≡ true → IsKept truth_of start_of tables) tables session
+IsSoundFor command tables session = IsSoundWith (asks_deliveries command ≡ true → IsKept query_truth start_of tables) tables session

@@ -29,15 +29,15 @@ abbrev pub next_tables : Command → Reply → Session → Tables → Tables
 next_tables command reply session tables = if is_accepted reply then tables_after (answer_of command session tables).change tables else tables
 
 -- one step of a story: the command is answered, or the program is out of memory
-abbrev pub Step : Tables → Session → Command → Reply → Tables → Session → Type 0
-Step tables session command reply tables' session' =
+abbrev pub StoryStep : Tables → Session → Command → Reply → Tables → Session → Type 0
+StoryStep tables session command reply tables' session' =
     Follows tables session command reply tables' session' ⊎ GivesUp tables session command reply tables' session'
 
 -- the commands, from these tables and this session on, get these replies and lead to those tables and that session
 abbrev pub Story : Tables → Session → List Command → List Reply → Tables → Session → Type 0
 Story tables session [] [] tables' session' = (tables' ≡ tables) × (session' ≡ session)
 Story tables session (command ∷ commands) (reply ∷ replies) tables' session' =
-    (mid : Tables) × (next : Session) × Step tables session command reply mid next × Story mid next commands replies tables' session'
+    (mid : Tables) × (next : Session) × StoryStep tables session command reply mid next × Story mid next commands replies tables' session'
 Story tables session [] (reply ∷ replies) tables' session' = ⊥
 Story tables session (command ∷ commands) [] tables' session' = ⊥
 

@@ -133,8 +133,8 @@ long_block Long = Some (Limit BlockLimit)
 long_block (Whole text) = None
 
 -- the bytes of the messages
-abbrev pub bytes_of : List (List ℕ) → ℕ
-bytes_of messages = sum_by length messages
+abbrev pub bytes_of_all : List (List ℕ) → ℕ
+bytes_of_all messages = sum_by length messages
 
 -- the number is no document's, if there are so many documents
 unfoldable pub no_doc : ℕ → ℕ → Option Refusal
@@ -165,9 +165,9 @@ long_filter Long = Some (Limit BlockLimit)
 long_filter (Whole text) = refuse_unless (nat_le (length text) filter_text_limit) (Limit BlockLimit)
 
 -- the text of a block; one that is too long has none
-abbrev pub text_of : Block → List ℕ
-text_of Long = []
-text_of (Whole text) = text
+abbrev pub block_text : Block → List ℕ
+block_text Long = []
+block_text (Whole text) = text
 
 -- what a run of this query delivers, if there is one
 abbrev pub hits_found : Option QueryRow → Tables → ℤ → List Hit
@@ -194,7 +194,7 @@ checks (Mail block) session tables =
     no_moment session
     ∷ too_long block
     ∷ limit_refusal Documents document_limit (length tables.docs) 1
-    ∷ limit_refusal Store store_limit (stored_bytes tables) (length (text_of block))
+    ∷ limit_refusal Store store_limit (stored_bytes tables) (length (block_text block))
     ∷ []
 checks (Define name source) session tables =
     no_moment session
@@ -221,7 +221,7 @@ checks (Mbox block) session tables =
     ∷ long_message (messages_of block)
     ∷ long_block block
     ∷ limit_refusal Documents document_limit (length tables.docs) (length (messages_of block))
-    ∷ limit_refusal Store store_limit (stored_bytes tables) (bytes_of (messages_of block))
+    ∷ limit_refusal Store store_limit (stored_bytes tables) (bytes_of_all (messages_of block))
     ∷ []
 checks (AddNote doc kind value text) session tables =
     no_moment session
@@ -239,8 +239,8 @@ checks (Filter block) session tables =
     ∷ long_filter block
     ∷ limit_refusal Users user_limit (different (owners_in tables)) (new_users (user_of session) tables)
     ∷ limit_refusal Filters filter_limit (length tables.filters) 1
-    ∷ limit_refusal Store store_limit (stored_bytes tables) (length (text_of block))
-    ∷ filter_fault (text_of block)
+    ∷ limit_refusal Store store_limit (stored_bytes tables) (length (block_text block))
+    ∷ filter_fault (block_text block)
     ∷ []
 checks (Explain name) session tables = no_user session ∷ bad_name name ∷ no_query session name tables ∷ []
 checks (Ask moment source) session tables =

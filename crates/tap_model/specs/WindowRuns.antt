@@ -15,7 +15,7 @@ use Rattle.time_marks.specs.Probes.{meaning_without}
 use Rattle.monotone_rewrite.specs.Laws.{FromZero}
 use Rattle.time_marks.specs.NextWake.{next_wake}
 use Rattle.tap_model.specs.declared.session.Session.{Session}
-use Rattle.tap_model.specs.Queries.{truth_of, start_of, probes_in, hits_of}
+use Rattle.tap_model.specs.Queries.{query_truth, start_of, probes_of_query, hits_of}
 use Rattle.tap_model.specs.Sound.{IsMoment, IsSound}
 use Rattle.tap_model.specs.Wakes.{wake_moment}
 
@@ -30,7 +30,7 @@ asked_rows tables = record no_rows { docs = tables.docs; notes = tables.notes }
 -- what the query's window query finds over the seconds from its last run up to a moment, without what was delivered
 abbrev pub found_since : QueryRow → Tables → ℤ → List Hit
 found_since query tables moment =
-    meaning_without (is_delivered (delivered query.num.0 tables)) (probes_in query) (asked_rows tables)
+    meaning_without (is_delivered (delivered query.num.0 tables)) (probes_of_query query) (asked_rows tables)
     (record { low = covered (start_of query) query.num.0 tables.runs; high = moment })
 
 -- the moment that `wake` names is the second after the least mark that the window query finds since the last run, or now if
@@ -48,18 +48,18 @@ RunsAreWindows =
 
 -- the document was given before this moment
 abbrev pub was_given : QueryRow → Tables → ℤ → Doc → Bool
-was_given query tables moment doc = is_some (first_second (truth_of query) tables doc (start_of query) moment)
+was_given query tables moment doc = is_some (first_second (query_truth query) tables doc (start_of query) moment)
 
 -- what the window query finds from a moment on, without the documents that were given before it, is what is fresh; and from
 -- the query's start on nothing was given before, so without leaving out any
 pub record IsFreshUnseen (query : QueryRow) (tables : Tables) : Type 0 where
   pub unseen : (seen : Doc → Bool) (from until : ℤ) → start_of query ≤ℤ from → from ≤ℤ until
       → ((doc : Doc) → In doc tables.docs → seen doc ≡ was_given query tables from doc)
-      → meaning_without seen (probes_in query) tables (record { low = from; high = until })
-      ≡ fresh_in (truth_of query) tables (start_of query) from until
+      → meaning_without seen (probes_of_query query) tables (record { low = from; high = until })
+      ≡ fresh_in (query_truth query) tables (start_of query) from until
   pub first : (until : ℤ) → start_of query ≤ℤ until
-      → meaning_without (λ _. false) (probes_in query) tables (record { low = start_of query; high = until })
-      ≡ fresh_in (truth_of query) tables (start_of query) (start_of query) until
+      → meaning_without (λ _. false) (probes_of_query query) tables (record { low = start_of query; high = until })
+      ≡ fresh_in (query_truth query) tables (start_of query) (start_of query) until
 
 abbrev pub UnseenIsFresh : Type 0
 UnseenIsFresh = (query : QueryRow) (tables : Tables) → pos 0 ≤ℤ start_of query → FromZero tables → IsFreshUnseen query tables

@@ -8,7 +8,7 @@ use Rattle.tap_rows.specs.declared.tables.Tables.{Tables}
 use Rattle.tap_rows.specs.declared.rows.Doc.{Doc}
 use Rattle.tap_rows.specs.declared.results.Hit.{Hit}
 use Rattle.tap_rows.specs.Arrivals.{Arrived}
-use Rattle.tap_rows.specs.Results.{Truth, is_given, first_second, hit_of, at_least, in_order, put_in, is_before, fresh_in}
+use Rattle.tap_rows.specs.Results.{Truth, is_given, first_second, hit_of, at_least, hits_in_order, put_in, is_before, fresh_in}
 use Rattle.tap_rows.specs.Constant.{at_arrival, arrival_hit}
 use Rattle.tap_rows.proofs.SecondsLaws.{least_second-is, least_second-never}
 
@@ -78,11 +78,11 @@ put_in-first hit num (other ∷ hits) lt later =
       before-later x y le less = grind (arith, ints)
 
 -- the hits at arrival are in order as they stand
-pub hits-in_order : (holds : Doc → Bool) (tau t : ℤ) (num : ℕ) (low : ℤ) (docs : List Doc) → Arrived num low docs → in_order (filter_map (arrival_hit holds tau t) docs) ≡ filter_map (arrival_hit holds tau t) docs
+pub hits-in_order : (holds : Doc → Bool) (tau t : ℤ) (num : ℕ) (low : ℤ) (docs : List Doc) → Arrived num low docs → hits_in_order (filter_map (arrival_hit holds tau t) docs) ≡ filter_map (arrival_hit holds tau t) docs
 hits-in_order holds tau t num low [] arrived = refl
 hits-in_order holds tau t num low (doc ∷ docs) arrived =
     let rest = hits-in_order holds tau t (suc num) doc.arrival docs arrived.2 in
-    elim (holds doc && int_le tau doc.arrival && int_lt doc.arrival t) as (λ b. in_order (cons_option (if b then at_arrival doc else None) (filter_map (arrival_hit holds tau t) docs)) ≡ cons_option (if b then at_arrival doc else None) (filter_map (arrival_hit holds tau t) docs)) [
+    elim (holds doc && int_le tau doc.arrival && int_lt doc.arrival t) as (λ b. hits_in_order (cons_option (if b then at_arrival doc else None) (filter_map (arrival_hit holds tau t) docs)) ≡ cons_option (if b then at_arrival doc else None) (filter_map (arrival_hit holds tau t) docs)) [
       | true ↦ rw rest (put_in-first (record { doc = doc.num; first = doc.arrival }) (suc num) (filter_map (arrival_hit holds tau t) docs) (omega (arith, arrived.1)) (hits-later holds tau t (suc num) doc.arrival docs arrived.2))
       | false ↦ rest
     ]

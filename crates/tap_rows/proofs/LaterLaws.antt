@@ -9,7 +9,7 @@ use Rattle.std.proofs.lemmas.List.Elements.{filter_map-append}
 use Rattle.tap_rows.specs.declared.tables.Tables.{Tables}
 use Rattle.tap_rows.specs.declared.rows.Doc.{Doc}
 use Rattle.tap_rows.specs.declared.results.Hit.{Hit}
-use Rattle.tap_rows.specs.Results.{Truth, visible, is_given, first_second, hit_of, at_least, in_order, fresh_in}
+use Rattle.tap_rows.specs.Results.{Truth, visible, is_given, first_second, hit_of, at_least, hits_in_order, fresh_in}
 use Rattle.tap_rows.specs.Kept.{Each, IsOfTheSecond}
 use Rattle.tap_rows.specs.Grown.{Grown}
 use Rattle.tap_rows.proofs.SecondsLaws.{least_second-same, least_second-never}
@@ -87,4 +87,4 @@ fresh-later truth t tables later start tau until causal grown le =
     hits-new truth later start tau until grown.new_docs (each-map (λ doc. t ≤ℤ doc.arrival) (λ doc. until ≤ℤ doc.arrival) grown.new_docs (λ doc h. omega (arith, ints)) grown.late_docs) in
     let same : filter_map (λ doc. hit_of doc (at_least tau (first_second truth later doc start until))) later.docs ≡ filter_map (λ doc. hit_of doc (at_least tau (first_second truth tables doc start until))) tables.docs =
     no-more (λ doc. hit_of doc (at_least tau (first_second truth later doc start until))) later.docs tables.docs grown.new_docs grown.docs none ∙ hits-later truth t tables later start tau until tables.docs causal grown le in
-    ap in_order same
+    ap hits_in_order same

@@ -3,7 +3,7 @@ use Rattle.std.proofs.Common.{◌≡◌, sym, refl, arith, ℕ, ℤ, Bool, true,
 use Rattle.std.specs.Prelude.{◌&&◌, ◌||◌, not, nat_lt, filter, int_lt}
 use Rattle.std.proofs.lemmas.Int.{ints}
 use Rattle.tap_rows.specs.declared.results.Hit.{Hit}
-use Rattle.tap_rows.specs.Results.{in_order, put_in, is_before}
+use Rattle.tap_rows.specs.Results.{hits_in_order, put_in, is_before}
 
 -- the hits stand after this one, or none stands before it
 abbrev pub AllAfter : Hit → List Hit → Type 0
@@ -89,14 +89,14 @@ InOrder-put_in hit (other ∷ hits) order = go (is_before hit other) refl (InOrd
   go true e rest = rw e (NoneBefore-from hit (other ∷ hits) (e, after-all hit other hits e order.0), order)
   go false e rest = rw e (NoneBefore-put_in other hit hits e order.0, rest)
 
-in_order-InOrder : (hits : List Hit) → InOrder (in_order hits)
+in_order-InOrder : (hits : List Hit) → InOrder (hits_in_order hits)
 in_order-InOrder [] = tt
-in_order-InOrder (hit ∷ hits) = InOrder-put_in hit (in_order hits) (in_order-InOrder hits)
+in_order-InOrder (hit ∷ hits) = InOrder-put_in hit (hits_in_order hits) (in_order-InOrder hits)
 
 -- what passes a test, in order
-pub in_order-filter : (test : Hit → Bool) (hits : List Hit) → filter test (in_order hits) ≡ in_order (filter test hits)
+pub in_order-filter : (test : Hit → Bool) (hits : List Hit) → filter test (hits_in_order hits) ≡ hits_in_order (filter test hits)
 in_order-filter test [] = refl
 in_order-filter test (hit ∷ hits) = go (test hit) refl (in_order-filter test hits) where
-  go : (b : Bool) → test hit ≡ b → filter test (in_order hits) ≡ in_order (filter test hits) → filter test (put_in hit (in_order hits)) ≡ in_order (filter test (hit ∷ hits))
-  go true e rest = rw (put_in-passes test hit (in_order hits) e (in_order-InOrder hits), rest, e) refl
-  go false e rest = rw (put_in-fails test hit (in_order hits) e, rest, e) refl
+  go : (b : Bool) → test hit ≡ b → filter test (hits_in_order hits) ≡ hits_in_order (filter test hits) → filter test (put_in hit (hits_in_order hits)) ≡ hits_in_order (filter test (hit ∷ hits))
+  go true e rest = rw (put_in-passes test hit (hits_in_order hits) e (in_order-InOrder hits), rest, e) refl
+  go false e rest = rw (put_in-fails test hit (hits_in_order hits) e, rest, e) refl

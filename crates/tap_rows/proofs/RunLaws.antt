@@ -9,7 +9,7 @@ use Rattle.tap_rows.specs.declared.rows.Doc.{Doc}
 use Rattle.tap_rows.specs.declared.rows.RunRow.{RunRow}
 use Rattle.tap_rows.specs.declared.tables.Tables.{Tables}
 use Rattle.tap_rows.specs.Kept.{Rising}
-use Rattle.tap_rows.specs.Results.{Truth, is_given, first_second, hit_of, at_least, put_in, is_before, in_order, run_of, entry_at, entries_of, entries_from, last_or, run_moments, covered, union_until, fresh_in, box_of}
+use Rattle.tap_rows.specs.Results.{Truth, is_given, first_second, hit_of, at_least, put_in, is_before, hits_in_order, run_of, entry_at, entries_of, entries_from, last_or, run_moments, covered, union_until, fresh_in, box_of}
 use Rattle.tap_rows.proofs.SecondsLaws.{least_second-within}
 use Rattle.tap_rows.proofs.UnionLaws.{is_from, is_earlier, fresh-part, union-part}
 
@@ -112,9 +112,9 @@ put_in-within low t hit (other ∷ hits) lo hi within = elim (is_before hit othe
   | false ↦ (within.0, within.1, put_in-within low t hit hits lo hi within.2)
 ]
 
-in_order-within : (low t : ℤ) (hits : List Hit) → Within low t hits → Within low t (in_order hits)
+in_order-within : (low t : ℤ) (hits : List Hit) → Within low t hits → Within low t (hits_in_order hits)
 in_order-within low t [] within = tt
-in_order-within low t (hit ∷ hits) within = put_in-within low t hit (in_order hits) within.0 within.1 (in_order-within low t hits within.2)
+in_order-within low t (hit ∷ hits) within = put_in-within low t hit (hits_in_order hits) within.0 within.1 (in_order-within low t hits within.2)
 
 found-within : (start tau t : ℤ) (doc : Doc) (found : Option ℤ) (hits : List Hit) → ((f : ℤ) → found ≡ Some f → (start ≤ℤ f) × (f <ℤ t)) → Within start t hits → Within start t (cons_option (hit_of doc (at_least tau found)) hits)
 found-within start tau t doc None hits w rest = rest

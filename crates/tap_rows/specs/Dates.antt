@@ -8,7 +8,7 @@ use Rattle.std.specs.Str.{str_eq_ignore_ascii_case, all_ascii_digits}
 use Rattle.std.specs.Str.Parse.{digits_value}
 use Rattle.jiff_core.specs.Calendar.{days_from_civil, days_in_month}
 use Rattle.tap_base.specs.Bytes.{is_blank}
-use Rattle.tap_base.specs.Numbers.{moment_at}
+use Rattle.tap_base.specs.Numbers.{checked_moment}
 
 -- the bytes with each comment as one blank, if `depth` comments are open before them; one that isn't closed goes to the end
 abbrev pub without_comments : ℕ → List ℕ → List ℕ
@@ -75,16 +75,16 @@ clock_second (Some h) None s = None
 clock_second None m s = None
 
 -- the second of the day of two or three numbers: hour, minute, second
-abbrev pub clock_of : List (List ℕ) → Option ℕ
-clock_of (h ∷ m ∷ []) = clock_second (clock_number 23 h) (clock_number 59 m) (Some 0)
-clock_of (h ∷ m ∷ s ∷ []) = clock_second (clock_number 23 h) (clock_number 59 m) (clock_number 60 s)
-clock_of [] = None
-clock_of (h ∷ []) = None
-clock_of (h ∷ m ∷ s ∷ x ∷ more) = None
+abbrev pub second_of_day : List (List ℕ) → Option ℕ
+second_of_day (h ∷ m ∷ []) = clock_second (clock_number 23 h) (clock_number 59 m) (Some 0)
+second_of_day (h ∷ m ∷ s ∷ []) = clock_second (clock_number 23 h) (clock_number 59 m) (clock_number 60 s)
+second_of_day [] = None
+second_of_day (h ∷ []) = None
+second_of_day (h ∷ m ∷ s ∷ x ∷ more) = None
 
 -- the second of the day of a part: its numbers are joined by colons
 abbrev pub time_of : List ℕ → Option ℕ
-time_of part = clock_of (slice_split (λ b. b == 58) part)
+time_of part = second_of_day (slice_split (λ b. b == 58) part)
 
 -- how many hours west of Greenwich a zone of this name is (RFC 5322 4.3); a name that isn't known is Greenwich
 abbrev pub hours_west : List ℕ → ℕ
@@ -121,7 +121,7 @@ has_day year month day = nat_le 1 day && nat_le day (days_in_month (pos year) mo
 -- the second of a civil date, a second of the day and a zone, if it is a moment's
 abbrev pub second_of : ℕ → ℕ → ℕ → ℕ → ℤ → Option ℤ
 second_of year month day time zone =
-    if has_day year month day then moment_at (pos 86400 *ℤ days_from_civil (pos year) month day +ℤ pos time -ℤ zone) else None
+    if has_day year month day then checked_moment (pos 86400 *ℤ days_from_civil (pos year) month day +ℤ pos time -ℤ zone) else None
 
 -- the second of the parts of a date, if each part has its form
 abbrev pub second_of_parts : Option ℕ → Option ℕ → Option ℕ → Option ℕ → Option ℤ → Option ℤ

@@ -12,8 +12,8 @@ address_of part =
     else trimmed (before_first (λ b. b == 40) part)
 
 -- the entries of some parts: their addresses with A to Z lowered, without those that are empty
-abbrev pub entries_of : List (List ℕ) → List (List ℕ)
-entries_of parts = filter (λ entry. not (length entry == 0)) (map (λ part. str_to_ascii_lowercase (address_of part)) parts)
+abbrev pub addresses_in : List (List ℕ) → List (List ℕ)
+addresses_in parts = filter (λ entry. not (length entry == 0)) (map (λ part. str_to_ascii_lowercase (address_of part)) parts)
 
 -- the parts between the commas outside quotes; do the bytes begin inside quotes?
 abbrev pub comma_parts_from : Bool → List ℕ → List (List ℕ)
@@ -28,12 +28,12 @@ comma_parts value = comma_parts_from false value
 
 -- the entries of a value that commas cut
 abbrev pub listed : List ℕ → List (List ℕ)
-listed value = entries_of (comma_parts value)
+listed value = addresses_in (comma_parts value)
 
 -- the entries of a value that blanks cut
 abbrev pub referred : List ℕ → List (List ℕ)
-referred value = entries_of (slice_split is_blank value)
+referred value = addresses_in (slice_split is_blank value)
 
 -- the entries of a value that is one entry
 abbrev pub identified : List ℕ → List (List ℕ)
-identified value = entries_of (value ∷ [])
+identified value = addresses_in (value ∷ [])

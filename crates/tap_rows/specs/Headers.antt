@@ -48,8 +48,8 @@ continues_field [] = false
 continues_field (b ∷ bytes) = is_blank b
 
 -- the field that begins at a line, with the lines that continue it
-abbrev pub field_at : List ℕ → List (List ℕ) → HeaderField
-field_at line lines = record {
+abbrev pub header_field_at : List ℕ → List (List ℕ) → HeaderField
+header_field_at line lines = record {
   name = take (name_length line) line;
   unfolded = drop 1 (after_name line) ++ concat (take_while continues_field lines);
 }
@@ -58,7 +58,7 @@ field_at line lines = record {
 abbrev pub fields_from : List (List ℕ) → List HeaderField
 fields_from [] = []
 fields_from (line ∷ lines) =
-    if begins_field line then field_at line lines ∷ fields_from lines
+    if begins_field line then header_field_at line lines ∷ fields_from lines
     else (if continues_field line then fields_from lines else [])
 
 -- the lines after the header, with the one that ended it

@@ -43,9 +43,9 @@ put_in hit [] = hit ∷ []
 put_in hit (other ∷ hits) = if is_before hit other then hit ∷ other ∷ hits else other ∷ put_in hit hits
 
 -- the hits in order of first second, then of number
-abbrev pub in_order : List Hit → List Hit
-in_order [] = []
-in_order (hit ∷ hits) = put_in hit (in_order hits)
+abbrev pub hits_in_order : List Hit → List Hit
+hits_in_order [] = []
+hits_in_order (hit ∷ hits) = put_in hit (hits_in_order hits)
 
 -- a document with its second, if it has one
 abbrev pub hit_of : Doc → Option ℤ → Option Hit
@@ -54,7 +54,7 @@ hit_of doc (Some second) = Some (record { doc = doc.num; first = second })
 
 -- the documents that have a second, each with it, in order of that second, then of number
 abbrev pub hits_by : (Doc → Option ℤ) → List Doc → List Hit
-hits_by second docs = in_order (filter_map (λ doc. hit_of doc (second doc)) docs)
+hits_by second docs = hits_in_order (filter_map (λ doc. hit_of doc (second doc)) docs)
 
 -- a second, if it is not below tau
 abbrev pub at_least : ℤ → Option ℤ → Option ℤ

@@ -44,22 +44,22 @@ abbrev pub score_of : List ℕ → List Note → Doc → Option Score
 score_of kind notes doc = score_by doc.num (votes_on kind doc.num.0 notes)
 
 -- is the score x before the score y, by sum from the greatest and then by document?
-abbrev pub is_before : Score → Score → Bool
-is_before x y = int_lt y.sum x.sum || (not (int_lt x.sum y.sum) && nat_lt x.doc.0 y.doc.0)
+abbrev pub score_is_before : Score → Score → Bool
+score_is_before x y = int_lt y.sum x.sum || (not (int_lt x.sum y.sum) && nat_lt x.doc.0 y.doc.0)
 
 -- the scores in order, with one more at its place
-abbrev pub put_in : Score → List Score → List Score
-put_in score [] = score ∷ []
-put_in score (other ∷ scores) = if is_before score other then score ∷ other ∷ scores else other ∷ put_in score scores
+abbrev pub put_score : Score → List Score → List Score
+put_score score [] = score ∷ []
+put_score score (other ∷ scores) = if score_is_before score other then score ∷ other ∷ scores else other ∷ put_score score scores
 
 -- the scores in order of sum from the greatest, then of document
-abbrev pub in_order : List Score → List Score
-in_order [] = []
-in_order (score ∷ scores) = put_in score (in_order scores)
+abbrev pub scores_in_order : List Score → List Score
+scores_in_order [] = []
+scores_in_order (score ∷ scores) = put_score score (scores_in_order scores)
 
 -- the scores of a kind: one of each document that has a note of it, in order
 abbrev pub scores_of : List ℕ → Tables → List Score
-scores_of kind tables = in_order (filter_map (score_of kind tables.notes) tables.docs)
+scores_of kind tables = scores_in_order (filter_map (score_of kind tables.notes) tables.docs)
 
 -- the documents are numbered by their places, and each note is on one of them
 pub record AreNumbered (tables : Tables) : Type 0 where

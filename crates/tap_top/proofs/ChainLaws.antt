@@ -10,7 +10,7 @@ use Rattle.script_lang.specs.declared.reply.Reply.{Reply}
 use Rattle.tap_model.specs.declared.session.Session.{Session}
 use Rattle.tap_model.specs.Replies.{answer_of, tables_after}
 use Rattle.tap_model.specs.Sound.{IsStore}
-use Rattle.tap_model.specs.Stories.{Step, Story}
+use Rattle.tap_model.specs.Stories.{StoryStep, Story}
 use Rattle.tap_top.specs.Chains.{PastSession, IsChain, HasMore, OnlyAdds}
 use Rattle.tap_top.proofs.Crashes.{story-store}
 
@@ -54,7 +54,7 @@ answer-adds : (t : Tables) (change : Option Change) → OnlyAdds t (tables_after
 answer-adds t None = OnlyAdds-none t
 answer-adds t (Some change) = after-adds t change
 
-step-adds : (t : Tables) (s : Session) (c : Command) (r : Reply) (t' : Tables) (s' : Session) → Step t s c r t' s' → OnlyAdds t t'
+step-adds : (t : Tables) (s : Session) (c : Command) (r : Reply) (t' : Tables) (s' : Session) → StoryStep t s c r t' s' → OnlyAdds t t'
 step-adds t s c r t' s' (inl follows) = subst (OnlyAdds t) (sym follows.tables_are) (answer-adds t (answer_of c s t).change)
 step-adds t s c r t' s' (inr gives) = subst (OnlyAdds t) (sym gives.tables_are) (OnlyAdds-none t)
 

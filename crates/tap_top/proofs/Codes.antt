@@ -3,7 +3,7 @@ use Rattle.std.proofs.Common.{◌≡◌, ◌∙◌, sym, ap, subst, refl, arith,
 use Rattle.std.specs.Prelude.{◌⊎◌, ◌==◌}
 use Rattle.tap_top.specs.declared.status.Status.{Status}
 use Rattle.tap_top.specs.declared.status.Status.TheVariants as s
-use Rattle.tap_top.specs.Codes.{code_of, IsDone, IsOfClose, IsOfRun, IsOfRefusal}
+use Rattle.tap_top.specs.Codes.{code_of, PerformedAll, IsOfClose, IsOfRun, IsOfRefusal}
 
 -- the status of a number
 abbrev status_at : ℕ → Status
@@ -34,7 +34,7 @@ pub same-code : (a b : Status) → code_of a ≡ code_of b → a ≡ b
 same-code a b e = sym (status-of-code a) ∙ ap status_at e ∙ status-of-code b
 
 -- a number that is at most 1 is no other one
-pub not-done : (n : ℕ) → (n ≤ 1 → ⊥) → (status : Status) → code_of status ≡ n → IsDone status → ⊥
+pub not-done : (n : ℕ) → (n ≤ 1 → ⊥) → (status : Status) → code_of status ≡ n → PerformedAll status → ⊥
 not-done n more status is low = more (le (code_of status) n is low) where
   le : (a b : ℕ) → a ≡ b → a ≤ 1 → b ≤ 1
   le a b e low = omega arith

@@ -25,7 +25,7 @@ use Rattle.tap_top.specs.declared.top.TheConstants.{SCRIPT_LIMIT}
 use Rattle.tap_top.specs.Points.{SoundAlong, EngineMatchesKeeper}
 use Rattle.tap_top.specs.Answers.{Answered}
 use Rattle.tap_top.specs.Statuses.{AreFirst, IsFront, Whole, ReadCut, TooLong, OutOfMemory, PutCut, KeeperCut}
-use Rattle.tap_top.specs.Crashes.{IsPrefix, AreFullyWritten, AreWrittenReplies, LeavesPrefix}
+use Rattle.tap_top.specs.Crashes.{IsPrefixOfStory, AreFullyWritten, AreWrittenReplies, LeavesPrefix}
 use Rattle.tap_top.proofs.Stories.{Story-then, Story-sound, Answered-none}
 use Rattle.tap_top.proofs.Runs.{Consumes-none, same-front}
 
@@ -37,7 +37,7 @@ story-lengths t s [] (r ∷ rs) t' s' story = absurd story
 story-lengths t s (c ∷ cs) [] t' s' story = absurd story
 
 -- the end of a story is a prefix
-pub whole-prefix : (t : Tables) (cs : List Command) (rs : List Reply) (t' : Tables) (s' : Session) (n : ℕ) (x : Tables) → Story t no_session cs rs t' s' → n ≤ length rs → x ≡ t' → IsPrefix t cs rs n x
+pub whole-prefix : (t : Tables) (cs : List Command) (rs : List Reply) (t' : Tables) (s' : Session) (n : ℕ) (x : Tables) → Story t no_session cs rs t' s' → n ≤ length rs → x ≡ t' → IsPrefixOfStory t cs rs n x
 whole-prefix t cs rs t' s' n x story few is =
     let same = story-lengths t no_session cs rs t' s' story in record {
       k = length cs;
@@ -153,7 +153,7 @@ not-whole rs r n few lie = elim (le-or n (length rs)) [
       let a = ap length e in let b = length-append (xs ++ (ys ++ [])) zs in let c = length-append xs (ys ++ []) in let d = length-append ys [] in omega arith
 
 -- the first commands of a story that goes on
-pub front-prefix : (t : Tables) (cs : List Command) (c : Command) (rs : List Reply) (r : Reply) (t' : Tables) (s' : Session) (n : ℕ) (x : Tables) → Story t no_session cs rs t' s' → n ≤ length rs → x ≡ t' → IsPrefix t (cs ++ c ∷ []) (rs ++ r ∷ []) n x
+pub front-prefix : (t : Tables) (cs : List Command) (c : Command) (rs : List Reply) (r : Reply) (t' : Tables) (s' : Session) (n : ℕ) (x : Tables) → Story t no_session cs rs t' s' → n ≤ length rs → x ≡ t' → IsPrefixOfStory t (cs ++ c ∷ []) (rs ++ r ∷ []) n x
 front-prefix t cs c rs r t' s' n x story few is =
     let same = story-lengths t no_session cs rs t' s' story in record {
       k = length cs;

@@ -9,7 +9,7 @@ use Rattle.tap_model.specs.Sessions.{no_session}
 use Rattle.tap_model.specs.Sound.{IsStore}
 use Rattle.tap_top.specs.declared.status.Status.{Status}
 use Rattle.tap_top.specs.declared.status.Status.TheVariants as s
-use Rattle.tap_top.specs.Codes.{code_of, IsDone, is_all_ok, IsOfClose, IsOfRun}
+use Rattle.tap_top.specs.Codes.{code_of, PerformedAll, is_all_ok, IsOfClose, IsOfRun}
 use Rattle.tap_top.specs.Premises.{IfKnown}
 use Rattle.tap_top.specs.Statuses.{Whole, ReadCut, PutCut, KeeperCut, OutOfMemory, TooLong}
 use Rattle.tap_top.specs.Samples.{Sampled, SampledCut, FirstPerformed, NextUncommitted, LeavesOnly}
@@ -87,7 +87,7 @@ not-long status (inr (inr (inl five))) is = cc
 not-long status (inr (inr (inr seven))) is = cc
 
 -- the input was read to its end
-pub closed-ends : (t : Tables) (left left' out out' : Option (List ℕ)) (tells leaves : Tables → Type 0) (status : Status) → IsOfClose status → (IsDone status → Whole t left left' out out' (IsDurable tells leaves) (is_all_ok status)) → (status ≡ s.PutFailed → PutCut t left left' out out' (IsDurable tells leaves)) → (status ≡ s.KeeperFailed → KeeperCut t left left' out out' leaves) → (status ≡ s.OutOfMemory → OutOfMemory t left left' out out' (IsDurable tells leaves)) → EngineScriptEnds status t left left' out out' tells leaves
+pub closed-ends : (t : Tables) (left left' out out' : Option (List ℕ)) (tells leaves : Tables → Type 0) (status : Status) → IsOfClose status → (PerformedAll status → Whole t left left' out out' (IsDurable tells leaves) (is_all_ok status)) → (status ≡ s.PutFailed → PutCut t left left' out out' (IsDurable tells leaves)) → (status ≡ s.KeeperFailed → KeeperCut t left left' out out' leaves) → (status ≡ s.OutOfMemory → OutOfMemory t left left' out out' (IsDurable tells leaves)) → EngineScriptEnds status t left left' out out' tells leaves
 closed-ends t left left' out out' tells leaves status one whole put uncommitted memory = record {
   whole = whole;
   read = λ is. absurd (not-read status one is);
@@ -197,16 +197,16 @@ uncommitted-run t n out out' tells leaves run = record {
   memory = λ is. absurd cc;
 }
 
-not-five : (status : Status) → (IsDone status ⊎ status ≡ s.PutFailed) → status ≡ s.KeeperFailed → ⊥
+not-five : (status : Status) → (PerformedAll status ⊎ status ≡ s.PutFailed) → status ≡ s.KeeperFailed → ⊥
 not-five status (inl low) is = not-done 5 (λ e. omega (arith, e)) status (ap code_of is) low
 not-five status (inr four) is = cc
 
-not-seven : (status : Status) → (IsDone status ⊎ status ≡ s.PutFailed) → status ≡ s.OutOfMemory → ⊥
+not-seven : (status : Status) → (PerformedAll status ⊎ status ≡ s.PutFailed) → status ≡ s.OutOfMemory → ⊥
 not-seven status (inl low) is = not-done 7 (λ e. omega (arith, e)) status (ap code_of is) low
 not-seven status (inr four) is = cc
 
 -- a sample whose summary was put, or a part of it
-pub summed-run : (t : Tables) (n : ℕ) (out out' : Option (List ℕ)) (tells leaves : Tables → Type 0) (status : Status) → (IsDone status ⊎ status ≡ s.PutFailed) → (IsDone status → Sampled t n out out' (IsDurable tells leaves) (is_all_ok status)) → (status ≡ s.PutFailed → SampledCut t n out out' (IsDurable tells leaves)) → EngineSampleEnds status t n out out' tells leaves
+pub summed-run : (t : Tables) (n : ℕ) (out out' : Option (List ℕ)) (tells leaves : Tables → Type 0) (status : Status) → (PerformedAll status ⊎ status ≡ s.PutFailed) → (PerformedAll status → Sampled t n out out' (IsDurable tells leaves) (is_all_ok status)) → (status ≡ s.PutFailed → SampledCut t n out out' (IsDurable tells leaves)) → EngineSampleEnds status t n out out' tells leaves
 summed-run t n out out' tells leaves status one whole put = record {
   whole = whole;
   put = put;

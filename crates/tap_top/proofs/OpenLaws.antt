@@ -1,7 +1,7 @@
 -- An engine that was started over the tables that a keeper gave.
 use Rattle.std.proofs.Common.{◌≤◌, length, ◌≡◌, ◌∙◌, sym, ap, subst, refl, inl, inr, ℤ, pos, true, Some, None, Result, Ok, Err, if◌then◌else◌}
 use Rattle.std.specs.Prelude.{◌⊎◌, IfOk, OnOk}
-use Rattle.keeper_core.specs.Stored.{is_known}
+use Rattle.keeper_core.specs.Stored.{is_attachable}
 use Rattle.tap_rows.specs.declared.tables.Tables.{Tables}
 use Rattle.tap_rows.specs.Kept.{Each}
 use Rattle.restart_core.specs.Damages.{damage_of}
@@ -32,9 +32,9 @@ short-texts tables engine none represents =
     subst (λ docs. Each (λ doc. length doc.text ≤ 1048576) docs) (sym (ap (λ (index : Tables). index.docs) represents.rows))
     (formed tables (damages.formed tables none)).short
 
-known-is : (v : ℤ) → (v ≡ pos 1) ⊎ (v ≡ pos 2) → is_known v ≡ true
-known-is v (inl e) = subst (λ w. is_known w ≡ true) (sym e) refl
-known-is v (inr e) = subst (λ w. is_known w ≡ true) (sym e) refl
+known-is : (v : ℤ) → (v ≡ pos 1) ⊎ (v ≡ pos 2) → is_attachable v ≡ true
+known-is v (inl e) = subst (λ w. is_attachable w ≡ true) (sym e) refl
+known-is v (inr e) = subst (λ w. is_attachable w ≡ true) (sym e) refl
 
 -- tables without a damaged row are refused in no known version
 pub no-fault : (t tables : Tables) (v : ℤ) → t ≡ tables → row_fault tables ≡ None → (v ≡ pos 1) ⊎ (v ≡ pos 2) → fault_of v t ≡ None

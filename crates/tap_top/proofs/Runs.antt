@@ -14,7 +14,7 @@ use Rattle.tap_model.specs.Sound.{IsSound}
 use Rattle.tap_top.specs.declared.top.TheConstants.{SCRIPT_LIMIT, PIECE}
 use Rattle.tap_top.specs.Answers.{Answered, CutOff, Uncommitted, Closed, ClosedCut}
 use Rattle.tap_top.specs.Pieces.{PieceAnswered, PieceCut, PieceOutOfMemory}
-use Rattle.tap_top.specs.Statuses.{Whole, ReadCut, TookMany, TooLong, OutOfMemory, CutAt, PutCut, KeeperCut}
+use Rattle.tap_top.specs.Statuses.{Whole, ReadCut, PassedScriptLimit, TooLong, OutOfMemory, CutAt, PutCut, KeeperCut}
 use Rattle.tap_top.proofs.Stories.{Answered-then, Answered-less, CutOff-then, Uncommitted-then}
 use Rattle.tap_top.proofs.Steps.{PieceAnswered-start, PieceAnswered-then, CutAfter, joined, ends-cut, sides, take-drop}
 
@@ -114,7 +114,7 @@ Running-read left mid new taken now t out out1 Ends Less s1 ok less before le sa
     }
 
 -- status 8
-pub Taking-many : (left mid : Option (List ℕ)) (taken : ℕ) → Taking left mid taken → SCRIPT_LIMIT < taken → taken ≤ SCRIPT_LIMIT + PIECE → TookMany left mid
+pub Taking-many : (left mid : Option (List ℕ)) (taken : ℕ) → Taking left mid taken → SCRIPT_LIMIT < taken → taken ≤ SCRIPT_LIMIT + PIECE → PassedScriptLimit left mid
 Taking-many left mid taken before many few = record {
   bytes = before.bytes;
   taken = before.consumed;

@@ -16,7 +16,7 @@ use Rattle.tap_model.specs.Sessions.{no_session}
 use Rattle.tap_model.specs.Sound.{IsSound}
 use Rattle.tap_model.specs.Verdicts.{verdict}
 use Rattle.tap_model.specs.Replies.{answer_of, tables_after}
-use Rattle.tap_model.specs.Stories.{Step}
+use Rattle.tap_model.specs.Stories.{StoryStep}
 use Rattle.tap_model.proofs.SoundLaws.{step-sound}
 use Rattle.tap_top.specs.declared.tally.Tally.{Tally}
 use Rattle.tap_engine.specs.declared.engine.Engine.{Engine}
@@ -27,14 +27,14 @@ use Rattle.tap_top.specs.Statuses.{IsFront}
 use Rattle.sample_gen.specs.Samples.{sample_of}
 use Rattle.sample_gen.specs.Summaries.{summary_lines}
 use Rattle.sample_gen.specs.declared.summary.Summary.{Summary}
-use Rattle.tap_top.specs.Samples.{refusals_in, hits_in, total, summary_of, Performed, NeverOutOfMemory, Counted, Adds, LastOutOfMemory, FirstPerformed, NextUncommitted, FrontPut, Sampled, SampledCut}
+use Rattle.tap_top.specs.Samples.{refusals_in, hits_in, reply_total, summary_of, Performed, NeverOutOfMemory, Counted, Adds, LastOutOfMemory, FirstPerformed, NextUncommitted, FrontPut, Sampled, SampledCut}
 use Rattle.tap_top.proofs.Stories.{Story-then, Story-sound, first-sound}
 
-total-append : (count : Reply → ℕ) (xs ys : List Reply) → total count (xs ++ ys) ≡ total count xs + total count ys
-total-append count [] ys = zero-more (total count ys) where
+total-append : (count : Reply → ℕ) (xs ys : List Reply) → reply_total count (xs ++ ys) ≡ reply_total count xs + reply_total count ys
+total-append count [] ys = zero-more (reply_total count ys) where
   zero-more : (n : ℕ) → n ≡ 0 + n
   zero-more n = omega arith
-total-append count (x ∷ xs) ys = ap (λ n. count x + n) (total-append count xs ys) ∙ sum (count x) (total count xs) (total count ys) where
+total-append count (x ∷ xs) ys = ap (λ n. count x + n) (total-append count xs ys) ∙ sum (count x) (reply_total count xs) (reply_total count ys) where
   sum : (a b c : ℕ) → a + (b + c) ≡ a + b + c
   sum a b c = omega arith
 
@@ -51,9 +51,9 @@ none-refused false n rest is = some n where
   some : (n : ℕ) → (1 + n == 0) ≡ false
   some n = grind arith
 
-pub all-accepted : (replies : List Reply) → (total refusals_in replies == 0) ≡ list_all is_accepted replies
+pub all-accepted : (replies : List Reply) → (reply_total refusals_in replies == 0) ≡ list_all is_accepted replies
 all-accepted [] = refl
-all-accepted (r ∷ rs) = none-refused (is_accepted r) (total refusals_in rs) (list_all is_accepted rs) (all-accepted rs)
+all-accepted (r ∷ rs) = none-refused (is_accepted r) (reply_total refusals_in rs) (list_all is_accepted rs) (all-accepted rs)
 
 pub Counted-none : (tally : Tally) → tally.refused ≡ 0 → tally.delivered ≡ 0 → Counted tally []
 Counted-none tally refused delivered = record { refused = refused; delivered = delivered; none = tt }
@@ -69,15 +69,15 @@ Adds-one before after r refused delivered none = record {
 
 Counted-then : (before after : Tally) (xs ys : List Reply) → Counted before xs → Adds before after ys → Counted after (xs ++ ys)
 Counted-then before after xs ys one two = record {
-  refused = two.refused ∙ ap (λ n. n + total refusals_in ys) one.refused ∙ sym (total-append refusals_in xs ys);
-  delivered = two.delivered ∙ ap (λ n. n + total hits_in ys) one.delivered ∙ sym (total-append hits_in xs ys);
+  refused = two.refused ∙ ap (λ n. n + reply_total refusals_in ys) one.refused ∙ sym (total-append refusals_in xs ys);
+  delivered = two.delivered ∙ ap (λ n. n + reply_total hits_in ys) one.delivered ∙ sym (total-append hits_in xs ys);
   none = each-append xs ys one.none two.none;
 }
 
 pub Performed-none : (t : Tables) (s : Session) (Ends : List Reply → Tables → Type 0) → IsSound t s → Ends [] t → Performed t s [] Ends s
 Performed-none t s Ends sound ends = record { replies = []; tables' = t; story = (refl, refl); sound = sound; ends = ends }
 
-pub Performed-one : (t : Tables) (s : Session) (c : Command) (r : Reply) (Ends : List Reply → Tables → Type 0) (t' : Tables) (s' : Session) → IsSound t s → Step t s c r t' s' → Ends (r ∷ []) t' → Performed t s (c ∷ []) Ends s'
+pub Performed-one : (t : Tables) (s : Session) (c : Command) (r : Reply) (Ends : List Reply → Tables → Type 0) (t' : Tables) (s' : Session) → IsSound t s → StoryStep t s c r t' s' → Ends (r ∷ []) t' → Performed t s (c ∷ []) Ends s'
 Performed-one t s c r Ends t' s' sound step ends = record { replies = r ∷ []; tables' = t'; story = (t', s', step, (refl, refl)); sound = (sound, step-sound t s c r t' s' step sound); ends = ends }
 
 pub Performed-then : (t : Tables) (s : Session) (xs : List Command) (Mid : List Reply → Tables → Type 0) (s1 : Session) (ys : List Command) (Ends Both : List Reply → Tables → Type 0) (s2 : Session) → (one : Performed t s xs Mid s1) → (two : Performed one.tables' s1 ys Ends s2) → Both (one.replies ++ two.replies) two.tables' → Performed t s (xs ++ ys) Both s2
@@ -94,7 +94,7 @@ pub Performed-with : (t : Tables) (s : Session) (xs : List Command) (Ends Less :
 Performed-with t s xs Ends Less s1 one less = record { replies = one.replies; tables' = one.tables'; story = one.story; sound = one.sound; ends = less }
 
 -- a command for which there may have been no memory
-pub FirstPerformed-one : (t : Tables) (s : Session) (c : Command) (r : Reply) (Ends : Tables → Type 0) (t' : Tables) (s' : Session) → IsSound t s → Step t s c r t' s' → Ends t' → FirstPerformed t s (c ∷ []) Ends
+pub FirstPerformed-one : (t : Tables) (s : Session) (c : Command) (r : Reply) (Ends : Tables → Type 0) (t' : Tables) (s' : Session) → IsSound t s → StoryStep t s c r t' s' → Ends t' → FirstPerformed t s (c ∷ []) Ends
 FirstPerformed-one t s c r Ends t' s' sound step ends =
     let last : LastOutOfMemory (r ∷ []) = record { most = []; last = r ∷ []; split = refl; none = tt; few = omega arith } in record {
       done = c ∷ [];
@@ -182,7 +182,7 @@ none-left [] none = refl
 none-left (x ∷ xs) none = absurd (omega (arith, none))
 
 -- the counts of a sample's summary
-Summary-of : (summary : Summary) (n commands refused docs notes delivered : ℕ) (replies : List Reply) (t : Tables) → summary ≡ record { messages = n; commands = commands; refused = refused; documents = docs; notes = notes; delivered = delivered } → commands ≡ length (sample_of n) → refused ≡ total refusals_in replies → docs ≡ length t.docs → notes ≡ length t.notes → delivered ≡ total hits_in replies → summary ≡ summary_of n replies t
+Summary-of : (summary : Summary) (n commands refused docs notes delivered : ℕ) (replies : List Reply) (t : Tables) → summary ≡ record { messages = n; commands = commands; refused = refused; documents = docs; notes = notes; delivered = delivered } → commands ≡ length (sample_of n) → refused ≡ reply_total refusals_in replies → docs ≡ length t.docs → notes ≡ length t.notes → delivered ≡ reply_total hits_in replies → summary ≡ summary_of n replies t
 Summary-of summary n commands refused docs notes delivered replies t is a b c d e = is ∙ rw (a, b, c, d, e) refl
 
 -- what holds of a new session and of a sample's commands

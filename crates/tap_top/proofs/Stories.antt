@@ -16,7 +16,7 @@ use Rattle.tap_model.specs.declared.session.Session.{Session}
 use Rattle.tap_model.specs.Sound.{IsSound}
 use Rattle.tap_model.specs.Verdicts.{verdict}
 use Rattle.tap_model.specs.Replies.{answer_of, tables_after}
-use Rattle.tap_model.specs.Stories.{Step, Story}
+use Rattle.tap_model.specs.Stories.{StoryStep, Story}
 use Rattle.tap_model.proofs.SoundLaws.{step-sound}
 use Rattle.tap_engine.specs.Answering.{AddsRows}
 use Rattle.tap_top.specs.Points.{SoundAlong}
@@ -51,7 +51,7 @@ pub Answered-none : (t : Tables) (s : Session) (out : Option (List ℕ)) (Ends :
 Answered-none t s out Ends sound ends = record { replies = []; tables' = t; story = (refl, refl); sound = sound; written = Appends-none out; ok = refl; ends = ends }
 
 -- one command is answered
-pub Answered-one : (t : Tables) (s : Session) (c : Command) (r : Reply) (out out' : Option (List ℕ)) (Ends : Tables → Type 0) (t' : Tables) (s' : Session) (ok : Bool) → IsSound t s → Step t s c r t' s' → Appends out out' (reply_bytes r) → ok ≡ is_accepted r → Ends t' → Answered t s (c ∷ []) out out' Ends s' ok
+pub Answered-one : (t : Tables) (s : Session) (c : Command) (r : Reply) (out out' : Option (List ℕ)) (Ends : Tables → Type 0) (t' : Tables) (s' : Session) (ok : Bool) → IsSound t s → StoryStep t s c r t' s' → Appends out out' (reply_bytes r) → ok ≡ is_accepted r → Ends t' → Answered t s (c ∷ []) out out' Ends s' ok
 Answered-one t s c r out out' Ends t' s' ok sound step written is ends = record {
   replies = r ∷ [];
   tables' = t';
@@ -81,7 +81,7 @@ pub Answered-less : (t : Tables) (s : Session) (xs : List Command) (out new : Op
 Answered-less t s xs out new Ends Less s1 a less one = record { replies = one.replies; tables' = one.tables'; story = one.story; sound = one.sound; written = one.written; ok = one.ok; ends = less one.tables' one.ends }
 
 -- one command's reply is cut off
-pub CutOff-one : (t : Tables) (s : Session) (c : Command) (r : Reply) (out out' : Option (List ℕ)) (Ends : Tables → Type 0) (t' : Tables) (s' : Session) (failed : PutFailed) → IsSound t s → Step t s c r t' s' → TookSome 0 out out' (reply_bytes r) failed → Ends t' → CutOff t s [] c out out' Ends
+pub CutOff-one : (t : Tables) (s : Session) (c : Command) (r : Reply) (out out' : Option (List ℕ)) (Ends : Tables → Type 0) (t' : Tables) (s' : Session) (failed : PutFailed) → IsSound t s → StoryStep t s c r t' s' → TookSome 0 out out' (reply_bytes r) failed → Ends t' → CutOff t s [] c out out' Ends
 CutOff-one t s c r out out' Ends t' s' failed sound step cut ends = record {
   replies = [];
   reply = r;

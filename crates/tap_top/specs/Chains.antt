@@ -4,7 +4,7 @@ use Rattle.tap_rows.specs.declared.tables.Tables.{Tables}
 use Rattle.script_lang.specs.declared.command.Command.{Command}
 use Rattle.script_lang.specs.declared.reply.Reply.{Reply}
 use Rattle.tap_model.specs.Sound.{IsStore}
-use Rattle.tap_top.specs.Crashes.{IsPrefix}
+use Rattle.tap_top.specs.Crashes.{IsPrefixOfStory}
 
 -- a session that is over: its commands, their replies, and how many of these were written whole
 pub record PastSession : Type 0 where
@@ -17,7 +17,7 @@ pub record PastSession : Type 0 where
 abbrev pub IsChain : Tables → List PastSession → Tables → Type 0
 IsChain tables [] last = last ≡ tables
 IsChain tables (session ∷ sessions) last =
-    (next : Tables) × IsPrefix tables session.commands session.replies session.acknowledged next × IsChain next sessions last
+    (next : Tables) × IsPrefixOfStory tables session.commands session.replies session.acknowledged next × IsChain next sessions last
 
 -- the later rows are the earlier ones and some more behind them
 abbrev pub HasMore : {A : Type 0} → List A → List A → Type 0

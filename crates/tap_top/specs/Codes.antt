@@ -16,8 +16,8 @@ code_of s.OutOfMemory = 7
 code_of s.ScriptTooLong = 8
 
 -- all commands were performed
-abbrev pub IsDone : Status → Type 0
-IsDone status = code_of status ≤ 1
+abbrev pub PerformedAll : Status → Type 0
+PerformedAll status = code_of status ≤ 1
 
 -- does every reply begin `ok`, if all commands were performed?
 abbrev pub is_all_ok : Status → Bool
@@ -25,12 +25,12 @@ is_all_ok status = code_of status == 0
 
 -- how a run ends that reached the end of its input, or that had none
 abbrev pub IsOfClose : Status → Type 0
-IsOfClose status = IsDone status ⊎ (status ≡ s.PutFailed ⊎ (status ≡ s.KeeperFailed ⊎ status ≡ s.OutOfMemory))
+IsOfClose status = PerformedAll status ⊎ (status ≡ s.PutFailed ⊎ (status ≡ s.KeeperFailed ⊎ status ≡ s.OutOfMemory))
 
 -- how a run ends over a store that was opened
 abbrev pub IsOfRun : Status → Type 0
 IsOfRun status =
-    IsDone status
+    PerformedAll status
     ⊎ (status ≡ s.ReadFailed ⊎ (status ≡ s.PutFailed ⊎ (status ≡ s.KeeperFailed ⊎ (status ≡ s.OutOfMemory ⊎ status ≡ s.ScriptTooLong))))
 
 -- how a run ends over a store that was refused

@@ -14,7 +14,7 @@ use Rattle.tap_top.specs.Premises.{IfKnown}
 use Rattle.tap_top.specs.Statuses.{AreFirst}
 
 -- x is the tables after the first k of these commands with these replies, for a k that is at least n
-pub record IsPrefix (tables : Tables) (commands : List Command) (replies : List Reply) (n : ℕ) (x : Tables) : Type 0 where
+pub record IsPrefixOfStory (tables : Tables) (commands : List Command) (replies : List Reply) (n : ℕ) (x : Tables) : Type 0 where
   pub k : ℕ
   pub enough : n ≤ k
   pub within : k ≤ length commands
@@ -48,4 +48,4 @@ pub record LeavesPrefix (tables : Tables) (left left' out out' : Option (List �
   pub written : List ℕ
   pub put : Appends out out' written
   pub said : IfKnown versions (AreWrittenReplies replies written)
-  pub each : (n : ℕ) → n ≤ length replies → AreFullyWritten n replies written → (x : Tables) → leaves x → IsPrefix tables commands replies n x
+  pub each : (n : ℕ) → n ≤ length replies → AreFullyWritten n replies written → (x : Tables) → leaves x → IsPrefixOfStory tables commands replies n x

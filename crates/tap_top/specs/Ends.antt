@@ -6,7 +6,7 @@ use Rattle.sample_gen.specs.Samples.{sample_of}
 use Rattle.tap_model.specs.Sessions.{no_session}
 use Rattle.tap_top.specs.declared.status.Status.{Status}
 use Rattle.tap_top.specs.declared.status.Status.TheVariants as s
-use Rattle.tap_top.specs.Codes.{IsDone, is_all_ok}
+use Rattle.tap_top.specs.Codes.{PerformedAll, is_all_ok}
 use Rattle.tap_top.specs.Premises.{IfKnown}
 use Rattle.tap_top.specs.Statuses.{Whole, ReadCut, PutCut, KeeperCut, Unattached, OutOfMemory, TooLong}
 use Rattle.tap_top.specs.Crashes.{LeavesPrefix}
@@ -15,7 +15,7 @@ use Rattle.tap_top.specs.Samples.{Sampled, SampledCut, FirstPerformed, NextUncom
 -- how a script ended that an engine performed over these tables, by the status
 pub record EngineScriptEnds (status : Status) (tables : Tables) (left left' out out' : Option (List ℕ))
     (tells leaves : Tables → Type 0) : Type 0 where
-  pub whole : IsDone status → Whole tables left left' out out' (IsDurable tells leaves) (is_all_ok status)
+  pub whole : PerformedAll status → Whole tables left left' out out' (IsDurable tells leaves) (is_all_ok status)
   pub read : status ≡ s.ReadFailed → ReadCut tables left left' out out' (IsDurable tells leaves)
   pub put : status ≡ s.PutFailed → PutCut tables left left' out out' (IsDurable tells leaves)
   pub uncommitted : status ≡ s.KeeperFailed → KeeperCut tables left left' out out' leaves
@@ -37,7 +37,7 @@ pub record ScriptEnds (status : ℕ) (tables : Tables) (left left' out out' : Op
 -- how a sample of n messages ended that an engine performed over these tables, by the status
 pub record EngineSampleEnds (status : Status) (tables : Tables) (n : ℕ) (out out' : Option (List ℕ))
     (tells leaves : Tables → Type 0) : Type 0 where
-  pub whole : IsDone status → Sampled tables n out out' (IsDurable tells leaves) (is_all_ok status)
+  pub whole : PerformedAll status → Sampled tables n out out' (IsDurable tells leaves) (is_all_ok status)
   pub put : status ≡ s.PutFailed → SampledCut tables n out out' (IsDurable tells leaves)
   pub uncommitted : status ≡ s.KeeperFailed → NextUncommitted tables no_session (sample_of n) leaves
   pub memory : status ≡ s.OutOfMemory → FirstPerformed tables no_session (sample_of n) (IsDurable tells leaves)

@@ -3,7 +3,7 @@ use Rattle.std.specs.Prelude.{ℕ, ℤ, ◌≡◌, ◌≢◌, ◌⊎◌, List, �
 use Rattle.std.specs.Option.{option_or}
 use Rattle.std.specs.Fmt.{decimal, signed_decimal}
 use Rattle.std.specs.Io.KnownBytes.{Appends}
-use Rattle.keeper_core.specs.Stored.{is_known}
+use Rattle.keeper_core.specs.Stored.{is_attachable}
 use Rattle.keeper_core.specs.declared.keeper.Keeper.{Ghosts}
 use Rattle.tap_rows.specs.declared.tables.Tables.{Tables}
 use Rattle.script_lang.specs.Replies.{line}
@@ -61,7 +61,7 @@ row_fault tables = option_or (damaged_by (damage_of tables)) (unread_by (first_u
 
 -- why a store of this version with these tables is refused
 abbrev pub fault_of : ℤ → Tables → Option StoreFault
-fault_of version tables = if is_known version then row_fault tables else Some (Version version)
+fault_of version tables = if is_attachable version then row_fault tables else Some (Version version)
 
 -- a line was put: with status 6 all of it, else its first n bytes
 pub record CutLine (status : ℕ) (text : List ℕ) (out out' : Option (List ℕ)) : Type 0 where

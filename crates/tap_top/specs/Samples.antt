@@ -19,7 +19,7 @@ use Rattle.tap_top.specs.declared.tally.Tally.{Tally}
 use Rattle.tap_top.specs.Points.{SoundAlong}
 use Rattle.tap_top.specs.Answers.{MayHaveCommitted}
 use Rattle.tap_top.specs.Statuses.{IsFront}
-use Rattle.tap_top.specs.Crashes.{IsPrefix}
+use Rattle.tap_top.specs.Crashes.{IsPrefixOfStory}
 
 -- a reply that refuses counts once
 abbrev pub refusals_in : Reply → ℕ
@@ -35,9 +35,9 @@ abbrev pub PassesEnd : Tally → Reply → Type 0
 PassesEnd tally reply = (2 ^ 64 ≤ tally.refused + refusals_in reply) ⊎ (2 ^ 64 ≤ tally.delivered + hits_in reply)
 
 -- the sum over all replies
-abbrev pub total : (Reply → ℕ) → List Reply → ℕ
-total count [] = 0
-total count (reply ∷ replies) = count reply + total count replies
+abbrev pub reply_total : (Reply → ℕ) → List Reply → ℕ
+reply_total count [] = 0
+reply_total count (reply ∷ replies) = count reply + reply_total count replies
 
 -- the commands were performed as in a story, and this holds of their replies and of the tables at its end
 pub record Performed (tables : Tables) (session : Session) (commands : List Command)
@@ -54,14 +54,14 @@ NeverOutOfMemory replies = Each (λ reply. reply ≢ No Memory) replies
 
 -- the counts of replies, none of which says that a command was out of memory
 pub record Counted (tally : Tally) (replies : List Reply) : Type 0 where
-  pub refused : tally.refused ≡ total refusals_in replies
-  pub delivered : tally.delivered ≡ total hits_in replies
+  pub refused : tally.refused ≡ reply_total refusals_in replies
+  pub delivered : tally.delivered ≡ reply_total hits_in replies
   pub none : NeverOutOfMemory replies
 
 -- the counts of replies, added to those before; none of the replies says that a command was out of memory
 pub record Adds (before after : Tally) (replies : List Reply) : Type 0 where
-  pub refused : after.refused ≡ before.refused + total refusals_in replies
-  pub delivered : after.delivered ≡ before.delivered + total hits_in replies
+  pub refused : after.refused ≡ before.refused + reply_total refusals_in replies
+  pub delivered : after.delivered ≡ before.delivered + reply_total hits_in replies
   pub none : NeverOutOfMemory replies
 
 -- no reply but the last says that a command was out of memory
@@ -92,10 +92,10 @@ abbrev pub summary_of : ℕ → List Reply → Tables → Summary
 summary_of n replies tables = record {
   messages = n;
   commands = length (sample_of n);
-  refused = total refusals_in replies;
+  refused = reply_total refusals_in replies;
   documents = length tables.docs;
   notes = length tables.notes;
-  delivered = total hits_in replies;
+  delivered = reply_total hits_in replies;
 }
 
 -- statuses 0 and 1: all commands of the sample were performed, none was out of memory, and the lines of its summary were put
@@ -125,7 +125,7 @@ pub record LeavesFirst (tables : Tables) (commands : List Command) (leaves : Tab
   pub tables' : Tables
   pub session' : Session
   pub story : Story tables no_session done replies tables' session'
-  pub each : (x : Tables) → leaves x → IsPrefix tables done replies 0 x
+  pub each : (x : Tables) → leaves x → IsPrefixOfStory tables done replies 0 x
 
 -- a crash leaves these tables alone
 abbrev pub LeavesOnly : Tables → (Tables → Type 0) → Type 0

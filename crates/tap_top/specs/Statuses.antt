@@ -91,7 +91,7 @@ pub record OutOfMemory (tables : Tables) (left left' out out' : Option (List ℕ
   pub answered : Answered tables no_session commands out out' Ends session all_ok
 
 -- more bytes were taken than a script may have
-pub record TookMany (left left' : Option (List ℕ)) : Type 0 where
+pub record PassedScriptLimit (left left' : Option (List ℕ)) : Type 0 where
   pub bytes : List ℕ
   pub taken : Consumes left left' bytes
   pub many : SCRIPT_LIMIT < length bytes
@@ -99,7 +99,7 @@ pub record TookMany (left left' : Option (List ℕ)) : Type 0 where
 
 -- status 8: more bytes were taken than a script may have, and the complete commands of the first of them were answered
 pub record TooLong (tables : Tables) (left left' out out' : Option (List ℕ)) (Ends : Tables → Type 0) : Type 0 where
-  pub long : TookMany left left'
+  pub long : PassedScriptLimit left left'
   pub session : Session
   pub all_ok : Bool
   pub answered : Answered tables no_session (complete (take SCRIPT_LIMIT long.bytes)) out out' Ends session all_ok
@@ -110,6 +110,6 @@ HoldsScript None = ⊥
 HoldsScript (Some bytes) = length bytes ≤ SCRIPT_LIMIT
 
 -- the sizes that definitions name by a constant, as numbers: the most bytes of a script and of one read
-pub record ConstantSizes : Type 0 where
+pub record ScriptSizes : Type 0 where
   pub script : SCRIPT_LIMIT ≡ 268435456
   pub piece : PIECE ≡ 65536

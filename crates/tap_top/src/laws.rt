@@ -1,6 +1,6 @@
 //! Laws of sessions.
 ghost use Rattle.tap_top.specs.Chains.{ChainsAreSafe};
-ghost use Rattle.tap_top.specs.Statuses.{ConstantSizes};
+ghost use Rattle.tap_top.specs.Statuses.{ScriptSizes};
 
 /// Shows what any number of sessions in a row leaves, of which each may have ended with a crash, if each began with what the
 /// one before left, and left the tables after some first commands: a store, if the first began with one, and so what each
@@ -11,6 +11,6 @@ pub fn sessions_in_a_row_are_safe()
 
 /// Shows which numbers the sizes are that definitions name by a constant of the code: a script has at most 268,435,456 bytes,
 /// and one read asks for at most 65,536.
-pub fn sizes_are_numbers()
-    ensures { ConstantSizes }
+pub fn script_sizes_are_numbers()
+    ensures { ScriptSizes }
 {}

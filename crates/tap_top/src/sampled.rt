@@ -10,7 +10,7 @@ ghost use Rattle.script_lang.specs.declared.refusal.Refusal.{Refusal as RefusalO
 ghost use Rattle.sample_gen.specs.Summaries.{summary_lines};
 ghost use Rattle.tap_model.specs.Sessions.{no_session};
 ghost use Rattle.tap_top.specs.declared.sampled.Cut.{Cut};
-ghost use Rattle.tap_top.specs.Codes.{code_of, IsDone, is_all_ok, IsOfClose};
+ghost use Rattle.tap_top.specs.Codes.{code_of, PerformedAll, is_all_ok, IsOfClose};
 ghost use Rattle.tap_top.specs.Refusals.{Refusals};
 ghost use Rattle.tap_top.specs.Points.{CanOpen, CanPerform};
 ghost use Rattle.tap_top.specs.Frames.{CommandFrame};
@@ -141,9 +141,9 @@ fn sum_up(n: u32, commands: usize, tally: Tally, engine: &Engine) -> Summary
 
 // Puts the lines of a summary; returns the status of the run.
 fn put_summary<K: Sink>(summary: Summary, sink: &mut K) -> Status
-    ensures statuses { IsDone result ⊎ result ≡ Status.PutFailed }
-    ensures ok { IsDone result → is_all_ok result ≡ (summary.refused == 0) }
-    ensures whole { IsDone result → Appends (K.out sink.old) (K.out sink.new) (summary_lines summary) }
+    ensures statuses { PerformedAll result ⊎ result ≡ Status.PutFailed }
+    ensures ok { PerformedAll result → is_all_ok result ≡ (summary.refused == 0) }
+    ensures whole { PerformedAll result → Appends (K.out sink.old) (K.out sink.new) (summary_lines summary) }
     ensures cut { result ≡ Status.PutFailed → FrontPut (summary_lines summary) (K.out sink.old) (K.out sink.new) }
     ensures cause { result ≡ Status.PutFailed → Rose (K.faults sink.old) (K.faults sink.new) }
     ensures calm { result ≢ Status.PutFailed → K.faults sink.new ≡ K.faults sink.old }

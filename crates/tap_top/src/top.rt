@@ -7,7 +7,7 @@ ghost use Rattle.std.specs.Io.KnownBytes.{IsAtEnd};
 ghost use Rattle.clap.specs.Words.{takes, fault_of as faults_of};
 ghost use Rattle.command_words.specs.Options.{app};
 ghost use Rattle.command_words.specs.Words.{place_in, sample_in};
-ghost use Rattle.command_words.specs.WellWorded.{IsWellWorded, place_of};
+ghost use Rattle.command_words.specs.WellWorded.{IsWellWorded, path_or_default};
 ghost use Rattle.tap_base.specs.Counts.{Rose};
 ghost use Rattle.keeper_core.specs.States.{IsFree, IsPlacedUnless, IsPlacedBy};
 ghost use Rattle.tap_rows.specs.declared.tables.Tables.{Tables};
@@ -19,13 +19,13 @@ ghost use Rattle.tap_top.specs.Frames.{CommandFrame};
 ghost use Rattle.tap_top.specs.Premises.{IsDurableIn, FromEngine, FromStore, IsCalm, IfCalm, IsUndisturbed};
 ghost use Rattle.tap_top.specs.Versions.{VersionAtExit};
 ghost use Rattle.tap_top.specs.Answers.{CutOff, Uncommitted, Closed, ClosedCut};
-ghost use Rattle.tap_top.specs.Statuses.{TookMany, HoldsScript};
+ghost use Rattle.tap_top.specs.Statuses.{PassedScriptLimit, HoldsScript};
 ghost use Rattle.tap_top.specs.Causes.{Causes};
 ghost use Rattle.tap_top.specs.Prompt.{IsUpToDate};
 ghost use Rattle.peer_edges.specs.Asks.{AskedOnlyWhen};
 ghost use Rattle.tap_top.specs.Ends.{EngineScriptEnds, ScriptEnds, SampleEnds};
 ghost use Rattle.tap_top.specs.Refusals.{Refusals};
-ghost use Rattle.tap_top.specs.Codes.{code_of, IsDone, is_all_ok, IsOfClose, IsOfRun};
+ghost use Rattle.tap_top.specs.Codes.{code_of, PerformedAll, is_all_ok, IsOfClose, IsOfRun};
 
 use crate::StoreFault;
 use crate::feed::{Stop, feed, finish};
@@ -59,7 +59,7 @@ fn least(a: usize, b: usize) -> usize
 // Returns the status of a run that ended with the input.
 fn status(all_ok: bool) -> Status
     ensures ok { is_all_ok result ≡ all_ok }
-    ensures low { IsDone result }
+    ensures low { PerformedAll result }
 {
     if all_ok {
         Status::AllOk
@@ -79,7 +79,7 @@ fn close<K: Sink, P: Keeper, L: Ledger>(
     all_ok: bool,
 ) -> Status
     requires can { CanPerform P.Keeper engine.old keeper.old }
-    ensures whole { IsDone result → FromEngine P.Keeper engine.old keeper.old keeper.new (λ t.
+    ensures whole { PerformedAll result → FromEngine P.Keeper engine.old keeper.old keeper.new (λ t.
         Closed t engine.old.session (script_from reader.old []) (K.out sink.old) (K.out sink.new)
         (IsDurableIn P.Keeper keeper.new) all_ok (is_all_ok result)) }
     ensures put { result ≡ Status.PutFailed → FromEngine P.Keeper engine.old keeper.old keeper.new (λ t.
@@ -120,14 +120,14 @@ fn run<S: Peer<K>, K: Sink, P: Keeper, L: Ledger>(
         (P.tells keeper.new) (P.may_leave keeper.new)) }
     ensures prompt { FromEngine P.Keeper engine.old keeper.old keeper.new (λ t.
         AskedOnlyWhen (λ l o. IsUpToDate t (S.left source.old) l (K.out sink.old) o) (S.was_asked source.old) (S.was_asked source.new)) }
-    ensures many { result ≡ Status.ScriptTooLong → TookMany (S.left source.old) (S.left source.new) }
+    ensures many { result ≡ Status.ScriptTooLong → PassedScriptLimit (S.left source.old) (S.left source.new) }
     ensures statuses { IsOfRun result }
     ensures stopped { (P.stopped keeper.new ≡ true) ↔ (result ≡ Status.KeeperFailed) }
     ensures read_cause { result ≡ Status.ReadFailed → Rose (S.faults source.old) (S.faults source.new) }
     ensures read_calm { result ≢ Status.ReadFailed → S.faults source.new ≡ S.faults source.old }
     ensures put_cause { result ≡ Status.PutFailed → Rose (K.faults sink.old) (K.faults sink.new) }
     ensures put_calm { result ≢ Status.PutFailed → K.faults sink.new ≡ K.faults sink.old }
-    ensures ended { IsDone result → IsAtEnd (S.left source.new) }
+    ensures ended { PerformedAll result → IsAtEnd (S.left source.new) }
     ensures kept_cause { result ≡ Status.KeeperFailed → Rose (P.faults keeper.old) (P.faults keeper.new) }
     ensures frame { CommandFrame P.Keeper engine.old keeper.old keeper.new }
 {
@@ -193,8 +193,8 @@ fn run_store<S: Peer<K>, K: Sink, P: Keeper, L: Ledger>(
     // When each status comes.
     ensures causes { Causes (code_of result) (S.faults source.old) (S.faults source.new) (K.faults sink.old) (K.faults sink.new)
         (P.faults keeper.old) (P.faults keeper.new) (P.stopped keeper.new) }
-    ensures many { result ≡ Status.ScriptTooLong → TookMany (S.left source.old) (S.left source.new) }
-    ensures ended { IsDone result → IsAtEnd (S.left source.new) }
+    ensures many { result ≡ Status.ScriptTooLong → PassedScriptLimit (S.left source.old) (S.left source.new) }
+    ensures ended { PerformedAll result → IsAtEnd (S.left source.new) }
     ensures complete { HoldsScript (S.left source.old) →
         IfCalm (S.faults source.old) (S.faults source.new) (K.faults sink.old) (K.faults sink.new)
         (P.faults keeper.old) (P.faults keeper.new) (IsUndisturbed (code_of result)) }
@@ -250,7 +250,7 @@ pub fn tapestry<S: Peer<K>, K: Sink, P: Keeper, L: Ledger>(
         (keeper.new ≡ keeper.old) × ((K.out sink.new ≡ K.out sink.old) × (S.left source.new ≡ S.left source.old)) }
     ensures place { IsPlacedBy result (P.place keeper.old) (P.place keeper.new) (place_in words.now) }
     ensures named { (path : Option (List ℕ)) (number : Option ℕ) → IsWellWorded words.now path number →
-        (place_in words.now ≡ place_of path) × (sample_in words.now ≡ number) }
+        (place_in words.now ≡ path_or_default path) × (sample_in words.now ≡ number) }
 
     // A script over a store that a session left: how it ended, by the status, and what a crash leaves.
     ensures script { sample_in words.now ≡ None → FromStore P.Keeper keeper.old keeper.new (λ t.
@@ -288,7 +288,7 @@ pub fn tapestry<S: Peer<K>, K: Sink, P: Keeper, L: Ledger>(
     // When each status comes.
     ensures causes { Causes result (S.faults source.old) (S.faults source.new) (K.faults sink.old) (K.faults sink.new)
         (P.faults keeper.old) (P.faults keeper.new) (P.stopped keeper.new) }
-    ensures many { result ≡ 8 → TookMany (S.left source.old) (S.left source.new) }
+    ensures many { result ≡ 8 → PassedScriptLimit (S.left source.old) (S.left source.new) }
     ensures ended { sample_in words.now ≡ None → result ≤ 1 → IsAtEnd (S.left source.new) }
     ensures complete { (path : Option (List ℕ)) → IsWellWorded words.now path None → HoldsScript (S.left source.old) →
         IfCalm (S.faults source.old) (S.faults source.new) (K.faults sink.old) (K.faults sink.new)

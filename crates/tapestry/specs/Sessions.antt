@@ -15,7 +15,7 @@ use Rattle.tap_top.specs.Prompt.{IsUpToDate}
 use Rattle.tap_top.specs.Premises.{IfKnown}
 use Rattle.tap_top.specs.Refusals.{fault_of, Refused}
 use Rattle.tap_top.specs.Versions.{VersionAtExit}
-use Rattle.tap_top.specs.Statuses.{TookMany}
+use Rattle.tap_top.specs.Statuses.{PassedScriptLimit}
 
 -- whatever the store: when the words are refused, which then changes nothing; what a sample reads and puts; that a read failed
 -- if and only if the status is 3, and a put if and only if it is 4; and that a script that ended with its commands was read to
@@ -32,7 +32,7 @@ pub record Ends (words : List (List ℕ)) (status : ℕ) (left left' out out' : 
   pub read_calm : status ≢ 3 → reads' ≡ reads
   pub put : status ≡ 4 → Rose puts puts'
   pub put_calm : status ≢ 4 → puts' ≡ puts
-  pub many : status ≡ 8 → TookMany left left'
+  pub many : status ≡ 8 → PassedScriptLimit left left'
   pub ended : sample_in words ≡ None → status ≤ 1 → IsAtEnd left'
   pub statuses : status ≤ 8
 

@@ -1,5 +1,5 @@
 //! The mail filter as a session over a store.
-use file_session::Session;
+use file_session::StoreProgram;
 use keeper_core::Keeper;
 use peer_edges::Peer;
 use std::alloc::Global;
@@ -11,7 +11,7 @@ use tap_top::tapestry;
 /// The mail filter: performs a script or a sample over the store that the words name.
 pub struct MailFilter;
 
-impl Session for MailFilter {
+impl StoreProgram for MailFilter {
     ghost use Rattle.tapestry.specs.Sessions.{Ends, EndsOver};
     ghost use Rattle.command_words.specs.Words.{place_in};
 

@@ -11,14 +11,14 @@ use Rattle.tap_top.specs.declared.store_fault.StoreFault.{StoreFault}
 use Rattle.tap_top.specs.Premises.{IfKnown}
 use Rattle.tap_top.specs.Refusals.{fault_of, Refused}
 use Rattle.tap_top.specs.Versions.{VersionAtExit}
-use Rattle.pop_session.specs.Ends.{TookMany}
+use Rattle.pop_session.specs.Ends.{PassedSessionLimit}
 use Rattle.pop_box.specs.Letters.{letters_in}
 use Rattle.pop_box.specs.Prompt.{AskedUpToDate}
 use Rattle.pop_box.specs.Served.{Served, TookQuit, Unchanged}
 
 -- whatever the store: when the words are refused, which then changes nothing; that a read failed if and only if the status is
 -- 3, and a put if and only if it is 4; that a QUIT was read if one ended the session, and the input to its end if that did
-pub record Ends (words : List (List ℕ)) (status : ℕ) (left left' out out' : Option (List ℕ)) (reads reads' puts puts' : ℕ) : Type 0 where
+pub record PopEnds (words : List (List ℕ)) (status : ℕ) (left left' out out' : Option (List ℕ)) (reads reads' puts puts' : ℕ) : Type 0 where
   pub untaken : status ≡ 2 → takes pop_app words ≡ false
   pub exact : status ≡ 2 → faults_of pop_app words ≢ []
   pub worded : (path : Option (List ℕ)) (user name secret : List ℕ) → IsPopWorded words path user name secret → status ≢ 2
@@ -28,14 +28,14 @@ pub record Ends (words : List (List ℕ)) (status : ℕ) (left left' out out' : 
   pub read_calm : status ≢ 3 → reads' ≡ reads
   pub put : status ≡ 4 → Rose puts puts'
   pub put_calm : status ≢ 4 → puts' ≡ puts
-  pub many : status ≡ 8 → TookMany left left'
+  pub many : status ≡ 8 → PassedSessionLimit left left'
   pub quit : status ≡ 0 → TookQuit (user_in words) (secret_in words) left left'
   pub ended : status ≡ 1 → IsAtEnd left'
   pub statuses : status ≤ 9
 
 -- over a store with these tables: how the box was served, that the tables are unchanged, the version after, and when the
 -- store is refused
-pub record EndsOver (words : List (List ℕ)) (status : ℕ) (left left' out out' : Option (List ℕ))
+pub record PopEndsOver (words : List (List ℕ)) (status : ℕ) (left left' out out' : Option (List ℕ))
     (asked asked' : Option (List ℕ) → Option (List ℕ) → Type 0)
     (tables : Tables) (versions versions' : ℤ → Type 0) (tells leaves : Tables → Type 0) : Type 0 where
   pub session : IsStore tables →

@@ -1,5 +1,5 @@
 //! The server of a box as a session over a store.
-use file_session::Session;
+use file_session::StoreProgram;
 use keeper_core::Keeper;
 use peer_edges::Peer;
 use pop_box::serve;
@@ -11,14 +11,14 @@ use tap_edges::Sink;
 /// The server of a box: holds one POP3 session over the letters of the box that the words name.
 pub struct PopServer;
 
-impl Session for PopServer {
-    ghost use Rattle.tapestry_pop.specs.Sessions.{Ends, EndsOver};
+impl StoreProgram for PopServer {
+    ghost use Rattle.tapestry_pop.specs.Sessions.{PopEnds, PopEndsOver};
     ghost use Rattle.command_words.specs.PopWords.{pop_place_in};
 
-    ghost ends = { λ words status left left' out out' reads reads' puts puts'. Ends words status left left' out out' reads reads' puts puts' };
+    ghost ends = { λ words status left left' out out' reads reads' puts puts'. PopEnds words status left left' out out' reads reads' puts puts' };
 
     ghost ends_over = { λ words status left left' out out' asked asked' tables versions versions' tells leaves.
-        EndsOver words status left left' out out' asked asked' tables versions versions' tells leaves };
+        PopEndsOver words status left left' out out' asked asked' tables versions versions' tells leaves };
 
     ghost place = { λ words. pop_place_in words };
 

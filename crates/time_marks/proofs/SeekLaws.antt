@@ -14,7 +14,7 @@ use Rattle.time_marks.specs.declared.seek.Seek.{Seek}
 use Rattle.time_marks.specs.declared.seek.Seek.TheVariants.{Arrived, Dated, Fixed, ArrivedDay, DatedDay}
 use Rattle.time_marks.specs.declared.window.Window.{Window}
 use Rattle.time_marks.specs.Windows.{is_within, days_window}
-use Rattle.time_marks.specs.Seeks.{seek_from, seek_of, stored, marked_at, seek_window, lies_in, SeeksSolveMarks}
+use Rattle.time_marks.specs.Seeks.{seek_from, seek_of, driving_second, marked_at, seek_window, lies_in, SeeksSolveMarks}
 use Rattle.time_marks.proofs.WindowLaws.{moved-within, days-within}
 
 -- a number of seconds that is near is within its bound
@@ -70,7 +70,7 @@ date_same var n None = refl
 date_same var n (Some r) = day_same var n (date r)
 
 -- a mark is that of the stored second
-value_same : (base : Base) (plus : ℤ) (env : Env) → is_bounded_base base plus ≡ true → plus_to (base_value base env) plus ≡ mark_of (seek_from base plus) (stored (seek_from base plus) env)
+value_same : (base : Base) (plus : ℤ) (env : Env) → is_bounded_base base plus ≡ true → plus_to (base_value base env) plus ≡ mark_of (seek_from base plus) (driving_second (seek_from base plus) env)
 value_same (B.Arrival v) plus env h = plus_same v plus (on_row (lookup v.0 env) (λ r. Some (arrival r)))
 value_same (B.Date v) plus env h = plus_same v plus (on_row (lookup v.0 env) date)
 value_same B.Fixed plus env h = ap Some (plus_none plus)
@@ -82,4 +82,4 @@ value_same (B.DateDay v n) plus env h =
     ap (λ z. plus_to (base_value (B.DateDay v n) env) z) e ∙ date_same v n (lookup v.0 env)
 
 pub solved : SeeksSolveMarks
-solved e w env h = ap (lies_in w) (value_same e.base e.plus env (and_parts _ _ h).1) ∙ lies_same w (seek_of e) (stored (seek_of e) env)
+solved e w env h = ap (lies_in w) (value_same e.base e.plus env (and_parts _ _ h).1) ∙ lies_same w (seek_of e) (driving_second (seek_of e) env)

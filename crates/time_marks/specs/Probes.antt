@@ -44,12 +44,12 @@ abbrev pub come_by : ℤ → Env → Bool
 come_by b env = list_all (λ bound. int_le (arrival bound.row) b) env
 
 -- the rows of env make the probe true at b; the body speaks of no now, so its second 0 doesn't matter
-abbrev pub fits : Probe → Tables → ℤ → Env → Bool
-fits p T b env = guards_true p.path env && is_value (value p.at env) b && come_by b env && truth T (pos 0) p.body env
+abbrev pub is_satisfied : Probe → Tables → ℤ → Env → Bool
+is_satisfied p T b env = guards_true p.path env && is_value (value p.at env) b && come_by b env && truth T (pos 0) p.body env
 
 -- the probe finds the document with the mark b
 abbrev pub finds : Tables → Doc → ℤ → Probe → Bool
-finds T d b p = some_rows T d p.path [] (fits p T b)
+finds T d b p = some_rows T d p.path [] (is_satisfied p T b)
 
 -- some probe finds the document with the mark b
 abbrev pub found : List Probe → Tables → Doc → ℤ → Bool

@@ -32,12 +32,12 @@ seek_plus (ArrivedDay v n) = n
 seek_plus (DatedDay v n) = n
 
 -- the second that a driving row has; a fixed mark's is its moment
-abbrev pub stored : Seek → Env → Option ℤ
-stored (Arrived v n) env = on_row (lookup v.0 env) (λ r. Some (arrival r))
-stored (Dated v n) env = on_row (lookup v.0 env) date
-stored (Fixed moment) env = Some moment
-stored (ArrivedDay v n) env = on_row (lookup v.0 env) (λ r. Some (arrival r))
-stored (DatedDay v n) env = on_row (lookup v.0 env) date
+abbrev pub driving_second : Seek → Env → Option ℤ
+driving_second (Arrived v n) env = on_row (lookup v.0 env) (λ r. Some (arrival r))
+driving_second (Dated v n) env = on_row (lookup v.0 env) date
+driving_second (Fixed moment) env = Some moment
+driving_second (ArrivedDay v n) env = on_row (lookup v.0 env) (λ r. Some (arrival r))
+driving_second (DatedDay v n) env = on_row (lookup v.0 env) date
 
 -- the mark of a stored second
 abbrev pub marked_at : Seek → ℤ → ℤ
@@ -69,4 +69,4 @@ lies_in w (Some x) = is_within w x
 abbrev pub SeeksSolveMarks : Type 0
 SeeksSolveMarks =
     (e : Term) (w : Window) (env : Env) → is_bounded e ≡ true
-    → lies_in w (value e env) ≡ lies_in (seek_window w (seek_of e)) (stored (seek_of e) env)
+    → lies_in w (value e env) ≡ lies_in (seek_window w (seek_of e)) (driving_second (seek_of e) env)

@@ -9,7 +9,7 @@ use Rattle.tql_lex.specs.declared.fault.LexFault.{LexFault}
 use Rattle.tql_lex.specs.declared.fault.LexFault.TheVariants as F
 use Rattle.tql_lex.specs.Tokens.{tokens_from, lexed}
 use Rattle.tql_lex.specs.Spelling.{Spells, word_is, number_is, text_is, short_is, long_is, AreTokens, none, blank, one, in_order, IsNotBelow, no_number_below}
-use Rattle.tql_lex.specs.Gives.{Gives}
+use Rattle.tql_lex.specs.Gives.{LexGives}
 use Rattle.tql_lex.proofs.Spelled.{first_of}
 use Rattle.tql_lex.proofs.Spelling.{lexed_are}
 
@@ -55,10 +55,10 @@ lexed_order text tokens e = let k : 0 + length text ≡ length text = omega arit
 pub lexed_numbers : (text : List ℕ) (tokens : List Token) → lexed text ≡ Ok tokens → no_number_below tokens
 lexed_numbers text tokens e = are_not_below 0 text tokens (lexed_are text tokens e)
 
-pub gives_order : {X : Type 0} (text : List ℕ) (r : Result X LexFault) (view : X → List Token) → Gives view r (lexed text) → IfOk r (λ x. in_order 0 (view x) (length text))
+pub gives_order : {X : Type 0} (text : List ℕ) (r : Result X LexFault) (view : X → List Token) → LexGives view r (lexed text) → IfOk r (λ x. in_order 0 (view x) (length text))
 gives_order text (Ok x) view g = lexed_order text (view x) g
 gives_order text (Err fault) view g = tt
 
-pub gives_numbers : {X : Type 0} (text : List ℕ) (r : Result X LexFault) (view : X → List Token) → Gives view r (lexed text) → IfOk r (λ x. no_number_below (view x))
+pub gives_numbers : {X : Type 0} (text : List ℕ) (r : Result X LexFault) (view : X → List Token) → LexGives view r (lexed text) → IfOk r (λ x. no_number_below (view x))
 gives_numbers text (Ok x) view g = lexed_numbers text (view x) g
 gives_numbers text (Err fault) view g = tt

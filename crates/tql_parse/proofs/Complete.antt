@@ -10,7 +10,7 @@ use Rattle.tql_parse.specs.declared.key.Key.{Key}
 use Rattle.tql_parse.specs.declared.key.Key.TheVariants as K
 use Rattle.tql_parse.specs.declared.key.Opening.TheVariants as O
 use Rattle.tql_parse.specs.Keys.{key, is_and, is_or, is_close, is_shift_sign, opening_of}
-use Rattle.tql_parse.specs.Grammar.{forward, back, MayShift, none, some, IsExpr, number_is, negative, text_is, now, today, moment, field, IsTable, docs, notes, IsCompare, compare, has, Part, Cond, Conj, One, Reads, conj_alone, or_conj, unit_alone, and_unit, not_unit, group, true_is, false_is, exists_is, compare_is, IsQuery}
+use Rattle.tql_parse.specs.Grammar.{forward, back, MayShift, none, some, IsExpr, number_is, negative, text_is, now, today, moment, field, IsTable, docs, notes, IsCompare, compare, has, GrammarPart, Cond, Conj, One, Reads, conj_alone, or_conj, unit_alone, and_unit, not_unit, group, true_is, false_is, exists_is, compare_is, AreQueryTokens}
 use Rattle.tql_parse.specs.Reading.{Read, ◌>>=◌, one, table_at, shift_by, shift_at, expr_at, compare_at, chained, next_is, conj_with, group_with, unit_at, conj_at, cond_at, query_at, end_of}
 use Rattle.tql_parse.proofs.Chains.{chain_more, chain_ends}
 use Rattle.tql_parse.proofs.Lengths.{unit_shrinks, conj_shrinks}
@@ -74,7 +74,7 @@ pub close_quiet : (k : Key) → is_close k ≡ true → (is_shift_sign k ≡ fal
 close_quiet (K.Mark S.Close) e = (refl, refl, refl)
 close_quiet _ e = absurd (cc)
 
-abbrev Claim : Part → ℕ → List Token → Syntax → List Token → Type 0
+abbrev Claim : GrammarPart → ℕ → List Token → Syntax → List Token → Type 0
 Claim One n ts x rest = quiet rest → unit_at n ts ≡ Ok (x, rest)
 Claim Conj n ts x rest = quiet rest → conj_at n ts ≡ chained is_and And (unit_at n) x rest
 Claim Cond n ts x rest = quiet rest → next_is is_and rest ≡ false → cond_at n ts ≡ chained is_or Or (conj_with (unit_at n)) x rest
@@ -94,7 +94,7 @@ table_is : (t : Token) (which : Table) (rest : List Token) → IsTable t which �
 table_is t which rest (docs u k) = rw k refl
 table_is t which rest (notes u k) = rw k refl
 
-pub complete : (p : Part) (n : ℕ) (ts : List Token) (x : Syntax) (rest : List Token) → Reads p n ts x rest → Claim p n ts x rest
+pub complete : (p : GrammarPart) (n : ℕ) (ts : List Token) (x : Syntax) (rest : List Token) → Reads p n ts x rest → Claim p n ts x rest
 complete p n ts x rest (conj_alone m us y r h) = λ q a. ap (λ (r : Read Syntax). r >>= λ x. chained is_or Or (conj_with (unit_at m)) x.0 x.1) (conj_is m us y r (complete Conj m us y r h) q a)
 complete p n ts x rest (or_conj m us l o mid y r a b c) = λ q e.
     let k = or_quiet (key o.kind) b in
@@ -110,5 +110,5 @@ complete p n ts x rest (exists_is m t o v co ta wh which us y close r a b c d e 
 complete p n ts x rest (compare_is m us y r h) = λ q. unit_compare m us (compare_first us y r h) ∙ compare_is_read us y r h q
 
 -- a query is read
-pub query_is : (n : ℕ) (ts : List Token) (x : Syntax) → IsQuery n ts x → query_at n ts ≡ Ok x
+pub query_is : (n : ℕ) (ts : List Token) (x : Syntax) → AreQueryTokens n ts x → query_at n ts ≡ Ok x
 query_is n ts x h = ap (λ (r : Read Syntax). r >>= end_of) (cond_is n ts x [] (complete Cond n ts x [] h) refl refl refl)

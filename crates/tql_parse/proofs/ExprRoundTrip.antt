@@ -24,7 +24,7 @@ use Rattle.tql_tree.specs.Canonical.{text_of_bytes, text_of_unit, text_of_direct
 use Rattle.tql_tree.specs.Places.{plain_shift, plain_expr}
 use Rattle.tql_parse.specs.declared.key.Key.{Key}
 use Rattle.tql_parse.specs.declared.key.Key.TheVariants as K
-use Rattle.tql_parse.specs.Keys.{key, word_key, number, bytes, is_word, is_name, is_number, is_text, is_dot}
+use Rattle.tql_parse.specs.Keys.{key, word_key, number_of_kind, bytes, is_word, is_name_key, is_number, is_text, is_dot}
 use Rattle.tql_tree.specs.Proper.{is_plain}
 use Rattle.tql_parse.specs.Grammar.{forward, back, MayShift, none, some, IsExpr, number_is as the_number, negative, text_is as the_text, now, today, moment, field}
 use Rattle.tql_parse.proofs.TokenBounds.{IsCount, GoodShift, GoodExpr, minus_is}
@@ -156,7 +156,7 @@ module _ (Q : List Token → Type 0) (s : Shift) (m : ℕ) (is : s.count ≡ pos
   made_forward b ts (next sign us e (next count vs f (next unit ws g q))) =
       let k : key count.kind ≡ K.Number = is_key count (W.Number (pos m)) K.Number f (number_key m) in
       record {
-        value = Some (record { place = sign.place; back = false; count_place = count.place; count = number count.kind; unit = s.unit });
+        value = Some (record { place = sign.place; back = false; count_place = count.place; count = number_of_kind count.kind; unit = s.unit });
         rest = ws;
         reads = some (sign ∷ count ∷ unit ∷ ws) _ ws (forward sign count unit s.unit ws (is_key sign (W.Mark S.Plus) (K.Mark S.Plus) e refl) (ap is_number k) (is_key unit (W.Word (word_of_unit s.unit)) (K.Unit s.unit) g (unit_key s.unit)));
         same = rw (b, is, f) refl;
@@ -167,7 +167,7 @@ module _ (Q : List Token → Type 0) (s : Shift) (m : ℕ) (is : s.count ≡ pos
   made_back b ts (next sign us e (next count vs f (next unit ws g q))) =
       let k : key count.kind ≡ K.Number = is_key count (W.Number (pos m)) K.Number f (number_key m) in
       record {
-        value = Some (record { place = sign.place; back = true; count_place = count.place; count = number count.kind; unit = s.unit });
+        value = Some (record { place = sign.place; back = true; count_place = count.place; count = number_of_kind count.kind; unit = s.unit });
         rest = ws;
         reads = some (sign ∷ count ∷ unit ∷ ws) _ ws (back sign count unit s.unit ws (is_key sign (W.Mark S.Minus) (K.Mark S.Minus) e refl) (ap is_number k) (is_key unit (W.Word (word_of_unit s.unit)) (K.Unit s.unit) g (unit_key s.unit)));
         same = rw (b, is, f) refl;
@@ -221,10 +221,10 @@ same_plain (Some a) (Some b) e v p f q w r g t = refl
 
 module _ (Q : List Token → Type 0) where
   made_number : (p m : ℕ) (ts : List Token) → Next (W.Number (pos m)) Q ts → ExprBack (E.Number p (pos m)) Q ts
-  made_number p m ts (next t us e q) = record { value = E.Number t.place (number t.kind); rest = us; reads = the_number t us (is_key t (W.Number (pos m)) K.Number e (number_key m)); same = (rw e refl, refl); after = q }
+  made_number p m ts (next t us e q) = record { value = E.Number t.place (number_of_kind t.kind); rest = us; reads = the_number t us (is_key t (W.Number (pos m)) K.Number e (number_key m)); same = (rw e refl, refl); after = q }
 
   made_negative : (p m : ℕ) (ts : List Token) → Next (W.Mark S.Minus) (Next (W.Number (pos (suc m))) Q) ts → ExprBack (E.Number p (negsuc m)) Q ts
-  made_negative p m ts (next sign vs f (next t us e q)) = record { value = E.Number sign.place (pos 0 -ℤ number t.kind); rest = us; reads = negative sign t us (is_key sign (W.Mark S.Minus) (K.Mark S.Minus) f refl) (ap is_number (is_key t (W.Number (pos (suc m))) K.Number e (number_key (suc m)))); same = (rw (e, minus_is m) refl, refl); after = q }
+  made_negative p m ts (next sign vs f (next t us e q)) = record { value = E.Number sign.place (pos 0 -ℤ number_of_kind t.kind); rest = us; reads = negative sign t us (is_key sign (W.Mark S.Minus) (K.Mark S.Minus) f refl) (ap is_number (is_key t (W.Number (pos (suc m))) K.Number e (number_key (suc m)))); same = (rw (e, minus_is m) refl, refl); after = q }
 
   made_text : (p : ℕ) (content : List ℕ) (ts : List Token) → Next (W.Str content) Q ts → ExprBack (E.Str p content) Q ts
   made_text p content ts (next t us e q) = record { value = E.Str t.place (bytes t.kind); rest = us; reads = the_text t us (is_key t (W.Str content) K.Str e refl); same = (rw e refl, refl); after = q }
@@ -247,7 +247,7 @@ module _ (Q : List Token → Type 0) where
     after = b.after;
   }
 
-pub name_key : (k : Key) → is_name k ≡ true → k ≡ K.Name
+pub name_key : (k : Key) → is_name_key k ≡ true → k ≡ K.Name
 name_key K.Name e = refl
 name_key _ e = absurd (false≢true e)
 

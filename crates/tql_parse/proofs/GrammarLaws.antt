@@ -5,7 +5,7 @@ use Rattle.tql_lex.specs.declared.token.Token.{Token}
 use Rattle.tql_tree.specs.Syntax.{Syntax}
 use Rattle.tql_parse.specs.declared.fault.ParseFault.{ParseFault}
 use Rattle.tql_parse.specs.declared.fault.ParseFault.TheVariants.{Unexpected, Ended, Deep, Memory}
-use Rattle.tql_parse.specs.Grammar.{IsQuery, Begins, UnexpectedAt, DeepAt, EndsEarly}
+use Rattle.tql_parse.specs.Grammar.{AreQueryTokens, Begins, UnexpectedAt, DeepAt, EndsEarly}
 use Rattle.tql_parse.specs.Reading.{query_at}
 use Rattle.tql_parse.specs.Laws.{IsReadByGrammar}
 use Rattle.tql_parse.proofs.Complete.{query_is}
@@ -14,13 +14,13 @@ use Rattle.tql_parse.proofs.First.{first_stop}
 use Rattle.tql_parse.proofs.Parts.{ended_begins}
 use Rattle.tql_parse.proofs.Faults.{first_unexpected, first_deep, ended_none}
 
-found : (n : ℕ) (ts : List Token) (x : Syntax) → query_at n ts ≡ Ok x → IsQuery n ts x
+found : (n : ℕ) (ts : List Token) (x : Syntax) → query_at n ts ≡ Ok x → AreQueryTokens n ts x
 found n ts x h = query_found n ts (λ y. y) (Ok x) h
 
 -- the front of what begins a query begins one
 begins_before : (n : ℕ) (front rest : List Token) → Begins n (front ++ rest) → Begins n front
 begins_before n front rest b =
-    let P : List Token → Type 0 = λ us. IsQuery n us b.tree in
+    let P : List Token → Type 0 = λ us. AreQueryTokens n us b.tree in
     record { more = rest ++ b.more; tree = b.tree; is_query = subst P (append_assoc front rest b.more) b.is_query }
 
 -- tokens that begin a query begin one up to each token
@@ -32,7 +32,7 @@ begins_up_to n ts before at behind e b =
 -- a query begins one
 whole_begins : (n : ℕ) (ts : List Token) (x : Syntax) → query_at n ts ≡ Ok x → Begins n ts
 whole_begins n ts x h =
-    let P : List Token → Type 0 = λ us. IsQuery n us x in
+    let P : List Token → Type 0 = λ us. AreQueryTokens n us x in
     record { more = []; tree = x; is_query = subst P (sym (append-nil ts)) (found n ts x h) }
 
 -- there is one token up to which P holds no more

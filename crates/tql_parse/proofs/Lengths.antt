@@ -4,7 +4,7 @@ use Rattle.tql_lex.specs.declared.token.Token.{Token}
 use Rattle.tql_tree.specs.declared.shift.Shift.{Shift}
 use Rattle.tql_tree.specs.declared.expr.Expr.{Expr}
 use Rattle.tql_tree.specs.Syntax.{Syntax}
-use Rattle.tql_parse.specs.Grammar.{IsShift, forward, back, MayShift, none, some, IsExpr, number_is, negative, text_is, now, today, moment, field, IsCompare, compare, has, Part, Cond, Conj, One, Reads, conj_alone, or_conj, unit_alone, and_unit, not_unit, group, true_is, false_is, exists_is, compare_is}
+use Rattle.tql_parse.specs.Grammar.{IsShift, forward, back, MayShift, none, some, IsExpr, number_is, negative, text_is, now, today, moment, field, IsCompare, compare, has, GrammarPart, Cond, Conj, One, Reads, conj_alone, or_conj, unit_alone, and_unit, not_unit, group, true_is, false_is, exists_is, compare_is}
 use Rattle.tql_parse.specs.Reading.{conj_with, unit_at}
 use Rattle.tql_parse.proofs.Steps.{on_ok}
 use Rattle.tql_parse.proofs.Soundness.{on_unit_at, on_conj}
@@ -31,7 +31,7 @@ compare_less : (ts : List Token) (x : Syntax) (rest : List Token) → IsCompare 
 compare_less ts x rest (compare us l o op mid r after a b c) = let p = expr_less us l (o ∷ mid) a in let q = expr_less mid r after c in omega arith
 compare_less ts x rest (has us l o mid r after a p b c) = let p = expr_less us l (o ∷ mid) a in let q = expr_less mid r after c in omega arith
 
-pub less : (p : Part) (n : ℕ) (ts : List Token) (x : Syntax) (rest : List Token) → Reads p n ts x rest → length rest < length ts
+pub less : (p : GrammarPart) (n : ℕ) (ts : List Token) (x : Syntax) (rest : List Token) → Reads p n ts x rest → length rest < length ts
 less p n ts x rest (conj_alone m us y r h) = less Conj m us y r h
 less p n ts x rest (or_conj m us l o mid y r a b c) = let i = less Cond m us l (o ∷ mid) a in let j = less Conj m mid y r c in omega arith
 less p n ts x rest (unit_alone m us y r h) = less One m us y r h

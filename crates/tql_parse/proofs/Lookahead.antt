@@ -16,7 +16,7 @@ use Rattle.tql_parse.specs.declared.key.Opening.{Opening}
 use Rattle.tql_parse.specs.declared.key.Opening.TheVariants as O
 use Rattle.tql_parse.specs.declared.fault.ParseFault.{ParseFault}
 use Rattle.tql_parse.specs.declared.fault.ParseFault.TheVariants.{Unexpected, Ended, Deep, Memory}
-use Rattle.tql_parse.specs.Keys.{key, number, bytes, is_word, is_number, is_text, is_name, is_and, is_or, is_where, is_open, is_close, is_dot, is_colon, opening}
+use Rattle.tql_parse.specs.Keys.{key, number_of_kind, bytes, is_word, is_number, is_text, is_name_key, is_and, is_or, is_where, is_open, is_close, is_dot, is_colon, opening}
 use Rattle.tql_tree.specs.Proper.{is_plain}
 use Rattle.tql_parse.specs.Reading.{Read, ◌>>=◌, one, unit_name, table_at, shift_after, shift_at, negative_at, now_at, today_at, moment_at, field_at, expr_at, right_at, compare_at, chain, chained, conj_with, cond_with, group_with, head_at, exists_with, not_with, unit_at, cond_at}
 use Rattle.tql_parse.proofs.Chains.{Shrinks, same}
@@ -154,7 +154,7 @@ tame_field : (var : Token) → Lookahead Expr (field_at var)
 tame_field var = tame_bind Token Expr (one (λ k. is_dot (key k))) _ (tame_one (λ k. is_dot (key k))) (λ d. tame_bind Token Expr (one is_word) _ (tame_one is_word) (λ n. tame_bind (Option Shift) Expr shift_at _ tame_shift (λ s. tame_ok Expr _)))
 
 expr_choice : (k : Key) (t : Token) → key t.kind ≡ k → Choice Expr expr_at t
-expr_choice K.Number t e = taken (λ rest. Ok (E.Number t.place (number t.kind), rest)) (tame_ok Expr _) (λ rest. rw e refl)
+expr_choice K.Number t e = taken (λ rest. Ok (E.Number t.place (number_of_kind t.kind), rest)) (tame_ok Expr _) (λ rest. rw e refl)
 expr_choice (K.Mark S.Minus) t e = taken (negative_at t.place) (tame_negative t.place) (λ rest. rw e refl)
 expr_choice K.Str t e = taken (λ rest. Ok (E.Str t.place (bytes t.kind), rest)) (tame_ok Expr _) (λ rest. rw e refl)
 expr_choice K.Now t e = taken (now_at t.place) (tame_now t.place) (λ rest. rw e refl)
@@ -209,7 +209,7 @@ module _ (n : ℕ) (tame_unit : Lookahead Syntax (unit_at n)) where
   tame_group = tame_bind Syntax Syntax (cond_with (unit_at n)) _ tame_cond (λ x. tame_bind Token Syntax (one (λ k. is_close (key k))) _ (tame_one (λ k. is_close (key k))) (λ c. tame_ok Syntax x))
 
   pub tame_head : Lookahead (Token × Table) head_at
-  tame_head = tame_bind Token (Token × Table) (one (λ k. is_open (key k))) _ (tame_one (λ k. is_open (key k))) (λ o. tame_bind Token (Token × Table) (one (λ k. is_name (key k))) _ (tame_one (λ k. is_name (key k))) (λ v. tame_bind Token (Token × Table) (one (λ k. is_colon (key k))) _ (tame_one (λ k. is_colon (key k))) (λ c. tame_bind Table (Token × Table) table_at _ tame_table (λ w. tame_bind Token (Token × Table) (one (λ k. is_where (key k))) _ (tame_one (λ k. is_where (key k))) (λ z. tame_ok (Token × Table) _)))))
+  tame_head = tame_bind Token (Token × Table) (one (λ k. is_open (key k))) _ (tame_one (λ k. is_open (key k))) (λ o. tame_bind Token (Token × Table) (one (λ k. is_name_key (key k))) _ (tame_one (λ k. is_name_key (key k))) (λ v. tame_bind Token (Token × Table) (one (λ k. is_colon (key k))) _ (tame_one (λ k. is_colon (key k))) (λ c. tame_bind Table (Token × Table) table_at _ tame_table (λ w. tame_bind Token (Token × Table) (one (λ k. is_where (key k))) _ (tame_one (λ k. is_where (key k))) (λ z. tame_ok (Token × Table) _)))))
 
   tame_exists : Lookahead Syntax (exists_with (unit_at n))
   tame_exists = tame_bind (Token × Table) Syntax head_at _ tame_head (λ h. tame_bind Syntax Syntax (group_with (unit_at n)) _ tame_group (λ x. tame_ok Syntax _))

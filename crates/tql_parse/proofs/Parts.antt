@@ -22,11 +22,11 @@ use Rattle.tql_parse.specs.declared.key.Opening.{Opening}
 use Rattle.tql_parse.specs.declared.key.Opening.TheVariants as O
 use Rattle.tql_parse.specs.declared.fault.ParseFault.{ParseFault}
 use Rattle.tql_parse.specs.declared.fault.ParseFault.TheVariants.{Unexpected, Ended, Deep, Memory}
-use Rattle.tql_parse.specs.Keys.{key, number, bytes, is_word, is_number, is_text, is_name, is_and, is_or, is_where, is_open, is_close, is_dot, is_colon, is_shift_sign, opening}
+use Rattle.tql_parse.specs.Keys.{key, number_of_kind, bytes, is_word, is_number, is_text, is_name_key, is_and, is_or, is_where, is_open, is_close, is_dot, is_colon, is_shift_sign, opening}
 use Rattle.tql_tree.specs.Proper.{is_plain}
 use Rattle.tql_parse.specs.Reading.{Read, ◌>>=◌, one, unit_name, table_at, shift_after, shift_at, negative_at, now_at, today_at, moment_at, field_at, expr_at, right_at, compare_at, chain, chained, conj_with, cond_with, group_with, head_at, exists_with, not_with, unit_at, cond_at, next_is}
 use Rattle.std.proofs.Common.{length-append}
-use Rattle.tql_parse.specs.Grammar.{Begins, IsQuery}
+use Rattle.tql_parse.specs.Grammar.{Begins, AreQueryTokens}
 use Rattle.tql_parse.specs.Reading.{query_at, end_of}
 use Rattle.tql_parse.proofs.Chains.{Shrinks, same}
 use Rattle.tql_parse.proofs.Lengths.{unit_shrinks, conj_shrinks}
@@ -102,7 +102,7 @@ whole_field : (var : Token) → Whole Expr (field_at var)
 whole_field var = whole_bind Token Expr (one (λ k. is_dot (key k))) _ (whole_one (λ k. is_dot (key k)) (W.Mark S.Dot) refl refl) (λ d. whole_bind Token Expr (one is_word) _ (whole_one is_word (W.Word (codes "a")) refl refl) (λ n. whole_bind (Option Shift) Expr shift_at _ whole_shift (λ s. whole_ok Expr _) (λ s. refl)) (λ n. refl)) (λ d. refl)
 
 expr_choice : (k : Key) (t : Token) → key t.kind ≡ k → Choice Expr expr_at t
-expr_choice K.Number t e = taken (λ rest. Ok (E.Number t.place (number t.kind), rest)) (whole_ok Expr _) (λ rest. rw e refl)
+expr_choice K.Number t e = taken (λ rest. Ok (E.Number t.place (number_of_kind t.kind), rest)) (whole_ok Expr _) (λ rest. rw e refl)
 expr_choice (K.Mark S.Minus) t e = taken (negative_at t.place) (whole_negative t.place) (λ rest. rw e refl)
 expr_choice K.Str t e = taken (λ rest. Ok (E.Str t.place (bytes t.kind), rest)) (whole_ok Expr _) (λ rest. rw e refl)
 expr_choice K.Now t e = taken (now_at t.place) (whole_now t.place) (λ rest. rw e refl)
@@ -196,7 +196,7 @@ module _ (n : ℕ) (whole_unit : Whole Syntax (unit_at n)) where
   whole_group = whole_bind Syntax Syntax (cond_with (unit_at n)) _ whole_cond (λ x. whole_bind Token Syntax (one (λ k. is_close (key k))) _ (whole_one (λ k. is_close (key k)) (W.Mark S.Close) refl refl) (λ c. whole_ok Syntax x) (λ c. refl)) (λ x. refl)
 
   whole_head : Whole (Token × Table) head_at
-  whole_head = whole_bind Token (Token × Table) (one (λ k. is_open (key k))) _ (whole_one (λ k. is_open (key k)) (W.Mark S.Open) refl refl) (λ o. whole_bind Token (Token × Table) (one (λ k. is_name (key k))) _ (whole_one (λ k. is_name (key k)) (W.Word (codes "a")) refl refl) (λ v. whole_bind Token (Token × Table) (one (λ k. is_colon (key k))) _ (whole_one (λ k. is_colon (key k)) (W.Mark S.Colon) refl refl) (λ c. whole_bind Table (Token × Table) table_at _ whole_table (λ w. whole_bind Token (Token × Table) (one (λ k. is_where (key k))) _ (whole_one (λ k. is_where (key k)) (W.Word (codes "where")) refl refl) (λ z. whole_ok (Token × Table) _) (λ z. refl)) (λ w. refl)) (λ c. refl)) (λ v. refl)) (λ o. refl)
+  whole_head = whole_bind Token (Token × Table) (one (λ k. is_open (key k))) _ (whole_one (λ k. is_open (key k)) (W.Mark S.Open) refl refl) (λ o. whole_bind Token (Token × Table) (one (λ k. is_name_key (key k))) _ (whole_one (λ k. is_name_key (key k)) (W.Word (codes "a")) refl refl) (λ v. whole_bind Token (Token × Table) (one (λ k. is_colon (key k))) _ (whole_one (λ k. is_colon (key k)) (W.Mark S.Colon) refl refl) (λ c. whole_bind Table (Token × Table) table_at _ whole_table (λ w. whole_bind Token (Token × Table) (one (λ k. is_where (key k))) _ (whole_one (λ k. is_where (key k)) (W.Word (codes "where")) refl refl) (λ z. whole_ok (Token × Table) _) (λ z. refl)) (λ w. refl)) (λ c. refl)) (λ v. refl)) (λ o. refl)
 
   whole_exists : Whole Syntax (exists_with (unit_at n))
   whole_exists = whole_bind (Token × Table) Syntax head_at _ whole_head (λ h. whole_bind Syntax Syntax (group_with (unit_at n)) _ whole_group (λ x. whole_ok Syntax _) (λ x. refl)) (λ h. let e : unit_at n [] ≡ Err Ended = unit_end n [] refl in rw e refl)
@@ -245,7 +245,7 @@ ended_begins n ts e =
     record { more = f.more; tree = f.value; is_query = query_ok n (ts ++ f.more) (cond_at n (ts ++ f.more)) f.value (on_cond n (unit_at n) (on_unit_at n) (ts ++ f.more)) (ap (λ (r : Read Syntax). r >>= end_of) r) }
 
 begins_by : (n : ℕ) (ts : List Token) (r : Result Syntax ParseFault) → query_at n ts ≡ r → fails_at r ≡ false → Begins n ts
-begins_by n ts (Ok x) e v = record { more = []; tree = x; is_query = subst (λ (us : List Token). IsQuery n us x) (sym (append-nil ts)) (query_ok n ts (cond_at n ts) x (on_cond n (unit_at n) (on_unit_at n) ts) e) }
+begins_by n ts (Ok x) e v = record { more = []; tree = x; is_query = subst (λ (us : List Token). AreQueryTokens n us x) (sym (append-nil ts)) (query_ok n ts (cond_at n ts) x (on_cond n (unit_at n) (on_unit_at n) ts) e) }
 begins_by n ts (Err Ended) e v = ended_begins n ts e
 begins_by n ts (Err (Unexpected p)) e v = absurd (true≢false v)
 begins_by n ts (Err (Deep p)) e v = absurd (true≢false v)

@@ -11,10 +11,10 @@ use Rattle.tql_tree.specs.Syntax.{Syntax}
 use Rattle.tql_tree.specs.Proper.{IsCounted, IsProperExpr, IsProper}
 use Rattle.tql_parse.specs.declared.fault.ParseFault.{ParseFault}
 use Rattle.tql_parse.specs.declared.key.Key.TheVariants as K
-use Rattle.tql_parse.specs.Keys.{key, number, is_number}
-use Rattle.tql_parse.specs.Grammar.{IsShift, forward, back, MayShift, none, some, IsExpr, number_is, negative, text_is, now, today, moment, field, IsCompare, compare, has, Part, Cond, Conj, One, Reads, conj_alone, or_conj, unit_alone, and_unit, not_unit, group, true_is, false_is, exists_is, compare_is, IsQuery}
+use Rattle.tql_parse.specs.Keys.{key, number_of_kind, is_number}
+use Rattle.tql_parse.specs.Grammar.{IsShift, forward, back, MayShift, none, some, IsExpr, number_is, negative, text_is, now, today, moment, field, IsCompare, compare, has, GrammarPart, Cond, Conj, One, Reads, conj_alone, or_conj, unit_alone, and_unit, not_unit, group, true_is, false_is, exists_is, compare_is, AreQueryTokens}
 
-count_at_least : (k : Kind) → is_number (key k) ≡ true → pos 0 ≤ℤ number k
+count_at_least : (k : Kind) → is_number (key k) ≡ true → pos 0 ≤ℤ number_of_kind k
 count_at_least (W.Word w) e = omega (arith, ints)
 count_at_least (W.Str w) e = omega (arith, ints)
 count_at_least (W.Mark m) e = omega (arith, ints)
@@ -45,7 +45,7 @@ compare_proper : (ts : List Token) (x : Syntax) (rest : List Token) → IsCompar
 compare_proper ts x rest (compare us l o op mid r after a b c) = (expr_proper us l (o ∷ mid) a, expr_proper mid r after c)
 compare_proper ts x rest (has us l o mid r after a p b c) = (p, expr_proper mid r after c)
 
-reads_proper : (p : Part) (n : ℕ) (ts : List Token) (x : Syntax) (rest : List Token) → Reads p n ts x rest → IsProper x
+reads_proper : (p : GrammarPart) (n : ℕ) (ts : List Token) (x : Syntax) (rest : List Token) → Reads p n ts x rest → IsProper x
 reads_proper p n ts x rest (conj_alone m us y r h) = reads_proper Conj m us y r h
 reads_proper p n ts x rest (or_conj m us l o mid y r a b c) = (reads_proper Cond m us l (o ∷ mid) a, reads_proper Conj m mid y r c)
 reads_proper p n ts x rest (unit_alone m us y r h) = reads_proper One m us y r h
@@ -57,6 +57,6 @@ reads_proper p n ts x rest (false_is m t r k) = tt
 reads_proper p n ts x rest (exists_is m t o v co ta wh which us y close r a b c d e f g h) = reads_proper Cond m us y (close ∷ r) g
 reads_proper p n ts x rest (compare_is m us y r h) = compare_proper us y r h
 
-pub found_proper : {X : Type 0} (n : ℕ) (ts : List Token) (view : X → Syntax) (r : Result X ParseFault) → IfOk r (λ x. IsQuery n ts (view x)) → IfOk r (λ x. IsProper (view x))
+pub found_proper : {X : Type 0} (n : ℕ) (ts : List Token) (view : X → Syntax) (r : Result X ParseFault) → IfOk r (λ x. AreQueryTokens n ts (view x)) → IfOk r (λ x. IsProper (view x))
 found_proper n ts view (Ok x) h = reads_proper Cond n ts (view x) [] h
 found_proper n ts view (Err f) h = tt

@@ -12,7 +12,7 @@ use Rattle.tql_parse.specs.declared.key.Key.{Key}
 use Rattle.tql_parse.specs.declared.key.Key.TheVariants as K
 use Rattle.tql_parse.specs.declared.fault.ParseFault.{ParseFault}
 use Rattle.tql_parse.specs.declared.fault.ParseFault.TheVariants.{Unexpected, Deep}
-use Rattle.tql_parse.specs.Keys.{key, is_word, is_number, is_text, is_name, is_where, is_open, is_dot, is_colon}
+use Rattle.tql_parse.specs.Keys.{key, is_word, is_number, is_text, is_name_key, is_where, is_open, is_dot, is_colon}
 use Rattle.tql_tree.specs.Proper.{is_plain}
 use Rattle.tql_parse.specs.Reading.{Read, ◌>>=◌, one, unit_by, unit_name, table_by, table_at, shift_after, shift_by, shift_at, negative_at, now_at, today_at, moment_at, field_at, expr_by, expr_at, has_at, right_by, right_at, compare_at, head_at}
 
@@ -114,4 +114,4 @@ pub shallow_compare : Shallow Syntax compare_at
 shallow_compare = shallow_bind Expr Syntax expr_at _ shallow_expr (λ left. shallow_right left)
 
 pub shallow_head : Shallow (Token × Table) head_at
-shallow_head = shallow_bind Token (Token × Table) (one (λ k. is_open (key k))) _ (shallow_one (λ k. is_open (key k))) (λ o. shallow_bind Token (Token × Table) (one (λ k. is_name (key k))) _ (shallow_one (λ k. is_name (key k))) (λ v. shallow_bind Token (Token × Table) (one (λ k. is_colon (key k))) _ (shallow_one (λ k. is_colon (key k))) (λ c. shallow_bind Table (Token × Table) table_at _ shallow_table (λ w. shallow_bind Token (Token × Table) (one (λ k. is_where (key k))) _ (shallow_one (λ k. is_where (key k))) (λ z. shallow_ok (Token × Table) _)))))
+shallow_head = shallow_bind Token (Token × Table) (one (λ k. is_open (key k))) _ (shallow_one (λ k. is_open (key k))) (λ o. shallow_bind Token (Token × Table) (one (λ k. is_name_key (key k))) _ (shallow_one (λ k. is_name_key (key k))) (λ v. shallow_bind Token (Token × Table) (one (λ k. is_colon (key k))) _ (shallow_one (λ k. is_colon (key k))) (λ c. shallow_bind Table (Token × Table) table_at _ shallow_table (λ w. shallow_bind Token (Token × Table) (one (λ k. is_where (key k))) _ (shallow_one (λ k. is_where (key k))) (λ z. shallow_ok (Token × Table) _)))))

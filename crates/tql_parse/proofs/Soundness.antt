@@ -8,7 +8,7 @@ use Rattle.tql_tree.specs.declared.expr.Expr.{Expr}
 use Rattle.tql_tree.specs.Syntax.{Syntax, Or, And}
 use Rattle.tql_parse.specs.declared.key.Key.{Key}
 use Rattle.tql_parse.specs.declared.key.Key.TheVariants as K
-use Rattle.tql_parse.specs.Keys.{key, is_word, is_number, is_text, is_name, is_and, is_or, is_where, is_open, is_close, is_dot, is_colon}
+use Rattle.tql_parse.specs.Keys.{key, is_word, is_number, is_text, is_name_key, is_and, is_or, is_where, is_open, is_close, is_dot, is_colon}
 use Rattle.tql_tree.specs.Proper.{is_plain}
 use Rattle.tql_parse.specs.Grammar.{forward, back, MayShift, none, some, IsExpr, number_is, negative, text_is, now, today, moment, field, IsTable, docs, notes, IsCompare, compare, has, Cond, Conj, One, Reads, conj_alone, or_conj, unit_alone, and_unit, not_unit, group, true_is, false_is, exists_is, compare_is}
 use Rattle.tql_parse.specs.Reading.{Read, ◌>>=◌, one, unit_by, unit_name, table_by, table_at, shift_after, shift_by, shift_at, negative_at, moment_at, field_at, expr_by, expr_at, has_at, right_by, right_at, compare_at, chain, conj_with, cond_with, group_with, head_at, exists_with, deeper, flat, unit_at}
@@ -115,7 +115,7 @@ pub record IsHead (ts : List Token) (x : Token × Table) (rest : List Token) : T
   pub where_is : Token
   pub whole : ts ≡ opening ∷ x.0 ∷ colon ∷ table ∷ where_is ∷ rest
   pub opens : is_open (key opening.kind) ≡ true
-  pub names : is_name (key x.0.kind) ≡ true
+  pub names : is_name_key (key x.0.kind) ≡ true
   pub parts : is_colon (key colon.kind) ≡ true
   pub is_table : IsTable table x.1
   pub ends : is_where (key where_is.kind) ≡ true
@@ -123,7 +123,7 @@ pub record IsHead (ts : List Token) (x : Token × Table) (rest : List Token) : T
 pub on_head : (ts : List Token) → On (IsHead ts) (head_at ts)
 on_head ts =
     on_bind (Next (λ k. is_open (key k)) ts) (IsHead ts) (one (λ k. is_open (key k)) ts) _ (on_one (λ k. is_open (key k)) ts) (λ o a.
-    on_bind (Next (λ k. is_name (key k)) o.1) (IsHead ts) (one (λ k. is_name (key k)) o.1) _ (on_one (λ k. is_name (key k)) o.1) (λ v b.
+    on_bind (Next (λ k. is_name_key (key k)) o.1) (IsHead ts) (one (λ k. is_name_key (key k)) o.1) _ (on_one (λ k. is_name_key (key k)) o.1) (λ v b.
     on_bind (Next (λ k. is_colon (key k)) v.1) (IsHead ts) (one (λ k. is_colon (key k)) v.1) _ (on_one (λ k. is_colon (key k)) v.1) (λ p c.
     on_bind (λ which after. (u : Token) × (p.1 ≡ u ∷ after) × IsTable u which) (IsHead ts) (table_at p.1) _ (on_table p.1) (λ w d.
     on_bind (Next (λ k. is_where (key k)) w.1) (IsHead ts) (one (λ k. is_where (key k)) w.1) _ (on_one (λ k. is_where (key k)) w.1) (λ x e.

@@ -19,9 +19,9 @@ use Rattle.tql_tree.specs.declared.expr.Expr.TheVariants as E
 use Rattle.tql_tree.specs.Syntax.{Syntax, True, False, Or, And, Not, Exists, Compare, Has}
 use Rattle.tql_parse.specs.declared.key.Key.{Key}
 use Rattle.tql_parse.specs.declared.key.Key.TheVariants as K
-use Rattle.tql_parse.specs.Keys.{key, word_key, number, bytes, is_word, is_name}
+use Rattle.tql_parse.specs.Keys.{key, word_key, number_of_kind, bytes, is_word, is_name_key}
 use Rattle.tql_tree.specs.Proper.{is_plain}
-use Rattle.tql_parse.specs.Grammar.{IsShift, forward, back, MayShift, none, some, IsExpr, number_is as the_number, negative, text_is as the_text, now, today, moment, field, IsCompare, compare, has, Part, Cond, Conj, One, Reads, conj_alone, or_conj, unit_alone, and_unit, not_unit, group, true_is, false_is, exists_is, compare_is}
+use Rattle.tql_parse.specs.Grammar.{IsShift, forward, back, MayShift, none, some, IsExpr, number_is as the_number, negative, text_is as the_text, now, today, moment, field, IsCompare, compare, has, GrammarPart, Cond, Conj, One, Reads, conj_alone, or_conj, unit_alone, and_unit, not_unit, group, true_is, false_is, exists_is, compare_is}
 
 -- a word that is lowered
 abbrev pub IsWord : List ℕ → Type 0
@@ -39,7 +39,7 @@ IsLiteral (negsuc m) = suc m ≤ most
 
 -- a word that is not reserved
 abbrev pub IsVar : List ℕ → Type 0
-IsVar w = IsWord w × (is_name (word_key w) ≡ true)
+IsVar w = IsWord w × (is_name_key (word_key w) ≡ true)
 
 abbrev pub GoodShift : Option Shift → Type 0
 GoodShift None = Unit {0}
@@ -102,7 +102,7 @@ are_of_text place text tokens (no_token p) = nil
 are_of_text place text tokens (blank p b rest ts e h) = are_of_text (p + 1) rest ts h
 are_of_text place text tokens (one p s rest kind ts h n more) = cons _ ts (spelled_of_text s kind h) (are_of_text _ rest ts more)
 
-count_of_text : (k : Kind) → OfText k → IsCount (number k)
+count_of_text : (k : Kind) → OfText k → IsCount (number_of_kind k)
 count_of_text (W.Word w) h = omega arith
 count_of_text (W.Number n) h = h
 count_of_text (W.Str w) h = omega arith
@@ -113,12 +113,12 @@ no_name true e = cc
 no_name false e = cc
 
 name_of_text : (k : Kind) → OfText k → key k ≡ K.Name → IsVar (bytes k)
-name_of_text (W.Word w) h e = (h, ap is_name e)
+name_of_text (W.Word w) h e = (h, ap is_name_key e)
 name_of_text (W.Number n) h e = absurd (no_name (int_lt n (pos 0)) e)
 name_of_text (W.Str w) h e = absurd (cc)
 name_of_text (W.Mark m) h e = absurd (cc)
 
-plain_name : (k : Key) → is_name k ≡ true → k ≡ K.Name
+plain_name : (k : Key) → is_name_key k ≡ true → k ≡ K.Name
 plain_name K.Name e = refl
 plain_name _ e = absurd (false≢true e)
 
@@ -149,8 +149,8 @@ may_good ts s rest (none r) all = (tt, all)
 may_good ts s rest (some us x r h) all = shift_good us x r h all
 
 expr_good : (ts : List Token) (e : Expr) (rest : List Token) → IsExpr ts e rest → AllOfText ts → GoodExpr e × AllOfText rest
-expr_good ts e rest (the_number t r k) (cons u us h more) = (literal (number t.kind) (count_of_text t.kind h), more)
-expr_good ts e rest (negative m t r a b) (cons u us h (cons v vs i more)) = (negated (number t.kind) (count_of_text t.kind i), more)
+expr_good ts e rest (the_number t r k) (cons u us h more) = (literal (number_of_kind t.kind) (count_of_text t.kind h), more)
+expr_good ts e rest (negative m t r a b) (cons u us h (cons v vs i more)) = (negated (number_of_kind t.kind) (count_of_text t.kind i), more)
 expr_good ts e rest (the_text t r k) (cons u us h more) = (tt, more)
 expr_good ts e rest (now t us s r k h) (cons u vs i more) = may_good us s r h more
 expr_good ts e rest (today t us s r k h) (cons u vs i more) = may_good us s r h more
@@ -172,7 +172,7 @@ compare_good ts x rest (has us l o mid r after a p b c) all = go (expr_good us l
 behind_one : (X : Type 0) (t : Token) (ts : List Token) → X × AllOfText (t ∷ ts) → X × AllOfText ts
 behind_one X t ts (x, cons u us h more) = (x, more)
 
-pub reads_good : (p : Part) (n : ℕ) (ts : List Token) (x : Syntax) (rest : List Token) → Reads p n ts x rest → AllOfText ts → TokenBounds x × AllOfText rest
+pub reads_good : (p : GrammarPart) (n : ℕ) (ts : List Token) (x : Syntax) (rest : List Token) → Reads p n ts x rest → AllOfText ts → TokenBounds x × AllOfText rest
 reads_good p n ts x rest (conj_alone m us y r h) all = reads_good Conj m us y r h all
 reads_good p n ts x rest (or_conj m us l o mid y r a b c) all =
     let i = behind_one (TokenBounds l) o mid (reads_good Cond m us l (o ∷ mid) a all) in

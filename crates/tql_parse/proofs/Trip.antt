@@ -16,23 +16,23 @@ use Rattle.tql_tree.specs.declared.table.Table.{Table}
 use Rattle.tql_tree.specs.declared.table.Table.TheVariants.{Docs, Notes}
 use Rattle.tql_tree.specs.declared.expr.Expr.{Expr}
 use Rattle.tql_tree.specs.Syntax.{Syntax, True, False, Or, And, Not, Exists, Compare, Has}
-use Rattle.tql_tree.specs.Canonical.{text_of_table, text_of_op, text_of_expr, strength, within, canonical}
+use Rattle.tql_tree.specs.Canonical.{text_of_table, text_of_op, text_of_expr, strength, parenthesized, canonical}
 use Rattle.tql_tree.specs.Places.{plain_expr, plain}
 use Rattle.tql_parse.specs.declared.key.Key.TheVariants as K
-use Rattle.tql_parse.specs.Keys.{word_key, bytes, is_name, is_and, is_or, is_where, is_open, is_close, is_colon}
+use Rattle.tql_parse.specs.Keys.{word_key, bytes, is_name_key, is_and, is_or, is_where, is_open, is_close, is_colon}
 use Rattle.tql_tree.specs.Proper.{is_plain}
-use Rattle.tql_parse.specs.Grammar.{IsExpr, IsTable, docs, notes, IsCompare, compare, has, Part, Cond, Conj, One, Reads, conj_alone, or_conj, unit_alone, and_unit, not_unit, group, true_is, false_is, exists_is, compare_is, IsQuery}
+use Rattle.tql_parse.specs.Grammar.{IsExpr, IsTable, docs, notes, IsCompare, compare, has, GrammarPart, Cond, Conj, One, Reads, conj_alone, or_conj, unit_alone, and_unit, not_unit, group, true_is, false_is, exists_is, compare_is, AreQueryTokens}
 use Rattle.tql_parse.specs.RoundTrip.{ReadsAs}
 use Rattle.tql_parse.proofs.TokenBounds.{IsVar, GoodExpr, TokenBounds, are_of_text, reads_good}
 use Rattle.tql_parse.proofs.ExprRoundTrip.{Lexes, Next, next, ExprRoundTrip, put, skip, turn, nest, closes, closes_ends, open_ends, is_key, ExprBack, expr_back, name_key}
 
 -- the part of the grammar that a query is without parentheses
-abbrev part_of : Syntax → Part
+abbrev part_of : Syntax → GrammarPart
 part_of (Or l r) = Cond
 part_of (And l r) = Conj
 part_of _ = One
 
-abbrev rank : Part → ℕ
+abbrev rank : GrammarPart → ℕ
 rank Cond = 0
 rank Conj = 1
 rank One = 2
@@ -108,7 +108,7 @@ compare_levels ts x rest (compare us l o op mid r after a b c) n = omega arith
 compare_levels ts x rest (has us l o mid r after a p b c) n = omega arith
 
 -- the canonical text has no more levels than were read
-read_levels : (p : Part) (n : ℕ) (ts : List Token) (x : Syntax) (rest : List Token) → Reads p n ts x rest → wrapped (weaker x (rank p)) (levels x) ≤ n
+read_levels : (p : GrammarPart) (n : ℕ) (ts : List Token) (x : Syntax) (rest : List Token) → Reads p n ts x rest → wrapped (weaker x (rank p)) (levels x) ≤ n
 read_levels p n ts x rest (conj_alone m us y r h) = less_wrapped (strength y) 0 1 (levels y) m (omega arith) (read_levels Conj m us y r h)
 read_levels p n ts x rest (or_conj m us l o mid y r a b c) = most_fits (levels l) (wrapped (weaker y 1) (levels y)) m (none_weaker l (levels l) m (read_levels Cond m us l (o ∷ mid) a)) (read_levels Conj m mid y r c)
 read_levels p n ts x rest (unit_alone m us y r h) = less_wrapped (strength y) 1 2 (levels y) m (omega arith) (read_levels One m us y r h)
@@ -121,10 +121,10 @@ read_levels p n ts x rest (exists_is m t o v co ta wh which us y close r a b c d
 read_levels p n ts x rest (compare_is m us y r h) = compare_levels us y r h m
 
 -- a query is read back as this part
-abbrev TreeBack : Part → ℕ → Syntax → (List Token → Type 0) → List Token → Type 0
+abbrev TreeBack : GrammarPart → ℕ → Syntax → (List Token → Type 0) → List Token → Type 0
 TreeBack p n x Q ts = ExprRoundTrip Syntax (Reads p n) (λ y. plain y ≡ plain x) Q ts
 
-abbrev Reader : Part → ℕ → Syntax → List ℕ → Type 1
+abbrev Reader : GrammarPart → ℕ → Syntax → List ℕ → Type 1
 Reader p n x text = (rest : List ℕ) (Q : List Token → Type 0) → closes rest ≡ true → Lexes rest Q → Lexes (text ++ rest) (TreeBack p n x Q)
 
 module _ (n : ℕ) (x : Syntax) (Q : List Token → Type 0) where
@@ -141,7 +141,7 @@ module _ (n : ℕ) (x : Syntax) (Q : List Token → Type 0) where
   made_group ts (next t us e b) = grouped t us b.value b.rest e b.reads b.same b.after
 
 -- a part is also each weaker one
-lifted : (p q : Part) (n : ℕ) (x : Syntax) (text : List ℕ) → rank q ≤ rank p → Reader p n x text → Reader q n x text
+lifted : (p q : GrammarPart) (n : ℕ) (x : Syntax) (text : List ℕ) → rank q ≤ rank p → Reader p n x text → Reader q n x text
 lifted Cond Cond n x text le h = h
 lifted Cond Conj n x text le h = absurd (omega arith)
 lifted Cond One n x text le h = absurd (omega arith)
@@ -152,7 +152,7 @@ lifted One Cond n x text le h = λ rest Q c l. turn _ _ _ (as_cond n x Q) (turn 
 lifted One Conj n x text le h = λ rest Q c l. turn _ _ _ (as_conj n x Q) (h rest Q c l)
 lifted One One n x text le h = h
 
-in_parentheses : (n : ℕ) (x : Syntax) (text : List ℕ) → Reader Cond n x text → Reader One (suc n) x (within true text)
+in_parentheses : (n : ℕ) (x : Syntax) (text : List ℕ) → Reader Cond n x text → Reader One (suc n) x (parenthesized true text)
 in_parentheses n x text h = λ rest Q c l.
     nest (40 ∷ text) (41 ∷ []) rest _ (turn _ _ _ (made_group n x Q) (put (40 ∷ []) (text ++ (41 ∷ rest)) (W.Mark S.Open) (TreeBack Cond n x (Next (W.Mark S.Close) Q)) (short_is 40 S.Open refl) (open_ends (text ++ (41 ∷ rest))) (h (41 ∷ rest) (Next (W.Mark S.Close) Q) refl (put (41 ∷ []) rest (W.Mark S.Close) Q (short_is 41 S.Close refl) (closes_ends (W.Mark S.Close) rest c) l))))
 
@@ -166,21 +166,21 @@ strength_is (Exists v p t a) = refl
 strength_is (Compare a o p b) = refl
 strength_is (Has a p b) = refl
 
-cond_least : (p : Part) → 0 ≤ rank p
+cond_least : (p : GrammarPart) → 0 ≤ rank p
 cond_least p = omega arith
 
-one_most : (p : Part) → rank p ≤ 2
+one_most : (p : GrammarPart) → rank p ≤ 2
 one_most Cond = omega arith
 one_most Conj = omega arith
 one_most One = omega arith
 
 -- in parentheses if it must be
-wrap_reader : (x : Syntax) (p : Part) (n : ℕ) → ((m : ℕ) → levels x ≤ m → Reader (part_of x) m x (canonical x)) → wrapped (weaker x (rank p)) (levels x) ≤ n → Reader p n x (within (weaker x (rank p)) (canonical x))
+wrap_reader : (x : Syntax) (p : GrammarPart) (n : ℕ) → ((m : ℕ) → levels x ≤ m → Reader (part_of x) m x (canonical x)) → wrapped (weaker x (rank p)) (levels x) ≤ n → Reader p n x (parenthesized (weaker x (rank p)) (canonical x))
 wrap_reader x p n h fits = go (weaker x (rank p)) refl n fits
   where
-    go : (b : Bool) → weaker x (rank p) ≡ b → (n : ℕ) → wrapped b (levels x) ≤ n → Reader p n x (within b (canonical x))
+    go : (b : Bool) → weaker x (rank p) ≡ b → (n : ℕ) → wrapped b (levels x) ≤ n → Reader p n x (parenthesized b (canonical x))
     go true e zero fits = absurd (omega (arith, fits))
-    go true e (suc n) fits = lifted One p (suc n) x (within true (canonical x)) (one_most p) (in_parentheses n x (canonical x) (lifted (part_of x) Cond n x (canonical x) (cond_least (part_of x)) (h n (omega (arith, fits)))))
+    go true e (suc n) fits = lifted One p (suc n) x (parenthesized true (canonical x)) (one_most p) (in_parentheses n x (canonical x) (lifted (part_of x) Cond n x (canonical x) (cond_least (part_of x)) (h n (omega (arith, fits)))))
     go false e n fits = let s = strength_is x in lifted (part_of x) p n x (canonical x) (grind (arith, nat_tests)) (h n fits)
 
 module _ (n : ℕ) (Q : List Token → Type 0) where
@@ -246,7 +246,7 @@ module _ (n : ℕ) (var : List ℕ) (p : ℕ) (table : Table) (x : Syntax) (Q : 
   exists_by t o v c u w ts y r e1 e2 e3 e4 e5 e6 h s (next close vs f q) = record {
     value = Exists (bytes v.kind) v.place table y;
     rest = vs;
-    reads = exists_is n t o v c u w table ts y close vs (is_key t (W.Word (codes "exists")) K.Exists e1 refl) (ap is_open (is_key o (W.Mark S.Open) (K.Mark S.Open) e2 refl)) (ap is_name (is_key v (W.Word var) K.Name e3 k)) (ap is_colon (is_key c (W.Mark S.Colon) (K.Mark S.Colon) e4 refl)) (table_of u table e5) (ap is_where (is_key w (W.Word (codes "where")) K.Where e6 refl)) h (ap is_close (is_key close (W.Mark S.Close) (K.Mark S.Close) f refl));
+    reads = exists_is n t o v c u w table ts y close vs (is_key t (W.Word (codes "exists")) K.Exists e1 refl) (ap is_open (is_key o (W.Mark S.Open) (K.Mark S.Open) e2 refl)) (ap is_name_key (is_key v (W.Word var) K.Name e3 k)) (ap is_colon (is_key c (W.Mark S.Colon) (K.Mark S.Colon) e4 refl)) (table_of u table e5) (ap is_where (is_key w (W.Word (codes "where")) K.Where e6 refl)) h (ap is_close (is_key close (W.Mark S.Close) (K.Mark S.Close) f refl));
     same = rw (e3, s) refl;
     after = q;
   }
@@ -271,17 +271,17 @@ exists_reader n var p table x g h rest Q c l =
     nest (((((head ++ var) ++ (58 ∷ 32 ∷ [])) ++ t) ++ where_is) ++ b) (41 ∷ []) rest _ (nest ((((head ++ var) ++ (58 ∷ 32 ∷ [])) ++ t) ++ where_is) b (41 ∷ rest) _ (nest (((head ++ var) ++ (58 ∷ 32 ∷ [])) ++ t) where_is tail _ (nest ((head ++ var) ++ (58 ∷ 32 ∷ [])) t (where_is ++ tail) _ (nest (head ++ var) (58 ∷ 32 ∷ []) (t ++ (where_is ++ tail)) _
     (turn _ _ _ (made_exists n var p table x Q (name_key (word_key var) g.1)) whole)))))
 
-or_reader : (n : ℕ) (l r : Syntax) → Reader Cond n l (canonical l) → Reader Conj n r (within (weaker r 1) (canonical r)) → Reader Cond n (Or l r) (canonical (Or l r))
+or_reader : (n : ℕ) (l r : Syntax) → Reader Cond n l (canonical l) → Reader Conj n r (parenthesized (weaker r 1) (canonical r)) → Reader Cond n (Or l r) (canonical (Or l r))
 or_reader n l r h k rest Q c a =
-    let s = within (weaker r 1) (canonical r) in
+    let s = parenthesized (weaker r 1) (canonical r) in
     let right = k rest Q c a in
     let from_or = skip 32 _ _ refl (put (codes "OR") (32 ∷ (s ++ rest)) (W.Word (codes "or")) (TreeBack Conj n r Q) (word_is 79 (codes "R") refl refl) refl (skip 32 _ _ refl right)) in
     nest (canonical l ++ codes " OR ") s rest _ (nest (canonical l) (codes " OR ") (s ++ rest) _ (turn _ _ _ (made_or n Q l r) (h (codes " OR " ++ (s ++ rest)) (Next (W.Word (codes "or")) (TreeBack Conj n r Q)) refl from_or)))
 
-and_reader : (n : ℕ) (l r : Syntax) → Reader Conj n l (within (weaker l 1) (canonical l)) → Reader One n r (within (weaker r 2) (canonical r)) → Reader Conj n (And l r) (canonical (And l r))
+and_reader : (n : ℕ) (l r : Syntax) → Reader Conj n l (parenthesized (weaker l 1) (canonical l)) → Reader One n r (parenthesized (weaker r 2) (canonical r)) → Reader Conj n (And l r) (canonical (And l r))
 and_reader n l r h k rest Q c a =
-    let f = within (weaker l 1) (canonical l) in
-    let s = within (weaker r 2) (canonical r) in
+    let f = parenthesized (weaker l 1) (canonical l) in
+    let s = parenthesized (weaker r 2) (canonical r) in
     let right = k rest Q c a in
     let from_and = skip 32 _ _ refl (put (codes "AND") (32 ∷ (s ++ rest)) (W.Word (codes "and")) (TreeBack One n r Q) (word_is 65 (codes "ND") refl refl) refl (skip 32 _ _ refl right)) in
     nest (f ++ codes " AND ") s rest _ (nest f (codes " AND ") (s ++ rest) _ (turn _ _ _ (made_and n Q l r) (h (codes " AND " ++ (s ++ rest)) (Next (W.Word (codes "and")) (TreeBack One n r Q)) refl from_and)))
@@ -304,8 +304,8 @@ has_reader n l r p g i h rest Q c a =
     let from_has = skip 32 _ _ refl (put (codes "HAS") (32 ∷ (s ++ rest)) (W.Word (codes "has")) (ExprBack r Q) (word_is 72 (codes "AS") refl refl) refl (skip 32 _ _ refl right)) in
     nest (f ++ codes " HAS ") s rest _ (nest f (codes " HAS ") (s ++ rest) _ (turn _ _ _ (made_has n Q l r p i) (expr_back l g (codes " HAS " ++ (s ++ rest)) (Next (W.Word (codes "has")) (ExprBack r Q)) refl from_has)))
 
-not_reader : (n : ℕ) (x : Syntax) → Reader One n x (within (weaker x 2) (canonical x)) → Reader One (suc n) (Not x) (canonical (Not x))
-not_reader n x h rest Q c l = turn _ _ _ (made_not n Q x) (put (codes "NOT") (32 ∷ (within (weaker x 2) (canonical x) ++ rest)) (W.Word (codes "not")) (TreeBack One n x Q) (word_is 78 (codes "OT") refl refl) refl (skip 32 _ _ refl (h rest Q c l)))
+not_reader : (n : ℕ) (x : Syntax) → Reader One n x (parenthesized (weaker x 2) (canonical x)) → Reader One (suc n) (Not x) (canonical (Not x))
+not_reader n x h rest Q c l = turn _ _ _ (made_not n Q x) (put (codes "NOT") (32 ∷ (parenthesized (weaker x 2) (canonical x) ++ rest)) (W.Word (codes "not")) (TreeBack One n x Q) (word_is 78 (codes "OT") refl refl) refl (skip 32 _ _ refl (h rest Q c l)))
 
 true_reader : (n : ℕ) → Reader One n True (canonical True)
 true_reader n rest Q c l = turn _ _ _ (made_true n Q) (put (codes "TRUE") rest (W.Word (codes "true")) Q (word_is 84 (codes "RUE") refl refl) (closes_ends (W.Word (codes "true")) rest c) l)
@@ -332,7 +332,7 @@ over : Lexes [] Over
 over place = ([], no_token place, refl)
 
 -- a query of a text reads back from its canonical text
-pub reads_back : (text : List ℕ) (tokens : List Token) (query : Syntax) → lexed text ≡ Ok tokens → IsQuery 32 tokens query → length (canonical query) ≤ 4096 → ReadsAs (canonical query) query
+pub reads_back : (text : List ℕ) (tokens : List Token) (query : Syntax) → lexed text ≡ Ok tokens → AreQueryTokens 32 tokens query → length (canonical query) ≤ 4096 → ReadsAs (canonical query) query
 reads_back text tokens query e h short =
     let good = (reads_good Cond 32 tokens query [] h (are_of_text 0 text tokens (lexed_are text tokens e))).0 in
     let few = none_weaker query (levels query) 32 (read_levels Cond 32 tokens query [] h) in

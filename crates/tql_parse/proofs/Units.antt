@@ -11,7 +11,7 @@ use Rattle.tql_parse.specs.declared.fault.ParseFault.{ParseFault}
 use Rattle.tql_parse.specs.declared.fault.ParseFault.TheVariants as F
 use Rattle.tql_parse.specs.declared.fault.ParseFault.TheVariants.{Ended}
 use Rattle.tql_parse.specs.Keys.{key, opening, opening_of}
-use Rattle.tql_parse.specs.Reading.{Read, compare_at, group_with, exists_with, not_with, deeper, flat, deep_at, unit_at, Fails}
+use Rattle.tql_parse.specs.Reading.{Read, compare_at, group_with, exists_with, not_with, deeper, flat, deep_at, unit_at, ParseFails}
 
 -- the unit that begins so
 abbrev pub by_opening : (List Token → Read Syntax) → Opening → Token → List Token → Read Syntax
@@ -114,7 +114,7 @@ pub exists_deep : (n : ℕ) (ts : List Token) → opening_of ts ≡ O.Quantifier
 exists_deep n [] e z = absurd (cc)
 exists_deep n (t ∷ rest) e z = rw z (at_zero t rest O.Quantifier e)
 
-pub fails_itself : (e : ParseFault) → Fails {Y = Syntax × List Token} e (Err e)
+pub fails_itself : (e : ParseFault) → ParseFails {Y = Syntax × List Token} e (Err e)
 fails_itself F.Memory = tt
 fails_itself F.Ended = refl
 fails_itself (F.Unexpected p) = refl

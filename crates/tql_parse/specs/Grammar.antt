@@ -12,7 +12,7 @@ use Rattle.tql_tree.specs.declared.expr.Expr.TheVariants as E
 use Rattle.tql_tree.specs.Syntax.{Syntax, True, False, Or, And, Not, Exists, Compare, Has}
 use Rattle.tql_parse.specs.declared.key.Key.{Key}
 use Rattle.tql_parse.specs.declared.key.Key.TheVariants as K
-use Rattle.tql_parse.specs.Keys.{key, number, bytes, is_word, is_number, is_text, is_name, is_and, is_or, is_where, is_open, is_close, is_dot, is_colon}
+use Rattle.tql_parse.specs.Keys.{key, number_of_kind, bytes, is_word, is_number, is_text, is_name_key, is_and, is_or, is_where, is_open, is_close, is_dot, is_colon}
 use Rattle.tql_tree.specs.Proper.{is_plain}
 
 -- the token's key passes the test
@@ -25,13 +25,13 @@ pub data IsShift : List Token → Shift → List Token → Type 0 where
       → key sign.kind ≡ K.Mark S.Plus → is is_number count → key unit.kind ≡ K.Unit u
       → IsShift
       (sign ∷ count ∷ unit ∷ rest)
-      (record { place = sign.place; back = false; count_place = count.place; count = number count.kind; unit = u })
+      (record { place = sign.place; back = false; count_place = count.place; count = number_of_kind count.kind; unit = u })
       rest
   back : (sign count unit : Token) (u : TimeUnit) (rest : List Token)
       → key sign.kind ≡ K.Mark S.Minus → is is_number count → key unit.kind ≡ K.Unit u
       → IsShift
       (sign ∷ count ∷ unit ∷ rest)
-      (record { place = sign.place; back = true; count_place = count.place; count = number count.kind; unit = u })
+      (record { place = sign.place; back = true; count_place = count.place; count = number_of_kind count.kind; unit = u })
       rest
 
 -- [ shift ]
@@ -41,9 +41,9 @@ pub data MayShift : List Token → Option Shift → List Token → Type 0 where
 
 -- expr = number | "-" number | text | NOW [ shift ] | TODAY [ shift ] | TIME text [ shift ] | var "." field [ shift ]
 pub data IsExpr : List Token → Expr → List Token → Type 0 where
-  number_is : (t : Token) (rest : List Token) → key t.kind ≡ K.Number → IsExpr (t ∷ rest) (E.Number t.place (number t.kind)) rest
+  number_is : (t : Token) (rest : List Token) → key t.kind ≡ K.Number → IsExpr (t ∷ rest) (E.Number t.place (number_of_kind t.kind)) rest
   negative : (minus t : Token) (rest : List Token)
-      → key minus.kind ≡ K.Mark S.Minus → is is_number t → IsExpr (minus ∷ t ∷ rest) (E.Number minus.place (pos 0 -ℤ number t.kind)) rest
+      → key minus.kind ≡ K.Mark S.Minus → is is_number t → IsExpr (minus ∷ t ∷ rest) (E.Number minus.place (pos 0 -ℤ number_of_kind t.kind)) rest
   text_is : (t : Token) (rest : List Token) → key t.kind ≡ K.Str → IsExpr (t ∷ rest) (E.Str t.place (bytes t.kind)) rest
   now : (t : Token) (ts : List Token) (s : Option Shift) (rest : List Token)
       → key t.kind ≡ K.Now → MayShift ts s rest → IsExpr (t ∷ ts) (E.Now t.place s) rest
@@ -71,16 +71,16 @@ pub data IsCompare : List Token → Syntax → List Token → Type 0 where
       → IsCompare ts (Has left h.place right) rest
 
 -- the parts that go down levels
-pub data Part : Type 0 where
-  Cond : Part
-  Conj : Part
-  One : Part
+pub data GrammarPart : Type 0 where
+  Cond : GrammarPart
+  Conj : GrammarPart
+  One : GrammarPart
 
 -- The tokens up to the rest are this part, with at most so many levels open at a place, counted from here on.
 -- NOT, the `(` of a group and EXISTS each open a level.
 -- cond = conj { OR conj }, conj = unit { AND unit }, both left-nested
 -- unit = NOT unit | "(" cond ")" | TRUE | FALSE | EXISTS "(" var ":" table WHERE cond ")" | compare
-pub data Reads : Part → ℕ → List Token → Syntax → List Token → Type 0 where
+pub data Reads : GrammarPart → ℕ → List Token → Syntax → List Token → Type 0 where
   conj_alone : (n : ℕ) (ts : List Token) (x : Syntax) (rest : List Token) → Reads Conj n ts x rest → Reads Cond n ts x rest
   or_conj : (n : ℕ) (ts : List Token) (l : Syntax) (o : Token) (mid : List Token) (r : Syntax) (rest : List Token)
       → Reads Cond n ts l (o ∷ mid) → is is_or o → Reads Conj n mid r rest
@@ -97,21 +97,21 @@ pub data Reads : Part → ℕ → List Token → Syntax → List Token → Type 
   true_is : (n : ℕ) (t : Token) (rest : List Token) → key t.kind ≡ K.True → Reads One n (t ∷ rest) True rest
   false_is : (n : ℕ) (t : Token) (rest : List Token) → key t.kind ≡ K.False → Reads One n (t ∷ rest) False rest
   exists_is : (n : ℕ) (t opening var colon table where_is : Token) (which : Table) (ts : List Token) (x : Syntax) (close : Token) (rest : List Token)
-      → key t.kind ≡ K.Exists → is is_open opening → is is_name var → is is_colon colon
+      → key t.kind ≡ K.Exists → is is_open opening → is is_name_key var → is is_colon colon
       → IsTable table which → is is_where where_is
       → Reads Cond n ts x (close ∷ rest) → is is_close close
       → Reads One (suc n) (t ∷ opening ∷ var ∷ colon ∷ table ∷ where_is ∷ ts) (Exists (bytes var.kind) var.place which x) rest
   compare_is : (n : ℕ) (ts : List Token) (x : Syntax) (rest : List Token) → IsCompare ts x rest → Reads One n ts x rest
 
 -- all tokens are a query of at most so many levels
-abbrev pub IsQuery : ℕ → List Token → Syntax → Type 0
-IsQuery n ts x = Reads Cond n ts x []
+abbrev pub AreQueryTokens : ℕ → List Token → Syntax → Type 0
+AreQueryTokens n ts x = Reads Cond n ts x []
 
 -- the tokens begin a query of at most so many levels
 pub record Begins (n : ℕ) (ts : List Token) : Type 0 where
   pub more : List Token
   pub tree : Syntax
-  pub is_query : IsQuery n (ts ++ more) tree
+  pub is_query : AreQueryTokens n (ts ++ more) tree
 
 -- The tokens before this one begin a query, and with it they begin one only if more levels are allowed.
 pub record DeepAt (n : ℕ) (ts : List Token) (place : ℕ) : Type 0 where
@@ -138,4 +138,4 @@ pub record UnexpectedAt (n : ℕ) (ts : List Token) (place : ℕ) : Type 0 where
 -- The tokens begin a query, and are none themselves.
 pub record EndsEarly (n : ℕ) (ts : List Token) : Type 0 where
   pub begins : Begins n ts
-  pub is_none : (x : Syntax) → IsQuery n ts x → ⊥
+  pub is_none : (x : Syntax) → AreQueryTokens n ts x → ⊥

@@ -68,9 +68,9 @@ key (K.Str w) = Str
 key (K.Mark sign) = Mark sign
 
 -- the number of a number
-abbrev pub number : Kind → ℤ
-number (K.Number n) = n
-number _ = pos 0
+abbrev pub number_of_kind : Kind → ℤ
+number_of_kind (K.Number n) = n
+number_of_kind _ = pos 0
 
 -- the bytes of a word or a text
 abbrev pub bytes : Kind → List ℕ
@@ -95,8 +95,8 @@ is_key wanted k = same_key.ghosts.eq k wanted
 abbrev pub is_text : Key → Bool
 is_text k = is_key Str k
 
-abbrev pub is_name : Key → Bool
-is_name k = is_key Name k
+abbrev pub is_name_key : Key → Bool
+is_name_key k = is_key Name k
 
 abbrev pub is_and : Key → Bool
 is_and k = is_key And k

@@ -15,7 +15,7 @@ use Rattle.tql_parse.specs.declared.key.Key.{Key}
 use Rattle.tql_parse.specs.declared.key.Key.TheVariants as K
 use Rattle.tql_parse.specs.declared.fault.ParseFault.{ParseFault}
 use Rattle.tql_parse.specs.declared.fault.ParseFault.TheVariants.{Unexpected, Ended, Deep, Memory}
-use Rattle.tql_parse.specs.Keys.{key, number, bytes, is_word, is_number, is_text, is_name, is_and, is_or, is_where, is_open, is_close, is_dot, is_colon}
+use Rattle.tql_parse.specs.Keys.{key, number_of_kind, bytes, is_word, is_number, is_text, is_name_key, is_and, is_or, is_where, is_open, is_close, is_dot, is_colon}
 use Rattle.tql_tree.specs.Proper.{is_plain}
 
 -- what was read and the tokens behind it, or the first fault
@@ -29,16 +29,16 @@ abbrev pub ◌>>=◌ : {A B : Type 0} → Result A ParseFault → (A → Result 
 (Err e) >>= f = Err e
 
 -- the fault is that of reading, unless memory ran out
-abbrev pub Fails : {Y : Type 0} → ParseFault → Result Y ParseFault → Type 0
-Fails Memory read = Unit {0}
-Fails (Unexpected place) read = read ≡ Err (Unexpected place)
-Fails Ended read = read ≡ Err Ended
-Fails (Deep place) read = read ≡ Err (Deep place)
+abbrev pub ParseFails : {Y : Type 0} → ParseFault → Result Y ParseFault → Type 0
+ParseFails Memory read = Unit {0}
+ParseFails (Unexpected place) read = read ≡ Err (Unexpected place)
+ParseFails Ended read = read ≡ Err Ended
+ParseFails (Deep place) read = read ≡ Err (Deep place)
 
 -- the result is what reading gives, unless memory ran out
-abbrev pub Gives : {X Y : Type 0} → (X → Y) → Result X ParseFault → Result Y ParseFault → Type 0
-Gives view (Ok x) read = read ≡ Ok (view x)
-Gives view (Err fault) read = Fails fault read
+abbrev pub ParseGives : {X Y : Type 0} → (X → Y) → Result X ParseFault → Result Y ParseFault → Type 0
+ParseGives view (Ok x) read = read ≡ Ok (view x)
+ParseGives view (Err fault) read = ParseFails fault read
 
 -- the next token passes the test
 abbrev pub one : (Kind → Bool) → List Token → Read Token
@@ -71,7 +71,7 @@ abbrev pub shift_after : ℕ → Bool → List Token → Read (Option Shift)
 shift_after place back ts =
     one (λ k. is_number (key k)) ts >>= λ count.
     unit_name count.1 >>= λ unit.
-    Ok (Some (record { place = place; back = back; count_place = count.0.place; count = number count.0.kind; unit = unit.0 }), unit.1)
+    Ok (Some (record { place = place; back = back; count_place = count.0.place; count = number_of_kind count.0.kind; unit = unit.0 }), unit.1)
 
 -- the shift that begins with this key, if one does
 abbrev pub shift_by : Key → Token → List Token → Read (Option Shift)
@@ -86,7 +86,7 @@ shift_at (t ∷ rest) = shift_by (key t.kind) t rest
 
 -- a number below 0, from behind its `-` on
 abbrev pub negative_at : ℕ → List Token → Read Expr
-negative_at place ts = one (λ k. is_number (key k)) ts >>= λ t. Ok (E.Number place (pos 0 -ℤ number t.0.kind), t.1)
+negative_at place ts = one (λ k. is_number (key k)) ts >>= λ t. Ok (E.Number place (pos 0 -ℤ number_of_kind t.0.kind), t.1)
 
 -- NOW, from its shift on
 abbrev pub now_at : ℕ → List Token → Read Expr
@@ -110,7 +110,7 @@ field_at var ts =
 
 -- the expression that begins with this key
 abbrev pub expr_by : Key → Token → List Token → Read Expr
-expr_by K.Number t rest = Ok (E.Number t.place (number t.kind), rest)
+expr_by K.Number t rest = Ok (E.Number t.place (number_of_kind t.kind), rest)
 expr_by (K.Mark S.Minus) t rest = negative_at t.place rest
 expr_by K.Str t rest = Ok (E.Str t.place (bytes t.kind), rest)
 expr_by K.Now t rest = now_at t.place rest
@@ -176,7 +176,7 @@ group_with unit ts = cond_with unit ts >>= λ x. one (λ k. is_close (key k)) x.
 abbrev pub head_at : List Token → Read (Token × Table)
 head_at ts =
     one (λ k. is_open (key k)) ts >>= λ opening.
-    one (λ k. is_name (key k)) opening.1 >>= λ var.
+    one (λ k. is_name_key (key k)) opening.1 >>= λ var.
     one (λ k. is_colon (key k)) var.1 >>= λ colon.
     table_at colon.1 >>= λ table.
     one (λ k. is_where (key k)) table.1 >>= λ w.

@@ -1,7 +1,7 @@
 //! Reads comparisons and what else opens no level.
 ghost use Rattle.std.specs.Prelude.{IfOk, ◌≤ℤ◌, pos};
-ghost use Rattle.tql_parse.specs.Keys.{key, number, bytes, is_word, is_number, is_key};
-ghost use Rattle.tql_parse.specs.Reading.{Gives, one, unit_name, table_at, shift_after, shift_at, negative_at, now_at};
+ghost use Rattle.tql_parse.specs.Keys.{key, number_of_kind, bytes, is_word, is_number, is_key};
+ghost use Rattle.tql_parse.specs.Reading.{ParseGives, one, unit_name, table_at, shift_after, shift_at, negative_at, now_at};
 ghost use Rattle.tql_parse.specs.Reading.{today_at, moment_at, field_at, expr_at, head_at, right_at, compare_at};
 ghost use Rattle.tql_tree.specs.Syntax.{syntax};
 
@@ -14,7 +14,7 @@ use tql_tree::{Expr, Shift, Table, Tree, Unit};
 /// Returns the next token, if it is this one, and the tokens behind it. `Unexpected` is at another token, and `Ended`
 /// comes if there is none.
 pub fn expect(wanted: Key, tokens: &[Token]) -> Result<(&Token, &[Token]), ParseFault>
-    ensures { Gives (λ x. (x.0.now, x.1.now)) result (one (λ k. is_key wanted (key k)) tokens.now) }
+    ensures { ParseGives (λ x. (x.0.now, x.1.now)) result (one (λ k. is_key wanted (key k)) tokens.now) }
 {
     match tokens {
         [] => Err(ParseFault::Ended),
@@ -30,8 +30,8 @@ pub fn expect(wanted: Key, tokens: &[Token]) -> Result<(&Token, &[Token]), Parse
 
 // Returns the number at the front, which is at least 0.
 fn number(tokens: &[Token]) -> Result<(&Token, &[Token]), ParseFault>
-    ensures value { Gives (λ x. (x.0.now, x.1.now)) result (one (λ k. is_number (key k)) tokens.now) }
-    ensures least { IfOk result (λ x. pos 0 ≤ℤ number x.0.now.kind) }
+    ensures value { ParseGives (λ x. (x.0.now, x.1.now)) result (one (λ k. is_number (key k)) tokens.now) }
+    ensures least { IfOk result (λ x. pos 0 ≤ℤ number_of_kind x.0.now.kind) }
 {
     match tokens {
         [] => Err(ParseFault::Ended),
@@ -47,7 +47,7 @@ fn number(tokens: &[Token]) -> Result<(&Token, &[Token]), ParseFault>
 
 // Returns the word at the front, reserved or not.
 fn any_word(tokens: &[Token]) -> Result<(&Token, &[Token]), ParseFault>
-    ensures { Gives (λ x. (x.0.now, x.1.now)) result (one is_word tokens.now) }
+    ensures { ParseGives (λ x. (x.0.now, x.1.now)) result (one is_word tokens.now) }
 {
     match tokens {
         [] => Err(ParseFault::Ended),
@@ -63,7 +63,7 @@ fn any_word(tokens: &[Token]) -> Result<(&Token, &[Token]), ParseFault>
 
 // Returns the unit of time at the front.
 fn unit_of_time(tokens: &[Token]) -> Result<(Unit, &[Token]), ParseFault>
-    ensures { Gives (λ x. (x.0, x.1.now)) result (unit_name tokens.now) }
+    ensures { ParseGives (λ x. (x.0, x.1.now)) result (unit_name tokens.now) }
 {
     match tokens {
         [] => Err(ParseFault::Ended),
@@ -80,7 +80,7 @@ fn shift_behind(
     back: bool,
     tokens: &[Token],
 ) -> Result<(Option<Shift>, &[Token]), ParseFault>
-    ensures { Gives (λ x. (x.0, x.1.now)) result (shift_after place back tokens.now) }
+    ensures { ParseGives (λ x. (x.0, x.1.now)) result (shift_after place back tokens.now) }
 {
     let (count, rest) = number(tokens)?;
     let (unit, rest) = unit_of_time(rest)?;
@@ -96,7 +96,7 @@ fn shift_behind(
 
 // Returns the shift at the front, if there is one.
 fn shift(tokens: &[Token]) -> Result<(Option<Shift>, &[Token]), ParseFault>
-    ensures { Gives (λ x. (x.0, x.1.now)) result (shift_at tokens.now) }
+    ensures { ParseGives (λ x. (x.0, x.1.now)) result (shift_at tokens.now) }
 {
     match tokens {
         [] => Ok((None, tokens)),
@@ -114,7 +114,7 @@ fn field<'a>(
     var: &Token,
     tokens: &'a [Token],
 ) -> Result<(Expr, &'a [Token]), ParseFault>
-    ensures { Gives (λ x. (x.0, x.1.now)) result (field_at var.now tokens.now) }
+    ensures { ParseGives (λ x. (x.0, x.1.now)) result (field_at var.now tokens.now) }
 {
     let (_, rest) = expect(Key::Mark(Sign::Dot), tokens)?;
     let (name, rest) = any_word(rest)?;
@@ -131,7 +131,7 @@ fn field<'a>(
 
 // Returns the table at the front.
 fn table(tokens: &[Token]) -> Result<(Table, &[Token]), ParseFault>
-    ensures { Gives (λ x. (x.0, x.1.now)) result (table_at tokens.now) }
+    ensures { ParseGives (λ x. (x.0, x.1.now)) result (table_at tokens.now) }
 {
     match tokens {
         [] => Err(ParseFault::Ended),
@@ -145,7 +145,7 @@ fn table(tokens: &[Token]) -> Result<(Table, &[Token]), ParseFault>
 
 // Returns the number below 0 whose `-` stands before the tokens.
 fn negative(place: u32, tokens: &[Token]) -> Result<(Expr, &[Token]), ParseFault>
-    ensures { Gives (λ x. (x.0, x.1.now)) result (negative_at place tokens.now) }
+    ensures { ParseGives (λ x. (x.0, x.1.now)) result (negative_at place tokens.now) }
 {
     let (token, rest) = number(tokens)?;
     let value = 0 - number_of(token);
@@ -154,7 +154,7 @@ fn negative(place: u32, tokens: &[Token]) -> Result<(Expr, &[Token]), ParseFault
 
 // Returns NOW, from its shift on.
 fn now(place: u32, tokens: &[Token]) -> Result<(Expr, &[Token]), ParseFault>
-    ensures { Gives (λ x. (x.0, x.1.now)) result (now_at place tokens.now) }
+    ensures { ParseGives (λ x. (x.0, x.1.now)) result (now_at place tokens.now) }
 {
     let (shift, rest) = shift(tokens)?;
     Ok((Expr::Now { place, shift }, rest))
@@ -162,7 +162,7 @@ fn now(place: u32, tokens: &[Token]) -> Result<(Expr, &[Token]), ParseFault>
 
 // Returns TODAY, from its shift on.
 fn today(place: u32, tokens: &[Token]) -> Result<(Expr, &[Token]), ParseFault>
-    ensures { Gives (λ x. (x.0, x.1.now)) result (today_at place tokens.now) }
+    ensures { ParseGives (λ x. (x.0, x.1.now)) result (today_at place tokens.now) }
 {
     let (shift, rest) = shift(tokens)?;
     Ok((Expr::Today { place, shift }, rest))
@@ -170,7 +170,7 @@ fn today(place: u32, tokens: &[Token]) -> Result<(Expr, &[Token]), ParseFault>
 
 // Returns the moment, from the text behind TIME on.
 fn moment(alloc: Global, tokens: &[Token]) -> Result<(Expr, &[Token]), ParseFault>
-    ensures { Gives (λ x. (x.0, x.1.now)) result (moment_at tokens.now) }
+    ensures { ParseGives (λ x. (x.0, x.1.now)) result (moment_at tokens.now) }
 {
     let (token, rest) = expect(Key::Str, tokens)?;
     let (shift, rest) = shift(rest)?;
@@ -184,7 +184,7 @@ fn moment(alloc: Global, tokens: &[Token]) -> Result<(Expr, &[Token]), ParseFaul
 
 /// Returns the expression at the front, and the tokens behind it.
 pub fn expr(alloc: Global, tokens: &[Token]) -> Result<(Expr, &[Token]), ParseFault>
-    ensures { Gives (λ x. (x.0, x.1.now)) result (expr_at tokens.now) }
+    ensures { ParseGives (λ x. (x.0, x.1.now)) result (expr_at tokens.now) }
 {
     match tokens {
         [] => Err(ParseFault::Ended),
@@ -215,7 +215,7 @@ pub fn expr(alloc: Global, tokens: &[Token]) -> Result<(Expr, &[Token]), ParseFa
 
 // Returns the comparison with this left side, whose sign or HAS is at the front.
 fn right(alloc: Global, left: Expr, tokens: &[Token]) -> Result<(Tree, &[Token]), ParseFault>
-    ensures { Gives (λ x. (syntax x.0, x.1.now)) result (right_at left tokens.now) }
+    ensures { ParseGives (λ x. (syntax x.0, x.1.now)) result (right_at left tokens.now) }
 {
     match tokens {
         [] => Err(ParseFault::Ended),
@@ -247,7 +247,7 @@ fn right(alloc: Global, left: Expr, tokens: &[Token]) -> Result<(Tree, &[Token])
 
 /// Returns the comparison at the front, and the tokens behind it.
 pub fn compare(alloc: Global, tokens: &[Token]) -> Result<(Tree, &[Token]), ParseFault>
-    ensures { Gives (λ x. (syntax x.0, x.1.now)) result (compare_at tokens.now) }
+    ensures { ParseGives (λ x. (syntax x.0, x.1.now)) result (compare_at tokens.now) }
 {
     let (left, rest) = expr(alloc, tokens)?;
     right(alloc, left, rest)
@@ -255,7 +255,7 @@ pub fn compare(alloc: Global, tokens: &[Token]) -> Result<(Tree, &[Token]), Pars
 
 /// Returns the variable and the table of an EXISTS, from its `(` to its WHERE, and the tokens behind that.
 pub fn head(tokens: &[Token]) -> Result<((&Token, Table), &[Token]), ParseFault>
-    ensures { Gives (λ x. ((x.0.0.now, x.0.1), x.1.now)) result (head_at tokens.now) }
+    ensures { ParseGives (λ x. ((x.0.0.now, x.0.1), x.1.now)) result (head_at tokens.now) }
 {
     let (_, rest) = expect(Key::Mark(Sign::Open), tokens)?;
     let (var, rest) = expect(Key::Name, rest)?;

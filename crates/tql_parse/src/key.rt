@@ -1,6 +1,6 @@
 //! What a token is to the grammar.
 ghost use Rattle.std.specs.Prelude.{◌≡◌, IfOk};
-ghost use Rattle.tql_parse.specs.Keys.{condition_word, value_word, unit_word, word_key, key, number, bytes, is_word, opening_of};
+ghost use Rattle.tql_parse.specs.Keys.{condition_word, value_word, unit_word, word_key, key, number_of_kind, bytes, is_word, opening_of};
 ghost use Rattle.tql_tree.specs.Proper.{is_plain};
 
 use std::alloc::Global;
@@ -161,7 +161,7 @@ pub fn key_of(token: &Token) -> Key
 
 /// Returns the number of a number, and 0 of another token.
 pub fn number_of(token: &Token) -> i64
-    ensures { result ≡ number token.now.kind }
+    ensures { result ≡ number_of_kind token.now.kind }
 {
     match &token.kind {
         Kind::Number(n) => *n,

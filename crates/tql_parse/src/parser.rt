@@ -3,8 +3,8 @@ ghost use Rattle.std.specs.Prelude.{◌≡◌, drop, IfOk, Ok, Err, ℕ};
 ghost use Rattle.tql_tree.specs.Syntax.{Syntax, syntax};
 ghost use Rattle.tql_tree.specs.Proper.{IsProper};
 ghost use Rattle.tql_parse.specs.declared.fault.ParseFault.{ParseFault};
-ghost use Rattle.tql_parse.specs.Grammar.{IsQuery, Begins, DeepAt, UnexpectedAt};
-ghost use Rattle.tql_parse.specs.Reading.{Gives, unit_at, conj_at, cond_at, group_with, exists_with, not_with, query_at, next_is, deep_at};
+ghost use Rattle.tql_parse.specs.Grammar.{AreQueryTokens, Begins, DeepAt, UnexpectedAt};
+ghost use Rattle.tql_parse.specs.Reading.{ParseGives, unit_at, conj_at, cond_at, group_with, exists_with, not_with, query_at, next_is, deep_at};
 ghost use Rattle.tql_parse.specs.Keys.{is_and, is_or};
 
 use crate::comparisons::{compare, expect, head};
@@ -60,7 +60,7 @@ fn deep(tokens: &[Token]) -> ParseFault
 // Returns the NOT of the unit at the front, and the tokens behind it.
 #[cycle(parser)]
 fn negated(alloc: Global, levels: u32, tokens: &[Token]) -> Result<(Tree, &[Token]), ParseFault>
-    ensures { Gives (λ x. (syntax x.0, x.1.now)) result (not_with (unit_at levels) tokens.now) }
+    ensures { ParseGives (λ x. (syntax x.0, x.1.now)) result (not_with (unit_at levels) tokens.now) }
 {
     let (tree, rest) = unit(alloc, levels, tokens)?;
     Ok((Tree::Not(Box::new(alloc, tree)?), rest))
@@ -69,7 +69,7 @@ fn negated(alloc: Global, levels: u32, tokens: &[Token]) -> Result<(Tree, &[Toke
 // Returns the condition behind the `(` of a group, and the tokens behind its `)`.
 #[cycle(parser)]
 fn group(alloc: Global, levels: u32, tokens: &[Token]) -> Result<(Tree, &[Token]), ParseFault>
-    ensures { Gives (λ x. (syntax x.0, x.1.now)) result (group_with (unit_at levels) tokens.now) }
+    ensures { ParseGives (λ x. (syntax x.0, x.1.now)) result (group_with (unit_at levels) tokens.now) }
 {
     let (tree, rest) = cond(alloc, levels, tokens)?;
     let (_, rest) = expect(Key::Mark(Sign::Close), rest)?;
@@ -79,7 +79,7 @@ fn group(alloc: Global, levels: u32, tokens: &[Token]) -> Result<(Tree, &[Token]
 // Returns the EXISTS whose `(` is at the front, and the tokens behind its `)`.
 #[cycle(parser)]
 fn exists(alloc: Global, levels: u32, tokens: &[Token]) -> Result<(Tree, &[Token]), ParseFault>
-    ensures { Gives (λ x. (syntax x.0, x.1.now)) result (exists_with (unit_at levels) tokens.now) }
+    ensures { ParseGives (λ x. (syntax x.0, x.1.now)) result (exists_with (unit_at levels) tokens.now) }
 {
     let ((var, table), rest) = head(tokens)?;
     let (tree, rest) = group(alloc, levels, rest)?;
@@ -95,7 +95,7 @@ fn exists(alloc: Global, levels: u32, tokens: &[Token]) -> Result<(Tree, &[Token
 // Returns the unit at the front, with so many levels left, and the tokens behind it.
 #[cycle(parser)]
 fn unit(alloc: Global, levels: u32, tokens: &[Token]) -> Result<(Tree, &[Token]), ParseFault>
-    ensures { Gives (λ x. (syntax x.0, x.1.now)) result (unit_at levels tokens.now) }
+    ensures { ParseGives (λ x. (syntax x.0, x.1.now)) result (unit_at levels tokens.now) }
 {
     match opening_at(tokens) {
         Opening::End => Err(ParseFault::Ended),
@@ -126,7 +126,7 @@ fn unit(alloc: Global, levels: u32, tokens: &[Token]) -> Result<(Tree, &[Token])
 // Returns the units at the front that AND joins, and the tokens behind them.
 #[cycle(parser)]
 fn conj(alloc: Global, levels: u32, tokens: &[Token]) -> Result<(Tree, &[Token]), ParseFault>
-    ensures { Gives (λ x. (syntax x.0, x.1.now)) result (conj_at levels tokens.now) }
+    ensures { ParseGives (λ x. (syntax x.0, x.1.now)) result (conj_at levels tokens.now) }
 {
     let (mut left, mut rest) = unit(alloc, levels, tokens)?;
     while is_and_next(rest) {
@@ -140,7 +140,7 @@ fn conj(alloc: Global, levels: u32, tokens: &[Token]) -> Result<(Tree, &[Token])
 // Returns the conjunctions at the front that OR joins, and the tokens behind them.
 #[cycle(parser)]
 fn cond(alloc: Global, levels: u32, tokens: &[Token]) -> Result<(Tree, &[Token]), ParseFault>
-    ensures { Gives (λ x. (syntax x.0, x.1.now)) result (cond_at levels tokens.now) }
+    ensures { ParseGives (λ x. (syntax x.0, x.1.now)) result (cond_at levels tokens.now) }
 {
     let (mut left, mut rest) = conj(alloc, levels, tokens)?;
     while is_or_next(rest) {
@@ -153,7 +153,7 @@ fn cond(alloc: Global, levels: u32, tokens: &[Token]) -> Result<(Tree, &[Token])
 
 // Returns the query that all tokens are.
 fn query(alloc: Global, tokens: &[Token]) -> Result<Tree, ParseFault>
-    ensures { Gives syntax result (query_at 32 tokens.now) }
+    ensures { ParseGives syntax result (query_at 32 tokens.now) }
 {
     let (tree, rest) = cond(alloc, LEVEL_LIMIT, tokens)?;
     match rest {
@@ -171,19 +171,19 @@ fn query(alloc: Global, tokens: &[Token]) -> Result<Tree, ParseFault>
 /// query, they have `Ended` too early. `Memory` comes if out of memory.
 pub fn parse(alloc: Global, tokens: &[Token]) -> Result<Tree, ParseFault>
     // What is given is in the grammar.
-    ensures found { IfOk result (λ tree. IsQuery 32 tokens.now (syntax tree)) }
+    ensures found { IfOk result (λ tree. AreQueryTokens 32 tokens.now (syntax tree)) }
     // Counts of shifts are at least 0, and the left side of a `Has` is a field without a shift.
     ensures proper { IfOk result (λ tree. IsProper (syntax tree)) }
     // What is in the grammar is given, unless memory runs out.
-    ensures only { (x : Syntax) → IsQuery 32 tokens.now x → Gives syntax result (Ok x) }
+    ensures only { (x : Syntax) → AreQueryTokens 32 tokens.now x → ParseGives syntax result (Ok x) }
     // A fault is at the first token with which the tokens begin no query of at most 32 levels.
     // At an unexpected one they begin none of more levels either, and at one that is too deep they do.
     ensures unexpected { (p : ℕ) → result ≡ Err (ParseFault.Unexpected p) → UnexpectedAt 32 tokens.now p }
     ensures deep { (p : ℕ) → result ≡ Err (ParseFault.Deep p) → DeepAt 32 tokens.now p }
     // The tokens have ended too early if all of them begin a query and are none.
-    ensures ended { result ≡ Err ParseFault.Ended → Begins 32 tokens.now × ((x : Syntax) → IsQuery 32 tokens.now x → ⊥) }
+    ensures ended { result ≡ Err ParseFault.Ended → Begins 32 tokens.now × ((x : Syntax) → AreQueryTokens 32 tokens.now x → ⊥) }
     // Which fault it is.
-    ensures exact { Gives syntax result (query_at 32 tokens.now) }
+    ensures exact { ParseGives syntax result (query_at 32 tokens.now) }
 {
     query(alloc, tokens)
 }

@@ -33,6 +33,6 @@ abbrev pub condition_of : List ℕ → Result Condition TextFault
 condition_of text = of_tokens (lexed text)
 
 -- the result is what the definition gives, or out of memory
-abbrev pub Reads : Result Condition TextFault → Result Cond TextFault → Type 0
-Reads expected (Ok cond) = expected ≡ Ok (condition cond)
-Reads expected (Err fault) = (expected ≡ Err fault) ⊎ (fault ≡ Memory)
+abbrev pub AgreesWithText : Result Condition TextFault → Result Cond TextFault → Type 0
+AgreesWithText expected (Ok cond) = expected ≡ Ok (condition cond)
+AgreesWithText expected (Err fault) = (expected ≡ Err fault) ⊎ (fault ≡ Memory)

@@ -28,8 +28,8 @@ use Rattle.tql_types.specs.declared.clock.Clock.TheVariants.{At, Now, Today}
 use Rattle.tql_types.specs.Scopes.{variable_named, first_scope, next_variable, variables_after}
 use Rattle.tql_types.specs.Sorts.{field_in, sort_of}
 use Rattle.tql_types.specs.Spans.{span_of, kept_span, amount_of}
-use Rattle.tql_types.specs.Clocks.{base_of, base_in, clock_of, later, day, day_of_term, turned, half_line, now_core, today_core, constant, times_core}
-use Rattle.tql_types.specs.Core.{inner_scope, first_fault, text_of, lowered, has_field, has_core, compare_core, core, typed}
+use Rattle.tql_types.specs.Clocks.{base_of, base_in, clock_of, later, day, day_of_term, turned, half_line, now_core, today_core, compared_numbers, times_core}
+use Rattle.tql_types.specs.Core.{inner_scope, first_fault, text_or_empty, lowered, has_field, has_core, compare_core, core, typed}
 use Rattle.tql_types.proofs.Ranges.{moment-range, kept-range}
 use Rattle.tql_types.proofs.ScopeLaws.{typed-parts}
 
@@ -130,7 +130,7 @@ today-bounded op a term s t =
     (day-bounded term.base (term.plus +ℤ neg_ℤ a) t.0 (omega (arith, ints, s.1, t.1)) (omega (arith, ints, s.0, t.2)))
     (day-bounded term.base ((term.plus +ℤ neg_ℤ a) +ℤ pos 1) t.0 (omega (arith, ints, s.1, t.1)) (omega (arith, ints, s.0, t.2)))
 
-constant-bounded : (op : Op) (a b : ℤ) → are_bounded (constant op a b) ≡ true
+constant-bounded : (op : Op) (a b : ℤ) → are_bounded (compared_numbers op a b) ≡ true
 constant-bounded op a b = elim (cases_Bool (compare op a b)) [ inl y ↦ rw y refl | inr n ↦ rw n refl ]
 
 time-bounded : (x : Term) → IsClock (At x) → is_bounded x ≡ true
@@ -168,7 +168,7 @@ core-bounded scope count (And l r) = and_from _ _ (core-bounded scope count l) (
 core-bounded scope count (Not x) = core-bounded scope count x
 core-bounded scope count (Exists name place table body) = core-bounded (inner_scope scope count name place table) (next_variable count) body
 core-bounded scope count (Compare left op place right) = compare-bounded (sort_of scope left) scope left op right
-core-bounded scope count (Has left place right) = has-bounded scope left (lowered (text_of scope right))
+core-bounded scope count (Has left place right) = has-bounded scope left (lowered (text_or_empty scope right))
 
 pub typed-bounded : (s : Syntax) (c : Condition) → typed s ≡ Ok c → are_bounded c ≡ true
 typed-bounded s c e =

@@ -7,7 +7,7 @@ use Rattle.std.proofs.lemmas.Bool.{cases_Bool, and_parts}
 use Rattle.std.proofs.lemmas.Int.{ints}
 use Rattle.jiff.specs.Words.{parse_timestamp, Error}
 use Rattle.tap_base.specs.declared.moments.TheConstants.{LAST_MOMENT}
-use Rattle.tap_base.specs.Numbers.{value_within, number_of, positive, moment_at, moment_read, moment_of, is_date_form}
+use Rattle.tap_base.specs.Numbers.{value_within, number_of, positive, checked_moment, moment_read, moment_of, is_date_form}
 
 abbrev pub IsMoment : ℤ → Type 0
 IsMoment s = (pos 0 ≤ℤ s) × (s ≤ℤ pos 250000000000)
@@ -16,7 +16,7 @@ abbrev pub InRange : Option ℤ → Type 0
 InRange None = Unit {0}
 InRange (Some s) = IsMoment s
 
-at-range : (s : ℤ) → InRange (moment_at s)
+at-range : (s : ℤ) → InRange (checked_moment s)
 at-range s =
     elim (cases_Bool (int_le (pos 0) s && int_le s (pos LAST_MOMENT))) [
       | inl y ↦ rw y (within s (and_parts (int_le (pos 0) s) (int_le s (pos LAST_MOMENT)) y).0 (and_parts (int_le (pos 0) s) (int_le s (pos LAST_MOMENT)) y).1)

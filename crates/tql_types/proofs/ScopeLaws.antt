@@ -26,10 +26,10 @@ use Rattle.tql_types.specs.declared.clock.Clock.{Clock}
 use Rattle.tql_types.specs.declared.clock.Clock.TheVariants as K
 use Rattle.tql_types.specs.declared.fault.TypeFault.{TypeFault}
 use Rattle.tql_types.specs.Scopes.{is_variable_named, variable_named, first_scope, entered, next_variable, variables_after}
-use Rattle.tql_types.specs.Faults.{sooner, place_of}
+use Rattle.tql_types.specs.Faults.{sooner, type_fault_place}
 use Rattle.tql_types.specs.Sorts.{field_in, sort_of}
 use Rattle.tql_types.specs.Clocks.{base_of, base_in, clock_of, later, day, day_of_term, turned, half_line, times_core}
-use Rattle.tql_types.specs.Core.{binder_fault, inner_scope, first_fault, num_field, num_of, text_field, text_of, lowered, has_field, has_core, compare_core, core, nodes, unless_fault, typed}
+use Rattle.tql_types.specs.Core.{binder_fault, inner_scope, first_fault, num_field, num_of, text_field_or_empty, text_or_empty, lowered, has_field, has_core, compare_core, core, nodes, unless_fault, typed}
 
 -- the numbers of a scope's variables are among these
 abbrev Knows : List Variable → List ℕ → Type 0
@@ -61,7 +61,7 @@ none-parts None None e = (refl, refl)
 none-parts None (Some g) e = absurd cc
 none-parts (Some f) None e = absurd cc
 none-parts (Some f) (Some g) e =
-    elim (cases_Bool (nat_le (place_of f) (place_of g))) [
+    elim (cases_Bool (nat_le (type_fault_place f) (type_fault_place g))) [
       | inl y ↦ absurd (some-none (rw y at e))
       | inr n ↦ absurd (some-none (rw n at e))
     ]
@@ -88,14 +88,14 @@ num-in scope names (E.Field var var_place name place shift) knows = go (variable
   go None e = rw e tt
   go (Some variable) e = rw e (field variable (field_in (Some variable) name) (knows variable (find-in (is_variable_named var) scope variable e)))
 
-text-in : (scope : List Variable) (names : List ℕ) (expr : Expr) → Knows scope names → TextIn names (text_of scope expr)
+text-in : (scope : List Variable) (names : List ℕ) (expr : Expr) → Knows scope names → TextIn names (text_or_empty scope expr)
 text-in scope names (E.Number place value) knows = tt
 text-in scope names (E.Str place bytes) knows = tt
 text-in scope names (E.Now place shift) knows = tt
 text-in scope names (E.Today place shift) knows = tt
 text-in scope names (E.Moment place text shift) knows = tt
 text-in scope names (E.Field var var_place name place shift) knows = go (variable_named var scope) refl where
-  field : (variable : Variable) (found : Option Field) → In variable.var.0 names → TextIn names (text_field (Some variable) found)
+  field : (variable : Variable) (found : Option Field) → In variable.var.0 names → TextIn names (text_field_or_empty (Some variable) found)
   field variable None i = tt
   field variable (Some (F.Number f)) i = tt
   field variable (Some (F.Text f)) i = i
@@ -103,7 +103,7 @@ text-in scope names (E.Field var var_place name place shift) knows = go (variabl
   field variable (Some F.Arrival) i = tt
   field variable (Some F.Date) i = tt
 
-  go : (found : Option Variable) → variable_named var scope ≡ found → TextIn names (text_field (variable_named var scope) (field_in (variable_named var scope) name))
+  go : (found : Option Variable) → variable_named var scope ≡ found → TextIn names (text_field_or_empty (variable_named var scope) (field_in (variable_named var scope) name))
   go None e = rw e tt
   go (Some variable) e = rw e (field variable (field_in (Some variable) name) (knows variable (find-in (is_variable_named var) scope variable e)))
 
@@ -271,7 +271,7 @@ scoped scope count (Exists name place table body) names knows below low high fin
     back : (a b : List Variable) (m n : ℕ) → a ≡ b → m ≡ n → Scoped (count ∷ names) (core a m body) → Scoped (count ∷ names) (core b n body)
     back a b m n e f holds = rw (sym e, sym f) holds
 scoped scope count (Compare left op place right) names knows below low high fine = compare-in (sort_of scope left) scope names left op right knows
-scoped scope count (Has left place right) names knows below low high fine = has-in scope names left (lowered (text_of scope right)) knows (lowered-in names (text_of scope right) (text-in scope names right knows))
+scoped scope count (Has left place right) names knows below low high fine = has-in scope names left (lowered (text_or_empty scope right)) knows (lowered-in names (text_or_empty scope right) (text-in scope names right knows))
 
 first-knows : Knows first_scope (0 ∷ [])
 first-knows variable (inl e) = inl (ap (λ v. v.var.0) e)

@@ -6,6 +6,6 @@ use Rattle.tql_types.specs.declared.fault.TypeFault.{TypeFault}
 use Rattle.tql_types.specs.declared.fault.TypeFault.TheVariants.{Memory}
 
 -- the result is what typing gives, or out of memory
-abbrev pub Answers : Result Condition TypeFault → Result Cond TypeFault → Type 0
-Answers expected (Ok cond) = expected ≡ Ok (condition cond)
-Answers expected (Err fault) = (expected ≡ Err fault) ⊎ (fault ≡ Memory)
+abbrev pub AgreesWithTyping : Result Condition TypeFault → Result Cond TypeFault → Type 0
+AgreesWithTyping expected (Ok cond) = expected ≡ Ok (condition cond)
+AgreesWithTyping expected (Err fault) = (expected ≡ Err fault) ⊎ (fault ≡ Memory)

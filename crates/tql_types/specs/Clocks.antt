@@ -84,17 +84,17 @@ abbrev pub today_core : Op → ℤ → Term → Condition
 today_core op a term = half_line op (day (later term (neg_ℤ a))) (day (later (later term (neg_ℤ a)) (pos 1)))
 
 -- two numbers compared
-abbrev pub constant : Op → ℤ → ℤ → Condition
-constant op a b = if compare op a b then Always else Never
+abbrev pub compared_numbers : Op → ℤ → ℤ → Condition
+compared_numbers op a b = if compare op a b then Always else Never
 
 -- two times compared; now with today never
 abbrev pub times_core : Op → Clock → Clock → Condition
 times_core op (At x) (At y) = Plain (Times x op y)
 times_core op (Now a) (At y) = now_core op a y
 times_core op (At x) (Now b) = now_core (turned op) b x
-times_core op (Now a) (Now b) = constant op a b
+times_core op (Now a) (Now b) = compared_numbers op a b
 times_core op (Today a) (At y) = today_core op a y
 times_core op (At x) (Today b) = today_core (turned op) b x
-times_core op (Today a) (Today b) = constant op a b
+times_core op (Today a) (Today b) = compared_numbers op a b
 times_core op (Now a) (Today b) = Never
 times_core op (Today a) (Now b) = Never

@@ -60,15 +60,15 @@ num_of scope (E.Field var var_place field field_place shift) = num_field (variab
 num_of scope expr = N.Literal (pos 0)
 
 -- a text field of a variable, or an empty text
-abbrev pub text_field : Option Variable → Option Field → TextExpr
-text_field (Some variable) (Some (F.Text field)) = X.Field variable.var field
-text_field variable field = X.Literal []
+abbrev pub text_field_or_empty : Option Variable → Option Field → TextExpr
+text_field_or_empty (Some variable) (Some (F.Text field)) = X.Field variable.var field
+text_field_or_empty variable field = X.Literal []
 
 -- a side that is a text, or an empty text
-abbrev pub text_of : List Variable → Expr → TextExpr
-text_of scope (E.Str place bytes) = X.Literal bytes
-text_of scope (E.Field var var_place field field_place shift) = text_field (variable_named var scope) (field_in (variable_named var scope) field)
-text_of scope expr = X.Literal []
+abbrev pub text_or_empty : List Variable → Expr → TextExpr
+text_or_empty scope (E.Str place bytes) = X.Literal bytes
+text_or_empty scope (E.Field var var_place field field_place shift) = text_field_or_empty (variable_named var scope) (field_in (variable_named var scope) field)
+text_or_empty scope expr = X.Literal []
 
 -- a text that a list may have: A to Z of a literal are lowered
 abbrev pub lowered : TextExpr → TextExpr
@@ -88,7 +88,7 @@ has_core scope expr text = Never
 -- a comparison, by what its left side is
 abbrev pub compare_core : Option Sort → List Variable → Expr → Op → Expr → Condition
 compare_core (Some Number) scope left op right = Plain (A.Numbers (num_of scope left) op (num_of scope right))
-compare_core (Some Text) scope left op right = Plain (A.Texts (text_of scope left) op (text_of scope right))
+compare_core (Some Text) scope left op right = Plain (A.Texts (text_or_empty scope left) op (text_or_empty scope right))
 compare_core sort scope left op right = times_core op (clock_of scope left) (clock_of scope right)
 
 -- the condition of a query without a fault
@@ -101,7 +101,7 @@ core scope count (Not x) = C.Not (core scope count x)
 core scope count (Exists name place table body) =
     C.Exists (record { 0 = count }) table (core (inner_scope scope count name place table) (next_variable count) body)
 core scope count (Compare left op place right) = compare_core (sort_of scope left) scope left op right
-core scope count (Has left place right) = has_core scope left (lowered (text_of scope right))
+core scope count (Has left place right) = has_core scope left (lowered (text_or_empty scope right))
 
 -- how many nodes a condition has
 abbrev pub nodes : Condition → ℕ

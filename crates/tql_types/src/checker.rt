@@ -3,7 +3,7 @@ ghost use Rattle.std.specs.Prelude.{◌≡◌, ◌^◌, ◌-◌, IfOk, min, not,
 ghost use Rattle.tql_tree.specs.Syntax.{syntax};
 ghost use Rattle.tql_core.specs.Condition.{condition};
 ghost use Rattle.tql_types.specs.Core.{first_fault, nodes, typed};
-ghost use Rattle.tql_types.specs.Answers.{Answers};
+ghost use Rattle.tql_types.specs.Answers.{AgreesWithTyping};
 ghost use Rattle.tql_types.specs.Scopes.{variables_after};
 
 use crate::TypeFault;
@@ -100,7 +100,7 @@ fn is_too_large(cond: &Cond) -> bool
 /// place a shadowed variable before a seventh. `ManyNodes` comes if there is no other fault and the condition has more
 /// than 128 nodes. `Memory` may come at any tree, if out of memory.
 pub fn check(alloc: Global, tree: &Tree) -> Result<Cond, TypeFault>
-    ensures { Answers (typed (syntax tree.now)) result }
+    ensures { AgreesWithTyping (typed (syntax tree.now)) result }
 {
     let scope = query_scope(alloc)?;
     let (fault, _count) = find_fault(&scope, 1, tree)?;

@@ -5,7 +5,7 @@ ghost use Rattle.tap_base.specs.Numbers.{moment_of};
 ghost use Rattle.tql_core.specs.Condition.{condition};
 ghost use Rattle.tql_core.specs.Values.{round_up_to_day};
 ghost use Rattle.tql_types.specs.Clocks.{base_of, base_in, clock_of, later, day, turned, half_line};
-ghost use Rattle.tql_types.specs.Clocks.{now_core, today_core, constant, times_core};
+ghost use Rattle.tql_types.specs.Clocks.{now_core, today_core, compared_numbers, times_core};
 ghost use Rattle.tql_types.specs.Bounds.{IsNearClock};
 ghost use Rattle.tql_types.specs.declared.clock.Clock.{Clock};
 
@@ -218,7 +218,7 @@ fn today_condition(alloc: Global, op: Op, a: i64, term: Term) -> Result<Cond, Me
 
 // Returns the condition that compares two numbers, which is true or false.
 fn constant_condition(op: Op, a: i64, b: i64) -> Cond
-    ensures { condition result ≡ constant op a b }
+    ensures { condition result ≡ compared_numbers op a b }
 {
     if compares(op, i128::from(a), i128::from(b)) {
         Cond::True

@@ -4,7 +4,7 @@ ghost use Rattle.std.specs.Option.{option_copied};
 ghost use Rattle.tql_tree.specs.Syntax.{syntax};
 ghost use Rattle.tql_core.specs.Condition.{condition};
 ghost use Rattle.tql_types.specs.Scopes.{variables_after};
-ghost use Rattle.tql_types.specs.Core.{binder_fault, inner_scope, num_field, num_of, text_field, text_of, lowered, has_field, has_core, compare_core, core};
+ghost use Rattle.tql_types.specs.Core.{binder_fault, inner_scope, num_field, num_of, text_field_or_empty, text_or_empty, lowered, has_field, has_core, compare_core, core};
 
 use crate::TypeFault;
 use crate::clock::{compare_times, read_clock};
@@ -74,7 +74,7 @@ fn number_side(scope: &[Variable], expr: &Expr) -> NumExpr
 
 // Returns a text field of a variable, or an empty text if it is none.
 fn variable_text(alloc: Global, variable: Option<&Variable>, field: Option<Field>) -> TextExpr
-    ensures { result ≡ text_field (option_copied variable.entry) field }
+    ensures { result ≡ text_field_or_empty (option_copied variable.entry) field }
 {
     match (variable, field) {
         (Some(variable), Some(Field::Text(field))) => TextExpr::Field(variable.var, field),
@@ -84,7 +84,7 @@ fn variable_text(alloc: Global, variable: Option<&Variable>, field: Option<Field
 
 // Returns a side that is a text, or an empty text if it is none.
 fn text_side(alloc: Global, scope: &[Variable], expr: &Expr) -> Result<TextExpr, Memory>
-    ensures { IfOk result (λ side. side ≡ text_of scope.now expr.now) }
+    ensures { IfOk result (λ side. side ≡ text_or_empty scope.now expr.now) }
 {
     match expr {
         Expr::Str { bytes, .. } => Ok(TextExpr::Literal(bytes.copy()?)),

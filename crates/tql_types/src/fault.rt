@@ -1,6 +1,6 @@
 //! Why a tree is no condition.
 ghost use Rattle.std.specs.Prelude.{◌≡◌};
-ghost use Rattle.tql_types.specs.Faults.{place_of};
+ghost use Rattle.tql_types.specs.Faults.{type_fault_place};
 
 use std::alloc::{AllocError, AllocFailed};
 use tap_base::Memory;
@@ -41,7 +41,7 @@ pub enum TypeFault {
 impl TypeFault {
     // Returns the place of the fault, or 0 if it has none.
     pub(crate) fn place(self) -> u32
-        ensures { result ≡ place_of self }
+        ensures { result ≡ type_fault_place self }
     {
         match self {
             TypeFault::NoVar { place }

@@ -3,7 +3,7 @@ use Rattle.std.proofs.Common.{◌≡◌, ◌∙◌, refl, sym, ap, subst, arith,
 use Rattle.std.specs.Str.{bytes_eq}
 use Rattle.tap_rows.specs.declared.score.Score.{Score}
 use Rattle.vote_scores.specs.declared.vote_key.VoteKey.{VoteKey}
-use Rattle.vote_scores.specs.Counts.{counted, counted_if, counted_from, AreSmall}
+use Rattle.vote_scores.specs.Counts.{with_vote_counted, counted_if, counted_from, AreSmall}
 use Rattle.vote_scores.specs.Entries.{vote_at}
 use Rattle.vote_scores.specs.Tally.{Vote}
 use Rattle.vote_scores.proofs.SmallLaws.{small_up, small_more}
@@ -36,8 +36,8 @@ module _ (kind : List ℕ) (votes : List Vote) (counts : List Score) (entry : Vo
   one_more : (length votes - length left) + 1 ≡ length votes - length rest
   one_more = let s = shorter in let l = so_far.1 in omega (arith, s, l)
 
-  grown : FitsSigned w64 entry.1 → (b : Bool) → AreSmall (length votes - length rest) (if b then counted entry.0.doc entry.1 counts else counts)
-  grown fits true = subst (λ n. AreSmall n (counted entry.0.doc entry.1 counts)) one_more (small_more (length votes - length left) entry.0.doc entry.1 counts fits so_far.2)
+  grown : FitsSigned w64 entry.1 → (b : Bool) → AreSmall (length votes - length rest) (if b then with_vote_counted entry.0.doc entry.1 counts else counts)
+  grown fits true = subst (λ n. AreSmall n (with_vote_counted entry.0.doc entry.1 counts)) one_more (small_more (length votes - length left) entry.0.doc entry.1 counts fits so_far.2)
   grown fits false = small_up (length votes - length left) (length votes - length rest) counts (let o = one_more in omega (arith, o)) so_far.2
 
   pub one_counted : (new : List Score) → FitsSigned w64 entry.1 → new ≡ counted_if kind (vote_at entry) counts → Counting kind votes new rest

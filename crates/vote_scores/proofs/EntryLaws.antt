@@ -3,10 +3,10 @@ use Rattle.std.proofs.Common.{◌≡◌, ◌∙◌, refl, ap, ℕ, zero, suc, fa
 use Rattle.std.specs.List.{list_any, IsDistinct, AllByRecursion}
 use Rattle.std.specs.Map.{keys_of}
 use Rattle.indexmap.specs.IndexMap.{set_value_at}
-use Rattle.vote_scores.specs.declared.undo.Undo.{Undo}
+use Rattle.vote_scores.specs.declared.undo.VoteUndo.{VoteUndo}
 use Rattle.vote_scores.specs.declared.vote_key.VoteKey.{VoteKey}
 use Rattle.vote_scores.specs.contracts.vote_key.VoteKeyPartialEq.TheImpl as key
-use Rattle.vote_scores.specs.Tally.{Vote, is_same, AreDistinct, with_value, restored, undone}
+use Rattle.vote_scores.specs.Tally.{Vote, is_same, VotesAreDistinct, with_value, restored, without_vote}
 use Rattle.vote_scores.specs.Entries.{vote_at}
 
 -- a value that is written
@@ -30,7 +30,7 @@ cut (suc n) (entry ∷ entries) = ap (λ votes. vote_at entry ∷ votes) (cut n 
 
 -- what an undo gives, by its old value
 
-pub undone-old : (undo : Undo) (old : Option ℤ) (votes : List Vote) → undo.old ≡ old → undone undo votes ≡ restored undo.at old votes
+pub undone-old : (undo : VoteUndo) (old : Option ℤ) (votes : List Vote) → undo.old ≡ old → without_vote undo votes ≡ restored undo.at old votes
 undone-old undo old votes e = ap (λ o. restored undo.at o votes) e
 
 -- distinct keys
@@ -42,7 +42,7 @@ none_same : (k : VoteKey) (v : ℤ) (entries : List (VoteKey × ℤ)) → AllByR
 none_same k v [] all = refl
 none_same k v (entry ∷ entries) all = rw (same_key k entry.0 v entry.1 ∙ all.0) (none_same k v entries all.1)
 
-pub distinct : (entries : List (VoteKey × ℤ)) → IsDistinct key.ghosts.eq (keys_of entries) → AreDistinct (map vote_at entries)
+pub distinct : (entries : List (VoteKey × ℤ)) → IsDistinct key.ghosts.eq (keys_of entries) → VotesAreDistinct (map vote_at entries)
 unfolding IsDistinct
 distinct [] d = tt
 distinct (entry ∷ entries) d = (none_same entry.0 entry.1 entries d.0, distinct entries d.1)

@@ -11,9 +11,9 @@ use Rattle.tap_rows.specs.declared.tables.Tables.{Tables}
 use Rattle.tap_rows.specs.Arrivals.{Arrived}
 use Rattle.tap_rows.specs.Kept.{Each, In}
 use Rattle.tap_rows.specs.declared.score.Score.{Score}
-use Rattle.tap_rows.specs.Votes.{is_vote, last_notes, votes_on, score_by, score_of, in_order, scores_of, AreNumbered}
+use Rattle.tap_rows.specs.Votes.{is_vote, last_notes, votes_on, score_by, score_of, scores_in_order, scores_of, AreNumbered}
 use Rattle.vote_scores.specs.Tally.{tally}
-use Rattle.vote_scores.specs.Counts.{counted_from, AreApart}
+use Rattle.vote_scores.specs.Counts.{counted_from, ScoresAreApart}
 use Rattle.vote_scores.proofs.ScoreOrder.{same_order}
 use Rattle.vote_scores.proofs.FoundLaws.{found_is, counted_from_apart, found_in, in_found}
 
@@ -77,7 +77,7 @@ of_doc doc [] score e = absurd cc
 of_doc doc (vote ∷ votes) score e = let is : score.doc ≡ doc = cc in is
 
 module _ (kind : List ℕ) (notes : List Note) where
-  scores_apart : (num : ℕ) (low : ℤ) (docs : List Doc) → Arrived num low docs → AreApart (filter_map (score_of kind notes) docs)
+  scores_apart : (num : ℕ) (low : ℤ) (docs : List Doc) → Arrived num low docs → ScoresAreApart (filter_map (score_of kind notes) docs)
   scores_apart num low [] a = tt
   scores_apart num low (doc ∷ docs) a = go (score_of kind notes doc) refl (scores_apart (suc num) doc.arrival docs a.2) where
     other : (score : Score) → score_of kind notes doc ≡ Some score → (y : Score) → (d : Doc) × In d docs × (score_of kind notes d ≡ Some y) → y.doc.0 ≡ score.doc.0 → ⊥
@@ -87,7 +87,7 @@ module _ (kind : List ℕ) (notes : List Note) where
         let its : y.doc.0 ≡ q.0.num.0 = ap (λ (n : DocNum). n.0) (of_doc q.0.num (votes_on kind q.0.num.0 notes) y q.2) in
         absurd (omega (arith, high, mine, its, same))
 
-    go : (o : Option Score) → score_of kind notes doc ≡ o → AreApart (filter_map (score_of kind notes) docs) → AreApart (cons_option o (filter_map (score_of kind notes) docs))
+    go : (o : Option Score) → score_of kind notes doc ≡ o → ScoresAreApart (filter_map (score_of kind notes) docs) → ScoresAreApart (cons_option o (filter_map (score_of kind notes) docs))
     go None e rest = rest
     go (Some score) e rest = ((λ y i. other score e y (in_map (score_of kind notes) docs y i)), rest)
 
@@ -113,7 +113,7 @@ module _ (kind : List ℕ) (tables : Tables) (sound : AreNumbered tables) where
   abbrev theirs : List Score
   theirs = filter_map (score_of kind tables.notes) tables.docs
 
-  mine_apart : AreApart mine
+  mine_apart : ScoresAreApart mine
   mine_apart = counted_from_apart kind [] (tally tables.notes) tt
 
   to : (score : Score) → In score mine → In score theirs
@@ -142,5 +142,5 @@ module _ (kind : List ℕ) (tables : Tables) (sound : AreNumbered tables) where
     at q = found_in q.0.num.0 mine score (found_is kind q.0.num tables.notes ∙ q.2)
 
   -- in order both are the same
-  pub same_scores : in_order (counted_from kind [] (tally tables.notes)) ≡ scores_of kind tables
+  pub same_scores : scores_in_order (counted_from kind [] (tally tables.notes)) ≡ scores_of kind tables
   same_scores = same_order mine theirs mine_apart (scores_apart kind tables.notes 1 (pos 0) tables.docs sound.docs) to back

@@ -11,19 +11,19 @@ use Rattle.std.proofs.lemmas.Int.{ints}
 use Rattle.std.proofs.lemmas.Bool.{cases_Bool, true≢false}
 use Rattle.tap_rows.specs.Kept.{In}
 use Rattle.tap_rows.specs.declared.score.Score.{Score}
-use Rattle.tap_rows.specs.Votes.{is_before, in_order}
-use Rattle.vote_scores.specs.Counts.{AreApart}
+use Rattle.tap_rows.specs.Votes.{score_is_before, scores_in_order}
+use Rattle.vote_scores.specs.Counts.{ScoresAreApart}
 use Rattle.vote_scores.proofs.ScoreOrder.{InOrder, same_rising, rising_order, in_ordered, ordered_in}
 
 -- the order
 
-one_way : (x y : Score) → is_before x y ≡ true → is_before y x ≡ false
+one_way : (x y : Score) → score_is_before x y ≡ true → score_is_before y x ≡ false
 one_way x y h = grind (arith, ints)
 
-chain : (x y z : Score) → is_before x y ≡ false → is_before y z ≡ false → is_before x z ≡ false
+chain : (x y z : Score) → score_is_before x y ≡ false → score_is_before y z ≡ false → score_is_before x z ≡ false
 chain x y z h k = grind (arith, ints)
 
-pub is_order : IsStrictWeakOrder is_before
+pub is_order : IsStrictWeakOrder score_is_before
 is_order = record { one_way = one_way; chain = chain }
 
 -- the same scores
@@ -85,47 +85,47 @@ apart_all x [] a y i = absurd i
 apart_all x (z ∷ zs) a y (inl e) = λ d. eq_no x.doc.0 z.doc.0 a.0 (sym (ap (λ (h : Score). h.doc.0) e) ∙ d)
 apart_all x (z ∷ zs) a y (inr i) = apart_all x zs a.1 y i
 
-distinct_of : (xs : List Score) → AreApart xs → IsDistinct same_doc xs
+distinct_of : (xs : List Score) → ScoresAreApart xs → IsDistinct same_doc xs
 unfolding IsDistinct
 distinct_of [] a = tt
 distinct_of (x ∷ xs) a = (all_apart x xs a.0, distinct_of xs a.1)
 
-apart_of : (xs : List Score) → IsDistinct same_doc xs → AreApart xs
+apart_of : (xs : List Score) → IsDistinct same_doc xs → ScoresAreApart xs
 unfolding IsDistinct
 apart_of [] d = tt
 apart_of (x ∷ xs) d = (apart_all x xs d.0, apart_of xs d.1)
 
-apart_moved : (xs ys : List Score) → IsPermutation xs ys → AreApart xs → AreApart ys
+apart_moved : (xs ys : List Score) → IsPermutation xs ys → ScoresAreApart xs → ScoresAreApart ys
 apart_moved xs ys p a = apart_of ys (IsDistinct-IsPermutation same_doc flips xs ys p (distinct_of xs a))
 
 -- in order
 
-strictly : (a b : Score) → is_before b a ≡ false → (b.doc.0 ≡ a.doc.0 → ⊥) → is_before a b ≡ true
+strictly : (a b : Score) → score_is_before b a ≡ false → (b.doc.0 ≡ a.doc.0 → ⊥) → score_is_before a b ≡ true
 strictly a b h n = grind (arith, ints)
 
-onward : (x y z : Score) → is_before x y ≡ true → is_before y z ≡ true → is_before x z ≡ true
+onward : (x y z : Score) → score_is_before x y ≡ true → score_is_before y z ≡ true → score_is_before x z ≡ true
 onward x y z h k = grind (arith, ints)
 
-in_order_all : (xs : List Score) → AreApart xs → ((k : ℕ) (d : Score) → 0 ≤ k → k + 1 < length xs → is_before (slice_index_or xs (k + 1) d) (slice_index_or xs k d) ≡ false) → InOrder xs
+in_order_all : (xs : List Score) → ScoresAreApart xs → ((k : ℕ) (d : Score) → 0 ≤ k → k + 1 < length xs → score_is_before (slice_index_or xs (k + 1) d) (slice_index_or xs k d) ≡ false) → InOrder xs
 in_order_all [] a s = tt
 in_order_all (x ∷ []) a s = ((λ y i. absurd i), tt)
 in_order_all (x ∷ y ∷ zs) a s =
     let r = in_order_all (y ∷ zs) a.1 (λ k d z l. shift k d (s (suc k) d (omega arith) (omega (arith, l)))) in
-    let e : is_before x y ≡ true = strictly x y (s 0 x (omega arith) (omega arith)) (a.0 y (inl refl)) in
+    let e : score_is_before x y ≡ true = strictly x y (s 0 x (omega arith) (omega arith)) (a.0 y (inl refl)) in
     (first e r, r)
   where
-    shift : (k : ℕ) (d : Score) → is_before (slice_index_or (x ∷ y ∷ zs) (suc k + 1) d) (slice_index_or (x ∷ y ∷ zs) (suc k) d) ≡ false → is_before (slice_index_or (y ∷ zs) (k + 1) d) (slice_index_or (y ∷ zs) k d) ≡ false
+    shift : (k : ℕ) (d : Score) → score_is_before (slice_index_or (x ∷ y ∷ zs) (suc k + 1) d) (slice_index_or (x ∷ y ∷ zs) (suc k) d) ≡ false → score_is_before (slice_index_or (y ∷ zs) (k + 1) d) (slice_index_or (y ∷ zs) k d) ≡ false
     shift k d h =
         let e : suc k + 1 ≡ suc (k + 1) = omega arith in
-        subst (λ n. is_before (slice_index_or (x ∷ y ∷ zs) n d) (slice_index_or (y ∷ zs) k d) ≡ false) e h
+        subst (λ n. score_is_before (slice_index_or (x ∷ y ∷ zs) n d) (slice_index_or (y ∷ zs) k d) ≡ false) e h
 
-    first : is_before x y ≡ true → InOrder (y ∷ zs) → (h : Score) → In h (y ∷ zs) → is_before x h ≡ true
-    first e r h (inl q) = subst (λ z. is_before x z ≡ true) (sym q) e
+    first : score_is_before x y ≡ true → InOrder (y ∷ zs) → (h : Score) → In h (y ∷ zs) → score_is_before x h ≡ true
+    first e r h (inl q) = subst (λ z. score_is_before x z ≡ true) (sym q) e
     first e r h (inr i) = onward x y h e (r.0 h i)
 
 -- what a sort of scores of distinct documents gives
-pub sorted_is : (xs ys : List Score) → IsPermutation xs ys → AreApart xs → IsSortedBy is_before ys → ys ≡ in_order xs
+pub sorted_is : (xs ys : List Score) → IsPermutation xs ys → ScoresAreApart xs → IsSortedBy score_is_before ys → ys ≡ scores_in_order xs
 sorted_is xs ys p a s =
     let same = λ (score : Score). list_any-IsPermutation (same_score score) xs ys p in
-    same_rising ys (in_order xs) (in_order_all ys (apart_moved xs ys p a) s) (rising_order xs a)
+    same_rising ys (scores_in_order xs) (in_order_all ys (apart_moved xs ys p a) s) (rising_order xs a)
     (λ score i. in_ordered score xs (moved ys xs score (sym (same score)) i)) (λ score i. moved xs ys score (same score) (ordered_in score xs i))

@@ -4,7 +4,7 @@ use Rattle.std.specs.Prelude.{Option, Some, None, if◌then◌else◌}
 use Rattle.std.specs.List.{list_any}
 use Rattle.std.specs.Str.{bytes_eq}
 use Rattle.tap_rows.specs.declared.rows.Note.{Note}
-use Rattle.vote_scores.specs.declared.undo.Undo.{Undo}
+use Rattle.vote_scores.specs.declared.undo.VoteUndo.{VoteUndo}
 
 -- the vote of an author on a document: the value of the author's last note of the kind
 pub record Vote : Type 0 where
@@ -27,14 +27,14 @@ abbrev pub tally : List Note → List Vote
 tally notes = fold (λ votes note. with_vote note votes) [] notes
 
 -- the place, from 0, of the vote of a note's kind, document and author; the number of votes if there is none
-abbrev pub place_of : Note → List Vote → ℕ
-place_of note [] = 0
-place_of note (vote ∷ votes) = if is_by note vote then 0 else suc (place_of note votes)
+abbrev pub vote_place : Note → List Vote → ℕ
+vote_place note [] = 0
+vote_place note (vote ∷ votes) = if is_by note vote then 0 else suc (vote_place note votes)
 
 -- the value of the vote of a note's kind, document and author, if there is one
-abbrev pub value_of : Note → List Vote → Option ℤ
-value_of note [] = None
-value_of note (vote ∷ votes) = if is_by note vote then Some vote.value else value_of note votes
+abbrev pub vote_value : Note → List Vote → Option ℤ
+vote_value note [] = None
+vote_value note (vote ∷ votes) = if is_by note vote then Some vote.value else vote_value note votes
 
 -- the votes with this value at a place, from 0
 abbrev pub with_value : ℕ → ℤ → List Vote → List Vote
@@ -48,11 +48,11 @@ restored place None votes = take place votes
 restored place (Some value) votes = with_value place value votes
 
 -- the votes before a vote was added
-abbrev pub undone : Undo → List Vote → List Vote
-undone undo votes = restored undo.at undo.old votes
+abbrev pub without_vote : VoteUndo → List Vote → List Vote
+without_vote undo votes = restored undo.at undo.old votes
 
 -- there is a vote at the place, and it is the last one if it was appended
-pub record CanUndo (undo : Undo) (votes : List Vote) : Type 0 where
+pub record CanUndoVote (undo : VoteUndo) (votes : List Vote) : Type 0 where
   pub place : undo.at < length votes
   pub last : undo.old ≡ None → undo.at + 1 ≡ length votes
 
@@ -61,6 +61,6 @@ abbrev pub is_same : Vote → Vote → Bool
 is_same vote other = bytes_eq vote.kind other.kind && ((vote.doc == other.doc) && bytes_eq vote.author other.author)
 
 -- no two votes are of one kind, document and author
-abbrev pub AreDistinct : List Vote → Type 0
-AreDistinct [] = Unit {0}
-AreDistinct (vote ∷ votes) = (list_any (is_same vote) votes ≡ false) × AreDistinct votes
+abbrev pub VotesAreDistinct : List Vote → Type 0
+VotesAreDistinct [] = Unit {0}
+VotesAreDistinct (vote ∷ votes) = (list_any (is_same vote) votes ≡ false) × VotesAreDistinct votes

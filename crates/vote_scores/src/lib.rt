@@ -8,4 +8,4 @@ mod vote_key;
 
 pub use scores::Scores;
 pub use tap_rows::Score;
-pub use undo::Undo;
+pub use undo::VoteUndo;

@@ -4,10 +4,10 @@ ghost use Rattle.tap_rows.specs.declared.tables.Tables.{Tables};
 ghost use Rattle.vote_scores.specs.Counts.{counted_from, counted_if, AreSmall};
 ghost use Rattle.vote_scores.specs.Entries.{key_of, vote_at};
 ghost use Rattle.tap_rows.specs.Votes.{scores_of, AreNumbered};
-ghost use Rattle.vote_scores.specs.Tally.{tally, place_of, value_of, with_vote, undone, CanUndo, AreDistinct};
+ghost use Rattle.vote_scores.specs.Tally.{tally, vote_place, vote_value, with_vote, without_vote, CanUndoVote, VotesAreDistinct};
 
 use crate::counts::Counts;
-use crate::undo::Undo;
+use crate::undo::VoteUndo;
 use crate::vote_key::VoteKey;
 use indexmap::IndexMap;
 use std::alloc::Global;
@@ -78,30 +78,30 @@ impl Scores {
     /// Returns how many votes there are. No two are of one kind, document and author.
     pub fn len(&self) -> u32
         ensures count { result ≡ length self.now }
-        ensures distinct { AreDistinct self.now }
+        ensures distinct { VotesAreDistinct self.now }
     {
         self.votes.len() as u32
     }
 
     /// Sets the value of the vote of the note's kind, document and author, or appends that vote, by one look-up. Fails with
     /// `Memory` when out of memory, and nothing has changed then.
-    pub fn add(&mut self, note: &Note) -> Result<Undo, Memory>
+    pub fn add(&mut self, note: &Note) -> Result<VoteUndo, Memory>
         requires room { length self.old < 4294967295 }
         ensures ok { OnOk result (self.new ≡ with_vote note.now self.old) }
-        ensures place { IfOk result (λ undo. undo.at ≡ place_of note.now self.old) }
-        ensures old { IfOk result (λ undo. undo.old ≡ value_of note.now self.old) }
-        ensures undo { IfOk result (λ undo. CanUndo undo self.new × (undone undo self.new ≡ self.old)) }
+        ensures place { IfOk result (λ undo. undo.at ≡ vote_place note.now self.old) }
+        ensures old { IfOk result (λ undo. undo.old ≡ vote_value note.now self.old) }
+        ensures undo { IfOk result (λ undo. CanUndoVote undo self.new × (without_vote undo self.new ≡ self.old)) }
         ensures err { OnErr result (self.new ≡ self.old) }
     {
         let key = key_of(note)?;
         let (at, old) = self.votes.insert_full(key, note.value)?;
-        Ok(Undo { at: at as u32, old })
+        Ok(VoteUndo { at: at as u32, old })
     }
 
     /// Restores the value that the vote had, or removes the vote that was appended. It takes no memory.
-    pub fn undo(&mut self, undo: Undo)
-        requires { CanUndo undo self.old }
-        ensures { self.new ≡ undone undo self.old }
+    pub fn undo(&mut self, undo: VoteUndo)
+        requires { CanUndoVote undo self.old }
+        ensures { self.new ≡ without_vote undo self.old }
     {
         match undo.old {
             None => self.votes.truncate(undo.at as usize),

@@ -12,8 +12,8 @@ use Rattle.time_marks.specs.declared.window.Window.{Window}
 use Rattle.time_marks.specs.Seeks.{lies_in}
 use Rattle.probe_eval.specs.Work.{total}
 use Rattle.probe_eval.proofs.Members.{from_flat, to_flat}
-use Rattle.wake_plan.specs.declared.firsts.Place.{Place}
-use Rattle.wake_plan.specs.declared.due.Due.{Due}
+use Rattle.wake_plan.specs.declared.firsts.FirstPlace.{FirstPlace}
+use Rattle.wake_plan.specs.declared.due.DrivingRow.{DrivingRow}
 use Rattle.wake_plan.specs.declared.turn.Turn.{Turn}
 use Rattle.wake_plan.specs.Firsts.{IsBehind, StandsAt}
 use Rattle.wake_plan.specs.Turns.{left, due_mark, due_hits, due_cost, hits_left, cost_left, IsTurn, passed, gone_on}
@@ -66,11 +66,11 @@ pub all_over : (w : Window) (turns : List Turn) → Each (IsTurn w) turns → ((
 all_over w [] h n = refl
 all_over w (t ∷ turns) h n = ap (λ z. z ++ flat_map (hits_left w) turns) (turn_over w t h.0 (n t (inl refl))) ∙ all_over w turns h.1 (λ x i. n x (inr i))
 
-module _ (w : Window) (turns : List Turn) (x : Place) (each : Each (IsTurn w) turns) (st : StandsAt turns x) (least : (t : Turn) → In t turns → IsBehind (Some x) (due_mark t.next)) where
+module _ (w : Window) (turns : List Turn) (x : FirstPlace) (each : Each (IsTurn w) turns) (st : StandsAt turns x) (least : (t : Turn) → In t turns → IsBehind (Some x) (due_mark t.next)) where
   here : IsTurn w st.turn
   here = each_item (IsTurn w) turns x.index st.turn each st.at
 
-  due : (due : Due) × (st.turn.next ≡ Some due) × (due.mark ≡ x.mark)
+  due : (due : DrivingRow) × (st.turn.next ≡ Some due) × (due.mark ≡ x.mark)
   due = due_of st.turn.next x.mark st.mark
 
   all_later : (k : Hit) → In k (flat_map (hits_left w) turns) → x.mark ≤ℤ k.first

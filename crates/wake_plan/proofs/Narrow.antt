@@ -19,11 +19,11 @@ use Rattle.time_marks.specs.declared.seek.Seek.TheVariants.{Arrived, Dated, Fixe
 use Rattle.time_marks.specs.declared.window.Window.{Window}
 use Rattle.time_marks.specs.Windows.{is_within}
 use Rattle.time_marks.specs.Probes.{Probe}
-use Rattle.time_marks.specs.Seeks.{seek_of, seek_window, stored, marked_at, lies_in}
+use Rattle.time_marks.specs.Seeks.{seek_of, seek_window, driving_second, marked_at, lies_in}
 use Rattle.time_marks.proofs.Lists.{in_map}
 use Rattle.time_marks.proofs.SeekLaws.{seek_within, solved}
 use Rattle.probe_eval.specs.Drivers.{seek_var, arrived_rows, dated_rows, stored_rows, driving, walked}
-use Rattle.probe_eval.specs.Literals.{chosen, narrowed}
+use Rattle.probe_eval.specs.Literals.{chosen, rows_where}
 use Rattle.probe_eval.specs.Tables.{table_in}
 use Rattle.probe_eval.proofs.DriverLaws.{date_lies, stored_are}
 use Rattle.probe_eval.proofs.LiteralLaws.{filter_swap}
@@ -77,7 +77,7 @@ module _ (T : Tables) (W U : Window) (narrow : (y : ℤ) → is_within U y ≡ t
       first false b e = absurd (false≢true e)
 
   -- the rows of a seek's window, of a window within it
-  stored_narrow : (v : Var) (s : Seek) → seek_var s ≡ Some v → ((row : Row) → q row ≡ lies_in U (stored s (bind v row []))) → (t : Table) → filter q (stored_rows s t W T) ≡ stored_rows s t U T
+  stored_narrow : (v : Var) (s : Seek) → seek_var s ≡ Some v → ((row : Row) → q row ≡ lies_in U (driving_second s (bind v row []))) → (t : Table) → filter q (stored_rows s t W T) ≡ stored_rows s t U T
   stored_narrow v (Arrived u n) e h t = arrived_narrow (λ row. h row ∙ ap (lies_in U) (bound_row v u row (λ r. Some (arrival r)) e)) t
   stored_narrow v (Dated u n) e h t = dated_narrow (λ row. h row ∙ ap (lies_in U) (bound_row v u row date e)) (λ row i. ap (lies_in W) (sym (bound_row v u row date e)) ∙ (stored_are W T v row (Dated u n) Docs e i).1) t
   stored_narrow v (Fixed moment) e h t = refl
@@ -107,7 +107,7 @@ module _ (T : Tables) (w u : Window) (p : Probe) (v : Var) (k : IsUpTo w u) (b :
       filter_map (λ env. lies_in u (value p.at env)) (λ row. bind v row []) (walked T w p (seek_of p.at) v)
       ∙ ap (bound_alone v) (go (chosen T v p.path (seek_of p.at) (table_in p.path v.0)))
     where
-      go : (o : Option Atom) → filter (λ row. lies_in u (value p.at (bind v row []))) (narrowed v o (driving T w p (seek_of p.at) v)) ≡ narrowed v o (driving T u p (seek_of p.at) v)
+      go : (o : Option Atom) → filter (λ row. lies_in u (value p.at (bind v row []))) (rows_where v o (driving T w p (seek_of p.at) v)) ≡ rows_where v o (driving T u p (seek_of p.at) v)
       go None = driving_narrow
       go (Some a) =
           filter_swap (λ row. lies_in u (value p.at (bind v row []))) (λ row. true_atom a (bind v row [])) (driving T w p (seek_of p.at) v)

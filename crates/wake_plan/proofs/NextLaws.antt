@@ -13,7 +13,7 @@ use Rattle.probe_eval.specs.Found.{IsFound}
 use Rattle.probe_eval.proofs.Meant.{least_is, meaning_in, in_meaning, found_least}
 use Rattle.wake_plan.specs.Laws.{delivered_at, IsNextWake, WakesAreNext}
 use Rattle.time_marks.specs.NextWake.{after_mark, greater, least_mark}
-use Rattle.wake_plan.specs.Wakes.{last_moment}
+use Rattle.wake_plan.specs.Wakes.{windows_end}
 use Rattle.wake_plan.proofs.LeastMarks.{mark_least, no_mark}
 
 some_same : {A : Type 0} {x y : A} → Some x ≡ Some y → x ≡ y
@@ -58,7 +58,7 @@ empty_list (h ∷ hs) f = absurd (f h (inl refl))
 
 module _ (seen : Doc → Bool) (X : List Probe) (T : Tables) (last : ℤ) where
   abbrev all : List Hit
-  all = delivered_at seen X T last last_moment
+  all = delivered_at seen X T last windows_end
 
   found_in : (s : ℤ) (h : Hit) → In h (delivered_at seen X T last s) → IsFound seen X T (record { low = last; high = s }) h
   found_in s h i =
@@ -76,26 +76,26 @@ module _ (seen : Doc → Bool) (X : List Probe) (T : Tables) (last : ℤ) where
   in_other s t h f l = record { doc = f.doc; is_row = f.is_row; unseen = f.unseen; num = f.num; at = f.at; low = f.low; high = l }
 
   -- a run delivers nothing up to the least mark
-  none_to : (s : ℤ) → s ≤ℤ last_moment → ((h : Hit) → In h all → h.first <ℤ s → ⊥) → delivered_at seen X T last s ≡ []
+  none_to : (s : ℤ) → s ≤ℤ windows_end → ((h : Hit) → In h all → h.first <ℤ s → ⊥) → delivered_at seen X T last s ≡ []
   none_to s l f =
       empty_list (delivered_at seen X T last s) (λ h i.
       let g = found_in s h i in
-      let k = found_out last_moment h (in_other s last_moment h g (longer h.first s last_moment g.high l)) in
+      let k = found_out windows_end h (in_other s windows_end h g (longer h.first s windows_end g.high l)) in
       f k.0 k.1 (before k.0.first h.first s k.2 g.high))
 
-  next_is : (now b : ℤ) → now ≤ℤ last_moment → least_mark all ≡ Some b → IsNextWake seen X T last now (greater now (after_mark b))
+  next_is : (now b : ℤ) → now ≤ℤ windows_end → least_mark all ≡ Some b → IsNextWake seen X T last now (greater now (after_mark b))
   next_is now b l e =
       let m = mark_least all b e in
-      let g = found_in last_moment m.0.0 m.0.1 in
-      let early : b <ℤ last_moment = subst (λ z. z <ℤ last_moment) m.0.2 g.high in
+      let g = found_in windows_end m.0.0 m.0.1 in
+      let early : b <ℤ windows_end = subst (λ z. z <ℤ windows_end) m.0.2 g.high in
       let t = greater now (after_mark b) in
-      let out = found_out t m.0.0 (in_other last_moment t m.0.0 g (subst (λ z. z <ℤ t) (sym m.0.2) (past_mark now b))) in
+      let out = found_out t m.0.0 (in_other windows_end t m.0.0 g (subst (λ z. z <ℤ t) (sym m.0.2) (past_mark now b))) in
       record {
         from = from_now now b;
-        to = no_later now b last_moment l early;
+        to = no_later now b windows_end l early;
         some = λ z. subst (λ zs. In out.0 zs) z out.1;
         none_before = λ s n h.
-            none_to s (less s t last_moment h (no_later now b last_moment l early))
+            none_to s (less s t windows_end h (no_later now b windows_end l early))
             (λ k i c. not_both s t h (no_later now b s n (before b k.first s (m.1 k i) c)));
       }
     where

@@ -26,7 +26,7 @@ use Rattle.time_marks.proofs.Envs.{bind_same}
 use Rattle.time_marks.proofs.Lists.{all_in, map_in}
 use Rattle.time_marks.proofs.WindowLaws.{IsDay, round_up_to_day-day}
 use Rattle.probe_eval.specs.Drivers.{seek_var, arrived_rows, dated_rows, stored_rows, driving, walked}
-use Rattle.probe_eval.specs.Literals.{chosen, narrowed}
+use Rattle.probe_eval.specs.Literals.{chosen, rows_where}
 use Rattle.probe_eval.specs.Tables.{table_in}
 use Rattle.probe_eval.proofs.Members.{in_filter}
 use Rattle.wake_plan.specs.Turns.{bound_alone, AreRising}
@@ -231,6 +231,6 @@ sooner_filter base q (r ∷ rows) h =
 pub walked_sooner : (base : Base) (T : Tables) (w : Window) (p : Probe) (seek : Seek) (v : Var) → AreSooner base (driving T w p seek v) → AreSooner base (walked T w p seek v)
 walked_sooner base T w p seek v h = go (chosen T v p.path seek (table_in p.path v.0))
   where
-    go : (o : Option Atom) → AreSooner base (narrowed v o (driving T w p seek v))
+    go : (o : Option Atom) → AreSooner base (rows_where v o (driving T w p seek v))
     go None = h
     go (Some a) = sooner_filter base (λ row. true_atom a (bind v row [])) (driving T w p seek v) h

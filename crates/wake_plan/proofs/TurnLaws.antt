@@ -24,7 +24,7 @@ use Rattle.probe_eval.specs.Rests.{further}
 use Rattle.probe_eval.specs.Work.{rows_by, total}
 use Rattle.probe_eval.specs.Searches.{searched}
 use Rattle.probe_eval.proofs.Members.{from_flat}
-use Rattle.wake_plan.specs.declared.due.Due.{Due}
+use Rattle.wake_plan.specs.declared.due.DrivingRow.{DrivingRow}
 use Rattle.wake_plan.specs.declared.turn.Turn.{Turn}
 use Rattle.wake_plan.specs.Firsts.{IsNoLater}
 use Rattle.wake_plan.specs.Turns.{has_hit, with_mark, due_at, bound_alone, first_due, due_envs, due_mark, left, due_hits, due_cost, hits_left, cost_left, AreRising, IsAhead, IsTurn, passed}
@@ -103,7 +103,7 @@ module _ (entries : List Entry) (T : Tables) (w : Window) (p : Probe) (order : L
       go y (inl q) v = reflexive b h.first (some_same (sym e ∙ ap (value p.at) (sym q) ∙ v))
       go y (inr j) v = r.1 b h.first y e j v
 
-  pub behind : (o : Option Due) (v : Var) (rows : List Row) (b : ℤ) → IsAhead p o rows → AreRising w p (due_envs o ++ bound_alone v rows) → IsNoLater b (due_mark o) → (h : Hit) → In h (flat_map (hits_at entries T w p order) (due_envs o ++ bound_alone v rows)) → b ≤ℤ h.first
+  pub behind : (o : Option DrivingRow) (v : Var) (rows : List Row) (b : ℤ) → IsAhead p o rows → AreRising w p (due_envs o ++ bound_alone v rows) → IsNoLater b (due_mark o) → (h : Hit) → In h (flat_map (hits_at entries T w p order) (due_envs o ++ bound_alone v rows)) → b ≤ℤ h.first
   behind None v rows b a r n h i = absurd (subst (λ z. In h (flat_map (hits_at entries T w p order) (bound_alone v z))) a i)
   behind (Some due) v rows b a r n h i = onward b due.mark h.first n (rising_least due.env (bound_alone v rows) due.mark r a h i)
     where
@@ -111,7 +111,7 @@ module _ (entries : List Entry) (T : Tables) (w : Window) (p : Probe) (order : L
       onward x y z h k = omega (arith, ints)
 
   -- the hits beside the row that was read ahead come first
-  pub hits_part : (due : Due) (envs : List Env) → value p.at due.env ≡ Some due.mark → AreRising w p (due.env ∷ envs) → flat_map (hits_at entries T w p order) (due.env ∷ envs) ≡ hits_over entries T p due.mark order due.env ++ flat_map (hits_at entries T w p order) envs
+  pub hits_part : (due : DrivingRow) (envs : List Env) → value p.at due.env ≡ Some due.mark → AreRising w p (due.env ∷ envs) → flat_map (hits_at entries T w p order) (due.env ∷ envs) ≡ hits_over entries T p due.mark order due.env ++ flat_map (hits_at entries T w p order) envs
   hits_part due envs e r = ap (λ z. z ++ flat_map (hits_at entries T w p order) envs) (at_mark due.env due.mark e r.0)
 
 -- the next row is read ahead
@@ -131,7 +131,7 @@ module _ (w : Window) (p : Probe) (v : Var) where
 
 -- the cost of the row that was read ahead comes first
 module _ (T : Tables) (u : Window) (p : Probe) (order : List Reach) where
-  pub cost_part : (due : Due) (envs : List Env) → value p.at due.env ≡ Some due.mark → lies_in u (Some due.mark) ≡ true
+  pub cost_part : (due : DrivingRow) (envs : List Env) → value p.at due.env ≡ Some due.mark → lies_in u (Some due.mark) ≡ true
       → total (λ env. 1 + cost_at T u p order env) (filter (λ env. lies_in u (value p.at env)) (due.env ∷ envs))
       ≡ (1 + work_over T p due.mark false order due.env) + total (λ env. 1 + cost_at T u p order env) (filter (λ env. lies_in u (value p.at env)) envs)
   cost_part due envs e l =
@@ -140,7 +140,7 @@ module _ (T : Tables) (u : Window) (p : Probe) (order : List Reach) where
       rw (k, c) refl
 
 -- the least mark of what is found beside the row that was read ahead
-pub found_mark : (t : Turn) (due : Due) → t.next ≡ Some due → has_hit (due_hits t (Some due)) ≡ true → Some due.mark ≡ least_mark (due_hits t t.next)
+pub found_mark : (t : Turn) (due : DrivingRow) → t.next ≡ Some due → has_hit (due_hits t (Some due)) ≡ true → Some due.mark ≡ least_mark (due_hits t t.next)
 found_mark t due e h = sym (ap (λ o. least_mark (due_hits t o)) e ∙ go (due_hits t (Some due)) h (λ k i. hits_first t.search.seen.now t.search.index.now (searched t.search) due.mark t.order.now due.env k i))
   where
     go : (hs : List Hit) → has_hit hs ≡ true → ((k : Hit) → In k hs → k.first ≡ due.mark) → least_mark hs ≡ Some due.mark
@@ -148,12 +148,12 @@ found_mark t due e h = sym (ap (λ o. least_mark (due_hits t o)) e ∙ go (due_h
     go (x ∷ xs) h f = mark_is (x ∷ xs) due.mark x (inl refl) (f x (inl refl)) (λ k i. reflexive due.mark k.first (sym (f k i)))
 
 -- what was read ahead
-pub due_of : (o : Option Due) (b : ℤ) → due_mark o ≡ Some b → (due : Due) × (o ≡ Some due) × (due.mark ≡ b)
+pub due_of : (o : Option DrivingRow) (b : ℤ) → due_mark o ≡ Some b → (due : DrivingRow) × (o ≡ Some due) × (due.mark ≡ b)
 due_of None b e = absurd (none_some e)
 due_of (Some due) b e = (due, refl, some_same e)
 
 -- a turn that has read a row ahead
-module _ (w : Window) (t : Turn) (h : IsTurn w t) (due : Due) (e : t.next ≡ Some due) where
+module _ (w : Window) (t : Turn) (h : IsTurn w t) (due : DrivingRow) (e : t.next ≡ Some due) where
   abbrev others : List Env
   others = bound_alone t.var t.rows
 
@@ -219,7 +219,7 @@ turn_behind w t b h n k i = behind t.search.seen.now t.search.index.now w (searc
 pub turn_over : (w : Window) (t : Turn) → IsTurn w t → due_mark t.next ≡ None → hits_left w t ≡ []
 turn_over w t h e = go t.next refl e
   where
-    go : (o : Option Due) → t.next ≡ o → due_mark o ≡ None → hits_left w t ≡ []
+    go : (o : Option DrivingRow) → t.next ≡ o → due_mark o ≡ None → hits_left w t ≡ []
     go (Some due) q e = absurd (none_some (sym e))
     go None q e =
         let r : t.rows ≡ [] = subst (λ o. IsAhead (searched t.search) o t.rows) q h.ahead in

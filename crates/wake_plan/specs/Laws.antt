@@ -5,7 +5,7 @@ use Rattle.tap_rows.specs.declared.tables.Tables.{Tables}
 use Rattle.tap_rows.specs.declared.results.Hit.{Hit}
 use Rattle.time_marks.specs.Probes.{Probe, meaning_without}
 use Rattle.time_marks.specs.NextWake.{next_wake}
-use Rattle.wake_plan.specs.Wakes.{last_moment}
+use Rattle.wake_plan.specs.Wakes.{windows_end}
 
 module _ (seen : Doc → Bool) (X : List Probe) (T : Tables) (last : ℤ) where
   -- what a run at this moment delivers
@@ -15,13 +15,13 @@ module _ (seen : Doc → Bool) (X : List Probe) (T : Tables) (last : ℤ) where
   -- the least moment from now on, up to the last one, at which a run delivers
   pub record IsNextWake (now t : ℤ) : Type 0 where
     pub from : now ≤ℤ t
-    pub to : t ≤ℤ last_moment
+    pub to : t ≤ℤ windows_end
     pub some : delivered_at t ≡ [] → ⊥
     pub none_before : (s : ℤ) → now ≤ℤ s → s <ℤ t → delivered_at s ≡ []
 
 -- the greater of now and the second after the least mark is the least moment at which a run delivers; without a mark no run delivers
 abbrev pub WakesAreNext : Type 0
 WakesAreNext =
-    (seen : Doc → Bool) (X : List Probe) (T : Tables) (last now : ℤ) → now ≤ℤ last_moment
-    → IfSome (next_wake now (delivered_at seen X T last last_moment)) (IsNextWake seen X T last now)
-    × (next_wake now (delivered_at seen X T last last_moment) ≡ None → (s : ℤ) → s ≤ℤ last_moment → delivered_at seen X T last s ≡ [])
+    (seen : Doc → Bool) (X : List Probe) (T : Tables) (last now : ℤ) → now ≤ℤ windows_end
+    → IfSome (next_wake now (delivered_at seen X T last windows_end)) (IsNextWake seen X T last now)
+    × (next_wake now (delivered_at seen X T last windows_end) ≡ None → (s : ℤ) → s ≤ℤ windows_end → delivered_at seen X T last s ≡ [])

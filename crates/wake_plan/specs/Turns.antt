@@ -15,7 +15,7 @@ use Rattle.probe_eval.specs.Drivers.{hits_at, cost_at, mark_in}
 use Rattle.probe_eval.specs.Nested.{hits_over, work_over}
 use Rattle.probe_eval.specs.Searches.{searched, HasBody, HasSlots}
 use Rattle.probe_eval.specs.Work.{total}
-use Rattle.wake_plan.specs.declared.due.Due.{Due}
+use Rattle.wake_plan.specs.declared.due.DrivingRow.{DrivingRow}
 use Rattle.wake_plan.specs.declared.turn.Turn.{Turn}
 
 -- is there a hit?
@@ -24,12 +24,12 @@ has_hit [] = false
 has_hit (h ∷ hs) = true
 
 -- bound rows with their mark, if they have one
-abbrev pub with_mark : Env → Option ℤ → Option Due
+abbrev pub with_mark : Env → Option ℤ → Option DrivingRow
 with_mark env None = None
 with_mark env (Some b) = Some (record { env = env; mark = b })
 
 -- bound rows with their mark, if it lies in the window
-abbrev pub due_at : Window → Probe → Env → Option Due
+abbrev pub due_at : Window → Probe → Env → Option DrivingRow
 due_at w p env = with_mark env (mark_in w (value p.at env))
 
 -- each row bound alone
@@ -37,17 +37,17 @@ abbrev pub bound_alone : Var → List Row → List Env
 bound_alone v rows = map (λ row. bind v row []) rows
 
 -- the first row bound alone, with its mark
-abbrev pub first_due : Window → Probe → Var → List Row → Option Due
+abbrev pub first_due : Window → Probe → Var → List Row → Option DrivingRow
 first_due w p v [] = None
 first_due w p v (row ∷ rows) = due_at w p (bind v row [])
 
 -- the bound rows that are due, or none
-abbrev pub due_envs : Option Due → List Env
+abbrev pub due_envs : Option DrivingRow → List Env
 due_envs None = []
 due_envs (Some due) = due.env ∷ []
 
 -- the mark of what is due
-abbrev pub due_mark : Option Due → Option ℤ
+abbrev pub due_mark : Option DrivingRow → Option ℤ
 due_mark due = option_map (λ due. due.mark) due
 
 -- the driving rows that are left, each bound alone; the one that was read ahead comes first
@@ -55,12 +55,12 @@ abbrev pub left : Turn → List Env
 left t = due_envs t.next ++ bound_alone t.var t.rows
 
 -- the hits beside what is due
-abbrev pub due_hits : Turn → Option Due → List Hit
+abbrev pub due_hits : Turn → Option DrivingRow → List Hit
 due_hits t None = []
 due_hits t (Some due) = hits_over t.search.seen.now t.search.index.now (searched t.search) due.mark t.order.now due.env
 
 -- the steps that looking for them may take
-abbrev pub due_cost : Turn → Option Due → ℕ
+abbrev pub due_cost : Turn → Option DrivingRow → ℕ
 due_cost t None = 0
 due_cost t (Some due) = work_over t.search.index.now (searched t.search) due.mark false t.order.now due.env
 
@@ -83,7 +83,7 @@ AreRising w p (env ∷ envs) =
     × AreRising w p envs
 
 -- what was read ahead has its mark; if nothing was read, no row is left
-abbrev pub IsAhead : Probe → Option Due → List Row → Type 0
+abbrev pub IsAhead : Probe → Option DrivingRow → List Row → Type 0
 IsAhead p None rows = rows ≡ []
 IsAhead p (Some due) rows = value p.at due.env ≡ Some due.mark
 

@@ -11,12 +11,12 @@ use Rattle.time_marks.specs.Views.{ranged_probes}
 use Rattle.probe_eval.specs.Nested.{was_seen}
 
 -- all windows end here
-abbrev pub last_moment : ℤ
-last_moment = pos 250000000000
+abbrev pub windows_end : ℤ
+windows_end = pos 250000000000
 
 -- the second after a mark, or the last moment if there is none
 abbrev pub end_after : Option ℤ → ℤ
-end_after None = last_moment
+end_after None = windows_end
 end_after (Some b) = after_mark b
 
 -- the window up to and with the least mark of the hits; the whole window if there is none
@@ -24,8 +24,8 @@ abbrev pub wake_window : ℤ → List Hit → Window
 wake_window last hits = record { low = last; high = end_after (least_mark hits) }
 
 -- the hits from the last run on, of documents that aren't in the box
-abbrev pub hits_since : List Entry → RangedQuery → Tables → ℤ → List Hit
-hits_since entries q T last = meaning_without (was_seen entries) (ranged_probes q) T (record { low = last; high = last_moment })
+abbrev pub hits_ahead : List Entry → RangedQuery → Tables → ℤ → List Hit
+hits_ahead entries q T last = meaning_without (was_seen entries) (ranged_probes q) T (record { low = last; high = windows_end })
 
 -- the second window begins like the first and ends no later
 pub record IsUpTo (w u : Window) : Type 0 where

@@ -15,7 +15,7 @@ use tql_core::{Env, RowRef, Var, value};
 
 /// A driving row, bound alone, or no row for a fixed mark, with the mark.
 #[derive(Drop)]
-pub(crate) struct Due<'a> {
+pub(crate) struct DrivingRow<'a> {
     pub(crate) env: Env<'a>,
     pub(crate) mark: i64,
 }
@@ -28,13 +28,13 @@ pub(crate) fn mark_at<'a>(search: &Search<'a>, w: Window, env: &Env<'a>) -> Opti
 }
 
 // Returns a driving row bound alone, with its mark. `None` comes if and only if it has none in the window.
-fn due_at<'a>(search: &Search<'a>, w: Window, var: Var, row: RowRef<'a>) -> Option<Due<'a>>
+fn due_at<'a>(search: &Search<'a>, w: Window, var: Var, row: RowRef<'a>) -> Option<DrivingRow<'a>>
     ensures { result ≡ due_at w (searched search.now) (bind var (row_of row.entry) []) }
 {
     let env = Env::new().bind(var, row);
     match mark_at(search, w, &env) {
         None => None,
-        Some(mark) => Some(Due { env, mark }),
+        Some(mark) => Some(DrivingRow { env, mark }),
     }
 }
 
@@ -45,7 +45,7 @@ pub(crate) fn read_ahead<'a, L: Ledger>(
     var: Var,
     rows: &mut RowWalk<'a>,
     steps: &mut Steps<L>,
-) -> Option<Due<'a>>
+) -> Option<DrivingRow<'a>>
     ensures due { result ≡ first_due w (searched search.now) var rows.old }
     ensures rows { rows.new ≡ drop 1 rows.old }
     ensures steps { steps.new ≤ steps.old + 1 }

@@ -7,21 +7,21 @@ use crate::turn::Turn;
 
 /// A place among turns, with the mark of the row that was read ahead there.
 #[derive(Clone, Copy)]
-pub(crate) struct Place {
+pub(crate) struct FirstPlace {
     pub(crate) index: usize,
     pub(crate) mark: i64,
 }
 
 // Returns the place of the lesser mark, of two the first.
-fn nearer(first: Option<Place>, index: usize, mark: Option<i64>) -> Option<Place>
+fn nearer(first: Option<FirstPlace>, index: usize, mark: Option<i64>) -> Option<FirstPlace>
     ensures { result ≡ nearer first index mark }
 {
     match (first, mark) {
         (_, None) => first,
-        (None, Some(mark)) => Some(Place { index, mark }),
+        (None, Some(mark)) => Some(FirstPlace { index, mark }),
         (Some(x), Some(mark)) => {
             if mark < x.mark {
-                Some(Place { index, mark })
+                Some(FirstPlace { index, mark })
             } else {
                 first
             }
@@ -30,7 +30,7 @@ fn nearer(first: Option<Place>, index: usize, mark: Option<i64>) -> Option<Place
 }
 
 /// Returns the place of the turn with the least mark, of several the first. `None` comes if and only if no turn has a row.
-pub(crate) fn first_place(turns: &[Turn]) -> Option<Place>
+pub(crate) fn first_place(turns: &[Turn]) -> Option<FirstPlace>
     ensures { IsFirst turns.now result }
 {
     let mut first = None;

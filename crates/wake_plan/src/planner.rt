@@ -13,7 +13,7 @@ ghost use Rattle.probe_eval.specs.Work.{total};
 ghost use Rattle.wake_plan.specs.Marked.{marked_ahead, IsPlain};
 ghost use Rattle.wake_plan.specs.Turns.{hits_left, cost_left, IsTurn};
 ghost use Rattle.time_marks.specs.NextWake.{after_mark, greater, least_mark, next_wake};
-ghost use Rattle.wake_plan.specs.Wakes.{hits_since, wake_window};
+ghost use Rattle.wake_plan.specs.Wakes.{hits_ahead, wake_window};
 
 use crate::firsts::first_place;
 use crate::starts::starts;
@@ -84,9 +84,9 @@ pub fn wake<L: Ledger>(
     ensures moment { IfOk result (λ moment. moment ≡ next_wake now
         (meaning_without (was_seen seen.now) (ranged_probes plan.now.query) index.now (record { low = last; high = pos 250000000000 }))) }
     ensures steps { steps.new ≤ steps.old + (length plan.now.query.parts
-        + query_cost index.now (wake_window last (hits_since seen.now plan.now.query index.now last)) plan.now.query) }
+        + query_cost index.now (wake_window last (hits_ahead seen.now plan.now.query index.now last)) plan.now.query) }
     ensures plain { ((p : Probe) → In p (ranged_probes plan.now.query) → IsPlain p) → steps.new ≤ steps.old
-        + marked_ahead index.now (wake_window last (hits_since seen.now plan.now.query index.now last)) (ranged_probes plan.now.query) }
+        + marked_ahead index.now (wake_window last (hits_ahead seen.now plan.now.query index.now last)) (ranged_probes plan.now.query) }
 {
     let w = Window {
         low: last,

@@ -13,7 +13,7 @@ ghost use Rattle.probe_eval.specs.Work.{total};
 ghost use Rattle.wake_plan.specs.Turns.{hits_left, cost_left, IsTurn};
 ghost use Rattle.wake_plan.specs.Wakes.{IsUpTo};
 
-use crate::due::{Due, mark_at, read_ahead};
+use crate::due::{DrivingRow, mark_at, read_ahead};
 use crate::turn::Turn;
 use access_plan::{Plan, Reach};
 use little_box::LittleBox;
@@ -37,7 +37,7 @@ fn fixed<'a>(search: Search<'a>, order: &'a [Reach], w: Window) -> Turn<'a>
     let env = Env::new();
     let next = match mark_at(&search, w, &env) {
         None => None,
-        Some(mark) => Some(Due { env, mark }),
+        Some(mark) => Some(DrivingRow { env, mark }),
     };
     Turn {
         search,

@@ -5,7 +5,7 @@ ghost use Rattle.wake_plan.specs.Turns.{due_mark, due_hits, due_cost, passed, go
 ghost use Rattle.time_marks.specs.NextWake.{least_mark};
 
 use crate::delivers::delivers;
-use crate::due::{Due, read_ahead};
+use crate::due::{DrivingRow, read_ahead};
 use access_plan::Reach;
 use probe_eval::{RowWalk, Search};
 use std::sync::ledger::Ledger;
@@ -20,7 +20,7 @@ pub(crate) struct Turn<'a> {
     pub(crate) order: &'a [Reach],
     pub(crate) var: Var,
     pub(crate) rows: RowWalk<'a>,
-    pub(crate) next: Option<Due<'a>>,
+    pub(crate) next: Option<DrivingRow<'a>>,
 }
 
 impl<'a> Turn<'a> {

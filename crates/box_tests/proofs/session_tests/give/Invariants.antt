@@ -1,10 +1,10 @@
 use Rattle.std.proofs.Common.{length}
-use Rattle.pop_session.specs.Sessions.{IsReady}
+use Rattle.pop_session.specs.Sessions.{CanTakeBytes}
 use Rattle.box_tests.proofs.session_tests.give.Given as goal
 
 -- the session may take bytes
 abbrev pub invariant-pieces : goal.invariant-pieces
-invariant-pieces l = IsReady l.session
+invariant-pieces l = CanTakeBytes l.session
 
 abbrev pub decreases-pieces : goal.decreases-pieces
 decreases-pieces l = length l.rest

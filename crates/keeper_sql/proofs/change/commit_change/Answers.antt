@@ -3,9 +3,9 @@ use Rattle.sqlite.specs.Held.{state}
 use Rattle.sqlite.specs.State.{HasCleanDisk, Survives}
 use Rattle.sqlite.proofs.StateLemmas.{survives_then}
 use Rattle.sqlite.proofs.Callers.{survives_begin}
-use Rattle.keeper_sql.specs.RowsAsValues.{rows_of}
+use Rattle.keeper_sql.specs.RowsAsValues.{added_rows}
 use Rattle.keeper_sql.specs.Store.{IsAfter}
-use Rattle.keeper_sql.specs.Failing.{begun, FailsLater, FailsToInsertRows, FailsWhole, Reaches}
+use Rattle.keeper_sql.specs.Failing.{begun, FailsLater, FailsToInsertRows, FailsWhole, GoesOn}
 use Rattle.keeper_sql.proofs.FailingLemmas.{reaches_rows}
 use Rattle.keeper_sql.proofs.change.commit_change.Goals as goal
 
@@ -60,8 +60,8 @@ returns-in-Err-commit-clause-fails g c =
     let whole : HasCleanDisk (state g.S.Store end) → FailsWhole g.S.Store old end How c.in-Err-commit.error =
     λ clean.
     let early : HasCleanDisk (state g.S.Store mid) = omega (arith, c.commit.ensures.survives.clean) in
-    let reached : Reaches g.S.Store (begun old) mid =
-    reaches_rows g.S.Store (rows_of c.args.change.now) (begun old) mid (rw began at c.insert_change.ensures.survives) ((rw began at (c.in_default.ensures.ok early)) refl) in
+    let reached : GoesOn g.S.Store (begun old) mid =
+    reaches_rows g.S.Store (added_rows c.args.change.now) (begun old) mid (rw began at c.insert_change.ensures.survives) ((rw began at (c.in_default.ensures.ok early)) refl) in
     inr (mid, reached, c.in-Err-commit.ensures.err clean) in
     let same : end ≡ c.conn-2-1.given.0 = search rules in
     subst (λ h. HasCleanDisk (state g.S.Store h) → FailsWhole g.S.Store old h How c.in-Err-commit.error) same whole

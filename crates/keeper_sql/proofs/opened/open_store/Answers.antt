@@ -8,7 +8,7 @@ use Rattle.keeper_sql.specs.RowsAsValues.{tables_in}
 use Rattle.keeper_sql.specs.Store.{IsOurs, OpensTo, OpensAt, AreAllKeyed, IsAfterOpen}
 use Rattle.keeper_sql.specs.Opening.{IsOpened, IsStored, IsRead, AreRead}
 use Rattle.keeper_sql.specs.declared.opened.Opened.TheVariants.{Held}
-use Rattle.keeper_sql.specs.Failing.{begun, FailsLater, FailsToOpenStore, FailsWhole, Reaches}
+use Rattle.keeper_sql.specs.Failing.{begun, FailsLater, FailsToOpenStore, FailsWhole, GoesOn}
 use Rattle.keeper_sql.proofs.opened.open_store.Goals as goal
 
 pub returns-in-Ok-clause-ok : goal.returns-in-Ok-clause-ok
@@ -105,7 +105,7 @@ returns-in-Err-commit-clause-fails g c =
     let whole : HasCleanDisk (state g.S.Store end) → FailsWhole g.S.Store old end FailsToOpenStore c.in-Err-commit.error =
     λ clean.
     let early : HasCleanDisk (state g.S.Store mid) = omega (arith, c.commit.ensures.survives.clean) in
-    let reached : Reaches g.S.Store (begun old) mid = (rw began at (c.in-Ok-Held.ensures.goes_on early)) refl in
+    let reached : GoesOn g.S.Store (begun old) mid = (rw began at (c.in-Ok-Held.ensures.goes_on early)) refl in
     inr (mid, reached, c.in-Err-commit.ensures.err clean) in
     let same : end ≡ c.conn-in-Ok-Held-1.given.0 = search rules in
     subst (λ h. HasCleanDisk (state g.S.Store h) → FailsWhole g.S.Store old h FailsToOpenStore c.in-Err-commit.error) same whole

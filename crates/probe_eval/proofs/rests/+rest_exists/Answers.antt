@@ -5,7 +5,7 @@ use Rattle.tql_core.specs.Values.{bind}
 use Rattle.access_plan.specs.Nearest.{nearest}
 use Rattle.access_plan.specs.Views.{access_at}
 use Rattle.probe_eval.specs.Open.{path_apart, may_go}
-use Rattle.probe_eval.specs.Nexts.{IsNext}
+use Rattle.probe_eval.specs.Nexts.{IsNearestIfKnown}
 use Rattle.probe_eval.specs.Rests.{rest_of, decides, rest_cost, until}
 use Rattle.probe_eval.specs.LeftOut.{LeavesFalse}
 use Rattle.probe_eval.specs.Work.{rows_by, total}
@@ -62,7 +62,7 @@ loop-row-preserved g t c =
     let d : rest_of c.args.index.now c.args.path.now mark c.in-Some-split_first.rest.now x ≡ false = search rules in
     let k : c.rest_exists.new.steps ≤ c.next.new.steps + rest_cost c.args.index.now c.args.path.now mark c.in-Some-split_first.rest.now x = search rules in
     let a : (may_go c.args.path.now mark x && path_apart c.args.path.now c.args.env.now c.in-Some.reach.var) ≡ false = search rules in
-    let n : IsNext c.args.path.now x c.rest_exists.new.next = search rules in
+    let n : IsNearestIfKnown c.args.path.now x c.rest_exists.new.next = search rules in
     let i = c.loop-row.invariant.more in
     let m = c.rest_exists.ensures.more in
     record {

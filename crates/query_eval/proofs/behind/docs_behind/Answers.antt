@@ -1,7 +1,7 @@
 use Rattle.std.proofs.Common.{rules, ◌≡◌, Some, length, take, drop, refl, sym, subst, to_z, of_z, w64}
 use Rattle.std.specs.Prelude.{slice_get}
 use Rattle.tap_rows.specs.Kept.{Each}
-use Rattle.row_index.specs.Orders.{number_of}
+use Rattle.row_index.specs.Orders.{doc_num}
 use Rattle.tql_core.specs.Row.{OfDoc}
 use Rattle.tql_core.specs.Values.{bind}
 use Rattle.probe_eval.specs.LeftOut.{LeavesFalse}
@@ -21,7 +21,7 @@ pub done_from-len-requires-clause-done : goal.done_from-len-requires-clause-done
 done_from-len-requires-clause-done c =
     let list = c.requires.list in
     let mark = to_z w64 (of_z w64 c.args.mark) in
-    let n : Some c.in-Some.first ≡ number_of (slice_get c.args.found.docs 0) = search rules in
+    let n : Some c.in-Some.first ≡ doc_num (slice_get c.args.found.docs 0) = search rules in
     let p = c.done-known.ensures _ _ _ _ c.requires.fronts in
     let by = known_here c.args.search.now.seen.now c.args.search.now.index.now.docs (length c.args.into.now.places.items) c.args.into.now.hits.items c.args.found.kind list.text c.args.found.docs c.in-Some.first mark c.done-known.result list.docs n p in
     search (rules, by)
@@ -45,7 +45,7 @@ pub returns-in-Some-clause-fronts : goal.returns-in-Some-clause-fronts
 returns-in-Some-clause-fronts c =
     let list = c.requires.list in
     let mark = to_z w64 (of_z w64 c.args.mark) in
-    let n : Some c.in-Some.first ≡ number_of (slice_get c.args.found.docs 0) = search rules in
+    let n : Some c.in-Some.first ≡ doc_num (slice_get c.args.found.docs 0) = search rules in
     let p = passed_here c.args.search.now.seen.now c.args.search.now.index.now.docs (length c.args.into.now.places.items) c.args.into.now.hits.items c.args.found.kind list.text c.args.found.docs c.in-Some.first mark c.done_from-len.result list.single
     c.docs-docs.ensures.places list.docs n c.done_from-len.ensures in
     c.put.ensures _ _ _ _ c.requires.fronts p

@@ -5,7 +5,7 @@ use Rattle.tql_core.specs.Row.{OfDoc, OfNote}
 use Rattle.tql_core.specs.Values.{bind, lookup}
 use Rattle.query_eval.specs.Lowest.{keeping}
 use Rattle.probe_eval.specs.Levels.{IsLevel, level_cost, rows_at}
-use Rattle.probe_eval.specs.Nexts.{IsNext}
+use Rattle.probe_eval.specs.Nexts.{IsNearestIfKnown}
 use Rattle.probe_eval.specs.Nested.{new_doc, hit_if, holds_here, hits_over, work_over, cost_here}
 use Rattle.probe_eval.proofs.Steps.{cost_step}
 use Rattle.probe_eval.proofs.NextRows.{next_alike}
@@ -56,7 +56,7 @@ loop-row-preserved g t c =
     let k : c.collect_once.new.steps ≤ c.next.new.steps + work_over c.args.search.now.index.now p mark c.in-Some.level.sure c.in-Some.level.rest.now x = search rules in
     let i = c.loop-row.invariant.more in
     let m = c.collect_once.ensures.more in
-    let n : IsNext c.args.search.now.probe.now.path x c.collect_once.new.next = search rules in
+    let n : IsNearestIfKnown c.args.search.now.probe.now.path x c.collect_once.new.next = search rules in
     record {
       hits = hits_step _ _ _ _ _ _ _ _ (row_of c.in-Some-next.row) c.loop-row.invariant.hits e h c.collect_once.ensures.places;
       ready = c.collect_once.ensures.ready;

@@ -2,9 +2,9 @@ use Rattle.std.proofs.Common.{◌≡◌, ◌+◌, ◌≤◌, length}
 use Rattle.std.specs.List.{flat_map}
 use Rattle.tql_core.specs.Row.{Row}
 use Rattle.tql_core.specs.Values.{bind}
-use Rattle.probe_eval.specs.Nexts.{IsNext}
+use Rattle.probe_eval.specs.Nexts.{IsNearestIfKnown}
 use Rattle.query_eval.specs.Lowest.{keeping}
-use Rattle.query_eval.specs.Placed.{IsReady}
+use Rattle.query_eval.specs.Placed.{CanStoreHits}
 use Rattle.query_eval.specs.Fronts.{AreDone}
 use Rattle.probe_eval.specs.Work.{total}
 use Rattle.probe_eval.specs.Nested.{hits_over, work_over}
@@ -14,12 +14,12 @@ use Rattle.query_eval.proofs.nested.+collect_once.Given as goal
 abbrev pub invariant-loop-row : goal.invariant-loop-row
 invariant-loop-row g l = record {
   hits : keeping (length l.fn.into.places.items) l.fn.into.hits.items (hits_over l.fn.search.seen.now l.fn.search.index.now (searched l.fn.search) l.fn.mark l.fn.order l.fn.env) ≡ keeping (length l.into.places.items) l.into.hits.items (flat_map (λ row. hits_over l.fn.search.seen.now l.fn.search.index.now (searched l.fn.search) l.fn.mark l.level.rest.now (bind l.level.reach.var row l.fn.env)) l.rows);
-  ready : IsReady l.into;
+  ready : CanStoreHits l.into;
   places : length l.into.places.items ≡ length l.fn.into.places.items;
   fronts : AreDone l.fn.search l.into l.fronts;
   steps : l.steps + total (λ row. 1 + work_over l.fn.search.index.now (searched l.fn.search) l.fn.mark l.level.sure l.level.rest.now (bind l.level.reach.var row l.fn.env)) l.rows ≤ l.fn.steps + work_over l.fn.search.index.now (searched l.fn.search) l.fn.mark l.fn.sure l.fn.order l.fn.env;
   more : l.fn.steps ≤ l.steps;
-  next : (row : Row) → IsNext l.fn.search.probe.now.path (bind l.level.reach.var row l.fn.env) l.below;
+  next : (row : Row) → IsNearestIfKnown l.fn.search.probe.now.path (bind l.level.reach.var row l.fn.env) l.below;
 }
 
 abbrev pub decreases-loop-row : goal.decreases-loop-row

@@ -3,7 +3,7 @@ use Rattle.tql_core.specs.Bindings.{row_of}
 use Rattle.tql_core.specs.Values.{bind}
 use Rattle.query_eval.specs.Lowest.{keeping}
 use Rattle.probe_eval.specs.Drivers.{hits_at, cost_at}
-use Rattle.probe_eval.specs.Nexts.{IsNext}
+use Rattle.probe_eval.specs.Nexts.{IsNearestIfKnown}
 use Rattle.probe_eval.proofs.NextRows.{next_alike}
 use Rattle.probe_eval.proofs.Steps.{cost_step}
 use Rattle.query_eval.proofs.Steps.{hits_step}
@@ -20,7 +20,7 @@ loop-row-preserved g c =
     let k : c.collect_at.new.steps ≤ c.next.new.steps + cost_at c.args.search.now.index.now c.args.w p c.args.order.now x = search rules in
     let i = c.loop-row.invariant.more in
     let m = c.collect_at.ensures.more in
-    let n : IsNext c.args.search.now.probe.now.path x c.collect_at.new.next = search rules in
+    let n : IsNearestIfKnown c.args.search.now.probe.now.path x c.collect_at.new.next = search rules in
     record {
       hits = hits_step _ _ _ _ _ _ _ _ (row_of c.in-Some.row) c.loop-row.invariant.hits e h c.collect_at.ensures.places;
       ready = c.collect_at.ensures.ready;

@@ -3,7 +3,7 @@ use Rattle.std.proofs.lemmas.Int.{ints}
 use Rattle.tap_rows.specs.declared.change.Change.TheVariants.{Docs}
 use Rattle.tap_rows.specs.Tables.{after}
 use Rattle.tap_model.specs.Replies.{docs_from}
-use Rattle.tap_engine.proofs.RowTurns.{push-rows, push-back, push-count, push-by, push-short}
+use Rattle.tap_engine.proofs.AddedRows.{push-rows, push-back, push-count, push-by, push-short}
 use Rattle.tap_engine.proofs.mbox.push_docs.Goals as goal
 
 pub push_doc-requires-clause-short : goal.push_doc-requires-clause-short

@@ -3,7 +3,7 @@ use Rattle.std.proofs.lemmas.List.{length-map}
 use Rattle.tap_rows.specs.Kept.{Each, QueriesFrom}
 use Rattle.tap_kept.specs.declared.cached_query.CachedQuery.{CachedQuery}
 use Rattle.tap_kept.specs.Keeping.{cached_query, never_run}
-use Rattle.tap_kept.specs.Starting.{rows_in, runs_alone, IsOneOf}
+use Rattle.tap_kept.specs.Starting.{rows_in, runs_alone, IsRowNumber}
 use Rattle.tap_kept.proofs.DeliveryLaws.{never-run}
 use Rattle.tap_kept.proofs.cache.fill_queries.Goals as goal
 
@@ -21,7 +21,7 @@ pub deliver-requires-clause-owned : goal.deliver-requires-clause-owned
 deliver-requires-clause-owned c =
     let pushed = c.in_ok-push_queries.ensures ∙ ap (λ (l : List CachedQuery). l ++ map never_run c.args.rows) c.requires.none in
     let len = ap length pushed ∙ length-map c.args.rows never_run in
-    subst (λ n. Each (λ run. IsOneOf run.query.0 n) c.args.runs.now) (sym len) c.requires.owned
+    subst (λ n. Each (λ run. IsRowNumber run.query.0 n) c.args.runs.now) (sym len) c.requires.owned
 
 pub returns : goal.returns
 returns c =

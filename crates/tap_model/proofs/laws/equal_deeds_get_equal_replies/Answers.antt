@@ -1,4 +1,4 @@
-use Rattle.tap_model.proofs.TaleLaws.{tales-same}
+use Rattle.tap_model.proofs.StoryViewLaws.{tales-same}
 use Rattle.tap_model.proofs.laws.equal_deeds_get_equal_replies.Goals as goal
 
 pub returns : goal.returns

@@ -1,4 +1,4 @@
-use Rattle.tap_model.proofs.OtherLaws.{step-other}
+use Rattle.tap_model.proofs.OthersLaws.{step-other}
 use Rattle.tap_model.proofs.laws.others_leave_the_view.Goals as goal
 
 pub returns : goal.returns

@@ -3,7 +3,7 @@ use Rattle.std.specs.Prelude.{◌==◌}
 use Rattle.tap_rows.specs.declared.change.Change.TheVariants.{Docs}
 use Rattle.tap_model.specs.Replies.{docs_from}
 use Rattle.tap_rows.specs.Tables.{after}
-use Rattle.tap_engine.proofs.RowTurns.{docs-room}
+use Rattle.tap_engine.proofs.AddedRows.{docs-room}
 use Rattle.tap_engine.proofs.MboxLaws.{docs-there}
 use Rattle.tap_engine.proofs.engine.Engine.add_docs.Goals as goal
 

@@ -7,7 +7,7 @@ use Rattle.restart_core.specs.Readings.{readings_of}
 use Rattle.tap_engine.specs.declared.engine.Engine.{Engine}
 use Rattle.tap_kept.specs.Keeping.{cached_query}
 use Rattle.tap_engine.specs.Standing.{Represents}
-use Rattle.tap_kept.specs.Starting.{runs_alone, IsOneOf, PicksAreDistinct}
+use Rattle.tap_kept.specs.Starting.{runs_alone, IsRowNumber, PicksAreDistinct}
 use Rattle.tap_engine.proofs.FormedLaws.{Formed, formed}
 use Rattle.vote_scores.specs.Tally.{tally}
 use Rattle.tap_engine.proofs.StartedLaws.{IsStarted, represents-start, ready-start}
@@ -29,7 +29,7 @@ pub cache_delivered-requires-clause-owned : goal.cache_delivered-requires-clause
 cache_delivered-requires-clause-owned c =
     let t = c.into_parts-tables.result.0 in
     let f = from-sound t c.args.sound c.into_parts-tables.ensures.tables c.into_parts-tables.ensures.formed in
-    subst (λ runs. Each (λ run. IsOneOf run.query.0 (length t.queries)) runs) (sym c.as_slice-3.ensures) f.owned
+    subst (λ runs. Each (λ run. IsRowNumber run.query.0 (length t.queries)) runs) (sym c.as_slice-3.ensures) f.owned
 
 pub cache_delivered-requires-clause-deliveries : goal.cache_delivered-requires-clause-deliveries
 cache_delivered-requires-clause-deliveries c =

@@ -1,8 +1,8 @@
 use Rattle.std.proofs.Common.{rules, arith, ◌≡◌, ◌∙◌, sym, ap, subst, length, ◌+◌, ◌∷◌, []}
 use Rattle.std.proofs.lemmas.List.{length-map}
 use Rattle.tap_kept.specs.Keeping.{cached_query, never_run}
-use Rattle.tap_engine.proofs.AnswerTurns.{undo-query}
-use Rattle.tap_engine.proofs.MemoryTurns.{define-memory}
+use Rattle.tap_engine.proofs.UndoLaws.{undo-query}
+use Rattle.tap_engine.proofs.MemoryRefusals.{define-memory}
 use Rattle.tap_model.specs.Sound.{IsMoment}
 use Rattle.tap_model.proofs.SoundLaws.{start-moment}
 use Rattle.tap_engine.proofs.ReadyLaws.{kept-more, moment_or_zero-moment}

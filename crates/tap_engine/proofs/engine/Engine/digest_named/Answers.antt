@@ -1,7 +1,7 @@
 use Rattle.std.proofs.Common.{rules, ◌≡◌, None}
 use Rattle.tap_engine.specs.Standing.{look_refusal}
 use Rattle.tap_model.specs.Replies.{entries_in_run}
-use Rattle.tap_engine.proofs.AnswerTurns.{after-memory}
+use Rattle.tap_engine.proofs.UndoLaws.{after-memory}
 use Rattle.tap_engine.proofs.CostLaws.{digest-since}
 use Rattle.tap_engine.proofs.engine.Engine.digest_named.Goals as goal
 

@@ -4,9 +4,9 @@ use Rattle.tap_model.specs.Limits.{run_limit, pick_limit}
 use Rattle.tap_model.specs.Limits.{limit_refusal}
 use Rattle.tap_kept.specs.Keeping.{hits_since}
 use Rattle.tap_engine.specs.Standing.{query_refusal, run_refusal, RefusedBy}
-use Rattle.tap_kept.specs.Costs.{HasNoMark, AreAlone, rows_due, query_work, window_since}
+use Rattle.tap_kept.specs.Costs.{NoProbeHasMark, AreAlone, query_rows_due, query_work, window_since}
 use Rattle.script_lang.specs.declared.refusal.Refusal.TheVariants.{Memory}
-use Rattle.tap_engine.proofs.AnswerTurns.{for-memory}
+use Rattle.tap_engine.proofs.UndoLaws.{for-memory}
 use Rattle.tap_engine.proofs.CheckLaws.{run-left}
 use Rattle.tap_engine.proofs.CostLaws.{quiet-named, due-named, most-since}
 use Rattle.tap_model.specs.Sessions.{user_of}
@@ -44,7 +44,7 @@ returns-in_err-refuse_more-2-clause-quiet g c =
     let kept = c.in_ok-kept.kept.now in
     let is-m : e.session.moment ≡ Some c.in-Some.moment = search rules in
     let same : to_z w64 (of_z w64 c.in-Some.moment) ≡ c.in-Some.moment = search rules in
-    quiet-named e c.args.name.now kept c.in-Some.moment is-m c.in_ok-kept.ensures.ok (subst (λ m. HasNoMark e.index (window_since kept m) kept.row → c.find.new.steps ≡ c.args.steps.now) same c.find.ensures.quiet)
+    quiet-named e c.args.name.now kept c.in-Some.moment is-m c.in_ok-kept.ensures.ok (subst (λ m. NoProbeHasMark e.index (window_since kept m) kept.row → c.find.new.steps ≡ c.args.steps.now) same c.find.ensures.quiet)
 
 pub returns-in_err-refuse_more-2-clause-rows : goal.returns-in_err-refuse_more-2-clause-rows
 returns-in_err-refuse_more-2-clause-rows g c =
@@ -52,7 +52,7 @@ returns-in_err-refuse_more-2-clause-rows g c =
     let kept = c.in_ok-kept.kept.now in
     let is-m : e.session.moment ≡ Some c.in-Some.moment = search rules in
     let same : to_z w64 (of_z w64 c.in-Some.moment) ≡ c.in-Some.moment = search rules in
-    due-named e c.args.name.now kept c.in-Some.moment c.find.new.steps c.args.steps.now is-m c.in_ok-kept.ensures.ok (subst (λ m. AreAlone kept.row → c.find.new.steps ≤ c.args.steps.now + rows_due e.index (window_since kept m) kept.row) same c.find.ensures.due)
+    due-named e c.args.name.now kept c.in-Some.moment c.find.new.steps c.args.steps.now is-m c.in_ok-kept.ensures.ok (subst (λ m. AreAlone kept.row → c.find.new.steps ≤ c.args.steps.now + query_rows_due e.index (window_since kept m) kept.row) same c.find.ensures.due)
 
 pub returns-in_err-copy_hits-clause-quiet : goal.returns-in_err-copy_hits-clause-quiet
 returns-in_err-copy_hits-clause-quiet g c =
@@ -60,7 +60,7 @@ returns-in_err-copy_hits-clause-quiet g c =
     let kept = c.in_ok-kept.kept.now in
     let is-m : e.session.moment ≡ Some c.in-Some.moment = search rules in
     let same : to_z w64 (of_z w64 c.in-Some.moment) ≡ c.in-Some.moment = search rules in
-    quiet-named e c.args.name.now kept c.in-Some.moment is-m c.in_ok-kept.ensures.ok (subst (λ m. HasNoMark e.index (window_since kept m) kept.row → c.find.new.steps ≡ c.args.steps.now) same c.find.ensures.quiet)
+    quiet-named e c.args.name.now kept c.in-Some.moment is-m c.in_ok-kept.ensures.ok (subst (λ m. NoProbeHasMark e.index (window_since kept m) kept.row → c.find.new.steps ≡ c.args.steps.now) same c.find.ensures.quiet)
 
 pub returns-in_err-copy_hits-clause-rows : goal.returns-in_err-copy_hits-clause-rows
 returns-in_err-copy_hits-clause-rows g c =
@@ -68,7 +68,7 @@ returns-in_err-copy_hits-clause-rows g c =
     let kept = c.in_ok-kept.kept.now in
     let is-m : e.session.moment ≡ Some c.in-Some.moment = search rules in
     let same : to_z w64 (of_z w64 c.in-Some.moment) ≡ c.in-Some.moment = search rules in
-    due-named e c.args.name.now kept c.in-Some.moment c.find.new.steps c.args.steps.now is-m c.in_ok-kept.ensures.ok (subst (λ m. AreAlone kept.row → c.find.new.steps ≤ c.args.steps.now + rows_due e.index (window_since kept m) kept.row) same c.find.ensures.due)
+    due-named e c.args.name.now kept c.in-Some.moment c.find.new.steps c.args.steps.now is-m c.in_ok-kept.ensures.ok (subst (λ m. AreAlone kept.row → c.find.new.steps ≤ c.args.steps.now + query_rows_due e.index (window_since kept m) kept.row) same c.find.ensures.due)
 
 pub returns-clause-quiet : goal.returns-clause-quiet
 returns-clause-quiet g c =
@@ -76,7 +76,7 @@ returns-clause-quiet g c =
     let kept = c.in_ok-kept.kept.now in
     let is-m : e.session.moment ≡ Some c.in-Some.moment = search rules in
     let same : to_z w64 (of_z w64 c.in-Some.moment) ≡ c.in-Some.moment = search rules in
-    quiet-named e c.args.name.now kept c.in-Some.moment is-m c.in_ok-kept.ensures.ok (subst (λ m. HasNoMark e.index (window_since kept m) kept.row → c.find.new.steps ≡ c.args.steps.now) same c.find.ensures.quiet)
+    quiet-named e c.args.name.now kept c.in-Some.moment is-m c.in_ok-kept.ensures.ok (subst (λ m. NoProbeHasMark e.index (window_since kept m) kept.row → c.find.new.steps ≡ c.args.steps.now) same c.find.ensures.quiet)
 
 pub returns-clause-rows : goal.returns-clause-rows
 returns-clause-rows g c =
@@ -84,7 +84,7 @@ returns-clause-rows g c =
     let kept = c.in_ok-kept.kept.now in
     let is-m : e.session.moment ≡ Some c.in-Some.moment = search rules in
     let same : to_z w64 (of_z w64 c.in-Some.moment) ≡ c.in-Some.moment = search rules in
-    due-named e c.args.name.now kept c.in-Some.moment c.find.new.steps c.args.steps.now is-m c.in_ok-kept.ensures.ok (subst (λ m. AreAlone kept.row → c.find.new.steps ≤ c.args.steps.now + rows_due e.index (window_since kept m) kept.row) same c.find.ensures.due)
+    due-named e c.args.name.now kept c.in-Some.moment c.find.new.steps c.args.steps.now is-m c.in_ok-kept.ensures.ok (subst (λ m. AreAlone kept.row → c.find.new.steps ≤ c.args.steps.now + query_rows_due e.index (window_since kept m) kept.row) same c.find.ensures.due)
 
 pub returns-in_err-refuse_more-2-clause-most : goal.returns-in_err-refuse_more-2-clause-most
 returns-in_err-refuse_more-2-clause-most g c =

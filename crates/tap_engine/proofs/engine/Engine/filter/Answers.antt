@@ -1,6 +1,6 @@
 use Rattle.std.proofs.Common.{rules, ◌∙◌, sym, ap, length, ◌∷◌, []}
-use Rattle.tap_engine.proofs.AnswerTurns.{undo-filter}
-use Rattle.tap_engine.proofs.MemoryTurns.{filter-memory}
+use Rattle.tap_engine.proofs.UndoLaws.{undo-filter}
+use Rattle.tap_engine.proofs.MemoryRefusals.{filter-memory}
 use Rattle.tap_engine.proofs.FilterLaws.{filter-verdict, filter-refuses, filter-moment, answers-filter, represents-filter}
 use Rattle.tap_engine.proofs.engine.Engine.filter.Goals as goal
 

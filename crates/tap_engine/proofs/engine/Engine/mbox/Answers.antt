@@ -4,15 +4,15 @@ use Rattle.tap_rows.specs.declared.change.Change.TheVariants.{Docs}
 use Rattle.tap_rows.specs.Kept.{Each}
 use Rattle.tap_rows.specs.Tables.{after}
 use Rattle.row_index.specs.Orders.{doc_arrival, IsMoment}
-use Rattle.tap_model.specs.Verdicts.{bytes_of}
+use Rattle.tap_model.specs.Verdicts.{bytes_of_all}
 use Rattle.tap_model.specs.Replies.{docs_from, some_docs, tables_after}
 use Rattle.tap_engine.specs.declared.undo.Undo.TheVariants.{Docs as Rows}
 use Rattle.tap_engine.specs.Answering.{UndoRestores}
 use Rattle.tap_engine.specs.Standing.{Represents}
 use Rattle.tap_engine.specs.Ready.{IsReady}
-use Rattle.tap_engine.proofs.RowTurns.{docs-are}
-use Rattle.tap_engine.proofs.AnswerTurns.{undo-docs, some-undo}
-use Rattle.tap_engine.proofs.MemoryTurns.{mbox-memory}
+use Rattle.tap_engine.proofs.AddedRows.{docs-are}
+use Rattle.tap_engine.proofs.UndoLaws.{undo-docs, some-undo}
+use Rattle.tap_engine.proofs.MemoryRefusals.{mbox-memory}
 use Rattle.tap_engine.proofs.ReadyLaws.{ready-docs, rows-by, index-moment}
 use Rattle.tap_engine.proofs.MboxLaws.{mbox-verdict, mbox-refuses, mbox-moment, answers-mbox, represents-more}
 use Rattle.tap_engine.proofs.engine.Engine.mbox.Goals as goal
@@ -34,21 +34,21 @@ returns-clause-ok c = λ t represents sound.
 pub returns-clause-represents : goal.returns-clause-represents
 returns-clause-represents c = λ t represents sound.
     let change : c.in_ok-change.change ≡ some_docs (docs_from (length c.args.self.now.index.docs + 1) c.in_ok-moment.moment c.in_ok-moment.texts) = search rules in
-    let engine : c.add_docs.new.self ≡ record c.args.self.now { index = after c.args.self.now.index (Docs (docs_from (length c.args.self.now.index.docs + 1) c.in_ok-moment.moment c.in_ok-moment.texts)); hits = c.add_docs.new.self.hits; bytes = c.args.self.now.bytes + bytes_of c.in_ok-moment.texts } = search rules in
+    let engine : c.add_docs.new.self ≡ record c.args.self.now { index = after c.args.self.now.index (Docs (docs_from (length c.args.self.now.index.docs + 1) c.in_ok-moment.moment c.in_ok-moment.texts)); hits = c.add_docs.new.self.hits; bytes = c.args.self.now.bytes + bytes_of_all c.in_ok-moment.texts } = search rules in
     rw change (subst (λ e. Represents e (tables_after (some_docs (docs_from (length c.args.self.now.index.docs + 1) c.in_ok-moment.moment c.in_ok-moment.texts)) t)) (sym engine) (represents-more c.args.self.now t c.add_docs.new.self.hits c.in_ok-moment.moment c.in_ok-moment.texts represents (mbox-moment c.args.self.now c.args.block c.in_ok-moment.ensures.checks)))
 
 pub returns-clause-undo : goal.returns-clause-undo
 returns-clause-undo c =
-    let engine : c.add_docs.new.self ≡ record c.args.self.now { index = after c.args.self.now.index (Docs (docs_from (length c.args.self.now.index.docs + 1) c.in_ok-moment.moment c.in_ok-moment.texts)); hits = c.add_docs.new.self.hits; bytes = c.args.self.now.bytes + bytes_of c.in_ok-moment.texts } = search rules in
-    some-undo c.in_ok-change.change (subst (λ e. UndoRestores (Rows c.docs.result c.args.self.now.bytes) e c.args.self.now) (sym engine) (undo-docs c.args.self.now (docs_from (length c.args.self.now.index.docs + 1) c.in_ok-moment.moment c.in_ok-moment.texts) c.add_docs.new.self.hits (c.args.self.now.bytes + bytes_of c.in_ok-moment.texts) c.docs.result c.docs.ensures.count c.add_docs.ensures.more))
+    let engine : c.add_docs.new.self ≡ record c.args.self.now { index = after c.args.self.now.index (Docs (docs_from (length c.args.self.now.index.docs + 1) c.in_ok-moment.moment c.in_ok-moment.texts)); hits = c.add_docs.new.self.hits; bytes = c.args.self.now.bytes + bytes_of_all c.in_ok-moment.texts } = search rules in
+    some-undo c.in_ok-change.change (subst (λ e. UndoRestores (Rows c.docs.result c.args.self.now.bytes) e c.args.self.now) (sym engine) (undo-docs c.args.self.now (docs_from (length c.args.self.now.index.docs + 1) c.in_ok-moment.moment c.in_ok-moment.texts) c.add_docs.new.self.hits (c.args.self.now.bytes + bytes_of_all c.in_ok-moment.texts) c.docs.result c.docs.ensures.count c.add_docs.ensures.more))
 
 pub returns-clause-ready : goal.returns-clause-ready
 returns-clause-ready c =
-    let engine : c.add_docs.new.self ≡ record c.args.self.now { index = after c.args.self.now.index (Docs (docs_from (length c.args.self.now.index.docs + 1) c.in_ok-moment.moment c.in_ok-moment.texts)); hits = c.add_docs.new.self.hits; bytes = c.args.self.now.bytes + bytes_of c.in_ok-moment.texts } = search rules in
+    let engine : c.add_docs.new.self ≡ record c.args.self.now { index = after c.args.self.now.index (Docs (docs_from (length c.args.self.now.index.docs + 1) c.in_ok-moment.moment c.in_ok-moment.texts)); hits = c.add_docs.new.self.hits; bytes = c.args.self.now.bytes + bytes_of_all c.in_ok-moment.texts } = search rules in
     let room : length (c.args.self.now.index.docs ++ docs_from (length c.args.self.now.index.docs + 1) c.in_ok-moment.moment c.in_ok-moment.texts) ≤ c.add_docs.new.self.hits.room = subst (λ e. length e.index.docs ≤ c.add_docs.new.self.hits.room) engine c.in_ok-change.ensures.room in
     subst IsReady (sym engine)
-    (subst (λ m. IsReady (record c.args.self.now { index = after c.args.self.now.index (Docs (docs_from (length c.args.self.now.index.docs + 1) m c.in_ok-moment.texts)); hits = c.add_docs.new.self.hits; bytes = c.args.self.now.bytes + bytes_of c.in_ok-moment.texts })) (sym c.in_ok-moment.ensures.moment)
-    (ready-docs c.args.self.now c.add_docs.new.self.hits c.in_ok-moment.texts (c.args.self.now.bytes + bytes_of c.in_ok-moment.texts) c.requires.ready (mbox-moment c.args.self.now c.args.block c.in_ok-moment.ensures.checks)
+    (subst (λ m. IsReady (record c.args.self.now { index = after c.args.self.now.index (Docs (docs_from (length c.args.self.now.index.docs + 1) m c.in_ok-moment.texts)); hits = c.add_docs.new.self.hits; bytes = c.args.self.now.bytes + bytes_of_all c.in_ok-moment.texts })) (sym c.in_ok-moment.ensures.moment)
+    (ready-docs c.args.self.now c.add_docs.new.self.hits c.in_ok-moment.texts (c.args.self.now.bytes + bytes_of_all c.in_ok-moment.texts) c.requires.ready (mbox-moment c.args.self.now c.args.block c.in_ok-moment.ensures.checks)
     (subst (λ m. length (c.args.self.now.index.docs ++ docs_from (length c.args.self.now.index.docs + 1) m c.in_ok-moment.texts) ≤ c.add_docs.new.self.hits.room) c.in_ok-moment.ensures.moment room)))
 
 pub add_docs-requires-clause-arrives : goal.add_docs-requires-clause-arrives

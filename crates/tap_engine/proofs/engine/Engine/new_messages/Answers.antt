@@ -1,7 +1,7 @@
 use Rattle.std.proofs.Common.{rules, ◌≡◌, None}
 use Rattle.tap_model.specs.Verdicts.{no_moment}
 use Rattle.tap_engine.specs.Standing.{mbox_refusal}
-use Rattle.tap_engine.proofs.AnswerTurns.{after-memory}
+use Rattle.tap_engine.proofs.UndoLaws.{after-memory}
 use Rattle.tap_engine.proofs.engine.Engine.new_messages.Goals as goal
 
 pub returns-in_err-texts-clause-refusal : goal.returns-in_err-texts-clause-refusal

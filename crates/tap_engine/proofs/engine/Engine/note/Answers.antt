@@ -5,10 +5,10 @@ use Rattle.tap_rows.specs.Kept.{Each}
 use Rattle.row_index.specs.Orders.{note_arrival, IsMoment}
 use Rattle.script_lang.specs.declared.refusal.Refusal.TheVariants.{Memory}
 use Rattle.tap_model.specs.Sessions.{user_of, moment_or_zero}
-use Rattle.vote_scores.specs.Tally.{CanUndo, undone, with_vote}
+use Rattle.vote_scores.specs.Tally.{CanUndoVote, without_vote, with_vote}
 use Rattle.tap_engine.specs.declared.engine.Engine.{Engine}
-use Rattle.tap_engine.proofs.RowTurns.{notes-are}
-use Rattle.tap_engine.proofs.AnswerTurns.{for-memory, undo-note}
+use Rattle.tap_engine.proofs.AddedRows.{notes-are}
+use Rattle.tap_engine.proofs.UndoLaws.{for-memory, undo-note}
 use Rattle.tap_engine.proofs.ReadyLaws.{ready-note, rows-by, index-moment}
 use Rattle.tap_engine.proofs.NoteLaws.{note-verdict, note-refuses, note-moment, answers-note, represents-note}
 use Rattle.tap_engine.proofs.engine.Engine.note.Goals as goal
@@ -36,7 +36,7 @@ returns-clause-undo c =
     let before = c.args.self.now in
     let note = c.in_ok-note.note in
     let vote = c.in_ok-change.vote in
-    let back = subst (λ (e : Engine). CanUndo vote e.votes × (undone vote e.votes ≡ before.votes)) c.in_ok-change.ensures.engine c.in_ok-change.ensures.vote in
+    let back = subst (λ (e : Engine). CanUndoVote vote e.votes × (without_vote vote e.votes ≡ before.votes)) c.in_ok-change.ensures.engine c.in_ok-change.ensures.vote in
     rw c.in_ok-change.ensures.engine (undo-note before note _ vote (with_vote note before.votes) back.0 back.1)
 
 pub returns-clause-ready : goal.returns-clause-ready

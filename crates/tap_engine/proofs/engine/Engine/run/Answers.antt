@@ -12,7 +12,7 @@ use Rattle.tap_model.proofs.SoundLaws.{sound-asked}
 use Rattle.tap_engine.specs.declared.engine.Engine.{Engine}
 use Rattle.tap_kept.specs.declared.cached_query.CachedQuery.{CachedQuery}
 use Rattle.tap_engine.specs.Answering.{IsUnchangedButHits, UndoRestores, undo_run}
-use Rattle.tap_engine.proofs.AnswerTurns.{for-memory}
+use Rattle.tap_engine.proofs.UndoLaws.{for-memory}
 use Rattle.tap_engine.proofs.CheckLaws.{run-verdict, run-refuses, run-moment}
 use Rattle.tap_engine.proofs.ReadyLaws.{due-at, kept-run, undo-run, moment_or_zero-moment, ready-still}
 use Rattle.tap_engine.proofs.DueLaws.{due-is, represents-run, answers-run, run_rows}

@@ -3,7 +3,7 @@ use Rattle.time_marks.specs.declared.window.Window.{Window}
 use Rattle.time_marks.specs.Probes.{meaning_without, least}
 use Rattle.time_marks.specs.Views.{ranged_probes}
 use Rattle.probe_eval.specs.Nested.{was_seen}
-use Rattle.tap_model.specs.Queries.{probes_in}
+use Rattle.tap_model.specs.Queries.{probes_of_query}
 use Rattle.tap_kept.specs.Keeping.{AreNew}
 use Rattle.tap_kept.proofs.NewLaws.{found-new}
 use Rattle.tap_kept.proofs.FindLaws.{quiet-since, due-since, work-since}
@@ -16,8 +16,8 @@ returns-clause-hits g c =
     let high : to_z w64 (of_z w64 c.args.moment) ≡ c.args.moment = search rules in
     c.run_into.ensures.hits
     ∙ ap (λ X. meaning_without (was_seen kept.entries) X c.args.index.now (record { low = to_z w64 (of_z w64 kept.covered); high = to_z w64 (of_z w64 c.args.moment) })) c.plan.ensures.query
-    ∙ ap (λ z. meaning_without (was_seen kept.entries) (probes_in kept.row) c.args.index.now (record { low = z; high = to_z w64 (of_z w64 c.args.moment) })) low
-    ∙ ap (λ z. meaning_without (was_seen kept.entries) (probes_in kept.row) c.args.index.now (record { low = kept.covered; high = z })) high
+    ∙ ap (λ z. meaning_without (was_seen kept.entries) (probes_of_query kept.row) c.args.index.now (record { low = z; high = to_z w64 (of_z w64 c.args.moment) })) low
+    ∙ ap (λ z. meaning_without (was_seen kept.entries) (probes_of_query kept.row) c.args.index.now (record { low = kept.covered; high = z })) high
 
 pub returns-clause-new : goal.returns-clause-new
 returns-clause-new g c =

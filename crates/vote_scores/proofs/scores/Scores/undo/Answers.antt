@@ -1,6 +1,6 @@
 use Rattle.std.proofs.Common.{rules, ◌≡◌, ◌∙◌, sym, ap, subst, ◌<◌, ◌^◌, take, Some, None, map}
 use Rattle.indexmap.specs.IndexMap.{set_value_at}
-use Rattle.vote_scores.specs.Tally.{with_value, undone}
+use Rattle.vote_scores.specs.Tally.{with_value, without_vote}
 use Rattle.vote_scores.specs.Entries.{vote_at}
 use Rattle.vote_scores.proofs.EntryLaws.{written, written-length, cut, undone-old}
 use Rattle.vote_scores.proofs.scores.Scores.undo.Goals as goal
@@ -17,6 +17,6 @@ pub returns-in-Some-get_index_mut : goal.returns-in-Some-get_index_mut
 returns-in-Some-get_index_mut c =
     let value = c.in-Some.value in
     let some : c.args.undo.old ≡ Some value = search rules in
-    let same : map vote_at (set_value_at c.self.inside.votes.entries c.args.undo.at value) ≡ undone c.args.undo c.args.self.now =
+    let same : map vote_at (set_value_at c.self.inside.votes.entries c.args.undo.at value) ≡ without_vote c.args.undo c.args.self.now =
     written c.self.inside.votes.entries c.args.undo.at value ∙ ap (λ votes. with_value c.args.undo.at value votes) c.self.view_is ∙ sym (undone-old c.args.undo (Some value) c.args.self.now some) in
     search (rules, same)

@@ -1,14 +1,14 @@
 use Rattle.std.proofs.Common.{rules, ◌≡◌, length, take, drop, ◌++◌, sym, ap, subst, ◌∙◌}
 use Rattle.std.proofs.Math.Seq.{take-append_seam}
-use Rattle.query_eval.specs.HitLists.{AreApart}
+use Rattle.query_eval.specs.HitLists.{HitsAreApart}
 use Rattle.query_eval.proofs.Meanings.{finished}
 use Rattle.query_eval.proofs.PlacedLaws.{apart_placed}
-use Rattle.query_eval.proofs.kept_hits.KeptHits.finish.Goals as goal
+use Rattle.query_eval.proofs.least_hits.LeastHits.finish.Goals as goal
 
 pub put_in_order-requires : goal.put_in_order-requires
 put_in_order-requires c =
     let e : c.deref_mut.result.now ≡ c.args.self.now.hits.items = search rules in
-    subst AreApart (sym e) (apart_placed _ _ c.requires.placed)
+    subst HitsAreApart (sym e) (apart_placed _ _ c.requires.placed)
 
 pub returns-clause-meaning : goal.returns-clause-meaning
 returns-clause-meaning c = λ seen X T w hits k a f.

@@ -14,9 +14,9 @@ use Rattle.restart_core.specs.Starts.{stored_source}
 use Rattle.tap_model.specs.declared.session.Session.{Session}
 use Rattle.tap_model.specs.Sessions.{moment_or_zero, user_of, or_empty}
 use Rattle.tap_model.specs.Queries.{query_named}
-use Rattle.tap_model.specs.Verdicts.{verdict, missing, no_moment, no_user, text_of}
+use Rattle.tap_model.specs.Verdicts.{verdict, missing, no_moment, no_user, block_text}
 use Rattle.tap_model.specs.Replies.{Answer, answer_of, answer_by, accepted, tables_after, next_query, next_filter, run_query, show_box, show_list, show_lines, show_wake, show_digest, ask_at}
-use Rattle.tap_model.specs.Stories.{Step}
+use Rattle.tap_model.specs.Stories.{StoryStep}
 use Rattle.tap_model.specs.Sound.{IsSound}
 use Rattle.tap_model.specs.Privacy.{is_user, concerns, view_of, Move}
 use Rattle.tap_model.proofs.AnswerLaws.{second-none}
@@ -92,7 +92,7 @@ accepted-other (Define name source) user s t other sound none = define-other use
 accepted-other (Run name) user s t other sound none = run-other user name s t (query_named (user_of s) name t) sound (other-user user s.user (second-none (no_moment s) (no_user s) _ none) other) refl
 accepted-other (BoxOf name) user s t other sound none = box-other user name s t (query_named (user_of s) name t)
 accepted-other (ListOf name) user s t other sound none = list-other user name s t (query_named (user_of s) name t)
-accepted-other (Filter block) user s t other sound none = filter-left user (text_of block) s t (other-user user s.user (second-none (no_moment s) (no_user s) _ none) other)
+accepted-other (Filter block) user s t other sound none = filter-left user (block_text block) s t (other-user user s.user (second-none (no_moment s) (no_user s) _ none) other)
 accepted-other (Explain name) user s t other sound none = lines-other user name s t (query_named (user_of s) name t)
 accepted-other (Ask moment source) user s t other sound none = ask-other user source s t (moment_of moment)
 accepted-other (Wake name) user s t other sound none = wake-other user name s t (query_named (user_of s) name t)
@@ -110,6 +110,6 @@ answer-other c user s t other sound = go (verdict c s t) refl where
 -- a step by a command that doesn't concern the user
 pub step-other : (user : List ℕ) (a : Move) → concerns user a.session a.command ≡ false → view_of user a.session' a.tables' ≡ view_of user a.session a.tables
 step-other user a other = view-same user a.session' a.session a.tables' a.tables (step-sound a.tables a.session a.command a.reply a.tables' a.session' a.step a.sound) a.sound (go a.step) where
-  go : Step a.tables a.session a.command a.reply a.tables' a.session' → brief_of user a.session' a.tables' ≡ brief_of user a.session a.tables
+  go : StoryStep a.tables a.session a.command a.reply a.tables' a.session' → brief_of user a.session' a.tables' ≡ brief_of user a.session a.tables
   go (inl f) = ap (λ s. brief_of user s a.tables') f.session_is ∙ ap (λ t. brief_of user (answer_of a.command a.session a.tables).session t) f.tables_are ∙ answer-other a.command user a.session a.tables other a.sound
   go (inr stays) = ap (λ s. brief_of user s a.tables') stays.session_is ∙ ap (λ t. brief_of user a.session t) stays.tables_are

@@ -13,13 +13,13 @@ use Rattle.tap_model.specs.Sessions.{user_of}
 use Rattle.tap_model.specs.Queries.{query_named}
 use Rattle.tap_model.specs.Verdicts.{verdict}
 use Rattle.tap_model.specs.Replies.{answer_by, accepted, set_moment, run_query, show_box, show_list, show_lines, show_wake, show_digest, ask_at}
-use Rattle.tap_model.specs.Stories.{Step, Story}
+use Rattle.tap_model.specs.Stories.{StoryStep, Story}
 use Rattle.tap_model.specs.Sound.{IsSound}
 use Rattle.tap_model.specs.Privacy.{view_of, is_shared_reply, concerns, Deed, deed_of, Act, Move, Tale, acts_along, acts_of, deeds, replies_in}
 use Rattle.tap_model.proofs.HeldLaws.{Present}
 use Rattle.tap_model.proofs.SoundLaws.{step-sound}
 use Rattle.tap_model.proofs.StepLaws.{step-same}
-use Rattle.tap_model.proofs.OtherLaws.{step-other}
+use Rattle.tap_model.proofs.OthersLaws.{step-other}
 
 -- a moment stays
 moment-set : (moment : Option ℤ) (s : Session) → Present s → Present (set_moment moment s).session
@@ -69,7 +69,7 @@ answer-stays : (v : Option Refusal) (c : Command) (s : Session) (t : Tables) →
 answer-stays None c s t there = accepted-stays c s t there
 answer-stays (Some refusal) c s t there = there
 
-moment-stays : (t : Tables) (s : Session) (c : Command) (r : Reply) (t' : Tables) (s' : Session) → Step t s c r t' s' → Present s → Present s'
+moment-stays : (t : Tables) (s : Session) (c : Command) (r : Reply) (t' : Tables) (s' : Session) → StoryStep t s c r t' s' → Present s → Present s'
 moment-stays t s c r t' s' (inl follows) there = subst Present (sym follows.session_is) (answer-stays (verdict c s t) c s t there)
 moment-stays t s c r t' s' (inr stays) there = subst Present (sym stays.session_is) there
 
@@ -94,7 +94,7 @@ both-replies r q rs qs e f = rw (e, f) refl
 not-both : (b : Bool) → b ≡ true → b ≡ false → ⊥
 not-both b t f = cc
 
-abbrev move_of : (t : Tables) (s : Session) (c : Command) (r : Reply) (t' : Tables) (s' : Session) → Step t s c r t' s' → IsSound t s → Move
+abbrev move_of : (t : Tables) (s : Session) (c : Command) (r : Reply) (t' : Tables) (s' : Session) → StoryStep t s c r t' s' → IsSound t s → Move
 move_of t s c r t' s' step sound = record { tables = t; session = s; command = c; reply = r; tables' = t'; session' = s'; sound = sound; step = step }
 
 -- a story without an act that concerns the user leaves what the user sees

@@ -1,4 +1,4 @@
-use Rattle.tapestry_pop.proofs.pop_server.PopServerSession.hold.Goals as goal
+use Rattle.tapestry_pop.proofs.pop_server.PopServerStoreProgram.hold.Goals as goal
 
 pub returns-clause-ends : goal.returns-clause-ends
 returns-clause-ends g c = record {

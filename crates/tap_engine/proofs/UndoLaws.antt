@@ -11,7 +11,7 @@ use Rattle.query_eval.specs.Hits.{HitsWithRoom}
 use Rattle.tap_rows.specs.declared.rows.Doc.{Doc}
 use Rattle.tap_rows.specs.declared.rows.Note.{Note}
 use Rattle.tap_rows.specs.declared.rows.FilterRow.{FilterRow}
-use Rattle.tap_base.specs.Words.{holds}
+use Rattle.tap_base.specs.Words.{has_text}
 use Rattle.script_lang.specs.declared.command.Command.{Command}
 use Rattle.tap_model.specs.declared.session.Session.{Session}
 use Rattle.script_lang.specs.declared.refusal.Refusal.{Refusal}
@@ -19,8 +19,8 @@ use Rattle.script_lang.specs.declared.refusal.Refusal.TheVariants.{Memory}
 use Rattle.tap_model.specs.Verdicts.{verdict}
 use Rattle.tap_model.specs.Replies.{answer_of, answer_by, accepted}
 use Rattle.tap_kept.specs.declared.cached_query.CachedQuery.{CachedQuery}
-use Rattle.vote_scores.specs.declared.undo.Undo.{Undo as VoteUndo}
-use Rattle.vote_scores.specs.Tally.{CanUndo, Vote, undone}
+use Rattle.vote_scores.specs.declared.undo.VoteUndo.{VoteUndo}
+use Rattle.vote_scores.specs.Tally.{CanUndoVote, Vote, without_vote}
 use Rattle.tap_engine.specs.declared.engine.Engine.{Engine}
 use Rattle.tap_engine.specs.declared.undo.Undo.TheVariants.{Docs, Note as OneNote, Query, Filter}
 use Rattle.tap_kept.specs.Keeping.{with_owner}
@@ -70,19 +70,19 @@ some-note : (notes : List Note) (note : Note) → 0 < length (notes ++ note ∷ 
 some-note [] note = omega arith
 some-note (x ∷ notes) note = omega arith
 
-pub undo-note : (e : Engine) (note : Note) (bytes : ℕ) (vote : VoteUndo) (votes : List Vote) → CanUndo vote votes → undone vote votes ≡ e.votes
+pub undo-note : (e : Engine) (note : Note) (bytes : ℕ) (vote : VoteUndo) (votes : List Vote) → CanUndoVote vote votes → without_vote vote votes ≡ e.votes
     → UndoRestores (OneNote e.bytes vote) (record e { index = after e.index (RowNote note); votes = votes; bytes = bytes }) e
 undo-note e note bytes vote votes can back = record {
   there = (some-note e.index.notes note, can);
   before_is = record {
-    same = ap (λ l. record e { index = record e.index { notes = l }; votes = undone vote votes }) (one-back e.index.notes note) ∙ ap (λ votes. record e { votes = votes }) back;
+    same = ap (λ l. record e { index = record e.index { notes = l }; votes = without_vote vote votes }) (one-back e.index.notes note) ∙ ap (λ votes. record e { votes = votes }) back;
     room = omega arith;
   };
 }
 
 -- an owner is removed again
 owner-back : (owners : List (List ℕ)) (owner : List ℕ) → take (length owners) (with_owner owners owner) ≡ owners
-owner-back owners owner = elim (holds owners owner) as (λ b. take (length owners) (if b then owners else owners ++ owner ∷ []) ≡ owners) [
+owner-back owners owner = elim (has_text owners owner) as (λ b. take (length owners) (if b then owners else owners ++ owner ∷ []) ≡ owners) [
   | true ↦ ap (take (length owners)) (sym (append-nil owners)) ∙ take-append_seam owners []
   | false ↦ take-append_seam owners (owner ∷ [])
 ]

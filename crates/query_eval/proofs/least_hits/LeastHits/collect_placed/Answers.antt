@@ -1,15 +1,15 @@
 use Rattle.std.proofs.Common.{◌≡◌, ◌<◌, ◌-◌, false, Some, length, arith, ◌∙◌, sym}
 use Rattle.std.specs.Prelude.{slice_get}
-use Rattle.query_eval.specs.Placed.{has_at}
+use Rattle.query_eval.specs.Placed.{has_hit_at}
 use Rattle.query_eval.proofs.PlacedLaws.{none_of, fewer_hits, kept_lower, placed_lower, kept_append, placed_append, known_at, placed_as}
-use Rattle.query_eval.proofs.kept_hits.KeptHits.collect_placed.Goals as goal
+use Rattle.query_eval.proofs.least_hits.LeastHits.collect_placed.Goals as goal
 
 pub append-requires-clause-counted : goal.append-requires-clause-counted
 append-requires-clause-counted c =
     let hs = c.args.self.now.hits.items in
     let ps = c.args.self.now.places.items in
     let known : slice_get ps (c.args.hit.doc.0 - 1) ≡ Some c.index.result.now = known_at ps c.args.hit.doc.0 c.index.result.now c.requires.above c.requires.within c.index.ensures in
-    let out : has_at hs c.index.result.now c.args.hit.doc.0 ≡ false = sym c.is_at.ensures ∙ c.if-is_at.false in
+    let out : has_hit_at hs c.index.result.now c.args.hit.doc.0 ≡ false = sym c.is_at.ensures ∙ c.if-is_at.false in
     let f : length hs < length ps = fewer_hits hs ps c.args.hit c.requires.placed (none_of hs ps c.requires.placed c.args.hit.doc.0 c.index.result.now known out) c.requires.above c.requires.within in
     let r = c.requires.room.counted in
     omega (arith, f, r)
@@ -19,7 +19,7 @@ append-requires-clause-room c =
     let hs = c.args.self.now.hits.items in
     let ps = c.args.self.now.places.items in
     let known : slice_get ps (c.args.hit.doc.0 - 1) ≡ Some c.index.result.now = known_at ps c.args.hit.doc.0 c.index.result.now c.requires.above c.requires.within c.index.ensures in
-    let out : has_at hs c.index.result.now c.args.hit.doc.0 ≡ false = sym c.is_at.ensures ∙ c.if-is_at.false in
+    let out : has_hit_at hs c.index.result.now c.args.hit.doc.0 ≡ false = sym c.is_at.ensures ∙ c.if-is_at.false in
     let f : length hs < length ps = fewer_hits hs ps c.args.hit c.requires.placed (none_of hs ps c.requires.placed c.args.hit.doc.0 c.index.result.now known out) c.requires.above c.requires.within in
     let r = c.requires.room.room in
     omega (arith, f, r)
@@ -50,5 +50,5 @@ returns-else-is_at-clause-placed c =
     let hs = c.args.self.now.hits.items in
     let ps = c.args.self.now.places.items in
     let known : slice_get ps (c.args.hit.doc.0 - 1) ≡ Some c.index.result.now = known_at ps c.args.hit.doc.0 c.index.result.now c.requires.above c.requires.within c.index.ensures in
-    let out : has_at hs c.index.result.now c.args.hit.doc.0 ≡ false = sym c.is_at.ensures ∙ c.if-is_at.false in
+    let out : has_hit_at hs c.index.result.now c.args.hit.doc.0 ≡ false = sym c.is_at.ensures ∙ c.if-is_at.false in
     placed_as _ _ _ _ c.append.ensures.hits c.append.ensures.places (placed_append hs ps c.args.hit c.requires.placed (none_of hs ps c.requires.placed c.args.hit.doc.0 c.index.result.now known out) c.requires.above c.requires.within)

@@ -1,4 +1,4 @@
-use Rattle.tapestry.proofs.mail_filter.MailFilterSession.hold.Goals as goal
+use Rattle.tapestry.proofs.mail_filter.MailFilterStoreProgram.hold.Goals as goal
 
 pub returns-clause-ends : goal.returns-clause-ends
 returns-clause-ends g c = record {
