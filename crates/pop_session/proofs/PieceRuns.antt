@@ -17,7 +17,8 @@ use Rattle.pop_session.specs.Requests.{requests}
 use Rattle.pop_session.specs.Sessions.{PopSessionState, replies_from, quits_from, replies_to, phase_after, is_ended}
 use Rattle.pop_session.specs.Laws.{RepliesGrow}
 use Rattle.pop_session.specs.declared.outcome.Phase.TheVariants.{Authorization}
-use Rattle.pop_session.specs.Ends.{IsFront, TookBytes, PassedSessionLimit, QuitEnd, OpenEnd, LongEnd, PutEnd, SessionEnds}
+use Rattle.pop_session.specs.Ends.{TookBytes, PassedSessionLimit, QuitEnd, OpenEnd, LongEnd, PutEnd, SessionEnds}
+use Rattle.tap_base.specs.Prefixes.{IsPrefix}
 
 -- the bytes taken so far
 pub record Taking (left left' : Option (List ℕ)) (taken : ℕ) : Type 0 where

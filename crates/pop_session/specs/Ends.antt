@@ -1,15 +1,11 @@
 -- How a session over a source and a sink ended, by its status.
-use Rattle.std.specs.Prelude.{ℕ, ◌≡◌, ◌≤◌, ◌<◌, ◌⊎◌, ◌+◌, ◌-◌, List, [], ◌++◌, length, take, Bool, true, false, Option}
+use Rattle.std.specs.Prelude.{ℕ, ◌≡◌, ◌≤◌, ◌<◌, ◌⊎◌, ◌+◌, ◌-◌, List, [], length, take, Bool, true, false, Option}
 use Rattle.std.specs.Io.KnownBytes.{Consumes, Appends, IsAtEnd}
 use Rattle.pop_session.specs.declared.letter.Letter.{Letter}
 use Rattle.pop_session.specs.Replies.{greeting}
 use Rattle.pop_session.specs.Sessions.{pop_replies, has_quit}
 use Rattle.pop_session.specs.declared.hold.TheConstants.{SESSION_LIMIT, PIECE}
-
--- the bytes are the first of these
-pub record IsFront (front bytes : List ℕ) : Type 0 where
-  pub rest : List ℕ
-  pub is : bytes ≡ front ++ rest
+use Rattle.tap_base.specs.Prefixes.{IsPrefix}
 
 -- bytes were taken from the source, at most one piece more than a session looks at
 pub record TookBytes (left left' : Option (List ℕ)) : Type 0 where
@@ -48,9 +44,9 @@ module _ (replies : List ℕ → List ℕ) (quits : List ℕ → Bool) (left lef
     pub taken : TookBytes left left'
     pub put : List ℕ
     pub written : Appends out out' put
-    pub front : IsFront put (replies taken.bytes)
-    pub unread : (IsFront greeting put → ⊥) → taken.bytes ≡ []
-    pub prompt : IsFront greeting put → IsFront (replies (take (length taken.bytes - PIECE) taken.bytes)) put
+    pub front : IsPrefix put (replies taken.bytes)
+    pub unread : (IsPrefix greeting put → ⊥) → taken.bytes ≡ []
+    pub prompt : IsPrefix greeting put → IsPrefix (replies (take (length taken.bytes - PIECE) taken.bytes)) put
 
   -- how a session ended, by its status
   pub record SessionEnds (status : ℕ) (greeting : List ℕ) : Type 0 where

@@ -17,12 +17,14 @@ use Rattle.tql_core.specs.declared.atom.NumField.TheVariants.{Id, DocOf}
 use Rattle.tql_core.specs.declared.atom.TextField.{TextField}
 use Rattle.tql_core.specs.declared.atom.TextField.TheVariants.{From, Subject, MsgId, InReplyTo}
 use Rattle.tql_core.specs.declared.atom.ListField.TheVariants.{References, Words}
-use Rattle.tql_core.specs.Row.{Row, OfDoc, OfNote, arrival, fields}
+use Rattle.tql_core.specs.Row.{Row, OfDoc, OfNote, arrival}
 use Rattle.tql_core.specs.Values.{field, both, both_texts, text_cmp, text_field, list_field, has}
 use Rattle.row_index.specs.Texts as texts
 use Rattle.row_index.specs.Texts.{with_text, msgids, parents, senders, subjects, references_in, words_in}
-use Rattle.row_index.specs.Orders.{Numbered, doc_number, IsMoment}
+use Rattle.row_index.specs.Orders.{Numbered, doc_number}
 use Rattle.row_index.specs.Held.{indexed_notes}
+use Rattle.tap_rows.specs.Fields.{fields}
+use Rattle.tap_base.specs.Numbers.{IsMoment}
 
 module _ {A : Type 0} (of : A → Row) where
   -- rows picked before or after they are seen as rows
@@ -42,7 +44,7 @@ module _ {A : Type 0} (of : A → Row) where
   pub all_by : (f : A → ℤ) (last : ℤ) (xs : List A) → ((x : A) → arrival (of x) ≡ f x) → pos 250000000000 ≤ℤ last → Each (λ x. IsMoment (f x)) xs → filter (λ row. int_le (arrival row) last) (map of xs) ≡ filter (λ row. true) (map of xs)
   all_by f last [] s l m = refl
   all_by f last (x ∷ xs) s l m =
-      let e : int_le (arrival (of x)) last ≡ true = ap (λ y. int_le y last) (s x) ∙ late (f x) m.0.late in
+      let e : int_le (arrival (of x)) last ≡ true = ap (λ y. int_le y last) (s x) ∙ late (f x) m.0.1 in
       rw e (ap (λ zs. of x ∷ zs) (all_by f last xs s l m.1))
     where
       late : (a : ℤ) → a ≤ℤ pos 250000000000 → int_le a last ≡ true

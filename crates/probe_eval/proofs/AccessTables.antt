@@ -9,12 +9,13 @@ use Rattle.tql_core.specs.declared.term.Var.{Var}
 use Rattle.tql_core.specs.Condition.{Condition}
 use Rattle.tql_core.specs.Row.{OfDoc, OfNote, rows_of}
 use Rattle.tql_core.specs.Values.{Env}
-use Rattle.row_index.specs.Orders.{IsMoment, doc_arrival, note_arrival, up_to}
+use Rattle.row_index.specs.Orders.{doc_arrival, note_arrival, up_to}
 use Rattle.access_plan.specs.declared.access.Access.{Access}
 use Rattle.access_plan.specs.declared.access.Access.TheVariants.{AllDocs, AllNotes}
 use Rattle.access_plan.specs.Accesses.{inner_access}
 use Rattle.probe_eval.specs.Work.{admits_by, rows_by, all_rows_by, reached}
 use Rattle.probe_eval.proofs.AccessLists.{picked, all_by}
+use Rattle.tap_base.specs.Numbers.{IsMoment}
 
 pub docs_by : (last : ℤ) (a : Access) (env : Env) (T : Tables) → a ≡ AllDocs → map OfDoc (up_to doc_arrival last T.docs) ≡ rows_by last a env T
 docs_by last a env T e = picked OfDoc _ _ T.docs (λ d. refl) ∙ ap (λ z. rows_by last z env T) (sym e)

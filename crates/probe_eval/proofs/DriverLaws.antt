@@ -9,7 +9,7 @@ use Rattle.tql_tree.specs.declared.table.Table.{Table}
 use Rattle.tql_tree.specs.declared.table.Table.TheVariants.{Docs, Notes}
 use Rattle.tql_core.specs.declared.term.Var.{Var}
 use Rattle.tql_core.specs.Bounds.{is_bounded}
-use Rattle.tql_core.specs.Row.{Row, OfDoc, OfNote, arrival, date, fields, rows_of}
+use Rattle.tql_core.specs.Row.{Row, OfDoc, OfNote, arrival, date, rows_of}
 use Rattle.tap_rows.specs.Kept.{In}
 use Rattle.tql_core.specs.Values.{bind, lookup, on_row, value}
 use Rattle.row_index.specs.Orders.{in_window, doc_arrival, note_arrival}
@@ -27,6 +27,7 @@ use Rattle.time_marks.proofs.SeekLaws.{solved}
 use Rattle.probe_eval.specs.Drivers.{seek_var, arrived_rows, dated_rows, stored_rows, driving}
 use Rattle.probe_eval.specs.Tables.{table_in}
 use Rattle.probe_eval.proofs.Members.{in_filter, to_filter}
+use Rattle.tap_rows.specs.Fields.{fields}
 
 some_same : {A : Type 0} {x y : A} → Some x ≡ Some y → x ≡ y
 some_same e = cc

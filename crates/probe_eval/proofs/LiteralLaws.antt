@@ -21,10 +21,10 @@ use Rattle.tql_core.specs.declared.atom.ListField.TheVariants.{References, Words
 use Rattle.tql_core.specs.declared.atom.TextExpr.TheVariants.{Literal, Field}
 use Rattle.tql_core.specs.declared.atom.Atom.{Atom}
 use Rattle.tql_core.specs.declared.atom.Atom.TheVariants.{Texts, Has}
-use Rattle.tql_core.specs.Row.{OfDoc, fields}
+use Rattle.tql_core.specs.Row.{OfDoc}
 use Rattle.tql_core.specs.Values.{bind, text_field, list_field, both_texts, has, true_atom}
 use Rattle.row_index.specs.declared.text_kind.TextKind.{TextKind}
-use Rattle.row_index.specs.Orders.{in_window, doc_arrival, IsMoment}
+use Rattle.row_index.specs.Orders.{in_window, doc_arrival}
 use Rattle.row_index.specs.Texts as texts
 use Rattle.row_index.specs.Texts.{texts_of, with_text}
 use Rattle.time_marks.specs.declared.mark.Step.{Step}
@@ -35,6 +35,8 @@ use Rattle.probe_eval.specs.Drivers.{stored_rows}
 use Rattle.probe_eval.specs.Literals.{field_kind, list_field_kind, kind_if, literal_kind, literal_of, list_length, shorter, rarer, rarest, chosen}
 use Rattle.probe_eval.proofs.AccessLists.{picked, text_asked, word_asked}
 use Rattle.probe_eval.proofs.Costs.{filter_same, filter_both}
+use Rattle.tap_rows.specs.Fields.{fields}
+use Rattle.tap_base.specs.Numbers.{IsMoment}
 
 some_same : {A : Type 0} {x y : A} → Some x ≡ Some y → x ≡ y
 some_same e = cc
@@ -107,7 +109,7 @@ under_literal v a kind low high docs h =
 -- all documents arrived at moments of the clock
 module _ (P : Doc → Bool) (high : ℤ) (late : pos 250000000000 <ℤ high) where
   in_clock : (s : ℤ) → IsMoment s → (int_le (pos 0) s && int_lt s high) ≡ true
-  in_clock s m = and_from (int_le (pos 0) s) (int_lt s high) (early s m.early) (before s m.late)
+  in_clock s m = and_from (int_le (pos 0) s) (int_lt s high) (early s m.0) (before s m.1)
     where
       early : (s : ℤ) → pos 0 ≤ℤ s → int_le (pos 0) s ≡ true
       early s h = grind (arith, ints)

@@ -1,10 +1,10 @@
 //! Documents and boxes that tests use.
 
 ghost use Rattle.std.specs.Prelude.{◌≡◌, ◌+◌, ◌≤ℤ◌, [], ◌∷◌, length, IfOk};
-ghost use Rattle.row_index.specs.Orders.{IsMoment};
 ghost use Rattle.tap_rows.specs.Kept.{Each};
 ghost use Rattle.tap_rows.specs.Tables.{after};
 ghost use Rattle.tap_rows.specs.declared.change.Change.TheVariants.{Docs};
+ghost use Rattle.tap_base.specs.Numbers.{IsMoment};
 
 use little_box::LittleBox;
 use row_index::RowIndex;

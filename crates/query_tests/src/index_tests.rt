@@ -2,8 +2,8 @@
 
 ghost use Rattle.std.specs.Prelude.{◌≡◌, ◌+◌, ◌<◌, ◌≤ℤ◌, pos, [], length};
 ghost use Rattle.tap_base.specs.Ledgers.{IsBlankOf};
-ghost use Rattle.row_index.specs.Orders.{IsMoment};
 ghost use Rattle.tap_rows.specs.Kept.{Each};
+ghost use Rattle.tap_base.specs.Numbers.{IsMoment};
 
 use crate::documents::{blank_doc, with_doc};
 use row_index::{RowIndex, Walk};

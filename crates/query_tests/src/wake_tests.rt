@@ -2,9 +2,9 @@
 
 ghost use Rattle.std.specs.Prelude.{◌≡◌, ◌<◌, map, IfOk};
 ghost use Rattle.tap_base.specs.Ledgers.{IsBlankOf};
-ghost use Rattle.row_index.specs.Orders.{IsMoment};
 ghost use Rattle.probe_eval.specs.Runs.{HasValidProbes};
 ghost use Rattle.query_tests.specs.Samples.{sample_probe, sample_marks};
+ghost use Rattle.tap_base.specs.Numbers.{IsMoment};
 
 use crate::documents::{second_seen, two_docs};
 use crate::probes::part_at;

@@ -15,11 +15,11 @@ use Rattle.tap_rows.specs.declared.rows.Doc.{Doc}
 use Rattle.tap_rows.specs.Kept.{Each}
 use Rattle.row_index.specs.declared.dates.Dated.{Dated}
 use Rattle.row_index.specs.Orders.{Numbered, doc_number, in_window}
-use Rattle.row_index.specs.Texts.{fields}
 use Rattle.row_index.specs.Walks.{at_places}
 use Rattle.row_index.specs.Posts.{places_of}
 use Rattle.row_index.proofs.PlaceLists.{own_picked, all_own}
 use Rattle.row_index.specs.Dates.{has_date, stored_date, is_earlier, put_dated, in_date_order, dated_in, dated}
+use Rattle.tap_rows.specs.Fields.{fields}
 
 -- how dates with their places are compared
 abbrev pub dated_cmp : Dated → Dated → Ordering

@@ -4,12 +4,13 @@ use Rattle.tap_rows.specs.declared.rows.Doc.{Doc}
 use Rattle.tap_rows.specs.declared.rows.Note.{Note}
 use Rattle.tap_rows.specs.Kept.{Each}
 use Rattle.row_index.specs.declared.doc_places.DocPlaces.{DocPlaces}
-use Rattle.row_index.specs.Orders.{InPlace, IsMoment, doc_number, doc_arrival, note_number, note_arrival}
+use Rattle.row_index.specs.Orders.{InPlace, doc_number, doc_arrival, note_number, note_arrival}
 use Rattle.row_index.specs.Places.{posted, unposted}
 use Rattle.row_index.specs.Texts.{IsNext}
 use Rattle.row_index.specs.Held.{DocPosts, IsIndexOf, AreOnDocs, noted}
 use Rattle.row_index.proofs.InPlaces.{in_place_more, in_place_less, number_of_last}
 use Rattle.row_index.proofs.PostLaws.{posts_more, posts_less}
+use Rattle.tap_base.specs.Numbers.{IsMoment}
 
 same_nat : (x y : ℕ) → nat_eq x y ≡ true → x ≡ y
 same_nat x y h = grind (arith, h)

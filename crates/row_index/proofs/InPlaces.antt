@@ -7,7 +7,8 @@ use Rattle.std.proofs.lemmas.Bool.{and_parts}
 use Rattle.tap_rows.specs.declared.rows.Doc.{Doc}
 use Rattle.tap_rows.specs.Arrivals.{Arrived}
 use Rattle.tap_rows.specs.Kept.{Each}
-use Rattle.row_index.specs.Orders.{InPlace, IsMoment, Numbered, Rising, doc_number, doc_arrival}
+use Rattle.row_index.specs.Orders.{InPlace, Numbered, Rising, doc_number, doc_arrival}
+use Rattle.tap_base.specs.Numbers.{IsMoment}
 
 nat_other : (m n : ℕ) → m < n → nat_eq n m ≡ false
 nat_other m n h = grind (arith, h)
@@ -70,7 +71,7 @@ arrived_from n low (doc ∷ docs) h r e = (e.0, h.0, subst (λ z. Arrived z doc.
 
 early_each : (docs : List Doc) → Each (λ doc. IsMoment doc.arrival) docs → Each (λ doc. pos 0 ≤ℤ doc.arrival) docs
 early_each [] e = tt
-early_each (doc ∷ docs) e = (e.0.early, early_each docs e.1)
+early_each (doc ∷ docs) e = (e.0.0, early_each docs e.1)
 
 pub arrived_of : (docs : List Doc) → InPlace doc_number doc_arrival docs → Arrived 1 (pos 0) docs
 arrived_of docs h = arrived_from 1 (pos 0) docs h.numbered h.rising (early_each docs h.moments)

@@ -11,9 +11,10 @@ use Rattle.row_index.specs.declared.text_kind.TextKind.{TextKind}
 use Rattle.row_index.specs.declared.text_kind.TextKind.TheVariants.{MsgId, Parent, Sender, Subject, Reference, Word}
 use Rattle.row_index.specs.Orders.{InPlace, doc_number, doc_arrival}
 use Rattle.row_index.specs.Posts.{is_one_of}
-use Rattle.row_index.specs.Texts.{fields, is_single, texts_of, with_text}
+use Rattle.row_index.specs.Texts.{is_single, texts_of, with_text}
 use Rattle.row_index.proofs.ListWindows.{IsOwn, own_listed}
 use Rattle.row_index.proofs.TextLaws.{same_text}
+use Rattle.tap_rows.specs.Fields.{fields}
 
 or_false : (b : Bool) → (b || false) ≡ b
 or_false true = refl

@@ -6,7 +6,7 @@ use Rattle.tap_rows.specs.declared.rows.Doc.{Doc}
 use Rattle.row_index.specs.declared.dates.Dated.{Dated}
 use Rattle.row_index.specs.declared.dates.Dates.{Dates}
 use Rattle.row_index.specs.Orders.{in_window}
-use Rattle.row_index.specs.Texts.{fields}
+use Rattle.tap_rows.specs.Fields.{fields}
 
 abbrev pub has_date : Doc → Bool
 has_date doc = is_some (fields doc).date

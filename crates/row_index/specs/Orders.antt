@@ -1,11 +1,12 @@
 -- Rows in order of arrival, and those of a window.
-use Rattle.std.specs.Prelude.{◌≡◌, ℕ, ◌+◌, ◌<◌, ◌^◌, ℤ, pos, ◌≤ℤ◌}
+use Rattle.std.specs.Prelude.{◌≡◌, ℕ, ◌+◌, ◌<◌, ◌^◌, ℤ, pos}
 use Rattle.std.specs.Prelude.{true, ◌&&◌, Option, Some, None, List, [], ◌∷◌, length, int_le, int_lt, nat_lt, filter, slice_get}
 use Rattle.std.specs.List.{list_all}
 use Rattle.tap_base.specs.declared.numbers.DocNum.{DocNum}
 use Rattle.tap_rows.specs.declared.rows.Doc.{Doc}
 use Rattle.tap_rows.specs.declared.rows.Note.{Note}
 use Rattle.tap_rows.specs.Kept.{Each}
+use Rattle.tap_base.specs.Numbers.{IsMoment}
 
 module _ {A : Type 0} (f : A → ℤ) where
   -- f never falls
@@ -25,11 +26,6 @@ module _ {A : Type 0} (f : A → ℤ) where
 abbrev pub Numbered : {A : Type 0} → (A → ℕ) → ℕ → List A → Type 0
 Numbered number n [] = Unit {0}
 Numbered number n (x ∷ xs) = (number x ≡ n) × Numbered number (n + 1) xs
-
--- a moment of the clock that commands give
-pub record IsMoment (s : ℤ) : Type 0 where
-  pub early : pos 0 ≤ℤ s
-  pub late : s ≤ℤ pos 250000000000
 
 -- rows in their places: their numbers are their places, from 1, their arrivals are moments that never fall, and a
 -- number of 32 bits counts them

@@ -3,17 +3,12 @@ use Rattle.std.specs.Prelude.{◌≡◌, ◌+◌, List, ℕ, Bool, true, false, 
 use Rattle.std.specs.Str.{bytes_eq}
 use Rattle.std.specs.Option.{option_to_list}
 use Rattle.tap_rows.specs.declared.rows.Doc.{Doc}
-use Rattle.tap_rows.specs.declared.fields.Fields.{Fields}
-use Rattle.tap_rows.specs.Fields.{fields_of}
 use Rattle.row_index.specs.declared.doc_texts.DocTexts.{DocTexts}
 use Rattle.row_index.specs.declared.text_kind.TextKind.{TextKind}
 use Rattle.row_index.specs.declared.text_kind.TextKind.TheVariants.{MsgId, Parent, Sender, Subject, Reference, Word}
 use Rattle.row_index.specs.Orders.{Numbered, doc_number}
 use Rattle.row_index.specs.Posts.{Posts, posted_all, unposted_all, IsPartlyPosted, with_key}
-
--- the fields of a document's text
-unfoldable pub fields : Doc → Fields
-fields doc = fields_of doc.text
+use Rattle.tap_rows.specs.Fields.{fields}
 
 -- its message id, or none
 abbrev pub msgids : Doc → List (List ℕ)

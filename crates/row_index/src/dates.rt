@@ -2,8 +2,9 @@
 
 ghost use Rattle.std.specs.Prelude.{◌≡◌, ℤ, ◌≤ℤ◌, ◌&&◌, int_le, int_lt, List, [], ◌∷◌, ◌++◌, map, OnOk, OnErr};
 ghost use Rattle.tap_rows.specs.declared.rows.Doc.{Doc};
-ghost use Rattle.row_index.specs.Texts.{fields, IsNext};
+ghost use Rattle.row_index.specs.Texts.{IsNext};
 ghost use Rattle.row_index.specs.Dates.{DatePosts, dated, dated_in};
+ghost use Rattle.tap_rows.specs.Fields.{fields};
 
 use crate::doc_texts::fields_in;
 use std::alloc::Global;

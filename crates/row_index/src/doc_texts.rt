@@ -4,7 +4,8 @@ ghost use Rattle.std.specs.Prelude.{◌≡◌, ◌+◌, List, [], ◌∷◌, ◌
 ghost use Rattle.tap_rows.specs.declared.rows.Doc.{Doc};
 ghost use Rattle.row_index.specs.Orders.{doc_number};
 ghost use Rattle.row_index.specs.Posts.{places_of};
-ghost use Rattle.row_index.specs.Texts.{fields, IsNext, TextPosts, IsPosted, IsPartly, IsUnposted, with_text, texts_of};
+ghost use Rattle.row_index.specs.Texts.{IsNext, TextPosts, IsPosted, IsPartly, IsUnposted, with_text, texts_of};
+ghost use Rattle.tap_rows.specs.Fields.{fields};
 
 use crate::postings::Postings;
 use crate::text_kind::TextKind;

@@ -10,11 +10,12 @@ ghost use Rattle.tap_rows.specs.declared.change.Change.TheVariants.{Docs, OneNot
 ghost use Rattle.tap_rows.specs.Arrivals.{Arrived};
 ghost use Rattle.tap_rows.specs.Kept.{Each};
 ghost use Rattle.tap_rows.specs.Tables.{no_rows, after};
-ghost use Rattle.row_index.specs.Orders.{InPlace, IsMoment, doc_number, doc_arrival, note_number, note_arrival, in_window, up_to};
+ghost use Rattle.row_index.specs.Orders.{InPlace, doc_number, doc_arrival, note_number, note_arrival, in_window, up_to};
 ghost use Rattle.row_index.specs.Texts.{with_text, texts_of, msgids, parents, senders, subjects, references_in, words_in};
 ghost use Rattle.row_index.specs.Dates.{dated_in};
 ghost use Rattle.row_index.specs.Held.{indexed_notes, AreOnDocs};
 ghost use Rattle.row_index.specs.Rows.{without_last_doc, without_last_note};
+ghost use Rattle.tap_base.specs.Numbers.{IsMoment};
 
 use crate::arrivals::{docs_up_to, docs_within, notes_up_to, notes_within, places_within};
 use crate::doc_places::DocPlaces;

@@ -1,5 +1,6 @@
 -- Kinds of bytes, and places in texts and lists.
 use Rattle.std.specs.Prelude.{ℕ, Bool, ◌||◌, ◌==◌, ◌<◌, ◌≤◌, List, [], ◌∷◌, length}
+use Rattle.std.specs.Prelude.{if◌then◌else◌}
 
 -- a blank: a space or a tab
 abbrev pub is_blank : ℕ → Bool
@@ -20,3 +21,7 @@ IsPlaceOrEnd text at = at ≤ length text
 -- a place of the list
 abbrev pub IsPlaceOf : {A : Type 0} → List A → ℕ → Type 0
 IsPlaceOf items place = place < length items
+
+-- a byte of a quoted text: a quote is written twice
+abbrev pub doubled : ℕ → List ℕ
+doubled b = if b == 39 then 39 ∷ 39 ∷ [] else b ∷ []

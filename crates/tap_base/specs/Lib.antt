@@ -8,3 +8,4 @@ pub mod Laws
 pub mod Ledgers
 pub mod Stores
 pub mod Packed
+pub mod Prefixes

@@ -12,9 +12,9 @@ use Rattle.row_index.specs.Orders.{doc_number, doc_arrival, note_number, note_ar
 use Rattle.tap_rows.specs.Kept.{Each, HasRun, RunsFrom, QueriesFrom}
 use Rattle.tap_rows.specs.WellFormed.{docs_stand, doc_stands, note_stands, notes_stand, pick_stands, picks_stand, is_well_formed}
 use Rattle.tap_rows.proofs.LaterLaws.{each-map}
-use Rattle.tap_model.specs.Sound.{IsMoment}
 use Rattle.tap_model.proofs.FormedRows.{equal, at-most, follows, one-of, placed}
 use Rattle.tap_kept.specs.Starting.{IsRowNumber, AreInOrder, FollowInOrder, PicksAreDistinct}
+use Rattle.tap_base.specs.Numbers.{IsMoment}
 
 docs-standing : (place : ℕ) (low : ℤ) (docs : List Doc) → pos 0 ≤ℤ low → docs_stand place low docs ≡ true → AreInOrder doc_number doc_arrival place low docs × Each (λ doc. length doc.text ≤ 1048576) docs
 docs-standing place low [] from e = (tt, tt)
@@ -25,7 +25,7 @@ docs-standing place low (doc ∷ docs) from e =
     let moment = follows low doc.arrival here.1 in
     let above : pos 0 ≤ℤ doc.arrival = omega (arith, ints, moment.0, from) in
     let rest = docs-standing (place + 1) doc.arrival docs above both.1 in
-    ((equal doc.num.0 place here.0, moment.0, record { early = above; late = moment.1 }, rest.0), (at-most (length doc.text) 1048576 this.1, rest.1))
+    ((equal doc.num.0 place here.0, moment.0, (above, moment.1), rest.0), (at-most (length doc.text) 1048576 this.1, rest.1))
 
 -- the number of one of so many rows
 within : {num count : ℕ} → (1 ≤ num) × (num ≤ count) → IsRowNumber num count
@@ -43,7 +43,7 @@ notes-standing docs place low (note ∷ notes) from e =
     let moment = follows low note.arrival here.1 in
     let above : pos 0 ≤ℤ note.arrival = omega (arith, ints, moment.0, from) in
     let rest = notes-standing docs (place + 1) note.arrival notes above both.1 in
-    ((equal note.num.0 place here.0, moment.0, record { early = above; late = moment.1 }, rest.0), (within (one-of (λ doc. int_le doc.arrival note.arrival) note.doc.0 docs this.1), rest.1))
+    ((equal note.num.0 place here.0, moment.0, (above, moment.1), rest.0), (within (one-of (λ doc. int_le doc.arrival note.arrival) note.doc.0 docs this.1), rest.1))
 
 -- no query picks a document twice
 not-true : (b : Bool) → not b ≡ true → b ≡ false

@@ -22,7 +22,7 @@ use Rattle.time_marks.specs.NextWake.{next_wake}
 use Rattle.tap_model.specs.declared.session.Session.{Session}
 use Rattle.tap_model.specs.Sessions.{or_zero, moment_or_zero, user_of}
 use Rattle.tap_model.specs.Queries.{query_truth, start_of, query_named, box_of_query}
-use Rattle.tap_model.specs.Sound.{IsMoment, IsNow, IsSound, IsSoundFor}
+use Rattle.tap_model.specs.Sound.{IsNow, IsSound, IsSoundFor}
 use Rattle.tap_model.specs.Wakes.{wake_moment}
 use Rattle.tap_model.specs.Verdicts.{first_refusal, verdict, missing, no_moment, no_user, bad_name, no_run, runs_found}
 use Rattle.tap_model.specs.Replies.{show_wake, show_digest, entries_in_run}
@@ -42,6 +42,7 @@ use Rattle.tap_engine.proofs.AddedRows.{docs-are}
 use Rattle.tap_engine.proofs.UndoLaws.{answers-accepted, refused-after}
 use Rattle.tap_engine.proofs.CheckLaws.{named-is, box-verdict}
 use Rattle.tap_engine.proofs.FormedLaws.{formed}
+use Rattle.tap_base.specs.Numbers.{IsMoment}
 
 four : (a b c d : Option Refusal) → option_or a (option_or b (option_or c d)) ≡ first_refusal (a ∷ b ∷ c ∷ d ∷ [])
 four (Some x) b c d = refl

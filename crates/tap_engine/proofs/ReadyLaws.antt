@@ -21,7 +21,6 @@ use Rattle.tap_model.specs.Queries.{start_of}
 use Rattle.tap_rows.specs.WellFormed.{is_query_of}
 use Rattle.tap_model.specs.Replies.{docs_from}
 use Rattle.tap_model.specs.Sessions.{or_zero, moment_or_zero}
-use Rattle.tap_model.specs.Sound.{IsMoment}
 use Rattle.tap_model.specs.Verdicts.{is_back, refuse_unless}
 use Rattle.tap_model.proofs.AnswerLaws.{some-none}
 use Rattle.tap_kept.specs.declared.cached_query.CachedQuery.{CachedQuery}
@@ -31,6 +30,7 @@ use Rattle.tap_kept.specs.Keeping.{named_in, never_run, after_run, before_run, w
 use Rattle.tap_engine.specs.Ready.{CachedFrom, RowsBy, IsTime, IsReady}
 use Rattle.tap_engine.specs.Standing.{cached_named, cached_hits, due_of}
 use Rattle.tap_engine.specs.Answering.{IsUnchangedButHits, UndoRestores, undo_run}
+use Rattle.tap_base.specs.Numbers.{IsMoment}
 
 -- a query in memory at the place of its number
 pub record KeptAt (num runs : ℕ) (queries : List CachedQuery) (kept : CachedQuery) : Type 0 where
@@ -222,7 +222,7 @@ moment_or_zero-moment e ready there = go e.session.moment refl where
 
 -- the present moment, as the index takes it
 pub index-moment : (e : Engine) → IsReady e → (e.session.moment ≡ None → ⊥) → Index.IsMoment (moment_or_zero e.session)
-index-moment e ready there = let moment = moment_or_zero-moment e ready there in record { early = moment.0; late = moment.1 }
+index-moment e ready there = let moment = moment_or_zero-moment e ready there in (moment.0, moment.1)
 
 -- an engine that is unchanged but for its hits stays ready
 pub ready-still : (e e' : Engine) → IsReady e → IsUnchangedButHits e' e → IsReady e'

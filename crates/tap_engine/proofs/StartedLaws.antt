@@ -11,7 +11,6 @@ use Rattle.std.proofs.lemmas.Option.{none-some}
 use Rattle.row_index.specs.Orders.{doc_arrival, note_arrival}
 use Rattle.row_index.specs.Rows.{rows_alone}
 use Rattle.tap_model.specs.Queries.{start_of}
-use Rattle.tap_model.specs.Sound.{IsMoment}
 use Rattle.tap_model.proofs.SoundLaws.{start-moment}
 use Rattle.tap_kept.proofs.PlanLaws.{covered-each}
 use Rattle.tap_rows.specs.Kept.{Each, QueriesFrom}
@@ -31,6 +30,7 @@ use Rattle.tap_kept.specs.Starting.{runs_alone, first_unread}
 use Rattle.tap_kept.proofs.PlaceLaws.{runs-few}
 use Rattle.tap_engine.proofs.OwnerLaws.{users-more, owners-more}
 use Rattle.tap_engine.proofs.FormedLaws.{Formed}
+use Rattle.tap_base.specs.Numbers.{IsMoment}
 
 -- the different ones of some texts, after those that are there
 record HasAllOwners (held all : List (List ℕ)) : Type 0 where

@@ -3,9 +3,9 @@ use Rattle.std.specs.Prelude.{ℕ, ℤ, suc, ◌≡◌, ◌≤◌, ◌≤ℤ◌,
 use Rattle.std.specs.Option.{option_or}
 use Rattle.tap_rows.specs.Kept.{Each}
 use Rattle.row_index.specs.Orders.{doc_arrival, note_arrival}
-use Rattle.tap_model.specs.Sound.{IsMoment}
 use Rattle.tap_kept.specs.declared.cached_query.CachedQuery.{CachedQuery}
 use Rattle.tap_engine.specs.declared.engine.Engine.{Engine}
+use Rattle.tap_base.specs.Numbers.{IsMoment}
 
 -- the queries are numbered by their places from this one on; none had more runs than there were in all, and each has covered
 -- the seconds up to a moment

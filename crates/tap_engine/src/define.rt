@@ -16,8 +16,8 @@ ghost use Rattle.tap_model.specs.Queries.{condition_by};
 ghost use Rattle.restart_core.specs.Starts.{stored_source};
 ghost use Rattle.tap_kept.specs.Keeping.{never_run, with_owner, named_in};
 ghost use Rattle.tap_model.specs.Sessions.{moment_or_zero, user_of};
-ghost use Rattle.tap_model.specs.Sound.{IsMoment};
 ghost use Rattle.tap_base.specs.Names.{is_name};
+ghost use Rattle.tap_base.specs.Numbers.{IsMoment};
 
 use crate::engine::Engine;
 use crate::limits::refuse_more;

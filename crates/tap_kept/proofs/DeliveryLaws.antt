@@ -19,9 +19,10 @@ use Rattle.tap_rows.proofs.RunLaws.{last-more}
 use Rattle.tap_model.specs.Queries.{start_of}
 use Rattle.tap_kept.specs.declared.cached_query.CachedQuery.{CachedQuery}
 use Rattle.tap_kept.specs.Keeping.{cached_query, never_run, after_run}
-use Rattle.tap_kept.specs.Starting.{rows_in, runs_alone, ordinal_in, with_entry, IsRowNumber, picks_same}
+use Rattle.tap_kept.specs.Starting.{rows_in, runs_alone, ordinal_in, with_entry, IsRowNumber}
 use Rattle.tap_kept.proofs.PlaceLaws.{placed, placed-set, runs-few, same-cached}
 use Rattle.tap_kept.proofs.NewLaws.{picked-in}
+use Rattle.tap_rows.specs.WellFormed.{picks_same}
 
 same-yes : (a b : ℕ) → a ≡ b → (a == b) ≡ true
 same-yes a b e = grind arith

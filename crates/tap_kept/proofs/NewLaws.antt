@@ -15,8 +15,9 @@ use Rattle.tap_rows.specs.Kept.{In}
 use Rattle.tap_rows.specs.Results.{entry_at, hit_of, put_in, hits_in_order, is_before, hits_by}
 use Rattle.little_box.specs.Boxes.{is_in}
 use Rattle.tap_kept.specs.Keeping.{AreNew}
-use Rattle.tap_kept.specs.Starting.{picks_same, PicksAreDistinct}
+use Rattle.tap_kept.specs.Starting.{PicksAreDistinct}
 use Rattle.probe_eval.specs.Nested.{was_seen}
+use Rattle.tap_rows.specs.WellFormed.{picks_same}
 
 same-no : (m n : ℕ) → (m ≡ n → ⊥) → nat_eq m n ≡ false
 same-no m n no' = grind arith

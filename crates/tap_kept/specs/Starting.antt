@@ -1,6 +1,6 @@
 -- What an engine makes of stored tables when it starts.
 use Rattle.std.specs.Prelude.{ℕ, ℤ, ◌≡◌, ◌+◌, ◌≤◌, ◌≤ℤ◌, List, [], ◌∷◌, ◌++◌, length, map}
-use Rattle.std.specs.Prelude.{Bool, false, ◌==◌, ◌&&◌, Option, Some, None, is_some, if◌then◌else◌}
+use Rattle.std.specs.Prelude.{Bool, false, Option, Some, None, is_some, if◌then◌else◌}
 use Rattle.std.specs.List.{list_any}
 use Rattle.tap_rows.specs.declared.tables.Tables.{Tables}
 use Rattle.tap_rows.specs.declared.rows.Note.{Note}
@@ -12,11 +12,12 @@ use Rattle.tap_rows.specs.declared.results.Entry.{Entry}
 use Rattle.tap_rows.specs.Tables.{no_rows}
 use Rattle.tap_rows.specs.Deliveries.{run_ordinal}
 use Rattle.tap_rows.specs.Kept.{Each}
-use Rattle.row_index.specs.Orders.{IsMoment}
 use Rattle.tap_model.specs.Sessions.{later_of}
 use Rattle.tap_model.specs.Verdicts.{filter_fault}
 use Rattle.tap_kept.specs.declared.cached_query.CachedQuery.{CachedQuery}
 use Rattle.tap_kept.specs.declared.sums.Sums.{Sums}
+use Rattle.tap_rows.specs.WellFormed.{picks_same}
+use Rattle.tap_base.specs.Numbers.{IsMoment}
 
 -- whether the filter's text has a fault
 abbrev pub is_unread : FilterRow → Bool
@@ -42,10 +43,6 @@ ordinal_in runs run = run_ordinal run.num run.query.0 runs
 -- a query that has delivered one document more
 abbrev pub with_entry : Entry → CachedQuery → CachedQuery
 with_entry entry kept = record { row = kept.row; covered = kept.covered; runs = kept.runs; entries = kept.entries ++ entry ∷ [] }
-
--- whether one pick is of the query and the document of the other
-abbrev pub picks_same : Pick → Pick → Bool
-picks_same pick other = (other.query.0 == pick.query.0) && (other.doc.0 == pick.doc.0)
 
 -- no query picks a document twice, nor one that it picked earlier
 abbrev pub PicksAreDistinct : List Pick → List Pick → Type 0

@@ -7,8 +7,8 @@ use Rattle.tap_rows.specs.declared.rows.Pick.{Pick}
 use Rattle.tap_rows.specs.Kept.{Each, HasRun, RunsFrom}
 use Rattle.tql_core.specs.declared.cond.Cond.{Cond}
 use Rattle.restart_core.specs.Readings.{readings_of, as_read}
-use Rattle.tap_model.specs.Sound.{IsMoment}
 use Rattle.tap_kept.specs.Starting.{PicksAreDistinct}
+use Rattle.tap_base.specs.Numbers.{IsMoment}
 
 -- stored runs and picks: the runs are numbered from 1, each pick is of a run and its query, and no query picks a document twice
 pub record AreDeliveries (runs : List RunRow) (picks : List Pick) : Type 0 where

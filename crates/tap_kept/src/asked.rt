@@ -5,8 +5,8 @@ ghost use Rattle.tql_core.specs.Bounds.{are_bounded};
 ghost use Rattle.tql_core.specs.Condition.{condition};
 ghost use Rattle.tql_core.specs.Scope.{IsQuery};
 ghost use Rattle.tap_model.specs.Asks.{given_docs};
-ghost use Rattle.tap_model.specs.Sound.{IsMoment};
 ghost use Rattle.tap_kept.specs.Costs.{ask_work};
+ghost use Rattle.tap_base.specs.Numbers.{IsMoment};
 
 use crate::planned_query::make_plan;
 use little_box::LittleBox;

@@ -6,11 +6,11 @@ ghost use Rattle.tap_base.specs.Words.{with_new};
 ghost use Rattle.tap_rows.specs.Kept.{Each, QueriesFrom};
 ghost use Rattle.tql_core.specs.Condition.{condition};
 ghost use Rattle.restart_core.specs.Readings.{reading_of};
-ghost use Rattle.tap_model.specs.Sound.{IsMoment};
 ghost use Rattle.tap_kept.specs.declared.start_fault.StartFault.{StartFault as Fault};
 ghost use Rattle.tap_kept.specs.Keeping.{cached_query, never_run};
 ghost use Rattle.tap_kept.specs.Starting.{is_unread, first_unread, runs_alone, IsRowNumber};
 ghost use Rattle.tap_kept.specs.StoredRows.{HaveConditions, AreDeliveries};
+ghost use Rattle.tap_base.specs.Numbers.{IsMoment};
 
 use crate::cached_filter::CachedFilter;
 use crate::cached_queries::CachedQueries;

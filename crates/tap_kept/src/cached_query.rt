@@ -4,8 +4,8 @@ ghost use Rattle.std.specs.Prelude.{◌≡◌, ◌<◌, ◌≤◌, ◌+◌, ◌^
 ghost use Rattle.little_box.specs.Boxes.{is_in};
 ghost use Rattle.tap_rows.specs.Results.{entry_at};
 ghost use Rattle.tap_base.specs.declared.moments.TheConstants.{LAST_MOMENT};
-ghost use Rattle.tap_model.specs.Sound.{IsMoment};
 ghost use Rattle.time_marks.specs.NextWake.{next_wake};
+ghost use Rattle.tap_base.specs.Numbers.{IsMoment};
 
 use crate::entries::{add_entry, add_hits};
 use crate::planned_query::PlannedQuery;

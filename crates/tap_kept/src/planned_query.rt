@@ -9,7 +9,7 @@ ghost use Rattle.monotone_rewrite.specs.Query.{CanRewriteFrom};
 ghost use Rattle.probe_eval.specs.Runs.{HasValidProbes};
 ghost use Rattle.tap_rows.specs.declared.rows.QueryRow.{QueryRow};
 ghost use Rattle.tap_model.specs.Queries.{condition_by, start_of, probes_from, probes_of_query, lines_of};
-ghost use Rattle.tap_model.specs.Sound.{IsMoment};
+ghost use Rattle.tap_base.specs.Numbers.{IsMoment};
 
 use access_plan::{Plan, plan};
 use incremental_rewrite::{incremental, render};

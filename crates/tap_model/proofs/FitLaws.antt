@@ -30,12 +30,13 @@ use Rattle.tap_model.specs.Sessions.{moment_or_zero, or_zero, or_empty, user_of}
 use Rattle.tap_model.specs.Queries.{query_truth, start_of, query_named}
 use Rattle.tap_model.specs.Verdicts.{verdict, checks, first_refusal, missing, refuse_unless, bad_name, too_long, are_short, no_doc, block_text, messages_of}
 use Rattle.tap_model.specs.Replies.{Answer, answer_of, answer_by, accepted, set_moment, docs_from, next_docs, some_docs, next_note, next_query, next_filter, run_query, show_box, show_list, show_lines, show_wake, show_digest, ask_at}
-use Rattle.tap_model.specs.Sound.{IsSoundFor, IsNow, IsMoment, IsUser}
+use Rattle.tap_model.specs.Sound.{IsSoundFor, IsNow, IsUser}
 use Rattle.tap_model.proofs.AnswerLaws.{some-none, find-in}
 use Rattle.tap_model.proofs.HeldLaws.{moment_or_zero-by}
 use Rattle.tap_model.proofs.RowLaws.{some-same, low-by, row-within}
 use Rattle.tap_model.proofs.RunFits.{run-fits}
 use Rattle.tap_model.specs.Limits.{message_limit}
+use Rattle.tap_base.specs.Numbers.{IsMoment}
 
 -- no check refuses
 pub all-none : (checks : List (Option Refusal)) → first_refusal checks ≡ None → Each (λ check. check ≡ None) checks

@@ -14,7 +14,7 @@ use Rattle.tap_rows.specs.Arrivals.{Arrived}
 use Rattle.tap_rows.specs.Kept.{Each, In, HasRun, RunsFrom, QueriesFrom, Rising}
 use Rattle.tap_rows.specs.Results.{run_moments}
 use Rattle.tap_rows.specs.WellFormed.{may_follow, row_at, is_row, doc_stands, docs_stand, query_stands, queries_stand, was_defined, run_stands, runs_stand, is_picked, pick_stands, picks_stand, is_well_formed}
-use Rattle.tap_model.specs.Sound.{IsMoment}
+use Rattle.tap_base.specs.Numbers.{IsMoment}
 
 pub equal : (a b : ℕ) → (a == b) ≡ true → a ≡ b
 equal a b e = grind arith

@@ -29,8 +29,9 @@ use Rattle.tap_model.specs.Queries.{query_truth, start_of, query_named}
 use Rattle.tap_rows.specs.WellFormed.{is_query_of}
 use Rattle.tap_model.specs.Verdicts.{verdict, first_refusal, missing, refuse_unless, is_back, block_text, messages_of}
 use Rattle.tap_model.specs.Replies.{Answer, answer_of, answer_by, accepted, tables_after, set_moment, next_doc, next_note, next_query, next_filter, run_query, show_box, show_list, show_lines, show_wake, show_digest, ask_at, docs_from, next_docs, some_docs, add_mbox}
-use Rattle.tap_model.specs.Sound.{IsNow, IsMoment}
+use Rattle.tap_model.specs.Sound.{IsNow}
 use Rattle.tap_model.proofs.AnswerLaws.{truth-of-second, find-in, second-none}
+use Rattle.tap_base.specs.Numbers.{IsMoment}
 
 -- the tables are kept, if that is asked, and no row is of a time after the session's moment
 pub record Held (Asked : Type 0) (tables : Tables) (session : Session) : Type 0 where

@@ -18,11 +18,12 @@ use Rattle.tap_model.specs.Sessions.{no_session, moment_or_zero, or_zero}
 use Rattle.tap_model.specs.Queries.{query_truth, start_of}
 use Rattle.tap_model.specs.Replies.{answer_of, tables_after}
 use Rattle.tap_model.specs.Stories.{StoryStep}
-use Rattle.tap_model.specs.Sound.{IsSound, IsSoundFor, IsStore, IsNow, IsMoment, asks_deliveries}
+use Rattle.tap_model.specs.Sound.{IsSound, IsSoundFor, IsStore, IsNow, asks_deliveries}
 use Rattle.tap_model.proofs.AnswerLaws.{truth-of-second}
 use Rattle.tap_model.proofs.HeldLaws.{Held, answer-held}
 use Rattle.tap_model.proofs.FitLaws.{accepted_fits}
 use Rattle.tap_model.proofs.TextLaws.{answer-read}
+use Rattle.tap_base.specs.Numbers.{IsMoment}
 
 -- a sound point is sound for every command
 pub sound-for : (command : Command) (tables : Tables) (session : Session) → IsSound tables session → IsSoundFor command tables session

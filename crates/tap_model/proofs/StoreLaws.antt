@@ -28,10 +28,11 @@ use Rattle.script_lang.specs.declared.refusal.Refusal.TheVariants as refusal
 use Rattle.restart_core.specs.Starts.{is_from_now, condition_text}
 use Rattle.tap_model.specs.Verdicts.{text_fault, reading_refusal, filter_fault, rules_refusal}
 use Rattle.tap_model.specs.Queries.{query_truth, start_of, box_of_query}
-use Rattle.tap_model.specs.Sound.{IsMoment, IsStore}
+use Rattle.tap_model.specs.Sound.{IsStore}
 use Rattle.tap_model.specs.Laws.{AreBoxed}
 use Rattle.tap_model.proofs.AnswerLaws.{some-none}
 use Rattle.tap_model.proofs.FormedRows.{Placed, placed}
+use Rattle.tap_base.specs.Numbers.{IsMoment}
 
 typing-read : (r : Result Condition TypeFault) → reading_refusal (of_typing r) ≡ None → IsOk (of_typing r)
 typing-read (Ok condition) none = refl

@@ -1,7 +1,6 @@
 -- What holds of the tables and the session at every point of a story.
-use Rattle.std.specs.Prelude.{ℕ, ◌≡◌, ℤ, pos, ◌≤ℤ◌, List, Bool, true, false, Option, Some, None}
+use Rattle.std.specs.Prelude.{ℕ, ◌≡◌, ℤ, List, Bool, true, false, Option, Some, None}
 use Rattle.tap_base.specs.Names.{is_name}
-use Rattle.tap_base.specs.declared.moments.TheConstants.{LAST_MOMENT}
 use Rattle.tap_rows.specs.declared.tables.Tables.{Tables}
 use Rattle.tap_rows.specs.Kept.{Each, IsKept, IsBy}
 use Rattle.tap_rows.specs.WellFormed.{is_well_formed}
@@ -14,10 +13,7 @@ use Rattle.tap_model.specs.declared.session.Session.{Session}
 use Rattle.tap_model.specs.Sessions.{no_session}
 use Rattle.tap_model.specs.Queries.{query_truth, start_of}
 use Rattle.tap_model.specs.Verdicts.{text_fault, filter_fault}
-
--- the second may be a moment
-abbrev pub IsMoment : ℤ → Type 0
-IsMoment m = (pos 0 ≤ℤ m) × (m ≤ℤ pos LAST_MOMENT)
+use Rattle.tap_base.specs.Numbers.{IsMoment}
 
 -- if the session has a moment, no row is of a later one
 abbrev pub IsNow : Option ℤ → Tables → Type 0

@@ -16,8 +16,9 @@ use Rattle.monotone_rewrite.specs.Laws.{FromZero}
 use Rattle.time_marks.specs.NextWake.{next_wake}
 use Rattle.tap_model.specs.declared.session.Session.{Session}
 use Rattle.tap_model.specs.Queries.{query_truth, start_of, probes_of_query, hits_of}
-use Rattle.tap_model.specs.Sound.{IsMoment, IsSound}
+use Rattle.tap_model.specs.Sound.{IsSound}
 use Rattle.tap_model.specs.Wakes.{wake_moment}
+use Rattle.tap_base.specs.Numbers.{IsMoment}
 
 -- is the document among these deliveries?
 abbrev pub is_delivered : List Entry → Doc → Bool

@@ -8,6 +8,7 @@ use Rattle.tap_rows.specs.declared.fields.Fields.{Fields}
 use Rattle.tap_rows.specs.Headers.{message_lines, header_of, body_of, values_of, first_of}
 use Rattle.tap_rows.specs.Entries.{listed, referred, identified}
 use Rattle.tap_rows.specs.Dates.{date_of}
+use Rattle.tap_rows.specs.declared.rows.Doc.{Doc}
 
 -- the value of the first field of this name
 abbrev pub value_of : List ℕ → List HeaderField → Option (List ℕ)
@@ -40,3 +41,7 @@ fields_in header body size = record {
 -- the fields of a message's text
 abbrev pub fields_of : List ℕ → Fields
 fields_of text = fields_in (header_of (message_lines text)) (body_of (message_lines text)) (length text)
+
+-- the fields of a document's text
+unfoldable pub fields : Doc → Fields
+fields doc = fields_of doc.text

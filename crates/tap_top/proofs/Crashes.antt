@@ -24,10 +24,11 @@ use Rattle.tap_engine.specs.Standing.{Represents}
 use Rattle.tap_top.specs.declared.top.TheConstants.{SCRIPT_LIMIT}
 use Rattle.tap_top.specs.Points.{SoundAlong, EngineMatchesKeeper}
 use Rattle.tap_top.specs.Answers.{Answered}
-use Rattle.tap_top.specs.Statuses.{AreFirst, IsFront, Whole, ReadCut, TooLong, OutOfMemory, PutCut, KeeperCut}
+use Rattle.tap_top.specs.Statuses.{AreFirst, Whole, ReadCut, TooLong, OutOfMemory, PutCut, KeeperCut}
 use Rattle.tap_top.specs.Crashes.{IsPrefixOfStory, AreFullyWritten, AreWrittenReplies, LeavesPrefix}
 use Rattle.tap_top.proofs.Stories.{Story-then, Story-sound, Answered-none}
 use Rattle.tap_top.proofs.Runs.{Consumes-none, same-front}
+use Rattle.tap_base.specs.Prefixes.{IsPrefix}
 
 -- as many replies as commands
 pub story-lengths : (t : Tables) (s : Session) (cs : List Command) (rs : List Reply) (t' : Tables) (s' : Session) → Story t s cs rs t' s' → length rs ≡ length cs
@@ -105,16 +106,16 @@ nothing-leaves t left left' out out' versions leaves unread unwritten alone = no
 answered-leaves : (t : Tables) (left left' out out' : Option (List ℕ)) (versions : ℤ → Type 0) (tells leaves : Tables → Type 0) (bytes : List ℕ) (cs : List Command) (s' : Session) (ok : Bool) → Consumes left left' bytes → AreFirst cs (take SCRIPT_LIMIT bytes) left' → Answered t no_session cs out out' (IsDurable tells leaves) s' ok → LeavesPrefix t left left' out out' versions leaves
 answered-leaves t left left' out out' versions tells leaves bytes cs s' ok taken first one = story-leaves t left left' out out' versions leaves bytes cs one.replies one.tables' s' (flat_map reply_bytes one.replies) taken first one.story one.written (λ v has known. all-said one.replies) one.ends.alone
 
-all-of : (cs : List Command) → IsFront cs cs
+all-of : (cs : List Command) → IsPrefix cs cs
 all-of cs = record { rest = []; is = sym (append-nil cs) }
 
 whole-leaves : (t : Tables) (left left' out out' : Option (List ℕ)) (versions : ℤ → Type 0) (tells leaves : Tables → Type 0) (ok : Bool) → Whole t left left' out out' (IsDurable tells leaves) ok → LeavesPrefix t left left' out out' versions leaves
 whole-leaves t left left' out out' versions tells leaves ok run =
-    answered-leaves t left left' out out' versions tells leaves run.bytes (script run.bytes) run.session ok run.taken (inr (run.ended, subst (λ xs. IsFront (script run.bytes) (script xs)) (sym (same-front SCRIPT_LIMIT run.bytes run.fits)) (all-of (script run.bytes)))) run.answered
+    answered-leaves t left left' out out' versions tells leaves run.bytes (script run.bytes) run.session ok run.taken (inr (run.ended, subst (λ xs. IsPrefix (script run.bytes) (script xs)) (sym (same-front SCRIPT_LIMIT run.bytes run.fits)) (all-of (script run.bytes)))) run.answered
 
 read-leaves : (t : Tables) (left left' out out' : Option (List ℕ)) (versions : ℤ → Type 0) (tells leaves : Tables → Type 0) → ReadCut t left left' out out' (IsDurable tells leaves) → LeavesPrefix t left left' out out' versions leaves
 read-leaves t left left' out out' versions tells leaves run =
-    answered-leaves t left left' out out' versions tells leaves run.bytes (complete run.bytes) run.session run.all_ok run.taken (inl (subst (λ xs. IsFront (complete run.bytes) (complete xs)) (sym (same-front SCRIPT_LIMIT run.bytes run.fits)) (all-of (complete run.bytes)))) run.answered
+    answered-leaves t left left' out out' versions tells leaves run.bytes (complete run.bytes) run.session run.all_ok run.taken (inl (subst (λ xs. IsPrefix (complete run.bytes) (complete xs)) (sym (same-front SCRIPT_LIMIT run.bytes run.fits)) (all-of (complete run.bytes)))) run.answered
 
 long-leaves : (t : Tables) (left left' out out' : Option (List ℕ)) (versions : ℤ → Type 0) (tells leaves : Tables → Type 0) → TooLong t left left' out out' (IsDurable tells leaves) → LeavesPrefix t left left' out out' versions leaves
 long-leaves t left left' out out' versions tells leaves run =

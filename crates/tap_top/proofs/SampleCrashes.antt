@@ -12,16 +12,16 @@ use Rattle.tap_model.specs.Sound.{IsStore}
 use Rattle.tap_model.specs.Replies.{answer_of, tables_after}
 use Rattle.tap_model.specs.Stories.{Story}
 use Rattle.keeper_core.specs.Keeping.{IsDurable}
-use Rattle.tap_top.specs.Statuses.{IsFront}
 use Rattle.tap_top.specs.Samples.{Performed, FirstPerformed, NextUncommitted, Sampled, SampledCut, LeavesFirst, LeavesOnly}
 use Rattle.tap_top.proofs.Stories.{Story-then}
 use Rattle.tap_top.proofs.Crashes.{whole-prefix, front-prefix, story-store}
+use Rattle.tap_base.specs.Prefixes.{IsPrefix}
 
 no-less : (n : ℕ) → 0 ≤ n
 no-less n = omega arith
 
 -- the end of these commands alone
-performed-leaves : (t : Tables) (cs done : List Command) (Ends : List Reply → Tables → Type 0) (s' : Session) (leaves : Tables → Type 0) → IsFront done cs → (one : Performed t no_session done Ends s') → LeavesOnly one.tables' leaves → LeavesFirst t cs leaves
+performed-leaves : (t : Tables) (cs done : List Command) (Ends : List Reply → Tables → Type 0) (s' : Session) (leaves : Tables → Type 0) → IsPrefix done cs → (one : Performed t no_session done Ends s') → LeavesOnly one.tables' leaves → LeavesFirst t cs leaves
 performed-leaves t cs done Ends s' leaves first one alone = record {
   done = done;
   first = first;
@@ -43,7 +43,7 @@ alone-leaves t cs leaves alone = record {
   each = λ x may. whole-prefix t [] [] t no_session 0 x (refl, refl) (no-less 0) (alone x may);
 }
 
-all-front : (cs : List Command) → IsFront cs cs
+all-front : (cs : List Command) → IsPrefix cs cs
 all-front cs = record { rest = []; is = sym (append-nil cs) }
 
 next-leaves : (t : Tables) (cs : List Command) (leaves : Tables → Type 0) → NextUncommitted t no_session cs leaves → LeavesFirst t cs leaves

@@ -23,12 +23,12 @@ use Rattle.tap_engine.specs.declared.engine.Engine.{Engine}
 use Rattle.tap_engine.specs.Answering.{AddsRows}
 use Rattle.tap_top.specs.Points.{EngineMatchesKeeper}
 use Rattle.tap_top.specs.Answers.{MayHaveCommitted}
-use Rattle.tap_top.specs.Statuses.{IsFront}
 use Rattle.sample_gen.specs.Samples.{sample_of}
 use Rattle.sample_gen.specs.Summaries.{summary_lines}
 use Rattle.sample_gen.specs.declared.summary.Summary.{Summary}
 use Rattle.tap_top.specs.Samples.{refusals_in, hits_in, reply_total, summary_of, Performed, NeverOutOfMemory, Counted, Adds, LastOutOfMemory, FirstPerformed, NextUncommitted, FrontPut, Sampled, SampledCut}
 use Rattle.tap_top.proofs.Stories.{Story-then, Story-sound, first-sound}
+use Rattle.tap_base.specs.Prefixes.{IsPrefix}
 
 total-append : (count : Reply → ℕ) (xs ys : List Reply) → reply_total count (xs ++ ys) ≡ reply_total count xs + reply_total count ys
 total-append count [] ys = zero-more (reply_total count ys) where
@@ -144,7 +144,7 @@ Performing-more all left c rest t s Mid tally s1 Ends after s2 before next one =
 pub Performing-end : (all left : List Command) (t : Tables) (s : Session) (Ends : Tables → Type 0) (tally : Tally) (s1 : Session) → Performing all left t s Ends tally s1 → left ≡ [] → Performed t s all (λ replies x. Ends x × Counted tally replies) s1
 Performing-end all left t s Ends tally s1 before none = subst (λ cs. Performed t s cs (λ replies x. Ends x × Counted tally replies) s1) (sym (before.split ∙ ap (λ xs. before.done ++ xs) none ∙ append-nil before.done)) before.performed
 
-longer-front : (all left done c rest : List Command) → all ≡ done ++ left → left ≡ c ++ rest → (front : List Command) → IsFront front c → IsFront (done ++ front) all
+longer-front : (all left done c rest : List Command) → all ≡ done ++ left → left ≡ c ++ rest → (front : List Command) → IsPrefix front c → IsPrefix (done ++ front) all
 longer-front all left done c rest split next front first = record {
   rest = first.rest ++ rest;
   is = split ∙ ap (λ xs. done ++ xs) (next ∙ ap (λ xs. xs ++ rest) first.is ∙ append_assoc front first.rest rest) ∙ sym (append_assoc done front (first.rest ++ rest));
@@ -172,7 +172,7 @@ Performing-uncommitted all left c rest t s Mid tally s1 leaves before next one =
     let r = q.performed in record {
       done = before.done ++ q.done;
       next = q.next;
-      first = subst (λ cs. IsFront cs all) (sym (append_assoc before.done q.done (q.next ∷ []))) (longer-front all left before.done (c ∷ []) rest before.split next (q.done ++ q.next ∷ []) q.first);
+      first = subst (λ cs. IsPrefix cs all) (sym (append_assoc before.done q.done (q.next ∷ []))) (longer-front all left before.done (c ∷ []) rest before.split next (q.done ++ q.next ∷ []) q.first);
       session' = q.session';
       performed = Performed-then t s before.done (λ replies x. Mid x × Counted tally replies) s1 q.done (λ replies x. NeverOutOfMemory replies × MayHaveCommitted leaves q.next q.session' x) (λ replies x. NeverOutOfMemory replies × MayHaveCommitted leaves q.next q.session' x) q.session' p r (each-append p.replies r.replies p.ends.1.none r.ends.0, r.ends.1);
     }

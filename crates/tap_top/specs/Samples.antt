@@ -18,8 +18,8 @@ use Rattle.tap_model.specs.Stories.{Story}
 use Rattle.tap_top.specs.declared.tally.Tally.{Tally}
 use Rattle.tap_top.specs.Points.{SoundAlong}
 use Rattle.tap_top.specs.Answers.{MayHaveCommitted}
-use Rattle.tap_top.specs.Statuses.{IsFront}
 use Rattle.tap_top.specs.Crashes.{IsPrefixOfStory}
+use Rattle.tap_base.specs.Prefixes.{IsPrefix}
 
 -- a reply that refuses counts once
 abbrev pub refusals_in : Reply → ℕ
@@ -75,7 +75,7 @@ pub record LastOutOfMemory (replies : List Reply) : Type 0 where
 -- some first commands were performed, until one was out of memory
 pub record FirstPerformed (tables : Tables) (session : Session) (commands : List Command) (Ends : Tables → Type 0) : Type 0 where
   pub done : List Command
-  pub first : IsFront done commands
+  pub first : IsPrefix done commands
   pub session' : Session
   pub performed : Performed tables session done (λ replies tables'. LastOutOfMemory replies × Ends tables') session'
 
@@ -83,7 +83,7 @@ pub record FirstPerformed (tables : Tables) (session : Session) (commands : List
 pub record NextUncommitted (tables : Tables) (session : Session) (commands : List Command) (leaves : Tables → Type 0) : Type 0 where
   pub done : List Command
   pub next : Command
-  pub first : IsFront (done ++ next ∷ []) commands
+  pub first : IsPrefix (done ++ next ∷ []) commands
   pub session' : Session
   pub performed : Performed tables session done (λ replies tables'. NeverOutOfMemory replies × MayHaveCommitted leaves next session' tables') session'
 
@@ -120,7 +120,7 @@ pub record SampledCut (tables : Tables) (n : ℕ) (out out' : Option (List ℕ))
 -- a crash leaves the tables after some first commands
 pub record LeavesFirst (tables : Tables) (commands : List Command) (leaves : Tables → Type 0) : Type 0 where
   pub done : List Command
-  pub first : IsFront done commands
+  pub first : IsPrefix done commands
   pub replies : List Reply
   pub tables' : Tables
   pub session' : Session

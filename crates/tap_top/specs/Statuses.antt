@@ -8,15 +8,11 @@ use Rattle.tap_model.specs.declared.session.Session.{Session}
 use Rattle.tap_model.specs.Sessions.{no_session}
 use Rattle.tap_top.specs.declared.top.TheConstants.{SCRIPT_LIMIT, PIECE}
 use Rattle.tap_top.specs.Answers.{Answered, CutOff, Uncommitted}
-
--- the front is the first of the commands
-pub record IsFront (front commands : List Command) : Type 0 where
-  pub rest : List Command
-  pub is : commands ≡ front ++ rest
+use Rattle.tap_base.specs.Prefixes.{IsPrefix}
 
 -- the first commands of the complete ones; or, if nothing is left in the source, of the whole script
 abbrev pub AreFirst : List Command → List ℕ → Option (List ℕ) → Type 0
-AreFirst commands bytes left = IsFront commands (complete bytes) ⊎ (IsAtEnd left × IsFront commands (script bytes))
+AreFirst commands bytes left = IsPrefix commands (complete bytes) ⊎ (IsAtEnd left × IsPrefix commands (script bytes))
 
 -- one byte completed the last command, and fewer bytes than a piece has follow it
 pub record IsPrompt (done : List Command) (last : Command) (bytes : List ℕ) : Type 0 where
@@ -85,7 +81,7 @@ pub record OutOfMemory (tables : Tables) (left left' out out' : Option (List ℕ
   pub taken : Consumes left left' bytes
   pub few : length bytes ≤ SCRIPT_LIMIT + PIECE
   pub commands : List Command
-  pub first : IsFront commands (complete (take SCRIPT_LIMIT bytes))
+  pub first : IsPrefix commands (complete (take SCRIPT_LIMIT bytes))
   pub session : Session
   pub all_ok : Bool
   pub answered : Answered tables no_session commands out out' Ends session all_ok

@@ -2,20 +2,15 @@
 use Rattle.std.specs.Prelude.{ℤ, Option, None, List, map}
 use Rattle.tap_rows.specs.declared.rows.Doc.{Doc}
 use Rattle.tap_rows.specs.declared.rows.Note.{Note}
-use Rattle.tap_rows.specs.declared.fields.Fields.{Fields}
 use Rattle.tap_rows.specs.declared.tables.Tables.{Tables}
-use Rattle.tap_rows.specs.Fields.{fields_of}
 use Rattle.tql_tree.specs.declared.table.Table.{Table}
 use Rattle.tql_tree.specs.declared.table.Table.TheVariants.{Docs, Notes}
+use Rattle.tap_rows.specs.Fields.{fields}
 
 -- a row of either table
 pub data Row : Type 0 where
   OfDoc : Doc → Row
   OfNote : Note → Row
-
--- the fields of a document's text
-unfoldable pub fields : Doc → Fields
-fields doc = fields_of doc.text
 
 -- the second at which a row arrived
 abbrev pub arrival : Row → ℤ

@@ -24,7 +24,8 @@ use Rattle.tql_core.specs.declared.atom.ListField.{ListField}
 use Rattle.tql_core.specs.declared.atom.ListField.TheVariants.{To, Cc, Newsgroups, References, Words}
 use Rattle.tql_core.specs.declared.atom.TextExpr.{TextExpr}
 use Rattle.tql_core.specs.declared.atom.TextExpr.TheVariants as X
-use Rattle.tql_core.specs.Row.{Row, OfDoc, OfNote, arrival, date, fields}
+use Rattle.tql_core.specs.Row.{Row, OfDoc, OfNote, arrival, date}
+use Rattle.tap_rows.specs.Fields.{fields}
 
 -- a variable and its row
 pub record Bound : Type 0 where

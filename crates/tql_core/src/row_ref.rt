@@ -1,7 +1,8 @@
 //! Rows of either table.
 ghost use Rattle.std.specs.Prelude.{◌≡◌, int_le};
-ghost use Rattle.tql_core.specs.Row.{arrival, date, fields, OfDoc};
+ghost use Rattle.tql_core.specs.Row.{arrival, date, OfDoc};
 ghost use Rattle.tql_core.specs.Bindings.{row_of};
+ghost use Rattle.tap_rows.specs.Fields.{fields};
 
 use tap_rows::{Fields, KeptDoc, Note};
 

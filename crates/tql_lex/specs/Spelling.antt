@@ -1,6 +1,6 @@
 -- How tokens are written, and which tokens a text is.
 use Rattle.std.specs.Prelude.{◌≡◌, ◌≤◌, ◌<◌, ◌≤ℤ◌, ℕ, pos, List, [], ◌∷◌, ◌++◌, ◌+◌}
-use Rattle.std.specs.Prelude.{length, Bool, true, false, ◌||◌, not, ◌==◌, Some, if◌then◌else◌}
+use Rattle.std.specs.Prelude.{length, Bool, true, false, ◌||◌, not, ◌==◌, Some}
 use Rattle.std.specs.List.{list_all, flat_map}
 use Rattle.std.specs.Str.{str_to_ascii_lowercase}
 use Rattle.std.specs.Str.Parse.{digits_value}
@@ -11,10 +11,7 @@ use Rattle.tql_lex.specs.declared.kind.Kind.{Kind}
 use Rattle.tql_lex.specs.declared.kind.Kind.TheVariants.{Word, Number, Str, Mark}
 use Rattle.tql_lex.specs.declared.token.Token.{Token}
 use Rattle.tql_lex.specs.Tokens.{is_between_tokens, begins_word, is_digit, is_of_word, short_sign, long_sign, most, token}
-
--- a quote within a text is written twice
-abbrev pub doubled : ℕ → List ℕ
-doubled b = if b == 39 then 39 ∷ 39 ∷ [] else b ∷ []
+use Rattle.tap_base.specs.Bytes.{doubled}
 
 -- the bytes between the quotes of a text
 abbrev pub between_quotes : List ℕ → List ℕ

@@ -1,5 +1,5 @@
 -- The canonical text of a query.
-use Rattle.std.specs.Prelude.{ℕ, List, [], ◌∷◌, ◌++◌, codes, Bool, true, false, nat_lt, ◌==◌, Option, Some, None, if◌then◌else◌}
+use Rattle.std.specs.Prelude.{ℕ, List, [], ◌++◌, codes, Bool, true, false, nat_lt, Option, Some, None}
 use Rattle.std.specs.List.{flat_map}
 use Rattle.std.specs.Fmt.{signed_decimal}
 use Rattle.tap_base.specs.declared.numbers.Op.{Op}
@@ -12,10 +12,7 @@ use Rattle.tql_tree.specs.declared.shift.Shift.{Shift}
 use Rattle.tql_tree.specs.declared.expr.Expr.{Expr}
 use Rattle.tql_tree.specs.declared.expr.Expr.TheVariants as E
 use Rattle.tql_tree.specs.Syntax.{Syntax, True, False, Or, And, Not, Exists, Compare, Has}
-
--- a byte of a text, a quote written twice
-abbrev pub doubled : ℕ → List ℕ
-doubled b = if b == 39 then 39 ∷ 39 ∷ [] else b ∷ []
+use Rattle.tap_base.specs.Bytes.{doubled}
 
 -- a text in quotes
 abbrev pub text_of_bytes : List ℕ → List ℕ

@@ -1,7 +1,8 @@
 //! The pieces of a printed text: names, signs, texts in quotes, and parts that depend on a condition.
 ghost use Rattle.std.specs.Prelude.{◌≡◌, ◌++◌, [], OnOk, if◌then◌else◌};
 ghost use Rattle.std.specs.List.{flat_map};
-ghost use Rattle.tql_tree.specs.Canonical.{doubled, text_of_bytes, text_of_table, text_of_op};
+ghost use Rattle.tql_tree.specs.Canonical.{text_of_bytes, text_of_table, text_of_op};
+ghost use Rattle.tap_base.specs.Bytes.{doubled};
 
 use crate::Table;
 use tap_base::{Memory, Op, Text};

@@ -1,6 +1,6 @@
 -- The range of the seconds that moment texts have.
 use Rattle.std.proofs.Common.{◌≡◌, arith, ℕ, ℤ, pos, true, false, Option, Some, None, List, if◌then◌else◌, inl, inr}
-use Rattle.std.specs.Prelude.{Result, Ok, Err, ◌&&◌, ◌≤ℤ◌, nat_le, int_le, int_div, unwrap_or, not, ◌==◌, length}
+use Rattle.std.specs.Prelude.{Result, Ok, Err, ◌&&◌, nat_le, int_le, int_div, unwrap_or, not, ◌==◌, length}
 use Rattle.std.specs.Str.{all_ascii_digits}
 use Rattle.std.specs.Str.Parse.{digits_value}
 use Rattle.std.proofs.lemmas.Bool.{cases_Bool, and_parts}
@@ -8,9 +8,7 @@ use Rattle.std.proofs.lemmas.Int.{ints}
 use Rattle.jiff.specs.Words.{parse_timestamp, Error}
 use Rattle.tap_base.specs.declared.moments.TheConstants.{LAST_MOMENT}
 use Rattle.tap_base.specs.Numbers.{value_within, number_of, positive, checked_moment, moment_read, moment_of, is_date_form}
-
-abbrev pub IsMoment : ℤ → Type 0
-IsMoment s = (pos 0 ≤ℤ s) × (s ≤ℤ pos 250000000000)
+use Rattle.tap_base.specs.Numbers.{IsMoment}
 
 abbrev pub InRange : Option ℤ → Type 0
 InRange None = Unit {0}

@@ -12,7 +12,7 @@ use Rattle.tql_tree.specs.declared.table.Table.TheVariants.{Docs, Notes}
 use Rattle.tql_core.specs.declared.term.Var.{Var}
 use Rattle.tql_core.specs.declared.term.Base.{Base}
 use Rattle.tql_core.specs.declared.term.Base.TheVariants as B
-use Rattle.tql_core.specs.Row.{Row, OfDoc, OfNote, arrival, date, fields}
+use Rattle.tql_core.specs.Row.{Row, OfDoc, OfNote, arrival, date}
 use Rattle.tql_core.specs.declared.atom.Atom.{Atom}
 use Rattle.tql_core.specs.Values.{Env, bind, lookup, on_row, round_up_to_day, day_of, plus_to, base_value, value, true_atom}
 use Rattle.row_index.specs.Orders.{Rising, in_window, doc_arrival, note_arrival}
@@ -30,6 +30,7 @@ use Rattle.probe_eval.specs.Literals.{chosen, rows_where}
 use Rattle.probe_eval.specs.Tables.{table_in}
 use Rattle.probe_eval.proofs.Members.{in_filter}
 use Rattle.wake_plan.specs.Turns.{bound_alone, AreRising}
+use Rattle.tap_rows.specs.Fields.{fields}
 
 some_same : {A : Type 0} {x y : A} → Some x ≡ Some y → x ≡ y
 some_same e = cc

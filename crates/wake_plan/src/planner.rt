@@ -4,7 +4,6 @@ ghost use Rattle.std.specs.Prelude.{◌≡◌, ◌+◌, ◌≤◌, length, pos, 
 ghost use Rattle.std.specs.List.{flat_map};
 ghost use Rattle.jiff_core.specs.Calendar.{IsWithin};
 ghost use Rattle.tap_rows.specs.Kept.{Each, In};
-ghost use Rattle.row_index.specs.Orders.{IsMoment};
 ghost use Rattle.time_marks.specs.Probes.{Probe, meaning_without};
 ghost use Rattle.time_marks.specs.Views.{ranged_probes};
 ghost use Rattle.probe_eval.specs.Nested.{was_seen};
@@ -14,6 +13,7 @@ ghost use Rattle.wake_plan.specs.Marked.{marked_ahead, IsPlain};
 ghost use Rattle.wake_plan.specs.Turns.{hits_left, cost_left, IsTurn};
 ghost use Rattle.time_marks.specs.NextWake.{after_mark, greater, least_mark, next_wake};
 ghost use Rattle.wake_plan.specs.Wakes.{hits_ahead, wake_window};
+ghost use Rattle.tap_base.specs.Numbers.{IsMoment};
 
 use crate::firsts::first_place;
 use crate::starts::starts;

@@ -2,9 +2,10 @@ use Rattle.std.proofs.Common.{rules, ◌≡◌, ◌∙◌, sym, ap, Some, []}
 use Rattle.std.specs.Prelude.{unwrap_or}
 use Rattle.tap_rows.specs.Fields.{fields_of}
 use Rattle.tql_core.specs.declared.atom.ListField.TheVariants.{References}
-use Rattle.tql_core.specs.Row.{OfDoc, fields}
+use Rattle.tql_core.specs.Row.{OfDoc}
 use Rattle.tql_core.specs.Values.{lookup, on_row, list_field}
 use Rattle.probe_eval.proofs.access_rows.references_of.Goals as goal
+use Rattle.tap_rows.specs.Fields.{fields}
 
 pub returns-in-Some-OfDoc : goal.returns-in-Some-OfDoc
 unfolding fields

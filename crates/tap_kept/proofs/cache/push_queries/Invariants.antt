@@ -3,9 +3,9 @@ use Rattle.std.specs.Iterator.Adapters.{zip_first, zip_second}
 use Rattle.std.specs.Vec.Iter.{into_iter_items, into_iter_len}
 use Rattle.tap_rows.specs.Kept.{Each}
 use Rattle.restart_core.specs.Readings.{readings_of, as_read}
-use Rattle.tap_model.specs.Sound.{IsMoment}
 use Rattle.tap_kept.specs.Keeping.{never_run}
 use Rattle.tap_kept.proofs.cache.push_queries.Given as goal
+use Rattle.tap_base.specs.Numbers.{IsMoment}
 
 -- the queries that were appended, and those that are left, whose conditions are left too
 abbrev pub invariant-loop-row : goal.invariant-loop-row

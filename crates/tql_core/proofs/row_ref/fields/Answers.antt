@@ -1,5 +1,5 @@
-use Rattle.tql_core.specs.Row.{fields}
 use Rattle.tql_core.proofs.row_ref.fields.Goals as goal
+use Rattle.tap_rows.specs.Fields.{fields}
 
 pub returns : goal.returns
 unfolding fields

@@ -1,7 +1,7 @@
 use Rattle.std.proofs.Common.{rules, ◌≡◌, Some, sym, ◌∙◌}
-use Rattle.row_index.specs.Texts.{fields}
 use Rattle.row_index.proofs.DateLaws.{dates_more, date_there, key_is}
 use Rattle.row_index.proofs.dates.Dates.add.Goals as goal
+use Rattle.tap_rows.specs.Fields.{fields}
 
 pub returns-in_ok-insert-clause-ok : goal.returns-in_ok-insert-clause-ok
 returns-in_ok-insert-clause-ok c = λ docs n k.

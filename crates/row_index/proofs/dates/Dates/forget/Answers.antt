@@ -1,7 +1,7 @@
 use Rattle.std.proofs.Common.{rules, ◌≡◌, Some, sym, ◌∙◌}
-use Rattle.row_index.specs.Texts.{fields}
 use Rattle.row_index.proofs.DateLaws.{dates_less, date_there, key_is}
 use Rattle.row_index.proofs.dates.Dates.forget.Goals as goal
+use Rattle.tap_rows.specs.Fields.{fields}
 
 pub returns-in-Some : goal.returns-in-Some
 returns-in-Some c = λ docs n k.

@@ -5,12 +5,12 @@ use Rattle.script_lang.specs.declared.command.Command.TheVariants.{Ask}
 use Rattle.script_lang.specs.declared.refusal.Refusal.TheVariants.{Memory}
 use Rattle.tql_core.specs.Condition.{condition}
 use Rattle.tql_types.proofs.Ranges.{InRange, moment-range}
-use Rattle.tap_model.specs.Sound.{IsMoment}
 use Rattle.tap_model.specs.Stories.{Refuses}
 use Rattle.tap_engine.specs.Standing.{Represents}
 use Rattle.tap_engine.proofs.AskLaws.{ask-text, ask-open, answers-ask}
 use Rattle.tap_engine.proofs.CostLaws.{at-second, most-ask}
 use Rattle.tap_engine.proofs.engine.Engine.ask.Goals as goal
+use Rattle.tap_base.specs.Numbers.{IsMoment}
 
 pub returns-in_err-cond-clause-refusal : goal.returns-in_err-cond-clause-refusal
 returns-in_err-cond-clause-refusal g c =

@@ -3,12 +3,12 @@ use Rattle.std.proofs.lemmas.List.{length-map}
 use Rattle.tap_kept.specs.Keeping.{cached_query, never_run}
 use Rattle.tap_engine.proofs.UndoLaws.{undo-query}
 use Rattle.tap_engine.proofs.MemoryRefusals.{define-memory}
-use Rattle.tap_model.specs.Sound.{IsMoment}
 use Rattle.tap_model.proofs.SoundLaws.{start-moment}
 use Rattle.tap_engine.proofs.ReadyLaws.{kept-more, moment_or_zero-moment}
 use Rattle.tap_engine.proofs.CheckLaws.{define-verdict, define-refuses, answers-define, define-moment}
 use Rattle.tap_engine.proofs.StandingLaws.{represents-query}
 use Rattle.tap_engine.proofs.engine.Engine.define.Goals as goal
+use Rattle.tap_base.specs.Numbers.{IsMoment}
 
 pub returns-in_err-row-clause-refusal : goal.returns-in_err-row-clause-refusal
 returns-in_err-row-clause-refusal c = let by = define-refuses c.args.self.now c.args.name c.args.source _ c.in_err-row.ensures.refusal in search (rules, by)

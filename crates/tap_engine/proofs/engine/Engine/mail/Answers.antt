@@ -5,10 +5,11 @@ use Rattle.tap_model.specs.Replies.{docs_from}
 use Rattle.tap_rows.specs.declared.change.Change.TheVariants.{Docs}
 use Rattle.tap_rows.specs.Kept.{Each}
 use Rattle.tap_rows.specs.Tables.{after}
-use Rattle.row_index.specs.Orders.{doc_arrival, IsMoment}
+use Rattle.row_index.specs.Orders.{doc_arrival}
 use Rattle.tap_engine.specs.Ready.{IsReady}
 use Rattle.tap_engine.proofs.ReadyLaws.{ready-docs, rows-by, index-moment, some-moment}
 use Rattle.tap_engine.proofs.engine.Engine.mail.Goals as goal
+use Rattle.tap_base.specs.Numbers.{IsMoment}
 
 pub returns-clause-ready : goal.returns-clause-ready
 returns-clause-ready c =

@@ -3,7 +3,7 @@ use Rattle.std.proofs.Common.{rules, ◌≡◌, ◌≤◌, ◌∙◌, sym, ap, s
 use Rattle.tap_rows.specs.declared.change.Change.TheVariants.{Docs}
 use Rattle.tap_rows.specs.Kept.{Each}
 use Rattle.tap_rows.specs.Tables.{after}
-use Rattle.row_index.specs.Orders.{doc_arrival, IsMoment}
+use Rattle.row_index.specs.Orders.{doc_arrival}
 use Rattle.tap_model.specs.Verdicts.{bytes_of_all}
 use Rattle.tap_model.specs.Replies.{docs_from, some_docs, tables_after}
 use Rattle.tap_engine.specs.declared.undo.Undo.TheVariants.{Docs as Rows}
@@ -16,6 +16,7 @@ use Rattle.tap_engine.proofs.MemoryRefusals.{mbox-memory}
 use Rattle.tap_engine.proofs.ReadyLaws.{ready-docs, rows-by, index-moment}
 use Rattle.tap_engine.proofs.MboxLaws.{mbox-verdict, mbox-refuses, mbox-moment, answers-mbox, represents-more}
 use Rattle.tap_engine.proofs.engine.Engine.mbox.Goals as goal
+use Rattle.tap_base.specs.Numbers.{IsMoment}
 
 pub returns-in_err-moment-clause-refusal : goal.returns-in_err-moment-clause-refusal
 returns-in_err-moment-clause-refusal c = let by = mbox-refuses c.args.self.now c.args.block c.in_err-moment.field-0.0 c.in_err-moment.ensures.refusal in search (rules, by)

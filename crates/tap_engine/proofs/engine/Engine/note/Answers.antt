@@ -2,7 +2,7 @@ use Rattle.std.specs.Prelude.{◌≤ℤ◌}
 use Rattle.std.proofs.Common.{rules, ◌≡◌, ◌∙◌, sym, ap, subst, ◌+◌, length, w64}
 use Rattle.std.proofs.lemmas.Int.{to_z-of_z}
 use Rattle.tap_rows.specs.Kept.{Each}
-use Rattle.row_index.specs.Orders.{note_arrival, IsMoment}
+use Rattle.row_index.specs.Orders.{note_arrival}
 use Rattle.script_lang.specs.declared.refusal.Refusal.TheVariants.{Memory}
 use Rattle.tap_model.specs.Sessions.{user_of, moment_or_zero}
 use Rattle.vote_scores.specs.Tally.{CanUndoVote, without_vote, with_vote}
@@ -12,6 +12,7 @@ use Rattle.tap_engine.proofs.UndoLaws.{for-memory, undo-note}
 use Rattle.tap_engine.proofs.ReadyLaws.{ready-note, rows-by, index-moment}
 use Rattle.tap_engine.proofs.NoteLaws.{note-verdict, note-refuses, note-moment, answers-note, represents-note}
 use Rattle.tap_engine.proofs.engine.Engine.note.Goals as goal
+use Rattle.tap_base.specs.Numbers.{IsMoment}
 
 pub returns-in_err-note-clause-refusal : goal.returns-in_err-note-clause-refusal
 returns-in_err-note-clause-refusal c = let by = note-refuses c.args.self.now c.args.doc c.args.kind c.args.value c.args.text _ c.in_err-note.ensures.refusal in search (rules, by)

@@ -7,7 +7,6 @@ use Rattle.tap_rows.specs.Results.{entry_at}
 use Rattle.tap_rows.specs.Tables.{after}
 use Rattle.tap_engine.specs.Standing.{Represents}
 use Rattle.tap_engine.specs.Ready.{IsReady}
-use Rattle.tap_model.specs.Sound.{IsMoment}
 use Rattle.tap_model.proofs.SoundLaws.{sound-asked}
 use Rattle.tap_engine.specs.declared.engine.Engine.{Engine}
 use Rattle.tap_kept.specs.declared.cached_query.CachedQuery.{CachedQuery}
@@ -18,6 +17,7 @@ use Rattle.tap_engine.proofs.ReadyLaws.{due-at, kept-run, undo-run, moment_or_ze
 use Rattle.tap_engine.proofs.DueLaws.{due-is, represents-run, answers-run, run_rows}
 use Rattle.tap_engine.proofs.CostLaws.{most-run}
 use Rattle.tap_engine.proofs.engine.Engine.run.Goals as goal
+use Rattle.tap_base.specs.Numbers.{IsMoment}
 
 pub returns-in_err-due-clause-refusal : goal.returns-in_err-due-clause-refusal
 returns-in_err-due-clause-refusal g c = let by = run-refuses c.args.self.now c.args.name.now c.in_err-due.field-0.0 c.in_err-due.ensures.refusal in search (rules, by)
