@@ -16,6 +16,6 @@ abbrev pub inners_to : List TNode → ℕ → List (Option Access)
 inners_to nodes zero = []
 inners_to nodes (suc n) = inners_to nodes n ++ exists_access (tree_at nodes n) ∷ []
 
--- those of all of its numbers
+-- the accesses of all numbers of a pool
 abbrev pub inners_of : List TNode → List (Option Access)
 inners_of nodes = inners_to nodes (length nodes)

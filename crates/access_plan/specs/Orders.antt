@@ -38,7 +38,7 @@ abbrev pub and_then : Option Reach → (Reach → List Reach) → List Reach
 and_then None rest = []
 and_then (Some r) rest = r ∷ rest r
 
--- the order from here on, of at most so many steps
+-- the order from here on, of at most that many steps
 abbrev pub order_from : ℕ → List Step → List Var → List Reach
 order_from zero path bound = []
 order_from (suc n) path bound = and_then (next_reach path bound) (λ r. order_from n path (bound ++ r.var ∷ []))

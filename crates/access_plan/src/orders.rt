@@ -89,7 +89,6 @@ fn first_by_table<'a>(path: &'a [Step], bound: &[Var]) -> Option<ReachRef<'a>>
     None
 }
 
-// Returns the step that is bound next.
 fn next_reach<'a>(path: &'a [Step], bound: &[Var]) -> Option<ReachRef<'a>>
     ensures { option_reach result ≡ next_reach path.now bound.now }
 {

@@ -22,7 +22,6 @@ struct Rank {
     doc: u32,
 }
 
-// Returns the rank of a row.
 fn rank_of(row: &Listed) -> Rank
     ensures { result ≡ rank_of row.now }
 {

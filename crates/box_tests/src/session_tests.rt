@@ -8,7 +8,6 @@ use std::alloc::Global;
 use tap_base::{DocNum, Memory, Text};
 use tap_edges::{MemSink, PutPlan};
 
-// Returns a letter.
 fn letter(doc: u32, text: Text) -> Letter
     ensures { result.text ≡ text }
 {
@@ -140,7 +139,7 @@ fn a_session_is_served(rt: HostRuntime) -> Result<(), Memory> {
 #[test]
 fn requests_are_checked_in_order(rt: HostRuntime) -> Result<(), Memory> {
     let rows: [(&[u8], &[u8]); 14] = [
-        // no request; a last one without an LF is none
+        // no request; a last line without an LF isn't one
         (b"", b""),
         (b"QUIT", b""),
         (b"QUIT\n", b"+OK\r\nquit"),

@@ -20,6 +20,7 @@ sample_rule = record (new_rule (codes "sample")) { long = Some (codes "sample");
 abbrev pub bare_app : App
 bare_app = let a = new_app (codes "tapestry") in record a { top = record a.top { no_binary_name = true } }
 
--- the command with both options
+-- the command as it is described to `clap`: `--store` with a text, else `:memory:`, and `--sample` with a whole number from 1 to
+-- 100,000
 abbrev pub app : App
 app = with_rule (with_rule bare_app store_rule) sample_rule

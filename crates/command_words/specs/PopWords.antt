@@ -69,8 +69,7 @@ abbrev pub values_given : PopOption → List OptionWithValue → List (List ℕ)
 values_given option [] = []
 values_given option (pair ∷ pairs) = if is_option pair.option option then pair.value ∷ values_given option pairs else values_given option pairs
 
--- the words are well worded: pairs in any order, one each of the user, the box and the secret, at most one of the store; no
--- value is empty or begins with `-`
+-- the words are one each of `--user`, `--box` and `--pass`, and at most one of `--store`, each with its text, in any order
 pub record IsPopWorded (words : List (List ℕ)) (path : Option (List ℕ)) (user name secret : List ℕ) : Type 0 where
   pub pairs : List OptionWithValue
   pub words_are : words ≡ words_of_pairs pairs

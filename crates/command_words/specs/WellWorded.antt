@@ -29,7 +29,8 @@ abbrev pub sample_words : Option ℕ → List (List ℕ)
 sample_words None = []
 sample_words (Some n) = codes "--sample" ∷ decimal n ∷ []
 
--- the words are well worded, and name this path and this number, if any
+-- the words are `--store` and a path, if any, and `--sample` and a number from 1 to 100,000 in decimal digits without a leading
+-- zero, if any, in either order; a path isn't empty and doesn't begin with `-`
 pub record IsWellWorded (words : List (List ℕ)) (path : Option (List ℕ)) (number : Option ℕ) : Type 0 where
   pub named_path : IsPathOrNone path
   pub named_number : IsNumberOrNone number

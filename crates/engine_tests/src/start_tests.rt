@@ -51,7 +51,6 @@ fn fill_query(query: &mut QueryRow) -> Result<(), Memory> {
     query.source.push_slice(b"m.words HAS 'hi'")
 }
 
-// Adds a query.
 fn add_query(alloc: Global, tables: &mut Tables) -> Result<(), Memory> {
     let mut query = QueryRow {
         num: QueryNum(1),
@@ -91,7 +90,6 @@ fn fill_filter(filter: &mut FilterRow, source: &[u8]) -> Result<(), Memory> {
     filter.source.push_slice(source)
 }
 
-// Adds a filter of this source.
 fn add_filter(alloc: Global, tables: &mut Tables, source: &[u8]) -> Result<(), Memory> {
     let mut filter = FilterRow {
         num: 1,

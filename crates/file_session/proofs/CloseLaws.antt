@@ -33,7 +33,7 @@ running : (b : Bool) (status : ℕ) → (b ≡ true) ↔ (status ≡ 5) → stat
 running true status stopped other = absurd (other (stopped.0 refl))
 running false status stopped other = refl
 
--- nothing was attached at first
+-- initially nothing was attached
 pub at_first : (A : Type 0) (now old named : List ℕ) → old ≡ [] → (A × (now ≡ old)) ⊎ (now ≡ named) → (A × (now ≡ [])) ⊎ (now ≡ named)
 at_first A now old named none (inl (a, stays)) = inl (a, stays ∙ none)
 at_first A now old named none (inr placed) = inr placed

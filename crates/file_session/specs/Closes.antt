@@ -35,7 +35,8 @@ module _ {D O : Type 0} {g : Ghosts D} (first : FilesOf O) where
   IsClosedAs inner (Some (Ok (Some files))) = AreClean g files.log files.db → ToldTablesAre inner (AreWhole g files)
   IsClosedAs inner (Some (Err left)) = IsTrue (view left.1).is_clean → ToldTablesAre inner (LeavesOnly g left.1) × FailsToCloseOpen inner left.1 left.0
 
--- the end of a call over a keeper with this opener: the keeper, over which the call ended so, and what is left of it
+-- the end of a call over a keeper with this opener: the keeper, stopped if and only if the status is 5, over which, if it is
+-- honest, the call ended so for the tables that the files held initially; and what is left of it
 pub record CallEnd {A O : Type 0} (first : FilesOf O) (g : store.Ghosts A)
     (Ends : Tables → (ℤ → Type 0) → (Tables → Type 0) → (Tables → Type 0) → Type 0)
     (status : ℕ) (IsLeft : Inner A O g → Type 0) : Type 0 where
@@ -45,8 +46,8 @@ pub record CallEnd {A O : Type 0} (first : FilesOf O) (g : store.Ghosts A)
   pub stopped : (is_stopped inner ≡ true) ↔ (status ≡ 5)
   pub left : IsLeft inner
 
--- the end of a session over files that held this at first: the keeper, over which the call ended so, what its close gave, and
--- whether it comes back
+-- the end of a session over files: a keeper that has stopped if and only if the status is 5, over which, if it is honest, the
+-- call ended so for the tables that the files held initially; what its close gave; and whether it is returned
 pub record SessionEnd {S D : Type 0} {g : Ghosts D} (held : start.Ghosts S)
     (Ends : Tables → (ℤ → Type 0) → (Tables → Type 0) → (Tables → Type 0) → Type 0)
     (status : ℕ) (closed : Option (Result (Option (Files D)) (Error × FileStore D g)))

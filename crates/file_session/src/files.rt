@@ -120,7 +120,7 @@ pub fn run_to_close<'a, C: StoreProgram, I: Peer<K>, K: Sink, S: Start, L: Ledge
         (((result.0 ≡ 2) ⊎ (result.0 ≡ 7)) × (place_of keeper.inner ≡ [])) ⊎ IsInMemory (C.place words.now)) }
     ensures refused { result.0 ≡ 2 → result.1 ≡ Some (Ok None) }
 
-    // How the call ended over the tables that the files held at first, and what the close left of those that it told.
+    // How the call ended over the tables that the files held initially, and what the close left of those that it told.
     ensures end { SessionEnd S.Start (λ t versions tells leaves.
         C.ends_over words.now result.0 (I.left source.old) (I.left source.new) (K.out sink.old) (K.out sink.new)
         (I.was_asked source.old) (I.was_asked source.new)

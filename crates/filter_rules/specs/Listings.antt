@@ -33,6 +33,6 @@ abbrev pub sorted_by : {X : Type 0} → (X → X → Bool) → List X → List X
 sorted_by above [] = []
 sorted_by above (x ∷ xs) = put_by above x (sorted_by above xs)
 
--- the entries, each with the rating of its document, in order
+-- the entries of a box with their ratings, by priority from the greatest, then first second, then number
 abbrev pub listing_of : List Rule → List Doc → List Entry → List Listed
 listing_of rules docs entries = sorted_by is_above (map (rated_entry rules docs) entries)

@@ -23,10 +23,10 @@ abbrev pub first_class : List Rule → List ℕ
 first_class [] = codes "other"
 first_class (rule ∷ rules) = rule.class
 
--- a document's priority: the greatest of the rules that hold for it
+-- the greatest priority of the rules that hold; 0 if none holds
 abbrev pub priority_of : List Rule → Doc → ℕ
 priority_of rules doc = greatest (map (λ rule. rule.priority) (holding rules doc))
 
--- a document's class: that of the first rule that holds for it
+-- the class of the first rule that holds; `other` if none holds
 abbrev pub class_of : List Rule → Doc → List ℕ
 class_of rules doc = first_class (holding rules doc)

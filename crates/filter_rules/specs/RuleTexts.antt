@@ -28,7 +28,8 @@ abbrev pub rules_at : List (ℕ × List ℕ) → Result (List Rule) RuleFault
 rules_at [] = Ok []
 rules_at (line ∷ lines) = with_rule line.0 (rule_of line.1) (rules_at lines)
 
--- the rules of a text, or its first fault; more than 64 lines of rules come before any fault of a line
+-- the rules of a text, a line each, or its first fault; more than 64 rules are a fault before any of a line; blank lines and
+-- comments are no rules
 abbrev pub rules_of : List ℕ → Result (List Rule) RuleFault
 rules_of text = if nat_le (length (rule_lines text)) 64 then rules_at (rule_lines text) else Err ManyRules
 

@@ -63,7 +63,6 @@ fn read_line(
     }
 }
 
-// Reads the rules of the lines.
 fn read_lines(alloc: Global, text: &[u8]) -> Result<Rules, RuleFault>
     ensures rules { ReadsRules (rules_at (rule_lines text.now)) result }
     ensures within { IfErr result (λ fault. IsWithin (length text.now) fault) }

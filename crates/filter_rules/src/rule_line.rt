@@ -85,7 +85,6 @@ fn is_this_word(kind: &Kind, name: &[u8]) -> bool
     }
 }
 
-// Returns the number of a token, if it is one.
 fn number_in_token(kind: &Kind) -> Option<i64>
     ensures { result ≡ number_in_token kind.now }
 {
@@ -95,7 +94,6 @@ fn number_in_token(kind: &Kind) -> Option<i64>
     }
 }
 
-// Returns the text of a token, if it is one.
 fn text_in_token(kind: &Kind) -> Option<&Text>
     ensures { option_copied result ≡ text_in_token kind.now }
 {

@@ -120,6 +120,6 @@ step_text step = var_text step.var ++ codes ": " ++ text_of_table step.table ++ 
 abbrev pub probe_line : Probe → List ℕ
 probe_line p = codes "OVER " ++ joined (codes ", ") step_text p.path ++ codes " AT " ++ term_text p.at ++ codes " WHERE " ++ body_text p.body
 
--- a line for each probe
+-- the lines of `explain`, one for each probe
 abbrev pub explain_lines : List Probe → List (List ℕ)
 explain_lines X = map probe_line X

@@ -76,7 +76,6 @@ fn put_path(alloc: Global, path: &[Step], into: &mut Text) -> Result<(), Memory>
     }
 }
 
-// Returns the line of a probe.
 fn probe_line(alloc: Global, pool: &Pool<TNode>, probe: &Probe) -> Result<Text, Memory>
     requires { IsPlaceOf pool.now probe.now.body.0 }
     ensures { IfOk result (λ line. line ≡ probe_line (probe_in pool.now probe.now)) }

@@ -10,7 +10,6 @@ use tap_base::{Memory, Op, Text, put_decimal};
 use tql_core::{Atom, Base, ListField, NumExpr, NumField, Term, TextExpr, TextField, Var};
 use tql_tree::{name_of_op, put_quoted};
 
-// Returns the name of a number field.
 fn name_of_number(field: NumField) -> &'static [u8]
     ensures { result.now ≡ num_field_text field }
 {
@@ -22,7 +21,6 @@ fn name_of_number(field: NumField) -> &'static [u8]
     }
 }
 
-// Returns the name of a text field.
 fn name_of_text(field: TextField) -> &'static [u8]
     ensures { result.now ≡ text_field_text field }
 {
@@ -37,7 +35,6 @@ fn name_of_text(field: TextField) -> &'static [u8]
     }
 }
 
-// Returns the name of a list field.
 fn name_of_list(field: ListField) -> &'static [u8]
     ensures { result.now ≡ list_field_text field }
 {

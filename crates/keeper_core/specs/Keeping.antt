@@ -8,12 +8,12 @@ use Rattle.tap_rows.specs.WellFormed.{is_well_formed}
 use Rattle.keeper_core.specs.declared.fault.AttachFault.{AttachFault}
 use Rattle.keeper_core.specs.declared.fault.AttachFault.TheVariants.{Alien, Failed, Memory}
 
--- a keeper tells these tables, and a crash leaves these alone
+-- a keeper tells these tables, and a crash leaves exactly these
 pub record IsDurable (tells leaves : Tables → Type 0) (tables : Tables) : Type 0 where
   pub told : tells tables
   pub alone : (x : Tables) → leaves x → x ≡ tables
 
--- the change has rows, and they stand in order behind those of well formed tables
+-- the change has rows, and they stand in order behind those of well-formed tables; for such a change a commit promises its rows
 pub record AddsRowsTo (change : Change) (tables : Tables) : Type 0 where
   pub formed : is_well_formed tables ≡ true
   pub fits : fits tables change ≡ true

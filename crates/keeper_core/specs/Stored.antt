@@ -53,7 +53,7 @@ abbrev pub stopped_with : Tables → Stored → Stored
 stopped_with left keeper =
     record keeper { left = left; calls = next_count keeper.calls; stopped = true; faults = next_count keeper.faults }
 
--- the keeper after an attach at a place
+-- a keeper in memory after an attach, by what its plan says of that call
 abbrev pub attached_at : List ℕ → Option Bool → Stored → Stored
 attached_at place (Some kept) keeper = stopped_with keeper.left (record keeper { place = place })
 attached_at place None keeper =
@@ -69,7 +69,7 @@ abbrev pub attach_answer : Option Bool → Stored → Result Tables AttachFault
 attach_answer (Some kept) keeper = Err Failed
 attach_answer None keeper = if is_attachable keeper.version then Ok keeper.tables else Err (Alien keeper.version)
 
--- the keeper after a commit
+-- a keeper in memory after a commit, by what its plan says of that call
 abbrev pub committed : Change → Option Bool → Stored → Stored
 committed change (Some kept) keeper = stopped_with (left_by kept keeper.tables change) keeper
 committed change None keeper =

@@ -33,7 +33,7 @@ use tap_rows::{Change, Tables};
 ///
 /// - free: they are the tables that an attach returns, and a crash in or after an attach leaves them.
 /// - attached: they are the tables that the attach returned, with the rows of each committed change, and a crash
-///   leaves them alone.
+///   leaves exactly these.
 /// - stopped: a crash leaves the tables of before the call that failed, or those with all rows of its change.
 ///
 /// A keeper may tell tables once it is attached that told none before. By `answered` they are those that the attach
@@ -58,7 +58,7 @@ pub trait Keeper {
     // A call has failed.
     ghost stopped: { Self → Bool };
 
-    // The place that it is attached at, empty at first.
+    // The path that it is attached to, initially empty.
     ghost place: { Self → List ℕ };
 
     // How often the store has failed.

@@ -20,7 +20,7 @@ pub struct KeepPlan {
     pub kept: bool,
 }
 
-/// Keeps tables in memory. Its calls fail as a plan says.
+/// Stores tables in memory. Its calls fail as planned.
 #[derive(Drop)]
 pub struct MemKeeper {
     tables: Tables,

@@ -37,7 +37,7 @@ module _ {D : Type 0} {g : Ghosts D} (was : Held (FileStore D g)) (settled : Sho
       let is_open = is_told_open b (file_state was) t told in
       ap tables_of (leaves_commit was stays is_open (ap (λ (d : Database). d.trees) (settled is_open)) db (closed.quiet.outcomes db may)) ∙ sym (told_trees b (file_state was) t told)
 
--- ---- and so the next session is told what the earlier one kept
+-- ---- and so the next session finds what the earlier one stored
 
 pub whole_tells : (image : Image) (t : Tables) → HoldsWhole image t → ImageTells image t
 whole_tells image t whole = inl (record { db = whole.db; holds = whole.holds.both; ours = whole.ours; tables = whole.tables })

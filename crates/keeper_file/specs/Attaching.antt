@@ -39,7 +39,7 @@ module _ {A O : Type 0} (files : FilesOf O) (g : Ghosts A) where
     pub migrated : result ≡ Err fault.Memory → IsHonest files g new → (w : ℤ) → HasVersion files g old w
         → HasVersion files g new w ⊎ ((w ≡ pos 1) × HasVersion files g new (pos 2))
 
-  -- while no store is open after it, the keeper tells what it told before, and a crash leaves that alone
+  -- while no store is open after it, the keeper tells what it told before, and a crash leaves exactly that
   abbrev pub SparesFiles : Inner A O g → Inner A O g → Type 0
   SparesFiles old new = is_open new ≡ false → IsHonest files g new → (t : Tables) → Tells files g old t
       → IsDurable (Tells files g new) (MayLeave files g new) t

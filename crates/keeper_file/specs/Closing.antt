@@ -38,6 +38,6 @@ module _ {D : Type 0} (g : Ghosts D) where
     pub left : outcomes g files.log files.db image
     pub is : copy ≡ record image { log = [] }
 
-  -- a crash leaves these tables alone
+  -- a crash of what is left of a store leaves exactly these tables
   abbrev pub LeavesOnly : FileStore D g → Tables → Type 0
   LeavesOnly store t = (db : Trees) → recovers store db → tables_of db ≡ t

@@ -20,7 +20,7 @@ module _ {D O : Type 0} {g : Ghosts D} where
   FailsToCloseOpen (Memory m) last e = ⊥
   FailsToCloseOpen (File k) last e = FailsToClose k.connection last e
 
--- an attach answers an error so: out of memory by that, any other by a failure
+-- an attach returns an error so: out of memory by that, any other by a failure
 abbrev pub IsAnsweredBy : Error → AttachFault → Type 0
 IsAnsweredBy e fault.Memory = e ≡ SqliteFailure OutOfMemory
 IsAnsweredBy e fault.Failed = e ≢ SqliteFailure OutOfMemory

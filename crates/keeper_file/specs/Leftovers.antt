@@ -19,13 +19,13 @@ abbrev pub HasNoSums : Image → Type 0
 HasNoSums image = (db : Trees) (held : HoldsDatabase image db) → reserved held.0 ≡ 0
 
 module _ {D : Type 0} {g : Ghosts D} where
-  -- a crash of what is left may leave these tables
+  -- a crash of what a failed open left of the files may leave these tables
   abbrev pub LeftTells : Leftover D g → Tables → Type 0
   LeftTells (left.Files now) t = (image : Image) × outcomes g now.log now.db image × ImageTells image t
   LeftTells (left.Unopened now) t = (image : Image) × (state_of now).may_leave image × ImageTells image t
   LeftTells (left.Store now) t = (db : Trees) × recovers now db × (t ≡ tables_of db)
 
-  -- if the disk was honest, a crash of what is left leaves no other tables than the files held
+  -- if the disk was honest and no pages end in sums, that crash leaves no other tables than the files held
   abbrev pub Spares : Image → Leftover D g → Type 0
   Spares image left = IsCleanLeft left → HasNoSums image → (t : Tables) → ImageTells image t → (x : Tables) → LeftTells left x → x ≡ t
 

@@ -2,8 +2,8 @@
 use Rattle.tap_rows.specs.declared.tables.Tables.{Tables}
 use Rattle.sqlite_wal.specs.Recovery.{Image}
 
--- what the files held before they were opened, when they have returned what was written to them, and the tables that a crash may
--- leave, also after an open that failed
+-- what an opener says of its files: what they held initially, whether they returned what was written, and what a crash of them
+-- may leave
 pub record FilesOf (O : Type 0) : Type 1 where
   pub image : Image
   pub clean : O → Type 0

@@ -40,7 +40,7 @@ impl<'a, S: Start> PathOpener<'a, S, FileFrom<S>> {
     }
 }
 
-// Returns what an attach answers that met this error.
+// Gives what an attach returns that met this error.
 fn fault_of(error: &Error) -> AttachFault
     ensures kind { (result ≡ AttachFault.Memory) ⊎ (result ≡ AttachFault.Failed) }
     ensures by_error { IsAnsweredBy error.now result }

@@ -60,13 +60,13 @@ create_texts = create_meta ∷ create_docs ∷ create_notes ∷ create_queries �
 abbrev pub IsShortage : Error → Type 0
 IsShortage e = e ≡ SqliteFailure OutOfMemory
 
--- the error of a row that has no value of this type in this column
+-- the error names a column of a row that isn't there or has another type than the one asked for
 abbrev pub Lacks : SqlType → Row → ℕ → Error → Type 0
 Lacks kind row at e =
     ((length row ≤ at) × (e ≡ InvalidColumnIndex at))
     ⊎ ((at < length row) × (type_of (column row at) ≢ kind) × (e ≡ InvalidColumnType at (type_of (column row at))))
 
--- a value of this type was not taken from a column of the row
+-- a value was not taken from a row: out of memory, or the row lacks it
 abbrev pub FailsToTake : SqlType → Row → ℕ → Error → Type 0
 FailsToTake kind row at e = IsShortage e ⊎ Lacks kind row at e
 
@@ -119,11 +119,11 @@ pub record GoesOn {S : Type 0} (g : Ghosts S) (old mid : Held S) : Type 0 where
   pub committed : (state g mid).committed ≡ (state g old).committed
 
 module _ {S : Type 0} (g : Ghosts S) (old new : Held S) where
-  -- after a call that succeeds the transaction goes on
+  -- after a call in a transaction that succeeds, the transaction goes on, if the disk is honest after it
   abbrev pub ReachesOnSuccess : {T : Type 0} → Result T Error → Type 0
   ReachesOnSuccess result = HasCleanDisk (state g new) → IsTrue (state g old).in_transaction → OnOk result (GoesOn g old new)
 
-  -- a call in a transaction that fails does so by this, between the states before and after it
+  -- if the disk is honest after it, a call in a transaction that fails does so by this
   abbrev pub FailsBy : {T : Type 0} → Result T Error → (State → State → Error → Type 0) → Type 0
   FailsBy result How = HasCleanDisk (state g new) → IsTrue (state g old).in_transaction → IfErr result (How (state g old) (state g new))
 
@@ -186,12 +186,14 @@ module _ {S : Type 0} (g : Ghosts S) (old new : Held S) where
       (end : Held S) × (version : ℤ) × HasUnknownVersion (state g old).now version
       × Survives (state g old) (state g end) (IsAfterOpen (state g old)) × FailsAtTest (state g end) (state g new)
 
--- a commit of a change failed: by memory, and the store is unchanged since; or otherwise
+-- why a change wasn't committed: `Memory` if a statement or the commit was out of memory and nothing changed since; `Failed` if
+-- one failed otherwise
 abbrev pub FailsToKeep : {S : Type 0} → Ghosts S → Held S → Held S → Change → CommitFault → Type 0
 FailsToKeep g old new change Memory = FailsByMemory g old new (FailsToInsertRows change)
 FailsToKeep g old new change Failed = FailsOtherwise g old new (FailsToInsertRows change)
 
--- an open failed: by memory, and the store is unchanged since; or otherwise, or after it had found a version that isn't known
+-- why a store wasn't opened: `Memory` and `Failed` as for a change; also `Failed` if an unknown version was found before the
+-- store failed
 abbrev pub FailsToAttach : {S : Type 0} → Ghosts S → Held S → Held S → AttachFault → Type 0
 FailsToAttach g old new attach.Memory = FailsByMemory g old new FailsToOpenStore
 FailsToAttach g old new attach.Failed = FailsOtherwise g old new FailsToOpenStore ⊎ FailsAfterAlien g old new

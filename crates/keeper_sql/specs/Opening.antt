@@ -12,17 +12,18 @@ use Rattle.keeper_sql.specs.Store.{OpensTo, OpensAt, AreAllKeyed, IsAtVersion}
 use Rattle.sqlite.specs.Effect.{Database}
 use Rattle.sqlite.specs.declared.error.Error.{Error}
 
--- the store is open in the transaction, and its tables are these; or it has this version
+-- an open gave the tables of a store that has version 2 now (`OpensTo`), or found another version, while the transaction goes on
 abbrev pub IsOpened : State → State → Opened → Type 0
 IsOpened old new (Held tables) = OpensAt (pos 2) old new × (AreAllKeyed new.now → tables ≡ tables_in new.now.trees)
 IsOpened old new (Alien version) = OpensAt version old new
 
--- if the database has the store's tables, in order of their keys, these are their rows, and the version is 2
+-- if the database has the store's tables in order of their keys, the tables that were read are theirs, and if it has one version
+-- at most, that is 2
 pub record AreRead (db : Database) (tables : Tables) : Type 0 where
   pub rows : db.schema ≡ store_schema → AreAllKeyed db → tables ≡ tables_in db.trees
   pub version : IsAtVersion db (pos 2)
 
--- the tables that were opened are those
+-- the same of an open; nothing is said if it found another version
 abbrev pub IsRead : Database → Opened → Type 0
 IsRead db (Held tables) = AreRead db tables
 IsRead db (Alien version) = Unit {0}
@@ -32,7 +33,7 @@ abbrev pub IsRefusedAt : Opened → Type 0
 IsRefusedAt (Held tables) = Unit {0}
 IsRefusedAt (Alien version) = (version ≢ pos 1) × (version ≢ pos 2)
 
--- the store was opened so, and that was committed; or it has this version
+-- the same, after the commit
 abbrev pub IsStored : State → State → Opened → Type 0
 IsStored old new (Held tables) =
     IsTrue old.is_open × IsTrue new.is_open × (new.committed ≡ new.now) × OpensTo (pos 2) old.now new.now
@@ -45,7 +46,7 @@ UnlessHeld (Ok (Held tables)) P = Unit {0}
 UnlessHeld (Ok (Alien version)) P = P
 UnlessHeld (Err e) P = P
 
--- the store was opened so
+-- an open gave the tables of a store that has version 2 now (`OpensTo`), or found another version
 abbrev pub IsOpenedWithTables : State → State → Tables → Type 0
 IsOpenedWithTables old new tables = IsStored old new (Held tables)
 

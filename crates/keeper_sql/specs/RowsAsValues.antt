@@ -22,21 +22,27 @@ use Rattle.sqlite_catalog.specs.Listing.{is_table_row}
 
 -- ---- as a statement is given them
 
+-- a document as a statement is given it
 abbrev pub given_doc : Doc → Row
 given_doc d = Int (pos d.num.0) ∷ Int d.arrival ∷ Blob d.text ∷ []
 
+-- a note as a statement is given it
 abbrev pub given_note : Note → Row
 given_note n = Int (pos n.num.0) ∷ Int (pos n.doc.0) ∷ Blob n.author ∷ Blob n.kind ∷ Int n.value ∷ Int n.arrival ∷ Blob n.text ∷ []
 
+-- a query as a statement is given it
 abbrev pub given_query : QueryRow → Row
 given_query q = Int (pos q.num.0) ∷ Blob q.owner ∷ Blob q.name ∷ Blob q.source ∷ Int q.arrival ∷ []
 
+-- a run as a statement is given it
 abbrev pub given_run : RunRow → Row
 given_run r = Int (pos r.num) ∷ Int (pos r.query.0) ∷ Int r.moment ∷ []
 
+-- a pick as a statement is given it
 abbrev pub given_pick : Pick → Row
 given_pick p = Int (pos p.num) ∷ Int (pos p.query.0) ∷ Int (pos p.run) ∷ Int (pos p.doc.0) ∷ Int p.first ∷ []
 
+-- a filter as a statement is given it
 abbrev pub given_filter : FilterRow → Row
 given_filter f = Int (pos f.num) ∷ Blob f.owner ∷ Blob f.source ∷ Int f.arrival ∷ []
 
@@ -70,9 +76,11 @@ bytes_of (Int n) = []
 bytes_of (Real x) = []
 bytes_of (Text t) = []
 
+-- a document as it is read: a number that is out of range is read as 0, a value of another type as 0 or as no bytes
 abbrev pub doc_in : Row → Doc
 doc_in r = record { num = record { 0 = number_in_value (column r 0) }; arrival = integer_of (column r 2); text = bytes_of (column r 3) }
 
+-- a note as it is read, by the same rules as a document
 abbrev pub note_in : Row → Note
 note_in r = record {
   num = record { 0 = number_in_value (column r 0) };
@@ -84,6 +92,7 @@ note_in r = record {
   text = bytes_of (column r 7);
 }
 
+-- a query as it is read, by the same rules as a document
 abbrev pub query_in : Row → QueryRow
 query_in r = record {
   num = record { 0 = number_in_value (column r 0) };
@@ -93,9 +102,11 @@ query_in r = record {
   arrival = integer_of (column r 5);
 }
 
+-- a run as it is read, by the same rules as a document
 abbrev pub run_in : Row → RunRow
 run_in r = record { num = number_in_value (column r 0); query = record { 0 = number_in_value (column r 2) }; moment = integer_of (column r 3) }
 
+-- a pick as it is read, by the same rules as a document
 abbrev pub pick_in : Row → Pick
 pick_in r = record {
   num = number_in_value (column r 0);
@@ -105,6 +116,7 @@ pick_in r = record {
   first = integer_of (column r 5);
 }
 
+-- a filter as it is read, by the same rules as a document
 abbrev pub filter_in : Row → FilterRow
 filter_in r = record { num = number_in_value (column r 0); owner = bytes_of (column r 2); source = bytes_of (column r 3); arrival = integer_of (column r 4) }
 
@@ -232,6 +244,7 @@ only tree rows t = if t == tree then rows else []
 abbrev pub appended_rows : (ℕ → List Row) → (ℕ → List Row) → ℕ → List Row
 appended_rows first second t = first t ++ second t
 
+-- the rows of a change, by the tree into which they are put
 abbrev pub added_rows : Change → ℕ → List Row
 added_rows (Docs docs) = only 1 (map (λ d. as_kept (given_doc d)) docs)
 added_rows (OneNote note) = only 2 (as_kept (given_note note) ∷ [])

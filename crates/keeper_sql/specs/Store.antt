@@ -18,7 +18,7 @@ abbrev pub put_all : List Row → List Row → List Row
 put_all [] tree = tree
 put_all (row ∷ rows) tree = put_all rows (put_row row tree)
 
--- these rows were put into the trees of the store
+-- rows were put into the trees
 pub record Puts (rows : ℕ → List Row) (old new : Database) : Type 0 where
   pub sound : IsDatabase old → IsDatabase new
   pub schema : new.schema ≡ store_schema
@@ -35,7 +35,7 @@ abbrev pub AreEmpty : ℕ → ℕ → Trees → Type 0
 AreEmpty zero tree db = Unit {0}
 AreEmpty (suc n) tree db = (db tree ≡ []) × AreEmpty n (tree + 1) db
 
--- so many of the tables are made, and empty
+-- that many of the tables are made, and empty
 pub record IsMade (made : Schema) (tables : ℕ) (db : Database) : Type 0 where
   pub schema : db.schema ≡ made
   pub empty : AreEmpty tables 0 db.trees
@@ -46,10 +46,11 @@ pub record IsMade (made : Schema) (tables : ℕ) (db : Database) : Type 0 where
 abbrev pub meta_row : ℤ → Row
 meta_row version = Int (pos 1) ∷ Null ∷ Int version ∷ []
 
+-- the version's row, or none yet
 abbrev pub IsMeta : List Row → Type 0
 IsMeta rows = (rows ≡ []) ⊎ ((version : ℤ) × (rows ≡ meta_row version ∷ []))
 
--- if the database has the store's tables and one version at most, it has this version
+-- a store with one version at most has this one
 abbrev pub IsAtVersion : Database → ℤ → Type 0
 IsAtVersion db version = db.schema ≡ store_schema → IsMeta (db.trees 0) → db.trees 0 ≡ meta_row version ∷ []
 
@@ -67,7 +68,7 @@ pub record WritesVersion (version : ℤ) (old new : Database) : Type 0 where
 
 -- ---- within a transaction
 
--- the transaction goes on, and these rows were put
+-- if the database has the store's tables, these rows were put into them, and the transaction goes on
 pub record RowsWritten (rows : ℕ → List Row) (old new : State) : Type 0 where
   pub was_open : IsTrue new.is_open → IsTrue old.is_open
   pub is_open : IsTrue old.is_open → IsTrue new.is_open
@@ -75,7 +76,7 @@ pub record RowsWritten (rows : ℕ → List Row) (old new : State) : Type 0 wher
   pub committed : new.committed ≡ old.committed
   pub puts : old.now.schema ≡ store_schema → Puts rows old.now new.now
 
--- the transaction goes on, and tables that weren't there were made; if all were there, nothing is changed
+-- empty tables that were missing were made, if those that were there were empty; if all were there, nothing changed
 pub record Makes (before : Schema) (n : ℕ) (after : Schema) (m : ℕ) (old new : State) : Type 0 where
   pub was_open : IsTrue new.is_open → IsTrue old.is_open
   pub is_open : IsTrue old.is_open → IsTrue new.is_open
@@ -92,7 +93,7 @@ pub record Raises (old new : State) : Type 0 where
   pub committed : new.committed ≡ old.committed
   pub writes : old.now.schema ≡ store_schema → IsMeta (old.now.trees 0) → WritesVersion (pos 2) old.now new.now
 
--- the transaction goes on over a store with this version: 2 if it was 1 or none, else unchanged
+-- the version is now `version`: before, it was `version`, or it was 1 or absent and `version` is 2; nothing else changed
 pub record Settles (version : ℤ) (old new : State) : Type 0 where
   pub was_open : IsTrue new.is_open → IsTrue old.is_open
   pub is_open : IsTrue old.is_open → IsTrue new.is_open
@@ -102,7 +103,7 @@ pub record Settles (version : ℤ) (old new : State) : Type 0 where
   pub was : (w : ℤ) → old.now.trees 0 ≡ meta_row w ∷ [] → (w ≡ version) ⊎ ((w ≡ pos 1) × (version ≡ pos 2))
   pub fresh : old.now.trees 0 ≡ [] → version ≡ pos 2
 
--- a statement was refused, or a failure ended the transaction: nothing is committed
+-- a store that is open was open before and has the same last commit, as after a refused statement
 pub record Undone (old new : State) : Type 0 where
   pub was_open : IsTrue new.is_open → IsTrue old.is_open
   pub committed : IsTrue new.is_open → new.committed ≡ old.committed
@@ -123,7 +124,7 @@ pub record IsAfter (change : Change) (old : State) (trees : Trees) : Type 0 wher
   pub puts : old.now.schema ≡ store_schema → Puts (added_rows change) old.now db
   pub is : trees ≡ db.trees
 
--- a crash leaves these trees alone
+-- a crash leaves exactly these trees
 abbrev pub LeavesOnlyTrees : State → Trees → Type 0
 LeavesOnlyTrees s db = (trees : Trees) → s.may_leave trees → trees ≡ db
 
@@ -153,7 +154,8 @@ pub record AreAllKeyed (db : Database) : Type 0 where
 abbrev pub IsOurs : Database → Type 0
 IsOurs db = ((db.schema ≡ store_schema) × IsMeta (db.trees 0)) ⊎ (db.schema ≡ no_schema)
 
--- a store with all its tables and this version was made of a database of this program
+-- the database has the store's tables and this version: it had them, and its version was this one, or absent or 1 for 2; or it
+-- had no table, and now has no rows and version 2
 pub record OpensTo (version : ℤ) (old new : Database) : Type 0 where
   pub schema : new.schema ≡ store_schema
   pub meta : new.trees 0 ≡ meta_row version ∷ []
@@ -202,7 +204,7 @@ pub record TellsNone (s : State) (t : Tables) : Type 0 where
   pub schema : s.now.schema ≡ no_schema
   pub tables : t ≡ tables_of s.now.trees
 
--- before the store is attached, it may have no tables yet
+-- once it is attached, an open and clean store with these tables; before that it may also have no table
 abbrev pub TellsAs : Bool → State → Tables → Type 0
 TellsAs true s t = Tells s t
 TellsAs false s t = Tells s t ⊎ TellsNone s t
@@ -211,7 +213,7 @@ TellsAs false s t = Tells s t ⊎ TellsNone s t
 abbrev pub MayLeave : State → Tables → Type 0
 MayLeave s t = (db : Trees) × s.may_leave db × (t ≡ tables_of db)
 
--- it tells this version
+-- an open store of an honest disk has this version: that of its row, or 2 if it has no table
 pub record HasVersion (s : State) (v : ℤ) : Type 0 where
   pub clean : HasCleanDisk s
   pub is_open : IsTrue s.is_open

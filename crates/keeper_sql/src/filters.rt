@@ -28,7 +28,6 @@ fn filter_values(filter: &FilterRow) -> [ValueRef<'_>; 4]
     ]
 }
 
-/// Inserts the row of a filter.
 pub fn insert_filter<S: Alter>(tx: &mut Transaction<'_, S>, filter: &FilterRow) -> Result<(), Error>
     ensures same_reference { tx.new.conn.ghost_name ≡ tx.old.conn.ghost_name }
     ensures ok { Does S.Store tx.old.conn.now tx.new.conn.now result (RowsWritten (only 6 (as_kept (given_filter filter.now) ∷ []))) }

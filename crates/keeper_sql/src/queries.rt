@@ -29,7 +29,6 @@ fn query_values(query: &QueryRow) -> [ValueRef<'_>; 5]
     ]
 }
 
-/// Inserts the row of a query.
 pub fn insert_query<S: Alter>(tx: &mut Transaction<'_, S>, query: &QueryRow) -> Result<(), Error>
     ensures same_reference { tx.new.conn.ghost_name ≡ tx.old.conn.ghost_name }
     ensures ok { Does S.Store tx.old.conn.now tx.new.conn.now result (RowsWritten (only 3 (as_kept (given_query query.now) ∷ []))) }

@@ -27,7 +27,6 @@ fn run_values(run: &RunRow) -> [ValueRef<'_>; 3]
     ]
 }
 
-/// Inserts the row of a run.
 pub fn insert_run<S: Alter>(tx: &mut Transaction<'_, S>, run: &RunRow) -> Result<(), Error>
     ensures same_reference { tx.new.conn.ghost_name ≡ tx.old.conn.ghost_name }
     ensures ok { Does S.Store tx.old.conn.now tx.new.conn.now result (RowsWritten (only 4 (as_kept (given_run run.now) ∷ []))) }

@@ -202,7 +202,7 @@ fn printed(rt: HostRuntime) {
     );
 }
 
-// Adds a text so many times.
+// Adds a text that many times.
 fn repeat(text: &mut Vec<u8>, part: &[u8], n: usize) -> Result<(), Fail> {
     for _ in 0..n {
         text.extend_from_slice(part)?;
@@ -210,14 +210,14 @@ fn repeat(text: &mut Vec<u8>, part: &[u8], n: usize) -> Result<(), Fail> {
     Ok(())
 }
 
-// Adds a text behind so many of another.
+// Adds a text behind that many of another.
 fn push_behind(text: &mut Vec<u8>, part: &[u8], n: usize, last: &[u8]) -> Result<(), Fail> {
     repeat(text, part, n)?;
     text.extend_from_slice(last)?;
     Ok(())
 }
 
-// Returns what reading a text comes to that is these parts, the middle so many times.
+// Returns what reading a text comes to that is these parts, the middle that many times.
 fn read_parts(
     alloc: Global,
     first: &[u8],

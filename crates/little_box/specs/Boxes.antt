@@ -17,7 +17,7 @@ abbrev pub is_set : Option Bool → Bool
 is_set None = false
 is_set (Some b) = b
 
--- the documents that are delivered are marked, at the places of their numbers; they are distinct, and a number of 32 bits counts them
+-- the marks of a box are those of the documents that are delivered, each once, and a number of 32 bits counts them
 pub record IsBox (entries : List Entry) (delivered : List Bool) : Type 0 where
   pub marked : (n : ℕ) → is_set (slice_get delivered n) ≡ is_in n entries
   pub distinct : AreDistinct entries

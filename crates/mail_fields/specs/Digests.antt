@@ -38,7 +38,7 @@ from_quoted line = if is_from_line (drop (quotes line) line) then 62 ∷ line el
 abbrev pub from_line : ℕ → ℤ → List ℕ
 from_line doc first = codes "From doc " ++ decimal doc ++ codes " first " ++ signed_decimal first
 
--- the lines of a document: its `From ` line, the lines of its text, quoted, and an empty line
+-- the lines of a document: its `From ` line with its number and first second, the lines of its text, quoted, and an empty line
 abbrev pub digested_lines : Digested → List (List ℕ)
 digested_lines d = from_line d.doc d.first ∷ map from_quoted (lined d.text) ++ [] ∷ []
 

@@ -48,7 +48,7 @@ pub(crate) fn number_at_most(most: u32, part: &[u8]) -> Option<u32>
     }
 }
 
-// Returns the year that a number of so many digits means (RFC 5322 4.3).
+// Returns the year that a number of that many digits means (RFC 5322 4.3).
 fn full(digits: usize, n: u32) -> u32
     requires small { n < 10 ^ digits }
     requires below { n < 10000 }

@@ -63,7 +63,6 @@ fn write_filled(into: &mut Text, line: &[u8]) -> Result<(), Memory>
     into.push_slice(b"\n")
 }
 
-// Returns the text from the next message on.
 fn next_message(text: &[u8]) -> &[u8]
     ensures same { messages_from true (lines result.now) ≡ messages_from true (lines text.now) }
     ensures start { at_message (lines result.now) ≡ true }

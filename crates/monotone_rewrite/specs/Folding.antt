@@ -77,7 +77,8 @@ fold_exists No v t x = Never
 fold_exists Yes v t x = Exists v t x
 fold_exists Open v t x = Exists v t x
 
--- a body at the term, folded from the leaves up
+-- a body with comparisons of shifts of one base settled, if the base is an arrival, a fixed second or the mark's own, and the
+-- truths that this gives worked in
 abbrev pub fold : Term → Condition → Condition
 fold at Always = Always
 fold at Never = Never

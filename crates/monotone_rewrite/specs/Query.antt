@@ -25,7 +25,7 @@ probe_of c mark = record { path = mark.path; at = mark.at; body = body c mark.at
 abbrev pub unfolded : Condition → ℤ → List Probe
 unfolded c a = map (probe_of c) (rising_from c a)
 
--- the window query: folded, and without the probes whose body folded to false
+-- the window query: one probe for each rising mark, folded, without those whose body has become FALSE
 abbrev pub window : Condition → ℤ → List Probe
 window c a = filter can_find (map fold_probe (unfolded c a))
 
@@ -34,7 +34,7 @@ pub record CanRewrite (c : Condition) : Type 0 where
   pub scoped : IsQuery c
   pub bounded : are_bounded c ≡ true
 
--- the condition can be rewritten for the seconds from the start on, which is a moment
+-- what the rewriting needs: the condition is a query with bounded times, and the start is a moment
 pub record CanRewriteFrom (c : Condition) (start : ℤ) : Type 0 where
   pub query : CanRewrite c
   pub from_zero : pos 0 ≤ℤ start

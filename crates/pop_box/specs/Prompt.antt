@@ -10,7 +10,8 @@ abbrev pub IsBoxUpToDate : Option (List Letter) → List ℕ → List ℕ
 IsBoxUpToDate None user secret left left' out out' = ⊥
 IsBoxUpToDate (Some letters) user secret left left' out out' = IsSessionUpToDate user secret letters left left' out out'
 
--- the source was asked for more only while the session was up to date
+-- whenever a POP3 session asked for more, exactly the greeting and the replies to the complete requests were out, and no QUIT
+-- among these was accepted
 abbrev pub AskedUpToDate : Option (List Letter) → List ℕ → List ℕ → Option (List ℕ) → Option (List ℕ)
     → (Option (List ℕ) → Option (List ℕ) → Type 0) → (Option (List ℕ) → Option (List ℕ) → Type 0) → Type 0
 AskedUpToDate found user secret left out asked asked' = AskedOnlyWhen (λ l o. IsBoxUpToDate found user secret left l out o) asked asked'

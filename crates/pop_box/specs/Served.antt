@@ -9,7 +9,7 @@ use Rattle.pop_session.specs.declared.hold.TheConstants.{SESSION_LIMIT, PIECE}
 use Rattle.pop_session.specs.Sessions.{has_quit}
 use Rattle.pop_session.specs.Ends.{IsSession, LettersEnd, TookBytes}
 
--- the line that says that there is no such box
+-- the line `-ERR box` and CRLF
 abbrev pub box_line : List ℕ
 box_line = crlf_line (codes "-ERR box")
 
@@ -25,7 +25,8 @@ pub record NoBox (status : ℕ) (left left' out out' : Option (List ℕ)) : Type
   pub unread : left' ≡ left
   pub line : BoxLine status out out'
 
--- the box was found, and a session over its letters was held; or there is none, and the line says so
+-- the box was found, and a session over its letters ended; or there is none, and the line says so, or a front of it, and nothing
+-- was read
 abbrev pub BoxServed : ℕ → Option (List Letter) → List ℕ → List ℕ
     → Option (List ℕ) → Option (List ℕ) → Option (List ℕ) → Option (List ℕ) → Type 0
 BoxServed status None user secret left left' out out' = NoBox status left left' out out'
@@ -60,7 +61,7 @@ pub record TookQuit (user secret : List ℕ) (left left' : Option (List ℕ)) : 
   pub taken : TookBytes left left'
   pub quit : has_quit (take SESSION_LIMIT taken.bytes) user secret ≡ true
 
--- the tables are unchanged: a crash leaves them alone, and unless the keeper failed it tells them
+-- the tables are unchanged: a crash leaves exactly these, and unless the keeper failed it tells them
 pub record Unchanged (status : ℕ) (tables : Tables) (tells leaves : Tables → Type 0) : Type 0 where
   pub alone : (x : Tables) → leaves x → x ≡ tables
   pub told : status ≢ 5 → tells tables

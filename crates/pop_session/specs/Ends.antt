@@ -7,7 +7,7 @@ use Rattle.pop_session.specs.Sessions.{pop_replies, has_quit}
 use Rattle.pop_session.specs.declared.hold.TheConstants.{SESSION_LIMIT, PIECE}
 use Rattle.tap_base.specs.Prefixes.{IsPrefix}
 
--- bytes were taken from the source, at most one piece more than a session looks at
+-- bytes were taken from the source, at most one piece more than a session looks at (268,435,456)
 pub record TookBytes (left left' : Option (List ℕ)) : Type 0 where
   pub bytes : List ℕ
   pub taken : Consumes left left' bytes

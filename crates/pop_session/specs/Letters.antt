@@ -33,7 +33,7 @@ sent_lines text = flat_map (λ text. crlf_line (stuffed text)) (lined text)
 abbrev pub letter_at : List Letter → ℕ → Option Letter
 letter_at letters n = if n == 0 then None else slice_get letters (n - 1)
 
--- the row of a letter: its number, and its size or the number of its document
+-- the row of a letter: its number, and its size, or `d` and the number of its document
 abbrev pub row_text : Listing → ℕ → Letter → List ℕ
 row_text Sizes n letter = decimal n ++ codes " " ++ decimal (size_of letter.text)
 row_text Ids n letter = decimal n ++ codes " d" ++ decimal letter.doc.0

@@ -131,7 +131,7 @@ keyword_outcome user secret phase (Some keyword) text =
 abbrev pub text_outcome : List ℕ → List ℕ → Phase → List ℕ → Outcome
 text_outcome user secret phase text = keyword_outcome user secret phase (keyword_of (word 0 text)) text
 
--- the outcome of a request of at most 512 bytes, a CR before its LF counted but not of its text; a longer one is refused
+-- the reply to a request, and the phase after it: the first check that applies refuses it
 abbrev pub outcome_of : List ℕ → List ℕ → Phase → List ℕ → Outcome
 outcome_of user secret phase request =
     if nat_le (length request) 512 then text_outcome user secret phase (strip_carriage_return request) else refused_request phase Long

@@ -30,7 +30,6 @@ fn push_number<I: Integer>(buffer: &mut ArrayVec<u8, 128>, n: I)
     push_bytes(buffer, digits.format(n).as_bytes());
 }
 
-// Returns a line of a text.
 fn text_line(text: &[u8]) -> ArrayVec<u8, 128>
     requires { length text.now ≤ 20 }
     ensures { result.items ≡ crlf_line text.now }
@@ -41,7 +40,6 @@ fn text_line(text: &[u8]) -> ArrayVec<u8, 128>
     buffer
 }
 
-/// Returns the greeting.
 pub(crate) fn greeting_line() -> ArrayVec<u8, 128>
     ensures { result.items ≡ crlf_line (codes "+OK tapestry") }
 {
@@ -55,7 +53,6 @@ pub(crate) fn accepted_line() -> ArrayVec<u8, 128>
     text_line(b"+OK")
 }
 
-/// Returns the line of a refusal.
 pub(crate) fn refusal_line(refusal: PopRefusal) -> ArrayVec<u8, 128>
     ensures { result.items ≡ crlf_line (pop_refusal_text refusal) }
 {

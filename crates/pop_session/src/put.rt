@@ -49,7 +49,6 @@ fn put_stuffed<K: Sink>(sink: &mut K, start: usize, text: &[u8]) -> Result<usize
     }
 }
 
-// Puts the lines of a text.
 fn put_lines<K: Sink>(sink: &mut K, start: usize, text: &[u8]) -> Result<usize, PutFailed>
     ensures { PutBehind K.Sink start (sent_lines text.now) sink.old sink.new result }
 {

@@ -25,7 +25,7 @@ const REQUEST_LIMIT: usize = 512;
 // The most digits of a number.
 const DIGIT_LIMIT: usize = 10;
 
-// The greatest number of so many digits.
+// The greatest number of that many digits.
 const LARGEST_NUMBER: u64 = 9999999999;
 
 // Returns whether a keyword is allowed in a phase.
@@ -69,7 +69,6 @@ fn replied(phase: Phase, reply: PopReply) -> Outcome
     }
 }
 
-// Returns the outcome of a request that is refused.
 fn refused_request(phase: Phase, refusal: PopRefusal) -> Outcome
     ensures { result ≡ refused_request phase refusal }
 {

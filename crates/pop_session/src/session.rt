@@ -27,7 +27,7 @@ pub struct PopSession<'a> {
     user: &'a [u8],
     secret: &'a [u8],
     letters: &'a [Letter],
-    // The bytes of the open request. Of one that is too long only a front is held: one byte more than a request may have.
+    // The bytes of the open request. Of one that is too long only a front is stored: one byte more than a request may have.
     front: ArrayVec<u8, 513>,
     phase: Phase,
     greeted: bool,

@@ -186,7 +186,7 @@ AreSettled known v path one two =
     → (atom_known (is_other v) a ≡ true) ⊎ ((atom_known known a ≡ true) × (true_atom a one ≡ true) × (true_atom a two ≡ true))
 
 module _ (T : Tables) (path : List Step) (b : ℤ) (v : Var) (known : ℕ → Bool) (one two : Env) (settled : AreSettled known v path one two) where
-  -- they agree on all but v, and each has what the one or the other had at first
+  -- they agree on all but v, and each has what the one or the other had initially
   record Alike (e f : Env) : Type 0 where
     held : is_held e ≡ is_held f
     more : (k : ℕ) → known k ≡ true → is_held e k ≡ true

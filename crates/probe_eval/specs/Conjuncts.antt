@@ -17,12 +17,12 @@ mentions v (Either l r) = mentions v l || mentions v r
 mentions v (Not x) = mentions v x
 mentions v (Exists w t x) = mentions v x
 
--- of a condition, the conjuncts that don't name v
+-- of the inner condition of an EXISTS, the conjuncts that don't name its variable, which have one truth for all of its rows
 abbrev pub fixed_part : Var → Condition → Condition
 fixed_part v (All l r) = All (fixed_part v l) (fixed_part v r)
 fixed_part v x = if mentions v x then Always else x
 
--- and those that name v
+-- of the inner condition of an EXISTS, the conjuncts that name its variable
 abbrev pub own_part : Var → Condition → Condition
 own_part v (All l r) = All (own_part v l) (own_part v r)
 own_part v x = if mentions v x then x else Always

@@ -49,11 +49,11 @@ stored_rows (Fixed moment) t w T = []
 stored_rows (ArrivedDay v n) t w T = arrived_rows t w T
 stored_rows (DatedDay v n) t w T = dated_rows t w T
 
--- the driving rows of a probe
+-- the rows of the driver's table whose stored second lies in the solved window
 abbrev pub driving : Tables → Window → Probe → Seek → Var → List Row
 driving T w p seek v = stored_rows seek (table_in p.path v.0) (seek_window w seek) T
 
--- the driving rows that are walked: of documents by their arrival those of the shortest posting list that a guard names
+-- the driving rows that are walked: with a chosen guard those of which it holds, else all
 abbrev pub walked : Tables → Window → Probe → Seek → Var → List Row
 walked T w p seek v = rows_where v (chosen T v p.path seek (table_in p.path v.0)) (driving T w p seek v)
 

@@ -17,7 +17,7 @@ pub record IsFound (seen : Doc → Bool) (X : List Probe) (T : Tables) (w : Wind
   pub low : w.low ≤ℤ h.first
   pub high : h.first <ℤ w.high
 
--- the hits are just those
+-- a list of hits that has just these
 pub record AreFound (seen : Doc → Bool) (X : List Probe) (T : Tables) (w : Window) (hits : List Hit) : Type 0 where
   pub sound : (h : Hit) → In h hits → IsFound seen X T w h
   pub complete : (h : Hit) → IsFound seen X T w h → In h hits

@@ -35,17 +35,18 @@ HasShortAccesses T path driver n =
 abbrev pub HasShortBody : Tables → Probe → ℕ → Type 0
 HasShortBody T p m = (env : Env) → InTables T p.path env → work T p.body env ≤ m
 
--- the steps of a search for a rest of so many rows, each of which is one of at most n
+-- the steps of a search for a rest of that many rows, each of which is one of at most n
 abbrev pub rest_bound : ℕ → ℕ → ℕ
 rest_bound n zero = 0
 rest_bound n (suc k) = n * (1 + rest_bound n k)
 
--- the steps beside a driving row: at each of so many rows at most a search for the rest and one body, else n rows that lead on
+-- the steps beside a driving row: at each of that many rows at most a search for the rest and one body, else n rows that lead on
 abbrev pub path_bound : ℕ → ℕ → ℕ → ℕ
 path_bound n m zero = m
 path_bound n m (suc k) = rest_bound n (suc k) + m + n * (1 + path_bound n m k)
 
--- the bound of a probe is at most so many steps for each driving row that is walked, however many rows the tables have
+-- a probe's bound is, for each driving row that is walked, at most `path_bound` steps and one more, however many rows the tables
+-- have
 abbrev pub ProbesByIndexAreLinear : Type 0
 ProbesByIndexAreLinear =
     (T : Tables) (w : Window) (p : Probe) (v : Var) (order : List Reach) (n m : ℕ)
@@ -71,7 +72,7 @@ reply_probe = record {
 abbrev pub HasDistinctIds : Tables → Type 0
 HasDistinctIds T = (id : List ℕ) → length (docs_of_id T id) ≤ 1
 
--- then each new reply takes at most three steps, however many documents there are
+-- if no two documents have one message id, each new reply takes at most three steps
 abbrev pub RepliesTakeThreeSteps : Type 0
 RepliesTakeThreeSteps =
     (T : Tables) (w : Window) → HasDistinctIds T

@@ -52,7 +52,8 @@ path_goes_by_list v body [] = false
 path_goes_by_list v body (step ∷ []) = guard_goes_by_list v body step step.guards
 path_goes_by_list v body (step ∷ other ∷ path) = false
 
--- does the probe find each row that is walked, at each mark that isn't before it?
+-- is the probe driven by the arrival of its document, and asks it one text of it to be a literal, or a list of it to have one, by
+-- which the index has a list, and nothing else?
 abbrev pub goes_by_list : Probe → Seek → Var → Bool
 goes_by_list p seek v = is_by_arrival seek && path_goes_by_list v p.body p.path
 

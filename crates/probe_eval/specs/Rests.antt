@@ -60,7 +60,7 @@ until f [] = []
 until f (x ∷ xs) = x ∷ (if f x then [] else until f xs)
 
 module _ (T : Tables) (path : List Step) (b : ℤ) where
-  -- whether it exists, as it is looked for: the nearest row next, of at most so many
+  -- whether it exists, as it is looked for: the nearest row next, of at most that many
   abbrev pub rest_of : List Reach → Env → Bool
   rest_of [] env = may_go path b env && all_or (nearest path env) (λ r. false)
   rest_of (x ∷ rs) env = may_go path b env && all_or (nearest path env) (λ r. list_any (λ row. rest_of rs (bind r.var row env)) (rows_by b r.access env T))
@@ -69,7 +69,7 @@ module _ (T : Tables) (path : List Step) (b : ℤ) where
   abbrev pub decides : List Reach → Env → Var → Row → Bool
   decides rs env v row = rest_of rs (bind v row env) || (may_go path b (bind v row env) && path_apart path env v)
 
-  -- the steps that this may take: no row is walked after the first that decides
+  -- the steps that a search for the rest may take: one for each row that it walks, none after the first that decides
   abbrev pub rest_cost : List Reach → Env → ℕ
   rest_cost [] env = 0
   rest_cost (x ∷ rs) env =

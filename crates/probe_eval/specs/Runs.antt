@@ -42,11 +42,13 @@ part_cost T w nodes part = seek_cost T w (probe_in nodes part.probe) (part_order
 abbrev pub query_hits : List Entry → Tables → Window → RangedQuery → List Hit
 query_hits entries T w q = flat_map (part_hits entries T w q.pool) q.parts
 
--- the steps that they may take
+-- the bound on the steps of a run: for each driving row that is walked 1, the rows of the nearest accesses until a document has
+-- one, and for each document the search for the rest (one search for all if it is the same beside each) and the work of the body
+-- if the rest exists
 abbrev pub query_cost : Tables → Window → RangedQuery → ℕ
 query_cost T w q = total (part_cost T w q.pool) q.parts
 
--- each of them finds a document in the form that every window query has
+-- each probe of the query is an `IsProbe`
 abbrev pub HasValidProbes : RangedQuery → Type 0
 HasValidProbes q = (p : Probe) → In p (ranged_probes q) → IsProbe p
 

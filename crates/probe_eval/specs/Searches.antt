@@ -27,7 +27,7 @@ searched s = probe_in (pool_of s) s.probe.now
 abbrev pub HasBody : Search → Type 0
 HasBody s = s.probe.now.body.0 < length (pool_of s)
 
--- an environment has room for so many rows and those of the body's EXISTS
+-- an environment has room for that many rows and those of the body's EXISTS
 abbrev pub HasSlots : Search → ℕ → Type 0
 HasSlots s n = n + nested (condition_at s s.probe.now.body.0) ≤ 16
 
@@ -46,7 +46,7 @@ pub record CanEvaluateInner (s : Search) (id : ℕ) (env : Env) : Type 0 where
 abbrev pub IsExists : Search → ℕ → Var → Table → ℕ → Type 0
 IsExists s id v t inner = condition_at s id ≡ Exists v t (condition_at s inner)
 
--- what the evaluation of the body needs beside so many rows: it is a node, and there is room for the rows of its EXISTS
+-- what the evaluation of the body needs beside that many rows: it is a node, and there is room for the rows of its EXISTS
 pub record CanSearch (s : Search) (n : ℕ) : Type 0 where
   pub node : HasBody s
   pub room : HasSlots s n

@@ -33,7 +33,8 @@ docs_of_id T id = filter (λ row. both_texts Eq (text_field MsgId row) (Some id)
 abbrev pub referenced : Var → Env → Tables → List Row
 referenced v env T = flat_map (docs_of_id T) (references_of v env)
 
--- the rows that a walk by an access hands out, of a whole table those that have come by a second
+-- the rows that an access reaches beside bound rows; of a whole table those that have come by a second; those that a row refers
+-- to come reference by reference, a repeated one again
 abbrev pub rows_by : ℤ → Access → Env → Tables → List Row
 rows_by last (ReferencedBy v) env T = referenced v env T
 rows_by last access env T = filter (admits_by last access env) (rows_of (table_of access) T)

@@ -39,7 +39,6 @@ pub fn seek_var(seek: Seek) -> Option<Var>
     }
 }
 
-// Returns the rows of a table that arrived in a window.
 fn arrived_rows(table: Table, w: Window, index: &RowIndex) -> RowWalk<'_>
     ensures { result ≡ arrived_rows table w index.now }
 {

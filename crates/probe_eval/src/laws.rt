@@ -48,7 +48,7 @@ pub fn probes_test_pairs()
 {}
 
 /// States that the bound of a probe is linear in its driving rows that are walked, if each further row of its path is found
-/// by an access that gives at most `n` rows and its body looks at `m` at most: each driving row takes so many steps, however
+/// by an access that gives at most `n` rows and its body looks at `m` at most: each driving row takes that many steps, however
 /// many rows the tables have. So each new reply takes at most three, if no two documents have one message id.
 pub fn probes_by_index_are_linear()
     ensures linear { ProbesByIndexAreLinear }

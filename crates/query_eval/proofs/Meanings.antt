@@ -113,7 +113,7 @@ module _ (seen : Doc → Bool) (X : List Probe) (T : Tables) (w : Window) (numbe
 pub lowest_law : LowestHitsAreTheMeaning
 lowest_law seen X T w hits kept arrived found lowest ordered = lowest_meaning seen X T w (numbered_of 1 (pos 0) T.docs arrived) hits kept found lowest ordered
 
--- kept hits in another order are still the least
+-- stored hits in another order are the least, too
 lowest_moved : (Among : Hit → Type 0) (kept sorted : List Hit) → HaveSame kept sorted → AreLowest Among kept → AreLowest Among sorted
 lowest_moved Among kept sorted same l = record {
   among = λ k i. l.among k (same.back k i);
@@ -133,7 +133,7 @@ lowest_same D E kept to back l = record {
   apart = l.apart;
 }
 
--- hits that were kept and then put in order
+-- hits that were stored and then put in order
 pub finished : (seen : Doc → Bool) (X : List Probe) (T : Tables) (w : Window) (hits kept sorted : List Hit) → HaveSame kept sorted → InOrder sorted → kept ≡ lowest [] hits → Arrived 1 (pos 0) T.docs → AreFound seen X T w hits → sorted ≡ meaning_without seen X T w
 finished seen X T w hits kept sorted same order k arrived found =
     let all = kept_all (λ y. ⊥) [] hits none_kept in

@@ -66,7 +66,7 @@ module _ {A : Type 0} where
   get_onto (z ∷ zs) x y zero e = inl e
   get_onto (z ∷ zs) x y (suc k) e = elim (get_onto zs x y k e) [ inl i ↦ inl i | inr p ↦ inr (ap suc p.0, p.1) ]
 
--- the kept hits with one more
+-- the stored hits with one more
 
 lowered_absent : (hs : List Hit) (h : Hit) → ((k : ℕ) (x : Hit) → slice_get hs k ≡ Some x → x.doc.0 ≡ h.doc.0 → ⊥) → with_lowered hs h ≡ hs ++ h ∷ []
 lowered_absent [] h n = refl

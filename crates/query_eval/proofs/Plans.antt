@@ -22,7 +22,7 @@ use Rattle.probe_eval.proofs.Founds.{query_found}
 use Rattle.probe_eval.proofs.QueryCosts.{query_quiet, query_due}
 use Rattle.probe_eval.proofs.Steps.{get_in}
 
--- hits whose documents all have places are kept as by the lowering alone
+-- hits whose documents all have places are stored as by the lowering alone
 all_placed : (n : ℕ) (ks hs : List Hit) → ((h : Hit) → In h hs → has_place n h.doc.0 ≡ true) → keeping n ks hs ≡ lowest ks hs
 all_placed n ks [] f = refl
 all_placed n ks (h ∷ hs) f =
@@ -38,7 +38,7 @@ number_within n (x ∷ xs) d h (inr i) =
     let k = number_within (n + 1) xs d h.1 i in
     (omega (arith, k.0), omega (arith, k.1))
 
--- hits that the list of a plan's hits gives are kept
+-- hits that the list of a plan's hits gives are stored
 pub hits_kept : (q : RangedQuery) (entries : List Entry) (T : Tables) (w : Window) (n : ℕ) (ks now : List Hit) → HasValidProbes q → Numbered doc_number 1 T.docs → length T.docs ≤ n → ks ≡ [] → now ≡ keeping n ks (query_hits entries T w q) → now ≡ lowest [] (query_hits entries T w q)
 hits_kept q entries T w n ks now ps num room none k =
     k ∙ ap (λ z. keeping n z (query_hits entries T w q)) none ∙ all_placed n [] (query_hits entries T w q) placed

@@ -1,4 +1,4 @@
--- One turn of a loop over rows whose hits are kept.
+-- One turn of a loop over rows whose hits are stored.
 use Rattle.std.proofs.Common.{◌≡◌, ◌∙◌, ℕ, ◌+◌, ◌≤◌, List, [], ◌∷◌, ◌++◌, length, refl, sym, ap, arith}
 use Rattle.std.specs.List.{flat_map}
 use Rattle.tap_rows.specs.declared.results.Hit.{Hit}
@@ -10,7 +10,7 @@ keeping_append n kept [] ys = refl
 keeping_append n kept (x ∷ xs) ys = keeping_append n (with_hit n kept x) xs ys
 
 module _ {A : Type 0} where
-  -- the hits of the row that was handed out are kept
+  -- the hits of the row that was handed out are stored
   pub hits_step : (f : A → List Hit) (whole : List Hit) (n k : ℕ) (kept now : List Hit) (rows left : List A) (r : A) → whole ≡ keeping n kept (flat_map f rows) → rows ≡ r ∷ left → now ≡ keeping n kept (f r) → k ≡ n → whole ≡ keeping k now (flat_map f left)
   hits_step f whole n k kept now rows left r h e g q =
       h ∙ ap (λ z. keeping n kept (flat_map f z)) e ∙ keeping_append n kept (f r) (flat_map f left) ∙ ap (λ z. keeping n z (flat_map f left)) (sym g) ∙ ap (λ z. keeping z now (flat_map f left)) (sym q)

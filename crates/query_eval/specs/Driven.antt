@@ -17,6 +17,6 @@ use Rattle.probe_eval.specs.Drivers.{hits_at, cost_at, walked}
 abbrev pub driven_hits : List Entry → Tables → Window → Probe → List Reach → Seek → Var → List Hit
 driven_hits entries T w p order seek v = flat_map (λ row. hits_at entries T w p order (bind v row [])) (walked T w p seek v)
 
--- the steps that this may take
+-- the steps that the driving rows that are walked may take
 abbrev pub driven_cost : Tables → Window → Probe → List Reach → Seek → Var → ℕ
 driven_cost T w p order seek v = total (λ row. 1 + cost_at T w p order (bind v row [])) (walked T w p seek v)

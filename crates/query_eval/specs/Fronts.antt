@@ -27,12 +27,12 @@ abbrev pub BeginsWith : ℕ → List Doc → Type 0
 BeginsWith first [] = ⊥
 BeginsWith first (d ∷ ds) = d.num.0 ≡ first
 
--- of each list of this kind that begins with this document, so many documents at its front are done
+-- of each list of this kind that begins with this document, that many documents at its front are done
 pub record IsPassed (entries : List Entry) (docs : List Doc) (n : ℕ) (kept : List Hit) (kind : TextKind) (first : ℕ) (b : ℤ) (len : ℕ) : Type 0 where
   pub done : (text : List ℕ) → BeginsWith first (with_text (texts_of kind) text docs)
       → Each (IsDone entries n kept b) (take len (with_text (texts_of kind) text docs))
 
--- the same of a front
+-- as `IsPassed`, as a search remembers it; AreDone: the documents of each front are done, by the rows and deliveries of a search
 abbrev pub IsFrontPassed : List Entry → List Doc → ℕ → List Hit → Front → Type 0
 IsFrontPassed entries docs n kept front = IsPassed entries docs n kept front.kind front.first front.mark front.len
 

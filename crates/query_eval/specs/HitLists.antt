@@ -4,7 +4,7 @@ use Rattle.tap_rows.specs.declared.results.Hit.{Hit}
 use Rattle.tap_rows.specs.Kept.{In}
 use Rattle.tap_rows.specs.Results.{is_before}
 
--- no two are of one document
+-- hits of distinct documents; InOrder: hits in order of second, then of number
 abbrev pub HitsAreApart : List Hit → Type 0
 HitsAreApart [] = Unit {0}
 HitsAreApart (x ∷ xs) = ((y : Hit) → In y xs → y.doc.0 ≡ x.doc.0 → ⊥) × HitsAreApart xs

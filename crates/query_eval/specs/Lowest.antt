@@ -24,7 +24,7 @@ has_place n doc = nat_lt 0 doc && nat_le doc n
 abbrev pub with_hit : ℕ → List Hit → Hit → List Hit
 with_hit n kept h = if has_place n h.doc.0 then with_lowered kept h else kept
 
--- the stored hits after all of these
+-- the stored hits after all of these, of documents whose number has a place
 abbrev pub keeping : ℕ → List Hit → List Hit → List Hit
 keeping n kept [] = kept
 keeping n kept (h ∷ hs) = keeping n (with_hit n kept h) hs

@@ -29,6 +29,6 @@ pub record CanStoreHits (kept : LeastHits) : Type 0 where
   pub placed : IsPlaced kept.hits.items kept.places.items
   pub room : HasRoom kept
 
--- after these hits were stored
+-- what is stored after some hits more: of each document with a place the least
 abbrev pub Stores : LeastHits → LeastHits → List Hit → Type 0
 Stores old new hits = new.hits.items ≡ keeping (length old.places.items) old.hits.items hits

@@ -104,7 +104,6 @@ impl Fronts {
         }
     }
 
-    // Appends a front.
     fn append(&mut self, front: Front)
         requires { length self.old.fronts.items < vec_capacity self.old.fronts }
         ensures { self.new.fronts.items ≡ self.old.fronts.items ++ front ∷ [] }
@@ -140,7 +139,7 @@ impl Fronts {
         self.fronts.clear();
     }
 
-    /// Makes room for the fronts of the lists of so many documents.
+    /// Makes room for the fronts of the lists of that many documents.
     pub(crate) fn grow_to(&mut self, n: u32) -> Result<(), Memory>
         ensures { self.new.fronts.items ≡ self.old.fronts.items }
     {

@@ -33,7 +33,7 @@ at_least_one n some = go (nat_le n 17)
     go true = some
     go false = omega arith
 
--- how many alternatives an OR has, if each side has at most so many
+-- how many alternatives an OR has, if each side has at most that many
 either_count : (k h : Bool) (n m a b : ℕ) → (if k && h then at_most 17 (a + b) else 1) ≤ 16 → (a ≤ 16 → n ≡ a) → (b ≤ 16 → m ≡ b)
     → (if k && h then n + m else 1) ≡ (if k && h then at_most 17 (a + b) else 1)
 either_count true true n m a b few e f =

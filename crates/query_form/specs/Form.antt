@@ -167,7 +167,7 @@ distributed v (All l r) = cross v (distributed v l) (distributed v r)
 distributed v (Either l r) = Either (distributed v l) (distributed v r)
 distributed v x = x
 
--- the conjunction of what stands for an EXISTS and the conjuncts before and after it
+-- what replaces an EXISTS, between the conjuncts before and after it; exists_count: how many EXISTS replace one
 abbrev pub beside : Var → Condition → Condition → Condition
 beside v x made = conjoined (conjuncts v Before x) (conjoined made (conjuncts v After x))
 

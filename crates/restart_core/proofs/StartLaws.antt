@@ -81,7 +81,7 @@ drop-more (suc n) m (b ∷ text) = drop-more n m text ∙ ap (λ k. drop k (b �
 end-drop : (m : ℕ) (text rest : List ℕ) → End text rest → End text (drop m rest)
 end-drop m text rest end = record { n = end.n + m; is = sym (drop-more end.n m text) ∙ ap (drop m) end.is }
 
--- it stands from the place on that leaves so many bytes
+-- it stands from the place on that leaves that many bytes
 place-is : (text rest : List ℕ) → End text rest → drop (length text - length rest) text ≡ rest
 place-is text rest end =
     let len : length rest ≡ length text - end.n = ap length (sym end.is) ∙ length-drop end.n text in

@@ -52,7 +52,8 @@ is_condition (Err fault) = false
 abbrev pub is_readable : QueryRow → Bool
 is_readable query = is_condition (condition_of (condition_text query.source))
 
--- why a document at this place, behind this moment, is damaged
+-- why a document can't stand at its place: the first of its reasons, of number, moment, reference, name, twice, text, second,
+-- order
 abbrev pub doc_reason : ℕ → ℤ → Doc → Option Why
 doc_reason place low doc =
     first_reason (
@@ -61,7 +62,7 @@ doc_reason place low doc =
     ∷ damaged_unless (nat_le (length doc.text) 1048576) Text
     ∷ [])
 
--- why a note is damaged
+-- why a note can't stand at its place, by the same reasons
 abbrev pub note_reason : List Doc → ℕ → ℤ → Note → Option Why
 note_reason docs place low note =
     first_reason (
@@ -80,7 +81,7 @@ own_reason place low query =
     ∷ damaged_unless (is_name query.owner && is_name query.name) Name
     ∷ [])
 
--- why a query behind these is damaged
+-- why a query can't stand at its place, by the same reasons
 abbrev pub query_reason : List QueryRow → ℕ → ℤ → QueryRow → Option Why
 query_reason earlier place low query =
     first_reason (
@@ -89,7 +90,7 @@ query_reason earlier place low query =
     ∷ damaged_unless (is_readable query) Text
     ∷ [])
 
--- why a run is damaged
+-- why a run can't stand at its place, by the same reasons
 abbrev pub run_reason : List QueryRow → ℕ → ℤ → RunRow → Option Why
 run_reason queries place low run =
     first_reason (
@@ -114,7 +115,7 @@ is_second_possible pick None doc = false
 abbrev pub is_same_pick : Pick → Pick → Bool
 is_same_pick pick other = (other.query.0 == pick.query.0) && (other.doc.0 == pick.doc.0)
 
--- why a pick behind these is damaged
+-- why a pick can't stand at its place, by the same reasons
 abbrev pub pick_reason : List RunRow → List Doc → List Pick → ℕ → Option Pick → Pick → Option Why
 pick_reason runs docs earlier place before pick =
     first_reason (
@@ -125,7 +126,7 @@ pick_reason runs docs earlier place before pick =
     ∷ damaged_unless (comes_after before pick) Order
     ∷ [])
 
--- why a filter is damaged
+-- why a filter can't stand at its place, by the same reasons
 abbrev pub filter_reason : ℕ → ℤ → FilterRow → Option Why
 filter_reason place low filter =
     first_reason (
@@ -134,39 +135,39 @@ filter_reason place low filter =
     ∷ damaged_unless (is_name filter.owner) Name
     ∷ [])
 
--- the first damaged document from this place on, behind this moment
+-- the first damaged document, with its place and reason
 abbrev pub docs_damage : ℕ → ℤ → List Doc → Option RestartFault
 docs_damage place low [] = None
 docs_damage place low (doc ∷ docs) =
     option_or (row_damage Docs place (doc_reason place low doc)) (docs_damage (place + 1) doc.arrival docs)
 
--- the first damaged note
+-- the first damaged note, with its place and reason
 abbrev pub notes_damage : List Doc → ℕ → ℤ → List Note → Option RestartFault
 notes_damage docs place low [] = None
 notes_damage docs place low (note ∷ notes) =
     option_or (row_damage Notes place (note_reason docs place low note)) (notes_damage docs (place + 1) note.arrival notes)
 
--- the first damaged query, behind these
+-- the first damaged query, with its place and reason
 abbrev pub queries_damage : List QueryRow → ℕ → ℤ → List QueryRow → Option RestartFault
 queries_damage earlier place low [] = None
 queries_damage earlier place low (query ∷ queries) =
     option_or (row_damage Queries place (query_reason earlier place low query))
     (queries_damage (earlier ++ query ∷ []) (place + 1) query.arrival queries)
 
--- the first damaged run
+-- the first damaged run, with its place and reason
 abbrev pub runs_damage : List QueryRow → ℕ → ℤ → List RunRow → Option RestartFault
 runs_damage queries place low [] = None
 runs_damage queries place low (run ∷ runs) =
     option_or (row_damage Runs place (run_reason queries place low run)) (runs_damage queries (place + 1) run.moment runs)
 
--- the first damaged pick, behind these
+-- the first damaged pick, with its place and reason
 abbrev pub picks_damage : List RunRow → List Doc → List Pick → ℕ → Option Pick → List Pick → Option RestartFault
 picks_damage runs docs earlier place before [] = None
 picks_damage runs docs earlier place before (pick ∷ picks) =
     option_or (row_damage Picks place (pick_reason runs docs earlier place before pick))
     (picks_damage runs docs (earlier ++ pick ∷ []) (place + 1) (Some pick) picks)
 
--- the first damaged filter
+-- the first damaged filter, with its place and reason
 abbrev pub filters_damage : ℕ → ℤ → List FilterRow → Option RestartFault
 filters_damage place low [] = None
 filters_damage place low (filter ∷ filters) =
@@ -179,7 +180,8 @@ later_damage tables =
     (option_or (picks_damage tables.runs tables.docs [] 1 None tables.picks)
     (filters_damage 1 (pos 0) tables.filters))
 
--- the first damaged row of the tables, with its reason
+-- the first damaged row of all tables, in the order documents, notes, queries, runs, picks, filters; texts of filters are not
+-- read
 unfoldable pub damage_of : Tables → Option RestartFault
 damage_of tables =
     option_or (docs_damage 1 (pos 0) tables.docs)

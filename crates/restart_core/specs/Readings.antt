@@ -7,7 +7,7 @@ use Rattle.tql_text.specs.declared.fault.TextFault.{TextFault}
 use Rattle.tql_text.specs.Texts.{condition_of}
 use Rattle.restart_core.specs.Starts.{condition_text}
 
--- the reading of a query's condition
+-- a query's condition, or the fault of its text
 abbrev pub reading_of : QueryRow → Result Condition TextFault
 reading_of query = condition_of (condition_text query.source)
 

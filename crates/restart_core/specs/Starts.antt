@@ -12,7 +12,7 @@ is_from_now source = str_eq_ignore_ascii_case (word 0 source) (codes "FROM") && 
 unfoldable pub condition_text : List ℕ → List ℕ
 condition_text source = if is_from_now source then after_words 2 source else source
 
--- the source that is stored: its first words, if it is from now, in capitals and with one blank after each
+-- the source that is stored: `FROM NOW ` and the condition's text, or the source unchanged
 unfoldable pub stored_source : List ℕ → List ℕ
 stored_source source = if is_from_now source then codes "FROM NOW " ++ condition_text source else source
 

@@ -26,7 +26,7 @@ pub(crate) fn follows(low: i64, moment: i64) -> bool
     low <= moment && moment <= LAST_MOMENT as i64
 }
 
-// The greatest place that a damage can name: it is told as a number of 32 bits.
+// The greatest place that a damage can name: it is given as a number of 32 bits.
 const PLACE_LIMIT: usize = 4294967295;
 
 // Returns a row's place as a number of 32 bits, 0 if it is above them.

@@ -17,7 +17,7 @@ fn rules_or_fault(alloc: Global, text: &[u8]) -> Result<usize, RuleFault> {
     }
 }
 
-// Adds so many rules to a text.
+// Adds that many rules to a text.
 fn push_rules(text: &mut Text, n: usize) -> Result<(), Memory> {
     for _ in 0..n {
         text.push_slice(b"WHEN TRUE PRIORITY 1 CLASS 'a'\n")?;
@@ -25,7 +25,7 @@ fn push_rules(text: &mut Text, n: usize) -> Result<(), Memory> {
     Ok(())
 }
 
-// Returns how many rules a text of so many rules has, behind a comment, or its fault.
+// Returns how many rules a text of that many rules has, behind a comment, or its fault.
 fn count_rules(alloc: Global, n: usize) -> Result<Result<usize, RuleFault>, Memory> {
     let mut text = Text::from_slice(alloc, b"# rules\n")?;
     let pushed = push_rules(&mut text, n);

@@ -8,6 +8,7 @@ use Rattle.row_index.specs.declared.dates.Dates.{Dates}
 use Rattle.row_index.specs.Orders.{in_window}
 use Rattle.tap_rows.specs.Fields.{fields}
 
+-- has the document a date?
 abbrev pub has_date : Doc → Bool
 has_date doc = is_some (fields doc).date
 
@@ -28,7 +29,7 @@ put_dated doc (other ∷ docs) = if is_earlier doc other then doc ∷ other ∷ 
 abbrev pub in_date_order : List Doc → List Doc
 in_date_order docs = fold (λ sorted doc. put_dated doc sorted) [] (filter has_date docs)
 
--- those whose date is from low up to, and without, high
+-- the dated documents whose date is from low up to, and without, high
 abbrev pub dated_in : ℤ → ℤ → List Doc → List Doc
 dated_in low high docs = in_window stored_date low high (in_date_order docs)
 

@@ -26,7 +26,8 @@ indexed_notes doc notes = with_key nat_eq noted doc notes
 abbrev pub AreOnDocs : List Note → Type 0
 AreOnDocs notes = Each (λ note. note.doc.0 < 2 ^ 32) notes
 
--- rows in their places, and what finds them
+-- documents and notes stand `InPlace`, each note on a document's number of 32 bits; and under each text, document number and date
+-- stand the places of exactly the rows that have it, in order
 pub record IsIndexOf (docs : List Doc) (places : DocPlaces) (notes : List Note) (on_doc : List (ℕ × List ℕ)) : Type 0 where
   pub docs_stand : InPlace doc_number doc_arrival docs
   pub notes_stand : InPlace note_number note_arrival notes

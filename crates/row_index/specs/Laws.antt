@@ -5,7 +5,7 @@ use Rattle.row_index.specs.declared.text_kind.TextKind.{TextKind}
 use Rattle.row_index.specs.Orders.{InPlace, doc_number, doc_arrival}
 use Rattle.row_index.specs.Texts.{is_single, texts_of, with_text}
 
--- two lists of one single kind that begin with one document are the same
+-- two posting lists of one single kind, of documents `InPlace`, that begin with one document are the same
 abbrev pub ListsOfOneKindAreApart : Type 0
 ListsOfOneKindAreApart =
     (kind : TextKind) (t u : List ℕ) (docs : List Doc) (d e : Doc) (ds es : List Doc) → is_single kind ≡ true → InPlace doc_number doc_arrival docs

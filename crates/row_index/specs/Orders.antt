@@ -14,7 +14,7 @@ module _ {A : Type 0} (f : A → ℤ) where
   Rising [] = Unit {0}
   Rising (x ∷ xs) = (list_all (λ y. int_le (f x) (f y)) xs ≡ true) × Rising xs
 
-  -- those from low up to, and without, high
+  -- the rows whose second is from low up to, and without, high; up_to: those up to, and with, `last`
   abbrev pub in_window : ℤ → ℤ → List A → List A
   in_window low high xs = filter (λ x. int_le low (f x) && int_lt (f x) high) xs
 
@@ -69,6 +69,7 @@ abbrev pub arrival_of : Option Doc → ℤ
 arrival_of None = pos 0
 arrival_of (Some doc) = doc.arrival
 
+-- the arrival of the document at this place, 0 if there is none
 abbrev pub place_arrival : List Doc → ℕ → ℤ
 place_arrival docs place = arrival_of (slice_get docs place)
 

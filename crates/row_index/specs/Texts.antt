@@ -10,7 +10,7 @@ use Rattle.row_index.specs.Orders.{Numbered, doc_number}
 use Rattle.row_index.specs.Posts.{Posts, posted_all, unposted_all, IsPartlyPosted, with_key}
 use Rattle.tap_rows.specs.Fields.{fields}
 
--- its message id, or none
+-- the texts of a document by which it is found: its message id
 abbrev pub msgids : Doc → List (List ℕ)
 msgids doc = option_to_list (fields doc).msgid
 

@@ -13,7 +13,7 @@ abbrev pub put_before : {A : Type 0} → Option A → List A → List A
 put_before None rest = []
 put_before (Some x) rest = x ∷ rest
 
--- the elements at these places, up to the first place that has none
+-- the rows at these places, up to the first place without one: what a walk has still to hand out
 abbrev pub at_places : {A : Type 0} → List A → List ℕ → List A
 at_places xs [] = []
 at_places xs (k ∷ ks) = put_before (slice_get xs k) (at_places xs ks)

@@ -30,7 +30,6 @@ impl<'a> Model for PostingList<'a> {
     ghost invariant = { λ list. ArePlaces list.docs.now list.places.now };
 }
 
-// Returns the places from this one on.
 fn behind(places: &[u32], place: usize) -> &[u32]
     ensures { result.now ≡ drop place places.now }
 {

@@ -244,7 +244,7 @@ impl RowIndex {
         &self.notes
     }
 
-    /// Takes room for so many more documents and notes at once. `Memory` comes if memory runs out.
+    /// Takes room for that many more documents and notes at once. `Memory` comes if memory runs out.
     pub fn reserve(&mut self, docs: usize, notes: usize) -> Result<(), Memory>
         ensures { self.new ≡ self.old }
     {

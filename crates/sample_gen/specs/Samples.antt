@@ -11,7 +11,8 @@ use Rattle.script_lang.specs.declared.command.Command.TheVariants.{At, AsUser, M
 abbrev pub next_state : ℕ → ℕ
 next_state x = (x * 1103515245 + 12345) % 2147483648
 
--- the generator's number after i steps from 1
+-- the number of a linear congruential generator from 1 after i steps; draw: what is drawn for message i: the generator's number
+-- after i steps, without its lower 16 bits
 abbrev pub generator_after : ℕ → ℕ
 generator_after zero = 1
 generator_after (suc i) = next_state (generator_after i)
@@ -45,7 +46,7 @@ answer_line j = line (codes "In-Reply-To: " ++ message_id j)
 abbrev pub parent_line : ℕ → ℕ → List ℕ
 parent_line i drawn = if is_answer i drawn then answer_line (parent_of i drawn) else []
 
--- the text of message i, for which drawn is drawn
+-- the text of message i: its name, for about a third of them the earlier message that is answered, and one of four words
 unfoldable pub sample_message : ℕ → ℕ → List ℕ
 sample_message i drawn =
     line (codes "From: user@parc") ++ line (codes "Message-ID: " ++ message_id i) ++ parent_line i drawn ++ line (codes "Subject: " ++ word_of drawn)
@@ -63,7 +64,7 @@ note_after i drawn = if i % 5 == 0 then AddNote i (codes "score") (pos (drawn % 
 abbrev pub runs_after : ℕ → List Command
 runs_after i = if i % 10 == 0 then both_runs else []
 
--- the commands of message i, for which drawn is drawn
+-- the commands of message i: its moment, its mail, a note on each fifth, and after each tenth a run of both queries
 abbrev pub commands_of_message : ℕ → ℕ → List Command
 commands_of_message i drawn = At (decimal (1000 + 10 * i)) ∷ Mail (Whole (sample_message i drawn)) ∷ note_after i drawn ++ runs_after i
 
@@ -78,11 +79,12 @@ first_commands =
     At (decimal 1000) ∷ AsUser (codes "alice") ∷ Define (codes "q1") (codes "m.words HAS 'alpha'")
     ∷ Define (codes "q2") (codes "now >= m.ts + 60 SECONDS AND NOT EXISTS (r: DOC WHERE r.inreplyto = m.msgid)") ∷ []
 
--- the sample with n messages
+-- the sample with n messages: a moment, the user and the two queries, the commands of the messages in turn, and at a later moment
+-- the last runs
 abbrev pub sample_of : ℕ → List Command
 sample_of n = first_commands ++ commands_of_messages n ++ At (decimal (1000 + 10 * n + 1000)) ∷ both_runs
 
--- a sample has this many messages: at least one, and not too many
+-- from 1 to 100,000 messages
 pub record IsSampleSize (n : ℕ) : Type 0 where
   pub some : 1 ≤ n
   pub few : n ≤ 100000

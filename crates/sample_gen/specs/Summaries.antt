@@ -8,7 +8,7 @@ use Rattle.sample_gen.specs.declared.summary.Summary.{Summary}
 abbrev pub count_line : List ℕ → ℕ → List ℕ
 count_line name n = line (name ++ decimal n)
 
--- the six lines of a summary
+-- the six lines of a summary: a name and a number each
 abbrev pub summary_lines : Summary → List ℕ
 summary_lines s =
     count_line (codes "sample ") s.messages ++ count_line (codes "commands ") s.commands ++ count_line (codes "refused ") s.refused

@@ -9,14 +9,12 @@ use script_lang::Command;
 use std::alloc::Global;
 use tap_base::{Memory, Text, put_decimal};
 
-// Shows a line of a word and a text.
 fn show_line(into: &mut Text, word: &[u8], text: &[u8]) -> Result<(), Memory> {
     into.push_slice(word)?;
     into.push_slice(text)?;
     into.push_slice(b"\n")
 }
 
-// Shows a note.
 fn show_note(alloc: Global, into: &mut Text, doc: u32, value: i64) -> Result<(), Memory> {
     into.push_slice(b"note ")?;
     put_decimal(alloc, doc as i64, into)?;
@@ -52,7 +50,6 @@ fn show_all(alloc: Global, into: &mut Text, commands: &[Command]) -> Result<(), 
     Ok(())
 }
 
-// Returns the script that gives commands.
 fn script_of(alloc: Global, commands: &[Command]) -> Result<Text, Memory> {
     let mut script = Text::new(alloc);
     match show_all(alloc, &mut script, commands) {

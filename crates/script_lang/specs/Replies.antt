@@ -129,7 +129,7 @@ abbrev pub moment_text : Option ℤ → List ℕ
 moment_text None = codes "never"
 moment_text (Some moment) = signed_decimal moment
 
--- the first line of a look-up with so many further lines
+-- the first line of a look-up with that many further lines
 abbrev pub found_text : ℕ → Found → List ℕ
 found_text n (DocText doc arrival) = head n (codes "show") ++ decimal doc ++ codes " at " ++ signed_decimal arrival
 found_text n (DocNotes doc) = head n (codes "notes") ++ decimal doc

@@ -136,7 +136,6 @@ fn parse_line(fault: ParseFault) -> ArrayVec<u8, 512>
     }
 }
 
-// Returns the line of a fault of types.
 fn type_line(fault: TypeFault) -> ArrayVec<u8, 512>
     ensures { result.items ≡ line (type_text fault) }
 {
@@ -187,7 +186,6 @@ fn rule_line(number: u32, place: u32) -> ArrayVec<u8, 512>
     buffer
 }
 
-/// Returns the line of a refusal.
 pub fn refusal_line(refusal: Refusal) -> ArrayVec<u8, 512>
     ensures { result.items ≡ line (refusal_text refusal) }
 {
@@ -279,7 +277,7 @@ fn queries_head(n: usize) -> ArrayVec<u8, 512>
     buffer
 }
 
-/// Returns the first line of the reply to a look-up with so many further lines.
+/// Returns the first line of the reply to a look-up with that many further lines.
 pub fn found_head(n: usize, found: Found) -> ArrayVec<u8, 512>
     ensures { result.items ≡ line (found_text n found) }
 {

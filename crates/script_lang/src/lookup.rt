@@ -23,6 +23,6 @@ pub enum Found {
     DocNotes { doc: u32 },
     /// A line shows a query of the user.
     UserQueries,
-    /// So many documents and notes, and the least moment that `at` accepts.
+    /// That many documents and notes, and the least moment that `at` accepts.
     Counts { docs: u32, notes: u32, moment: i64 },
 }

@@ -71,7 +71,7 @@ pub enum Refusal {
     ManyRules,
     /// Out of memory.
     Memory,
-    /// The query has only so many runs.
+    /// The query has only that many runs.
     NoRun { runs: u32 },
 }
 

@@ -126,7 +126,6 @@ fn push_lines(alloc: Global, lines: &mut Texts) -> Result<(), Memory> {
     lines.push(Text::new(alloc))
 }
 
-// Returns those two texts.
 fn two_lines(alloc: Global) -> Result<Texts, Memory> {
     let mut lines = Texts::new(alloc);
     match push_lines(alloc, &mut lines) {
@@ -306,14 +305,12 @@ fn rows_have_their_lines(rt: HostRuntime) -> Result<(), Fail> {
     Ok(())
 }
 
-// Shows a name and a text.
 fn show_one(into: &mut Text, name: &[u8], text: &[u8]) -> Result<(), Memory> {
     into.push_slice(name)?;
     into.push_slice(text)?;
     into.push_slice(b";")
 }
 
-// Shows a name and a block.
 fn show_block(into: &mut Text, name: &[u8], block: &Block) -> Result<(), Memory> {
     match block {
         Block::Whole(text) => show_one(into, name, text.as_slice()),
@@ -321,7 +318,6 @@ fn show_block(into: &mut Text, name: &[u8], block: &Block) -> Result<(), Memory>
     }
 }
 
-// Shows a name and two texts.
 fn show_two(into: &mut Text, name: &[u8], one: &[u8], two: &[u8]) -> Result<(), Memory> {
     into.push_slice(name)?;
     into.push_slice(one)?;
@@ -338,7 +334,6 @@ fn show_bad(into: &mut Text, refusal: Refusal) -> Result<(), Memory> {
     }
 }
 
-// Shows a note.
 fn show_note(
     alloc: Global,
     into: &mut Text,
@@ -371,7 +366,6 @@ fn show_lookup(alloc: Global, into: &mut Text, lookup: Lookup) -> Result<(), Mem
     into.push_slice(b";")
 }
 
-// Shows a command.
 fn show(alloc: Global, into: &mut Text, command: &Command) -> Result<(), Memory> {
     match command {
         Command::At(text) => show_one(into, b"at ", text.as_slice()),

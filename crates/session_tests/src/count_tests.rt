@@ -73,7 +73,7 @@ fn note(alloc: Global, k: u32, text: &Text) -> Result<Note, Memory> {
     })
 }
 
-// Adds notes of so many bytes.
+// Adds notes of that many bytes.
 fn add_notes(
     alloc: Global,
     notes: &mut Rows<Note>,
@@ -108,7 +108,6 @@ fn query(alloc: Global, k: u32) -> Result<QueryRow, Memory> {
     })
 }
 
-// Adds queries.
 fn add_queries(alloc: Global, queries: &mut Rows<QueryRow>, count: u32) -> Result<(), Memory> {
     for k in 0..count {
         queries.push(query(alloc, k)?)?;
@@ -154,7 +153,6 @@ fn filter(alloc: Global, k: u32) -> Result<FilterRow, Memory> {
     })
 }
 
-// Adds filters.
 fn add_filters(alloc: Global, filters: &mut Rows<FilterRow>, count: u32) -> Result<(), Memory> {
     for k in 0..count {
         filters.push(filter(alloc, k)?)?;
@@ -172,7 +170,7 @@ fn fill(alloc: Global, tables: &mut Tables, counts: &Counts) -> Result<(), Memor
     add_filters(alloc, &mut tables.filters, counts.filters)
 }
 
-// Returns tables with so many rows.
+// Returns tables with that many rows.
 fn tables_of(alloc: Global, counts: &Counts) -> Result<Tables, Memory> {
     let mut tables = Tables::empty(alloc);
     match fill(alloc, &mut tables, counts) {
@@ -192,7 +190,7 @@ fn run_over(alloc: Global, keeper: &mut MemKeeper, script: &[u8]) -> Result<(u8,
     written_over(alloc, keeper, source, sink)
 }
 
-// Runs a script over tables with so many rows; returns the status and what was written.
+// Runs a script over tables with that many rows; returns the status and what was written.
 fn answers_over(alloc: Global, counts: &Counts, script: &[u8]) -> Result<(u8, Text), Memory> {
     let tables = tables_of(alloc, counts)?;
     let mut keeper = MemKeeper::new(alloc, tables, 2, Vec::new(alloc));

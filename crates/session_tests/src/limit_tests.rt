@@ -87,7 +87,7 @@ fn a_message_has_at_most_1048576_bytes(rt: HostRuntime) -> Result<(), Memory> {
     Ok(())
 }
 
-// Appends a mailbox file: 15 lines of 1,048,576 bytes, one of so many blanks, and a last one that begins a message.
+// Appends a mailbox file: 15 lines of 1,048,576 bytes, one of that many blanks, and a last one that begins a message.
 fn push_mbox(alloc: Global, script: &mut Text, blanks: usize) -> Result<(), Memory> {
     script.push_slice(b"mbox\n")?;
     for _ in 0..15 {

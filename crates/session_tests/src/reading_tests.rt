@@ -21,7 +21,7 @@ fn runs_to_come_votes_and_digests_are_told(rt: HostRuntime) -> Result<(), Memory
             1,
             b"ok 0 as ann\nok 0 at 100\nok 0 query b\nok 0 doc 1\nok 0 wake b never\nno 10\n",
         ),
-        // each author's last vote counts; other kinds and names that are none
+        // each author's last vote counts; other kinds and names that aren't valid
         (
             b"as ann\nat 100\nmail\nSubject: hi\n\n.\nmail\nSubject: hi\n\n.\nnote 1 score 3 x\nnote 2 score 5 y\n\
               as bob\nnote 1 score 4 z\nnote 2 score -9 z\nas ann\nnote 1 score 1 again\nscores score\nscores like\n\

@@ -139,7 +139,6 @@ fn docs_of(alloc: Global) -> Result<Rows<KeptDoc>, Memory> {
     }
 }
 
-// Returns a note.
 fn note_of(alloc: Global, num: u32, arrival: u32, doc: u32) -> Result<Note, Memory> {
     Ok(Note {
         num: NoteNum(num),
@@ -162,7 +161,6 @@ fn fill_notes(alloc: Global, notes: &mut Rows<Note>) -> Result<(), Memory> {
     Ok(())
 }
 
-// Returns the notes.
 fn notes_of(alloc: Global) -> Result<Rows<Note>, Memory> {
     let mut notes = Rows::new(alloc);
     match fill_notes(alloc, &mut notes) {

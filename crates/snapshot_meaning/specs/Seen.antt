@@ -28,6 +28,6 @@ exists_in (Exists v t x) = 1 + exists_in x
 abbrev pub given_nums : Condition → Tables → ℤ → List Doc → List DocNum
 given_nums c tables s docs = map (λ doc. doc.num) (filter (λ doc. is_given (truth_of c) tables doc s) docs)
 
--- the variables of its EXISTS and `m` have places in an environment
+-- the condition has at most 15 EXISTS, so each variable and `m` has a place in an environment
 abbrev pub FitsEnv : Condition → Type 0
 FitsEnv c = exists_in c ≤ 15

@@ -23,7 +23,7 @@ fn written(alloc: Global, script: &[u8], size: usize) -> Result<Text, Memory> {
     Ok(written)
 }
 
-// Tells whether a script writes this over no rows, in pieces of this many bytes.
+// Returns whether a script writes this over no rows, in pieces of this many bytes.
 fn writes(alloc: Global, script: &[u8], size: usize, want: &Text) -> Result<bool, Memory> {
     let found = written(alloc, script, size)?;
     let is_same = found == *want;
@@ -90,12 +90,12 @@ fn wanted(
     }
 }
 
-// Tells whether a script writes this in pieces of seven bytes, and of 200.
+// Returns whether a script writes this in pieces of seven bytes, and of 200.
 fn writes_in_pieces(alloc: Global, script: &[u8], want: &Text) -> Result<bool, Memory> {
     Ok(writes(alloc, script, 7, want)? && writes(alloc, script, 200, want)?)
 }
 
-// Tells whether the first commands, and then the first bytes of the next, write this.
+// Returns whether the first commands, and then the first bytes of the next, write this.
 fn cut_writes(alloc: Global, before: &[&[u8]], part: &[u8], want: &Text) -> Result<bool, Memory> {
     let script = script_of(alloc, before, part, b"")?;
     let is_right = writes_in_pieces(alloc, script.as_slice(), want);
@@ -103,7 +103,7 @@ fn cut_writes(alloc: Global, before: &[&[u8]], part: &[u8], want: &Text) -> Resu
     is_right
 }
 
-// Tells whether the first commands, and then the first bytes of the next, are answered as they should be.
+// Returns whether the first commands, and then the first bytes of the next, are answered as they should be.
 fn is_cut_well(
     alloc: Global,
     prefixes: &Prefixes,
@@ -116,7 +116,7 @@ fn is_cut_well(
     is_right
 }
 
-// Tells whether each of the places within this command ends the script well, from 1 on.
+// Returns whether each of the places within this command ends the script well, from 1 on.
 fn all_cut_well(
     alloc: Global,
     prefixes: &Prefixes,

@@ -28,7 +28,7 @@ enum Damage {
     FilterSource,
 }
 
-// Appends so many bytes.
+// Appends that many bytes.
 fn push_bytes(text: &mut Text, len: usize) -> Result<(), Memory> {
     for _ in 0..len {
         text.push_slice(b"x")?;
@@ -77,7 +77,6 @@ fn fill_note(note: &mut Note, damage: Damage) -> Result<(), Memory> {
     note.text.push_slice(b"x")
 }
 
-// Adds the note.
 fn add_note(alloc: Global, tables: &mut Tables, damage: Damage) -> Result<(), Memory> {
     let mut note = Note {
         num: NoteNum(1),
@@ -118,7 +117,6 @@ fn fill_query(query: &mut QueryRow, damage: Damage) -> Result<(), Memory> {
     query.source.push_slice(source)
 }
 
-// Adds a query.
 fn add_query(alloc: Global, tables: &mut Tables, num: u32, damage: Damage) -> Result<(), Memory> {
     let mut query = QueryRow {
         num: QueryNum(num),
@@ -209,7 +207,6 @@ fn fill_filter(filter: &mut FilterRow, damage: Damage) -> Result<(), Memory> {
     filter.source.push_slice(source)
 }
 
-// Adds the filter.
 fn add_filter(alloc: Global, tables: &mut Tables, damage: Damage) -> Result<(), Memory> {
     let mut filter = FilterRow {
         num: 1,

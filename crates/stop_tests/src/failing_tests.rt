@@ -96,14 +96,14 @@ fn before_commit(commands: &[&[u8]], call: u64) -> usize {
 }
 
 impl Case {
-    // Tells whether a run wrote the replies of the first `n` commands, its keeper tells their tables, and a crash leaves those
+    // Returns whether a run wrote the replies of the first `n` commands, its keeper tells their tables, and a crash leaves those
     // of the first `then`.
     fn is_after(&self, left: &Left, n: usize, then: usize) -> bool {
         self.prefixes.is_after(n, then, &left.written, &left.probe)
             && self.prefixes.shows(n, &left.told)
     }
 
-    // Tells whether a run wrote the replies of the first `n` commands and this many bytes of the next, and its keeper tells the
+    // Returns whether a run wrote the replies of the first `n` commands and this many bytes of the next, and its keeper tells the
     // tables of all these, which a crash leaves.
     fn is_cut(&self, left: &Left, n: usize, out: usize) -> bool {
         let done = n.saturating_add(1);
@@ -112,7 +112,7 @@ impl Case {
             && self.prefixes.shows(done, &left.probe)
     }
 
-    // Tells whether a run is right that one of these calls stopped. A read: the commands that are complete in the bytes of the
+    // Returns whether a run is right that one of these calls stopped. A read: the commands that are complete in the bytes of the
     // reads before are done. A put, of which there is one a command: that command is done too. A call of the keeper: the
     // commands before the one that made it are done, and a crash leaves its rows too if they were stored.
     fn is_right(&self, commands: &[&[u8]], left: &Left, calls: Calls, call: u64) -> bool {

@@ -81,7 +81,7 @@ impl Prefixes {
         prefixes
     }
 
-    /// Tells whether a session shows what it shows after the first `n` commands.
+    /// Returns whether a session shows what it shows after the first `n` commands.
     pub fn shows(&self, n: usize, probe: &Text) -> bool {
         match self.probes.as_slice().get(n) {
             Some(want) => want == probe,
@@ -89,7 +89,7 @@ impl Prefixes {
         }
     }
 
-    /// Tells whether this is what the first `n` commands write.
+    /// Returns whether this is what the first `n` commands write.
     pub fn are_replies(&self, n: usize, written: &Text) -> bool {
         match self.written.as_slice().get(n) {
             Some(want) => want == written,
@@ -97,13 +97,13 @@ impl Prefixes {
         }
     }
 
-    /// Tells whether a run wrote what the first `n` commands write, and shows what it shows after
+    /// Returns whether a run wrote what the first `n` commands write, and shows what it shows after
     /// `then` of them.
     pub fn is_after(&self, n: usize, then: usize, written: &Text, probe: &Text) -> bool {
         self.are_replies(n, written) && self.shows(then, probe)
     }
 
-    /// Tells whether a run wrote what the first `n` commands write, and of the next reply the first `out` bytes.
+    /// Returns whether a run wrote what the first `n` commands write, and of the next reply the first `out` bytes.
     pub fn is_cut(&self, n: usize, out: usize, written: &Text) -> bool {
         let replies = self.written.as_slice();
         match (replies.get(n), replies.get(n.saturating_add(1))) {

@@ -69,7 +69,7 @@ pub const TWO_USERS: Script = [
 /// Shows the boxes of both users, and the numbers of their next runs and of the next document.
 pub const PROBE: &[u8] = b"as ann\nbox q\nas bob\nbox q\nat 200\nrun q\nas ann\nrun q\nmail\n\n.\n";
 
-/// Tells whether a command adds rows.
+/// Returns whether a command adds rows.
 pub fn adds_rows(command: &[u8]) -> bool {
     command.starts_with(b"query".as_slice())
         || command.starts_with(b"mail".as_slice())

@@ -18,7 +18,7 @@ IsNonEmpty text = 0 < length text
 abbrev pub IsPlaceOrEnd : List ℕ → ℕ → Type 0
 IsPlaceOrEnd text at = at ≤ length text
 
--- a place of the list
+-- a place of a list, as a node's number is one of its pool
 abbrev pub IsPlaceOf : {A : Type 0} → List A → ℕ → Type 0
 IsPlaceOf items place = place < length items
 

@@ -10,6 +10,6 @@ is_lower b = nat_le 97 b && nat_le b 122
 abbrev pub is_name_byte : ℕ → Bool
 is_name_byte b = is_lower b || (nat_le 48 b && nat_le b 57) || (b == 95) || (b == 45) || (b == 46)
 
--- a name has 1 to 32 bytes, and the first is a lower-case letter (`slice_index` gives 0 for a text without bytes)
+-- a name: 1 to 32 bytes, the first a lower-case ASCII letter, then lower-case ASCII letters, ASCII digits, `_`, `-` and `.`
 abbrev pub is_name : List ℕ → Bool
 is_name text = nat_le (length text) 32 && is_lower (slice_index text 0) && list_all is_name_byte text

@@ -56,7 +56,7 @@ impl PackedTexts {
         }
     }
 
-    // Returns the empty list, with room for so many texts and for so many bytes. Fails with `Memory` when out of memory.
+    // Returns the empty list, with room for that many texts and for that many bytes. Fails with `Memory` when out of memory.
     pub(crate) fn with_room(alloc: Global, lens: usize, bytes: usize) -> Result<PackedTexts, Memory>
         ensures { IfOk result (λ packed. packed ≡ []) }
     {

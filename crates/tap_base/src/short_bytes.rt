@@ -26,7 +26,6 @@ impl Model for ShortBytes {
 }
 
 impl ShortBytes {
-    // Returns these bytes.
     pub(crate) fn of(bytes: &[u8]) -> ShortBytes
         requires { length bytes.now ≤ 30 }
         ensures { result ≡ bytes.now }

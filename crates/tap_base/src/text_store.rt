@@ -14,7 +14,6 @@ pub(crate) enum TextStore {
     Long(Vec<u8>),
 }
 
-// Returns a store of these bytes.
 pub(crate) fn store_of(alloc: Global, bytes: &[u8]) -> Result<TextStore, Memory>
     ensures { IfOk result (λ store. stored store ≡ bytes.now) }
 {

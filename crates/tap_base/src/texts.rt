@@ -29,7 +29,7 @@ impl Texts {
         }
     }
 
-    // Returns the empty list, with room for so many texts.
+    // Returns the empty list, with room for that many texts.
     pub(crate) fn with_room(alloc: Global, len: usize) -> Result<Texts, Memory>
         ensures { IfOk result (λ texts. texts ≡ []) }
     {

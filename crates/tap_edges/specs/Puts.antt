@@ -16,8 +16,8 @@ pub record TookSome (start : ℕ) (old new : Option (List ℕ)) (bytes : List �
   pub count : failed.out ≡ counted (start + n)
   pub written : Appends old new (take n bytes)
 
--- these bytes were put behind the first `start` bytes of a reply, and the result counts both; or the put failed, and a front of
--- them was put
+-- these bytes were appended to the first `start` bytes of a reply, and the result counts both; or the put failed, and a front of
+-- them was put; it fails only if a fault is counted
 pub record PutBehind {K : Type 0} (g : Ghosts K) (start : ℕ) (bytes : List ℕ) (old new : K) (result : Result ℕ PutFailed) : Type 0 where
   pub count : IfOk result (λ done. done ≡ counted (start + length bytes))
   pub ok : OnOk result (Appends (g.out old) (g.out new) bytes)

@@ -126,7 +126,7 @@ represents-placed e t h q i m kept represents is-kept has at there is = record {
   greatest = λ none. absurd (there none);
 }
 
--- the rows of a run after so many runs and picks
+-- the rows of a run after that many runs and picks
 abbrev pub run_rows : ℕ → ℕ → Due → Change
 run_rows runs picks due = RunDone (record { num = runs + 1; query = due.query; moment = due.moment }) (pick_rows (picks + 1) due.query (runs + 1) due.hits)
 

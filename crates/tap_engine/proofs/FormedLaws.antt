@@ -27,7 +27,7 @@ docs-standing place low (doc ∷ docs) from e =
     let rest = docs-standing (place + 1) doc.arrival docs above both.1 in
     ((equal doc.num.0 place here.0, moment.0, (above, moment.1), rest.0), (at-most (length doc.text) 1048576 this.1, rest.1))
 
--- the number of one of so many rows
+-- the number of one of that many rows
 within : {num count : ℕ} → (1 ≤ num) × (num ≤ count) → IsRowNumber num count
 within both = record { low = both.0; high = both.1 }
 

@@ -62,7 +62,7 @@ place-missing (suc k) (doc ∷ docs) = place-missing k docs ∙ ap (λ b. refuse
   next : (k n : ℕ) → nat_le (suc k) n ≡ nat_le (suc (suc k)) (suc n)
   next k n = grind arith
 
--- no document of this number is found if and only if so many documents have none
+-- no document of this number is found if and only if that many documents have none
 doc-missing : (num : ℕ) (docs : List Doc) → Numbered doc_number 1 docs → missing NoDoc (doc_numbered num docs) ≡ no_doc num (length docs)
 unfolding no_doc
 doc-missing num docs numbered = ap (missing NoDoc) (doc-placed num docs numbered) ∙ go num where

@@ -45,7 +45,7 @@ ReadsAsModel engine command reply = OverSoundFor engine command (λ t. Answers t
 abbrev pub RepresentsNext : Engine → Command → Engine → Prepared → Type 0
 RepresentsNext before command engine made = OverSoundFor before command (λ t. Represents engine (tables_after made.change t))
 
--- over represented tables, the model refuses the command so
+-- over represented tables the model refuses the command so; or it is out of memory, and the command may need memory
 abbrev pub RefusesAsModel : Engine → Command → Refusal → Type 0
 RefusesAsModel engine command refusal = OverTables engine (λ t. Refuses refusal command engine.session t)
 
@@ -83,7 +83,7 @@ pub record IsUnchangedButHits (engine before : Engine) : Type 0 where
   pub same : engine ≡ record before { hits = engine.hits }
   pub room : before.hits.room ≤ engine.hits.room
 
--- the undo can be done, and gives the engine as it was before
+-- the undo can be done, and gives the engine before it, except that its buffer of hits may have more room
 pub record UndoRestores (undo : Undo) (engine before : Engine) : Type 0 where
   pub there : CanUndo undo engine
   pub before_is : IsUnchangedButHits (undone undo engine) before

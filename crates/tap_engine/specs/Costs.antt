@@ -49,7 +49,8 @@ IsQuietLookup (ListNotes num) = ⊥
 IsQuietLookup ListQueries = ⊤
 IsQuietLookup Count = ⊤
 
--- the command looks at no row: it asks for scores, for queries or for counts, or runs a query of which no probe has a mark in the window of this run
+-- the command asks for scores, queries or counts, or runs a query of which no probe has a mark in the window of this run, or no
+-- query of that name is there
 abbrev pub IsQuiet : Command → Session → Tables → Type 0
 IsQuiet (Run name) session tables = IsQuietQuery (query_named (user_of session) name tables) session tables
 IsQuiet (ScoresOf kind) session tables = ⊤
@@ -111,7 +112,9 @@ abbrev pub question_work : Option ℤ → List ℕ → Tables → ℕ
 question_work None source tables = 0
 question_work (Some second) source tables = ask_work (asked_rows tables) (condition_in source) second
 
--- the most steps that a command may take
+-- the most steps that a command may take: of a run `query_work` in its window; of `wake` the same up to the least mark at which a
+-- run would deliver, and one for each probe; of `list` one for each entry, of `digest` one for each entry of the run; of `ask`
+-- one for each document and note; of any other none
 abbrev pub most_steps : Command → Session → Tables → ℕ
 most_steps (Run name) session tables = run_work (query_named (user_of session) name tables) session tables
 most_steps (Wake name) session tables = wake_work (query_named (user_of session) name tables) tables

@@ -23,8 +23,9 @@ abbrev pub IsTime : Option ℤ → Type 0
 IsTime None = Unit {0}
 IsTime (Some moment) = IsMoment moment
 
--- no document and no note arrived after the last moment, the queries are numbered by their places, the session's moment is in
--- range, and there is room for a hit of each document
+-- what the engine needs for its own steps: documents and notes not after the session's moment, or without one the greatest stored
+-- moment; queries at the places of their numbers, none with more runs than there are, each of which has covered up to a moment; a
+-- session's moment in range; room for a hit of each document
 pub record IsReady (engine : Engine) : Type 0 where
   pub docs : RowsBy doc_arrival (option_or engine.session.moment engine.greatest) engine.index.docs
   pub notes : RowsBy note_arrival (option_or engine.session.moment engine.greatest) engine.index.notes

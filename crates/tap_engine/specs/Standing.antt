@@ -99,7 +99,7 @@ mbox_bounds engine block messages =
 abbrev pub mbox_refusal : Engine → Block → Option Refusal
 mbox_refusal engine block = option_or (no_moment engine.session) (mbox_bounds engine block (messages_of block))
 
--- why a note of so many bytes on this document is refused, once its words are fine
+-- why a note of that many bytes on this document is refused, once its words are fine
 unfoldable pub note_bounds : Engine → ℕ → ℕ → Option Refusal
 note_bounds engine doc len =
     first_refusal

@@ -34,7 +34,7 @@ impl Engine {
     ghost use Rattle.tap_engine.specs.Costs.{TakesAtMost, cached_digest_work};
 
     // Makes the lines of the digest of one run of the user's query of this name. A query with more runs than a `u32` counts
-    // is refused as out of memory: no store has so many.
+    // is refused as out of memory: no store has that many.
     fn digest_named<L: Ledger>(
         &self,
         alloc: Global,

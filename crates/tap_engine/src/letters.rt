@@ -15,7 +15,7 @@ impl Engine {
     ghost use Rattle.tap_engine.specs.Lists.{cached_of, rated_by, listing_in, text_in};
     ghost use Rattle.tap_engine.specs.Standing.{OverTables, OverSound};
 
-    // Finds a user's query of this name. There is none if one of the two is no name.
+    // Finds a user's query of this name. There is none if one of the two isn't a valid name.
     fn query_of_user(&self, user: &[u8], name: &[u8]) -> Option<&CachedQuery>
         ensures { option_copied result ≡ cached_of user.now name.now self.now }
     {

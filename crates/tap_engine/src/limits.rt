@@ -6,7 +6,7 @@ ghost use Rattle.tap_model.specs.Limits.{limit_refusal};
 
 use script_lang::{LimitName, Refusal};
 
-// Refuses so many more if there would be more than the limit. Adding none is never refused.
+// Refuses that many more if there would be more than the limit. Adding none is never refused.
 pub(crate) fn refuse_more(
     name: LimitName,
     limit: usize,

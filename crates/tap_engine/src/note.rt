@@ -53,7 +53,7 @@ impl Engine {
     ghost use Rattle.tap_engine.specs.Standing.{note_bounds, note_refusal, RefusedBy};
     ghost use Rattle.tap_engine.specs.Ready.{IsReady};
 
-    // Refuses a note of so many bytes if there is no such document or if it passes a limit.
+    // Refuses a note of that many bytes if there is no such document or if it passes a limit.
     #[tactic(auto, unfolding(crate::specs::Standing::note_bounds))]
     fn refuse_bounds(&self, doc: u32, len: usize) -> Result<(), Refusal>
         ensures value { result_err result ≡ note_bounds self.now doc len }

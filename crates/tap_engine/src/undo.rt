@@ -28,7 +28,7 @@ pub enum Undo {
         owners: usize,
         bytes: usize,
     },
-    /// One run of the query at a place, which had covered the seconds up to `covered` and had so many runs and entries.
+    /// One run of the query at a place, which had covered the seconds up to `covered` and had that many runs and entries.
     Run {
         place: usize,
         covered: i64,

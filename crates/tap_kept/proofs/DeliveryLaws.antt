@@ -65,7 +65,7 @@ one-there num rows from one = there 1 num rows from one.low (omega (arith, one.h
 pub kept-there : (f : QueryRow → CachedQuery) (num : ℕ) (rows : List QueryRow) (q : QueryRow) (d : CachedQuery) → QueriesFrom 1 rows → In q rows → q.num.0 ≡ num → 1 ≤ num → slice_index_or (map f rows) (num - 1) d ≡ f q
 kept-there f num rows q d from has at low = placed f 1 (num - 1) rows q d from has (omega (arith, at, low))
 
--- so many runs as there were before
+-- that many runs as there were before
 pub runs-before : (rows : List QueryRow) (before : List RunRow) (num : ℕ) (queries : List CachedQuery) (d : CachedQuery) → QueriesFrom 1 rows → IsRowNumber num (length rows) → queries ≡ map (cached_query (runs_alone before [])) rows
     → (slice_index_or queries (num - 1) d).runs ≡ length (run_moments num before)
 runs-before rows before num queries d from one is =

@@ -47,7 +47,7 @@ query_work rows w query = total (probe_work rows w) (probes_of_query query)
 abbrev pub window_ahead : CachedQuery → Tables → Window
 window_ahead kept rows = wake_window kept.covered (hits_since kept rows (pos LAST_MOMENT))
 
--- the steps up to that mark, and one for each probe
+-- the steps up to and with the least mark at which a run would deliver, and one for each probe
 abbrev pub work_ahead : CachedQuery → Tables → ℕ
 work_ahead kept rows = length (probes_of_query kept.row) + query_work rows (window_ahead kept rows) kept.row
 

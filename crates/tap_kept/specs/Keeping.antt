@@ -43,7 +43,7 @@ never_run query = record { row = query; covered = start_of query; runs = 0; entr
 abbrev pub after_run : ℤ → List Entry → CachedQuery → CachedQuery
 after_run moment entries kept = record { row = kept.row; covered = moment; runs = kept.runs + 1; entries = kept.entries ++ entries }
 
--- a query before its last run: it had covered the seconds up to this one, and had so many runs and entries
+-- a query before its last run: it had covered the seconds up to this one, and had that many runs and entries
 abbrev pub before_run : ℤ → ℕ → ℕ → CachedQuery → CachedQuery
 before_run second runs entries kept = record { row = kept.row; covered = second; runs = runs; entries = take entries kept.entries }
 
@@ -67,7 +67,7 @@ without_run (suc place) second runs entries (kept ∷ queries) = kept ∷ withou
 abbrev pub with_owner : List (List ℕ) → List ℕ → List (List ℕ)
 with_owner owners owner = if has_text owners owner then owners else owners ++ owner ∷ []
 
--- the query at a place is so; without such a place, any query is
+-- the query at this place is so, or every query if there is no such place
 abbrev pub HoldsAt : ℕ → (CachedQuery → Type 0) → List CachedQuery → Type 0
 HoldsAt place P queries = (d : CachedQuery) → P (slice_index_or queries place d)
 

@@ -8,7 +8,7 @@ use Rattle.script_lang.specs.Rows.{query_text}
 use Rattle.tap_model.specs.Queries.{start_of}
 use Rattle.tap_kept.specs.declared.cached_query.CachedQuery.{CachedQuery}
 
--- the moment of the last of so many runs, which covered the seconds up to it
+-- the moment of the last of that many runs, which covered the seconds up to it
 abbrev pub last_run : ℕ → ℤ → Option ℤ
 last_run runs covered = if runs == 0 then None else Some covered
 

@@ -49,16 +49,16 @@ abbrev pub PicksAreDistinct : List Pick → List Pick → Type 0
 PicksAreDistinct earlier [] = Unit {0}
 PicksAreDistinct earlier (pick ∷ picks) = (list_any (picks_same pick) earlier ≡ false) × PicksAreDistinct (earlier ++ pick ∷ []) picks
 
--- the number of one of so many rows
+-- the number of one of that many rows
 pub record IsRowNumber (num count : ℕ) : Type 0 where
   pub low : 1 ≤ num
   pub high : num ≤ count
 
--- the sums with one row more, of this moment and so many bytes
+-- the sums with one row more, of this moment and that many bytes
 abbrev pub added : ℤ → ℕ → Sums → Sums
 added moment bytes sums = record { bytes = sums.bytes + bytes; greatest = Some (later_of moment sums.greatest) }
 
--- the sums with some rows more
+-- how many bytes some rows store, with the greatest of their moments, added to the sums of others
 abbrev pub summed : {A : Type 0} → (A → ℤ) → (A → ℕ) → Sums → List A → Sums
 summed moment bytes sums [] = sums
 summed moment bytes sums (row ∷ rows) = summed moment bytes (added (moment row) (bytes row) sums) rows
@@ -74,13 +74,13 @@ sums_of tables =
     (record { bytes = 0; greatest = None })
     tables.docs) tables.notes) tables.queries) tables.runs) tables.filters
 
--- rows in order: they are numbered by their places from n on, and their arrivals are moments that never fall from low on
+-- rows numbered one by one from n on, whose arrivals are moments that never fall from `low` on
 abbrev pub AreInOrder : {A : Type 0} → (A → ℕ) → (A → ℤ) → ℕ → ℤ → List A → Type 0
 AreInOrder number arrival n low [] = Unit {0}
 AreInOrder number arrival n low (x ∷ xs) =
     (number x ≡ n) × (low ≤ℤ arrival x) × IsMoment (arrival x) × AreInOrder number arrival (n + 1) (arrival x) xs
 
--- rows in order after others
+-- such rows behind others, none of which arrived after that second
 pub record FollowInOrder {A : Type 0} (number : A → ℕ) (arrival : A → ℤ) (others rows : List A) : Type 0 where
   pub low : ℤ
   pub before : Each (λ other. arrival other ≤ℤ low) others

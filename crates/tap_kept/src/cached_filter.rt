@@ -33,14 +33,12 @@ impl CachedFilter {
         CachedFilter { row, rules }
     }
 
-    /// Gives the row.
     pub fn row(&self) -> &FilterRow
         ensures { result.now ≡ self.now }
     {
         &self.row
     }
 
-    /// Gives the rules.
     pub fn rules(&self) -> &Rules
         ensures { rules_in result.now ≡ rules_in_text self.now.source }
     {

@@ -53,7 +53,6 @@ impl CachedQueries {
         self.items.len()
     }
 
-    /// Gives the query at this place.
     pub fn at(&self, place: usize) -> &CachedQuery
         requires { place < length self.now }
         ensures { (d : CachedQuery) → result.now ≡ slice_index_or self.now place d }

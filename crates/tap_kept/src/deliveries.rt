@@ -12,7 +12,7 @@ use std::alloc::Global;
 use tap_base::{Memory, Rows};
 use tap_rows::{Entry, Pick, RunRow};
 
-// Gives the ordinal of a query's next run after so many runs. It fits, since it is no greater than the run's number.
+// Gives the ordinal of a query's next run after that many runs. It fits, since it is no greater than the run's number.
 fn ordinal_after(runs: usize, num: u32) -> u32
     requires { runs + 1 ≤ num }
     ensures value { result ≡ runs + 1 }

@@ -91,7 +91,6 @@ impl PlannedQuery {
         })
     }
 
-    /// Gives the row.
     pub fn row(&self) -> &QueryRow
         ensures { result.now ≡ self.now }
     {

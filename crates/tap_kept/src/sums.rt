@@ -36,7 +36,7 @@ impl Sums {
         }
     }
 
-    // Adds a row of this moment and so many bytes. More bytes than a `usize` counts fit no memory, so that is out of memory.
+    // Adds a row of this moment and that many bytes. More bytes than a `usize` counts fit no memory, so that is out of memory.
     fn add(self, moment: i64, bytes: usize) -> Result<Sums, Memory>
         ensures { IfOk result (λ sums. sums ≡ added moment bytes self) }
     {
@@ -60,7 +60,6 @@ impl Sums {
         Ok(sums)
     }
 
-    // Adds notes.
     pub(crate) fn add_notes(self, notes: &[Note]) -> Result<Sums, Memory>
         ensures { IfOk result (λ sums. sums ≡ summed (λ note. note.arrival) (λ note. length note.text) self notes.now) }
     {
@@ -71,7 +70,6 @@ impl Sums {
         Ok(sums)
     }
 
-    // Adds queries.
     pub(crate) fn add_queries(self, queries: &[QueryRow]) -> Result<Sums, Memory>
         ensures { IfOk result (λ sums. sums ≡ summed (λ query. query.arrival) (λ query. length query.source) self queries.now) }
     {
@@ -93,7 +91,6 @@ impl Sums {
         Ok(sums)
     }
 
-    // Adds filters.
     pub(crate) fn add_filters(self, filters: &[FilterRow]) -> Result<Sums, Memory>
         ensures { IfOk result (λ sums. sums ≡ summed (λ filter. filter.arrival) (λ filter. length filter.source) self filters.now) }
     {

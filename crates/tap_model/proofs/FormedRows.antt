@@ -37,7 +37,7 @@ docs-arrived place low (doc ∷ docs) e =
     let here = and_parts _ _ this.0 in
     ((follows low doc.arrival here.1).0, equal doc.num.0 place here.0, subst (λ n. Arrived n doc.arrival docs) (next place) (docs-arrived (place + 1) doc.arrival docs both.1))
 
--- the row of a number is one of so many
+-- the row of a number is one of that many
 row-within : {A : Type 0} (xs : List A) (i : ℕ) (x : A) → slice_get xs i ≡ Some x → i < length xs
 row-within [] i x e = absurd cc
 row-within (y ∷ xs) zero x e = omega arith

@@ -162,7 +162,7 @@ module _ (truth : Truth) (tables : Tables) (start t : ℤ) where
       at true y e = made g is (le-from tau g y) (some-same g f e)
       at false n e = absurd (none f e)
 
-  -- a document of this number is given before tau at first, if it is at all
+  -- a document of this number is first given before tau, if it is at all
   abbrev IsOld : ℤ → ℕ → Type 0
   IsOld tau num = (doc : Doc) → In doc tables.docs → doc.num.0 ≡ num → (f : ℤ) → first_second truth tables doc start t ≡ Some f → f <ℤ tau
 

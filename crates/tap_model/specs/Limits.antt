@@ -75,7 +75,7 @@ queries_of user tables = length (filter (λ query. bytes_eq query.owner user) ta
 abbrev pub new_users : List ℕ → Tables → ℕ
 new_users user tables = if has_text (owners_in tables) user then 0 else 1
 
--- the limit, if so many more would pass it; none more pass no limit
+-- the limit, if that many more would pass it; none more pass no limit
 abbrev pub limit_refusal : LimitName → ℕ → ℕ → ℕ → Option Refusal
 limit_refusal name limit count more = if (more == 0) || nat_le (count + more) limit then None else Some (Limit name)
 

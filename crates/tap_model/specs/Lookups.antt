@@ -32,7 +32,8 @@ abbrev pub last_of : List ℤ → Option ℤ
 last_of [] = None
 last_of (m ∷ ms) = Some (last_or m ms)
 
--- what a line shows of a query beside its name and its text
+-- what a line shows of a query: its arrival, its start, how many runs it had, the last of their moments, and how many entries its
+-- box has
 abbrev pub state_of : Tables → QueryRow → QueryState
 state_of tables query = record {
   arrival = query.arrival;
@@ -51,7 +52,8 @@ abbrev pub shown_doc : ℕ → Option Doc → Reply
 shown_doc num None = No NoDoc
 shown_doc num (Some doc) = Found (DocText num doc.arrival) (lined doc.text)
 
--- the reply to a look-up that is accepted
+-- what a look-up shows: the lines of a document, the lines of the notes on it, those of the user's queries, or counts with the
+-- least moment that `at` accepts
 abbrev pub lookup_reply : Lookup → Session → Tables → Reply
 lookup_reply (ShowDoc num) session tables = shown_doc num (doc_numbered num tables.docs)
 lookup_reply (ListNotes num) session tables = Found (DocNotes num) (map note_text (notes_on num tables.notes))

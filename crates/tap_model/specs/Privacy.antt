@@ -30,7 +30,7 @@ pub record QueryView : Type 0 where
   pub runs : List ℤ
   pub entries : List Entry
 
--- a query as its user sees it in these tables
+-- a query as its user sees it: its name, source and arrival, the moments of its runs, and what they delivered
 abbrev pub query_view : Tables → QueryRow → QueryView
 query_view tables query = record {
   name = query.name;
@@ -48,7 +48,8 @@ pub record View : Type 0 where
   pub filter : Option (List ℕ)
   pub moment : Option ℤ
 
--- what this user sees
+-- what a user sees: all documents and notes, the user's queries in order, the text of the user's last filter, and the session's
+-- moment
 abbrev pub view_of : List ℕ → Session → Tables → View
 view_of user session tables = record {
   docs = tables.docs;
@@ -58,7 +59,8 @@ view_of user session tables = record {
   moment = session.moment;
 }
 
--- does the refusal depend on what all users share: memory, or room within a limit over all of them?
+-- a refusal that comes of what all users share: out of memory, or a limit `allqueries`, `users`, `filters`, `runs`, `picks` or
+-- `store`
 abbrev pub is_shared : Refusal → Bool
 is_shared Memory = true
 is_shared (Limit AllQueries) = true
@@ -79,8 +81,8 @@ abbrev pub is_user : List ℕ → Option (List ℕ) → Bool
 is_user user None = false
 is_user user (Some name) = bytes_eq name user
 
--- does the command concern the user? A moment, a document and a note concern everybody, a change of the session's user
--- nobody, and every other command the session's user
+-- whom a command concerns: `at`, `mail`, `mbox` and `note` everybody, `as` nobody, every other one (a faulty line too) the
+-- session's user
 abbrev pub concerns : List ℕ → Session → Command → Bool
 concerns user session (AsUser name) = false
 concerns user session (At text) = true
@@ -101,7 +103,7 @@ pub record Deed : Type 0 where
   pub command : Command
   pub giver : Option (List ℕ)
 
--- the deed of a command in a session
+-- a command with the session's user; for `at`, `mail` and `mbox` without, since it doesn't matter who gives them
 abbrev pub deed_of : Session → Command → Deed
 deed_of session command = record { command = command; giver = giver session command }
 
@@ -143,7 +145,7 @@ acts_along user tables session (command ∷ commands) (reply ∷ replies) tables
 acts_along user tables session [] (reply ∷ replies) tables' session' story = []
 acts_along user tables session (command ∷ commands) [] tables' session' story = []
 
--- the acts of a tale that concern the user
+-- the deeds along a story that concern a user, each with its reply
 abbrev pub acts_of : List ℕ → Tale → List Act
 acts_of user tale = acts_along user tale.tables tale.session tale.commands tale.replies tale.tables' tale.session' tale.story
 

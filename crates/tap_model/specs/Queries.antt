@@ -24,7 +24,7 @@ abbrev pub or_never : Result Condition TextFault → Condition
 or_never (Err fault) = Never
 or_never (Ok condition) = condition
 
--- the condition of a text
+-- the condition of a text; of one that is no query, a condition that never holds
 unfoldable pub condition_in : List ℕ → Condition
 condition_in text = or_never (condition_of text)
 

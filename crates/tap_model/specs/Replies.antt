@@ -71,7 +71,7 @@ abbrev pub docs_from : ℕ → ℤ → List (List ℕ) → List Doc
 docs_from num moment [] = []
 docs_from num moment (text ∷ texts) = record { num = record { 0 = num }; arrival = moment; text = text } ∷ docs_from (num + 1) moment texts
 
--- the next documents
+-- the documents of a mailbox file, numbered on
 abbrev pub next_docs : Tables → ℤ → List (List ℕ) → List Doc
 next_docs tables moment texts = docs_from (length tables.docs + 1) moment texts
 
@@ -162,7 +162,7 @@ add_filter source session tables = record {
   change = Some (OneFilter (next_filter tables session source));
 }
 
--- `ask`: the documents for which a text's condition holds at a second
+-- the answer to a question about a past second
 abbrev pub ask_at : Option ℤ → List ℕ → Session → Tables → Answer
 ask_at None source session tables = refused BadMoment session
 ask_at (Some second) source session tables = record {
@@ -226,7 +226,7 @@ abbrev pub answer_by : Option Refusal → Command → Session → Tables → Ans
 answer_by (Some refusal) command session tables = refused refusal session
 answer_by None command session tables = accepted command session tables
 
--- the answer to a command
+-- a command's reply, the session after it, and the rows that it adds
 abbrev pub answer_of : Command → Session → Tables → Answer
 answer_of command session tables = answer_by (verdict command session tables) command session tables
 

@@ -15,7 +15,7 @@ use Rattle.tap_model.specs.Queries.{query_truth, start_of}
 use Rattle.tap_model.specs.Verdicts.{text_fault, filter_fault}
 use Rattle.tap_base.specs.Numbers.{IsMoment}
 
--- if the session has a moment, no row is of a later one
+-- the session has no moment, or one from 0 to 250,000,000,000 with no row after it
 abbrev pub IsNow : Option ℤ → Tables → Type 0
 IsNow None tables = Unit {0}
 IsNow (Some moment) tables = IsMoment moment × IsBy start_of moment tables
@@ -35,15 +35,15 @@ pub record IsSoundWith (deliveries : Type 0) (tables : Tables) (session : Sessio
   pub rules : Each (λ filter. filter_fault filter.source ≡ None) tables.filters
   pub user : IsUser session.user
 
--- a sound point: each query's deliveries are its box, too
+-- a sound point, as every point of a story is: `IsSoundWith`, and each query's deliveries are its box
 abbrev pub IsSound : Tables → Session → Type 0
 IsSound tables session = IsSoundWith (IsKept query_truth start_of tables) tables session
 
--- tables that a session may begin with: those that one left
+-- tables that a session may begin with: sound with a new session, as every sound session leaves them
 abbrev pub IsStore : Tables → Type 0
 IsStore tables = IsSound tables no_session
 
--- does the command look at what a query has delivered?
+-- does the command look at what a query has delivered: `run`, `box`, `list`, `wake`, `digest`, `queries`?
 abbrev pub asks_deliveries : Command → Bool
 asks_deliveries (At text) = false
 asks_deliveries (AsUser name) = false
@@ -66,6 +66,6 @@ asks_deliveries (Find ListQueries) = true
 asks_deliveries (Find Count) = false
 asks_deliveries (Bad refusal) = false
 
--- a sound point, but the deliveries need be boxes only if the command looks at them
+-- a point that is sound for a command: deliveries need be boxes only if the command looks at them
 abbrev pub IsSoundFor : Command → Tables → Session → Type 0
 IsSoundFor command tables session = IsSoundWith (asks_deliveries command ≡ true → IsKept query_truth start_of tables) tables session

@@ -76,7 +76,7 @@ abbrev pub reading_refusal : Result Condition TextFault → Option Refusal
 reading_refusal (Ok condition) = None
 reading_refusal (Err fault) = fault_refusal fault
 
--- the first fault of a text
+-- the refusal of a text that is no query
 unfoldable pub text_fault : List ℕ → Option Refusal
 text_fault text = reading_refusal (condition_of text)
 
@@ -105,7 +105,7 @@ abbrev pub runs_found : Option QueryRow → Tables → ℕ
 runs_found None tables = 0
 runs_found (Some query) tables = length (run_moments query.num.0 tables.runs)
 
--- a query with so many runs has none of this ordinal
+-- a query with this many runs has none of this ordinal
 unfoldable pub no_run : ℕ → ℕ → Option Refusal
 no_run ordinal runs = refuse_unless (nat_le 1 ordinal && nat_le ordinal runs) (NoRun runs)
 
@@ -136,11 +136,11 @@ long_block (Whole text) = None
 abbrev pub bytes_of_all : List (List ℕ) → ℕ
 bytes_of_all messages = sum_by length messages
 
--- the number is no document's, if there are so many documents
+-- the number is no document's, if there are that many documents
 unfoldable pub no_doc : ℕ → ℕ → Option Refusal
 no_doc doc count = refuse_unless (nat_le 1 doc && nat_le doc count) NoDoc
 
--- a note of so many bytes is too long
+-- a note of that many bytes is too long
 unfoldable pub long_note : ℕ → Option Refusal
 long_note len = refuse_unless (nat_le len note_text_limit) (Limit Note)
 
@@ -255,11 +255,12 @@ checks (DigestOf name ordinal) session tables =
     ∷ []
 checks (Find lookup) session tables = lookup_checks lookup session tables
 
--- why the command is refused, if it is
+-- the first check that refuses the command
 abbrev pub verdict : Command → Session → Tables → Option Refusal
 verdict command session tables = first_refusal (checks command session tables)
 
--- the checks that a command makes before it asks for memory: those before a text is read, a mailbox file cut, or runs counted
+-- the checks of a command before it asks for memory: those before the text of a query, a filter or a question is read, a mailbox
+-- file is cut, or the runs of a digest are counted; of every other command all checks
 abbrev pub early_checks : Command → Session → Tables → List (Option Refusal)
 early_checks (Define name source) session tables = take 4 (checks (Define name source) session tables)
 early_checks (Mbox block) session tables = take 1 (checks (Mbox block) session tables)
@@ -268,7 +269,8 @@ early_checks (Ask moment source) session tables = take 2 (checks (Ask moment sou
 early_checks (DigestOf name ordinal) session tables = take 3 (checks (DigestOf name ordinal) session tables)
 early_checks command session tables = checks command session tables
 
--- does the command need no memory? One of these checks refuses it, or it sets the moment or counts
+-- does the command need no memory, and so never get `no 18`? `at`, a line that is no command, `counts`, and one that such a check
+-- refuses
 abbrev pub is_spared : Command → Session → Tables → Bool
 is_spared (Bad refusal) session tables = true
 is_spared (At text) session tables = true

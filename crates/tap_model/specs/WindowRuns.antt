@@ -34,14 +34,15 @@ found_since query tables moment =
     meaning_without (is_delivered (delivered query.num.0 tables)) (probes_of_query query) (asked_rows tables)
     (record { low = covered (start_of query) query.num.0 tables.runs; high = moment })
 
--- the moment that `wake` names is the second after the least mark that the window query finds since the last run, or now if
--- that is later
+-- at a sound point, of a query that is there: `wake_moment` is the second after the least mark that the window query finds since
+-- the last run, without what was delivered, or now if that is later
 abbrev pub WakesAreWindows : Type 0
 WakesAreWindows =
     (tables : Tables) (session : Session) (query : QueryRow) (now : ℤ) → IsSound tables session → In query tables.queries → IsMoment now
     → next_wake now (found_since query tables (pos LAST_MOMENT)) ≡ wake_moment query tables now
 
--- a run at a moment that is not before the last delivers what the window query finds
+-- at a sound point, a run that isn't before the query's last run, or its start, delivers what its window query finds since then,
+-- without what it has delivered
 abbrev pub RunsAreWindows : Type 0
 RunsAreWindows =
     (tables : Tables) (session : Session) (query : QueryRow) (moment : ℤ) → IsSound tables session → In query tables.queries

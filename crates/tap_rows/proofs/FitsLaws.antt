@@ -16,7 +16,7 @@ use Rattle.tap_rows.specs.Tables.{after}
 use Rattle.tap_rows.specs.WellFormed.{row_at, is_row, doc_stands, docs_stand, note_stands, notes_stand, query_stands, queries_stand, run_stands, runs_stand, is_picked, pick_stands, picks_stand, filter_stands, filters_stand, is_well_formed}
 use Rattle.tap_rows.specs.Fits.{last_row, moment_or_start, low_of, fits}
 
--- what the last of some elements hands on, or the state before where there is none
+-- what the last of some elements hands on, or the state before if there is none
 abbrev last_from : {A S : Type 0} → (A → S) → S → List A → S
 last_from next s [] = s
 last_from next s (x ∷ xs) = last_from next (next x) xs

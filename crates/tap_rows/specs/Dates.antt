@@ -55,7 +55,7 @@ months =
 abbrev pub month_of : List ℕ → Option ℕ
 month_of part = option_map (λ i. i + 1) (position (λ month. str_eq_ignore_ascii_case part month) months)
 
--- the year that a number of so many digits means (RFC 5322 4.3)
+-- the year that a number of that many digits means (RFC 5322 4.3)
 abbrev pub full_year : ℕ → ℕ → ℕ
 full_year digits n = if digits == 4 then n else (if digits == 2 && nat_lt n 50 then n + 2000 else n + 1900)
 
@@ -140,6 +140,7 @@ date_from (day ∷ []) = None
 date_from (day ∷ month ∷ []) = None
 date_from (day ∷ month ∷ year ∷ []) = None
 
--- the second of a Date field's value, if it is a date
+-- the second of a Date value, if it is a moment: its day, month, year, time and zone, without weekday and comments; no zone means
+-- Greenwich
 abbrev pub date_of : List ℕ → Option ℤ
 date_of value = date_from (without_weekday (date_parts (without_comments 0 value)))

@@ -23,7 +23,7 @@ picked runs pick = record { doc = pick.doc; first = pick.first; run = run_ordina
 abbrev pub picks_of : ℕ → List Pick → List Pick
 picks_of query picks = filter (λ pick. pick.query.0 == query) picks
 
--- what a query has delivered: its picks in order
+-- what a query has delivered: its stored picks in order, each with the ordinal of its run
 abbrev pub delivered : ℕ → Tables → List Entry
 delivered query tables = map (picked tables.runs) (picks_of query tables.picks)
 
@@ -40,7 +40,8 @@ pick_rows num query run (hit ∷ hits) = record { num = num; query = query; run 
 abbrev pub next_run : Tables → QueryNum → ℤ → RunRow
 next_run tables query moment = record { num = length tables.runs + 1; query = query; moment = moment }
 
--- the rows that a run adds: itself, and a pick for each document that it delivers
+-- the rows that a run adds: itself, and a pick for each document that is fresh since the last run, or since the start if there
+-- was none
 abbrev pub run_change : Truth → ℤ → Tables → QueryNum → ℤ → Change
 run_change truth start tables query moment =
     RunDone (next_run tables query moment) (pick_rows (length tables.picks + 1) query (length tables.runs + 1) (run_hits truth start tables query.0 moment))

@@ -5,13 +5,13 @@ use Rattle.std.specs.Str.{str_to_ascii_lowercase}
 use Rattle.tap_base.specs.Bytes.{is_blank}
 use Rattle.tap_rows.specs.Headers.{trimmed}
 
--- the address of an entry: what is between the first `<` and the next `>`, or else what is before the first `(`, trimmed
+-- the address of a part: what is between the first `<` and the next `>`, or else what is before the first `(`, trimmed
 abbrev pub address_of : List ℕ → List ℕ
 address_of part =
     if list_any (λ b. b == 62) (after_first (λ b. b == 60) part) then before_first (λ b. b == 62) (after_first (λ b. b == 60) part)
     else trimmed (before_first (λ b. b == 40) part)
 
--- the entries of some parts: their addresses with A to Z lowered, without those that are empty
+-- the addresses of some parts, A to Z lowered, without empty ones
 abbrev pub addresses_in : List (List ℕ) → List (List ℕ)
 addresses_in parts = filter (λ entry. not (length entry == 0)) (map (λ part. str_to_ascii_lowercase (address_of part)) parts)
 
@@ -22,7 +22,7 @@ comma_parts_from quoted (b ∷ bytes) =
     if b == 34 then onto_first b (comma_parts_from (not quoted) bytes)
     else (if b == 44 && not quoted then [] ∷ comma_parts_from quoted bytes else onto_first b (comma_parts_from quoted bytes))
 
--- the parts of a value between the commas outside quotes
+-- the parts of a value between commas; a comma cuts if the number of `"` before it is even
 abbrev pub comma_parts : List ℕ → List (List ℕ)
 comma_parts value = comma_parts_from false value
 

@@ -38,7 +38,7 @@ fields_in header body size = record {
   size = size;
 }
 
--- the fields of a message's text
+-- the fields of a document that queries speak of, except its number and its arrival
 abbrev pub fields_of : List ℕ → Fields
 fields_of text = fields_in (header_of (message_lines text)) (body_of (message_lines text)) (length text)
 

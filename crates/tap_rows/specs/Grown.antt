@@ -5,7 +5,7 @@ use Rattle.tap_rows.specs.declared.rows.Doc.{Doc}
 use Rattle.tap_rows.specs.declared.rows.Note.{Note}
 use Rattle.tap_rows.specs.Kept.{Each}
 
--- `later` has the rows of `tables` and then documents and notes that arrived at t or later
+-- documents and notes that arrived at t or later were appended; nothing is said of other rows
 pub record Grown (t : ℤ) (tables later : Tables) : Type 0 where
   pub new_docs : List Doc
   pub new_notes : List Note

@@ -81,15 +81,17 @@ abbrev pub lacks_header : List (List ℕ) → Bool
 lacks_header [] = true
 lacks_header (line ∷ lines) = continues_field line
 
--- the fields of a message's header
+-- the fields of a message's header: those up to the first line that neither begins nor continues one; none if the first line
+-- begins with a blank
 abbrev pub header_of : List (List ℕ) → List HeaderField
 header_of lines = if lacks_header lines then [] else fields_from lines
 
--- the lines of a message's body: those after the empty line that ends the header, or from any other line on that ends it
+-- the lines of a message's body: from the line that ends the header on, without that line if it is empty; all lines if the first
+-- begins with a blank
 abbrev pub body_of : List (List ℕ) → List (List ℕ)
 body_of lines = if lacks_header lines then lines else without_empty_start (after_header lines)
 
--- the values of all fields of this name, in order, without blanks at their ends
+-- the values of all fields of this name, compared without case, without blanks at their ends
 abbrev pub values_of : List ℕ → List HeaderField → List (List ℕ)
 values_of name [] = []
 values_of name (field ∷ fields) =

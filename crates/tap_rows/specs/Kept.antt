@@ -50,7 +50,8 @@ pub record IsKeptQuery (truth : QueryRow → Truth) (start : QueryRow → ℤ) (
   pub rising : Rising (start query) (run_moments query.num.0 tables.runs)
   pub box : delivered query.num.0 tables ≡ box_of (truth query) tables (start query) query.num.0
 
--- the rows are numbered by their places, runs and picks refer to rows that are there, and `IsKeptQuery` holds of each query
+-- documents, queries and runs are numbered by their places, and documents arrive in order; each pick is of a run of its query;
+-- each query's run moments never fall from its start on, and what it has delivered is its box
 pub record IsKept (truth : QueryRow → Truth) (start : QueryRow → ℤ) (tables : Tables) : Type 0 where
   pub docs : Arrived 1 (pos 0) tables.docs
   pub queries : QueriesFrom 1 tables.queries

@@ -14,7 +14,7 @@ use Rattle.tap_rows.specs.Seconds.{least_second}
 abbrev pub Truth : Type 0
 Truth = Tables → Doc → ℤ → Bool
 
--- the tables as they are seen at a second: the documents and notes that arrived by then
+-- the tables as they are seen at a second: the documents and notes that had arrived by then, and all other rows
 abbrev pub visible : Tables → ℤ → Tables
 visible tables s = record tables {
   docs = filter (λ doc. int_le doc.arrival s) tables.docs;
@@ -25,11 +25,12 @@ visible tables s = record tables {
 abbrev pub is_given : Truth → Tables → Doc → ℤ → Bool
 is_given truth tables doc s = int_le doc.arrival s && truth tables doc s
 
--- the snapshot: the documents that are given at this second, in order of numbers
+-- the documents that are given at a second, in order of numbers: those that had arrived by then and for which the condition holds
+-- then
 abbrev pub snapshot : Truth → Tables → ℤ → List Doc
 snapshot truth tables s = filter (λ doc. is_given truth tables doc s) tables.docs
 
--- the least second from a up to but without t at which the document is given
+-- the least second, from the start on and below t, at which the document is given (found by trying the seconds upward)
 abbrev pub first_second : Truth → Tables → Doc → ℤ → ℤ → Option ℤ
 first_second truth tables doc a t = least_second (is_given truth tables doc) a t
 
@@ -61,11 +62,11 @@ abbrev pub at_least : ℤ → Option ℤ → Option ℤ
 at_least tau None = None
 at_least tau (Some second) = if int_le tau second then Some second else None
 
--- the documents that were given for the first time, from the start on, at tau or later and below t
+-- the documents whose first second is tau or later and below t, in order of that second, then of number
 abbrev pub fresh_in : Truth → Tables → ℤ → ℤ → ℤ → List Hit
 fresh_in truth tables start tau t = hits_by (λ doc. at_least tau (first_second truth tables doc start t)) tables.docs
 
--- all documents that were given from the start on and below t, each with its first second
+-- all documents that were given at some second from the start on and below t, each with the first of these
 abbrev pub union_until : Truth → Tables → ℤ → ℤ → List Hit
 union_until truth tables start t = fresh_in truth tables start start t
 
@@ -86,7 +87,7 @@ last_or second (m ∷ ms) = last_or m ms
 abbrev pub covered : ℤ → ℕ → List RunRow → ℤ
 covered start query runs = last_or start (run_moments query runs)
 
--- the ordinal, from 1, of the first run whose moment is above this second
+-- the ordinal, from 1, of the first run whose moment is above a second; if there is none, that of the next run
 abbrev pub run_of : ℤ → List ℤ → ℕ
 run_of second [] = 1
 run_of second (m ∷ ms) = if int_lt second m then 1 else suc (run_of second ms)

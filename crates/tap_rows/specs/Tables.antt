@@ -8,7 +8,7 @@ use Rattle.tap_rows.specs.declared.change.Change.TheVariants.{Docs, OneNote, One
 abbrev pub no_rows : Tables
 no_rows = record { docs = []; notes = []; queries = []; runs = []; picks = []; filters = [] }
 
--- the rows of the change are appended, in their order
+-- the tables with the rows of a change appended, in their order
 abbrev pub after : Tables → Change → Tables
 after tables (Docs docs) = record tables { docs = tables.docs ++ docs }
 after tables (OneNote note) = record tables { notes = tables.notes ++ note ∷ [] }

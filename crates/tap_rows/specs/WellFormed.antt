@@ -118,7 +118,10 @@ abbrev pub filters_stand : ℕ → ℤ → List FilterRow → Bool
 filters_stand place low [] = true
 filters_stand place low (filter ∷ filters) = filter_stands place low filter && filters_stand (place + 1) filter.arrival filters
 
--- all rows stand in order
+-- each row has its place as its number, a moment from 0 to the last one and not below that of the row before, names that are
+-- names, and references to rows that were there by then; no document is longer than a message may be; no user has two queries of
+-- one name; a pick is of a run of its query, its second is from its document's arrival on and below the run's moment, no query
+-- picks a document twice, and picks are in order of run, second and document
 abbrev pub is_well_formed : Tables → Bool
 is_well_formed tables =
     docs_stand 1 (pos 0) tables.docs && notes_stand tables.docs 1 (pos 0) tables.notes && queries_stand [] 1 (pos 0) tables.queries

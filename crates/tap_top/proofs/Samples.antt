@@ -42,7 +42,7 @@ each-append : (xs ys : List Reply) → NeverOutOfMemory xs → NeverOutOfMemory 
 each-append [] ys none more = more
 each-append (x ∷ xs) ys none more = (none.0, each-append xs ys none.1 more)
 
--- nothing refuses exactly where all replies are accepted
+-- nothing refuses if and only if all replies are accepted
 none-refused : (b : Bool) (n : ℕ) (rest : Bool) → (n == 0) ≡ rest → (((if b then 0 else 1) + n) == 0) ≡ (b && rest)
 none-refused true n rest is = ap (λ m. m == 0) (zero-more n) ∙ is where
   zero-more : (n : ℕ) → 0 + n ≡ n

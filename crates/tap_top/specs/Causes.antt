@@ -2,8 +2,8 @@
 use Rattle.std.specs.Prelude.{ℕ, ◌≡◌, ◌≢◌, ◌↔◌, Bool, true, false}
 use Rattle.tap_base.specs.Counts.{Rose}
 
--- status 3 comes only if a read failed, and with every other status no read failed; status 4 and puts alike; status 5 comes
--- only if the keeper failed, which has stopped then and only then; a keeper that hasn't stopped has not failed
+-- 3, 4 and 5 come only if the count of faults of the source, of the sink or of the keeper rose, each its own; with every other
+-- status than its own each count is unchanged; 5 comes if and only if the keeper has stopped
 pub record Causes (status reads reads' puts puts' keeps keeps' : ℕ) (halted : Bool) : Type 0 where
   pub read_cause : status ≡ 3 → Rose reads reads'
   pub read_calm : status ≢ 3 → reads' ≡ reads

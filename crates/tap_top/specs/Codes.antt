@@ -23,16 +23,16 @@ PerformedAll status = code_of status ≤ 1
 abbrev pub is_all_ok : Status → Bool
 is_all_ok status = code_of status == 0
 
--- how a run ends that reached the end of its input, or that had none
+-- the statuses that a run may end with if it reached the end of its input or had none
 abbrev pub IsOfClose : Status → Type 0
 IsOfClose status = PerformedAll status ⊎ (status ≡ s.PutFailed ⊎ (status ≡ s.KeeperFailed ⊎ status ≡ s.OutOfMemory))
 
--- how a run ends over a store that was opened
+-- the statuses that a run may end with over a store that was opened
 abbrev pub IsOfRun : Status → Type 0
 IsOfRun status =
     PerformedAll status
     ⊎ (status ≡ s.ReadFailed ⊎ (status ≡ s.PutFailed ⊎ (status ≡ s.KeeperFailed ⊎ (status ≡ s.OutOfMemory ⊎ status ≡ s.ScriptTooLong))))
 
--- how a run ends over a store that was refused
+-- the statuses that a run may end with over a store that was refused
 abbrev pub IsOfRefusal : Status → Type 0
 IsOfRefusal status = status ≡ s.StoreRefused ⊎ status ≡ s.PutFailed

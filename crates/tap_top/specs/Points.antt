@@ -23,7 +23,7 @@ SoundAlong tables session (command ∷ commands) (reply ∷ replies) tables' ses
 SoundAlong tables session [] (reply ∷ replies) tables' session' story = ⊥
 SoundAlong tables session (command ∷ commands) [] tables' session' story = ⊥
 
--- a keeper can be attached at a place
+-- a keeper can be attached at a path: it is free, and the path is UTF-8
 pub record CanOpen {K : Type 0} (g : Ghosts K) (keeper : K) (place : List ℕ) : Type 0 where
   pub free : IsFree g keeper
   pub text : IsUtf8 place
@@ -34,7 +34,7 @@ pub record CanPerform {K : Type 0} (g : Ghosts K) (engine : Engine) (keeper : K)
   pub running : engine.stopped ≡ false
   pub attached : IsAttached g keeper
 
--- the engine represents these tables, which are sound in its session; the keeper tells them, and a crash leaves these alone
+-- the engine represents these tables, which are sound in its session; the keeper tells them, and a crash leaves exactly these
 pub record EngineMatchesKeeper (engine : Engine) (tells leaves : Tables → Type 0) (tables : Tables) : Type 0 where
   pub represents : Represents engine tables
   pub sound : IsSound tables engine.session

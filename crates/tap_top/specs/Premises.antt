@@ -8,7 +8,7 @@ use Rattle.tap_model.specs.Sound.{IsStore}
 use Rattle.tap_engine.specs.declared.engine.Engine.{Engine}
 use Rattle.tap_top.specs.Points.{EngineMatchesKeeper}
 
--- the keeper tells these tables, and a crash leaves them alone
+-- the keeper tells these tables, and a crash leaves exactly these
 abbrev pub IsDurableIn : {K : Type 0} (g : Ghosts K) (keeper : K) → Tables → Type 0
 IsDurableIn g keeper = IsDurable (g.tells keeper) (g.may_leave keeper)
 

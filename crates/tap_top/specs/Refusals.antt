@@ -59,7 +59,8 @@ unread_by (Some num) = Some (Damaged Filters num Text)
 abbrev pub row_fault : Tables → Option StoreFault
 row_fault tables = option_or (damaged_by (damage_of tables)) (unread_by (first_unread tables.filters))
 
--- why a store of this version with these tables is refused
+-- why a store of this version with these tables is refused: an unknown version, else the first damaged row, else the first filter
+-- that can't be read
 abbrev pub fault_of : ℤ → Tables → Option StoreFault
 fault_of version tables = if is_attachable version then row_fault tables else Some (Version version)
 
@@ -70,7 +71,7 @@ pub record CutLine (status : ℕ) (text : List ℕ) (out out' : Option (List ℕ
   pub whole : status ≡ 6 → take n text ≡ text
 
 -- a store with this fault was refused, or not looked at: of its line the first n bytes were put, all of them with status 6;
--- nothing was read, its tables are as before, and a crash leaves these alone
+-- nothing was read, its tables are as before, and a crash leaves exactly these
 pub record Refused (status : ℕ) (fault : StoreFault) (left left' out out' : Option (List ℕ))
     (tells leaves : Tables → Type 0) (tables : Tables) : Type 0 where
   pub statuses : status ≡ 2 ⊎ (status ≡ 4 ⊎ (status ≡ 5 ⊎ (status ≡ 6 ⊎ status ≡ 7)))

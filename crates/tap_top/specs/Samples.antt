@@ -127,6 +127,6 @@ pub record LeavesFirst (tables : Tables) (commands : List Command) (leaves : Tab
   pub story : Story tables no_session done replies tables' session'
   pub each : (x : Tables) → leaves x → IsPrefixOfStory tables done replies 0 x
 
--- a crash leaves these tables alone
+-- a crash leaves exactly these tables
 abbrev pub LeavesOnly : Tables → (Tables → Type 0) → Type 0
 LeavesOnly tables leaves = (x : Tables) → leaves x → x ≡ tables

@@ -68,7 +68,7 @@ PutCut tables left left' out out' Ends = CutAt left left' (λ done last. CutOff 
 abbrev pub KeeperCut : Tables → Option (List ℕ) → Option (List ℕ) → Option (List ℕ) → Option (List ℕ) → (Tables → Type 0) → Type 0
 KeeperCut tables left left' out out' leaves = CutAt left left' (λ done next. Uncommitted tables no_session done next out out' leaves)
 
--- status 5, after a failed attach: nothing was read or written, and a crash leaves the tables alone
+-- status 5, after a failed attach: nothing was read or written, and a crash leaves exactly the tables
 pub record Unattached (tables : Tables) (left left' out out' : Option (List ℕ)) (leaves : Tables → Type 0) : Type 0 where
   pub unread : left' ≡ left
   pub unwritten : out' ≡ out

@@ -17,9 +17,7 @@ MayBeMigrated v versions' = versions' v ⊎ ((v ≡ pos 1) × versions' (pos 2))
 abbrev pub MayBeUnopened : ℕ → Type 0
 MayBeUnopened status = (status ≡ 2) ⊎ ((status ≡ 4) ⊎ ((status ≡ 5) ⊎ ((status ≡ 6) ⊎ (status ≡ 7))))
 
--- the version of a store after a run, by the status: 2 after one that certainly opened it; the version before after refused
--- words; with 4 and 6 the version before, but 2 for 1; with 7 the version before, or perhaps 2 for 1; nothing is said of it if
--- the keeper failed
+-- a table: 0, 1, 3, 8, 9: 2; 2: as before; 4, 6: as before, but 2 for 1; 7: as before, or 2 for 1; 5: nothing is said
 pub record VersionAtExit (status : ℕ) (versions versions' : ℤ → Type 0) : Type 0 where
   pub opened : (MayBeUnopened status → ⊥) → versions' (pos 2)
   pub unattached : status ≡ 2 → (v : ℤ) → versions v → versions' v

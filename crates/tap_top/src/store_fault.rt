@@ -40,7 +40,6 @@ fn push_number<I: Integer>(line: &mut ArrayVec<u8, 128>, n: I)
     push(line, digits.format(n).as_bytes());
 }
 
-// Returns the word of a table.
 fn word_of_table(table: TableName) -> &'static [u8]
     ensures word { result.now ≡ table_word table }
     ensures short { length result.now ≤ 7 }
@@ -55,7 +54,6 @@ fn word_of_table(table: TableName) -> &'static [u8]
     }
 }
 
-// Returns the word of a reason.
 fn word_of_reason(why: Why) -> &'static [u8]
     ensures word { result.now ≡ why_word why }
     ensures short { length result.now ≤ 9 }

@@ -55,7 +55,7 @@ copy_atom (Texts x op y) = Texts (copy_text x) op (copy_text y)
 copy_atom (Times x op y) = Times (copy_term x) op (copy_term y)
 copy_atom (Has v f y) = Has (copy v) f (copy_text y)
 
--- atoms that are true if the condition is
+-- the conjuncts of a condition that are atoms without now: they hold whenever it does
 abbrev pub guards_of : Condition → List Atom
 guards_of (Plain a) = a ∷ []
 guards_of (All l r) = guards_of l ++ guards_of r
@@ -82,7 +82,7 @@ abbrev pub mark_if : Bool → Term → List Mark
 mark_if true e = record { path = []; at = e } ∷ []
 mark_if false e = []
 
--- the marks of sign plus (true), at which the condition can become true, or of sign minus (false), at which it can become false
+-- the terms at which a condition can become true (sign plus) or false (sign minus), each with the path of rows that it speaks of
 abbrev pub marks : Condition → Bool → List Mark
 marks Always up = []
 marks Never up = []
@@ -114,7 +114,8 @@ marks_from c a = (mark_if true (arrival_term document_var) ++ marks c true) ++ m
 abbrev pub rising_from : Condition → ℤ → List Mark
 rising_from c a = map (under_step (step_of document_var Docs c)) (marks_from c a)
 
--- the condition with the term in the place of now, over all rows
+-- the condition with a term in the place of now; each EXISTS also asks that its row has come by then, so it is asked over all
+-- rows
 abbrev pub body : Condition → Term → Condition
 body Always at = Always
 body Never at = Never

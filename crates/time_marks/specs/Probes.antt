@@ -15,7 +15,7 @@ use Rattle.tql_core.specs.Holds.{truth}
 use Rattle.time_marks.specs.declared.mark.Step.{Step}
 use Rattle.time_marks.specs.declared.window.Window.{Window}
 
--- a mark, and the condition's body there
+-- a path of rows, a mark and a body
 pub record Probe : Type 0 where
   pub path : List Step
   pub at : Term
@@ -47,7 +47,8 @@ come_by b env = list_all (λ bound. int_le (arrival bound.row) b) env
 abbrev pub is_satisfied : Probe → Tables → ℤ → Env → Bool
 is_satisfied p T b env = guards_true p.path env && is_value (value p.at env) b && come_by b env && truth T (pos 0) p.body env
 
--- the probe finds the document with the mark b
+-- the probe finds the document at b: there are rows for its path that have come by b, all guards hold, the mark has the value b,
+-- and the body holds
 abbrev pub finds : Tables → Doc → ℤ → Probe → Bool
 finds T d b p = some_rows T d p.path [] (is_satisfied p T b)
 

@@ -19,7 +19,7 @@ seek_from B.Fixed plus = Fixed plus
 seek_from (B.ArrivalDay v n) plus = ArrivedDay v n
 seek_from (B.DateDay v n) plus = DatedDay v n
 
--- the seek of a mark
+-- a mark solved for the stored second of its driving row: the arrival or date, of a fixed mark its moment
 abbrev pub seek_of : Term → Seek
 seek_of e = seek_from e.base e.plus
 

@@ -15,7 +15,7 @@ probe_in nodes p = record { path = p.path; at = p.at; body = tree_at nodes p.bod
 abbrev pub probes_in : List TNode → List CodeProbe → List Probe
 probes_in nodes probes = map (probe_in nodes) probes
 
--- the probes of a query
+-- the probes of a query of the code, their bodies read from its pool
 abbrev pub probes_of : WindowQuery → List Probe
 probes_of q = probes_in q.pool q.probes
 

@@ -20,7 +20,7 @@ pub enum Seek {
     DatedDay { var: Var, plus: i64 },
 }
 
-// Returns the window moved back by so many seconds.
+// Returns the window moved back by that many seconds.
 fn moved_back(w: Window, by: i64) -> Window
     requires by { is_near by ≡ true }
     requires low { IsWithin 510000000000 w.low }

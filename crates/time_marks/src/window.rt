@@ -39,7 +39,7 @@ fn earlier(a: i64, b: i64) -> i64
     if a < b { a } else { b }
 }
 
-// Returns an end moved by so many seconds.
+// Returns an end moved by that many seconds.
 fn moved_end(end: i64, by: i64) -> i64
     requires end { IsWithin 1000000000000 end }
     requires by { IsWithin 1000000000000 by }
@@ -74,7 +74,7 @@ impl Window {
         }
     }
 
-    /// Returns the window with both ends moved by so many seconds.
+    /// Returns the window with both ends moved by that many seconds.
     pub fn shift(self, by: i64) -> Window
         requires low { IsWithin 1000000000000 self.low }
         requires high { IsWithin 1000000000000 self.high }

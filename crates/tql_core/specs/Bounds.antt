@@ -36,7 +36,7 @@ is_bounded_atom (Texts x op y) = true
 is_bounded_atom (Times x op y) = is_bounded x && is_bounded y
 is_bounded_atom (Has v f y) = true
 
--- each time of a condition is one that typing gives
+-- each time of a condition adds or takes off at most 450,000,086,400 seconds, also before a day begins, and nothing after
 abbrev pub are_bounded : Condition → Bool
 are_bounded Always = true
 are_bounded Never = true

@@ -6,7 +6,8 @@ use Rattle.tql_core.specs.declared.atom.Atom.{Atom}
 use Rattle.tql_core.specs.declared.cond.Cond.{Cond}
 use Rattle.tql_core.specs.declared.cond.Cond.TheVariants as C
 
--- a condition; one with neither NowAtLeast nor NowBefore is timeless
+-- a condition without the places in memory of its parts, as every law reads it; one with neither NowAtLeast nor NowBefore is
+-- timeless
 pub data Condition : Type 0 where
   Always : Condition
   Never : Condition

@@ -9,7 +9,7 @@ use Rattle.tql_core.specs.Condition.{Condition, Always, Never, Plain, NowAtLeast
 use Rattle.tql_core.specs.Row.{OfDoc, rows_of}
 use Rattle.tql_core.specs.Values.{Env, bind, value, both, true_atom}
 
--- the truth over these rows, with now at s
+-- the truth of a condition over tables, for variables that have rows, with s as now
 abbrev pub truth : Tables → ℤ → Condition → Env → Bool
 truth tables s Always env = true
 truth tables s Never env = false
@@ -29,6 +29,6 @@ holds c env tables s = truth (visible tables s) s c env
 abbrev pub asked_of : Doc → Env
 asked_of doc = record { var = 0; row = OfDoc doc } ∷ []
 
--- a condition as the truth of a document at a second
+-- a condition as the truth of a document at a second: the `m` of the query is the document
 abbrev pub truth_of : Condition → Truth
 truth_of c tables doc s = holds c (asked_of doc) tables s

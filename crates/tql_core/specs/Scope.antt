@@ -48,7 +48,7 @@ Scoped scope (Either l r) = Scoped scope l × Scoped scope r
 Scoped scope (Not x) = Scoped scope x
 Scoped scope (Exists v t x) = (1 ≤ v.0) × (v.0 ≤ 5) × (In v.0 scope → ⊥) × Scoped (v.0 ∷ scope) x
 
--- m alone is free in the condition
+-- `m` alone is free, and each EXISTS binds a variable from 1 to 5 that isn't in scope there
 abbrev pub IsQuery : Condition → Type 0
 IsQuery c = Scoped (0 ∷ []) c
 

@@ -26,7 +26,7 @@ node_tree (Some (N.Either l r)) part = Either (part l.0) (part r.0)
 node_tree (Some (N.Not x)) part = Not (part x.0)
 node_tree (Some (N.Exists v t x)) part = Exists v t (part x.0)
 
--- the condition of the node at a number, read at most so many nodes deep
+-- the condition of the node at a number, read at most that many nodes deep
 abbrev pub tree : List TNode → ℕ → ℕ → Condition
 tree nodes zero id = Never
 tree nodes (suc n) id = node_tree (slice_get nodes id) (tree nodes n)

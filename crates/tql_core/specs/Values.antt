@@ -54,7 +54,7 @@ on_row (Some r) f = f r
 abbrev pub round_up_to_day : ℤ → ℤ
 round_up_to_day x = x +ℤ int_rem_euclid (neg_ℤ x) (pos 86400)
 
--- the start of the day of a second that may be absent, and so many seconds more
+-- the start of the day of a second that may be absent, and that many seconds more
 abbrev pub day_of : ℤ → Option ℤ → Option ℤ
 day_of n None = None
 day_of n (Some x) = Some (round_up_to_day (x +ℤ n))
@@ -67,7 +67,7 @@ base_value Fixed env = Some (pos 0)
 base_value (ArrivalDay v n) env = on_row (lookup v.0 env) (λ r. Some (round_up_to_day (arrival r +ℤ n)))
 base_value (DateDay v n) env = on_row (lookup v.0 env) (λ r. day_of n (date r))
 
--- a second that may be absent, and so many seconds more
+-- a second that may be absent, and that many seconds more
 abbrev pub plus_to : Option ℤ → ℤ → Option ℤ
 plus_to None n = None
 plus_to (Some x) n = Some (x +ℤ n)
@@ -157,7 +157,7 @@ has None y = false
 has (Some xs) None = false
 has (Some xs) (Some y) = list_any (λ x. is_eq (text_cmp x y)) xs
 
--- the truth of an atom
+-- the truth of an atom; false if a side is absent
 abbrev pub true_atom : Atom → Env → Bool
 true_atom (Numbers x op y) env = both op (number x env) (number y env)
 true_atom (Texts x op y) env = both_texts op (text x env) (text y env)

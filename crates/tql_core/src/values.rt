@@ -21,7 +21,7 @@ fn round_up_to_day(x: i128) -> i128
     x + (-x).rem_euclid(DAY)
 }
 
-// Returns the start of the first day from a row's arrival plus so many seconds on.
+// Returns the start of the first day from a row's arrival plus that many seconds on.
 fn start_of_day(row: RowRef<'_>, plus: i64) -> i128
     ensures range { IsWide result }
     ensures value { result ≡ round_up_to_day (arrival (row_of row.entry) +ℤ plus) }
@@ -29,7 +29,7 @@ fn start_of_day(row: RowRef<'_>, plus: i64) -> i128
     round_up_to_day(i128::from(arrival(row)) + i128::from(plus))
 }
 
-// Returns the start of the first day from a date plus so many seconds on, if there is a date.
+// Returns the start of the first day from a date plus that many seconds on, if there is a date.
 fn day_of(plus: i64, date: Option<i64>) -> Option<i128>
     ensures range { IfSome result IsWide }
     ensures value { result ≡ day_of plus date }

@@ -56,7 +56,7 @@ abbrev pub in_order : ℕ → List Token → ℕ → Type 0
 in_order from [] end = from ≤ end
 in_order from (t ∷ tokens) end = (from ≤ t.place) × (t.place < t.end) × in_order t.end tokens end
 
--- a number is not below 0 (other tokens are none)
+-- a number is not below 0 (other tokens aren't numbers)
 abbrev pub IsNotBelow : Kind → Type 0
 IsNotBelow (Number n) = pos 0 ≤ℤ n
 IsNotBelow kind = Unit {0}

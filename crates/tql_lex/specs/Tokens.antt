@@ -33,7 +33,7 @@ is_of_word b = begins_word b || is_digit b
 abbrev pub run : (ℕ → Bool) → List ℕ → ℕ
 run test text = position_or_len (λ b. not (test b)) text
 
--- so many bytes more, which write this content
+-- that many bytes more, which write this content
 abbrev pub with_content : List ℕ → ℕ → Option (List ℕ × ℕ) → Option (List ℕ × ℕ)
 with_content content len None = None
 with_content content len (Some x) = Some (content ++ x.0, len + x.1)
@@ -78,7 +78,7 @@ long_sign b c =
 abbrev pub most : ℕ
 most = 2 ^ 63 - 1
 
--- a token from here on, so many bytes long
+-- a token from here on, that many bytes long
 abbrev pub token : Kind → ℕ → ℕ → Token
 token kind place len = record { kind = kind; place = place; end = place + len }
 
@@ -127,7 +127,7 @@ abbrev pub onto : Result Token LexFault → (ℕ → Result (List Token) LexFaul
 onto (Err fault) others = Err fault
 onto (Ok t) others = with_front (t ∷ []) (others t.end)
 
--- the tokens of the text from a place on, of which so many bytes belong to the token before
+-- the tokens of the text from a place on, of which that many bytes belong to the token before
 abbrev pub tokens_from : ℕ → ℕ → List ℕ → Result (List Token) LexFault
 tokens_from inside place [] = Ok []
 tokens_from (suc inside) place (b ∷ rest) = tokens_from inside (place + 1) rest
@@ -139,6 +139,6 @@ tokens_from zero place (b ∷ rest) =
 abbrev pub lexed : List ℕ → Result (List Token) LexFault
 lexed text = if nat_lt 4096 (length text) then Err (TooLong (length text)) else tokens_from 0 0 text
 
--- a text from this place on ends at a place that a `u32` can tell
+-- a text from this place on ends at a place of 32 bits
 abbrev pub EndFits : ℕ → List ℕ → Type 0
 EndFits place text = place + length text < 2 ^ 32

@@ -76,7 +76,7 @@ pub data GrammarPart : Type 0 where
   Conj : GrammarPart
   One : GrammarPart
 
--- The tokens up to the rest are this part, with at most so many levels open at a place, counted from here on.
+-- The tokens up to the rest are this part, with at most that many levels open at a place, counted from here on.
 -- NOT, the `(` of a group and EXISTS each open a level.
 -- cond = conj { OR conj }, conj = unit { AND unit }, both left-nested
 -- unit = NOT unit | "(" cond ")" | TRUE | FALSE | EXISTS "(" var ":" table WHERE cond ")" | compare
@@ -103,11 +103,11 @@ pub data Reads : GrammarPart → ℕ → List Token → Syntax → List Token �
       → Reads One (suc n) (t ∷ opening ∷ var ∷ colon ∷ table ∷ where_is ∷ ts) (Exists (bytes var.kind) var.place which x) rest
   compare_is : (n : ℕ) (ts : List Token) (x : Syntax) (rest : List Token) → IsCompare ts x rest → Reads One n ts x rest
 
--- all tokens are a query of at most so many levels
+-- these tokens read as this tree, with at most `n` levels open
 abbrev pub AreQueryTokens : ℕ → List Token → Syntax → Type 0
 AreQueryTokens n ts x = Reads Cond n ts x []
 
--- the tokens begin a query of at most so many levels
+-- the tokens begin a query of at most that many levels
 pub record Begins (n : ℕ) (ts : List Token) : Type 0 where
   pub more : List Token
   pub tree : Syntax
@@ -135,7 +135,7 @@ pub record UnexpectedAt (n : ℕ) (ts : List Token) (place : ℕ) : Type 0 where
   pub begins : Begins n before
   pub stops : (m : ℕ) → Begins m (before ++ at ∷ []) → ⊥
 
--- The tokens begin a query, and are none themselves.
+-- The tokens begin a query, but aren't one themselves.
 pub record EndsEarly (n : ℕ) (ts : List Token) : Type 0 where
   pub begins : Begins n ts
   pub is_none : (x : Syntax) → AreQueryTokens n ts x → ⊥

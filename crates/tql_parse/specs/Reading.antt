@@ -213,7 +213,7 @@ flat K.True t rest = Ok (True, rest)
 flat K.False t rest = Ok (False, rest)
 flat _ t rest = compare_at (t ∷ rest)
 
--- the unit at the front, with so many levels left
+-- the unit at the front, with that many levels left
 unfoldable pub unit_at : ℕ → List Token → Read Syntax
 unit_at n [] = Err Ended
 unit_at zero (t ∷ rest) = flat (key t.kind) t rest

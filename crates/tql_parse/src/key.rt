@@ -62,7 +62,6 @@ pub fn opening_at(tokens: &[Token]) -> Opening
     }
 }
 
-// Returns the key of a word of conditions.
 fn condition_key(word: &[u8]) -> Option<Key>
     ensures { result ≡ condition_word word.now }
 {
@@ -106,7 +105,6 @@ fn value_key(word: &[u8]) -> Option<Key>
     }
 }
 
-// Returns the key of a word of units.
 fn unit_key(word: &[u8]) -> Option<Key>
     ensures { result ≡ unit_word word.now }
 {

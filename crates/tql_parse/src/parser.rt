@@ -92,7 +92,7 @@ fn exists(alloc: Global, levels: u32, tokens: &[Token]) -> Result<(Tree, &[Token
     Ok((tree, rest))
 }
 
-// Returns the unit at the front, with so many levels left, and the tokens behind it.
+// Returns the unit at the front, with that many levels left, and the tokens behind it.
 #[cycle(parser)]
 fn unit(alloc: Global, levels: u32, tokens: &[Token]) -> Result<(Tree, &[Token]), ParseFault>
     ensures { ParseGives (λ x. (syntax x.0, x.1.now)) result (unit_at levels tokens.now) }
@@ -180,7 +180,7 @@ pub fn parse(alloc: Global, tokens: &[Token]) -> Result<Tree, ParseFault>
     // At an unexpected one they begin none of more levels either, and at one that is too deep they do.
     ensures unexpected { (p : ℕ) → result ≡ Err (ParseFault.Unexpected p) → UnexpectedAt 32 tokens.now p }
     ensures deep { (p : ℕ) → result ≡ Err (ParseFault.Deep p) → DeepAt 32 tokens.now p }
-    // The tokens have ended too early if all of them begin a query and are none.
+    // The tokens have ended too early if all of them begin a query but aren't one.
     ensures ended { result ≡ Err ParseFault.Ended → Begins 32 tokens.now × ((x : Syntax) → AreQueryTokens 32 tokens.now x → ⊥) }
     // Which fault it is.
     ensures exact { ParseGives syntax result (query_at 32 tokens.now) }

@@ -1,4 +1,4 @@
--- Each time of a condition that typing gives adds no more than so many seconds, and nothing to a day.
+-- Each time of a condition that typing gives adds no more than that many seconds, and nothing to a day.
 use Rattle.std.proofs.Common.{◌≡◌, ◌∙◌, sym, ap, refl, arith, ℕ, zero, suc, ℤ, pos, negsuc, Bool, true, false, Option, Some, None, List, if◌then◌else◌, inl, inr}
 use Rattle.std.specs.Prelude.{Ok, ◌&&◌, ◌≤ℤ◌, ◌+ℤ◌, neg_ℤ, int_le}
 use Rattle.std.proofs.lemmas.Bool.{cases_Bool, and_parts, and_from}

@@ -41,7 +41,7 @@ clock_of scope (E.Field var var_place field field_place shift) = At (record { ba
 clock_of scope (E.Number place value) = At (record { base = Fixed; plus = pos 0 })
 clock_of scope (E.Str place bytes) = At (record { base = Fixed; plus = pos 0 })
 
--- a time so many seconds later
+-- a time that many seconds later
 abbrev pub later : Term → ℤ → Term
 later term n = record { base = term.base; plus = term.plus +ℤ n }
 

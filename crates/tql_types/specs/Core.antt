@@ -25,7 +25,7 @@ use Rattle.tql_types.specs.Faults.{sooner}
 use Rattle.tql_types.specs.Sorts.{field_in, expr_fault, sort_of, comparable, holdable, clash}
 use Rattle.tql_types.specs.Clocks.{clock_of, times_core}
 
--- the fault of the variable of an EXISTS, behind so many variables
+-- the fault of the variable of an EXISTS, behind that many variables
 abbrev pub binder_fault : List Variable → ℕ → List ℕ → ℕ → Option TypeFault
 binder_fault scope count name place =
     if is_some (variable_named name scope) then Some (Shadow place) else (if nat_lt count 6 then None else Some (ManyVars place))
@@ -34,7 +34,8 @@ binder_fault scope count name place =
 abbrev pub inner_scope : List Variable → ℕ → List ℕ → ℕ → Table → List Variable
 inner_scope scope count name place table = if is_some (binder_fault scope count name place) then scope else entered scope count name table
 
--- the fault at the least place
+-- the fault of a tree's types at the least place; sides that don't go together are a fault only if neither has one of its own; at
+-- one place the first of two
 abbrev pub first_fault : List Variable → ℕ → Syntax → Option TypeFault
 first_fault scope count True = None
 first_fault scope count False = None
@@ -124,6 +125,6 @@ abbrev pub unless_fault : Option TypeFault → Condition → Result Condition Ty
 unless_fault None condition = sized condition
 unless_fault (Some fault) condition = Err fault
 
--- the typing of a query: its condition, or its first fault
+-- the first fault; without one the condition, or too many nodes if it has more than 128
 abbrev pub typed : Syntax → Result Condition TypeFault
 typed tree = unless_fault (first_fault first_scope 1 tree) (core first_scope 1 tree)

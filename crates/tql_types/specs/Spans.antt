@@ -27,7 +27,7 @@ abbrev pub shift_fault : Option Shift → Option TypeFault
 shift_fault None = None
 shift_fault (Some shift) = Some (Clash shift.place)
 
--- so many seconds if a duration may have them, and else 0
+-- that many seconds if a duration may have them, and else 0
 abbrev pub kept_span : ℤ → ℤ
 kept_span n = if int_le (pos 0) n && int_le n (pos 100000000000) then n else pos 0
 

@@ -50,7 +50,7 @@ fn base_of_variable(variable: Option<&Variable>, name: &[u8]) -> Base
     }
 }
 
-// Returns the second of a moment text, or 0 if it is none.
+// Returns the second of a moment text, or 0 if it isn't valid.
 fn second_of(text: &[u8]) -> i64
     ensures value { result ≡ unwrap_or (moment_of text.now) (pos 0) }
     ensures low { pos 0 ≤ℤ result }
@@ -100,7 +100,7 @@ pub fn read_clock(scope: &[Variable], expr: &Expr) -> Clock
     }
 }
 
-// Returns a time so many seconds earlier.
+// Returns a time that many seconds earlier.
 fn earlier_by(term: Term, n: i64) -> Term
     requires low { negsuc 99999999999 ≤ℤ term.plus }
     requires high { term.plus ≤ℤ pos 350000000000 }

@@ -46,7 +46,7 @@ pub fn scope_within(
     }
 }
 
-// Returns a number field of a variable, or 0 if it is none.
+// Returns a number field of a variable, or 0 if it isn't one.
 fn number_field(variable: Option<&Variable>, field: Option<Field>) -> NumExpr
     ensures { result ≡ num_field (option_copied variable.entry) field }
 {
@@ -56,7 +56,7 @@ fn number_field(variable: Option<&Variable>, field: Option<Field>) -> NumExpr
     }
 }
 
-// Returns a side that is a number, or 0 if it is none.
+// Returns a side that is a number, or 0 if it isn't one.
 fn number_side(scope: &[Variable], expr: &Expr) -> NumExpr
     ensures { result ≡ num_of scope.now expr.now }
 {
@@ -72,7 +72,7 @@ fn number_side(scope: &[Variable], expr: &Expr) -> NumExpr
     }
 }
 
-// Returns a text field of a variable, or an empty text if it is none.
+// Returns a text field of a variable, or an empty text if it isn't one.
 fn variable_text(alloc: Global, variable: Option<&Variable>, field: Option<Field>) -> TextExpr
     ensures { result ≡ text_field_or_empty (option_copied variable.entry) field }
 {
@@ -82,7 +82,7 @@ fn variable_text(alloc: Global, variable: Option<&Variable>, field: Option<Field
     }
 }
 
-// Returns a side that is a text, or an empty text if it is none.
+// Returns a side that is a text, or an empty text if it isn't one.
 fn text_side(alloc: Global, scope: &[Variable], expr: &Expr) -> Result<TextExpr, Memory>
     ensures { IfOk result (λ side. side ≡ text_or_empty scope.now expr.now) }
 {

@@ -36,7 +36,6 @@ fn has_name(name: &[u8], variable: &Variable) -> bool
     variable.name.as_slice() == name
 }
 
-/// Returns the variable of this name, if it is in scope.
 pub fn find_variable<'a>(name: &[u8], scope: &'a [Variable]) -> Option<&'a Variable>
     ensures { option_copied result ≡ variable_named name.now scope.now }
 {

@@ -49,7 +49,7 @@ pub fn needless_shift(shift: Option<Shift>) -> Option<TypeFault>
     }
 }
 
-// Returns so many seconds if a duration may have them, and else 0.
+// Returns that many seconds if a duration may have them, and else 0.
 fn keep_span(n: i128) -> i64
     ensures value { result ≡ kept_span n }
     ensures low { pos 0 ≤ℤ result }

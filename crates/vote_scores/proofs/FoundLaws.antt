@@ -77,7 +77,7 @@ scored_some doc score [] = score_is score.doc score.voters (score.voters + 0) sc
 scored_some doc score (b ∷ bs) =
     scored_some doc (grown doc b.1 (Some score)) bs ∙ score_is score.doc (score.voters + 1 + length bs) (score.voters + suc (length bs)) _ _ (omega arith) (omega (arith, ints))
 
--- the score of so many votes with a sum
+-- the score of that many votes with a sum
 abbrev score_in : DocNum → ℕ → ℤ → Option Score
 score_in doc zero sum = None
 score_in doc (suc n) sum = some_score doc (suc n) sum

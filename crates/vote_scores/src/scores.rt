@@ -46,7 +46,6 @@ fn key_of(note: &Note) -> Result<VoteKey, Memory>
     })
 }
 
-// Counts a vote, if it is of the kind.
 fn count_if(counts: &mut Counts, kind: &[u8], key: &VoteKey, value: i64) -> Result<(), Memory>
     requires small { AreSmall 4294967294 counts.old }
     ensures { OnOk result (counts.new ≡ counted_if kind.now (vote_at (key.now, value)) counts.old) }

@@ -8,7 +8,7 @@ use Rattle.time_marks.specs.NextWake.{next_wake}
 use Rattle.wake_plan.specs.Wakes.{windows_end}
 
 module _ (seen : Doc → Bool) (X : List Probe) (T : Tables) (last : ℤ) where
-  -- what a run at this moment delivers
+  -- what a run at a moment delivers: the window query since the last run, without what is in the box
   abbrev pub delivered_at : ℤ → List Hit
   delivered_at t = meaning_without seen X T (record { low = last; high = t })
 
@@ -19,7 +19,8 @@ module _ (seen : Doc → Bool) (X : List Probe) (T : Tables) (last : ℤ) where
     pub some : delivered_at t ≡ [] → ⊥
     pub none_before : (s : ℤ) → now ≤ℤ s → s <ℤ t → delivered_at s ≡ []
 
--- the greater of now and the second after the least mark is the least moment at which a run delivers; without a mark no run delivers
+-- if now is no later than the last moment, `next_wake` is the least moment at which a run delivers; if there is none, no run up
+-- to the last moment delivers
 abbrev pub WakesAreNext : Type 0
 WakesAreNext =
     (seen : Doc → Bool) (X : List Probe) (T : Tables) (last now : ℤ) → now ≤ℤ windows_end

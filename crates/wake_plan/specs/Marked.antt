@@ -17,7 +17,7 @@ abbrev pub marked_by : Tables → Window → Probe → Option Var → ℕ
 marked_by T w p None = if lies_in w (value p.at []) then length T.docs else 0
 marked_by T w p (Some v) = length (filter (λ row. lies_in w (value p.at (bind v row []))) (rows_of (table_in p.path v.0) T))
 
--- the rows of the driver's table whose mark lies in the window; of a fixed mark there, all documents
+-- how many rows of the driver's table have their mark in a window; of a fixed mark there, how many documents there are
 abbrev pub marked : Tables → Window → Probe → ℕ
 marked T w p = marked_by T w p (seek_var (seek_of p.at))
 
