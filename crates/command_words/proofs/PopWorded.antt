@@ -13,17 +13,17 @@ use Rattle.clap.specs.Takes.{settle_passes, walk_passes, entered_passes, default
 use Rattle.clap.specs.declared.builder.value_parser.ValueParser.TheVariants as vp
 use Rattle.clap.specs.declared.parser.matches.ValueSource.TheVariants.{DefaultValue}
 use Rattle.clap.proofs.OnLiterals.{clap_on_literals}
-use Rattle.command_words.specs.Options.{default_place}
+use Rattle.command_words.specs.Options.{default_path}
 use Rattle.command_words.specs.WellWorded.{is_path, path_or_default}
 use Rattle.command_words.specs.PopOptions.{pop_app}
-use Rattle.command_words.specs.PopWords.{PopOption, Store, User, Box, Pass, option_name, is_option, OptionWithValue, words_of_pairs, values_given, pop_place_in, user_in, box_in, secret_in, IsPopWorded}
+use Rattle.command_words.specs.PopWords.{PopOption, Store, User, Box, Pass, option_name, is_option, OptionWithValue, words_of_pairs, values_given, pop_path_in, user_in, box_in, secret_in, IsPopWorded}
 use Rattle.command_words.proofs.Worded.{plain_path}
 use Rattle.command_words.proofs.PopPairs.{pop_rules, between, row_of_pair, same-name, no-row, or-false, at-absent, ArePlain, walk-pairs}
 
--- the words are taken, and ask for the place of this path, for this user, this box and this secret
+-- the words are taken, and ask for this path, for this user, this box and this secret
 pub record IsPopAsked (words : List (List ℕ)) (path : Option (List ℕ)) (user name secret : List ℕ) : Type 0 where
   pub taken : takes pop_app words ≡ true
-  pub place : pop_place_in words ≡ path_or_default path
+  pub place : pop_path_in words ≡ path_or_default path
   pub user_is : user_in words ≡ user
   pub name_is : box_in words ≡ name
   pub secret_is : secret_in words ≡ secret
@@ -74,7 +74,7 @@ no-help (p ∷ ps) more e = ap (λ b. b || has_row (codes "help") (rows_and ps m
 
 -- the row of a store that no word names
 default_row : Row
-default_row = record { id = codes "store"; values = default_place ∷ []; count = None; source = Some DefaultValue; reading = reading_of vp.String }
+default_row = record { id = codes "store"; values = default_path ∷ []; count = None; source = Some DefaultValue; reading = reading_of vp.String }
 
 -- what the rows of all arguments are, once those of the options that must be given are there
 others-stay : (rows : List Row) → has_row (codes "user") rows ≡ true → has_row (codes "box") rows ≡ true → has_row (codes "pass") rows ≡ true → has_row (codes "help") rows ≡ false
@@ -87,8 +87,8 @@ store-there rows e = rw e refl
 store-absent : (rows : List Row) → has_row (codes "store") rows ≡ false → fold with_default rows pop_rules ≡ fold with_default (rows ++ default_row ∷ []) (drop 1 pop_rules)
 unfolding default_row
 store-absent rows e =
-    ap (λ b. fold with_default (if b then rows else at_row (codes "store") (more_values DefaultValue (default_place ∷ [])) (default_row ∷ []) rows) (drop 1 pop_rules)) e
-    ∙ ap (λ xs. fold with_default xs (drop 1 pop_rules)) (at-absent (codes "store") (more_values DefaultValue (default_place ∷ [])) (default_row ∷ []) rows e)
+    ap (λ b. fold with_default (if b then rows else at_row (codes "store") (more_values DefaultValue (default_path ∷ [])) (default_row ∷ []) rows) (drop 1 pop_rules)) e
+    ∙ ap (λ xs. fold with_default xs (drop 1 pop_rules)) (at-absent (codes "store") (more_values DefaultValue (default_path ∷ [])) (default_row ∷ []) rows e)
 
 valid : (rows : List Row) → is_given (codes "user") rows ≡ true → is_given (codes "box") rows ≡ true → is_given (codes "pass") rows ≡ true
     → (list_all default_passes pop_rules && is_valid (built pop_app).top rows false) ≡ true
@@ -134,7 +134,7 @@ unfolding all-rows
 first-all ps None o v e = first-is o ps (default_row ∷ []) v [] e
 first-all ps (Some path) o v e = first-is o ps [] v [] e
 
-default-first : (rows : List Row) → has_row (codes "store") rows ≡ false → first_of (codes "store") (rows ++ default_row ∷ []) ≡ Some default_place
+default-first : (rows : List Row) → has_row (codes "store") rows ≡ false → first_of (codes "store") (rows ++ default_row ∷ []) ≡ Some default_path
 unfolding default_row
 default-first [] e = refl
 default-first (r ∷ rs) e =
@@ -167,7 +167,7 @@ worded-pop words path user name secret w =
     record {
       taken = ap (takes pop_app) w.words_are ∙ taken-is (words_of_pairs ps) ∙ ap₂ taken-at walk.end walk.passes
           ∙ taken-end walk.rows' walk.pending' walk.last (ap (λ rows. list_all default_passes pop_rules && is_valid (built pop_app).top rows false) rows ∙ valid (all-rows ps path) u.given b.given p.given);
-      place = ap (λ rows. unwrap_or (first_of (codes "store") rows) default_place) matches ∙ ap (λ (o : Option (List ℕ)). unwrap_or o default_place) (store-first ps path w.store_is);
+      place = ap (λ rows. unwrap_or (first_of (codes "store") rows) default_path) matches ∙ ap (λ (o : Option (List ℕ)). unwrap_or o default_path) (store-first ps path w.store_is);
       user_is = ap (λ rows. unwrap_or (first_of (codes "user") rows) []) matches ∙ ap (λ (o : Option (List ℕ)). unwrap_or o []) u.first;
       name_is = ap (λ rows. unwrap_or (first_of (codes "box") rows) []) matches ∙ ap (λ (o : Option (List ℕ)). unwrap_or o []) b.first;
       secret_is = ap (λ rows. unwrap_or (first_of (codes "pass") rows) []) matches ∙ ap (λ (o : Option (List ℕ)). unwrap_or o []) p.first;

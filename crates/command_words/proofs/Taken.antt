@@ -6,7 +6,7 @@ use Rattle.clap.specs.Lexer.{long_of, short_of}
 use Rattle.clap.specs.Words.{takes, is_simple, is_simple_and_free, first_of}
 use Rattle.clap.specs.Simple.{matches_of}
 use Rattle.clap.proofs.OnLiterals.{clap_on_literals}
-use Rattle.command_words.specs.Options.{app, default_place}
+use Rattle.command_words.specs.Options.{app, default_path}
 
 pub is_simple_app : is_simple app ≡ true
 unfolding clap_on_literals
@@ -36,7 +36,7 @@ pub record IsCountWord (w : List ℕ) : Type 0 where
   pub plain : IsPlainWord w
   pub within : is_signed_in (pos 1) (pos 100000) w ≡ true
 
-pub none_asks : Asks [] (Some default_place) None
+pub none_asks : Asks [] (Some default_path) None
 unfolding clap_on_literals
 none_asks = record { taken = refl; stored = refl; sampled = refl }
 
@@ -44,7 +44,7 @@ pub store_asks : (p : List ℕ) → IsPlainWord p → Asks (codes "--store" ∷ 
 unfolding clap_on_literals
 store_asks p q = record { taken = rw (q.long, q.short, q.end) refl; stored = rw (q.long, q.short, q.end) refl; sampled = rw (q.long, q.short, q.end) refl }
 
-pub sample_asks : (w : List ℕ) → IsCountWord w → Asks (codes "--sample" ∷ w ∷ []) (Some default_place) (Some w)
+pub sample_asks : (w : List ℕ) → IsCountWord w → Asks (codes "--sample" ∷ w ∷ []) (Some default_path) (Some w)
 unfolding clap_on_literals
 sample_asks w q = record {
   taken = rw (q.plain.long, q.plain.short, q.plain.end, q.within) refl;

@@ -4,16 +4,16 @@ use Rattle.std.specs.Prelude.{unwrap_or, option_and_then}
 use Rattle.std.specs.Fmt.{decimal}
 use Rattle.std.proofs.lemmas.Bool.{not-true}
 use Rattle.clap.specs.Words.{takes}
-use Rattle.command_words.specs.Options.{app, default_place}
-use Rattle.command_words.specs.Words.{number_in, place_in, sample_in}
+use Rattle.command_words.specs.Options.{app, default_path}
+use Rattle.command_words.specs.Words.{number_in, path_in, sample_in}
 use Rattle.command_words.specs.WellWorded.{is_path, IsPathOrNone, IsNumberOrNone, store_words, sample_words, IsWellWorded, path_or_default}
 use Rattle.command_words.proofs.Taken.{Asks, IsPlainWord, plain_from_head, none_asks, store_asks, sample_asks, store_sample_asks, sample_store_asks}
 use Rattle.command_words.proofs.Numbers.{number_word}
 
--- the words are taken, and ask for the place of this path and for this number
+-- the words are taken, and ask for this path and for this number
 pub record IsAsked (words : List (List ℕ)) (path : Option (List ℕ)) (number : Option ℕ) : Type 0 where
   pub taken : takes app words ≡ true
-  pub place : place_in words ≡ path_or_default path
+  pub place : path_in words ≡ path_or_default path
   pub sample : sample_in words ≡ number
 
 pub plain_path : (p : List ℕ) → is_path p ≡ true → IsPlainWord p
@@ -24,7 +24,7 @@ given : (words : List (List ℕ)) (path : Option (List ℕ)) (number : Option �
     → IsAsked words path number
 given words path number text a n = record {
   taken = a.taken;
-  place = ap (λ (o : Option (List ℕ)). unwrap_or o default_place) a.stored;
+  place = ap (λ (o : Option (List ℕ)). unwrap_or o default_path) a.stored;
   sample = ap (option_and_then number_in) a.sampled ∙ n;
 }
 

@@ -5,12 +5,12 @@ use Rattle.clap.specs.declared.builder.ArgAction.TheVariants.{Set}
 use Rattle.clap.specs.declared.builder.value_parser.ValueParser.TheVariants as parser
 
 -- the path of a store that no word names
-abbrev pub default_place : List ℕ
-default_place = codes ":memory:"
+abbrev pub default_path : List ℕ
+default_path = codes ":memory:"
 
 -- `--store PATH`
 abbrev pub store_rule : Rule
-store_rule = record (new_rule (codes "store")) { long = Some (codes "store"); action = Some Set; defaults = default_place ∷ [] }
+store_rule = record (new_rule (codes "store")) { long = Some (codes "store"); action = Some Set; defaults = default_path ∷ [] }
 
 -- `--sample N`, a whole number from 1 to 100,000
 abbrev pub sample_rule : Rule

@@ -3,7 +3,7 @@ use Rattle.std.specs.Prelude.{ℕ, ◌≡◌, List, [], ◌∷◌, Bool, true, f
 use Rattle.std.specs.List.{All}
 use Rattle.std.specs.Option.{option_to_list}
 use Rattle.clap.specs.Words.{first_of, matches_of}
-use Rattle.command_words.specs.Options.{default_place}
+use Rattle.command_words.specs.Options.{default_path}
 use Rattle.command_words.specs.WellWorded.{is_path}
 use Rattle.command_words.specs.PopOptions.{pop_app}
 
@@ -12,8 +12,8 @@ abbrev pub pop_value : List ℕ → List (List ℕ) → List ℕ
 pop_value name words = unwrap_or (first_of name (matches_of pop_app words)) []
 
 -- the path of the store that the words name, `:memory:` if they name none
-abbrev pub pop_place_in : List (List ℕ) → List ℕ
-pop_place_in words = unwrap_or (first_of (codes "store") (matches_of pop_app words)) default_place
+abbrev pub pop_path_in : List (List ℕ) → List ℕ
+pop_path_in words = unwrap_or (first_of (codes "store") (matches_of pop_app words)) default_path
 
 -- the user, the box's name and the secret that the words name
 abbrev pub user_in : List (List ℕ) → List ℕ

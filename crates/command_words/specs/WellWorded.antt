@@ -2,7 +2,7 @@
 use Rattle.std.specs.Prelude.{◌≡◌, ◌⊎◌, ◌≤◌, ℕ, List, [], ◌∷◌, ◌++◌, Bool, true, false, not, ◌==◌, Option, Some, None}
 use Rattle.std.specs.Prelude.{unwrap_or, codes}
 use Rattle.std.specs.Fmt.{decimal}
-use Rattle.command_words.specs.Options.{default_place}
+use Rattle.command_words.specs.Options.{default_path}
 
 -- a path is not empty and doesn't begin with `-`
 abbrev pub is_path : List ℕ → Bool
@@ -38,4 +38,4 @@ pub record IsWellWorded (words : List (List ℕ)) (path : Option (List ℕ)) (nu
 
 -- the path of the store: the named one, or `:memory:`
 abbrev pub path_or_default : Option (List ℕ) → List ℕ
-path_or_default path = unwrap_or path default_place
+path_or_default path = unwrap_or path default_path

@@ -4,8 +4,8 @@ ghost use Rattle.std.specs.Prelude.{unwrap_or};
 ghost use Rattle.std.specs.List.{All};
 ghost use Rattle.std.specs.Str.{IsUtf8};
 ghost use Rattle.clap.specs.Words.{fault_of, takes};
-ghost use Rattle.command_words.specs.Options.{app, default_place};
-ghost use Rattle.command_words.specs.Words.{number_in, place_in, sample_in};
+ghost use Rattle.command_words.specs.Options.{app, default_path};
+ghost use Rattle.command_words.specs.Words.{number_in, path_in, sample_in};
 ghost use Rattle.command_words.specs.WellWorded.{IsWellWorded, path_or_default};
 
 use crate::clap_words::parse_options;
@@ -19,18 +19,18 @@ use tap_base::{Memory, Text, Texts};
 #[derive(Drop)]
 pub struct CommandWords {
     /// The path of the store, `:memory:` if the words name none.
-    pub place: Text,
+    pub path: Text,
     /// The number of messages of a sample, from 1 to 100,000, if the words ask for one.
     pub sample: Option<u32>,
 }
 
-/// Returns the text of a place, `:memory:` if there is none.
-pub(crate) fn place_text(alloc: Global, place: Option<&str>) -> Result<Text, Memory>
-    ensures value { IfOk result (λ text. text ≡ unwrap_or (option_copied place.entry) default_place) }
+/// Returns the text of a path, `:memory:` if there is none.
+pub(crate) fn path_text(alloc: Global, path: Option<&str>) -> Result<Text, Memory>
+    ensures value { IfOk result (λ text. text ≡ unwrap_or (option_copied path.entry) default_path) }
     ensures text { IfOk result (λ text. IsUtf8 text) }
 {
-    let place = place.unwrap_or(":memory:");
-    Text::from_slice(alloc, place.as_bytes())
+    let path = path.unwrap_or(":memory:");
+    Text::from_slice(alloc, path.as_bytes())
 }
 
 // Returns the number of a text, if there is one.
@@ -49,8 +49,8 @@ fn sample_number(text: Option<&str>) -> Option<u32>
 /// `Refused`.
 pub fn read_words(alloc: Global, words: &Texts) -> Result<CommandWords, OptionFault>
     requires { All IsUtf8 words.now }
-    ensures place { IfOk result (λ asked. asked.place ≡ place_in words.now) }
-    ensures text { IfOk result (λ asked. IsUtf8 asked.place) }
+    ensures path { IfOk result (λ asked. asked.path ≡ path_in words.now) }
+    ensures text { IfOk result (λ asked. IsUtf8 asked.path) }
     ensures sample { IfOk result (λ asked. asked.sample ≡ sample_in words.now) }
     ensures within { IfOk result (λ asked. IfSome asked.sample (λ n. (1 ≤ n) × (n ≤ 100000))) }
     ensures accepted { OnOk result (fault_of app words.now ≡ []) }
@@ -59,12 +59,12 @@ pub fn read_words(alloc: Global, words: &Texts) -> Result<CommandWords, OptionFa
     ensures fine { (path : Option (List ℕ)) (number : Option ℕ) → IsWellWorded words.now path number
         → IfErr result (λ fault. fault ≡ OptionFault.Memory) }
     ensures named { (path : Option (List ℕ)) (number : Option ℕ) → IsWellWorded words.now path number
-        → IfOk result (λ asked. (asked.place ≡ path_or_default path) × (asked.sample ≡ number)) }
+        → IfOk result (λ asked. (asked.path ≡ path_or_default path) × (asked.sample ≡ number)) }
 {
     let words = as_strs(alloc, words)?;
     let values = parse_options(alloc, &words)?;
     Ok(CommandWords {
-        place: place_text(alloc, values.store)?,
+        path: path_text(alloc, values.store)?,
         sample: sample_number(values.sample),
     })
 }

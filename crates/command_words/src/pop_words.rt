@@ -4,10 +4,10 @@ ghost use Rattle.std.specs.List.{All};
 ghost use Rattle.std.specs.Str.{IsUtf8};
 ghost use Rattle.clap.specs.Words.{fault_of, takes};
 ghost use Rattle.command_words.specs.PopOptions.{pop_app};
-ghost use Rattle.command_words.specs.PopWords.{pop_place_in, user_in, box_in, secret_in, IsPopWorded};
+ghost use Rattle.command_words.specs.PopWords.{pop_path_in, user_in, box_in, secret_in, IsPopWorded};
 ghost use Rattle.command_words.specs.WellWorded.{path_or_default};
 
-use crate::command_words::place_text;
+use crate::command_words::path_text;
 use crate::option_fault::OptionFault;
 use crate::pop_options::parse_pop_options;
 use crate::strs::as_strs;
@@ -18,7 +18,7 @@ use tap_base::{Memory, Text, Texts};
 #[derive(Drop)]
 pub struct PopWords {
     /// The path of the store, `:memory:` if the words name none.
-    pub place: Text,
+    pub path: Text,
     /// The user that may log in, whose box is served.
     pub user: Text,
     /// The name of the box.
@@ -39,8 +39,8 @@ fn value_text(alloc: Global, value: Option<&str>) -> Result<Text, Memory>
 /// one, and so all that are well worded, never give `Refused`.
 pub fn read_pop_words(alloc: Global, words: &Texts) -> Result<PopWords, OptionFault>
     requires { All IsUtf8 words.now }
-    ensures place { IfOk result (λ asked. asked.place ≡ pop_place_in words.now) }
-    ensures text { IfOk result (λ asked. IsUtf8 asked.place) }
+    ensures path { IfOk result (λ asked. asked.path ≡ pop_path_in words.now) }
+    ensures text { IfOk result (λ asked. IsUtf8 asked.path) }
     ensures user { IfOk result (λ asked. asked.user ≡ user_in words.now) }
     ensures name { IfOk result (λ asked. asked.name ≡ box_in words.now) }
     ensures secret { IfOk result (λ asked. asked.secret ≡ secret_in words.now) }
@@ -50,12 +50,12 @@ pub fn read_pop_words(alloc: Global, words: &Texts) -> Result<PopWords, OptionFa
     ensures fine { (path : Option (List ℕ)) (user name secret : List ℕ) → IsPopWorded words.now path user name secret
         → IfErr result (λ fault. fault ≡ OptionFault.Memory) }
     ensures named { (path : Option (List ℕ)) (user name secret : List ℕ) → IsPopWorded words.now path user name secret
-        → IfOk result (λ asked. (asked.place ≡ path_or_default path) × ((asked.user ≡ user) × ((asked.name ≡ name) × (asked.secret ≡ secret)))) }
+        → IfOk result (λ asked. (asked.path ≡ path_or_default path) × ((asked.user ≡ user) × ((asked.name ≡ name) × (asked.secret ≡ secret)))) }
 {
     let words = as_strs(alloc, words)?;
     let values = parse_pop_options(alloc, &words)?;
     Ok(PopWords {
-        place: place_text(alloc, values.store)?,
+        path: path_text(alloc, values.store)?,
         user: value_text(alloc, values.user)?,
         name: value_text(alloc, values.name)?,
         secret: value_text(alloc, values.secret)?,

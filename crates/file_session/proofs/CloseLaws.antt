@@ -25,9 +25,9 @@ module _ {D O : Type 0} {g : Ghosts D} (first : FilesOf O) (inner : Inner (FileS
       → IfErr given (λ left. IsTrue (view left.1).is_clean → (t : Tables) → Tells first over_files inner t → LeavesOnly g left.1 t)
       → IfErr given (λ left. IsTrue (view left.1).is_clean → FailsToCloseOpen inner left.1 left.0)
       → IsClosedAs first inner (Some given)
-  closed-so (Ok None) none honest left whole alone fails = none refl
-  closed-so (Ok (Some files)) none honest left whole alone fails = λ clean. record { honest = honest clean; kept = λ t told. whole clean t told }
-  closed-so (Err it) none honest left whole alone fails = λ clean. (record { honest = left clean; kept = λ t told. alone clean t told }, fails clean)
+  closed-so (Ok None) none honest left whole exact fails = none refl
+  closed-so (Ok (Some files)) none honest left whole exact fails = λ clean. record { honest = honest clean; kept = λ t told. whole clean t told }
+  closed-so (Err it) none honest left whole exact fails = λ clean. (record { honest = left clean; kept = λ t told. exact clean t told }, fails clean)
 
 running : (b : Bool) (status : ℕ) → (b ≡ true) ↔ (status ≡ 5) → status ≢ 5 → b ≡ false
 running true status stopped other = absurd (other (stopped.0 refl))

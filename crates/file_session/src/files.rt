@@ -4,7 +4,7 @@ ghost use Rattle.std.specs.List.{All};
 ghost use Rattle.std.specs.Str.{IsUtf8};
 ghost use Rattle.tap_base.specs.Ledgers.{IsBlankOf};
 ghost use Rattle.keeper_core.specs.States.{IsPlacedBy};
-ghost use Rattle.keeper_file.specs.Cases.{Tells, HasVersion, IsHonest, MayLeave, IsInMemory, has_files, is_stopped, place_of};
+ghost use Rattle.keeper_file.specs.Cases.{Tells, HasVersion, IsHonest, MayLeave, IsInMemory, has_files, is_stopped, path_of};
 ghost use Rattle.keeper_file.specs.Images.{ImageTells, ImageHasVersion};
 ghost use Rattle.sqlite_wal.specs.Files.{image_at};
 ghost use Rattle.tap_rows.specs.declared.tables.Tables.{Tables};
@@ -37,7 +37,7 @@ fn run_over<C: StoreProgram, I: Peer<K>, K: Sink, A: Alter + Drop, O: Opener<A>,
         (I.was_asked source.old) (I.was_asked source.new)
         t (ImageHasVersion O.Opener.files.image) (HasVersion O.Opener.files A.Store result.1.inner)
         (Tells O.Opener.files A.Store result.1.inner) (MayLeave O.Opener.files A.Store result.1.inner) }
-    ensures placed { IsPlacedBy result.0 [] (place_of result.1.inner) (C.place words.now) }
+    ensures placed { IsPlacedBy result.0 [] (path_of result.1.inner) (C.path words.now) }
     ensures unopened { result.0 ≡ 2 → has_files result.1.inner ≡ false }
     ensures stopped { (is_stopped result.1.inner ≡ true) ↔ (result.0 ≡ 5) }
 {
@@ -69,7 +69,7 @@ fn run_apart<C: StoreProgram, I: Peer<K>, K: Sink, A: Alter + Drop, O: Opener<A>
     ensures open { IfSome result.1 (λ keeper. has_files keeper.inner ≡ true) }
     ensures unopened { IfSome result.2 (λ keeper. has_files keeper.inner ≡ false) }
     ensures placed { IfSome result.2 (λ keeper.
-        (((result.0 ≡ 2) ⊎ (result.0 ≡ 7)) × (place_of keeper.inner ≡ [])) ⊎ IsInMemory (C.place words.now)) }
+        (((result.0 ≡ 2) ⊎ (result.0 ≡ 7)) × (path_of keeper.inner ≡ [])) ⊎ IsInMemory (C.path words.now)) }
     ensures refused { result.0 ≡ 2 → is_some result.1 ≡ false }
     ensures end { CallEnd O.Opener.files A.Store (λ t versions tells leaves.
         C.ends_over words.now result.0 (I.left source.old) (I.left source.new) (K.out sink.old) (K.out sink.new)
@@ -113,11 +113,11 @@ pub fn run_to_close<'a, C: StoreProgram, I: Peer<K>, K: Sink, S: Start, L: Ledge
     ensures closes { (result.1 ≡ None) ↔ ((result.0 ≡ 5) ⊎ (result.0 ≡ 6)) }
 
     // With another status, no file was open if and only if the keeper comes back. It has none open, and is attached nowhere, as
-    // words are refused or it is out of memory, or the words name a place in memory.
+    // words are refused or it is out of memory, or the words name a path in memory.
     ensures no_file { (result.1 ≡ Some (Ok None)) ↔ (is_some result.2 ≡ true) }
     ensures unopened { IfSome result.2 (λ keeper. has_files keeper.inner ≡ false) }
     ensures placed { IfSome result.2 (λ keeper.
-        (((result.0 ≡ 2) ⊎ (result.0 ≡ 7)) × (place_of keeper.inner ≡ [])) ⊎ IsInMemory (C.place words.now)) }
+        (((result.0 ≡ 2) ⊎ (result.0 ≡ 7)) × (path_of keeper.inner ≡ [])) ⊎ IsInMemory (C.path words.now)) }
     ensures refused { result.0 ≡ 2 → result.1 ≡ Some (Ok None) }
 
     // How the call ended over the tables that the files held initially, and what the close left of those that it told.

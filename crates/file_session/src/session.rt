@@ -27,8 +27,8 @@ pub trait StoreProgram {
         → (Option (List ℕ) → Option (List ℕ) → Type 0) → (Option (List ℕ) → Option (List ℕ) → Type 0)
         → TableRows → (ℤ → Type 0) → (ℤ → Type 0) → (TableRows → Type 0) → (TableRows → Type 0) → Type 0 };
 
-    // The place of the store that the words name.
-    ghost place: { List (List ℕ) → List ℕ };
+    // The path of the store that the words name.
+    ghost path: { List (List ℕ) → List ℕ };
 
     /// Makes the call over a keeper that isn't attached, with texts hashed under this key. Returns the status: 5 if and only
     /// if the keeper failed, and 2 only if the keeper is unchanged.
@@ -50,6 +50,6 @@ pub trait StoreProgram {
             (I.was_asked source.old) (I.was_asked source.new)
             t (P.has_version keeper.old) (P.has_version keeper.new) (P.tells keeper.new) (P.may_leave keeper.new) }
         ensures unchanged { result ≡ 2 → keeper.new ≡ keeper.old }
-        ensures placed { IsPlacedBy result (P.place keeper.old) (P.place keeper.new) (place words.now) }
+        ensures placed { IsPlacedBy result (P.path keeper.old) (P.path keeper.new) (path words.now) }
         ensures stopped { (P.stopped keeper.new ≡ true) ↔ (result ≡ 5) };
 }

@@ -11,7 +11,7 @@ use Rattle.keeper_core.specs.declared.fault.AttachFault.TheVariants.{Alien, Fail
 -- a keeper tells these tables, and a crash leaves exactly these
 pub record IsDurable (tells leaves : Tables → Type 0) (tables : Tables) : Type 0 where
   pub told : tells tables
-  pub alone : (x : Tables) → leaves x → x ≡ tables
+  pub exact : (x : Tables) → leaves x → x ≡ tables
 
 -- the change has rows, and they stand in order behind those of well-formed tables; for such a change a commit promises its rows
 pub record AddsRowsTo (change : Change) (tables : Tables) : Type 0 where

@@ -1,4 +1,4 @@
--- The states of a keeper, and the place that it is attached at.
+-- The states of a keeper, and the path that it is attached to.
 use Rattle.std.specs.Prelude.{ℕ, ◌≡◌, ◌⊎◌, List, true, false}
 use Rattle.keeper_core.specs.declared.keeper.Keeper.{Ghosts}
 use Rattle.keeper_core.specs.Stored.{Stored}
@@ -19,12 +19,12 @@ pub record IsFreeInMemory (keeper : Stored) : Type 0 where
   pub running : keeper.stopped ≡ false
 
 -- the path after is the one that was asked for, or, if this holds, perhaps the one before
-abbrev pub IsPlacedUnless : (Unplaced : Type 0) (old new place : List ℕ) → Type 0
-IsPlacedUnless Unplaced old new place = (Unplaced × (new ≡ old)) ⊎ (new ≡ place)
+abbrev pub IsPlacedUnless : (Unplaced : Type 0) (old new path : List ℕ) → Type 0
+IsPlacedUnless Unplaced old new path = (Unplaced × (new ≡ old)) ⊎ (new ≡ path)
 
 -- the path after is the one that was asked for, or, if a program's status is 2 or 7, perhaps the one before
-abbrev pub IsPlacedBy : (status : ℕ) (old new place : List ℕ) → Type 0
-IsPlacedBy status old new place = IsPlacedUnless ((status ≡ 2) ⊎ (status ≡ 7)) old new place
+abbrev pub IsPlacedBy : (status : ℕ) (old new path : List ℕ) → Type 0
+IsPlacedBy status old new path = IsPlacedUnless ((status ≡ 2) ⊎ (status ≡ 7)) old new path
 
 -- the keeper in memory hasn't stopped
 abbrev pub IsRunning : Stored → Type 0

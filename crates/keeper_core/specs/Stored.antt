@@ -21,14 +21,14 @@ pub record Stored : Type 0 where
   pub calls : ℕ
   pub attached : Bool
   pub stopped : Bool
-  pub place : List ℕ
+  pub path : List ℕ
   pub faults : ℕ
 
 -- a keeper in memory that never fails
 pub record Sure : Type 0 where
   pub tables : Tables
   pub attached : Bool
-  pub place : List ℕ
+  pub path : List ℕ
 
 -- if the plan lets this call fail, whether a crash then leaves the new tables
 abbrev pub planned_fault : List KeepPlan → ℕ → Option Bool
@@ -55,13 +55,13 @@ stopped_with left keeper =
 
 -- a keeper in memory after an attach, by what its plan says of that call
 abbrev pub attached_at : List ℕ → Option Bool → Stored → Stored
-attached_at place (Some kept) keeper = stopped_with keeper.left (record keeper { place = place })
-attached_at place None keeper =
+attached_at path (Some kept) keeper = stopped_with keeper.left (record keeper { path = path })
+attached_at path None keeper =
     record keeper {
       version = if is_attachable keeper.version then pos 2 else keeper.version;
       calls = next_count keeper.calls;
       attached = is_attachable keeper.version;
-      place = place;
+      path = path;
     }
 
 -- what an attach returns

@@ -37,9 +37,9 @@ use tap_rows::{Change, Tables};
 /// - stopped: a crash leaves the tables of before the call that failed, or those with all rows of its change.
 ///
 /// A keeper may tell tables once it is attached that told none before. By `answered` they are those that the attach
-/// returned, by `version` their version is 2, and by the law `alone` a crash leaves no others.
+/// returned, by `version` their version is 2, and by the law `exact` a crash leaves no others.
 ///
-/// Of a keeper that isn't honest only the states, the place and the count of failures are promised.
+/// Of a keeper that isn't honest only the states, the path and the count of failures are promised.
 pub trait Keeper {
     // It tells that its store has these tables. A keeper may tell none, as one whose open failed.
     ghost tells: { Self → TableRows → Type 0 };
@@ -59,21 +59,21 @@ pub trait Keeper {
     ghost stopped: { Self → Bool };
 
     // The path that it is attached to, initially empty.
-    ghost place: { Self → List ℕ };
+    ghost path: { Self → List ℕ };
 
     // How often the store has failed.
     ghost faults: { Self → ℕ };
 
-    /// Attaches the store at a place, and returns its tables. A store without any table has no rows and version 2; one of
+    /// Attaches the store at a path, and returns its tables. A store without any table has no rows and version 2; one of
     /// version 1 gets version 2. `Alien` if the store has another version, `Failed` if the store failed, `Memory` if the
-    /// attach was out of memory: the place is then unchanged, and a later attach may succeed.
+    /// attach was out of memory: the path is then unchanged, and a later attach may succeed.
     fn attach(&mut self, alloc: Global, at: &str) -> Result<Tables, AttachFault>
         requires free { attached self.old ≡ false }
         requires running { stopped self.old ≡ false }
         ensures attached { (attached self.new ≡ true) ↔ IsOk result }
         ensures stopped { (stopped self.new ≡ true) ↔ (result ≡ Err AttachFault.Failed) }
-        ensures placed { (place self.new ≡ at.now) ⊎ ((result ≡ Err AttachFault.Memory) × (place self.new ≡ place self.old)) }
-        ensures stays { result ≡ Err AttachFault.Memory → place self.new ≡ place self.old }
+        ensures placed { (path self.new ≡ at.now) ⊎ ((result ≡ Err AttachFault.Memory) × (path self.new ≡ path self.old)) }
+        ensures stays { result ≡ Err AttachFault.Memory → path self.new ≡ path self.old }
         ensures later { faults self.old ≤ faults self.new }
         ensures cause { result ≡ Err AttachFault.Failed → Rose (faults self.old) (faults self.new) }
         ensures calm { stopped self.new ≡ false → faults self.new ≡ faults self.old }
@@ -101,7 +101,7 @@ pub trait Keeper {
     fn commit(&mut self, change: &Change) -> Result<(), CommitFault>
         requires ready { attached self.old ≡ true }
         requires running { stopped self.old ≡ false }
-        ensures same { (place self.new ≡ place self.old) × (attached self.new ≡ attached self.old) }
+        ensures same { (path self.new ≡ path self.old) × (attached self.new ≡ attached self.old) }
         ensures stopped { (stopped self.new ≡ true) ↔ (result ≡ Err CommitFault.Failed) }
         ensures later { faults self.old ≤ faults self.new }
         ensures cause { result ≡ Err CommitFault.Failed → Rose (faults self.old) (faults self.new) }
@@ -125,5 +125,5 @@ pub trait Keeper {
     ghost left: { (k : Self) (t : TableRows) → honest k → stopped k ≡ false → tells k t → may_leave k t };
 
     // and no others.
-    ghost alone: { (k : Self) (t x : TableRows) → honest k → stopped k ≡ false → tells k t → may_leave k x → x ≡ t };
+    ghost exact: { (k : Self) (t x : TableRows) → honest k → stopped k ≡ false → tells k t → may_leave k x → x ≡ t };
 }

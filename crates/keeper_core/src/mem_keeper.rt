@@ -31,7 +31,7 @@ pub struct MemKeeper {
     calls: u64,
     attached: bool,
     stopped: bool,
-    place: Text,
+    path: Text,
     faults: u64,
 }
 
@@ -46,7 +46,7 @@ impl Model for MemKeeper {
       calls = k.calls;
       attached = k.attached;
       stopped = k.stopped;
-      place = k.place;
+      path = k.path;
       faults = k.faults;
     } };
 
@@ -86,7 +86,7 @@ impl MemKeeper {
           calls = 0;
           attached = false;
           stopped = false;
-          place = [];
+          path = [];
           faults = 0;
         } }
     {
@@ -98,7 +98,7 @@ impl MemKeeper {
             calls: 0,
             attached: false,
             stopped: false,
-            place: Text::new(alloc),
+            path: Text::new(alloc),
             faults: 0,
         }
     }
@@ -159,7 +159,7 @@ impl Keeper for MemKeeper {
 
     ghost stopped = { λ k. k.stopped };
 
-    ghost place = { λ k. k.place };
+    ghost path = { λ k. k.path };
 
     ghost faults = { λ k. k.faults };
 
@@ -167,7 +167,7 @@ impl Keeper for MemKeeper {
         requires free { self.old.attached ≡ false }
         requires running { IsRunning self.old }
         ensures later { self.old.faults ≤ self.new.faults }
-        ensures alone { self.old.left ≡ self.old.tables }
+        ensures exact { self.old.left ≡ self.old.tables }
 
         // The plan.
         ensures plan { ((result ≡ Err AttachFault.Memory) × (self.new ≡ self.old))
@@ -176,8 +176,8 @@ impl Keeper for MemKeeper {
     {
         // All memory is taken first, so that a call that is out of memory changes nothing.
         let tables = self.tables.copy()?;
-        let place = Text::from_slice(alloc, at.as_bytes())?;
-        self.place = place;
+        let path = Text::from_slice(alloc, at.as_bytes())?;
+        self.path = path;
         if plan_of(&self.fails, self.calls).is_some() {
             self.stop(None);
             return Err(AttachFault::Failed);
@@ -197,7 +197,7 @@ impl Keeper for MemKeeper {
         requires ready { self.old.attached ≡ true }
         requires running { IsRunning self.old }
         ensures later { self.old.faults ≤ self.new.faults }
-        ensures alone { self.old.left ≡ self.old.tables }
+        ensures exact { self.old.left ≡ self.old.tables }
 
         // The plan.
         ensures plan { ((result ≡ Err CommitFault.Memory) × (self.new ≡ self.old))
@@ -228,5 +228,5 @@ impl Keeper for MemKeeper {
 
     ghost left = { λ k t honest running told. told ∙ sym (left_running k running) };
 
-    ghost alone = { λ k t x honest running told may. may ∙ left_running k running ∙ sym told };
+    ghost exact = { λ k t x honest running told may. may ∙ left_running k running ∙ sym told };
 }

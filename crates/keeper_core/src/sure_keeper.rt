@@ -14,24 +14,24 @@ use tap_rows::{Change, Tables};
 pub struct SureKeeper {
     tables: Tables,
     attached: bool,
-    place: Text,
+    path: Text,
 }
 
 impl Model for SureKeeper {
     ghost Value = { Sure };
 
-    ghost view = { λ k. record { tables = k.tables; attached = k.attached; place = k.place } };
+    ghost view = { λ k. record { tables = k.tables; attached = k.attached; path = k.path } };
 }
 
 impl SureKeeper {
     /// Returns a keeper of these tables, in a store of version 2.
     pub fn new(alloc: Global, tables: Tables) -> SureKeeper
-        ensures { result ≡ record { tables = tables; attached = false; place = [] } }
+        ensures { result ≡ record { tables = tables; attached = false; path = [] } }
     {
         SureKeeper {
             tables,
             attached: false,
-            place: Text::new(alloc),
+            path: Text::new(alloc),
         }
     }
 }
@@ -52,14 +52,14 @@ impl Keeper for SureKeeper {
 
     ghost stopped = { λ _. false };
 
-    ghost place = { λ k. k.place };
+    ghost path = { λ k. k.path };
 
     ghost faults = { λ _. 0 };
 
     fn attach(&mut self, alloc: Global, at: &str) -> Result<Tables, AttachFault> {
-        let place = Text::from_slice(alloc, at.as_bytes())?;
+        let path = Text::from_slice(alloc, at.as_bytes())?;
         let tables = self.tables.copy()?;
-        self.place = place;
+        self.path = path;
         self.attached = true;
         Ok(tables)
     }
@@ -73,5 +73,5 @@ impl Keeper for SureKeeper {
 
     ghost left = { λ k t honest running told. told };
 
-    ghost alone = { λ k t x honest running told may. may ∙ sym told };
+    ghost exact = { λ k t x honest running told may. may ∙ sym told };
 }

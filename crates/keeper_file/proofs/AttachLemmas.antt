@@ -10,7 +10,7 @@ use Rattle.keeper_core.specs.declared.fault.AttachFault.TheVariants as fault
 use Rattle.sqlite_trees.specs.declared.store.Store.{Ghosts}
 use Rattle.keeper_file.specs.OpenerFiles.{FilesOf}
 use Rattle.keeper_file.specs.Attaching.{Attaches}
-use Rattle.keeper_file.specs.Cases.{Tells, HasVersion, IsHonest, MayLeave, is_attached, is_stopped, faults_of, place_of, is_stopped_at, memory_place}
+use Rattle.keeper_file.specs.Cases.{Tells, HasVersion, IsHonest, MayLeave, is_attached, is_stopped, faults_of, path_of, is_stopped_at, memory_path}
 use Rattle.keeper_file.specs.declared.inner.Inner.{Inner}
 use Rattle.keeper_file.specs.declared.inner.Inner.TheVariants.{Memory}
 use Rattle.keeper_file.specs.declared.inner.InMemory.{InMemory}
@@ -25,19 +25,19 @@ module _ {A O : Type 0} (files : FilesOf O) (g : Ghosts A) (old new : Inner A O 
     (version : IsHonest files g new → (v : ℤ) → HasVersion files g old v → HasVersion files g new v) where
   -- no store was opened
   module _ (durable : IsHonest files g new → (t : Tables) → Tells files g old t → IsDurable (Tells files g new) (MayLeave files g new) t) (free : is_attached new ≡ false) (later : faults_of old ≤ faults_of new) where
-    short : is_stopped new ≡ false → place_of new ≡ place_of old → faults_of new ≡ faults_of old → Attaches files g old new at (Err fault.Memory)
-    short running place faults = record {
+    short : is_stopped new ≡ false → path_of new ≡ path_of old → faults_of new ≡ faults_of old → Attaches files g old new at (Err fault.Memory)
+    short running path faults = record {
       attached = (λ yes. absurd (let a = yes in let b = free in cc), λ ok. absurd (let e = ok in cc));
       stopped = (λ yes. absurd (let a = yes in let b = running in cc), λ same. absurd (let e = same in cc));
-      placed = inr (refl, place);
-      stays = λ out. place;
+      placed = inr (refl, path);
+      stays = λ out. path;
       later = later;
       cause = λ same. absurd (let e = same in cc);
       calm = λ runs. faults;
       honest = honest;
       given = tt;
       kept = λ clean s told runs. durable clean s told;
-      crash = λ clean s told x left. (durable clean s told).alone x left;
+      crash = λ clean s told x left. (durable clean s told).exact x left;
       answered = tt;
       version = tt;
       known = λ clean v has. tt;
@@ -46,11 +46,11 @@ module _ {A O : Type 0} (files : FilesOf O) (g : Ghosts A) (old new : Inner A O 
       migrated = λ out clean w has. inl (version clean w has);
     }
 
-    failed : is_stopped new ≡ true → place_of new ≡ at → Rose (faults_of old) (faults_of new) → Attaches files g old new at (Err fault.Failed)
-    failed halted place rose = record {
+    failed : is_stopped new ≡ true → path_of new ≡ at → Rose (faults_of old) (faults_of new) → Attaches files g old new at (Err fault.Failed)
+    failed halted path rose = record {
       attached = (λ yes. absurd (let a = yes in let b = free in cc), λ ok. absurd (let e = ok in cc));
       stopped = (λ yes. refl, λ same. halted);
-      placed = inl place;
+      placed = inl path;
       stays = λ same. absurd (let e = same in cc);
       later = later;
       cause = λ same. rose;
@@ -58,7 +58,7 @@ module _ {A O : Type 0} (files : FilesOf O) (g : Ghosts A) (old new : Inner A O 
       honest = honest;
       given = tt;
       kept = λ clean s told runs. durable clean s told;
-      crash = λ clean s told x left. (durable clean s told).alone x left;
+      crash = λ clean s told x left. (durable clean s told).exact x left;
       answered = tt;
       version = tt;
       known = λ clean v has. tt;
@@ -67,8 +67,8 @@ module _ {A O : Type 0} (files : FilesOf O) (g : Ghosts A) (old new : Inner A O 
       migrated = λ same clean w has. absurd (let e = same in cc);
     }
 
-    pub not_opened : (f : AttachFault) → ((f ≡ fault.Memory) × (is_stopped new ≡ false) × (place_of new ≡ place_of old) × (faults_of new ≡ faults_of old))
-        ⊎ ((f ≡ fault.Failed) × (is_stopped new ≡ true) × (place_of new ≡ at) × Rose (faults_of old) (faults_of new)) → Attaches files g old new at (Err f)
+    pub not_opened : (f : AttachFault) → ((f ≡ fault.Memory) × (is_stopped new ≡ false) × (path_of new ≡ path_of old) × (faults_of new ≡ faults_of old))
+        ⊎ ((f ≡ fault.Failed) × (is_stopped new ≡ true) × (path_of new ≡ at) × Rose (faults_of old) (faults_of new)) → Attaches files g old new at (Err f)
     not_opened f (inl m) = subst (λ x. Attaches files g old new at (Err x)) (sym m.0) (short m.1 m.2 m.3)
     not_opened f (inr m) = subst (λ x. Attaches files g old new at (Err x)) (sym m.0) (failed m.1 m.2 m.3)
 
@@ -77,12 +77,12 @@ pub then_attached : {A O : Type 0} (files : FilesOf O) (g : Ghosts A) (old mid n
     → (IsHonest files g mid → IsHonest files g old)
     → (IsHonest files g mid → (t : Tables) → Tells files g old t → Tells files g mid t)
     → (IsHonest files g mid → (v : ℤ) → HasVersion files g old v → HasVersion files g mid v)
-    → place_of mid ≡ place_of old → faults_of mid ≡ faults_of old → Attaches files g mid new at result → Attaches files g old new at result
-then_attached files g old mid new at result honest told version place faults a = record {
+    → path_of mid ≡ path_of old → faults_of mid ≡ faults_of old → Attaches files g mid new at result → Attaches files g old new at result
+then_attached files g old mid new at result honest told version path faults a = record {
   attached = a.attached;
   stopped = a.stopped;
-  placed = subst (λ p. (place_of new ≡ at) ⊎ ((result ≡ Err fault.Memory) × (place_of new ≡ p))) place a.placed;
-  stays = λ out. a.stays out ∙ place;
+  placed = subst (λ p. (path_of new ≡ at) ⊎ ((result ≡ Err fault.Memory) × (path_of new ≡ p))) path a.placed;
+  stays = λ out. a.stays out ∙ path;
   later = subst (λ n. n ≤ faults_of new) faults a.later;
   cause = λ is. subst (λ n. Rose n (faults_of new)) faults (a.cause is);
   calm = λ runs. a.calm runs ∙ faults;
@@ -113,6 +113,6 @@ attaches_with {A} files g old now at result runs a =
     (sym (not_misplaced old.misplaced_at old.keeper.stopped runs)) a
 
 pub placed_in_memory : (now was at : List ℕ) (result : Result Tables AttachFault) → at ≡ codes ":memory:" → (now ≡ at) ⊎ ((result ≡ Err fault.Memory) × (now ≡ was))
-    → (memory_place now ≡ at) ⊎ ((result ≡ Err fault.Memory) × (memory_place now ≡ memory_place was))
+    → (memory_path now ≡ at) ⊎ ((result ≡ Err fault.Memory) × (memory_path now ≡ memory_path was))
 placed_in_memory now was at result is (inl placed) = inl (at_memory now at is placed)
-placed_in_memory now was at result is (inr out) = inr (out.0, ap memory_place out.1)
+placed_in_memory now was at result is (inr out) = inr (out.0, ap memory_path out.1)

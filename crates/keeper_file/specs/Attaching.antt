@@ -7,11 +7,11 @@ use Rattle.keeper_core.specs.declared.fault.AttachFault.{AttachFault}
 use Rattle.keeper_core.specs.declared.fault.AttachFault.TheVariants as fault
 use Rattle.sqlite_trees.specs.declared.store.Store.{Ghosts}
 use Rattle.keeper_file.specs.OpenerFiles.{FilesOf}
-use Rattle.keeper_file.specs.Cases.{Tells, HasVersion, IsHonest, MayLeave, is_open, is_in_memory, is_attached, is_stopped, faults_of, place_of}
+use Rattle.keeper_file.specs.Cases.{Tells, HasVersion, IsHonest, MayLeave, is_open, is_in_memory, is_attached, is_stopped, faults_of, path_of}
 use Rattle.keeper_file.specs.declared.inner.Inner.{Inner}
 
 module _ {A O : Type 0} {g : Ghosts A} where
-  -- what was opened now is in memory if and only if the place is `:memory:`; what was open stays so
+  -- what was opened now is in memory if and only if the path is `:memory:`; what was open stays so
   pub record OpensAtPlace (old new : Inner A O g) (at : List ℕ) : Type 0 where
     pub memory : is_open old ≡ false → is_open new ≡ true → (is_in_memory new ≡ true) ↔ (at ≡ codes ":memory:")
     pub same : is_open old ≡ true → is_in_memory new ≡ is_in_memory old
@@ -21,8 +21,8 @@ module _ {A O : Type 0} (files : FilesOf O) (g : Ghosts A) where
   pub record Attaches (old new : Inner A O g) (at : List ℕ) (result : Result Tables AttachFault) : Type 0 where
     pub attached : (is_attached new ≡ true) ↔ IsOk result
     pub stopped : (is_stopped new ≡ true) ↔ (result ≡ Err fault.Failed)
-    pub placed : (place_of new ≡ at) ⊎ ((result ≡ Err fault.Memory) × (place_of new ≡ place_of old))
-    pub stays : result ≡ Err fault.Memory → place_of new ≡ place_of old
+    pub placed : (path_of new ≡ at) ⊎ ((result ≡ Err fault.Memory) × (path_of new ≡ path_of old))
+    pub stays : result ≡ Err fault.Memory → path_of new ≡ path_of old
     pub later : faults_of old ≤ faults_of new
     pub cause : result ≡ Err fault.Failed → Rose (faults_of old) (faults_of new)
     pub calm : is_stopped new ≡ false → faults_of new ≡ faults_of old

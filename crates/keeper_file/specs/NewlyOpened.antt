@@ -4,7 +4,7 @@ use Rattle.tap_rows.specs.declared.tables.Tables.{Tables}
 use Rattle.sqlite_trees.specs.declared.store.Store.{Ghosts}
 use Rattle.keeper_file.specs.Images.{ImageTells, ImageHasVersion}
 use Rattle.keeper_file.specs.OpenerFiles.{FilesOf}
-use Rattle.keeper_file.specs.Cases.{Tells, HasVersion, IsHonest, is_open, is_attached, is_stopped, faults_of, place_of}
+use Rattle.keeper_file.specs.Cases.{Tells, HasVersion, IsHonest, is_open, is_attached, is_stopped, faults_of, path_of}
 use Rattle.keeper_file.specs.declared.inner.Inner.{Inner}
 
 module _ {A O : Type 0} (files : FilesOf O) (g : Ghosts A) where
@@ -13,7 +13,7 @@ module _ {A O : Type 0} (files : FilesOf O) (g : Ghosts A) where
     pub opened : is_open new ≡ true
     pub unattached : is_attached new ≡ false
     pub running : is_stopped new ≡ false
-    pub placeless : place_of new ≡ []
+    pub pathless : path_of new ≡ []
     pub calm : faults_of new ≡ 0
     pub told : IsHonest files g new → (t : Tables) → ImageTells files.image t → Tells files g new t
     pub version : IsHonest files g new → (v : ℤ) → ImageHasVersion files.image v → HasVersion files g new v

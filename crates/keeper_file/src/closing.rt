@@ -8,7 +8,7 @@ ghost use Rattle.sqlite_store.specs.FileStore.{view};
 ghost use Rattle.sqlite_wal.specs.Reads.{AreClean};
 ghost use Rattle.tap_rows.specs.declared.tables.Tables.{Tables as TableRows};
 ghost use Rattle.keeper_sql.specs.Store.{TellsAs};
-ghost use Rattle.keeper_file.specs.Cases.{Tells, IsHonest, IsInMemory, has_files, is_stopped, place_of};
+ghost use Rattle.keeper_file.specs.Cases.{Tells, IsHonest, IsInMemory, has_files, is_stopped, path_of};
 ghost use Rattle.keeper_file.specs.Closing.{AreUsable, AreWhole, LeavesOnly};
 ghost use Rattle.keeper_file.specs.Failing.{FailsToCloseOpen};
 
@@ -31,7 +31,7 @@ pub fn closed<D: Disk + Drop>(
     ensures copied { IfOk result (λ files. AreClean D.Disk files.log files.db → IsCopied keeper.connection files) }
     ensures whole { IfOk result (λ files. AreClean D.Disk files.log files.db
         → (t : TableRows) → TellsAs keeper.attached (file_state keeper.connection) t → AreWhole D.Disk files t) }
-    ensures alone { IfErr result (λ left. IsTrue (view left.1).is_clean
+    ensures exact { IfErr result (λ left. IsTrue (view left.1).is_clean
         → (t : TableRows) → TellsAs keeper.attached (file_state keeper.connection) t → LeavesOnly D.Disk left.1 t) }
 
     // The disk failed, it was out of memory, or the store was shut before.
@@ -49,13 +49,13 @@ pub fn close_inner<D: Disk + Drop, O: Opener<FileStore<D>>>(
     inner: Inner<FileStore<D>, O>,
 ) -> Result<Option<Files<D>>, (Error, FileStore<D>)>
     ensures none { result ≡ Ok None → has_files inner ≡ false }
-    ensures memory { result ≡ Ok None → is_stopped inner ≡ false → IsInMemory (place_of inner) }
+    ensures memory { result ≡ Ok None → is_stopped inner ≡ false → IsInMemory (path_of inner) }
     ensures honest { IfOk result (λ files. IfSome files (λ both. AreClean D.Disk both.log both.db
         → IsHonest O.Opener.files over_files inner)) }
     ensures honest_left { IfErr result (λ left. IsTrue (view left.1).is_clean → IsHonest O.Opener.files over_files inner) }
     ensures whole { IfOk result (λ files. IfSome files (λ both. AreClean D.Disk both.log both.db
         → (t : TableRows) → Tells O.Opener.files over_files inner t → AreWhole D.Disk both t)) }
-    ensures alone { IfErr result (λ left. IsTrue (view left.1).is_clean
+    ensures exact { IfErr result (λ left. IsTrue (view left.1).is_clean
         → (t : TableRows) → Tells O.Opener.files over_files inner t → LeavesOnly D.Disk left.1 t) }
     ensures fails { IfErr result (λ left. IsTrue (view left.1).is_clean → FailsToCloseOpen inner left.1 left.0) }
 {

@@ -116,5 +116,5 @@ impl<S: Start> Opener<FileStore<FileFrom<S>>> for PathOpener<'_, S, FileFrom<S>>
 
     ghost left = { λ o t clean told. left_so_far (image_at S.Start) o.start o.left t told };
 
-    ghost alone = { λ o t x clean told may. alone_so_far (image_at S.Start) o.start o.left t x o.spares clean told may };
+    ghost exact = { λ o t x clean told may. alone_so_far (image_at S.Start) o.start o.left t x o.spares clean told may };
 }

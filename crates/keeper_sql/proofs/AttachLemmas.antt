@@ -107,10 +107,10 @@ read_version new given t read told =
     record { clean = told.clean; is_open = told.is_open; row = inr (told.holds.schema, read.version told.holds.schema told.holds.meta) }
 
 pub held_told : (old new : State) (s t : Tables) → HasCleanDisk new → IsLive new → LeavesOnlyTrees new new.now.trees → TellsAs false old s → IsOpenedWithTables old new t → IsDurable (TellsAs true new) (MayLeave new) s
-held_told old new s t clean live alone told held =
+held_told old new s t clean live exact told held =
     let holds = opened_holds old s new.now (live held.1).0 told held.3 in
     let tables = opened_tables old s new.now told held.3 in
-    record { told = record { clean = clean; is_open = held.1; holds = holds; tables = sym tables }; alone = λ x left. left.2 ∙ ap tables_of (alone left.0 left.1) ∙ tables }
+    record { told = record { clean = clean; is_open = held.1; holds = holds; tables = sym tables }; exact = λ x left. left.2 ∙ ap tables_of (exact left.0 left.1) ∙ tables }
 
 told_trees : (s : State) (t : Tables) → TellsAs false s t → t ≡ tables_of s.now.trees
 told_trees s t (inl told) = told.tables
@@ -122,8 +122,8 @@ told_same old new s clean (inr told) now same =
     inr (record { clean = clean; is_open = now; sound = subst IsDatabase (sym same) told.sound; schema = ap (λ (d : Database). d.schema) same ∙ told.schema; tables = told.tables ∙ ap (λ (d : Database). tables_of d.trees) (sym same) })
 
 pub still_told : (old new : State) (s : Tables) → HasCleanDisk new → TellsAs false old s → IsTrue new.is_open → new.now ≡ old.now → LeavesOnlyTrees new new.now.trees → IsDurable (TellsAs false new) (MayLeave new) s
-still_told old new s clean told now same alone =
-    record { told = told_same old new s clean told now same; alone = λ x left. left.2 ∙ ap tables_of (alone left.0 left.1) ∙ ap (λ (d : Database). tables_of d.trees) same ∙ sym (told_trees old s told) }
+still_told old new s clean told now same exact =
+    record { told = told_same old new s clean told now same; exact = λ x left. left.2 ∙ ap tables_of (exact left.0 left.1) ∙ ap (λ (d : Database). tables_of d.trees) same ∙ sym (told_trees old s told) }
 
 pub left_still : (old new : State) (s : Tables) → TellsAs false old s → ((db : Trees) → new.may_leave db → (db ≡ old.now.trees) ⊎ IsAfterOpen old db) → (x : Tables) → MayLeave new x → x ≡ s
 left_still old new s told crash x left = elim (crash left.0 left.1) [

@@ -26,23 +26,23 @@ told_as true s t is told = told
 told_as false s t is told = absurd (let e = is in cc)
 
 pub holds_as : (b : Bool) (s : State) (t : Tables) → b ≡ true → IsDurable (Tells s) (MayLeave s) t → IsDurable (TellsAs b s) (MayLeave s) t
-holds_as b s t is holds = record { told = told_as b s t is holds.told; alone = holds.alone }
+holds_as b s t is holds = record { told = told_as b s t is holds.told; exact = holds.exact }
 
 pub told_after : (change : Change) (old new : State) (s : Tables) → HasCleanDisk new → Tells old s → is_well_formed s ≡ true → fits s change ≡ true → Commits (added_rows change) old new → IsReadBack change → LeavesOnlyTrees new new.now.trees
     → IsDurable (Tells new) (MayLeave new) (after s change)
-told_after change old new s clean told formed fit done back alone =
+told_after change old new s clean told formed fit done back exact =
     let all = tables_after change s old.now new.now told.holds told.tables formed fit back (done.puts told.holds.schema) in
     record {
       told = record { clean = clean; is_open = done.is_open; holds = all.0; tables = sym all.1 };
-      alone = λ x left. left.2 ∙ ap tables_of (alone left.0 left.1) ∙ all.1;
+      exact = λ x left. left.2 ∙ ap tables_of (exact left.0 left.1) ∙ all.1;
     }
 
 pub told_still : (old new : State) (s : Tables) → HasCleanDisk new → Tells old s → IsTrue new.is_open → new.now ≡ old.now → LeavesOnlyTrees new new.now.trees → IsDurable (Tells new) (MayLeave new) s
-told_still old new s clean told now same alone =
+told_still old new s clean told now same exact =
     let tables : tables_of new.now.trees ≡ s = ap (λ (d : Database). tables_of d.trees) same ∙ sym told.tables in
     record {
       told = record { clean = clean; is_open = now; holds = subst HoldsStore (sym same) told.holds; tables = sym tables };
-      alone = λ x left. left.2 ∙ ap tables_of (alone left.0 left.1) ∙ tables;
+      exact = λ x left. left.2 ∙ ap tables_of (exact left.0 left.1) ∙ tables;
     }
 
 pub left_after : (change : Change) (old new : State) (s : Tables) → Tells old s → is_well_formed s ≡ true → fits s change ≡ true → ((db : Trees) → new.may_leave db → (db ≡ old.now.trees) ⊎ IsAfter change old db)
@@ -76,11 +76,11 @@ version_still old new v clean now same has = record { clean = clean; is_open = n
 
 -- what a crash leaves after a transaction, and after a call that commits nothing
 pub left_old_or : (P : Trees → Type 0) (old mid new : State) → LeavesItsTrees old → Survives old mid P → Survives mid new (λ _. ⊥) → HasCleanDisk new → LeavesOldOr P old new
-left_old_or P old mid new alone p q clean db left =
+left_old_or P old mid new exact p q clean db left =
     let early : HasCleanDisk mid = omega (arith, q.clean) in
     elim (q.crash clean db left) [
       | inl stays ↦ elim (p.crash early db stays) [
-        | inl was ↦ inl (alone db was)
+        | inl was ↦ inl (exact db was)
         | inr made ↦ inr made
       ]
       | inr none ↦ absurd none

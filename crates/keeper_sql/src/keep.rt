@@ -27,7 +27,7 @@ pub fn is_settled<S: Alter>(conn: &Connection<S>) -> bool
     ensures committed { IsTrue (state S.Store conn.now).is_open → (state S.Store conn.now).now ≡ (state S.Store conn.now).committed }
     ensures settled { IsSettled (state S.Store conn.now) }
     ensures holds { IsTrue result }
-    ensures alone { IsTrue (state S.Store conn.now).is_open → LeavesItsTrees (state S.Store conn.now) }
+    ensures exact { IsTrue (state S.Store conn.now).is_open → LeavesItsTrees (state S.Store conn.now) }
 {
     // For the clause `live`.
     let _schema = conn.schema();
@@ -46,7 +46,7 @@ pub fn is_still_open<S: Alter>(conn: &mut Connection<S>) -> bool
     requires { IsIdle (state S.Store conn.old) }
     ensures ended { IsIdle (state S.Store conn.new) }
     ensures same { HasCleanDisk (state S.Store conn.new) → IsTrue result → IsUnchanged (state S.Store conn.old) (state S.Store conn.new) }
-    ensures alone { HasCleanDisk (state S.Store conn.new) → IsTrue result → LeavesItsTrees (state S.Store conn.new) }
+    ensures exact { HasCleanDisk (state S.Store conn.new) → IsTrue result → LeavesItsTrees (state S.Store conn.new) }
     ensures survives { Survives (state S.Store conn.old) (state S.Store conn.new) (λ _. ⊥) }
     ensures fails { HasCleanDisk (state S.Store conn.new) → result ≡ false → FailsAtTest (state S.Store conn.old) (state S.Store conn.new) }
 {
@@ -59,7 +59,7 @@ pub fn is_only_memory<S: Alter>(conn: &mut Connection<S>, error: &Error) -> bool
     ensures ended { IsIdle (state S.Store conn.new) }
     ensures memory { IsTrue result → error.now ≡ Error.SqliteFailure ErrorCode.OutOfMemory }
     ensures same { HasCleanDisk (state S.Store conn.new) → IsTrue result → IsUnchanged (state S.Store conn.old) (state S.Store conn.new) }
-    ensures alone { HasCleanDisk (state S.Store conn.new) → IsTrue result → LeavesItsTrees (state S.Store conn.new) }
+    ensures exact { HasCleanDisk (state S.Store conn.new) → IsTrue result → LeavesItsTrees (state S.Store conn.new) }
     ensures survives { Survives (state S.Store conn.old) (state S.Store conn.new) (λ _. ⊥) }
     ensures fails { HasCleanDisk (state S.Store conn.new) → result ≡ false
         → IsNotOnlyMemory (state S.Store conn.old) (state S.Store conn.new) error.now }
@@ -74,7 +74,7 @@ pub fn keep<S: Alter>(conn: &mut Connection<S>, change: &Change) -> Result<(), C
     ensures honest { HasCleanDisk (state S.Store conn.new) → HasCleanDisk (state S.Store conn.old) }
     ensures ok { HasCleanDisk (state S.Store conn.new) → OnOk result (Commits (added_rows change.now) (state S.Store conn.old) (state S.Store conn.new)) }
     ensures read { OnOk result (IsReadBack change.now) }
-    ensures alone { HasCleanDisk (state S.Store conn.new) → OnOk result (LeavesItsTrees (state S.Store conn.new)) }
+    ensures exact { HasCleanDisk (state S.Store conn.new) → OnOk result (LeavesItsTrees (state S.Store conn.new)) }
     ensures memory { HasCleanDisk (state S.Store conn.new) → result ≡ Err CommitFault.Memory
         → IsTrue (state S.Store conn.new).is_open × ((state S.Store conn.new).now ≡ (state S.Store conn.old).now)
         × LeavesItsTrees (state S.Store conn.new) }

@@ -99,7 +99,7 @@ pub fn open_kept<S: Alter>(alloc: Global, conn: &mut Connection<S>) -> Result<Ta
     ensures read { HasCleanDisk (state S.Store conn.new) → IfOk result (AreRead (state S.Store conn.new).now) }
     ensures live { OnOk result (IsLive (state S.Store conn.new)) }
     ensures given_alone { OverOurs S.Store conn.old conn.new (OnOk result (LeavesItsTrees (state S.Store conn.new))) }
-    ensures alone { HasCleanDisk (state S.Store conn.new) → UnlessFailed result (LeavesItsTrees (state S.Store conn.new)) }
+    ensures exact { HasCleanDisk (state S.Store conn.new) → UnlessFailed result (LeavesItsTrees (state S.Store conn.new)) }
     ensures still { OverOurs S.Store conn.old conn.new (UnlessFailed result (ShowsTheSame (state S.Store conn.old) (state S.Store conn.new))) }
     ensures alien { OverOurs S.Store conn.old conn.new (IfAlien result (λ v. (db : Database) × OpensTo v (state S.Store conn.old).now db)) }
     ensures crash { HasCleanDisk (state S.Store conn.new) → IsTrue (state S.Store conn.old).is_open

@@ -23,7 +23,7 @@ use tap_rows::{Change, Tables};
 #[derive(Drop)]
 pub struct SqlKeeper<S: Alter> {
     connection: Connection<S>,
-    place: Option<Text>,
+    path: Option<Text>,
     attached: bool,
     stopped: bool,
     faults: u64,
@@ -37,14 +37,14 @@ impl<S: Alter> SqlKeeper<S> {
         requires { connection.in_transaction ≡ false }
         ensures free { (result.attached ≡ false) × (result.stopped ≡ false) }
         ensures same { result.connection ≡ connection }
-        ensures placeless { result.place ≡ None }
+        ensures pathless { result.path ≡ None }
         ensures unfailed { result.faults ≡ 0 }
     {
         // For its clause `settled`, as in the calls below.
         let _settled = is_settled(&connection);
         SqlKeeper {
             connection,
-            place: None,
+            path: None,
             attached: false,
             stopped: false,
             faults: 0,
@@ -57,7 +57,7 @@ impl<S: Alter> SqlKeeper<S> {
     {
         let SqlKeeper {
             connection,
-            place: _,
+            path: _,
             attached: _,
             stopped: _,
             faults: _,
@@ -83,7 +83,7 @@ impl<S: Alter> Keeper for SqlKeeper<S> {
 
     ghost stopped = { λ k. k.stopped };
 
-    ghost place = { λ k. unwrap_or k.place [] };
+    ghost path = { λ k. unwrap_or k.path [] };
 
     ghost faults = { λ k. k.faults };
 
@@ -92,9 +92,9 @@ impl<S: Alter> Keeper for SqlKeeper<S> {
         requires running { self.old.stopped ≡ false }
         ensures attached { (self.new.attached ≡ true) ↔ IsOk result }
         ensures stopped { (self.new.stopped ≡ true) ↔ (result ≡ Err AttachFault.Failed) }
-        ensures placed { (unwrap_or self.new.place [] ≡ at.now)
-            ⊎ ((result ≡ Err AttachFault.Memory) × (unwrap_or self.new.place [] ≡ unwrap_or self.old.place [])) }
-        ensures stays { result ≡ Err AttachFault.Memory → unwrap_or self.new.place [] ≡ unwrap_or self.old.place [] }
+        ensures placed { (unwrap_or self.new.path [] ≡ at.now)
+            ⊎ ((result ≡ Err AttachFault.Memory) × (unwrap_or self.new.path [] ≡ unwrap_or self.old.path [])) }
+        ensures stays { result ≡ Err AttachFault.Memory → unwrap_or self.new.path [] ≡ unwrap_or self.old.path [] }
         ensures later { self.old.faults ≤ self.new.faults }
         ensures cause { result ≡ Err AttachFault.Failed → Rose self.old.faults self.new.faults }
         ensures calm { self.new.stopped ≡ false → self.new.faults ≡ self.old.faults }
@@ -128,22 +128,22 @@ impl<S: Alter> Keeper for SqlKeeper<S> {
         // For its clauses, which a failure needs.
         let _before = is_settled(&self.connection);
         // Taken first: what comes later than the open of the store takes no memory.
-        let place = Text::from_slice(alloc, at.as_bytes())?;
+        let path = Text::from_slice(alloc, at.as_bytes())?;
         let opened = open_kept(alloc, &mut self.connection);
         let _after = is_settled(&self.connection);
         match opened {
             Ok(tables) => {
-                self.place = Some(place);
+                self.path = Some(path);
                 self.attached = true;
                 Ok(tables)
             }
             Err(AttachFault::Memory) => Err(AttachFault::Memory),
             Err(AttachFault::Alien { version }) => {
-                self.place = Some(place);
+                self.path = Some(path);
                 Err(AttachFault::Alien { version })
             }
             Err(AttachFault::Failed) => {
-                self.place = Some(place);
+                self.path = Some(path);
                 self.faults = self.faults.saturating_add(1);
                 self.stopped = true;
                 Err(AttachFault::Failed)
@@ -154,7 +154,7 @@ impl<S: Alter> Keeper for SqlKeeper<S> {
     fn commit(&mut self, change: &Change) -> Result<(), CommitFault>
         requires ready { self.old.attached ≡ true }
         requires running { self.old.stopped ≡ false }
-        ensures same { (unwrap_or self.new.place [] ≡ unwrap_or self.old.place []) × (self.new.attached ≡ self.old.attached) }
+        ensures same { (unwrap_or self.new.path [] ≡ unwrap_or self.old.path []) × (self.new.attached ≡ self.old.attached) }
         ensures stopped { (self.new.stopped ≡ true) ↔ (result ≡ Err CommitFault.Failed) }
         ensures later { self.old.faults ≤ self.new.faults }
         ensures cause { result ≡ Err CommitFault.Failed → Rose self.old.faults self.new.faults }
@@ -196,5 +196,5 @@ impl<S: Alter> Keeper for SqlKeeper<S> {
 
     ghost left = { λ k t clean running told. told_left _ k.attached t told k.settled (S.Store.stays k.connection.store) };
 
-    ghost alone = { λ k t x clean running told left. told_alone _ k.attached t told k.settled (S.Store.settled k.connection.store) x left };
+    ghost exact = { λ k t x clean running told left. told_alone _ k.attached t told k.settled (S.Store.settled k.connection.store) x left };
 }

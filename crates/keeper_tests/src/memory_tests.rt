@@ -21,7 +21,7 @@ fn keep_two<P: Keeper>(alloc: Global, keeper: &mut P, one: &Change, two: &Change
     requires free { IsFree P.Keeper keeper.old }
     ensures stopped { (P.stopped keeper.new ≡ true) ↔ (result ≡ 5) }
     ensures cause { result ≡ 5 → Rose (P.faults keeper.old) (P.faults keeper.new) }
-    ensures placed { (P.place keeper.new ≡ codes "store") ⊎ (result ≡ 7) }
+    ensures placed { (P.path keeper.new ≡ codes "store") ⊎ (result ≡ 7) }
     ensures known { P.honest keeper.new → (v : ℤ) → P.has_version keeper.old v → (v ≡ pos 1) ⊎ (v ≡ pos 2) → result ≢ 6 }
     ensures done { result ≡ 0 → P.honest keeper.new → (s : TableRows) → P.tells keeper.old s
         → AddsRowsTo one.now s → AddsRowsTo two.now (after s one.now)

@@ -63,7 +63,7 @@ pub record TookQuit (user secret : List ℕ) (left left' : Option (List ℕ)) : 
 
 -- the tables are unchanged: a crash leaves exactly these, and unless the keeper failed it tells them
 pub record Unchanged (status : ℕ) (tables : Tables) (tells leaves : Tables → Type 0) : Type 0 where
-  pub alone : (x : Tables) → leaves x → x ≡ tables
+  pub exact : (x : Tables) → leaves x → x ≡ tables
   pub told : status ≢ 5 → tells tables
 
 -- the sizes that definitions name by a constant, as numbers: the most bytes of a session and of one read

@@ -5,7 +5,7 @@ ghost use Rattle.std.specs.Str.{IsUtf8};
 ghost use Rattle.std.specs.Io.KnownBytes.{IsAtEnd};
 ghost use Rattle.clap.specs.Words.{takes, fault_of as faults_of};
 ghost use Rattle.command_words.specs.PopOptions.{pop_app};
-ghost use Rattle.command_words.specs.PopWords.{pop_place_in, user_in, box_in, secret_in, IsPopWorded};
+ghost use Rattle.command_words.specs.PopWords.{pop_path_in, user_in, box_in, secret_in, IsPopWorded};
 ghost use Rattle.command_words.specs.WellWorded.{path_or_default};
 ghost use Rattle.tap_base.specs.Counts.{Rose};
 ghost use Rattle.keeper_core.specs.States.{IsFree, IsPlacedUnless, IsPlacedBy};
@@ -74,7 +74,7 @@ fn serve_with<S: Peer<K>, K: Sink, L: Ledger>(
     }
 }
 
-// Opens the store at the place that the words name, and holds a session over the letters of the box; returns the status.
+// Opens the store at the path that the words name, and holds a session over the letters of the box; returns the status.
 fn serve_box<S: Peer<K>, K: Sink, P: Keeper, L: Ledger>(
     alloc: Global,
     key: HashKey,
@@ -84,7 +84,7 @@ fn serve_box<S: Peer<K>, K: Sink, P: Keeper, L: Ledger>(
     keeper: &mut P,
     steps: &mut Steps<L>,
 ) -> u8
-    requires can { CanOpen P.Keeper keeper.old asked.now.place }
+    requires can { CanOpen P.Keeper keeper.old asked.now.path }
     ensures session { FromStore P.Keeper keeper.old keeper.new (λ t.
         Served result (letters_in asked.now.user asked.now.name t) asked.now.user asked.now.secret
         (S.left source.old) (S.left source.new) (K.out sink.old) (K.out sink.new) (P.has_version keeper.old)) }
@@ -105,9 +105,9 @@ fn serve_box<S: Peer<K>, K: Sink, P: Keeper, L: Ledger>(
     ensures complete { IfCalm (S.faults source.old) (S.faults source.new)
         (K.faults sink.old) (K.faults sink.new) (P.faults keeper.old) (P.faults keeper.new) (IsUndisturbedSession result) }
     ensures statuses { (result ≤ 9) × (result ≢ 2) }
-    ensures place { IsPlacedUnless (result ≡ 7) (P.place keeper.old) (P.place keeper.new) asked.now.place }
+    ensures path { IsPlacedUnless (result ≡ 7) (P.path keeper.old) (P.path keeper.new) asked.now.path }
 {
-    match open_store(alloc, key, &asked.place, keeper) {
+    match open_store(alloc, key, &asked.path, keeper) {
         Ok(engine) => serve_with(alloc, asked, source, sink, engine, steps),
         Err(OpenFault::Refused(fault)) => refuse(fault, sink).code(),
         Err(OpenFault::Keeper) => 5,
@@ -116,7 +116,7 @@ fn serve_box<S: Peer<K>, K: Sink, P: Keeper, L: Ledger>(
 }
 
 /// Serves the box of a store by one session of the post office protocol, version 3 (RFC 1939): reads the words of the command
-/// line, attaches the keeper at the place that they name, checks its tables, copies the letters of the box, greets, and
+/// line, attaches the keeper at the path that they name, checks its tables, copies the letters of the box, greets, and
 /// answers the requests of the source, up to an accepted QUIT. The letters are the documents of the user's box, in the order
 /// in which `list` shows them. It reads pieces of at most 65,536 bytes, and puts the reply to each request before it looks at
 /// the next one. After the greeting it takes no memory. It changes nothing in the store.
@@ -151,9 +151,9 @@ pub fn serve<S: Peer<K>, K: Sink, P: Keeper, L: Ledger>(
     ensures faulty { (result ≡ 2) ⊎ ((result ≡ 7) ⊎ (faults_of pop_app words.now ≡ [])) }
     ensures nothing { result ≡ 2 →
         (keeper.new ≡ keeper.old) × ((K.out sink.new ≡ K.out sink.old) × (S.left source.new ≡ S.left source.old)) }
-    ensures place { IsPlacedBy result (P.place keeper.old) (P.place keeper.new) (pop_place_in words.now) }
+    ensures path { IsPlacedBy result (P.path keeper.old) (P.path keeper.new) (pop_path_in words.now) }
     ensures named { (path : Option (List ℕ)) (user name secret : List ℕ) → IsPopWorded words.now path user name secret →
-        (pop_place_in words.now ≡ path_or_default path) × ((user_in words.now ≡ user) × ((box_in words.now ≡ name) × (secret_in words.now ≡ secret))) }
+        (pop_path_in words.now ≡ path_or_default path) × ((user_in words.now ≡ user) × ((box_in words.now ≡ name) × (secret_in words.now ≡ secret))) }
 
     // A box of a store that a session left: how it was served, by the status.
     ensures session { FromStore P.Keeper keeper.old keeper.new (λ t.

@@ -29,13 +29,13 @@ fn push_sample(alloc: Global, text: &mut Text, sample: Option<u32>) -> Result<()
     Ok(())
 }
 
-// Returns whether words are read so: the place, a blank and the number, or why they are not read.
+// Returns whether words are read so: the path, a blank and the number, or why they are not read.
 fn is_shown(alloc: Global, words: &Texts, want: &[u8]) -> Result<bool, Memory>
     requires { All IsUtf8 words.now }
 {
     match read_words(alloc, words) {
         Ok(asked) => {
-            let mut text = asked.place;
+            let mut text = asked.path;
             let pushed = push_sample(alloc, &mut text, asked.sample);
             let same = text.as_slice() == want;
             drop(text);

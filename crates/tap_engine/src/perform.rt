@@ -149,7 +149,7 @@ impl Engine {
         ensures cause { OnErr result (Rose (P.faults keeper.old) (P.faults keeper.new)) }
         ensures stopped { (P.stopped keeper.new ≡ true) ↔ IsErr result }
         ensures halted { self.new.stopped ≡ P.stopped keeper.new }
-        ensures same { (P.place keeper.new ≡ P.place keeper.old) × (P.attached keeper.new ≡ true) }
+        ensures same { (P.path keeper.new ≡ P.path keeper.old) × (P.attached keeper.new ≡ true) }
         ensures later { P.faults keeper.old ≤ P.faults keeper.new }
         ensures calm { P.stopped keeper.new ≡ false → P.faults keeper.new ≡ P.faults keeper.old }
         ensures honest { P.honest keeper.new → P.honest keeper.old }

@@ -80,7 +80,7 @@ next-said rs r = subst (λ bytes. AreWrittenReplies (rs ++ r ∷ []) bytes) (app
 
 -- a story whose end alone a crash leaves
 story-leaves : (t : Tables) (left left' out out' : Option (List ℕ)) (versions : ℤ → Type 0) (leaves : Tables → Type 0) (bytes : List ℕ) (cs : List Command) (rs : List Reply) (t' : Tables) (s' : Session) (written : List ℕ) → Consumes left left' bytes → AreFirst cs (take SCRIPT_LIMIT bytes) left' → Story t no_session cs rs t' s' → Appends out out' written → ((v : ℤ) → versions v → (v ≡ pos 1) ⊎ (v ≡ pos 2) → AreWrittenReplies rs written) → ((x : Tables) → leaves x → x ≡ t') → LeavesPrefix t left left' out out' versions leaves
-story-leaves t left left' out out' versions leaves bytes cs rs t' s' written taken first story put said alone = record {
+story-leaves t left left' out out' versions leaves bytes cs rs t' s' written taken first story put said exact = record {
   bytes = bytes;
   taken = taken;
   commands = cs;
@@ -92,19 +92,19 @@ story-leaves t left left' out out' versions leaves bytes cs rs t' s' written tak
   written = written;
   put = put;
   said = said;
-  each = λ n few lie x may. whole-prefix t cs rs t' s' n x story few (alone x may);
+  each = λ n few lie x may. whole-prefix t cs rs t' s' n x story few (exact x may);
 }
 
 -- nothing was read
 pub none-leaves : (t : Tables) (left left' out out' : Option (List ℕ)) (versions : ℤ → Type 0) (leaves : Tables → Type 0) (written : List ℕ) → left' ≡ left → Appends out out' written → ((v : ℤ) → versions v → (v ≡ pos 1) ⊎ (v ≡ pos 2) → AreWrittenReplies [] written) → ((x : Tables) → leaves x → x ≡ t) → LeavesPrefix t left left' out out' versions leaves
-none-leaves t left left' out out' versions leaves written unread put said alone =
-    story-leaves t left left' out out' versions leaves [] [] [] t no_session written (subst (λ l. Consumes left l []) (sym unread) (Consumes-none left)) (inl (record { rest = complete (take SCRIPT_LIMIT []); is = refl })) (refl, refl) put said alone
+none-leaves t left left' out out' versions leaves written unread put said exact =
+    story-leaves t left left' out out' versions leaves [] [] [] t no_session written (subst (λ l. Consumes left l []) (sym unread) (Consumes-none left)) (inl (record { rest = complete (take SCRIPT_LIMIT []); is = refl })) (refl, refl) put said exact
 
 pub nothing-leaves : (t : Tables) (left left' out out' : Option (List ℕ)) (versions : ℤ → Type 0) (leaves : Tables → Type 0) → left' ≡ left → out' ≡ out → ((x : Tables) → leaves x → x ≡ t) → LeavesPrefix t left left' out out' versions leaves
-nothing-leaves t left left' out out' versions leaves unread unwritten alone = none-leaves t left left' out out' versions leaves [] unread (subst (λ o. Appends out o []) (sym unwritten) (Appends-none out)) (λ v has known. all-said []) alone
+nothing-leaves t left left' out out' versions leaves unread unwritten exact = none-leaves t left left' out out' versions leaves [] unread (subst (λ o. Appends out o []) (sym unwritten) (Appends-none out)) (λ v has known. all-said []) exact
 
 answered-leaves : (t : Tables) (left left' out out' : Option (List ℕ)) (versions : ℤ → Type 0) (tells leaves : Tables → Type 0) (bytes : List ℕ) (cs : List Command) (s' : Session) (ok : Bool) → Consumes left left' bytes → AreFirst cs (take SCRIPT_LIMIT bytes) left' → Answered t no_session cs out out' (IsDurable tells leaves) s' ok → LeavesPrefix t left left' out out' versions leaves
-answered-leaves t left left' out out' versions tells leaves bytes cs s' ok taken first one = story-leaves t left left' out out' versions leaves bytes cs one.replies one.tables' s' (flat_map reply_bytes one.replies) taken first one.story one.written (λ v has known. all-said one.replies) one.ends.alone
+answered-leaves t left left' out out' versions tells leaves bytes cs s' ok taken first one = story-leaves t left left' out out' versions leaves bytes cs one.replies one.tables' s' (flat_map reply_bytes one.replies) taken first one.story one.written (λ v has known. all-said one.replies) one.ends.exact
 
 all-of : (cs : List Command) → IsPrefix cs cs
 all-of cs = record { rest = []; is = sym (append-nil cs) }
@@ -127,7 +127,7 @@ memory-leaves t left left' out out' versions tells leaves run = answered-leaves 
 put-leaves : (t : Tables) (left left' out out' : Option (List ℕ)) (versions : ℤ → Type 0) (tells leaves : Tables → Type 0) → PutCut t left left' out out' (IsDurable tells leaves) → LeavesPrefix t left left' out out' versions leaves
 put-leaves t left left' out out' versions tells leaves run =
     let cut = run.cut in
-    story-leaves t left left' out out' versions leaves run.bytes (run.done ++ run.last ∷ []) (cut.replies ++ cut.reply ∷ []) cut.tables' cut.session' (flat_map reply_bytes cut.replies ++ take cut.n (reply_bytes cut.reply)) run.taken run.first cut.story cut.written (λ v has known. cut-said cut.replies cut.reply (take cut.n (reply_bytes cut.reply)) (drop cut.n (reply_bytes cut.reply)) (take-append-drop cut.n (reply_bytes cut.reply))) cut.ends.alone
+    story-leaves t left left' out out' versions leaves run.bytes (run.done ++ run.last ∷ []) (cut.replies ++ cut.reply ∷ []) cut.tables' cut.session' (flat_map reply_bytes cut.replies ++ take cut.n (reply_bytes cut.reply)) run.taken run.first cut.story cut.written (λ v has known. cut-said cut.replies cut.reply (take cut.n (reply_bytes cut.reply)) (drop cut.n (reply_bytes cut.reply)) (take-append-drop cut.n (reply_bytes cut.reply))) cut.ends.exact
 
 -- no reply is empty
 some-bytes : (r : Reply) → 0 < length (reply_bytes r)

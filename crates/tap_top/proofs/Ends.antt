@@ -17,7 +17,7 @@ use Rattle.tap_top.specs.Ends.{EngineScriptEnds, ScriptEnds, EngineSampleEnds, S
 use Rattle.tap_top.proofs.Codes.{same-code, not-done, run-code, close-code}
 use Rattle.tap_top.proofs.Crashes.{run-leaves, none-leaves, nothing-leaves, OutOfMemory-none}
 use Rattle.tap_top.proofs.Samples.{FirstPerformed-none}
-use Rattle.tap_top.proofs.SampleCrashes.{alone-leaves, sample-leaves}
+use Rattle.tap_top.proofs.SampleCrashes.{exact-leaves, sample-leaves}
 
 -- a read failed
 pub read-ends : (t : Tables) (left left' out out' : Option (List ℕ)) (tells leaves : Tables → Type 0) → ReadCut t left left' out out' (IsDurable tells leaves) → EngineScriptEnds s.ReadFailed t left left' out out' tells leaves
@@ -133,26 +133,26 @@ not-other status n (inr four) is from-six from-four = from-four (omega arith)
 
 -- a store was refused
 pub refused-ends : (t : Tables) (left left' out out' : Option (List ℕ)) (versions : ℤ → Type 0) (tells leaves : Tables → Type 0) (status : ℕ) (written : List ℕ) → (status ≡ 6 ⊎ status ≡ 4) → IfKnown versions ⊥ → left' ≡ left → Appends out out' written → LeavesOnly t leaves → ScriptEnds status t left left' out out' versions tells leaves
-refused-ends t left left' out out' versions tells leaves status written one never unread put alone = record {
+refused-ends t left left' out out' versions tells leaves status written one never unread put exact = record {
   whole = λ low. absurd (low-not status one low);
   read = λ is. absurd (not-other status 3 one is (λ e. omega (arith, e)) (λ e. omega (arith, e)));
   put = λ _ v has known. absurd (never v has known);
   keeper = λ is. absurd (not-other status 5 one is (λ e. omega (arith, e)) (λ e. omega (arith, e)));
   memory = λ is. absurd (not-other status 7 one is (λ e. omega (arith, e)) (λ e. omega (arith, e)));
   long = λ is. absurd (not-other status 8 one is (λ e. omega (arith, e)) (λ e. omega (arith, e)));
-  crash = none-leaves t left left' out out' versions leaves written unread put (λ v has known. absurd (never v has known)) alone;
+  crash = none-leaves t left left' out out' versions leaves written unread put (λ v has known. absurd (never v has known)) exact;
 }
 
 -- a store could not be attached
 pub failed-ends : (t : Tables) (left left' out out' : Option (List ℕ)) (versions : ℤ → Type 0) (tells leaves : Tables → Type 0) → left' ≡ left → out' ≡ out → LeavesOnly t leaves → ScriptEnds 5 t left left' out out' versions tells leaves
-failed-ends t left left' out out' versions tells leaves unread unwritten alone = record {
+failed-ends t left left' out out' versions tells leaves unread unwritten exact = record {
   whole = λ low. absurd (omega (arith, low));
   read = λ is. absurd (omega (arith, is));
   put = λ is. absurd (omega (arith, is));
-  keeper = λ _. inl (record { unread = unread; unwritten = unwritten; alone = alone });
+  keeper = λ _. inl (record { unread = unread; unwritten = unwritten; exact = exact });
   memory = λ is. absurd (omega (arith, is));
   long = λ is. absurd (omega (arith, is));
-  crash = nothing-leaves t left left' out out' versions leaves unread unwritten alone;
+  crash = nothing-leaves t left left' out out' versions leaves unread unwritten exact;
 }
 
 -- there was no memory to open a store
@@ -164,19 +164,19 @@ unopened-ends t left left' out out' versions tells leaves unread unwritten store
   keeper = λ is. absurd (omega (arith, is));
   memory = λ _. OutOfMemory-none t left left' out out' (IsDurable tells leaves) unread unwritten store holds;
   long = λ is. absurd (omega (arith, is));
-  crash = nothing-leaves t left left' out out' versions leaves unread unwritten holds.alone;
+  crash = nothing-leaves t left left' out out' versions leaves unread unwritten holds.exact;
 }
 
 -- the words were refused
 pub worded-ends : (t : Tables) (left left' out out' : Option (List ℕ)) (versions : ℤ → Type 0) (tells leaves : Tables → Type 0) → left' ≡ left → out' ≡ out → LeavesOnly t leaves → ScriptEnds 2 t left left' out out' versions tells leaves
-worded-ends t left left' out out' versions tells leaves unread unwritten alone = record {
+worded-ends t left left' out out' versions tells leaves unread unwritten exact = record {
   whole = λ low. absurd (omega (arith, low));
   read = λ is. absurd (omega (arith, is));
   put = λ is. absurd (omega (arith, is));
   keeper = λ is. absurd (omega (arith, is));
   memory = λ is. absurd (omega (arith, is));
   long = λ is. absurd (omega (arith, is));
-  crash = nothing-leaves t left left' out out' versions leaves unread unwritten alone;
+  crash = nothing-leaves t left left' out out' versions leaves unread unwritten exact;
 }
 
 -- a sample for which there was no memory
@@ -234,22 +234,22 @@ sample-ends t n out out' versions tells leaves status one run = record {
 
 -- a store was refused
 pub refused-sample : (t : Tables) (n : ℕ) (out out' : Option (List ℕ)) (versions : ℤ → Type 0) (tells leaves : Tables → Type 0) (status : ℕ) → (status ≡ 6 ⊎ status ≡ 4) → IfKnown versions ⊥ → LeavesOnly t leaves → SampleEnds status t n out out' versions tells leaves
-refused-sample t n out out' versions tells leaves status one never alone = record {
+refused-sample t n out out' versions tells leaves status one never exact = record {
   whole = λ low. absurd (low-not status one low);
   put = λ _ v has known. absurd (never v has known);
   keeper = λ is. absurd (not-other status 5 one is (λ e. omega (arith, e)) (λ e. omega (arith, e)));
   memory = λ is. absurd (not-other status 7 one is (λ e. omega (arith, e)) (λ e. omega (arith, e)));
-  crash = alone-leaves t (sample_of n) leaves alone;
+  crash = exact-leaves t (sample_of n) leaves exact;
 }
 
 -- a store could not be attached
 pub failed-sample : (t : Tables) (n : ℕ) (out out' : Option (List ℕ)) (versions : ℤ → Type 0) (tells leaves : Tables → Type 0) → LeavesOnly t leaves → SampleEnds 5 t n out out' versions tells leaves
-failed-sample t n out out' versions tells leaves alone = record {
+failed-sample t n out out' versions tells leaves exact = record {
   whole = λ low. absurd (omega (arith, low));
   put = λ is. absurd (omega (arith, is));
-  keeper = λ _. inl alone;
+  keeper = λ _. inl exact;
   memory = λ is. absurd (omega (arith, is));
-  crash = alone-leaves t (sample_of n) leaves alone;
+  crash = exact-leaves t (sample_of n) leaves exact;
 }
 
 -- there was no memory to open a store
@@ -259,15 +259,15 @@ unopened-sample t n out out' versions tells leaves store holds = record {
   put = λ is. absurd (omega (arith, is));
   keeper = λ is. absurd (omega (arith, is));
   memory = λ _. FirstPerformed-none t no_session (sample_of n) (IsDurable tells leaves) store holds;
-  crash = alone-leaves t (sample_of n) leaves holds.alone;
+  crash = exact-leaves t (sample_of n) leaves holds.exact;
 }
 
 -- the words were refused
 pub worded-sample : (t : Tables) (n : ℕ) (out out' : Option (List ℕ)) (versions : ℤ → Type 0) (tells leaves : Tables → Type 0) → LeavesOnly t leaves → SampleEnds 2 t n out out' versions tells leaves
-worded-sample t n out out' versions tells leaves alone = record {
+worded-sample t n out out' versions tells leaves exact = record {
   whole = λ low. absurd (omega (arith, low));
   put = λ is. absurd (omega (arith, is));
   keeper = λ is. absurd (omega (arith, is));
   memory = λ is. absurd (omega (arith, is));
-  crash = alone-leaves t (sample_of n) leaves alone;
+  crash = exact-leaves t (sample_of n) leaves exact;
 }

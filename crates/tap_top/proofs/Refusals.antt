@@ -58,13 +58,13 @@ CutLine-whole status text out out' put = record { n = length text; written = sub
 
 -- a store that wasn't refused: nothing was put
 pub Refused-none : (status : ℕ) (fault : StoreFault) (left left' out out' : Option (List ℕ)) (tells leaves : Tables → Type 0) (t : Tables) → status ≡ 2 ⊎ (status ≡ 4 ⊎ (status ≡ 5 ⊎ (status ≡ 6 ⊎ status ≡ 7))) → (status ≡ 6 → ⊥) → left' ≡ left → out' ≡ out → (status ≢ 5 → tells t) → ((x : Tables) → leaves x → x ≡ t) → Refused status fault left left' out out' tells leaves t
-Refused-none status fault left left' out out' tells leaves t is six unread unwritten told alone = record {
+Refused-none status fault left left' out out' tells leaves t is six unread unwritten told exact = record {
   statuses = is;
   unread = unread;
   line = record { n = 0; written = subst (λ o. Appends out o []) (sym unwritten) (Appends-none out); whole = λ e. absurd (six e) };
   none = λ _ _. refl;
   told = told;
-  alone = alone;
+  exact = exact;
 }
 
 -- a keeper that isn't stopped

@@ -22,25 +22,25 @@ no-less n = omega arith
 
 -- the end of these commands alone
 performed-leaves : (t : Tables) (cs done : List Command) (Ends : List Reply → Tables → Type 0) (s' : Session) (leaves : Tables → Type 0) → IsPrefix done cs → (one : Performed t no_session done Ends s') → LeavesOnly one.tables' leaves → LeavesFirst t cs leaves
-performed-leaves t cs done Ends s' leaves first one alone = record {
+performed-leaves t cs done Ends s' leaves first one exact = record {
   done = done;
   first = first;
   replies = one.replies;
   tables' = one.tables';
   session' = s';
   story = one.story;
-  each = λ x may. whole-prefix t done one.replies one.tables' s' 0 x one.story (no-less (length one.replies)) (alone x may);
+  each = λ x may. whole-prefix t done one.replies one.tables' s' 0 x one.story (no-less (length one.replies)) (exact x may);
 }
 
-pub alone-leaves : (t : Tables) (cs : List Command) (leaves : Tables → Type 0) → LeavesOnly t leaves → LeavesFirst t cs leaves
-alone-leaves t cs leaves alone = record {
+pub exact-leaves : (t : Tables) (cs : List Command) (leaves : Tables → Type 0) → LeavesOnly t leaves → LeavesFirst t cs leaves
+exact-leaves t cs leaves exact = record {
   done = [];
   first = record { rest = cs; is = refl };
   replies = [];
   tables' = t;
   session' = no_session;
   story = (refl, refl);
-  each = λ x may. whole-prefix t [] [] t no_session 0 x (refl, refl) (no-less 0) (alone x may);
+  each = λ x may. whole-prefix t [] [] t no_session 0 x (refl, refl) (no-less 0) (exact x may);
 }
 
 all-front : (cs : List Command) → IsPrefix cs cs
@@ -67,10 +67,10 @@ next-leaves t cs leaves run =
 
 -- each end of a sample
 pub sample-leaves : (t : Tables) (n : ℕ) (out out' : Option (List ℕ)) (tells leaves : Tables → Type 0) (ok : Bool) (status : ℕ) → (status ≤ 1 ⊎ (status ≡ 4 ⊎ (status ≡ 5 ⊎ status ≡ 7))) → (status ≤ 1 → Sampled t n out out' (IsDurable tells leaves) ok) → (status ≡ 4 → SampledCut t n out out' (IsDurable tells leaves)) → (status ≡ 5 → NextUncommitted t no_session (sample_of n) leaves) → (status ≡ 7 → FirstPerformed t no_session (sample_of n) (IsDurable tells leaves)) → LeavesFirst t (sample_of n) leaves
-sample-leaves t n out out' tells leaves ok status (inl low) whole cut next short = let run = whole low in performed-leaves t (sample_of n) (sample_of n) _ run.session' leaves (all-front (sample_of n)) run.performed run.performed.ends.1.alone
-sample-leaves t n out out' tells leaves ok status (inr (inl is)) whole cut next short = let run = cut is in performed-leaves t (sample_of n) (sample_of n) _ run.session' leaves (all-front (sample_of n)) run.performed run.performed.ends.1.alone
+sample-leaves t n out out' tells leaves ok status (inl low) whole cut next short = let run = whole low in performed-leaves t (sample_of n) (sample_of n) _ run.session' leaves (all-front (sample_of n)) run.performed run.performed.ends.1.exact
+sample-leaves t n out out' tells leaves ok status (inr (inl is)) whole cut next short = let run = cut is in performed-leaves t (sample_of n) (sample_of n) _ run.session' leaves (all-front (sample_of n)) run.performed run.performed.ends.1.exact
 sample-leaves t n out out' tells leaves ok status (inr (inr (inl is))) whole cut next short = next-leaves t (sample_of n) leaves (next is)
-sample-leaves t n out out' tells leaves ok status (inr (inr (inr is))) whole cut next short = let run = short is in performed-leaves t (sample_of n) run.done _ run.session' leaves run.first run.performed run.performed.ends.1.alone
+sample-leaves t n out out' tells leaves ok status (inr (inr (inr is))) whole cut next short = let run = short is in performed-leaves t (sample_of n) run.done _ run.session' leaves run.first run.performed run.performed.ends.1.exact
 
 -- what a crash leaves is a store
 pub first-stores : (t : Tables) (cs : List Command) (leaves : Tables → Type 0) → IsStore t → LeavesFirst t cs leaves → (x : Tables) → leaves x → IsStore x

@@ -23,10 +23,10 @@ SoundAlong tables session (command ∷ commands) (reply ∷ replies) tables' ses
 SoundAlong tables session [] (reply ∷ replies) tables' session' story = ⊥
 SoundAlong tables session (command ∷ commands) [] tables' session' story = ⊥
 
--- a keeper can be attached at a path: it is free, and the path is UTF-8
-pub record CanOpen {K : Type 0} (g : Ghosts K) (keeper : K) (place : List ℕ) : Type 0 where
+-- a keeper can be attached to a path: it is free, and the path is UTF-8
+pub record CanOpen {K : Type 0} (g : Ghosts K) (keeper : K) (path : List ℕ) : Type 0 where
   pub free : IsFree g keeper
-  pub text : IsUtf8 place
+  pub text : IsUtf8 path
 
 -- an engine and its keeper can perform a command
 pub record CanPerform {K : Type 0} (g : Ghosts K) (engine : Engine) (keeper : K) : Type 0 where

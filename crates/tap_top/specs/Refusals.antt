@@ -79,7 +79,7 @@ pub record Refused (status : ℕ) (fault : StoreFault) (left left' out out' : Op
   pub line : CutLine status (stop_line fault) out out'
   pub none : status ≢ 4 → status ≢ 6 → line.n ≡ 0
   pub told : status ≢ 5 → tells tables
-  pub alone : (x : Tables) → leaves x → x ≡ tables
+  pub exact : (x : Tables) → leaves x → x ≡ tables
 
 -- a store is refused, with status 6, if and only if its version isn't known or one of its rows is damaged; one of a known version
 -- that a session left is not refused

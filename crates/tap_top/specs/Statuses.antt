@@ -72,7 +72,7 @@ KeeperCut tables left left' out out' leaves = CutAt left left' (λ done next. Un
 pub record Unattached (tables : Tables) (left left' out out' : Option (List ℕ)) (leaves : Tables → Type 0) : Type 0 where
   pub unread : left' ≡ left
   pub unwritten : out' ≡ out
-  pub alone : (x : Tables) → leaves x → x ≡ tables
+  pub exact : (x : Tables) → leaves x → x ≡ tables
 
 -- status 7, out of memory: some first commands were answered, all of them completed by a line of the bytes that a script may
 -- have

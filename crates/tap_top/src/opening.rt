@@ -70,15 +70,15 @@ fn start(alloc: Global, key: HashKey, tables: Tables) -> Result<Engine, OpenFaul
     }
 }
 
-/// Attaches the store at a place, checks its tables, and starts an engine over them, which hashes texts under this key. No
+/// Attaches the store at a path, checks its tables, and starts an engine over them, which hashes texts under this key. No
 /// text of its documents is longer than a message may be.
 pub fn open_store<P: Keeper>(
     alloc: Global,
     key: HashKey,
-    place: &Text,
+    path: &Text,
     keeper: &mut P,
 ) -> Result<Engine, OpenFault>
-    requires can { CanOpen P.Keeper keeper.old place.now }
+    requires can { CanOpen P.Keeper keeper.old path.now }
     ensures can { IfOk result (λ engine. CanPerform P.Keeper engine keeper.new) }
     ensures session { IfOk result (λ engine. engine.session ≡ no_session) }
     ensures short { IfOk result HasShortTexts }
@@ -98,12 +98,12 @@ pub fn open_store<P: Keeper>(
         (v : ℤ) → P.has_version keeper.old v → MayBeMigrated v (P.has_version keeper.new)) }
     ensures stopped { (P.stopped keeper.new ≡ true) ↔ IsErrOf result OpenFault.Keeper }
     ensures cause { IsErrOf result OpenFault.Keeper → Rose (P.faults keeper.old) (P.faults keeper.new) }
-    ensures placed { IsPlacedUnless (IsErrOf result OpenFault.Memory) (P.place keeper.old) (P.place keeper.new) place.now }
+    ensures placed { IsPlacedUnless (IsErrOf result OpenFault.Memory) (P.path keeper.old) (P.path keeper.new) path.now }
     ensures later { P.faults keeper.old ≤ P.faults keeper.new }
     ensures calm { P.stopped keeper.new ≡ false → P.faults keeper.new ≡ P.faults keeper.old }
     ensures honest { P.honest keeper.new → P.honest keeper.old }
 {
-    match keeper.attach(alloc, as_str(place)) {
+    match keeper.attach(alloc, as_str(path)) {
         Ok(tables) => start(alloc, key, tables),
         Err(AttachFault::Alien { version }) => {
             Err(OpenFault::Refused(StoreFault::Version { version }))

@@ -190,19 +190,19 @@ fn run_sample<K: Sink, P: Keeper, L: Ledger>(
     put_summary(summary, sink)
 }
 
-/// Attaches the keeper at a place, checks its tables, performs the commands of a sample with `n` messages, and puts its
+/// Attaches the keeper at a path, checks its tables, performs the commands of a sample with `n` messages, and puts its
 /// summary; returns the status of the run. No replies are put.
 pub fn sample_store<K: Sink, P: Keeper, L: Ledger>(
     alloc: Global,
     key: HashKey,
-    place: &Text,
+    path: &Text,
     n: u32,
     sink: &mut K,
     keeper: &mut P,
     steps: &mut Steps<L>,
 ) -> Status
     requires size { IsSampleSize n }
-    requires can { CanOpen P.Keeper keeper.old place.now }
+    requires can { CanOpen P.Keeper keeper.old path.now }
 
     // How the sample ended over a store that a session left.
     ensures sample { FromStore P.Keeper keeper.old keeper.new (λ t.
@@ -223,9 +223,9 @@ pub fn sample_store<K: Sink, P: Keeper, L: Ledger>(
     ensures kept_cause { result ≡ Status.KeeperFailed → Rose (P.faults keeper.old) (P.faults keeper.new) }
     ensures kept_calm { P.stopped keeper.new ≡ false → P.faults keeper.new ≡ P.faults keeper.old }
     ensures statuses { IsOfClose result ⊎ (result ≡ Status.StoreRefused) }
-    ensures place { IsPlacedUnless (result ≡ Status.OutOfMemory) (P.place keeper.old) (P.place keeper.new) place.now }
+    ensures path { IsPlacedUnless (result ≡ Status.OutOfMemory) (P.path keeper.old) (P.path keeper.new) path.now }
 {
-    match open_store(alloc, key, place, keeper) {
+    match open_store(alloc, key, path, keeper) {
         Ok(mut engine) => {
             let status = run_sample(alloc, n, sink, &mut engine, keeper, steps);
             drop(engine);

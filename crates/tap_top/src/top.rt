@@ -6,7 +6,7 @@ ghost use Rattle.std.specs.Str.{IsUtf8};
 ghost use Rattle.std.specs.Io.KnownBytes.{IsAtEnd};
 ghost use Rattle.clap.specs.Words.{takes, fault_of as faults_of};
 ghost use Rattle.command_words.specs.Options.{app};
-ghost use Rattle.command_words.specs.Words.{place_in, sample_in};
+ghost use Rattle.command_words.specs.Words.{path_in, sample_in};
 ghost use Rattle.command_words.specs.WellWorded.{IsWellWorded, path_or_default};
 ghost use Rattle.tap_base.specs.Counts.{Rose};
 ghost use Rattle.keeper_core.specs.States.{IsFree, IsPlacedUnless, IsPlacedBy};
@@ -163,17 +163,17 @@ fn run<S: Peer<K>, K: Sink, P: Keeper, L: Ledger>(
     Status::ScriptTooLong
 }
 
-// Attaches the keeper at a place, checks its tables, and performs the commands of the source; returns the status of the run.
+// Attaches the keeper at a path, checks its tables, and performs the commands of the source; returns the status of the run.
 fn run_store<S: Peer<K>, K: Sink, P: Keeper, L: Ledger>(
     alloc: Global,
     key: HashKey,
-    place: &Text,
+    path: &Text,
     source: &mut S,
     sink: &mut K,
     keeper: &mut P,
     steps: &mut Steps<L>,
 ) -> Status
-    requires can { CanOpen P.Keeper keeper.old place.now }
+    requires can { CanOpen P.Keeper keeper.old path.now }
 
     // How the script ended over a store that a session left.
     ensures script { FromStore P.Keeper keeper.old keeper.new (λ t.
@@ -199,9 +199,9 @@ fn run_store<S: Peer<K>, K: Sink, P: Keeper, L: Ledger>(
         IfCalm (S.faults source.old) (S.faults source.new) (K.faults sink.old) (K.faults sink.new)
         (P.faults keeper.old) (P.faults keeper.new) (IsUndisturbed (code_of result)) }
     ensures statuses { (code_of result ≤ 8) × (result ≢ Status.WordsRefused) }
-    ensures place { IsPlacedUnless (result ≡ Status.OutOfMemory) (P.place keeper.old) (P.place keeper.new) place.now }
+    ensures path { IsPlacedUnless (result ≡ Status.OutOfMemory) (P.path keeper.old) (P.path keeper.new) path.now }
 {
-    match open_store(alloc, key, place, keeper) {
+    match open_store(alloc, key, path, keeper) {
         Ok(mut engine) => {
             let status = run(alloc, source, sink, &mut engine, keeper, steps);
             drop(engine);
@@ -213,7 +213,7 @@ fn run_store<S: Peer<K>, K: Sink, P: Keeper, L: Ledger>(
     }
 }
 
-/// Runs the mail filter: reads the words of the command line, attaches the keeper at the place that they name, checks its
+/// Runs the mail filter: reads the words of the command line, attaches the keeper at the path that they name, checks its
 /// tables, and performs the commands of the source. It reads pieces of at most 65,536 bytes, performs each command when its
 /// last line is read, and puts its reply before the next command. If the words ask for a sample, its commands are performed
 /// in place of the source's, no reply is put, and the lines of its summary are put at the end. No reply depends on the key,
@@ -248,9 +248,9 @@ pub fn tapestry<S: Peer<K>, K: Sink, P: Keeper, L: Ledger>(
     ensures faulty { (result ≡ 2) ⊎ ((result ≡ 7) ⊎ (faults_of app words.now ≡ [])) }
     ensures nothing { result ≡ 2 →
         (keeper.new ≡ keeper.old) × ((K.out sink.new ≡ K.out sink.old) × (S.left source.new ≡ S.left source.old)) }
-    ensures place { IsPlacedBy result (P.place keeper.old) (P.place keeper.new) (place_in words.now) }
+    ensures path { IsPlacedBy result (P.path keeper.old) (P.path keeper.new) (path_in words.now) }
     ensures named { (path : Option (List ℕ)) (number : Option ℕ) → IsWellWorded words.now path number →
-        (place_in words.now ≡ path_or_default path) × (sample_in words.now ≡ number) }
+        (path_in words.now ≡ path_or_default path) × (sample_in words.now ≡ number) }
 
     // A script over a store that a session left: how it ended, by the status, and what a crash leaves.
     ensures script { sample_in words.now ≡ None → FromStore P.Keeper keeper.old keeper.new (λ t.
@@ -305,7 +305,7 @@ pub fn tapestry<S: Peer<K>, K: Sink, P: Keeper, L: Ledger>(
         Err(OptionFault::Memory) => return Status::OutOfMemory.code(),
     };
     match asked.sample {
-        Some(n) => sample_store(alloc, key, &asked.place, n, sink, keeper, steps).code(),
-        None => run_store(alloc, key, &asked.place, source, sink, keeper, steps).code(),
+        Some(n) => sample_store(alloc, key, &asked.path, n, sink, keeper, steps).code(),
+        None => run_store(alloc, key, &asked.path, source, sink, keeper, steps).code(),
     }
 }

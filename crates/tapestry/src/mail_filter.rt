@@ -13,14 +13,14 @@ pub struct MailFilter;
 
 impl StoreProgram for MailFilter {
     ghost use Rattle.tapestry.specs.Sessions.{Ends, EndsOver};
-    ghost use Rattle.command_words.specs.Words.{place_in};
+    ghost use Rattle.command_words.specs.Words.{path_in};
 
     ghost ends = { λ words status left left' out out' reads reads' puts puts'. Ends words status left left' out out' reads reads' puts puts' };
 
     ghost ends_over = { λ words status left left' out out' asked asked' tables versions versions' tells leaves.
         EndsOver words status left left' out out' asked asked' tables versions versions' tells leaves };
 
-    ghost place = { λ words. place_in words };
+    ghost path = { λ words. path_in words };
 
     fn hold<I: Peer<K>, K: Sink, P: Keeper, L: Ledger>(
         alloc: Global,

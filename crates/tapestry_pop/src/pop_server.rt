@@ -13,14 +13,14 @@ pub struct PopServer;
 
 impl StoreProgram for PopServer {
     ghost use Rattle.tapestry_pop.specs.Sessions.{PopEnds, PopEndsOver};
-    ghost use Rattle.command_words.specs.PopWords.{pop_place_in};
+    ghost use Rattle.command_words.specs.PopWords.{pop_path_in};
 
     ghost ends = { λ words status left left' out out' reads reads' puts puts'. PopEnds words status left left' out out' reads reads' puts puts' };
 
     ghost ends_over = { λ words status left left' out out' asked asked' tables versions versions' tells leaves.
         PopEndsOver words status left left' out out' asked asked' tables versions versions' tells leaves };
 
-    ghost place = { λ words. pop_place_in words };
+    ghost path = { λ words. pop_path_in words };
 
     fn hold<I: Peer<K>, K: Sink, P: Keeper, L: Ledger>(
         alloc: Global,

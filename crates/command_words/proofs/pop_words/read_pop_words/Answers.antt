@@ -2,7 +2,7 @@ use Rattle.std.proofs.Common.{rules, ◌≡◌, ◌∙◌, ap, true, IfErr}
 use Rattle.clap.specs.Words.{takes, fault_of}
 use Rattle.command_words.specs.declared.option_fault.OptionFault.TheVariants as fault
 use Rattle.command_words.specs.PopOptions.{pop_app}
-use Rattle.command_words.specs.PopWords.{pop_place_in, user_in, box_in, secret_in}
+use Rattle.command_words.specs.PopWords.{pop_path_in, user_in, box_in, secret_in}
 use Rattle.command_words.proofs.PopWorded.{worded-pop}
 use Rattle.command_words.proofs.pop_words.read_pop_words.Goals as goal
 
@@ -13,7 +13,7 @@ returns-in_err-values-clause-fine c =
 
 pub returns-clause-named : goal.returns-clause-named
 returns-clause-named c =
-    let place : c.in_ok-place_text.field-0 ≡ pop_place_in c.args.words.now = search rules in
+    let place : c.in_ok-path_text.field-0 ≡ pop_path_in c.args.words.now = search rules in
     let user : c.in_ok-value_text.field-0 ≡ user_in c.args.words.now = search rules in
     let name : c.in_ok-value_text-2.field-0 ≡ box_in c.args.words.now = search rules in
     let secret : c.in_ok-value_text-3.field-0 ≡ secret_in c.args.words.now = search rules in

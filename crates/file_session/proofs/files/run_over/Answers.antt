@@ -1,5 +1,5 @@
 use Rattle.std.proofs.Common.{ap, subst}
-use Rattle.keeper_file.specs.Cases.{Tells, HasVersion, MayLeave, place_of}
+use Rattle.keeper_file.specs.Cases.{Tells, HasVersion, MayLeave, path_of}
 use Rattle.file_session.proofs.CloseLaws.{at_first}
 use Rattle.file_session.proofs.files.run_over.Goals as goal
 
@@ -13,4 +13,4 @@ returns-clause-ends_over g c t honest told =
     c.new-keeper.ensures.unopened (c.hold-status.ensures.ends_over t honest (c.new-keeper.ensures.told c.requires.clean t told))
 
 pub returns-clause-placed : goal.returns-clause-placed
-returns-clause-placed g c = at_first _ _ _ _ (ap place_of c.new-keeper.ensures.unopened) c.hold-status.ensures.placed
+returns-clause-placed g c = at_first _ _ _ _ (ap path_of c.new-keeper.ensures.unopened) c.hold-status.ensures.placed

@@ -27,7 +27,7 @@ returns-in-Some-clause-end g c =
       ends = λ honest t told. end.ends honest t told;
       stopped = end.stopped;
       close = subst (λ i. IsClosedAs (path_files g.S.Start) i (Some c.close.result)) (at_some _ _ _ c.in-Some.is end.left.0)
-          (closed-so _ _ c.close.result c.close.ensures.none c.close.ensures.honest c.close.ensures.honest_left c.close.ensures.whole c.close.ensures.alone c.close.ensures.fails);
+          (closed-so _ _ c.close.result c.close.ensures.none c.close.ensures.honest c.close.ensures.honest_left c.close.ensures.whole c.close.ensures.exact c.close.ensures.fails);
       back = end.left.1;
     }
 

@@ -7,8 +7,8 @@ use Rattle.keeper_file.proofs.closing.close_inner.Goals as goal
 pub returns-in-Ok-clause-whole : goal.returns-in-Ok-clause-whole
 returns-in-Ok-clause-whole g c clean t told = c.in-Ok.ensures.whole clean t (subst (λ k. Tells g.O.Opener.files over_files k t) c.in-File.is told)
 
-pub returns-in-Err-clause-alone : goal.returns-in-Err-clause-alone
-returns-in-Err-clause-alone g c clean t told = c.in-Err.ensures.alone clean t (subst (λ k. Tells g.O.Opener.files over_files k t) c.in-File.is told)
+pub returns-in-Err-clause-exact : goal.returns-in-Err-clause-exact
+returns-in-Err-clause-exact g c clean t told = c.in-Err.ensures.exact clean t (subst (λ k. Tells g.O.Opener.files over_files k t) c.in-File.is told)
 
 pub returns-in-Ok-clause-honest : goal.returns-in-Ok-clause-honest
 returns-in-Ok-clause-honest g c clean = subst (λ k. IsHonest g.O.Opener.files over_files k) (sym c.in-File.is) (c.in-Ok.ensures.honest clean)

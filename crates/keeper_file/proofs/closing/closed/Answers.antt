@@ -23,8 +23,8 @@ returns-clause-whole g c = IfOk-weaker c.close_files.result _ _ (λ files copied
 pub returns-clause-honest : goal.returns-clause-honest
 returns-clause-honest g c = IfOk-weaker c.close_files.result _ _ (λ files copied clean. (copied clean).was_clean) (returns-clause-copied g c)
 
-pub returns-clause-alone : goal.returns-clause-alone
-returns-clause-alone g c = IfErr-weaker c.close_files.result _ _ (λ left failed clean t told.
+pub returns-clause-exact : goal.returns-clause-exact
+returns-clause-exact g c = IfErr-weaker c.close_files.result _ _ (λ left failed clean t told.
     let shut = subst (λ h. IsClosed h left.1) c.into_connection-connection.ensures failed.0 in
     alone_then c.args.keeper.connection (returns-clause-settled g c) c.args.keeper.attached t told left.1 g.met.D.Disk.seen_may_stay shut) c.close_files.ensures.err
 

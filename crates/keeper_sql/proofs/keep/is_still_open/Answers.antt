@@ -9,8 +9,8 @@ pub returns-then-is_refused-clause-same : goal.returns-then-is_refused-clause-sa
 returns-then-is_refused-clause-same g c clean open_now =
     refused_rests c.prepare.result (state g.S.Store c.args.conn.now) (state g.S.Store c.prepare.new.self) _ [] (c.if-is_refused.ensures.0 refl) (c.prepare.ensures.err clean)
 
-pub returns-then-is_refused-clause-alone : goal.returns-then-is_refused-clause-alone
-returns-then-is_refused-clause-alone g c clean open_now = c.is_settled.ensures.alone (returns-then-is_refused-clause-same g c clean open_now).0.is_open
+pub returns-then-is_refused-clause-exact : goal.returns-then-is_refused-clause-exact
+returns-then-is_refused-clause-exact g c clean open_now = c.is_settled.ensures.exact (returns-then-is_refused-clause-same g c clean open_now).0.is_open
 
 pub returns-else-is_refused-clause-fails : goal.returns-else-is_refused-clause-fails
 returns-else-is_refused-clause-fails g c clean shut =

@@ -21,4 +21,4 @@ returns-else-is_only_memory-clause-fails g c clean =
 pub returns-else-is_only_memory-clause-crash : goal.returns-else-is_only_memory-clause-crash
 returns-else-is_only_memory-clause-crash g c clean was =
     let old = state g.S.Store c.args.conn.now in
-    left_old_or (IsAfter c.args.change.now old) old (state g.S.Store c.commit_change.new.conn) (state g.S.Store c.is_only_memory.new.conn) (c.is_settled-settled.ensures.alone was) c.commit_change.ensures.survives c.is_only_memory.ensures.survives clean
+    left_old_or (IsAfter c.args.change.now old) old (state g.S.Store c.commit_change.new.conn) (state g.S.Store c.is_only_memory.new.conn) (c.is_settled-settled.ensures.exact was) c.commit_change.ensures.survives c.is_only_memory.ensures.survives clean

@@ -37,12 +37,12 @@ returns-else-is_only_memory-clause-fails g c clean =
 pub returns-then-is_only_memory-clause-crash : goal.returns-then-is_only_memory-clause-crash
 returns-then-is_only_memory-clause-crash g c clean was =
     let old = state g.S.Store c.args.conn.now in
-    left_old_or (IsAfterOpen old) old (state g.S.Store c.open_store.new.conn) (state g.S.Store c.is_only_memory.new.conn) (c.is_settled-settled.ensures.alone was) c.open_store.ensures.survives c.is_only_memory.ensures.survives clean
+    left_old_or (IsAfterOpen old) old (state g.S.Store c.open_store.new.conn) (state g.S.Store c.is_only_memory.new.conn) (c.is_settled-settled.ensures.exact was) c.open_store.ensures.survives c.is_only_memory.ensures.survives clean
 
 pub returns-else-is_only_memory-clause-crash : goal.returns-else-is_only_memory-clause-crash
 returns-else-is_only_memory-clause-crash g c clean was =
     let old = state g.S.Store c.args.conn.now in
-    left_old_or (IsAfterOpen old) old (state g.S.Store c.open_store.new.conn) (state g.S.Store c.is_only_memory.new.conn) (c.is_settled-settled.ensures.alone was) c.open_store.ensures.survives c.is_only_memory.ensures.survives clean
+    left_old_or (IsAfterOpen old) old (state g.S.Store c.open_store.new.conn) (state g.S.Store c.is_only_memory.new.conn) (c.is_settled-settled.ensures.exact was) c.open_store.ensures.survives c.is_only_memory.ensures.survives clean
 
 pub returns-then-is_only_memory-clause-still : goal.returns-then-is_only_memory-clause-still
 returns-then-is_only_memory-clause-still g c clean ours =

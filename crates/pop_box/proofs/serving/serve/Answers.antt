@@ -13,14 +13,14 @@ use Rattle.pop_box.proofs.serving.serve.Goals as goal
 not-both : (x : OptionFault) → x ≡ RefusedWords → x ≡ Memory → ⊥
 not-both x one two = cc
 
--- the place, once the words were read
+-- the path, once the words were read
 placed-by : (status : ℕ) (now old at named : List ℕ) → at ≡ named → ((status ≡ 7) × (now ≡ old)) ⊎ (now ≡ at)
     → (((status ≡ 2) ⊎ (status ≡ 7)) × (now ≡ old)) ⊎ (now ≡ named)
 placed-by status now old at named same (inl (out, stays)) = inl (inr out, stays)
 placed-by status now old at named same (inr placed) = inr (placed ∙ same)
 
-pub returns-clause-place : goal.returns-clause-place
-returns-clause-place g c = placed-by _ _ _ _ _ c.in-Ok.ensures.place c.serve_box.ensures.place
+pub returns-clause-path : goal.returns-clause-path
+returns-clause-path g c = placed-by _ _ _ _ _ c.in-Ok.ensures.path c.serve_box.ensures.path
 
 pub returns-in-Err-Refused-clause-exact : goal.returns-in-Err-Refused-clause-exact
 returns-in-Err-Refused-clause-exact g c = λ _. c.in-Err-Refused.ensures.refused c.in-Err-Refused.field-0-is
@@ -29,11 +29,11 @@ pub returns-in-Err-Refused-clause-session : goal.returns-in-Err-Refused-clause-s
 returns-in-Err-Refused-clause-session g c = λ t honest holds store. unserved 2 _ _ _ _ _ _ _ _ (inl refl) (λ e. cc) refl refl
 
 pub returns-in-Err-Refused-clause-unchanged : goal.returns-in-Err-Refused-clause-unchanged
-returns-in-Err-Refused-clause-unchanged g c = λ t honest holds. record { alone = holds.alone; told = λ _. holds.told }
+returns-in-Err-Refused-clause-unchanged g c = λ t honest holds. record { exact = holds.exact; told = λ _. holds.told }
 
 pub returns-in-Err-Refused-clause-refusals : goal.returns-in-Err-Refused-clause-refusals
 returns-in-Err-Refused-clause-refusals g c = record {
-  refused = λ t honest holds v version fault is. Refused-none 2 fault _ _ _ _ _ _ t (inl refl) (λ e. cc) refl refl (λ _. holds.told) holds.alone;
+  refused = λ t honest holds v version fault is. Refused-none 2 fault _ _ _ _ _ _ t (inl refl) (λ e. cc) refl refl (λ _. holds.told) holds.exact;
   fine = search rules;
   known = search rules;
 }
@@ -49,11 +49,11 @@ pub returns-in-Err-Memory-clause-session : goal.returns-in-Err-Memory-clause-ses
 returns-in-Err-Memory-clause-session g c = λ t honest holds store. unserved 7 _ _ _ _ _ _ _ _ (inr (inr (inr refl))) (λ e. cc) refl refl
 
 pub returns-in-Err-Memory-clause-unchanged : goal.returns-in-Err-Memory-clause-unchanged
-returns-in-Err-Memory-clause-unchanged g c = λ t honest holds. record { alone = holds.alone; told = λ _. holds.told }
+returns-in-Err-Memory-clause-unchanged g c = λ t honest holds. record { exact = holds.exact; told = λ _. holds.told }
 
 pub returns-in-Err-Memory-clause-refusals : goal.returns-in-Err-Memory-clause-refusals
 returns-in-Err-Memory-clause-refusals g c = record {
-  refused = λ t honest holds v version fault is. Refused-none 7 fault _ _ _ _ _ _ t (inr (inr (inr (inr refl)))) (λ e. cc) refl refl (λ _. holds.told) holds.alone;
+  refused = λ t honest holds v version fault is. Refused-none 7 fault _ _ _ _ _ _ t (inr (inr (inr (inr refl)))) (λ e. cc) refl refl (λ _. holds.told) holds.exact;
   fine = search rules;
   known = search rules;
 }

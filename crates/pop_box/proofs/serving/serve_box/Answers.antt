@@ -15,7 +15,7 @@ returns-in-Ok-clause-session g c = λ t honest holds store.
 
 pub returns-in-Ok-clause-unchanged : goal.returns-in-Ok-clause-unchanged
 returns-in-Ok-clause-unchanged g c = λ t honest holds. record {
-  alone = c.in-Ok.ensures.crash honest t holds.told;
+  exact = c.in-Ok.ensures.crash honest t holds.told;
   told = λ _. (c.in-Ok.ensures.kept honest t holds.told c.in-Ok.ensures.can.attached.running).told;
 }
 
@@ -33,7 +33,7 @@ returns-in-Err-Refused-clause-session g c = λ t honest holds store.
 
 pub returns-in-Err-Refused-clause-unchanged : goal.returns-in-Err-Refused-clause-unchanged
 returns-in-Err-Refused-clause-unchanged g c = λ t honest holds. record {
-  alone = c.in-Err-Refused.ensures.crash honest t holds.told;
+  exact = c.in-Err-Refused.ensures.crash honest t holds.told;
   told = λ _. (c.in-Err-Refused.ensures.kept honest t holds.told (not-stopped (g.P.Keeper.stopped c.open_store.new.keeper) c.in-Err-Refused.ensures.stopped.0 (λ e. cc))).told;
 }
 
@@ -48,7 +48,7 @@ pub returns-in-Err-Keeper-clause-session : goal.returns-in-Err-Keeper-clause-ses
 returns-in-Err-Keeper-clause-session g c = λ t honest holds store. unserved 5 _ _ _ _ _ _ _ _ (inr (inl refl)) (λ e. cc) refl refl
 
 pub returns-in-Err-Keeper-clause-unchanged : goal.returns-in-Err-Keeper-clause-unchanged
-returns-in-Err-Keeper-clause-unchanged g c = λ t honest holds. record { alone = c.in-Err-Keeper.ensures.crash honest t holds.told; told = λ no. absurd (no refl) }
+returns-in-Err-Keeper-clause-unchanged g c = λ t honest holds. record { exact = c.in-Err-Keeper.ensures.crash honest t holds.told; told = λ no. absurd (no refl) }
 
 pub returns-in-Err-Keeper-clause-refusals : goal.returns-in-Err-Keeper-clause-refusals
 returns-in-Err-Keeper-clause-refusals g c = record {
@@ -62,7 +62,7 @@ returns-in-Err-Memory-clause-session g c = λ t honest holds store. unserved 7 _
 
 pub returns-in-Err-Memory-clause-unchanged : goal.returns-in-Err-Memory-clause-unchanged
 returns-in-Err-Memory-clause-unchanged g c = λ t honest holds. record {
-  alone = c.in-Err-Memory.ensures.crash honest t holds.told;
+  exact = c.in-Err-Memory.ensures.crash honest t holds.told;
   told = λ _. (c.in-Err-Memory.ensures.kept honest t holds.told (not-stopped (g.P.Keeper.stopped c.open_store.new.keeper) c.in-Err-Memory.ensures.stopped.0 (λ e. cc))).told;
 }
 

@@ -25,30 +25,30 @@ some-is found n one two = cc
 same-number : (found : Option ℕ) (m n : ℕ) → found ≡ Some m → found ≡ Some n → m ≡ n
 same-number found m n one two = cc
 
--- the place, once the words were read
+-- the path, once the words were read
 placed-by : (status : Status) (code : ℕ) (now old at named : List ℕ) → code ≡ code_of status → at ≡ named
     → ((status ≡ OutOfMemory) × (now ≡ old)) ⊎ (now ≡ at) → (((code ≡ 2) ⊎ (code ≡ 7)) × (now ≡ old)) ⊎ (now ≡ named)
 placed-by status code now old at named is same (inl (out, stays)) = inl (inr (is ∙ ap code_of out), stays)
 placed-by status code now old at named is same (inr placed) = inr (placed ∙ same)
 
-pub returns-in-Some-clause-place : goal.returns-in-Some-clause-place
-returns-in-Some-clause-place g c = placed-by c.sample_store.result _ _ _ _ _ c.code-in-Some.ensures c.in-Ok.ensures.place c.sample_store.ensures.place
+pub returns-in-Some-clause-path : goal.returns-in-Some-clause-path
+returns-in-Some-clause-path g c = placed-by c.sample_store.result _ _ _ _ _ c.code-in-Some.ensures c.in-Ok.ensures.path c.sample_store.ensures.path
 
-pub returns-clause-place : goal.returns-clause-place
-returns-clause-place g c = placed-by c.run_store.result _ _ _ _ _ c.code-in-None.ensures c.in-Ok.ensures.place c.run_store.ensures.place
+pub returns-clause-path : goal.returns-clause-path
+returns-clause-path g c = placed-by c.run_store.result _ _ _ _ _ c.code-in-None.ensures c.in-Ok.ensures.path c.run_store.ensures.path
 
 pub returns-in-Err-Refused-clause-exact : goal.returns-in-Err-Refused-clause-exact
 returns-in-Err-Refused-clause-exact g c = λ _. c.in-Err-Refused.ensures.refused c.in-Err-Refused.field-0-is
 
 pub returns-in-Err-Refused-clause-script : goal.returns-in-Err-Refused-clause-script
-returns-in-Err-Refused-clause-script g c = λ _ t honest holds store. rw c.code.ensures (worded-ends t _ _ _ _ _ _ _ refl refl holds.alone)
+returns-in-Err-Refused-clause-script g c = λ _ t honest holds store. rw c.code.ensures (worded-ends t _ _ _ _ _ _ _ refl refl holds.exact)
 
 pub returns-in-Err-Refused-clause-sample : goal.returns-in-Err-Refused-clause-sample
-returns-in-Err-Refused-clause-sample g c = λ n _ t honest holds store. rw c.code.ensures (worded-sample t n _ _ _ _ _ holds.alone)
+returns-in-Err-Refused-clause-sample g c = λ n _ t honest holds store. rw c.code.ensures (worded-sample t n _ _ _ _ _ holds.exact)
 
 pub returns-in-Err-Refused-clause-refusals : goal.returns-in-Err-Refused-clause-refusals
 returns-in-Err-Refused-clause-refusals g c = rw c.code.ensures (record {
-  refused = λ t honest holds v version fault is. Refused-none 2 fault _ _ _ _ _ _ t (inl refl) (λ e. cc) refl refl (λ _. holds.told) holds.alone;
+  refused = λ t honest holds v version fault is. Refused-none 2 fault _ _ _ _ _ _ t (inl refl) (λ e. cc) refl refl (λ _. holds.told) holds.exact;
   fine = search rules;
   known = search rules;
 })
@@ -70,7 +70,7 @@ returns-in-Err-Memory-clause-sample g c = λ n _ t honest holds store. rw c.code
 
 pub returns-in-Err-Memory-clause-refusals : goal.returns-in-Err-Memory-clause-refusals
 returns-in-Err-Memory-clause-refusals g c = rw c.code-in-Err-Memory.ensures (record {
-  refused = λ t honest holds v version fault is. Refused-none 7 fault _ _ _ _ _ _ t (inr (inr (inr (inr refl)))) (λ e. cc) refl refl (λ _. holds.told) holds.alone;
+  refused = λ t honest holds v version fault is. Refused-none 7 fault _ _ _ _ _ _ t (inr (inr (inr (inr refl)))) (λ e. cc) refl refl (λ _. holds.told) holds.exact;
   fine = search rules;
   known = search rules;
 })
@@ -108,10 +108,10 @@ pub returns-in-Err-Memory-clause-version : goal.returns-in-Err-Memory-clause-ver
 returns-in-Err-Memory-clause-version g c = λ t honest holds store. rw c.code-in-Err-Memory.ensures (exit-unopened _)
 
 pub returns-in-Err-Refused-clause-told : goal.returns-in-Err-Refused-clause-told
-returns-in-Err-Refused-clause-told g c = λ t honest holds store _ x tells. subst IsStore (sym (holds.alone x (g.met.P.Keeper.left c.args.keeper.now x honest c.requires.free.running tells))) store
+returns-in-Err-Refused-clause-told g c = λ t honest holds store _ x tells. subst IsStore (sym (holds.exact x (g.met.P.Keeper.left c.args.keeper.now x honest c.requires.free.running tells))) store
 
 pub returns-in-Err-Memory-clause-told : goal.returns-in-Err-Memory-clause-told
-returns-in-Err-Memory-clause-told g c = λ t honest holds store _ x tells. subst IsStore (sym (holds.alone x (g.met.P.Keeper.left c.args.keeper.now x honest c.requires.free.running tells))) store
+returns-in-Err-Memory-clause-told g c = λ t honest holds store _ x tells. subst IsStore (sym (holds.exact x (g.met.P.Keeper.left c.args.keeper.now x honest c.requires.free.running tells))) store
 
 pub returns-in-Some-clause-told : goal.returns-in-Some-clause-told
 returns-in-Some-clause-told g c = λ t honest holds store runs x tells.

@@ -12,12 +12,12 @@ pub returns-in-Err-clause-attaches : goal.returns-in-Err-clause-attaches
 returns-in-Err-clause-attaches g c =
     let files = g.O.Opener.files in
     not_opened files g.A.Store _ c.ready.new.inner _ c.ready.ensures.honest c.ready.ensures.version
-    (λ clean t told. told_durable files g.A.Store g.met.O.Opener.alone g.met.A.Store.settled c.ready.new.inner t clean (c.ready.ensures.told clean t told))
+    (λ clean t told. told_durable files g.A.Store g.met.O.Opener.exact g.met.A.Store.settled c.ready.new.inner t clean (c.ready.ensures.told clean t told))
     c.in-Err.ensures.free c.ready.ensures.later _ c.in-Err.ensures.kind
 
 pub returns-in-Err-clause-spared : goal.returns-in-Err-clause-spared
 returns-in-Err-clause-spared g c shut clean t told =
-    told_durable g.O.Opener.files g.A.Store g.met.O.Opener.alone g.met.A.Store.settled c.ready.new.inner t clean (c.ready.ensures.told clean t told)
+    told_durable g.O.Opener.files g.A.Store g.met.O.Opener.exact g.met.A.Store.settled c.ready.new.inner t clean (c.ready.ensures.told clean t told)
 
 pub returns-in-Err-clause-at_place : goal.returns-in-Err-clause-at_place
 returns-in-Err-clause-at_place g c = record {

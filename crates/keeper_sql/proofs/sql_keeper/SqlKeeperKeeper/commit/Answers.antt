@@ -9,7 +9,7 @@ pub returns-in-Ok-clause-ok : goal.returns-in-Ok-clause-ok
 returns-in-Ok-clause-ok g c clean s told extends =
     let old = state g.S.Store c.args.self.now.connection in
     let new = state g.S.Store c.keep-kept.new.conn in
-    holds_as _ new _ c.requires.ready (told_after c.args.change.now old new s clean (as_told _ old s c.requires.ready told) extends.formed extends.fits (c.in-Ok.ensures.ok clean) c.in-Ok.ensures.read (c.in-Ok.ensures.alone clean))
+    holds_as _ new _ c.requires.ready (told_after c.args.change.now old new s clean (as_told _ old s c.requires.ready told) extends.formed extends.fits (c.in-Ok.ensures.ok clean) c.in-Ok.ensures.read (c.in-Ok.ensures.exact clean))
 
 pub returns-in-Ok-clause-crash : goal.returns-in-Ok-clause-crash
 returns-in-Ok-clause-crash g c clean s told extends x left =

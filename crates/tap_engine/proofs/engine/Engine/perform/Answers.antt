@@ -77,7 +77,7 @@ returns-in-Err-commit-clause-memory g c = λ t represents sound proper.
     (memory-gives t c.args.self.now.session c.args.command c.in-Ok.prepared.reply c.in-Some.change c.prepare.new.self.session answers)
 
 pub returns-in-Err-clause-untouched : goal.returns-in-Err-clause-untouched
-returns-in-Err-clause-untouched g c = λ refused honest t tells. record { told = tells; alone = λ x leaves. g.met.P.Keeper.alone c.args.keeper.now t x honest c.requires.attached.running tells leaves }
+returns-in-Err-clause-untouched g c = λ refused honest t tells. record { told = tells; exact = λ x leaves. g.met.P.Keeper.exact c.args.keeper.now t x honest c.requires.attached.running tells leaves }
 
 pub returns-in_default-clause-untouched : goal.returns-in_default-clause-untouched
 returns-in_default-clause-untouched g c = λ refused. absurd (false≢true (sym refused ∙ c.in-Ok.ensures.accepted))

@@ -35,7 +35,7 @@ pub returns-clause-stopped : goal.returns-clause-stopped
 returns-clause-stopped g c = c.tapestry.ensures.causes.stopped
 
 pub returns-clause-placed : goal.returns-clause-placed
-returns-clause-placed g c = c.tapestry.ensures.place
+returns-clause-placed g c = c.tapestry.ensures.path
 
 pub returns-clause-unchanged : goal.returns-clause-unchanged
 returns-clause-unchanged g c = λ is. (c.tapestry.ensures.nothing is).0

@@ -32,7 +32,7 @@ pub returns-clause-stopped : goal.returns-clause-stopped
 returns-clause-stopped g c = c.serve.ensures.causes.stopped
 
 pub returns-clause-placed : goal.returns-clause-placed
-returns-clause-placed g c = c.serve.ensures.place
+returns-clause-placed g c = c.serve.ensures.path
 
 pub returns-clause-unchanged : goal.returns-clause-unchanged
 returns-clause-unchanged g c = λ is. (c.serve.ensures.nothing is).0
