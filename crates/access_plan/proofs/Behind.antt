@@ -9,7 +9,8 @@ use Rattle.time_marks.specs.Marks.{guards_of}
 use Rattle.access_plan.specs.Accesses.{near_access, behind_times}
 
 -- the access is the same without the guard of times before the others
-pub same_behind : (known : ℕ → Bool) (v : Var) (t : Table) (x : Condition) → near_access known v t (guards_of (behind_times x)) ≡ near_access known v t (guards_of x)
+pub same_behind : (known : ℕ → Bool) (v : Var) (t : Table) (x : Condition)
+    → near_access known v t (guards_of (behind_times x)) ≡ near_access known v t (guards_of x)
 same_behind known v Docs (All (Plain (Times a op b)) r) = refl
 same_behind known v Notes (All (Plain (Times a op b)) r) = refl
 same_behind known v t (All (Plain (Numbers a op b)) r) = refl

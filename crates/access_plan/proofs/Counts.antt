@@ -13,7 +13,8 @@ module _ {A : Type 0} (p q : A → Bool) (fewer : (x : A) → q x ≡ true → p
   pub count_≤ : (xs : List A) → length (filter q xs) ≤ length (filter p xs)
   count_≤ [] = omega arith
   count_≤ (x ∷ xs) = go (q x) refl (p x) refl (count_≤ xs) where
-    go : (b : Bool) → q x ≡ b → (c : Bool) → p x ≡ c → length (filter q xs) ≤ length (filter p xs) → length (filter q (x ∷ xs)) ≤ length (filter p (x ∷ xs))
+    go : (b : Bool) → q x ≡ b → (c : Bool) → p x ≡ c → length (filter q xs) ≤ length (filter p xs)
+        → length (filter q (x ∷ xs)) ≤ length (filter p (x ∷ xs))
     go true e true f h = rw (e, f) (omega arith)
     go true e false f h = absurd (false≢true (sym f ∙ fewer x e))
     go false e true f h = rw (e, f) (omega arith)
@@ -27,7 +28,8 @@ module _ {A : Type 0} (p q : A → Bool) (fewer : (x : A) → q x ≡ true → p
       let b : q x ≡ false = ap q (sym i) ∙ k in
       rw (a, b) (let c = count_≤ xs in omega arith)
   count_< (x ∷ xs) y (inr i) h k = go (q x) refl (p x) refl (count_< xs y i h k) where
-    go : (b : Bool) → q x ≡ b → (c : Bool) → p x ≡ c → length (filter q xs) < length (filter p xs) → length (filter q (x ∷ xs)) < length (filter p (x ∷ xs))
+    go : (b : Bool) → q x ≡ b → (c : Bool) → p x ≡ c → length (filter q xs) < length (filter p xs)
+        → length (filter q (x ∷ xs)) < length (filter p (x ∷ xs))
     go true e true f n = rw (e, f) (omega arith)
     go true e false f n = absurd (false≢true (sym f ∙ fewer x e))
     go false e true f n = rw (e, f) (omega arith)

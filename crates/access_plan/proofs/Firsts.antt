@@ -25,5 +25,6 @@ module _ {B : Type 0} (f : Atom → Option B) (x l r : Condition) (e : x ≡ All
   pub first_left : (o : Option B) (b : B) → o ≡ first_some f (guards_of l) → o ≡ Some b → Some b ≡ first_some f (guards_of x)
   first_left o b h k = sym (both_guards ∙ ap (λ y. option_or y (first_some f (guards_of r))) (sym h ∙ k))
 
-  pub first_right : (o p : Option B) → o ≡ first_some f (guards_of l) → o ≡ None → p ≡ first_some f (guards_of r) → p ≡ first_some f (guards_of x)
+  pub first_right : (o p : Option B) → o ≡ first_some f (guards_of l) → o ≡ None → p ≡ first_some f (guards_of r)
+      → p ≡ first_some f (guards_of x)
   first_right o p h k q = q ∙ sym (both_guards ∙ ap (λ y. option_or y (first_some f (guards_of r))) (sym h ∙ k))

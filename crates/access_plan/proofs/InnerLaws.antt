@@ -11,7 +11,8 @@ use Rattle.access_plan.specs.Accesses.{inner_access}
 use Rattle.access_plan.specs.Inners.{exists_access, inners_to, inners_of}
 
 -- an item of a list with one more at its end is the list's own or that one
-last_item : {A : Type 0} (xs : List A) (y z : A) (i : ℕ) → slice_get (xs ++ y ∷ []) i ≡ Some z → (slice_get xs i ≡ Some z) ⊎ ((i ≡ length xs) × (y ≡ z))
+last_item : {A : Type 0} (xs : List A) (y z : A) (i : ℕ) → slice_get (xs ++ y ∷ []) i ≡ Some z
+    → (slice_get xs i ≡ Some z) ⊎ ((i ≡ length xs) × (y ≡ z))
 last_item [] y z zero e = inr (refl, same e)
   where
     same : {A : Type 0} {y z : A} → Some y ≡ Some z → y ≡ z
@@ -30,7 +31,8 @@ count_to nodes (suc n) = longer (inners_to nodes n) (exists_access (tree_at node
     longer (x ∷ xs) y = ap suc (longer xs y)
 
 -- the item at a number is what its condition gives
-at_number : (nodes : List TNode) (n i : ℕ) (o : Option Access) → slice_get (inners_to nodes n) i ≡ Some o → exists_access (tree_at nodes i) ≡ o
+at_number : (nodes : List TNode) (n i : ℕ) (o : Option Access) → slice_get (inners_to nodes n) i ≡ Some o
+    → exists_access (tree_at nodes i) ≡ o
 at_number nodes zero i o e = absurd cc
 at_number nodes (suc n) i o e =
     elim (last_item (inners_to nodes n) (exists_access (tree_at nodes n)) o i e) [
@@ -39,7 +41,8 @@ at_number nodes (suc n) i o e =
     ]
 
 -- the access that was found for an EXISTS is that to its rows
-pub found_access : (nodes : List TNode) (inners : List (Option Access)) (i : ℕ) (a : Access) (v : Var) (t : Table) (x : Condition) → inners ≡ inners_of nodes → slice_get inners i ≡ Some (Some a) → tree_at nodes i ≡ Exists v t x → a ≡ inner_access v t x
+pub found_access : (nodes : List TNode) (inners : List (Option Access)) (i : ℕ) (a : Access) (v : Var) (t : Table) (x : Condition)
+    → inners ≡ inners_of nodes → slice_get inners i ≡ Some (Some a) → tree_at nodes i ≡ Exists v t x → a ≡ inner_access v t x
 found_access nodes inners i a v t x e g q =
     same (sym (at_number nodes (length nodes) i (Some a) (subst (λ z. slice_get z i ≡ Some (Some a)) e g)) ∙ ap exists_access q)
   where

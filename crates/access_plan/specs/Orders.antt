@@ -23,7 +23,8 @@ reach_of step access = record { var = step.var; table = step.table; access = acc
 
 -- a step that is still to be bound, by an access of the index
 abbrev pub by_index : List Var → Step → Option Reach
-by_index bound step = if is_bound bound step.var.0 then None else option_map (reach_of step) (index_access (is_bound bound) step.var step.table step.guards)
+by_index bound step = if is_bound bound step.var.0 then None
+    else option_map (reach_of step) (index_access (is_bound bound) step.var step.table step.guards)
 
 -- a step that is still to be bound, by all rows of its table
 abbrev pub by_table : List Var → Step → Option Reach

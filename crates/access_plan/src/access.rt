@@ -6,9 +6,10 @@ ghost use Rattle.access_plan.specs.Views.{access_at};
 use crate::AccessRef;
 use tql_core::{NumExpr, TextExpr, Var};
 
-/// The access to the rows of a variable: the document of a number, the documents whose Message-ID, In-Reply-To, sender or
-/// Subject (RFC 5322 3.6) is a text, those whose Message-ID is among the References of another variable's row, those with a
-/// text among their References or with a word, the notes on the document of a number, or all rows of the table.
+/// The access to the rows of a variable: the document of a number, the documents whose Message-ID,
+/// In-Reply-To, sender or Subject (RFC 5322 3.6) is a text, those whose Message-ID is among the
+/// References of another variable's row, those with a text among their References or with a word,
+/// the notes on the document of a number, or all rows of the table.
 #[derive(PartialEq, Eq, Drop)]
 pub enum Access {
     ById(NumExpr),

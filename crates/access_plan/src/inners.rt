@@ -33,7 +33,8 @@ fn copied(access: Option<AccessRef>) -> Result<Option<Access>, Memory>
     }
 }
 
-/// Returns for each number of the pool the access to the rows of its condition, if this is an EXISTS.
+/// Returns for each number of the pool the access to the rows of its condition, if this is an
+/// EXISTS.
 pub(crate) fn inners_of(alloc: Global, pool: &Pool<TNode>) -> Result<Rows<Option<Access>>, Memory>
     ensures { IfOk result (λ inners. inners ≡ inners_of pool.now) }
 {

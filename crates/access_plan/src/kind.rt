@@ -19,8 +19,8 @@ pub enum AccessKind {
     NotesOf,
 }
 
-// Returns the kinds of access to a table's rows by which a plan's orders go, in the order in which they are tried: the most
-// selective first.
+// Returns the kinds of access to a table's rows by which a plan's orders go, in the order in which
+// they are tried: the most selective first.
 pub(crate) fn kinds(table: Table) -> &'static [AccessKind]
     ensures { result.now ≡ kinds table }
 {
@@ -36,7 +36,8 @@ pub(crate) fn kinds(table: Table) -> &'static [AccessKind]
     }
 }
 
-// Returns all kinds of access to a table's rows, in the order in which they are tried: the most selective first.
+// Returns all kinds of access to a table's rows, in the order in which they are tried: the most
+// selective first.
 pub(crate) fn near_kinds(table: Table) -> &'static [AccessKind]
     ensures { result.now ≡ near_kinds table }
 {

@@ -2,7 +2,8 @@
 
 ghost use Rattle.std.specs.Prelude.{◌≡◌, IfOk, Option};
 ghost use Rattle.access_plan.specs.Accesses.{first_some};
-ghost use Rattle.access_plan.specs.Orders.{driven, by_index, by_table, next_reach, order_of, orders_of};
+ghost use Rattle.access_plan.specs.Orders.{driven, by_index, by_table, next_reach, order_of};
+ghost use Rattle.access_plan.specs.Orders.{orders_of};
 ghost use Rattle.access_plan.specs.Inners.{inners_of};
 ghost use Rattle.access_plan.specs.Views.{option_reach};
 
@@ -127,9 +128,10 @@ fn orders_of(alloc: Global, parts: &[Ranged]) -> Result<Rows<Rows<Reach>>, Memor
     Ok(orders)
 }
 
-/// Returns the query unchanged, for each probe the order of its variables with the access to each one's rows, and for each
-/// EXISTS of the bodies the access to its rows. After the driving row, again and again, comes the first step of the path that
-/// has an access of the index, else the first one.
+/// Returns the query unchanged, for each probe the order of its variables with the access to each
+/// one's rows, and for each EXISTS of the bodies the access to its rows. After the driving row,
+/// again and again, comes the first step of the path that has an access of the index, else the
+/// first one.
 /// `Memory` comes if memory runs out.
 pub fn plan(alloc: Global, query: RangedQuery) -> Result<Plan, Memory>
     ensures query { IfOk result (λ plan. plan.query ≡ query) }

@@ -17,23 +17,27 @@ use time_marks::RangedQuery;
 use tql_core::Var;
 use tql_tree::Table;
 
-/// A query, for each of its parts the order in which the variables of the path are bound after the driving row, each with the
-/// access to its rows, and for each node of its pool that is an EXISTS the access to the rows of that.
+/// A query, for each of its parts the order in which the variables of the path are bound after the
+/// driving row, each with the access to its rows, and for each node of its pool that is an EXISTS
+/// the access to the rows of that.
 #[derive(Drop)]
 pub struct Plan {
     pub query: RangedQuery,
     pub orders: Rows<Rows<Reach>>,
     pub inners: Rows<Option<Access>>,
-    ghost planned: { orders ≡ orders_of query.parts } by { Coded-set orders-code orders (orders_of query.parts) },
-    ghost found: { inners ≡ inners_of query.pool } by { Coded-set inners-code inners (inners_of query.pool) },
+    ghost planned: { orders ≡ orders_of query.parts }
+        by { Coded-set orders-code orders (orders_of query.parts) },
+    ghost found: { inners ≡ inners_of query.pool }
+        by { Coded-set inners-code inners (inners_of query.pool) },
 }
 
 impl Plan {
-    /// Returns the access to the rows of the EXISTS at the number, whose inner condition is at `inner`. It was found when the
-    /// plan was made.
+    /// Returns the access to the rows of the EXISTS at the number, whose inner condition is at
+    /// `inner`. It was found when the plan was made.
     pub fn inner_access(&self, id: NodeId, inner: NodeId, var: Var, table: Table) -> AccessRef<'_>
         requires inner { IsPlaceOf self.now.query.pool inner.0 }
-        requires exists { tree_at self.now.query.pool id.0 ≡ Exists var table (tree_at self.now.query.pool inner.0) }
+        requires exists { tree_at self.now.query.pool id.0
+            ≡ Exists var table (tree_at self.now.query.pool inner.0) }
         ensures { access_at result ≡ inner_access var table (tree_at self.now.query.pool inner.0) }
     {
         match self.inners.as_slice().get(id.0 as usize) {

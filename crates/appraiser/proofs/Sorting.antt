@@ -1,5 +1,6 @@
 -- A stable sort is the one list that is in order and keeps the order of what ties.
-use Rattle.std.proofs.Common.{◌≡◌, ℕ, suc, ◌+◌, ◌<◌, ◌≤◌, Bool, true, false, not, List, [], ◌∷◌, length, get_or, refl, sym, ap, ◌∙◌, subst, cond, arith}
+use Rattle.std.proofs.Common.{◌≡◌, ℕ, suc, ◌+◌, ◌<◌, ◌≤◌, Bool, true, false, not, List, [], ◌∷◌, length, get_or, refl, sym, ap, ◌∙◌, subst}
+use Rattle.std.proofs.Common.{cond, arith}
 use Rattle.std.specs.Prelude.{◌&&◌, if◌then◌else◌}
 use Rattle.std.specs.List.{filter}
 use Rattle.std.specs.List.Sorted.{IsSortedBy, IsStableBy, ties}
@@ -19,7 +20,8 @@ module _ {X : Type 0} where
   -- two tests with the same answers
   same_filter : (f g : X → Bool) → ((x : X) → f x ≡ g x) → (xs : List X) → filter f xs ≡ filter g xs
   same_filter f g same [] = refl
-  same_filter f g same (x ∷ xs) = ap (λ b. cond b (x ∷ filter f xs) (filter f xs)) (same x) ∙ ap (λ ys. cond (g x) (x ∷ ys) ys) (same_filter f g same xs)
+  same_filter f g same (x ∷ xs) = ap (λ b. cond b (x ∷ filter f xs) (filter f xs)) (same x)
+      ∙ ap (λ ys. cond (g x) (x ∷ ys) ys) (same_filter f g same xs)
 
   -- a list that is in order by one of two such tests, or keeps its ties, does so by the other
   pub same_sorted : (f g : X → X → Bool) → ((x y : X) → f x y ≡ g x y) → (xs : List X) → IsSortedBy f xs → IsSortedBy g xs
@@ -29,7 +31,8 @@ module _ {X : Type 0} where
   same_ties f g same x y = ap (λ b. not b && not (f y x)) (same x y) ∙ ap (λ b. not (g x y) && not b) (same y x)
 
   pub same_stable : (f g : X → X → Bool) → ((x y : X) → f x y ≡ g x y) → (xs ys : List X) → IsStableBy f xs ys → IsStableBy g xs ys
-  same_stable f g same xs ys s x = sym (same_filter (ties f x) (ties g x) (same_ties f g same x) ys) ∙ s x ∙ same_filter (ties f x) (ties g x) (same_ties f g same x) xs
+  same_stable f g same xs ys s x = sym (same_filter (ties f x) (ties g x) (same_ties f g same x) ys) ∙ s x
+      ∙ same_filter (ties f x) (ties g x) (same_ties f g same x) xs
 
   -- no later one stands above an earlier one
   abbrev NoneAbove : (X → X → Bool) → X → List X → Type 0
@@ -86,7 +89,9 @@ module _ {X : Type 0} (lt : X → X → Bool) (order : IsStrictWeakOrder lt) whe
   -- two of which one stands above the other tie with nothing in common
   flipped : (x y : X) (zs : List X) → lt y x ≡ true → (z : X) → filter (ties lt z) (y ∷ x ∷ zs) ≡ filter (ties lt z) (x ∷ y ∷ zs)
   flipped x y zs e z = go (ties lt z x) (ties lt z y) refl refl where
-    go : (a b : Bool) → ties lt z x ≡ a → ties lt z y ≡ b → cond b (y ∷ cond a (x ∷ filter (ties lt z) zs) (filter (ties lt z) zs)) (cond a (x ∷ filter (ties lt z) zs) (filter (ties lt z) zs)) ≡ cond a (x ∷ cond b (y ∷ filter (ties lt z) zs) (filter (ties lt z) zs)) (cond b (y ∷ filter (ties lt z) zs) (filter (ties lt z) zs))
+    go : (a b : Bool) → ties lt z x ≡ a → ties lt z y ≡ b → cond b (y ∷ cond a (x ∷ filter (ties lt z) zs) (filter (ties lt z) zs))
+        (cond a (x ∷ filter (ties lt z) zs) (filter (ties lt z) zs)) ≡ cond a
+        (x ∷ cond b (y ∷ filter (ties lt z) zs) (filter (ties lt z) zs)) (cond b (y ∷ filter (ties lt z) zs) (filter (ties lt z) zs))
     go true true p q = absurd (true≢false (sym e ∙ order.chain y z x (second_not (lt z y) (lt y z) q) (first_not (lt z x) (lt x z) p)))
     go true false p q = refl
     go false true p q = refl
@@ -95,7 +100,8 @@ module _ {X : Type 0} (lt : X → X → Bool) (order : IsStrictWeakOrder lt) whe
   put_ties : (z x : X) (ys : List X) → filter (ties lt z) (put_by lt x ys) ≡ filter (ties lt z) (x ∷ ys)
   put_ties z x [] = refl
   put_ties z x (y ∷ ys) = go (lt y x) refl (put_ties z x ys) where
-    go : (t : Bool) → lt y x ≡ t → filter (ties lt z) (put_by lt x ys) ≡ filter (ties lt z) (x ∷ ys) → filter (ties lt z) (if t then y ∷ put_by lt x ys else x ∷ y ∷ ys) ≡ filter (ties lt z) (x ∷ y ∷ ys)
+    go : (t : Bool) → lt y x ≡ t → filter (ties lt z) (put_by lt x ys) ≡ filter (ties lt z) (x ∷ ys)
+        → filter (ties lt z) (if t then y ∷ put_by lt x ys else x ∷ y ∷ ys) ≡ filter (ties lt z) (x ∷ y ∷ ys)
     go true e rest = ap (λ l. cond (ties lt z y) (y ∷ l) l) rest ∙ flipped x y ys e z
     go false e rest = refl
 
@@ -118,7 +124,8 @@ module _ {X : Type 0} (lt : X → X → Bool) (order : IsStrictWeakOrder lt) whe
   none_tie z y ys e n = ap (λ b. cond b (y ∷ filter (ties lt z) ys) (filter (ties lt z) ys)) (no_tie z y e) ∙ rest ys n where
     rest : (ws : List X) → NoneAbove lt y ws → filter (ties lt z) ws ≡ []
     rest [] n = refl
-    rest (w ∷ ws) n = ap (λ b. cond b (w ∷ filter (ties lt z) ws) (filter (ties lt z) ws)) (no_tie z w (above_all z y w e n.0)) ∙ rest ws n.1
+    rest (w ∷ ws) n = ap (λ b. cond b (w ∷ filter (ties lt z) ws) (filter (ties lt z) ws)) (no_tie z w (above_all z y w e n.0))
+        ∙ rest ws n.1
 
   own_tie : (y : X) (ys : List X) → filter (ties lt y) (y ∷ ys) ≡ y ∷ filter (ties lt y) ys
   own_tie y ys = ap (λ b. cond b (y ∷ filter (ties lt y) ys) (filter (ties lt y) ys)) (tied y)
@@ -130,15 +137,18 @@ module _ {X : Type 0} (lt : X → X → Bool) (order : IsStrictWeakOrder lt) whe
   only_one (y ∷ ys) [] o p same = absurd (filled y (filter (ties lt y) ys) (sym (same y) ∙ own_tie y ys))
   only_one (y ∷ ys) (z ∷ zs) o p same = go (λ t. only_one ys zs o.1 p.1 t) (lt y z) (lt z y) refl refl where
     tails : y ≡ z → (x : X) → filter (ties lt x) ys ≡ filter (ties lt x) zs
-    tails e x = by (ties lt x y) (ap (λ b. cond b (y ∷ filter (ties lt x) ys) (filter (ties lt x) ys)) refl ∙ same x ∙ ap (λ w. cond (ties lt x w) (w ∷ filter (ties lt x) zs) (filter (ties lt x) zs)) (sym e)) where
-      by : (b : Bool) → cond b (y ∷ filter (ties lt x) ys) (filter (ties lt x) ys) ≡ cond b (y ∷ filter (ties lt x) zs) (filter (ties lt x) zs) → filter (ties lt x) ys ≡ filter (ties lt x) zs
+    tails e x = by (ties lt x y) (ap (λ b. cond b (y ∷ filter (ties lt x) ys) (filter (ties lt x) ys)) refl ∙ same x
+          ∙ ap (λ w. cond (ties lt x w) (w ∷ filter (ties lt x) zs) (filter (ties lt x) zs)) (sym e)) where
+      by : (b : Bool) → cond b (y ∷ filter (ties lt x) ys) (filter (ties lt x) ys)
+          ≡ cond b (y ∷ filter (ties lt x) zs) (filter (ties lt x) zs) → filter (ties lt x) ys ≡ filter (ties lt x) zs
       by true e = ap tail_of e
       by false e = e
 
     heads : lt y z ≡ false → lt z y ≡ false → y ≡ z
     heads a b =
         let t : ties lt y z ≡ true = ap (λ c. not c && not (lt z y)) a ∙ ap not b in
-        let f : filter (ties lt y) (z ∷ zs) ≡ z ∷ filter (ties lt y) zs = ap (λ c. cond c (z ∷ filter (ties lt y) zs) (filter (ties lt y) zs)) t in
+        let f : filter (ties lt y) (z ∷ zs) ≡ z ∷ filter (ties lt y) zs =
+            ap (λ c. cond c (z ∷ filter (ties lt y) zs) (filter (ties lt y) zs)) t in
         ap (λ l. get_or l 0 y) (sym (own_tie y ys) ∙ same y ∙ f)
 
     joined : y ≡ z → ys ≡ zs → y ∷ ys ≡ z ∷ zs
@@ -150,7 +160,9 @@ module _ {X : Type 0} (lt : X → X → Bool) (order : IsStrictWeakOrder lt) whe
     go rest false false e f = joined (heads e f) (rest (tails (heads e f)))
 
   tail_sorted : (x y : X) (ys : List X) → IsSortedBy lt (x ∷ y ∷ ys) → IsSortedBy lt (y ∷ ys)
-  tail_sorted x y ys s k d low high = let e : suc k + 1 ≡ suc (k + 1) = omega arith in subst (λ n. lt (get_or (x ∷ y ∷ ys) n d) (get_or (y ∷ ys) k d) ≡ false) e (s (suc k) d (omega arith) (omega (arith, high)))
+  tail_sorted x y ys s k d low high =
+      let e : suc k + 1 ≡ suc (k + 1) = omega arith in
+      subst (λ n. lt (get_or (x ∷ y ∷ ys) n d) (get_or (y ∷ ys) k d) ≡ false) e (s (suc k) d (omega arith) (omega (arith, high)))
 
   -- a list of which no neighbour stands above the one before is in order
   in_order : (xs : List X) → IsSortedBy lt xs → Ordered lt xs

@@ -4,7 +4,8 @@ ghost use Rattle.std.specs.Option.{option_copied};
 ghost use Rattle.tap_rows.specs.WellFormed.{row_at};
 ghost use Rattle.filter_rules.specs.Rules.{rules_in};
 ghost use Rattle.appraiser.specs.Ranks.{rank_of};
-ghost use Rattle.filter_rules.specs.Listings.{listed_of, rated_entry, is_above, sorted_by, listing_of};
+ghost use Rattle.filter_rules.specs.Listings.{listed_of, rated_entry, is_above, sorted_by};
+ghost use Rattle.filter_rules.specs.Listings.{listing_of};
 
 use filter_rules::{Rules, appraise};
 use row_index::RowIndex;
@@ -41,7 +42,8 @@ fn doc_of<'a, L: Ledger>(
     ensures doc { option_copied result ≡ row_at num.0 index.now.docs }
     ensures steps { steps.new ≤ steps.old + 1 }
 {
-    // The call gives the clause that the index's documents are those of its tables; its value is not needed.
+    // The call gives the clause that the index's documents are those of its tables; its value is
+    // not needed.
     let _docs = index.docs();
     index.doc(num, steps)
 }
@@ -53,7 +55,8 @@ fn rate_entry<'a>(
     entry: Entry,
     doc: Option<&'a KeptDoc>,
 ) -> Result<Listed, Memory>
-    ensures { IfOk result (λ row. row ≡ listed_of (rules_in rules.now) entry (option_copied doc.entry)) }
+    ensures { IfOk result (λ row.
+        row ≡ listed_of (rules_in rules.now) entry (option_copied doc.entry)) }
 {
     match doc {
         None => Ok(Listed {
@@ -80,7 +83,8 @@ fn rate_entries<'a, L: Ledger>(
     index: &'a RowIndex,
     steps: &mut Steps<L>,
 ) -> Result<Vec<Listed>, Memory>
-    ensures rows { IfOk result (λ rows. rows.items ≡ map (rated_entry (rules_in rules.now) index.now.docs) entries.now) }
+    ensures rows { IfOk result (λ rows.
+        rows.items ≡ map (rated_entry (rules_in rules.now) index.now.docs) entries.now) }
     ensures steps { steps.new ≤ steps.old + length entries.now }
 {
     let mut rows = Vec::new(alloc);
@@ -99,9 +103,10 @@ fn sort_rows(rows: &mut Vec<Listed>) -> Result<(), Memory>
     Ok(())
 }
 
-/// Returns the entries of a box, each with the rating of its document, sorted by priority from the greatest, then by first
-/// second, then by document number. Each entry costs at most one step, for the look-up of its document. An entry without a
-/// document in the index is rated as no rules rate it. `Memory` means out of memory.
+/// Returns the entries of a box, each with the rating of its document, sorted by priority from the
+/// greatest, then by first second, then by document number. Each entry costs at most one step, for
+/// the look-up of its document. An entry without a document in the index is rated as no rules rate
+/// it. `Memory` means out of memory.
 pub fn listing<'a, L: Ledger>(
     alloc: Global,
     rules: &'a Rules,
@@ -109,7 +114,8 @@ pub fn listing<'a, L: Ledger>(
     index: &'a RowIndex,
     steps: &mut Steps<L>,
 ) -> Result<Rows<Listed>, Memory>
-    ensures rows { IfOk result (λ rows. rows ≡ listing_of (rules_in rules.now) index.now.docs entries.now) }
+    ensures rows { IfOk result (λ rows.
+        rows ≡ listing_of (rules_in rules.now) index.now.docs entries.now) }
     ensures steps { steps.new ≤ steps.old + length entries.now }
 {
     let mut rows = rate_entries(alloc, rules, entries, index, steps)?;

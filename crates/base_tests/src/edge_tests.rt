@@ -1,5 +1,5 @@
-//! Tests of the adapters over readers and writers that fail, take nothing, are interrupted, or take one byte a call, and of a
-//! source in memory.
+//! Tests of the adapters over readers and writers that fail, take nothing, are interrupted, or take
+//! one byte a call, and of a source in memory.
 
 use std::io;
 use std::io::ErrorKind;

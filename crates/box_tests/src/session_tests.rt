@@ -26,8 +26,8 @@ fn letters(alloc: Global) -> Result<Vec<Letter>, Memory>
     Ok(vec![in alloc; letter(1, first), letter(20, second)]?)
 }
 
-// Gives the bytes to the session in pieces of this size. Returns whether it accepted a QUIT, or how many bytes a put that
-// failed, and the puts of its call before it, put.
+// Gives the bytes to the session in pieces of this size. Returns whether it accepted a QUIT, or how
+// many bytes a put that failed, and the puts of its call before it, put.
 fn give(
     session: &mut PopSession,
     bytes: &[u8],
@@ -49,7 +49,8 @@ fn give(
     Ok(false)
 }
 
-// Greets, and gives the bytes to a session over these letters; returns what `give` does, or nothing if the greeting failed.
+// Greets, and gives the bytes to a session over these letters; returns what `give` does, or nothing
+// if the greeting failed.
 fn serve(
     letters: &[Letter],
     bytes: &[u8],
@@ -93,8 +94,8 @@ fn with_end(alloc: Global, put: &[u8], end: &[u8]) -> Result<Text, Memory> {
     }
 }
 
-// Returns what a session over the two letters puts for these bytes in pieces of this size. `quit` follows if it accepted a
-// QUIT, and `failed` if a put failed.
+// Returns what a session over the two letters puts for these bytes in pieces of this size. `quit`
+// follows if it accepted a QUIT, and `failed` if a put failed.
 fn run(alloc: Global, bytes: &[u8], size: usize, fails: Vec<PutPlan>) -> Result<Text, Memory>
     requires some { 0 < size }
 {
@@ -120,10 +121,13 @@ fn shown(alloc: Global, bytes: &[u8], size: usize) -> Result<Text, Memory>
 #[test]
 fn a_session_is_served(rt: HostRuntime) -> Result<(), Memory> {
     let bytes: &[u8] =
-        b"USER ann\r\nPASS no\r\nSTAT\r\nuser ann\r\nPASS pw\r\nSTAT\r\nLIST 2\r\nUIDL\r\nRETR 2\r\nDELE 1\r\nRETR 3\r\nTOP 1 0\r\nQUIT\r\nSTAT\r\n";
+        b"USER ann\r\nPASS no\r\nSTAT\r\nuser ann\r\nPASS pw\r\nSTAT\r\nLIST 2\r\nUIDL\r\n\
+        RETR 2\r\nDELE 1\r\nRETR 3\r\nTOP 1 0\r\nQUIT\r\nSTAT\r\n";
     let want: &[u8] =
-        b"+OK tapestry\r\n+OK\r\n-ERR denied\r\n-ERR state\r\n+OK\r\n+OK\r\n+OK 2 36\r\n+OK 2 21\r\n+OK\r\n1 d1\r\n\
-          2 d20\r\n.\r\n+OK 21\r\nSubject: dots\r\n\r\n..a\r\n.\r\n-ERR kept\r\n-ERR message\r\n-ERR unknown\r\n+OK\r\n\
+        b"+OK tapestry\r\n+OK\r\n-ERR denied\r\n-ERR state\r\n+OK\r\n+OK\r\n+OK 2 36\r\n\
+        +OK 2 21\r\n+OK\r\n1 d1\r\n\
+          2 d20\r\n.\r\n+OK 21\r\nSubject: dots\r\n\r\n..a\r\n.\r\n-ERR kept\r\n-ERR message\r\n\
+          -ERR unknown\r\n+OK\r\n\
           quit";
     let sizes: [usize; 4] = [1, 2, 7, 4096];
     for size in sizes {
@@ -182,7 +186,8 @@ fn requests_are_checked_in_order(rt: HostRuntime) -> Result<(), Memory> {
         ),
         (
             b"USER ann\nPASS pw\nlist\nLIST 1 2\nuidl 2\nUIDL 0\n",
-            b"+OK\r\n+OK\r\n+OK 2\r\n1 15\r\n2 21\r\n.\r\n-ERR form\r\n+OK 2 d20\r\n-ERR message\r\n",
+            b"+OK\r\n+OK\r\n+OK 2\r\n1 15\r\n2 21\r\n.\r\n-ERR form\r\n+OK 2 d20\r\n\
+            -ERR message\r\n",
         ),
         (
             b"USER ann\nPASS pw\nRSET\nnoop\nSTAT 1\n",

@@ -1,4 +1,5 @@
-//! Sessions over a store in memory: the worked session, in pieces of each size, and each way in which none begins.
+//! Sessions over a store in memory: the worked session, in pieces of each size, and each way in
+//! which none begins.
 
 ghost use Rattle.std.specs.List.{All};
 ghost use Rattle.std.specs.Str.{IsUtf8};
@@ -14,16 +15,21 @@ use std::sync::ledger::{Blank, Ledger};
 use tap_base::{HashKey, Memory, Steps, Text, Texts};
 use tap_edges::{MemSink, MemSource};
 
-// The commands that leave the store of the worked session: two letters, of which the second has a line that begins with a dot.
+// The commands that leave the store of the worked session: two letters, of which the second has a
+// line that begins with a dot.
 const STORE: &[u8] =
-    b"as ann\nat 100\nquery all TRUE\nmail\nSubject: hi\n\n.\nat 101\nmail\nSubject: dots\n\n..a\n.\nat 200\nrun all\n";
+    b"as ann\nat 100\nquery all TRUE\nmail\nSubject: hi\n\n.\nat 101\nmail\nSubject: dots\n\n..a\n\
+    .\nat 200\nrun all\n";
 
 const REQUESTS: &[u8] =
-    b"USER ann\r\nPASS no\r\nSTAT\r\nuser ann\r\nPASS pw\r\nSTAT\r\nLIST 2\r\nUIDL\r\nRETR 2\r\nDELE 1\r\nRETR 3\r\nTOP 1 0\r\nQUIT\r\n";
+    b"USER ann\r\nPASS no\r\nSTAT\r\nuser ann\r\nPASS pw\r\nSTAT\r\nLIST 2\r\nUIDL\r\nRETR 2\r\n\
+    DELE 1\r\nRETR 3\r\nTOP 1 0\r\nQUIT\r\n";
 
 const REPLIES: &[u8] =
-    b"+OK tapestry\r\n+OK\r\n-ERR denied\r\n-ERR state\r\n+OK\r\n+OK\r\n+OK 2 36\r\n+OK 2 21\r\n+OK\r\n1 d1\r\n2 d2\r\n\
-      .\r\n+OK 21\r\nSubject: dots\r\n\r\n..a\r\n.\r\n-ERR kept\r\n-ERR message\r\n-ERR unknown\r\n+OK\r\n";
+    b"+OK tapestry\r\n+OK\r\n-ERR denied\r\n-ERR state\r\n+OK\r\n+OK\r\n+OK 2 36\r\n+OK 2 21\r\n\
+    +OK\r\n1 d1\r\n2 d2\r\n\
+      .\r\n+OK 21\r\nSubject: dots\r\n\r\n..a\r\n.\r\n-ERR kept\r\n-ERR message\r\n\
+      -ERR unknown\r\n+OK\r\n";
 
 // Serves with the counter of a blank; returns the status.
 fn serve_with<L: Ledger>(
@@ -68,7 +74,8 @@ fn serve_over(
     Ok((status, written?))
 }
 
-// Serves the requests in pieces of `size` bytes over a keeper; returns the status and what was written.
+// Serves the requests in pieces of `size` bytes over a keeper; returns the status and what was
+// written.
 fn serve_requests(
     alloc: Global,
     words: &Texts,
@@ -90,7 +97,8 @@ fn serve_requests(
     serve_over(alloc, words, source, sink, keeper)
 }
 
-// Serves the requests in pieces of `size` bytes over the store; returns the status and what was written.
+// Serves the requests in pieces of `size` bytes over the store; returns the status and what was
+// written.
 fn serve_store(
     alloc: Global,
     words: &Texts,

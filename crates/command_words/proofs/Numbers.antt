@@ -1,5 +1,6 @@
 -- The numbers that texts write.
-use Rattle.std.proofs.Common.{◌≡◌, ◌≤◌, ◌<◌, ◌^◌, ℕ, List, [], ◌∷◌, Bool, true, false, refl, Some, None, pos, ◌==◌, arith, ap, sym, slice_index, length}
+use Rattle.std.proofs.Common.{◌≡◌, ◌≤◌, ◌<◌, ◌^◌, ℕ, List, [], ◌∷◌, Bool, true, false, refl, Some, None, pos, ◌==◌, arith, ap, sym}
+use Rattle.std.proofs.Common.{slice_index, length}
 use Rattle.std.specs.Prelude.{nat_le, nat_lt, if◌then◌else◌}
 use Rattle.std.specs.List.{list_all}
 use Rattle.std.specs.Char.{digit_value}
@@ -26,18 +27,22 @@ signed_test : (b : ℕ) (w : List ℕ) (n : ℕ) → (b == 45) ≡ false → (b 
 signed_test b w n minus plus numeral value fits low high = rw (minus, plus, numeral, value, fits, low, high) refl
 
 -- the number of a text that `parse` reads
-pub a_number : (t : List ℕ) (n : ℕ) → IsNumeral 10 (without_leading_plus t) → n ≡ digits_value 10 (without_leading_plus t) → 1 ≤ n → n ≤ 100000 → number_in t ≡ Some n
+pub a_number : (t : List ℕ) (n : ℕ) → IsNumeral 10 (without_leading_plus t) → n ≡ digits_value 10 (without_leading_plus t) → 1 ≤ n
+    → n ≤ 100000 → number_in t ≡ Some n
 unfolding number_in
 a_number t n numeral value low high =
-    let test : is_unsigned_in 1 100000 t ≡ true = Accepts-accepts false (vp.Unsigned 1 100000) t (numeral, omega arith, omega arith, omega arith) in
+    let test : is_unsigned_in 1 100000 t ≡ true =
+        Accepts-accepts false (vp.Unsigned 1 100000) t (numeral, omega arith, omega arith, omega arith) in
     rw test (ap Some (sym value))
 
 -- one that it doesn't read has none
-pub no_number : (t : List ℕ) → (IsNumeral 10 (without_leading_plus t) × (digits_value 10 (without_leading_plus t) < 2 ^ 32) → ⊥) → number_in t ≡ None
+pub no_number : (t : List ℕ) → (IsNumeral 10 (without_leading_plus t) × (digits_value 10 (without_leading_plus t) < 2 ^ 32) → ⊥)
+    → number_in t ≡ None
 unfolding number_in
 no_number t h = go (is_unsigned_in 1 100000 t) refl
   where
-    go : (b : Bool) → is_unsigned_in 1 100000 t ≡ b → (if is_unsigned_in 1 100000 t then Some (digits_value 10 (without_leading_plus t)) else None) ≡ None
+    go : (b : Bool) → is_unsigned_in 1 100000 t ≡ b
+        → (if is_unsigned_in 1 100000 t then Some (digits_value 10 (without_leading_plus t)) else None) ≡ None
     go true e =
         let a = accepts-Accepts false (vp.Unsigned 1 100000) t e in
         absurd (h (a.0, omega (arith, a.3)))
@@ -61,7 +66,8 @@ of_digits n (b ∷ w) low high first numeral value =
     let lows = le-leb 1 n low in
     let highs = le-leb n 100000 high in
     record {
-      count = record { plain = plain_from_head b w minus; within = signed_test b w n minus plus test value (lt-ltb n (2 ^ 63) (omega arith)) lows highs };
+      count = record { plain = plain_from_head b w minus;
+            within = signed_test b w n minus plus test value (lt-ltb n (2 ^ 63) (omega arith)) lows highs };
       number = a_number (b ∷ w) n (rw same numeral) (rw same (sym value)) low high;
     }
 

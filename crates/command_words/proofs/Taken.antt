@@ -42,7 +42,8 @@ none_asks = record { taken = refl; stored = refl; sampled = refl }
 
 pub store_asks : (p : List ℕ) → IsPlainWord p → Asks (codes "--store" ∷ p ∷ []) (Some p) None
 unfolding clap_on_literals
-store_asks p q = record { taken = rw (q.long, q.short, q.end) refl; stored = rw (q.long, q.short, q.end) refl; sampled = rw (q.long, q.short, q.end) refl }
+store_asks p q = record { taken = rw (q.long, q.short, q.end) refl; stored = rw (q.long, q.short, q.end) refl;
+      sampled = rw (q.long, q.short, q.end) refl }
 
 pub sample_asks : (w : List ℕ) → IsCountWord w → Asks (codes "--sample" ∷ w ∷ []) (Some default_path) (Some w)
 unfolding clap_on_literals
@@ -52,7 +53,8 @@ sample_asks w q = record {
   sampled = rw (q.plain.long, q.plain.short, q.plain.end) refl;
 }
 
-pub store_sample_asks : (p w : List ℕ) → IsPlainWord p → IsCountWord w → Asks (codes "--store" ∷ p ∷ codes "--sample" ∷ w ∷ []) (Some p) (Some w)
+pub store_sample_asks : (p w : List ℕ) → IsPlainWord p → IsCountWord w
+    → Asks (codes "--store" ∷ p ∷ codes "--sample" ∷ w ∷ []) (Some p) (Some w)
 unfolding clap_on_literals
 store_sample_asks p w s q = record {
   taken = rw (s.long, s.short, s.end, q.plain.long, q.plain.short, q.plain.end, q.within) refl;
@@ -60,7 +62,8 @@ store_sample_asks p w s q = record {
   sampled = rw (s.long, s.short, s.end, q.plain.long, q.plain.short, q.plain.end) refl;
 }
 
-pub sample_store_asks : (p w : List ℕ) → IsPlainWord p → IsCountWord w → Asks (codes "--sample" ∷ w ∷ codes "--store" ∷ p ∷ []) (Some p) (Some w)
+pub sample_store_asks : (p w : List ℕ) → IsPlainWord p → IsCountWord w
+    → Asks (codes "--sample" ∷ w ∷ codes "--store" ∷ p ∷ []) (Some p) (Some w)
 unfolding clap_on_literals
 sample_store_asks p w s q = record {
   taken = rw (q.plain.long, q.plain.short, q.plain.end, s.long, s.short, s.end, q.within) refl;

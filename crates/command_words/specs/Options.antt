@@ -14,7 +14,8 @@ store_rule = record (new_rule (codes "store")) { long = Some (codes "store"); ac
 
 -- `--sample N`, a whole number from 1 to 100,000
 abbrev pub sample_rule : Rule
-sample_rule = record (new_rule (codes "sample")) { long = Some (codes "sample"); action = Some Set; parser = Some (parser.Signed (pos 1) (pos 100000)) }
+sample_rule = record (new_rule (codes "sample"))
+    { long = Some (codes "sample"); action = Some Set; parser = Some (parser.Signed (pos 1) (pos 100000)) }
 
 -- all words are arguments: the program's name is not among them
 abbrev pub bare_app : App

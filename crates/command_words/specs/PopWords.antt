@@ -67,7 +67,8 @@ words_of_pairs (pair ∷ pairs) = option_word pair.option ∷ pair.value ∷ wor
 -- the values that some pairs give to an option
 abbrev pub values_given : PopOption → List OptionWithValue → List (List ℕ)
 values_given option [] = []
-values_given option (pair ∷ pairs) = if is_option pair.option option then pair.value ∷ values_given option pairs else values_given option pairs
+values_given option (pair ∷ pairs) = if is_option pair.option option then pair.value ∷ values_given option pairs
+    else values_given option pairs
 
 -- the words are one each of `--user`, `--box` and `--pass`, and at most one of `--store`, each with its text, in any order
 pub record IsPopWorded (words : List (List ℕ)) (path : Option (List ℕ)) (user name secret : List ℕ) : Type 0 where

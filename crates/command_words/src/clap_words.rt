@@ -35,14 +35,19 @@ fn options<'a>(alloc: Global) -> Result<Command<'a>, AllocError>
         .arg(sample)
 }
 
-/// Returns the values that the words after the program's name give to the two options. `Refused` comes if and only if
+/// Returns the values that the words after the program's name give to the two options. `Refused`
+/// comes if and only if
 /// `clap` refuses the words and memory suffices.
 pub fn parse_options<'a>(alloc: Global, words: &'a [&'a str]) -> Result<Values<'a>, OptionFault>
-    ensures store { IfOk result (λ values. option_copied values.store ≡ first_of (codes "store") (matches_of app (word_bytes words.now))) }
-    ensures sample { IfOk result (λ values. option_copied values.sample ≡ first_of (codes "sample") (matches_of app (word_bytes words.now))) }
+    ensures store { IfOk result (λ values. option_copied values.store
+        ≡ first_of (codes "store") (matches_of app (word_bytes words.now))) }
+    ensures sample { IfOk result (λ values. option_copied values.sample
+        ≡ first_of (codes "sample") (matches_of app (word_bytes words.now))) }
     ensures accepted { OnOk result (fault_of app (word_bytes words.now) ≡ []) }
-    ensures taken { takes app (word_bytes words.now) ≡ true → IfErr result (λ fault. fault ≡ OptionFault.Memory) }
-    ensures refused { IfErr result (λ fault. fault ≡ OptionFault.Refused → fault_of app (word_bytes words.now) ≢ []) }
+    ensures taken { takes app (word_bytes words.now) ≡ true
+        → IfErr result (λ fault. fault ≡ OptionFault.Memory) }
+    ensures refused { IfErr result (λ fault. fault ≡ OptionFault.Refused
+        → fault_of app (word_bytes words.now) ≢ []) }
 {
     let Ok(command) = options(alloc) else {
         return Err(OptionFault::Memory);

@@ -18,8 +18,9 @@ fn push_word(alloc: Global, words: &mut Texts, word: &str) -> Result<(), Memory>
     Ok(())
 }
 
-/// Returns the words after the program's name, in order. Each is UTF-8. No clause says which words these are, since none can
-/// name what the system hands over. `NotText` comes if one of them isn't UTF-8.
+/// Returns the words after the program's name, in order. Each is UTF-8. No clause says which words
+/// these are, since none can name what the system hands over. `NotText` comes if one of them isn't
+/// UTF-8.
 pub fn words_of_line<R: Env + Alloc<A = Global>>(rt: &R, alloc: Global) -> Result<Texts, WordsFault>
     ensures { IfOk result (λ words. All IsUtf8 words) }
 {

@@ -1,5 +1,6 @@
 //! What the words of the command line ask for.
-ghost use Rattle.std.specs.Prelude.{◌≡◌, ◌≢◌, ◌≤◌, ℕ, List, [], true, Option, IfOk, IfErr, IfSome, OnOk, option_copied, option_and_then};
+ghost use Rattle.std.specs.Prelude.{◌≡◌, ◌≢◌, ◌≤◌, ℕ, List, [], true, Option, IfOk, IfErr, IfSome};
+ghost use Rattle.std.specs.Prelude.{OnOk, option_copied, option_and_then};
 ghost use Rattle.std.specs.Prelude.{unwrap_or};
 ghost use Rattle.std.specs.List.{All};
 ghost use Rattle.std.specs.Str.{IsUtf8};
@@ -44,8 +45,10 @@ fn sample_number(text: Option<&str>) -> Option<u32>
     }
 }
 
-/// Reads the words after the program's name, by the rules of `clap`. Words in which `clap` finds a fault give `Refused`, or
-/// `Memory` if the program runs out of memory first. Words without one, and so all that are well worded, never give
+/// Reads the words after the program's name, by the rules of `clap`. Words in which `clap` finds a
+/// fault give `Refused`, or
+/// `Memory` if the program runs out of memory first. Words without one, and so all that are well
+/// worded, never give
 /// `Refused`.
 pub fn read_words(alloc: Global, words: &Texts) -> Result<CommandWords, OptionFault>
     requires { All IsUtf8 words.now }
@@ -54,11 +57,14 @@ pub fn read_words(alloc: Global, words: &Texts) -> Result<CommandWords, OptionFa
     ensures sample { IfOk result (λ asked. asked.sample ≡ sample_in words.now) }
     ensures within { IfOk result (λ asked. IfSome asked.sample (λ n. (1 ≤ n) × (n ≤ 100000))) }
     ensures accepted { OnOk result (fault_of app words.now ≡ []) }
-    ensures taken { takes app words.now ≡ true → IfErr result (λ fault. fault ≡ OptionFault.Memory) }
-    ensures refused { IfErr result (λ fault. fault ≡ OptionFault.Refused → fault_of app words.now ≢ []) }
+    ensures taken { takes app words.now ≡ true
+        → IfErr result (λ fault. fault ≡ OptionFault.Memory) }
+    ensures refused { IfErr result (λ fault. fault ≡ OptionFault.Refused
+        → fault_of app words.now ≢ []) }
     ensures fine { (path : Option (List ℕ)) (number : Option ℕ) → IsWellWorded words.now path number
         → IfErr result (λ fault. fault ≡ OptionFault.Memory) }
-    ensures named { (path : Option (List ℕ)) (number : Option ℕ) → IsWellWorded words.now path number
+    ensures named { (path : Option (List ℕ)) (number : Option ℕ)
+        → IsWellWorded words.now path number
         → IfOk result (λ asked. (asked.path ≡ path_or_default path) × (asked.sample ≡ number)) }
 {
     let words = as_strs(alloc, words)?;

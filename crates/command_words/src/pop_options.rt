@@ -1,5 +1,6 @@
 //! The four options of a POP3 session, as `clap` reads them.
-ghost use Rattle.std.specs.Prelude.{◌≡◌, ◌≢◌, [], true, false, codes, IfOk, OnOk, IfErr, option_copied};
+ghost use Rattle.std.specs.Prelude.{◌≡◌, ◌≢◌, [], true, false, codes, IfOk, OnOk, IfErr};
+ghost use Rattle.std.specs.Prelude.{option_copied};
 ghost use Rattle.clap.specs.Words.{takes, fault_of, first_of, app_of, rule_of};
 ghost use Rattle.clap.specs.Simple.{matches_of};
 ghost use Rattle.command_words.specs.PopOptions.{pop_app, required_rule};
@@ -46,19 +47,26 @@ fn pop_options<'a>(alloc: Global) -> Result<Command<'a>, AllocError>
         .arg(required(alloc, "pass"))
 }
 
-/// Returns the values that the words after the program's name give to the four options. `Refused` comes if and only if
+/// Returns the values that the words after the program's name give to the four options. `Refused`
+/// comes if and only if
 /// `clap` refuses the words and memory suffices.
 pub fn parse_pop_options<'a>(
     alloc: Global,
     words: &'a [&'a str],
 ) -> Result<PopValues<'a>, OptionFault>
-    ensures store { IfOk result (λ values. option_copied values.store ≡ first_of (codes "store") (matches_of pop_app (word_bytes words.now))) }
-    ensures user { IfOk result (λ values. option_copied values.user ≡ first_of (codes "user") (matches_of pop_app (word_bytes words.now))) }
-    ensures name { IfOk result (λ values. option_copied values.name ≡ first_of (codes "box") (matches_of pop_app (word_bytes words.now))) }
-    ensures secret { IfOk result (λ values. option_copied values.secret ≡ first_of (codes "pass") (matches_of pop_app (word_bytes words.now))) }
+    ensures store { IfOk result (λ values. option_copied values.store
+        ≡ first_of (codes "store") (matches_of pop_app (word_bytes words.now))) }
+    ensures user { IfOk result (λ values. option_copied values.user
+        ≡ first_of (codes "user") (matches_of pop_app (word_bytes words.now))) }
+    ensures name { IfOk result (λ values. option_copied values.name
+        ≡ first_of (codes "box") (matches_of pop_app (word_bytes words.now))) }
+    ensures secret { IfOk result (λ values. option_copied values.secret
+        ≡ first_of (codes "pass") (matches_of pop_app (word_bytes words.now))) }
     ensures accepted { OnOk result (fault_of pop_app (word_bytes words.now) ≡ []) }
-    ensures taken { takes pop_app (word_bytes words.now) ≡ true → IfErr result (λ fault. fault ≡ OptionFault.Memory) }
-    ensures refused { IfErr result (λ fault. fault ≡ OptionFault.Refused → fault_of pop_app (word_bytes words.now) ≢ []) }
+    ensures taken { takes pop_app (word_bytes words.now) ≡ true
+        → IfErr result (λ fault. fault ≡ OptionFault.Memory) }
+    ensures refused { IfErr result (λ fault. fault ≡ OptionFault.Refused
+        → fault_of pop_app (word_bytes words.now) ≢ []) }
 {
     let Ok(command) = pop_options(alloc) else {
         return Err(OptionFault::Memory);

@@ -3,8 +3,10 @@ use Rattle.std.proofs.Common.{◌≡◌, ◌∙◌, ap, refl, arith, ℕ, suc, L
 use Rattle.std.specs.Prelude.{◌==◌, ◌&&◌, nat_lt, cond, codes, if◌then◌else◌}
 use Rattle.std.specs.List.{flat_map}
 use Rattle.mail_lines.specs.Lines.{without_empty_end, NoEnd}
-use Rattle.mail_lines.specs.Mbox.{is_from_line, message_from, messages_from, quotes, unquoted, line_text, message_text, mbox_messages, at_message}
-use Rattle.mail_fields.specs.Digests.{Digested, lined, lined_text, from_quoted, text_of_lines, subject_line, digested_lines, digest_lines, digest_text}
+use Rattle.mail_lines.specs.Mbox.{is_from_line, message_from, messages_from, quotes, unquoted, line_text, message_text, mbox_messages}
+use Rattle.mail_lines.specs.Mbox.{at_message}
+use Rattle.mail_fields.specs.Digests.{Digested, lined, lined_text, from_quoted, text_of_lines, subject_line, digested_lines, digest_lines}
+use Rattle.mail_fields.specs.Digests.{digest_text}
 use Rattle.digest_mail.proofs.Plain.{lines-of-text, digest-lines-are}
 
 -- a quoted line is no `From ` line
@@ -43,12 +45,15 @@ unquoted-quoted line = go (is_from_line (drop (quotes line) line)) refl where
   go false e = stays (nat_lt 0 (quotes line)) (is_from_line (drop (quotes line) line)) e
 
 -- a line that begins no message
-message-line : (opens : Bool) (line : List ℕ) (rest : List (List ℕ)) → is_from_line line ≡ false → message_from opens (line ∷ rest) ≡ line ∷ message_from (length line == 0) rest
+message-line : (opens : Bool) (line : List ℕ) (rest : List (List ℕ)) → is_from_line line ≡ false
+    → message_from opens (line ∷ rest) ≡ line ∷ message_from (length line == 0) rest
 message-line true line rest e = ap (λ t. if t then [] else line ∷ message_from (length line == 0) rest) e
 message-line false line rest e = refl
 
-messages-line : (opens : Bool) (line : List ℕ) (rest : List (List ℕ)) → is_from_line line ≡ false → messages_from opens (line ∷ rest) ≡ messages_from (length line == 0) rest
-messages-line true line rest e = ap (λ t. if t then message_from false rest ∷ messages_from false rest else messages_from (length line == 0) rest) e
+messages-line : (opens : Bool) (line : List ℕ) (rest : List (List ℕ)) → is_from_line line ≡ false
+    → messages_from opens (line ∷ rest) ≡ messages_from (length line == 0) rest
+messages-line true line rest e =
+    ap (λ t. if t then message_from false rest ∷ messages_from false rest else messages_from (length line == 0) rest) e
 messages-line false line rest e = refl
 
 -- the lines of a message in a digest
@@ -63,11 +68,13 @@ message-ends (line ∷ rest) at = ap (λ t. if t then [] else line ∷ message_f
 one-message : (opens : Bool) (ls rest : List (List ℕ)) → at_message rest ≡ true → message_from opens (body ls ++ rest) ≡ body ls
 one-message opens [] rest at = message-line opens [] rest refl ∙ ap (λ r. [] ∷ r) (message-ends rest at)
 one-message opens (l ∷ ls) rest at =
-    message-line opens (from_quoted l) (body ls ++ rest) (not-from l) ∙ ap (λ r. from_quoted l ∷ r) (one-message (length (from_quoted l) == 0) ls rest at)
+    message-line opens (from_quoted l) (body ls ++ rest) (not-from l)
+      ∙ ap (λ r. from_quoted l ∷ r) (one-message (length (from_quoted l) == 0) ls rest at)
 
 more-messages : (opens : Bool) (ls rest : List (List ℕ)) → messages_from opens (body ls ++ rest) ≡ messages_from true rest
 more-messages opens [] rest = messages-line opens [] rest refl
-more-messages opens (l ∷ ls) rest = messages-line opens (from_quoted l) (body ls ++ rest) (not-from l) ∙ more-messages (length (from_quoted l) == 0) ls rest
+more-messages opens (l ∷ ls) rest = messages-line opens (from_quoted l) (body ls ++ rest) (not-from l)
+    ∙ more-messages (length (from_quoted l) == 0) ls rest
 
 -- the messages of the documents
 at-docs : (docs : List Digested) → at_message (flat_map digested_lines docs) ≡ true
@@ -82,7 +89,8 @@ document-messages (d ∷ docs) =
     ∙ ap (λ ms. body (lined d.text) ∷ ms) (more-messages false (lined d.text) rest ∙ document-messages docs)
 
 -- the messages of a digest
-digest-messages : (name : List ℕ) (ordinal : ℕ) (docs : List Digested) → messages_from true (digest_lines name ordinal docs) ≡ map (λ d. body (lined d.text)) docs
+digest-messages : (name : List ℕ) (ordinal : ℕ) (docs : List Digested)
+    → messages_from true (digest_lines name ordinal docs) ≡ map (λ d. body (lined d.text)) docs
 digest-messages name ordinal docs =
     let rest = flat_map digested_lines docs in
     messages-line true (codes "From: tapestry") (subject_line name ordinal ∷ [] ∷ rest) refl
@@ -107,10 +115,13 @@ body-text ls = ap (flat_map line_text) (body-lines (map from_quoted ls)) ∙ unq
 
 body-texts : (docs : List Digested) → map message_text (map (λ d. body (lined d.text)) docs) ≡ map (λ d. lined_text d.text) docs
 body-texts [] = refl
-body-texts (d ∷ docs) = ap (λ t. t ∷ map message_text (map (λ d. body (lined d.text)) docs)) (body-text (lined d.text)) ∙ ap (λ r. lined_text d.text ∷ r) (body-texts docs)
+body-texts (d ∷ docs) = ap (λ t. t ∷ map message_text (map (λ d. body (lined d.text)) docs)) (body-text (lined d.text))
+    ∙ ap (λ r. lined_text d.text ∷ r) (body-texts docs)
 
-pub digests-are-mailboxes : (name : List ℕ) (ordinal : ℕ) (docs : List Digested) → NoEnd name → mbox_messages (digest_text name ordinal docs) ≡ map (λ d. lined_text d.text) docs
+pub digests-are-mailboxes : (name : List ℕ) (ordinal : ℕ) (docs : List Digested) → NoEnd name
+    → mbox_messages (digest_text name ordinal docs) ≡ map (λ d. lined_text d.text) docs
 digests-are-mailboxes name ordinal docs none =
-    ap (λ ls. map message_text (messages_from true ls)) (lines-of-text (digest_lines name ordinal docs) (digest-lines-are name ordinal docs none))
+    ap (λ ls. map message_text (messages_from true ls))
+      (lines-of-text (digest_lines name ordinal docs) (digest-lines-are name ordinal docs none))
     ∙ ap (map message_text) (digest-messages name ordinal docs)
     ∙ body-texts docs

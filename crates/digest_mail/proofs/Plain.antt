@@ -1,5 +1,6 @@
 -- Lines without an LF and without a CR at their end: a text of such lines has just these.
-use Rattle.std.proofs.Common.{◌≡◌, ◌≢◌, ◌∙◌, sym, ap, subst, refl, arith, ℕ, zero, suc, ℤ, pos, negsuc, List, [], ◌∷◌, ◌++◌, ◌+◌, ◌-◌, ◌/◌, ◌%◌, ◌≤◌, ◌<◌, take, drop, length, map, get_or, Bool, true, false, append_assoc, inl, inr}
+use Rattle.std.proofs.Common.{◌≡◌, ◌≢◌, ◌∙◌, sym, ap, subst, refl, arith, ℕ, zero, suc, ℤ, pos, negsuc, List, [], ◌∷◌, ◌++◌, ◌+◌, ◌-◌, ◌/◌}
+use Rattle.std.proofs.Common.{◌%◌, ◌≤◌, ◌<◌, take, drop, length, map, get_or, Bool, true, false, append_assoc, inl, inr}
 use Rattle.std.specs.Prelude.{◌==◌, ◌&&◌, ◌⊎◌, not, nat_lt, codes, if◌then◌else◌, reverse}
 use Rattle.std.specs.List.{flat_map, suffix_len, slice_split, onto_first}
 use Rattle.std.specs.Str.Lines.{lines}
@@ -10,7 +11,8 @@ use Rattle.std.proofs.lemmas.List.Sums.{prefix_len_stops}
 use Rattle.std.proofs.lemmas.Grind.{common_steps}
 use Rattle.mail_lines.specs.Lines.{is_end, without_empty_end, NoEnd}
 use Rattle.mail_lines.proofs.Ends.{NoEnd-append, NoEnd-take, has_first, parts-line}
-use Rattle.mail_fields.specs.Digests.{Digested, without_returns, lined, from_quoted, text_of_lines, from_line, subject_line, digested_lines, digest_lines}
+use Rattle.mail_fields.specs.Digests.{Digested, without_returns, lined, from_quoted, text_of_lines, from_line, subject_line, digested_lines}
+use Rattle.mail_fields.specs.Digests.{digest_lines}
 use Rattle.mail_lines.specs.Mbox.{is_from_line, quotes}
 
 -- the last byte is no CR
@@ -45,7 +47,8 @@ all_plain (b ∷ bytes) = not (b == 10) && not (b == 13) && all_plain bytes
 plain-append : (xs ys : List ℕ) → all_plain xs ≡ true → all_plain ys ≡ true → all_plain (xs ++ ys) ≡ true
 plain-append [] ys a b = b
 plain-append (x ∷ xs) ys a b = go (not (x == 10)) (not (x == 13)) a (λ e. plain-append xs ys e b) where
-  go : (s t : Bool) → (s && t && all_plain xs) ≡ true → (all_plain xs ≡ true → all_plain (xs ++ ys) ≡ true) → (s && t && all_plain (xs ++ ys)) ≡ true
+  go : (s t : Bool) → (s && t && all_plain xs) ≡ true → (all_plain xs ≡ true → all_plain (xs ++ ys) ≡ true)
+      → (s && t && all_plain (xs ++ ys)) ≡ true
   go true true e more = more e
   go true false e more = e
   go false t e more = e
@@ -65,7 +68,8 @@ plain-last (x ∷ []) e = go (x == 10) (x == 13) e where
   go true t e = absurd (grind (arith, e))
   go false true e = absurd (grind (arith, e))
   go false false e = refl
-plain-last (x ∷ y ∷ xs) e = ap (λ n. get_or (x ∷ y ∷ xs) n 0 == 13) (shift (length xs)) ∙ plain-last (y ∷ xs) (go (x == 10) (x == 13) e) where
+plain-last (x ∷ y ∷ xs) e = ap (λ n. get_or (x ∷ y ∷ xs) n 0 == 13) (shift (length xs))
+    ∙ plain-last (y ∷ xs) (go (x == 10) (x == 13) e) where
   shift : (n : ℕ) → suc (suc n) - 1 ≡ suc (suc n - 1)
   shift n = omega arith
 
@@ -77,7 +81,8 @@ plain-last (x ∷ y ∷ xs) e = ap (λ n. get_or (x ∷ y ∷ xs) n 0 == 13) (sh
 -- the end of a line decides
 last-append : (xs ys : List ℕ) → 0 < length ys → NoReturn ys → NoReturn (xs ++ ys)
 last-append [] ys some last = last
-last-append (x ∷ xs) ys some last = ap (λ n. get_or (x ∷ xs ++ ys) n 0 == 13) (shift (length (xs ++ ys)) (grind (arith, common_steps))) ∙ last-append xs ys some last where
+last-append (x ∷ xs) ys some last = ap (λ n. get_or (x ∷ xs ++ ys) n 0 == 13) (shift (length (xs ++ ys)) (grind (arith, common_steps)))
+    ∙ last-append xs ys some last where
   shift : (n : ℕ) → 0 < n → suc n - 1 ≡ suc (n - 1)
   shift n lt = omega arith
 
@@ -96,9 +101,11 @@ glyph-plain d bytes e = go (nat_lt d 10) where
 
 onto-plain : (k n : ℕ) (bytes : List ℕ) → all_plain bytes ≡ true → all_plain (digits_onto k 10 false n bytes) ≡ true
 onto-plain zero n bytes e = e
-onto-plain (suc k) n bytes e = go (n / 10 == 0) (onto-plain k (n / 10) (digit_glyph false (n % 10) ∷ bytes) (glyph-plain (n % 10) bytes e)) where
+onto-plain (suc k) n bytes e =
+    go (n / 10 == 0) (onto-plain k (n / 10) (digit_glyph false (n % 10) ∷ bytes) (glyph-plain (n % 10) bytes e)) where
   go : (t : Bool) → all_plain (digits_onto k 10 false (n / 10) (digit_glyph false (n % 10) ∷ bytes)) ≡ true
-      → all_plain (if t then digit_glyph false (n % 10) ∷ bytes else digits_onto k 10 false (n / 10) (digit_glyph false (n % 10) ∷ bytes)) ≡ true
+      → all_plain (if t then digit_glyph false (n % 10) ∷ bytes else digits_onto k 10 false (n / 10) (digit_glyph false (n % 10) ∷ bytes))
+          ≡ true
   go true more = glyph-plain (n % 10) bytes e
   go false more = more
 
@@ -122,10 +129,12 @@ subject-ends : (name : List ℕ) (ordinal : ℕ) → NoEnd name → NoEnd (subje
 subject-ends name ordinal none =
     let named = NoEnd-append (codes "Subject: digest ") name (plain-NoEnd (codes "Subject: digest ") refl) none in
     let blank = NoEnd-append (codes "Subject: digest " ++ name) (codes " ") named (plain-NoEnd (codes " ") refl) in
-    NoEnd-append (codes "Subject: digest " ++ name ++ codes " ") (decimal ordinal) blank (plain-NoEnd (decimal ordinal) (decimal-plain ordinal))
+    NoEnd-append (codes "Subject: digest " ++ name ++ codes " ") (decimal ordinal) blank
+      (plain-NoEnd (decimal ordinal) (decimal-plain ordinal))
 
 subject-last : (name : List ℕ) (ordinal : ℕ) → NoReturn (subject_line name ordinal)
-subject-last name ordinal = subst (λ l. NoReturn l) (sym (append_assoc front (codes " ") (decimal ordinal))) (last-append front (32 ∷ decimal ordinal) (omega arith) (plain-last (32 ∷ decimal ordinal) number)) where
+subject-last name ordinal = subst (λ l. NoReturn l) (sym (append_assoc front (codes " ") (decimal ordinal)))
+    (last-append front (32 ∷ decimal ordinal) (omega arith) (plain-last (32 ∷ decimal ordinal) number)) where
   front : List ℕ
   front = codes "Subject: digest " ++ name
 
@@ -162,10 +171,12 @@ returns-gone line = go (suffix_len (λ b. b == 13) line) refl (cases_lt (suffix_
   go n is (inr le) = let none : length line - n ≡ 0 = omega arith in rw none refl
   go n is (inl lt) =
       let some : suffix_len (λ b. b == 13) line < length (reverse line) = grind (arith, length-reverse line, lt, is) in
-      let stops : (get_or (reverse line) n 0 == 13) ≡ false = ap (λ k. get_or (reverse line) k 0 == 13) is ∙ prefix_len_stops (λ b. b == 13) (reverse line) 0 some in
+      let stops : (get_or (reverse line) n 0 == 13) ≡ false = ap (λ k. get_or (reverse line) k 0 == 13) is
+          ∙ prefix_len_stops (λ b. b == 13) (reverse line) 0 some in
       let at : get_or (reverse line) n 0 ≡ get_or line (length line - 1 - n) 0 = get_or-reverse line n 0 lt in
       let long : length (take (length line - n) line) ≡ length line - n = grind (arith, length-take (length line - n) line) in
-      let same : get_or (take (length line - n) line) (length (take (length line - n) line) - 1) 0 ≡ get_or line (length line - 1 - n) 0 = grind (arith, common_steps, long, lt) in
+      let same : get_or (take (length line - n) line) (length (take (length line - n) line) - 1) 0 ≡ get_or line (length line - 1 - n) 0 =
+          grind (arith, common_steps, long, lt) in
       ap (λ b. b == 13) (same ∙ sym at) ∙ stops
 
 -- a line that is quoted
@@ -186,15 +197,18 @@ quoted-lines : (parts : List (List ℕ)) → AllNoEnd parts → AreLines (map fr
 unfolding AllNoEnd
 quoted-lines [] none = tt
 quoted-lines (part ∷ parts) none =
-    let line = quoted-line (without_returns part) (NoEnd-take (length part - suffix_len (λ b. b == 13) part) part none.0) (returns-gone part) in
+    let line =
+        quoted-line (without_returns part) (NoEnd-take (length part - suffix_len (λ b. b == 13) part) part none.0) (returns-gone part) in
     (line.0, line.1, quoted-lines parts none.1)
 
 -- the lines of a document
 document-lines : (d : Digested) → AreLines (digested_lines d)
 document-lines d =
-    let text = quoted-lines (without_empty_end (slice_split is_end d.text)) (without-NoEnd (slice_split is_end d.text) (parts-NoEnd d.text)) in
+    let text =
+        quoted-lines (without_empty_end (slice_split is_end d.text)) (without-NoEnd (slice_split is_end d.text) (parts-NoEnd d.text)) in
     let plain = from-plain d.doc d.first in
-    (plain-NoEnd (from_line d.doc d.first) plain, plain-last (from_line d.doc d.first) plain, AreLines-append (map from_quoted (lined d.text)) ([] ∷ []) text (tt, refl, tt))
+    (plain-NoEnd (from_line d.doc d.first) plain, plain-last (from_line d.doc d.first) plain,
+      AreLines-append (map from_quoted (lined d.text)) ([] ∷ []) text (tt, refl, tt))
 
 all-lines : (docs : List Digested) → AreLines (flat_map digested_lines docs)
 all-lines [] = tt

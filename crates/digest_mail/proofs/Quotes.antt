@@ -23,7 +23,8 @@ no-front (x ∷ xs) e = go (x == 62) refl e where
   go false is t = refl
 
 -- the same, by the prefix that is looked for
-pub one-quote : (xs after front : List ℕ) → front ≡ 62 ∷ [] → pointwise nat_eq (take (length front) xs) front ≡ true → after ≡ drop (length front) xs → drop (quotes after) after ≡ drop (quotes xs) xs
+pub one-quote : (xs after front : List ℕ) → front ≡ 62 ∷ [] → pointwise nat_eq (take (length front) xs) front ≡ true
+    → after ≡ drop (length front) xs → drop (quotes after) after ≡ drop (quotes xs) xs
 one-quote xs after front is e cut =
     ap (λ l. drop (quotes l) l) (cut ∙ ap (λ l. drop (length l) xs) is)
     ∙ one-front xs (subst (λ l. pointwise nat_eq (take (length l) xs) l ≡ true) is e)

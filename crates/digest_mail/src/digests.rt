@@ -4,7 +4,8 @@ ghost use Rattle.std.specs.Option.{option_copied};
 ghost use Rattle.std.specs.List.{flat_map};
 ghost use Rattle.std.specs.Fmt.{decimal, signed_decimal};
 ghost use Rattle.mail_lines.specs.Mbox.{is_from_line, quotes};
-ghost use Rattle.mail_fields.specs.Digests.{lined, from_quoted, from_line, subject_line, digested_lines, digested_with, digested, digest_lines};
+ghost use Rattle.mail_fields.specs.Digests.{lined, from_quoted, from_line, subject_line};
+ghost use Rattle.mail_fields.specs.Digests.{digested_lines, digested_with, digested, digest_lines};
 
 use crate::lined::first_lined;
 use itoa::{Buffer, Integer};
@@ -87,7 +88,8 @@ pub(crate) fn push_document(
     entry: Entry,
     text: &[u8],
 ) -> Result<(), Memory>
-    ensures { OnOk result (lines.new ≡ lines.old ++ digested_lines (record { doc = entry.doc.0; first = entry.first; text = text.now })) }
+    ensures { OnOk result (lines.new ≡ lines.old
+          ++ digested_lines (record { doc = entry.doc.0; first = entry.first; text = text.now })) }
 {
     lines.push(from_of(alloc, entry)?)?;
     push_text(alloc, lines, text)?;
@@ -101,7 +103,8 @@ fn push_entry(
     entry: Entry,
     doc: Option<&KeptDoc>,
 ) -> Result<(), Memory>
-    ensures { OnOk result (lines.new ≡ lines.old ++ flat_map digested_lines (digested_with entry (option_copied doc.entry))) }
+    ensures { OnOk result (lines.new
+          ≡ lines.old ++ flat_map digested_lines (digested_with entry (option_copied doc.entry))) }
 {
     match doc {
         None => Ok(()),
@@ -120,9 +123,10 @@ pub(crate) fn header(alloc: Global, name: &[u8], ordinal: u32) -> Result<Texts, 
     Ok(lines)
 }
 
-/// Returns the lines, without their LFs, of a run's digest: a message (RFC 5322) that holds the entries' documents in mbox form
-/// (RFC 4155), in the order of the entries. `ordinal` is the run's, from 1. Each entry costs at most one step, for the look-up of
-/// its document. Fails with `Memory` when out of memory.
+/// Returns the lines, without their LFs, of a run's digest: a message (RFC 5322) that holds the
+/// entries' documents in mbox form (RFC 4155), in the order of the entries. `ordinal` is the run's,
+/// from 1. Each entry costs at most one step, for the look-up of its document. Fails with `Memory`
+/// when out of memory.
 pub fn digest<L: Ledger>(
     alloc: Global,
     name: &[u8],
@@ -131,7 +135,8 @@ pub fn digest<L: Ledger>(
     index: &RowIndex,
     steps: &mut Steps<L>,
 ) -> Result<Texts, Memory>
-    ensures lines { IfOk result (λ lines. lines ≡ digest_lines name.now ordinal (digested index.now.docs entries.now)) }
+    ensures lines { IfOk result (λ lines.
+        lines ≡ digest_lines name.now ordinal (digested index.now.docs entries.now)) }
     ensures steps { steps.new ≤ steps.old + length entries.now }
     ensures more { steps.old ≤ steps.new }
 {

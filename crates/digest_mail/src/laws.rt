@@ -1,7 +1,8 @@
 //! Laws of digests.
 ghost use Rattle.digest_mail.specs.Laws.{DigestsAreMailboxes};
 
-/// States that the messages of a digest, read as a mailbox, are the texts of its documents, line by line.
+/// States that the messages of a digest, read as a mailbox, are the texts of its documents, line by
+/// line.
 pub fn digests_are_mailboxes()
     ensures { DigestsAreMailboxes }
 {}

@@ -16,8 +16,8 @@ fn without_returns(line: &[u8]) -> &[u8]
     front
 }
 
-/// Returns the first line of a text that isn't empty, without its LF and without all CRs before it, and the text after it. A last
-/// line without an LF has no CRs at its end either.
+/// Returns the first line of a text that isn't empty, without its LF and without all CRs before it,
+/// and the text after it. A last line without an LF has no CRs at its end either.
 pub fn first_lined(text: &[u8]) -> FirstLine<'_>
     requires { IsNonEmpty text.now }
     ensures lines { lined text.now ≡ result.line.now ∷ lined result.rest.now }

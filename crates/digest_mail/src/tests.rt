@@ -53,7 +53,8 @@ fn digest_of(alloc: Global, texts: &[&[u8]]) -> Result<Text, Memory> {
     text
 }
 
-// Returns whether a digest is its header, the line before the document, these lines of it, and an empty line.
+// Returns whether a digest is its header, the line before the document, these lines of it, and an
+// empty line.
 fn has_lines(shown: &[u8], want: &[u8]) -> bool {
     let head = b"From: tapestry\nSubject: digest all 2\n\nFrom doc 7 first 100\n".as_slice();
     let Some(rest) = shown.strip_prefix(head) else {

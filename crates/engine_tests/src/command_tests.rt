@@ -15,10 +15,11 @@ use tap_base::{Memory, Rows, Steps};
 use tap_engine::{Engine, EngineFault};
 use tap_rows::Tables;
 
-// A script of each command that is built. `mail`, `note`, `query`, `filter` and `run` add rows; the mailbox file has no message,
-// so that `mbox` adds none.
+// A script of each command that is built. `mail`, `note`, `query`, `filter` and `run` add rows; the
+// mailbox file has no message, so that `mbox` adds none.
 const SCRIPT: &[u8] =
-    b"at 100\nas ann\nmail\nSubject: hi\n\n.\nnote 1 tag 1 good\nquery q m.words HAS 'hi'\nfilter\n.\nmbox\n.\nat 101\n\
+    b"at 100\nas ann\nmail\nSubject: hi\n\n.\nnote 1 tag 1 good\nquery q m.words HAS 'hi'\n\
+    filter\n.\nmbox\n.\nat 101\n\
       run q\nbox q\nlist q\nexplain q\nask 100 TRUE\nshow 1\nnotes 1\nqueries\ncounts\n";
 
 // Appends a command, if there is one.
@@ -142,12 +143,13 @@ fn attach(alloc: Global, keeper: &mut MemKeeper) -> bool
     }
 }
 
-// What a session leaves: how many rows each reply shows, how many documents, notes, queries, filters, runs and picks its
-// keeper has, how many documents and notes its engine has, and whether the engine is stopped.
+// What a session leaves: how many rows each reply shows, how many documents, notes, queries,
+// filters, runs and picks its keeper has, how many documents and notes its engine has, and whether
+// the engine is stopped.
 type Left = (Vec<usize>, [usize; 6], [u32; 2], bool);
 
-// Performs commands over a new engine, and appends how many rows each reply shows. Returns how many documents and notes the
-// engine has then, and whether it is stopped.
+// Performs commands over a new engine, and appends how many rows each reply shows. Returns how many
+// documents and notes the engine has then, and whether it is stopped.
 fn performed<L: Ledger>(
     alloc: Global,
     keeper: &mut MemKeeper,
@@ -205,8 +207,8 @@ fn session<L: Ledger>(alloc: Global, blank: Blank, call: u64) -> Result<Left, Me
 #[test]
 fn each_command_with_rows_is_one_commit(rt: HostRuntime) -> Result<(), Memory> {
     let alloc = rt.alloc();
-    // the call of the keeper that fails, where attach is call 0, how many rows the replies show until then, and what is left;
-    // no call of the last row fails
+    // the call of the keeper that fails, where attach is call 0, how many rows the replies show
+    // until then, and what is left; no call of the last row fails
     let rows: [(u64, &[usize], [usize; 6], [u32; 2], bool); 6] = [
         (1, &[0, 0], [0, 0, 0, 0, 0, 0], [0, 0], true),
         (2, &[0, 0, 0], [1, 0, 0, 0, 0, 0], [1, 0], true),

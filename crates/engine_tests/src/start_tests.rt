@@ -106,7 +106,8 @@ fn add_filter(alloc: Global, tables: &mut Tables, source: &[u8]) -> Result<(), M
     }
 }
 
-// Adds one document, one note on it, one query, one run of it that delivered the document, and one filter of this source.
+// Adds one document, one note on it, one query, one run of it that delivered the document, and one
+// filter of this source.
 fn fill(alloc: Global, tables: &mut Tables, source: &[u8]) -> Result<(), Memory> {
     add_doc(alloc, tables)?;
     add_note(alloc, tables)?;
@@ -136,7 +137,8 @@ fn sound(alloc: Global, source: &[u8]) -> Result<Option<Sound>, Memory> {
     }
 }
 
-// Starts an engine over stored rows: how many documents and notes it has, or the number of the filter that can't be read.
+// Starts an engine over stored rows: how many documents and notes it has, or the number of the
+// filter that can't be read.
 fn started_over(alloc: Global, sound: Sound) -> Result<Result<(u32, u32), u32>, Memory> {
     match Engine::start(alloc, HashKey::fixed(), sound) {
         Ok(engine) => {

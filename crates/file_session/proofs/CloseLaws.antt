@@ -21,13 +21,16 @@ module _ {D O : Type 0} {g : Ghosts D} (first : FilesOf O) (inner : Inner (FileS
   pub closed-so : (given : Result (Option (Files D)) (Error × FileStore D g)) → (given ≡ Ok None → has_files inner ≡ false)
       → IfOk given (λ files. IfSome files (λ both. AreClean g both.log both.db → IsHonest first over_files inner))
       → IfErr given (λ left. IsTrue (view left.1).is_clean → IsHonest first over_files inner)
-      → IfOk given (λ files. IfSome files (λ both. AreClean g both.log both.db → (t : Tables) → Tells first over_files inner t → AreWhole g both t))
+      → IfOk given (λ files. IfSome files (λ both. AreClean g both.log both.db → (t : Tables) → Tells first over_files inner t
+          → AreWhole g both t))
       → IfErr given (λ left. IsTrue (view left.1).is_clean → (t : Tables) → Tells first over_files inner t → LeavesOnly g left.1 t)
       → IfErr given (λ left. IsTrue (view left.1).is_clean → FailsToCloseOpen inner left.1 left.0)
       → IsClosedAs first inner (Some given)
   closed-so (Ok None) none honest left whole exact fails = none refl
-  closed-so (Ok (Some files)) none honest left whole exact fails = λ clean. record { honest = honest clean; kept = λ t told. whole clean t told }
-  closed-so (Err it) none honest left whole exact fails = λ clean. (record { honest = left clean; kept = λ t told. exact clean t told }, fails clean)
+  closed-so (Ok (Some files)) none honest left whole exact fails =
+      λ clean. record { honest = honest clean; kept = λ t told. whole clean t told }
+  closed-so (Err it) none honest left whole exact fails =
+      λ clean. (record { honest = left clean; kept = λ t told. exact clean t told }, fails clean)
 
 running : (b : Bool) (status : ℕ) → (b ≡ true) ↔ (status ≡ 5) → status ≢ 5 → b ≡ false
 running true status stopped other = absurd (other (stopped.0 refl))
@@ -61,7 +64,8 @@ had_file (Err left) has back none there gone = (λ is. absurd (let e = is in cc)
 pub at_some : {X : Type 0} (P : X → Type 0) (o : Option X) (x : X) → o ≡ Some x → IfSome o P → P x
 at_some P o x is h = subst (λ v. IfSome v P) is h
 
-pub from_both : {X : Type 0} (P Q : X → Type 0) (R : Type 0) (o : Option X) → is_some o ≡ true → IfSome o P → IfSome o Q → ((x : X) → P x → Q x → R) → R
+pub from_both : {X : Type 0} (P Q : X → Type 0) (R : Type 0) (o : Option X) → is_some o ≡ true → IfSome o P → IfSome o Q
+    → ((x : X) → P x → Q x → R) → R
 from_both P Q R (Some x) is p q so = so x p q
 from_both P Q R None is p q so = absurd (differ is)
 

@@ -33,7 +33,8 @@ module _ {D O : Type 0} {g : Ghosts D} (first : FilesOf O) where
   IsClosedAs inner None = ⊤
   IsClosedAs inner (Some (Ok None)) = has_files inner ≡ false
   IsClosedAs inner (Some (Ok (Some files))) = AreClean g files.log files.db → ToldTablesAre inner (AreWhole g files)
-  IsClosedAs inner (Some (Err left)) = IsTrue (view left.1).is_clean → ToldTablesAre inner (LeavesOnly g left.1) × FailsToCloseOpen inner left.1 left.0
+  IsClosedAs inner (Some (Err left)) = IsTrue (view left.1).is_clean
+      → ToldTablesAre inner (LeavesOnly g left.1) × FailsToCloseOpen inner left.1 left.0
 
 -- the end of a call over a keeper with this opener: the keeper, stopped if and only if the status is 5, over which, if it is
 -- honest, the call ended so for the tables that the files held initially; and what is left of it
@@ -54,7 +55,8 @@ pub record SessionEnd {S D : Type 0} {g : Ghosts D} (held : start.Ghosts S)
     (ComesBack : Inner (FileStore D g) (PathOpener S D held g) over_files → Type 0) : Type 0 where
   pub inner : Inner (FileStore D g) (PathOpener S D held g) over_files
   pub ends : IsHonest (path_files held) over_files inner → (t : Tables) → ImageTells (image_at held) t →
-      Ends t (HasVersion (path_files held) over_files inner) (Tells (path_files held) over_files inner) (MayLeave (path_files held) over_files inner)
+      Ends t (HasVersion (path_files held) over_files inner) (Tells (path_files held) over_files inner)
+        (MayLeave (path_files held) over_files inner)
   pub stopped : (is_stopped inner ≡ true) ↔ (status ≡ 5)
   pub close : IsClosedAs (path_files held) inner closed
   pub back : ComesBack inner

@@ -1,4 +1,5 @@
-//! A session over the files of a store: they are opened, a program's call is made over them, and they are closed.
+//! A session over the files of a store: they are opened, a program's call is made over them, and
+//! they are closed.
 #![tactic(auto)]
 
 mod files;

@@ -14,7 +14,8 @@ use Rattle.tql_parse.specs.declared.fault.ParseFault.TheVariants.{Unexpected, En
 use Rattle.tql_parse.specs.Reading.{query_at}
 use Rattle.tql_core.specs.Condition.{Condition}
 use Rattle.tql_types.specs.declared.fault.TypeFault.{TypeFault}
-use Rattle.tql_types.specs.declared.fault.TypeFault.TheVariants.{NoVar, NoField, Clash, Shadow, BadTime, BigSpan, ManyVars, ManyNodes, Memory as TypeMemory}
+use Rattle.tql_types.specs.declared.fault.TypeFault.TheVariants.{NoVar, NoField, Clash, Shadow, BadTime, BigSpan, ManyVars, ManyNodes}
+use Rattle.tql_types.specs.declared.fault.TypeFault.TheVariants.{Memory as TypeMemory}
 use Rattle.tql_text.specs.declared.fault.TextFault.{TextFault}
 use Rattle.tql_text.specs.declared.fault.TextFault.TheVariants.{Lex, Parse, Types, Memory}
 use Rattle.tql_text.specs.Texts.{of_tree}
@@ -94,7 +95,8 @@ is_priority n = int_le (pos 0) n && int_le n (pos 1000)
 -- the rule, if its priority and its class may stand in one
 abbrev pub rated : Condition → ℤ → ℕ → List ℕ → ℕ → Result Rule ℕ
 rated c priority priority_place class class_place =
-    if is_priority priority then (if is_name class then Ok (record { condition = c; priority = nat_abs priority; class = class }) else Err class_place)
+    if is_priority priority
+        then (if is_name class then Ok (record { condition = c; priority = nat_abs priority; class = class }) else Err class_place)
     else Err priority_place
 
 -- the rule, if its condition names neither now nor other rows: `Some` is the place of the first word that does
@@ -105,12 +107,14 @@ timeless_rule None c priority priority_place class class_place = rated c priorit
 -- the rule of a reading of its condition
 abbrev pub rule_with : Result Condition TextFault → ℕ → ℕ → List Token → ℤ → ℕ → List ℕ → ℕ → Result Rule ℕ
 rule_with (Err fault) begins ends middle priority priority_place class class_place = Err (fault_place begins ends fault)
-rule_with (Ok c) begins ends middle priority priority_place class class_place = timeless_rule (place_of_now middle) c priority priority_place class class_place
+rule_with (Ok c) begins ends middle priority priority_place class class_place =
+    timeless_rule (place_of_now middle) c priority priority_place class class_place
 
 -- the rule of the tokens of a condition and of PRIORITY, its number, CLASS and its text; the line has this length
 abbrev pub shaped : ℕ → ℕ → List Token → Token → Option ℤ → ℕ → Bool → Option (List ℕ) → ℕ → Result Rule ℕ
 shaped len begins middle priority (Some n) n_place true (Some class) class_place =
-    if is_this_word (codes "priority") priority.kind then rule_with (of_tree (query_at 32 middle)) begins priority.place middle n n_place class class_place
+    if is_this_word (codes "priority") priority.kind
+      then rule_with (of_tree (query_at 32 middle)) begins priority.place middle n n_place class class_place
     else Err len
 shaped len begins middle priority (Some n) n_place true None class_place = Err len
 shaped len begins middle priority (Some n) n_place false class class_place = Err len
@@ -130,7 +134,8 @@ rule_at len begins middle (p ∷ n ∷ c ∷ t ∷ u ∷ more) = Err len
 abbrev pub rule_of_tokens : ℕ → List Token → Result Rule ℕ
 rule_of_tokens len [] = Err 0
 rule_of_tokens len (first ∷ rest) =
-    if is_this_word (codes "when") first.kind then rule_at len first.place (take (length rest - 4) rest) (drop (length rest - 4) rest) else Err first.place
+    if is_this_word (codes "when") first.kind then rule_at len first.place (take (length rest - 4) rest) (drop (length rest - 4) rest)
+      else Err first.place
 
 -- the rule of a reading of a line's tokens
 abbrev pub rule_of_reading : ℕ → Result (List Token) LexFault → Result Rule ℕ

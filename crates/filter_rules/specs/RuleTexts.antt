@@ -11,7 +11,8 @@ use Rattle.filter_rules.specs.RuleLines.{rule_of}
 -- the lines of rules, each with its number among all lines: those that are neither blank nor comments
 abbrev pub rule_lines_from : ℕ → List (List ℕ) → List (ℕ × List ℕ)
 rule_lines_from number [] = []
-rule_lines_from number (line ∷ lines) = if is_skipped line then rule_lines_from (suc number) lines else (number, line) ∷ rule_lines_from (suc number) lines
+rule_lines_from number (line ∷ lines) = if is_skipped line then rule_lines_from (suc number) lines
+    else (number, line) ∷ rule_lines_from (suc number) lines
 
 -- the lines of rules of a text
 abbrev pub rule_lines : List ℕ → List (ℕ × List ℕ)

@@ -44,8 +44,8 @@ fn rate<'a>(rules: &'a [KeptRule], doc: &'a KeptDoc) -> Rating<'a>
     }
 }
 
-/// Rates a document: its priority is the greatest of the rules that hold for it, 0 if none does; its class is that of the
-/// first of them, `other` if none does. It takes no memory.
+/// Rates a document: its priority is the greatest of the rules that hold for it, 0 if none does;
+/// its class is that of the first of them, `other` if none does. It takes no memory.
 pub fn appraise<'a>(rules: &'a Rules, doc: &'a KeptDoc) -> Rating<'a>
     ensures priority { result.priority ≡ priority_of (rules_in rules.now) doc.now }
     ensures class { result.class.now ≡ class_of (rules_in rules.now) doc.now }

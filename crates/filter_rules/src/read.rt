@@ -1,8 +1,10 @@
 //! Reads the rules of a filter's text.
-ghost use Rattle.std.specs.Prelude.{◌≡◌, ◌⊎◌, ℕ, suc, List, ◌∷◌, map, length, Err, OnOk, IfOk, IfErr, ◌≤◌, if◌then◌else◌};
+ghost use Rattle.std.specs.Prelude.{◌≡◌, ◌⊎◌, ℕ, suc, List, ◌∷◌, map, length, Err, OnOk, IfOk};
+ghost use Rattle.std.specs.Prelude.{IfErr, ◌≤◌, if◌then◌else◌};
 ghost use Rattle.tap_base.specs.LineWords.{is_skipped};
 ghost use Rattle.filter_rules.specs.Rules.{rule_view, rules_in};
-ghost use Rattle.filter_rules.specs.RuleTexts.{rule_lines, rule_lines_from, rules_at, rules_of, with_rules_before, IsWithin, ReadsRules};
+ghost use Rattle.filter_rules.specs.RuleTexts.{rule_lines, rule_lines_from, rules_at, rules_of};
+ghost use Rattle.filter_rules.specs.RuleTexts.{with_rules_before, IsWithin, ReadsRules};
 
 use crate::line_fault::LineFault;
 use crate::rule_line::read_rule;
@@ -44,10 +46,13 @@ fn read_line(
     items: &mut Rows<KeptRule>,
 ) -> Result<(), RuleFault>
     ensures ok { OnOk result ((more : List (List ℕ)) →
-        with_rules_before (map rule_view items.old) (rules_at (rule_lines_from number (line.now ∷ more)))
-        ≡ with_rules_before (map rule_view items.new) (rules_at (rule_lines_from (suc number) more))) }
+        with_rules_before (map rule_view items.old)
+            (rules_at (rule_lines_from number (line.now ∷ more)))
+        ≡ with_rules_before (map rule_view items.new)
+            (rules_at (rule_lines_from (suc number) more))) }
     ensures err { IfErr result (λ fault.
-        ((more : List (List ℕ)) → rules_at (rule_lines_from number (line.now ∷ more)) ≡ Err fault) ⊎ (fault ≡ RuleFault.Memory)) }
+        ((more : List (List ℕ)) → rules_at (rule_lines_from number (line.now ∷ more)) ≡ Err fault)
+            ⊎ (fault ≡ RuleFault.Memory)) }
     ensures within { IfErr result (λ fault. IsWithin number fault) }
 {
     if is_blank_or_comment(line) {
@@ -79,9 +84,11 @@ fn read_lines(alloc: Global, text: &[u8]) -> Result<Rules, RuleFault>
     Ok(Rules { items })
 }
 
-/// Reads the rules of a filter's text, one a line. Lines without words and lines whose first word begins with `#` are
-/// skipped. `ManyRules` comes if there are more than 64 rules, before any is read, since a count needs no memory. Otherwise
-/// `Line` gives the first line that is no rule: its number among all lines, from 1, and the byte of its first fault, from 0.
+/// Reads the rules of a filter's text, one a line. Lines without words and lines whose first word
+/// begins with `#` are skipped. `ManyRules` comes if there are more than 64 rules, before any is
+/// read, since a count needs no memory. Otherwise
+/// `Line` gives the first line that is no rule: its number among all lines, from 1, and the byte of
+/// its first fault, from 0.
 /// `Memory` means out of memory.
 pub fn read_rules(alloc: Global, text: &[u8]) -> Result<Rules, RuleFault>
     ensures rules { ReadsRules (rules_of text.now) result }

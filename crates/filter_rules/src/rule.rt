@@ -12,8 +12,8 @@ use tap_base::Text;
 use tap_rows::KeptDoc;
 use tql_core::{Cond, Env, RowRef, Term, Var, true_atom, value};
 
-/// A rule of a filter. A document that its condition holds for has this priority at least, and the class of the first such
-/// rule. The condition names neither now nor other rows.
+/// A rule of a filter. A document that its condition holds for has this priority at least, and the
+/// class of the first such rule. The condition names neither now nor other rows.
 #[derive(Drop)]
 pub struct KeptRule {
     pub(crate) cond: Cond,
@@ -41,8 +41,8 @@ fn is_before(term: Term, env: &Env) -> bool
     }
 }
 
-// Evaluates a condition over no rows at the second 0. A rule's condition names neither now nor other rows, so any second
-// and any rows give the same.
+// Evaluates a condition over no rows at the second 0. A rule's condition names neither now nor
+// other rows, so any second and any rows give the same.
 fn holds<'a>(cond: &'a Cond, env: &Env<'a>) -> bool
     ensures { result ≡ truth no_rows (pos 0) (condition cond.now) env.now }
 {

@@ -6,8 +6,11 @@ ghost use Rattle.tql_text.specs.Texts.{of_tree};
 ghost use Rattle.tql_parse.specs.Reading.{query_at};
 ghost use Rattle.tql_core.specs.Condition.{condition};
 ghost use Rattle.filter_rules.specs.Rules.{rule_view};
-ghost use Rattle.filter_rules.specs.RuleLines.{lex_place, parse_place, type_place, fault_place, is_this_word, number_in_token, text_in_token, is_of_now, place_of_now};
-ghost use Rattle.filter_rules.specs.RuleLines.{is_priority, rated, timeless_rule, rule_with, rule_at, rule_of_tokens, rule_of, ReadsRule};
+ghost use Rattle.filter_rules.specs.RuleLines.{lex_place, parse_place, type_place, fault_place};
+ghost use Rattle.filter_rules.specs.RuleLines.{is_this_word, number_in_token, text_in_token};
+ghost use Rattle.filter_rules.specs.RuleLines.{is_of_now, place_of_now};
+ghost use Rattle.filter_rules.specs.RuleLines.{is_priority, rated, timeless_rule, rule_with};
+ghost use Rattle.filter_rules.specs.RuleLines.{rule_at, rule_of_tokens, rule_of, ReadsRule};
 
 use crate::KeptRule;
 use crate::line_fault::LineFault;
@@ -140,7 +143,8 @@ fn rated(
     class: &Text,
     class_place: u32,
 ) -> Result<KeptRule, LineFault>
-    ensures { ReadsRule (rated (condition cond) priority priority_place class.now class_place) result }
+    ensures { ReadsRule (rated (condition cond) priority priority_place class.now class_place)
+        result }
 {
     if !is_priority(priority) {
         return Err(LineFault::At(priority_place));
@@ -164,7 +168,8 @@ fn timeless_rule(
     class: &Text,
     class_place: u32,
 ) -> Result<KeptRule, LineFault>
-    ensures { ReadsRule (timeless_rule (place_of_now middle.now) (condition cond) priority priority_place class.now class_place) result }
+    ensures { ReadsRule (timeless_rule (place_of_now middle.now) (condition cond) priority
+          priority_place class.now class_place) result }
 {
     match place_of_now(middle) {
         Some(place) => Err(LineFault::At(place)),
@@ -183,7 +188,8 @@ fn rule_with(
     class: &Text,
     class_place: u32,
 ) -> Result<KeptRule, LineFault>
-    ensures { ReadsRule (rule_with (of_tree (query_at 32 middle.now)) begins ends middle.now priority priority_place class.now class_place) result }
+    ensures { ReadsRule (rule_with (of_tree (query_at 32 middle.now)) begins ends
+          middle.now priority priority_place class.now class_place) result }
 {
     match read_tokens(alloc, middle) {
         Ok(cond) => timeless_rule(middle, cond, priority, priority_place, class, class_place),
@@ -203,7 +209,8 @@ fn rule_at(
     requires { length last.now ≡ 4 }
     ensures { ReadsRule (rule_at len begins middle.now last.now) result }
 {
-    let (Some(n), Some(class)) = (number_in_token(&last[1].kind), text_in_token(&last[3].kind)) else {
+    let (Some(n), Some(class)) = (number_in_token(&last[1].kind), text_in_token(&last[3].kind))
+    else {
         return Err(LineFault::At(len));
     };
     if !is_this_word(&last[0].kind, b"priority") || !is_this_word(&last[2].kind, b"class") {
@@ -223,7 +230,8 @@ fn rule_at(
 
 // Reads the rule of the tokens after WHEN.
 fn rule_after(alloc: Global, len: u32, begins: u32, rest: &[Token]) -> Result<KeptRule, LineFault>
-    ensures { ReadsRule (rule_at len begins (take (length rest.now - 4) rest.now) (drop (length rest.now - 4) rest.now)) result }
+    ensures { ReadsRule (rule_at len begins (take (length rest.now - 4) rest.now)
+          (drop (length rest.now - 4) rest.now)) result }
 {
     if rest.len() < 4 {
         return Err(LineFault::At(len));
@@ -246,10 +254,10 @@ fn rule_of_tokens(alloc: Global, len: u32, tokens: &[Token]) -> Result<KeptRule,
     }
 }
 
-/// Reads the rule of a line. `At` gives the place of its first fault, in this order: a fault of its tokens; a first token
-/// other than WHEN; the line's end, if the last four tokens aren't PRIORITY, a number, CLASS and a text; a fault of the
-/// condition; a word that names now or other rows; a number above 1,000; a text that is no name. `Memory` means out of
-/// memory.
+/// Reads the rule of a line. `At` gives the place of its first fault, in this order: a fault of its
+/// tokens; a first token other than WHEN; the line's end, if the last four tokens aren't PRIORITY,
+/// a number, CLASS and a text; a fault of the condition; a word that names now or other rows; a
+/// number above 1,000; a text that is no name. `Memory` means out of memory.
 #[tactic(auto, unfolding(crate::specs::RuleLines::rule_of))]
 pub(crate) fn read_rule(alloc: Global, line: &[u8]) -> Result<KeptRule, LineFault>
     ensures { ReadsRule (rule_of line.now) result }

@@ -103,7 +103,8 @@ body_text Never = codes "FALSE"
 body_text (Plain a) = atom_text a
 body_text (NowAtLeast e) = codes "NOW >= " ++ term_text e
 body_text (NowBefore e) = codes "NOW < " ++ term_text e
-body_text (All l r) = parenthesized (nat_lt (condition_strength l) 1) (body_text l) ++ codes " AND " ++ parenthesized (nat_lt (condition_strength r) 2) (body_text r)
+body_text (All l r) = parenthesized (nat_lt (condition_strength l) 1) (body_text l) ++ codes " AND "
+    ++ parenthesized (nat_lt (condition_strength r) 2) (body_text r)
 body_text (Either l r) = body_text l ++ codes " OR " ++ parenthesized (nat_lt (condition_strength r) 1) (body_text r)
 body_text (Not x) = codes "NOT " ++ parenthesized (nat_lt (condition_strength x) 2) (body_text x)
 body_text (Exists v t x) = codes "EXISTS (" ++ var_text v ++ codes ": " ++ text_of_table t ++ codes " WHERE " ++ body_text x ++ codes ")"
@@ -118,7 +119,8 @@ step_text step = var_text step.var ++ codes ": " ++ text_of_table step.table ++ 
 
 -- the line of a probe
 abbrev pub probe_line : Probe → List ℕ
-probe_line p = codes "OVER " ++ joined (codes ", ") step_text p.path ++ codes " AT " ++ term_text p.at ++ codes " WHERE " ++ body_text p.body
+probe_line p =
+    codes "OVER " ++ joined (codes ", ") step_text p.path ++ codes " AT " ++ term_text p.at ++ codes " WHERE " ++ body_text p.body
 
 -- the lines of `explain`, one for each probe
 abbrev pub explain_lines : List Probe → List (List ℕ)

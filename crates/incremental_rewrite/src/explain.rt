@@ -5,7 +5,8 @@ ghost use Rattle.std.specs.List.{flat_map};
 ghost use Rattle.tap_base.specs.Bytes.{IsPlaceOf};
 ghost use Rattle.time_marks.specs.KeptParts.{parts_kept};
 ghost use Rattle.time_marks.specs.Views.{probe_in, ranged_probes};
-ghost use Rattle.incremental_rewrite.specs.Lines.{joined, atom_text, guards_text, step_text, probe_line, explain_lines};
+ghost use Rattle.incremental_rewrite.specs.Lines.{joined, atom_text, guards_text, step_text};
+ghost use Rattle.incremental_rewrite.specs.Lines.{probe_line, explain_lines};
 
 use crate::bodies::put_body;
 use crate::texts::{put_atom, put_term, put_var};
@@ -18,7 +19,8 @@ use tql_tree::name_of_table;
 
 // Appends these atoms, each behind an AND.
 fn put_further(alloc: Global, atoms: &[Atom], into: &mut Text) -> Result<(), Memory>
-    ensures { OnOk result (into.new ≡ into.old ++ flat_map (λ a. codes " AND " ++ atom_text a) atoms.now) }
+    ensures { OnOk result
+        (into.new ≡ into.old ++ flat_map (λ a. codes " AND " ++ atom_text a) atoms.now) }
 {
     for atom in atoms {
         into.push_slice(b" AND ")?;
@@ -54,7 +56,8 @@ fn put_step(alloc: Global, step: &Step, into: &mut Text) -> Result<(), Memory>
 
 // Appends these steps, each behind a comma.
 fn put_steps(alloc: Global, steps: &[Step], into: &mut Text) -> Result<(), Memory>
-    ensures { OnOk result (into.new ≡ into.old ++ flat_map (λ step. codes ", " ++ step_text step) steps.now) }
+    ensures { OnOk result
+        (into.new ≡ into.old ++ flat_map (λ step. codes ", " ++ step_text step) steps.now) }
 {
     for step in steps {
         into.push_slice(b", ")?;
@@ -93,7 +96,8 @@ fn probe_line(alloc: Global, pool: &Pool<TNode>, probe: &Probe) -> Result<Text, 
 // Returns the lines of some parts.
 fn lines_of(alloc: Global, pool: &Pool<TNode>, parts: &[Ranged]) -> Result<Texts, Memory>
     requires { parts_kept pool.now parts.now ≡ true }
-    ensures { IfOk result (λ lines. lines ≡ map (λ part. probe_line (probe_in pool.now part.probe)) parts.now) }
+    ensures { IfOk result (λ lines.
+        lines ≡ map (λ part. probe_line (probe_in pool.now part.probe)) parts.now) }
 {
     let mut lines = Texts::new(alloc);
     for part in parts {
@@ -102,8 +106,9 @@ fn lines_of(alloc: Global, pool: &Pool<TNode>, parts: &[Ranged]) -> Result<Texts
     Ok(lines)
 }
 
-/// Returns a line for each probe: the steps of its path with their guards, the time of its mark, and its body in the
-/// syntax of a query. A variable k of an EXISTS is `vk`, its copy in a path `pk`. `Memory` comes if memory runs out.
+/// Returns a line for each probe: the steps of its path with their guards, the time of its mark,
+/// and its body in the syntax of a query. A variable k of an EXISTS is `vk`, its copy in a path
+/// `pk`. `Memory` comes if memory runs out.
 pub fn render(alloc: Global, query: &RangedQuery) -> Result<Texts, Memory>
     ensures { IfOk result (λ lines. lines ≡ explain_lines (ranged_probes query.now)) }
 {

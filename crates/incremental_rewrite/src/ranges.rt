@@ -10,7 +10,8 @@ use std::alloc::Global;
 use tap_base::{Memory, Rows};
 use time_marks::{Probe, Ranged, RangedQuery, Seek, WindowQuery};
 
-// Returns whether the probes are equal. Bodies are equal if and only if their numbers are: the pool shares equal nodes.
+// Returns whether the probes are equal. Bodies are equal if and only if their numbers are: the pool
+// shares equal nodes.
 fn is_same(a: &Probe, b: &Probe) -> bool
     ensures { result ≡ same_numbers a.now b.now }
 {
@@ -29,7 +30,8 @@ fn has_equal(parts: &Rows<Ranged>, probe: &Probe) -> bool
 
 // Appends the probe with its seek, unless it equals an earlier one.
 fn keep(parts: &mut Rows<Ranged>, probe: Probe) -> Result<(), Memory>
-    ensures { OnOk result (part_probes parts.new ≡ kept_with same_numbers (part_probes parts.old) probe) }
+    ensures { OnOk result
+        (part_probes parts.new ≡ kept_with same_numbers (part_probes parts.old) probe) }
 {
     if has_equal(parts, &probe) {
         return Ok(());
@@ -50,11 +52,14 @@ fn solved(alloc: Global, probes: Rows<Probe>) -> Result<Rows<Ranged>, Memory>
     Ok(parts)
 }
 
-/// Returns the query without each probe that equals an earlier one, with each mark solved for the stored second of its
-/// driving row. It finds what the given query finds, over all tables and windows. `Memory` comes if memory runs out.
+/// Returns the query without each probe that equals an earlier one, with each mark solved for the
+/// stored second of its driving row. It finds what the given query finds, over all tables and
+/// windows. `Memory` comes if memory runs out.
 pub fn incremental(alloc: Global, query: WindowQuery) -> Result<RangedQuery, Memory>
-    ensures distinct { IfOk result (λ ranged. ranged_probes ranged ≡ distinct_probes (probes_of query)) }
-    ensures meaning { IfOk result (λ ranged. HasSameMeaning (ranged_probes ranged) (probes_of query)) }
+    ensures distinct { IfOk result (λ ranged.
+        ranged_probes ranged ≡ distinct_probes (probes_of query)) }
+    ensures meaning { IfOk result (λ ranged.
+        HasSameMeaning (ranged_probes ranged) (probes_of query)) }
 {
     let WindowQuery { pool, probes } = query;
     let parts = solved(alloc, probes)?;

@@ -2,8 +2,10 @@
 
 ghost use Rattle.std.specs.Prelude.{◌≡◌, ◌++◌, OnOk, codes};
 ghost use Rattle.tql_tree.specs.Canonical.{text_of_op};
-ghost use Rattle.incremental_rewrite.specs.Lines.{var_text, plus_text, arrival_text, date_text, term_text};
-ghost use Rattle.incremental_rewrite.specs.Lines.{num_field_text, text_field_text, list_field_text, number_text, text_text, atom_text};
+ghost use Rattle.incremental_rewrite.specs.Lines.{var_text, plus_text, arrival_text, date_text};
+ghost use Rattle.incremental_rewrite.specs.Lines.{term_text};
+ghost use Rattle.incremental_rewrite.specs.Lines.{num_field_text, text_field_text, list_field_text};
+ghost use Rattle.incremental_rewrite.specs.Lines.{number_text, text_text, atom_text};
 
 use std::alloc::Global;
 use tap_base::{Memory, Op, Text, put_decimal};

@@ -1,4 +1,5 @@
-//! Where tables are stored: what a keeper promises, what a crash of it may leave, and keepers in memory.
+//! Where tables are stored: what a keeper promises, what a crash of it may leave, and keepers in
+//! memory.
 #![tactic(auto)]
 
 mod fault;

@@ -1,10 +1,12 @@
 //! A keeper in memory whose calls fail by a plan.
 
 ghost use Rattle.std.specs.Prelude.{◌≡◌, ◌≢◌, ◌⊎◌, ◌↔◌, ◌≤◌, ◌<◌, ℕ, ℤ, pos};
-ghost use Rattle.std.specs.Prelude.{List, [], Bool, true, false, Option, Some, None, Err, IsOk, IfOk, OnOk, OnErr, unwrap_or, is_some};
+ghost use Rattle.std.specs.Prelude.{List, [], Bool, true, false, Option, Some, None, Err, IsOk};
+ghost use Rattle.std.specs.Prelude.{IfOk, OnOk, OnErr, unwrap_or, is_some};
 ghost use Rattle.keeper_core.specs.States.{IsRunning};
 ghost use Rattle.tap_rows.specs.Tables.{after};
-ghost use Rattle.keeper_core.specs.Stored.{Stored, planned_fault, left_now, stopped_with, attached_at, attach_answer, committed, commit_answer};
+ghost use Rattle.keeper_core.specs.Stored.{Stored, planned_fault, left_now, stopped_with};
+ghost use Rattle.keeper_core.specs.Stored.{attached_at, attach_answer, committed, commit_answer};
 ghost use Rattle.tap_base.specs.Counts.{next_count};
 
 use crate::{AttachFault, CommitFault, Keeper};
@@ -13,7 +15,8 @@ use std::marker::Model;
 use tap_base::{Memory, Text};
 use tap_rows::{Change, Tables};
 
-/// Makes the call of this number fail. If that is a commit, `kept` says whether a crash leaves the new tables.
+/// Makes the call of this number fail. If that is a commit, `kept` says whether a crash leaves the
+/// new tables.
 #[derive(Clone, Copy, Debug, PartialEq, Eq)]
 pub struct KeepPlan {
     pub call: u64,
@@ -75,8 +78,9 @@ fn tables_with(tables: &Tables, change: Change) -> Result<Tables, Memory>
 }
 
 impl MemKeeper {
-    /// Returns a keeper of these tables in a store of this version. Its calls of `attach` and `commit` are numbered from
-    /// 0, without those that are out of memory; the calls of `fails` fail, and no other does.
+    /// Returns a keeper of these tables in a store of this version. Its calls of `attach` and
+    /// `commit` are numbered from 0, without those that are out of memory; the calls of `fails`
+    /// fail, and no other does.
     pub fn new(alloc: Global, tables: Tables, version: i64, fails: Vec<KeepPlan>) -> MemKeeper
         ensures { result ≡ record {
           tables = tables;
@@ -172,7 +176,8 @@ impl Keeper for MemKeeper {
         // The plan.
         ensures plan { ((result ≡ Err AttachFault.Memory) × (self.new ≡ self.old))
             ⊎ ((result ≡ attach_answer (planned_fault self.old.fails self.old.calls) self.old)
-            × (self.new ≡ attached_at at.now (planned_fault self.old.fails self.old.calls) self.old)) }
+            × (self.new
+                  ≡ attached_at at.now (planned_fault self.old.fails self.old.calls) self.old)) }
     {
         // All memory is taken first, so that a call that is out of memory changes nothing.
         let tables = self.tables.copy()?;
@@ -202,7 +207,8 @@ impl Keeper for MemKeeper {
         // The plan.
         ensures plan { ((result ≡ Err CommitFault.Memory) × (self.new ≡ self.old))
             ⊎ ((result ≡ commit_answer (planned_fault self.old.fails self.old.calls))
-            × (self.new ≡ committed change.now (planned_fault self.old.fails self.old.calls) self.old)) }
+            × (self.new
+                  ≡ committed change.now (planned_fault self.old.fails self.old.calls) self.old)) }
     {
         let call = self.calls;
         let more = change.copy()?;

@@ -18,7 +18,8 @@ use Rattle.keeper_file.specs.Images.{ImageTells}
 use Rattle.keeper_file.proofs.SameLemmas.{is_told_open, ShowsLastCommit}
 use Rattle.keeper_file.proofs.CrashLemmas.{told_trees, ours_told, leaves_commit}
 
-module _ {D : Type 0} {g : Ghosts D} (was : Held (FileStore D g)) (settled : ShowsLastCommit (file_state was)) (b : Bool) (t : Tables) (told : TellsAs b (file_state was) t) where
+module _ {D : Type 0} {g : Ghosts D} (was : Held (FileStore D g)) (settled : ShowsLastCommit (file_state was)) (b : Bool) (t : Tables)
+    (told : TellsAs b (file_state was) t) where
   whole_at : (image : Image) → HoldsAlone image (file_state was).committed.trees → HoldsWhole image t
   whole_at image holds =
       let same = settled (is_told_open b (file_state was) t told) in
@@ -30,12 +31,14 @@ module _ {D : Type 0} {g : Ghosts D} (was : Held (FileStore D g)) (settled : Sho
       }
 
   pub whole_then : (files : Files D) → IsCopied was files → AreWhole g files t
-  whole_then files copied = record { now = whole_at (image_of g files) copied.seen; crash = λ image left. whole_at image (copied.left image left) }
+  whole_then files copied =
+      record { now = whole_at (image_of g files) copied.seen; crash = λ image left. whole_at image (copied.left image left) }
 
   pub alone_then : (last : FileStore D g) → SeenMayStay g → IsClosed was last → LeavesOnly g last t
   alone_then last stays closed db may =
       let is_open = is_told_open b (file_state was) t told in
-      ap tables_of (leaves_commit was stays is_open (ap (λ (d : Database). d.trees) (settled is_open)) db (closed.quiet.outcomes db may)) ∙ sym (told_trees b (file_state was) t told)
+      ap tables_of (leaves_commit was stays is_open (ap (λ (d : Database). d.trees) (settled is_open)) db (closed.quiet.outcomes db may))
+          ∙ sym (told_trees b (file_state was) t told)
 
 -- ---- and so the next session finds what the earlier one stored
 
@@ -45,7 +48,8 @@ whole_tells image t whole = inl (record { db = whole.db; holds = whole.holds.bot
 alone_tells : (image : Image) (t : Tables) → HoldsWhole image t → ImageTells (record image { log = [] }) t
 alone_tells image t whole = inl (record { db = whole.db; holds = whole.holds.alone; ours = whole.ours; tables = whole.tables })
 
-pub copy_tells : {D : Type 0} (g : Ghosts D) (files : Files D) (copy : Image) (t : Tables) → IsCopyOf g files copy → AreWhole g files t → ImageTells copy t
+pub copy_tells : {D : Type 0} (g : Ghosts D) (files : Files D) (copy : Image) (t : Tables) → IsCopyOf g files copy → AreWhole g files t
+    → ImageTells copy t
 copy_tells g files copy t of whole = subst (λ i. ImageTells i t) (sym of.is) (alone_tells of.image t (whole.crash of.image of.left))
 
 -- a store that is clean was clean before

@@ -18,8 +18,11 @@ alien_then (Err (fault.Alien v)) P Q p so = so v p
 alien_then (Err fault.Failed) P Q p so = tt
 alien_then (Err fault.Memory) P Q p so = tt
 
-module _ {A O : Type 0} (files : FilesOf O) (g : Ghosts A) (exact : (o : O) (t x : Tables) → files.clean o → ImageTells files.image t → files.leaves o x → x ≡ t)
+module _ {A O : Type 0} (files : FilesOf O) (g : Ghosts A)
+    (exact : (o : O) (t x : Tables) → files.clean o → ImageTells files.image t → files.leaves o x → x ≡ t)
     (settled : (s : A) (db : Trees) → IsTrue (g.view s).is_open → g.recovers s db → db ≡ (g.view s).committed) where
   -- a crash leaves what it tells
-  pub told_durable : (inner : Inner A O g) (t : Tables) → IsHonest files g inner → Tells files g inner t → IsDurable (Tells files g inner) (MayLeave files g inner) t
-  told_durable inner t honest told = record { told = told; exact = λ x left. tells_alone_at files g inner t x exact settled honest told left }
+  pub told_durable : (inner : Inner A O g) (t : Tables) → IsHonest files g inner → Tells files g inner t
+      → IsDurable (Tells files g inner) (MayLeave files g inner) t
+  told_durable inner t honest told =
+      record { told = told; exact = λ x left. tells_alone_at files g inner t x exact settled honest told left }

@@ -45,7 +45,8 @@ empty_held image db t held empty (inl told) =
     told.tables ∙ ap tables_of same ∙ no_tables db empty
 empty_held image db t held empty (inr new) = new.1
 
-module _ {D : Type 0} (g : Ghosts D) (files : Files D) (only : (left : Image) → outcomes g files.log files.db left → left ≡ image_of g files) (plain : HasNoSums (image_of g files)) (t : Tables)
+module _ {D : Type 0} (g : Ghosts D) (files : Files D) (only : (left : Image) → outcomes g files.log files.db left
+      → left ≡ image_of g files) (plain : HasNoSums (image_of g files)) (t : Tables)
     (told : ImageTells (image_of g files) t) where
   same_told : (now : Image) (x : Tables) → now ≡ image_of g files → ImageTells now x → x ≡ t
   same_told now x e may = image_one (image_of g files) x t (subst (λ i. ImageTells i x) e may) told
@@ -53,7 +54,8 @@ module _ {D : Type 0} (g : Ghosts D) (files : Files D) (only : (left : Image) �
   under_way : (now : Image) (x : Tables) → t ≡ no_rows → IsUnderWay g files now → ImageTells now x → x ≡ t
   under_way now x none (inl old) may = same_told now x (only now old) may
   under_way now x none (inr (inl nothing)) may = none_told now x nothing may ∙ sym none
-  under_way now x none (inr (inr held)) may = ∥∥₁_elim held (Coded-set rows.the_row.coded _ _) (λ h. empty_held now h.0 x h.1 h.2 may ∙ sym none)
+  under_way now x none (inr (inr held)) may = ∥∥₁_elim held (Coded-set rows.the_row.coded _ _) (λ h. empty_held now h.0 x h.1 h.2 may
+      ∙ sym none)
 
   pub left_tables : (rest : Leftover D g) → LeavesFiles files rest → (x : Tables) → LeftTells rest x → x ≡ t
   left_tables (left.Files now) h x may = same_told may.0 x (only may.0 (h may.0 may.1)) may.2
@@ -66,7 +68,8 @@ module _ {D : Type 0} (g : Ghosts D) (files : Files D) (only : (left : Image) �
       | inl old ↦ same_told may.0 x (only may.0 old) may.2
       | inr stands ↦
           let size = (state_of now).page_size in
-          let there = ∥∥₁_map held.holds (λ p. still_holds size (image_of g files) h.1 h.3 held.db.trees p (plain held.db.trees p) may.0 stands) in
+          let there =
+              ∥∥₁_map held.holds (λ p. still_holds size (image_of g files) h.1 h.3 held.db.trees p (plain held.db.trees p) may.0 stands) in
           image_one may.0 x t may.2 (inl (record { db = held.db; holds = there; ours = held.ours; tables = held.tables }))
     ]
     | inr new ↦ absurd (h.0 (inl (inl new.0)))

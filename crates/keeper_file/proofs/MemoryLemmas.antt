@@ -31,7 +31,8 @@ unopened_at None runs = inl refl
 unopened_at (Some path) runs = absurd (let e = runs in cc)
 
 -- a keeper that runs and has no file open is attached nowhere, or in memory
-pub without_files : {A O : Type 0} {g : Ghosts A} (inner : Inner A O g) → is_stopped inner ≡ false → has_files inner ≡ false → IsInMemory (path_of inner)
+pub without_files : {A O : Type 0} {g : Ghosts A} (inner : Inner A O g) → is_stopped inner ≡ false → has_files inner ≡ false
+    → IsInMemory (path_of inner)
 without_files (Unopened u) runs none = unopened_at u.failed_at runs
 without_files (Memory m) runs none = memory_with m.misplaced_at m.keeper.stopped (unwrap_or m.keeper.path []) runs
 without_files (File k) runs none = absurd (let e = none in cc)

@@ -7,7 +7,8 @@ use Rattle.keeper_core.specs.declared.fault.AttachFault.{AttachFault}
 use Rattle.keeper_core.specs.declared.fault.AttachFault.TheVariants as fault
 use Rattle.sqlite_trees.specs.declared.store.Store.{Ghosts}
 use Rattle.keeper_file.specs.OpenerFiles.{FilesOf}
-use Rattle.keeper_file.specs.Cases.{Tells, HasVersion, IsHonest, MayLeave, is_open, is_in_memory, is_attached, is_stopped, faults_of, path_of}
+use Rattle.keeper_file.specs.Cases.{Tells, HasVersion, IsHonest, MayLeave, is_open, is_in_memory, is_attached, is_stopped, faults_of}
+use Rattle.keeper_file.specs.Cases.{path_of}
 use Rattle.keeper_file.specs.declared.inner.Inner.{Inner}
 
 module _ {A O : Type 0} {g : Ghosts A} where

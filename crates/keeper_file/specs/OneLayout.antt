@@ -64,7 +64,8 @@ same_map (r ∷ rows) f g same = ap₂ (λ x xs. x ∷ xs) (same 0 r (omega arit
 
 -- the schema fixes the shape and the REAL columns of each of its trees, but for an aside's shape
 module _ (v w : View) (schema : Schema) (p : AreShaped v schema) (q : AreShaped w schema) where
-  layouts_same : (tree : ℕ) → unsorted (v.shape tree) ≡ unsorted (w.shape tree) → IsListedIn schema tree → layout_at v tree ≡ layout_at w tree
+  layouts_same : (tree : ℕ) → unsorted (v.shape tree) ≡ unsorted (w.shape tree) → IsListedIn schema tree
+      → layout_at v tree ≡ layout_at w tree
   layouts_same tree alike (inl (inl t)) =
       let a = all_has (IsTableShaped v) schema.tables t.0 p.tables t.1 in
       let b = all_has (IsTableShaped w) schema.tables t.0 q.tables t.1 in
@@ -83,7 +84,8 @@ module _ (v w : View) (schema : Schema) (p : AreShaped v schema) (q : AreShaped 
       subst (λ n. layout_at v n ≡ layout_at w n) x.2
       (ap₂ (λ x y. (x, y)) (sym (unsorted_plain _ a.1) ∙ alike_too ∙ unsorted_plain _ b.1) (a.0 ∙ sym b.0))
 
-module _ (s t : Schema) (a b : List Wanted) (rows : List Row) (roots : List Bool) (m : Meets s a rows roots) (n : Meets t b rows roots) where
+module _ (s t : Schema) (a b : List Wanted) (rows : List Row) (roots : List Bool) (m : Meets s a rows roots)
+    (n : Meets t b rows roots) where
   shapes_same : (at : ℕ) (d : Row) → at < length rows → shape_of m.shown (get_or rows at d) ≡ shape_of n.shown (get_or rows at d)
   shapes_same at d low = suits_once rows (get_or rows at d) (get_or roots at false) _ _ (m.suit at d low) (n.suit at d low)
 
@@ -106,7 +108,8 @@ module _ (s t : Schema) (a b : List Wanted) (rows : List Row) (roots : List Bool
       let place : number_in (column (get_or rows at d) 0) - 1 ≡ named.0 = omega (arith, ap number_in named.2) in
       let knows = subst (AreShaped m.shown) schemas_same m.knows in
       let alike = subst (λ k. unsorted (m.shown.shape k) ≡ unsorted (n.shown.shape k)) place (shapes_same at d low) in
-      subst (λ k. layout_at m.shown k ≡ layout_at n.shown k) (sym place) (layouts_same m.shown n.shown t knows n.knows named.0 alike named.3)
+      subst (λ k. layout_at m.shown k ≡ layout_at n.shown k) (sym place)
+        (layouts_same m.shown n.shown t knows n.knows named.0 alike named.3)
 
   pub listed_once : listed_from 0 a ≡ listed_from 0 b
   listed_once = sym m.whole ∙ ap (joined rows) (same_map rows _ _ layout_same) ∙ n.whole

@@ -17,7 +17,8 @@ use keeper_sql::is_memory;
 use sqlite::{Connection, Error, FileFrom, FileStore, Leftover, Start};
 use sqlite_disk::Disk;
 
-/// Opens the file of a path, where the files held what `S` says, and keeps what is left of them if that failed.
+/// Opens the file of a path, where the files held what `S` says, and keeps what is left of them if
+/// that failed.
 #[derive(Drop)]
 pub struct PathOpener<'a, S: Start, D: Disk + Drop> {
     rt: &'a HostRuntime,
@@ -52,22 +53,26 @@ fn fault_of(error: &Error) -> AttachFault
     }
 }
 
-// Opens the file of a path; if that failed, returns what is left of the files, once they were opened.
+// Opens the file of a path; if that failed, returns what is left of the files, once they were
+// opened.
 fn opened_from<S: Start>(
     rt: &HostRuntime,
     path: &str,
     start: S,
 ) -> Result<Connection<FileStore<FileFrom<S>>>, (AttachFault, Option<Leftover<FileFrom<S>>>)>
     ensures idle { IfOk result (λ c. c.in_transaction ≡ false) }
-    ensures told { IfOk result (λ c. HasCleanDisk (file_state c) → (t : TableRows) → ImageTells (image_at S.Start) t
+    ensures told { IfOk result (λ c. HasCleanDisk (file_state c) → (t : TableRows)
+        → ImageTells (image_at S.Start) t
         → TellsAs false (file_state c) t) }
-    ensures version { IfOk result (λ c. HasCleanDisk (file_state c) → (v : ℤ) → ImageHasVersion (image_at S.Start) v
+    ensures version { IfOk result (λ c. HasCleanDisk (file_state c) → (v : ℤ)
+        → ImageHasVersion (image_at S.Start) v
         → HasVersion (file_state c) v) }
     ensures kind { IfErr result (λ e. (e.0 ≡ AttachFault.Memory) ⊎ (e.0 ≡ AttachFault.Failed)) }
     ensures left { IfErr result (λ e. IfSome e.1 (Spares (image_at S.Start))) }
 
     // If something is left of the files, and the disk was honest: why the open failed.
-    ensures fails { IfErr result (λ e. IfSome e.1 (λ left. IsCleanLeft left → (files : _) × IsFresh true files.log × IsFresh false files.db
+    ensures fails { IfErr result (λ e. IfSome e.1 (λ left. IsCleanLeft left
+        → (files : _) × IsFresh true files.log × IsFresh false files.db
         × FailsToOpen files left e.0)) }
 {
     match Connection::open_from(rt, path, false, start) {
@@ -84,19 +89,27 @@ impl<S: Start> Opener<FileStore<FileFrom<S>>> for PathOpener<'_, S, FileFrom<S>>
 
     fn open(&mut self, at: &str) -> Result<Connection<FileStore<FileFrom<S>>>, AttachFault>
         ensures idle { IfOk result (λ c. c.in_transaction ≡ false) }
-        ensures told { IfOk result (λ c. HasCleanDisk (file_state c) → (t : TableRows) → ImageTells (image_at S.Start) t
+        ensures told { IfOk result (λ c. HasCleanDisk (file_state c) → (t : TableRows)
+            → ImageTells (image_at S.Start) t
             → TellsAs false (file_state c) t) }
-        ensures version { IfOk result (λ c. HasCleanDisk (file_state c) → (v : ℤ) → ImageHasVersion (image_at S.Start) v
+        ensures version { IfOk result (λ c. HasCleanDisk (file_state c) → (v : ℤ)
+            → ImageHasVersion (image_at S.Start) v
             → HasVersion (file_state c) v) }
-        ensures clean { IfOk result (λ c. HasCleanDisk (file_state c) → AreCleanSoFar (image_at S.Start) self.old.start self.old.left) }
-        ensures clean_left { OnErr result (AreCleanSoFar (image_at S.Start) self.new.start self.new.left
+        ensures clean { IfOk result (λ c. HasCleanDisk (file_state c)
             → AreCleanSoFar (image_at S.Start) self.old.start self.old.left) }
-        ensures kind { IfErr result (λ fault. (fault ≡ AttachFault.Memory) ⊎ (fault ≡ AttachFault.Failed)) }
+        ensures clean_left { OnErr result
+            (AreCleanSoFar (image_at S.Start) self.new.start self.new.left
+            → AreCleanSoFar (image_at S.Start) self.old.start self.old.left) }
+        ensures kind { IfErr result (λ fault. (fault ≡ AttachFault.Memory)
+            ⊎ (fault ≡ AttachFault.Failed)) }
 
-        // Beside the trait's clauses: if this was the first open, it left something of the files, and the disk was honest, why it
-        // failed. Why the system refused to open the files is in no clause of `sqlite`.
-        ensures fails { IsSome self.old.start → IfErr result (λ fault. IfSome self.new.left (λ left. IsCleanLeft left
-            → (files : _) × IsFresh true files.log × IsFresh false files.db × FailsToOpen files left fault)) }
+        // Beside the trait's clauses: if this was the first open, it left something of the files,
+        // and the disk was honest, why it failed. Why the system refused to open the files is in no
+        // clause of `sqlite`.
+        ensures fails { IsSome self.old.start
+            → IfErr result (λ fault. IfSome self.new.left (λ left. IsCleanLeft left
+            → (files : _) × IsFresh true files.log × IsFresh false files.db
+                × FailsToOpen files left fault)) }
     {
         let Some(start) = self.start.take() else {
             return Err(AttachFault::Failed);
@@ -116,5 +129,6 @@ impl<S: Start> Opener<FileStore<FileFrom<S>>> for PathOpener<'_, S, FileFrom<S>>
 
     ghost left = { λ o t clean told. left_so_far (image_at S.Start) o.start o.left t told };
 
-    ghost exact = { λ o t x clean told may. alone_so_far (image_at S.Start) o.start o.left t x o.spares clean told may };
+    ghost exact = { λ o t x clean told may.
+        alone_so_far (image_at S.Start) o.start o.left t x o.spares clean told may };
 }

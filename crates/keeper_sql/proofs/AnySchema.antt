@@ -23,16 +23,19 @@ module _ (P : Command × Option Returning → Type 0) where
   abbrev pub Means : Parsed → Type 0
   Means p = (schema : Schema) (base : ℕ) (found : Command × Option Returning) → meaning schema p base ≡ Ok found → P found
 
-  from_meaning : (m : Checked (Command × Option Returning)) (p : Parsed) (formats : List (List ℕ)) (c : Compiled) → ((found : Command × Option Returning) → m ≡ Ok found → P found)
+  from_meaning : (m : Checked (Command × Option Returning)) (p : Parsed) (formats : List (List ℕ)) (c : Compiled)
+      → ((found : Command × Option Returning) → m ≡ Ok found → P found)
       → and_then (and_then m (λ found. Ok (formats, found))) (λ plan. Ok (with_command p plan)) ≡ Ok c → IsSuch P c
   from_meaning (Ok found) p formats c so h = let e : with_command p (formats, found) ≡ c = cc in subst (IsSuch P) e (so found refl)
   from_meaning (Err e) p formats c so h = absurd (let x = h in cc)
 
-  from_plan : (schema : Schema) (p : Parsed) (c : Compiled) → Means p → and_then (planned schema p) (λ plan. Ok (with_command p plan)) ≡ Ok c → IsSuch P c
+  from_plan : (schema : Schema) (p : Parsed) (c : Compiled) → Means p
+      → and_then (planned schema p) (λ plan. Ok (with_command p plan)) ≡ Ok c → IsSuch P c
   unfolding planned
   from_plan schema p c so h = from_meaning _ p _ c (so schema _) h
 
-  from_first : (schema : Schema) (r : Checked Parsed) (c : Compiled) → IfOk r Means → and_then r (λ p. and_then (planned schema p) (λ plan. Ok (with_command p plan))) ≡ Ok c → IsSuch P c
+  from_first : (schema : Schema) (r : Checked Parsed) (c : Compiled) → IfOk r Means
+      → and_then r (λ p. and_then (planned schema p) (λ plan. Ok (with_command p plan))) ≡ Ok c → IsSuch P c
   from_first schema (Ok p) c so h = from_plan schema p c so h
   from_first schema (Err e) c so h = absurd (let x = h in cc)
 
@@ -48,11 +51,13 @@ module _ (P : Command × Option Returning → Type 0) where
   from_listing (Ok d) c so h = picked (is_select d.command) d c (so d refl) h
   from_listing (Err e) c so h = absurd (let x = h in cc)
 
-  either : (b : Bool) (schema : Schema) (text : List ℕ) (c : Compiled) → IfOk (first text) Means → (if b then if_select (compiled listing_schema text) else compiled schema text) ≡ Ok c → IsSuch P c
+  either : (b : Bool) (schema : Schema) (text : List ℕ) (c : Compiled) → IfOk (first text) Means
+      → (if b then if_select (compiled listing_schema text) else compiled schema text) ≡ Ok c → IsSuch P c
   either true schema text c so h = from_listing (compiled listing_schema text) c (λ d e. from_text listing_schema text d so e) h
   either false schema text c so h = from_text schema text c so h
 
-  pub understood_means : (schema : Schema) (text : List ℕ) (c : Compiled) → IfOk (first text) Means → understood schema text ≡ Ok c → IsSuch P c
+  pub understood_means : (schema : Schema) (text : List ℕ) (c : Compiled) → IfOk (first text) Means → understood schema text ≡ Ok c
+      → IsSuch P c
   unfolding understood
   understood_means schema text c so h = either (reads_listing schema text) schema text c so h
 
@@ -78,7 +83,8 @@ means_none : (p : Parsed) → ReturnsNone p → Means IsBare p
 unfolding meaning
 means_none p none schema base found h =
     with_none (command schema p.formats base p.statement) found
-    (subst (λ r. and_then r (λ shown. and_then (command schema p.formats base p.statement) (λ c. Ok (c, shown))) ≡ Ok found) (none schema base) h)
+    (subst (λ r. and_then r (λ shown. and_then (command schema p.formats base p.statement) (λ c. Ok (c, shown))) ≡ Ok found)
+      (none schema base) h)
 
 pub understood_none : (schema : Schema) (text : List ℕ) (c : Compiled) → Asks text → understood schema text ≡ Ok c → c.returning ≡ None
 understood_none schema text c asks h = understood_means IsBare schema text c (IfOk-weaker (first text) _ _ means_none asks) h

@@ -5,9 +5,12 @@ use Rattle.sqlite_resolve.specs.Compile.{table_defined_by}
 use Rattle.sqlite.specs.Listing.{understood}
 use Rattle.sqlite.proofs.Callers.{IsPlain, command_of, statement_of}
 use Rattle.sqlite_schema.specs.declared.command.Command.TheVariants.{CreateTable, Nothing}
-use Rattle.keeper_sql.specs.Schema.{store_schema, schema_prefix_0, schema_prefix_1, schema_prefix_2, schema_prefix_3, schema_prefix_4, schema_prefix_5, schema_prefix_6, create_meta, create_docs, create_notes, create_queries, create_runs, create_picks, create_filters, meta_at, docs_at, notes_at, queries_at, runs_at, picks_at, filters_at}
+use Rattle.keeper_sql.specs.Schema.{store_schema, schema_prefix_0, schema_prefix_1, schema_prefix_2, schema_prefix_3, schema_prefix_4}
+use Rattle.keeper_sql.specs.Schema.{schema_prefix_5, schema_prefix_6, create_meta, create_docs, create_notes, create_queries, create_runs}
+use Rattle.keeper_sql.specs.Schema.{create_picks, create_filters, meta_at, docs_at, notes_at, queries_at, runs_at, picks_at, filters_at}
 
-pub meta_made : (command_of (understood schema_prefix_0 create_meta) ≡ CreateTable) × (statement_of create_meta (understood schema_prefix_0 create_meta) ≡ create_meta) × (table_defined_by create_meta ≡ Ok (meta_at 0))
+pub meta_made : (command_of (understood schema_prefix_0 create_meta) ≡ CreateTable)
+    × (statement_of create_meta (understood schema_prefix_0 create_meta) ≡ create_meta) × (table_defined_by create_meta ≡ Ok (meta_at 0))
 unfolding understood everything
 meta_made = (refl, refl, refl)
 
@@ -23,7 +26,8 @@ pub meta_kept_plain : IsPlain (understood store_schema create_meta)
 unfolding understood everything
 meta_kept_plain = (refl, refl)
 
-pub docs_made : (command_of (understood schema_prefix_1 create_docs) ≡ CreateTable) × (statement_of create_docs (understood schema_prefix_1 create_docs) ≡ create_docs) × (table_defined_by create_docs ≡ Ok (docs_at 0))
+pub docs_made : (command_of (understood schema_prefix_1 create_docs) ≡ CreateTable)
+    × (statement_of create_docs (understood schema_prefix_1 create_docs) ≡ create_docs) × (table_defined_by create_docs ≡ Ok (docs_at 0))
 unfolding understood everything
 docs_made = (refl, refl, refl)
 
@@ -39,7 +43,9 @@ pub docs_kept_plain : IsPlain (understood store_schema create_docs)
 unfolding understood everything
 docs_kept_plain = (refl, refl)
 
-pub notes_made : (command_of (understood schema_prefix_2 create_notes) ≡ CreateTable) × (statement_of create_notes (understood schema_prefix_2 create_notes) ≡ create_notes) × (table_defined_by create_notes ≡ Ok (notes_at 0))
+pub notes_made : (command_of (understood schema_prefix_2 create_notes) ≡ CreateTable)
+    × (statement_of create_notes (understood schema_prefix_2 create_notes) ≡ create_notes)
+    × (table_defined_by create_notes ≡ Ok (notes_at 0))
 unfolding understood everything
 notes_made = (refl, refl, refl)
 
@@ -55,7 +61,9 @@ pub notes_kept_plain : IsPlain (understood store_schema create_notes)
 unfolding understood everything
 notes_kept_plain = (refl, refl)
 
-pub queries_made : (command_of (understood schema_prefix_3 create_queries) ≡ CreateTable) × (statement_of create_queries (understood schema_prefix_3 create_queries) ≡ create_queries) × (table_defined_by create_queries ≡ Ok (queries_at 0))
+pub queries_made : (command_of (understood schema_prefix_3 create_queries) ≡ CreateTable)
+    × (statement_of create_queries (understood schema_prefix_3 create_queries) ≡ create_queries)
+    × (table_defined_by create_queries ≡ Ok (queries_at 0))
 unfolding understood everything
 queries_made = (refl, refl, refl)
 
@@ -71,7 +79,8 @@ pub queries_kept_plain : IsPlain (understood store_schema create_queries)
 unfolding understood everything
 queries_kept_plain = (refl, refl)
 
-pub runs_made : (command_of (understood schema_prefix_4 create_runs) ≡ CreateTable) × (statement_of create_runs (understood schema_prefix_4 create_runs) ≡ create_runs) × (table_defined_by create_runs ≡ Ok (runs_at 0))
+pub runs_made : (command_of (understood schema_prefix_4 create_runs) ≡ CreateTable)
+    × (statement_of create_runs (understood schema_prefix_4 create_runs) ≡ create_runs) × (table_defined_by create_runs ≡ Ok (runs_at 0))
 unfolding understood everything
 runs_made = (refl, refl, refl)
 
@@ -87,7 +96,9 @@ pub runs_kept_plain : IsPlain (understood store_schema create_runs)
 unfolding understood everything
 runs_kept_plain = (refl, refl)
 
-pub picks_made : (command_of (understood schema_prefix_5 create_picks) ≡ CreateTable) × (statement_of create_picks (understood schema_prefix_5 create_picks) ≡ create_picks) × (table_defined_by create_picks ≡ Ok (picks_at 0))
+pub picks_made : (command_of (understood schema_prefix_5 create_picks) ≡ CreateTable)
+    × (statement_of create_picks (understood schema_prefix_5 create_picks) ≡ create_picks)
+    × (table_defined_by create_picks ≡ Ok (picks_at 0))
 unfolding understood everything
 picks_made = (refl, refl, refl)
 
@@ -103,7 +114,9 @@ pub picks_kept_plain : IsPlain (understood store_schema create_picks)
 unfolding understood everything
 picks_kept_plain = (refl, refl)
 
-pub filters_made : (command_of (understood schema_prefix_6 create_filters) ≡ CreateTable) × (statement_of create_filters (understood schema_prefix_6 create_filters) ≡ create_filters) × (table_defined_by create_filters ≡ Ok (filters_at 0))
+pub filters_made : (command_of (understood schema_prefix_6 create_filters) ≡ CreateTable)
+    × (statement_of create_filters (understood schema_prefix_6 create_filters) ≡ create_filters)
+    × (table_defined_by create_filters ≡ Ok (filters_at 0))
 unfolding understood everything
 filters_made = (refl, refl, refl)
 

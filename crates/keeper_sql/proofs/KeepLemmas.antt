@@ -28,7 +28,8 @@ told_as false s t is told = absurd (let e = is in cc)
 pub holds_as : (b : Bool) (s : State) (t : Tables) → b ≡ true → IsDurable (Tells s) (MayLeave s) t → IsDurable (TellsAs b s) (MayLeave s) t
 holds_as b s t is holds = record { told = told_as b s t is holds.told; exact = holds.exact }
 
-pub told_after : (change : Change) (old new : State) (s : Tables) → HasCleanDisk new → Tells old s → is_well_formed s ≡ true → fits s change ≡ true → Commits (added_rows change) old new → IsReadBack change → LeavesOnlyTrees new new.now.trees
+pub told_after : (change : Change) (old new : State) (s : Tables) → HasCleanDisk new → Tells old s → is_well_formed s ≡ true
+    → fits s change ≡ true → Commits (added_rows change) old new → IsReadBack change → LeavesOnlyTrees new new.now.trees
     → IsDurable (Tells new) (MayLeave new) (after s change)
 told_after change old new s clean told formed fit done back exact =
     let all = tables_after change s old.now new.now told.holds told.tables formed fit back (done.puts told.holds.schema) in
@@ -37,7 +38,8 @@ told_after change old new s clean told formed fit done back exact =
       exact = λ x left. left.2 ∙ ap tables_of (exact left.0 left.1) ∙ all.1;
     }
 
-pub told_still : (old new : State) (s : Tables) → HasCleanDisk new → Tells old s → IsTrue new.is_open → new.now ≡ old.now → LeavesOnlyTrees new new.now.trees → IsDurable (Tells new) (MayLeave new) s
+pub told_still : (old new : State) (s : Tables) → HasCleanDisk new → Tells old s → IsTrue new.is_open → new.now ≡ old.now
+    → LeavesOnlyTrees new new.now.trees → IsDurable (Tells new) (MayLeave new) s
 told_still old new s clean told now same exact =
     let tables : tables_of new.now.trees ≡ s = ap (λ (d : Database). tables_of d.trees) same ∙ sym told.tables in
     record {
@@ -45,11 +47,13 @@ told_still old new s clean told now same exact =
       exact = λ x left. left.2 ∙ ap tables_of (exact left.0 left.1) ∙ tables;
     }
 
-pub left_after : (change : Change) (old new : State) (s : Tables) → Tells old s → is_well_formed s ≡ true → fits s change ≡ true → ((db : Trees) → new.may_leave db → (db ≡ old.now.trees) ⊎ IsAfter change old db)
+pub left_after : (change : Change) (old new : State) (s : Tables) → Tells old s → is_well_formed s ≡ true → fits s change ≡ true
+    → ((db : Trees) → new.may_leave db → (db ≡ old.now.trees) ⊎ IsAfter change old db)
     → (x : Tables) → MayLeave new x → (x ≡ s) ⊎ (x ≡ after s change)
 left_after change old new s told formed fit crash x left = elim (crash left.0 left.1) [
   | inl before ↦ inl (left.2 ∙ ap tables_of before ∙ sym told.tables)
-  | inr made ↦ inr (left.2 ∙ ap tables_of made.is ∙ (tables_after change s old.now made.db told.holds told.tables formed fit made.read (made.puts told.holds.schema)).1)
+  | inr made ↦ inr (left.2 ∙ ap tables_of made.is
+      ∙ (tables_after change s old.now made.db told.holds told.tables formed fit made.read (made.puts told.holds.schema)).1)
 ]
 
 no_meta : (change : Change) → added_rows change 0 ≡ []
@@ -62,7 +66,8 @@ no_meta (OneFilter filter) = refl
 bare : store_schema ≡ no_schema → ⊥
 bare e = let tables = ap (λ (s : Schema). s.tables) e in cc
 
-pub version_after : (change : Change) (old new : State) (s : Tables) (v : ℤ) → HasCleanDisk new → Tells old s → Commits (added_rows change) old new → HasVersion old v → HasVersion new v
+pub version_after : (change : Change) (old new : State) (s : Tables) (v : ℤ) → HasCleanDisk new → Tells old s
+    → Commits (added_rows change) old new → HasVersion old v → HasVersion new v
 version_after change old new s v clean told done has =
     let puts = done.puts told.holds.schema in
     let meta : new.now.trees 0 ≡ old.now.trees 0 = puts.meta ∙ ap (λ rows. put_all rows (old.now.trees 0)) (no_meta change) in
@@ -71,11 +76,13 @@ version_after change old new s v clean told done has =
       | inr row ↦ record { clean = clean; is_open = done.is_open; row = inr (puts.schema, meta ∙ row.1) }
     ]
 
-pub version_still : (old new : State) (v : ℤ) → HasCleanDisk new → IsTrue new.is_open → new.now ≡ old.now → HasVersion old v → HasVersion new v
+pub version_still : (old new : State) (v : ℤ) → HasCleanDisk new → IsTrue new.is_open → new.now ≡ old.now → HasVersion old v
+    → HasVersion new v
 version_still old new v clean now same has = record { clean = clean; is_open = now; row = rw same has.row }
 
 -- what a crash leaves after a transaction, and after a call that commits nothing
-pub left_old_or : (P : Trees → Type 0) (old mid new : State) → LeavesItsTrees old → Survives old mid P → Survives mid new (λ _. ⊥) → HasCleanDisk new → LeavesOldOr P old new
+pub left_old_or : (P : Trees → Type 0) (old mid new : State) → LeavesItsTrees old → Survives old mid P → Survives mid new (λ _. ⊥)
+    → HasCleanDisk new → LeavesOldOr P old new
 left_old_or P old mid new exact p q clean db left =
     let early : HasCleanDisk mid = omega (arith, q.clean) in
     elim (q.crash clean db left) [

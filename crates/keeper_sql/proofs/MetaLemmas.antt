@@ -30,7 +30,8 @@ use Rattle.sqlite_rules.proofs.TableLemmas.{has_put}
 use Rattle.keeper_sql.proofs.AnyInsert.{keeps_schema}
 use Rattle.keeper_sql.proofs.Casts.{cast_int, cast_null, same_value, went}
 
-meta_replaced : command_of (understood store_schema replace_meta) ≡ InsertOr 0 Replace (Values (lit (Int (pos 1)) ∷ lit Null ∷ lit (Int (pos 2)) ∷ []) 3) []
+meta_replaced : command_of (understood store_schema replace_meta)
+    ≡ InsertOr 0 Replace (Values (lit (Int (pos 1)) ∷ lit Null ∷ lit (Int (pos 2)) ∷ []) 3) []
 unfolding understood everything
 meta_replaced = refl
 
@@ -62,15 +63,19 @@ gone version = rw (value_cmp-Int (pos 1) (pos 1)) refl
 abbrev SameTrees : Trees → Trees → Type 0
 SameTrees old new = (new 1 ≡ old 1) × (new 2 ≡ old 2) × (new 3 ≡ old 3) × (new 4 ≡ old 4) × (new 5 ≡ old 5) × (new 6 ≡ old 6)
 
-put_step : (limit : Option ℕ) (keys : Keys) (db : Trees) (one : Written) → Puts (task_of limit keys) source db (Ok one) → (one.trees 0 ≡ put_row source (db 0)) × SameTrees db one.trees
+put_step : (limit : Option ℕ) (keys : Keys) (db : Trees) (one : Written) → Puts (task_of limit keys) source db (Ok one)
+    → (one.trees 0 ≡ put_row source (db 0)) × SameTrees db one.trees
 put_step limit keys db one h =
     let made = went h in
     let next = made.0 in
     let step = one_step store_schema keys db next (edit_of db (meta_at 0) [] Given 0 (source ∷ [])) refl made.1 in
-    let edit : edited db (edit_of db (meta_at 0) [] Given 0 (source ∷ [])) ≡ put_row source (db 0) = rw (cast_int (pos 1), cast_null, cast_int (pos 2)) refl in
+    let edit : edited db (edit_of db (meta_at 0) [] Given 0 (source ∷ [])) ≡ put_row source (db 0) =
+        rw (cast_int (pos 1), cast_null, cast_int (pos 2)) refl in
     let trees : one.trees ≡ next = ap (λ (w : Written). w.trees) (same_value made.2) in
     let at : (t : ℕ) → one.trees t ≡ next t = λ t. ap (λ (all : Trees). all t) trees in
-    (at 0 ∙ step.rows ∙ edit, (at 1 ∙ step.tables.1.0 (omega arith), at 2 ∙ step.tables.1.1.0 (omega arith), at 3 ∙ step.tables.1.1.1.0 (omega arith), at 4 ∙ step.tables.1.1.1.1.0 (omega arith), at 5 ∙ step.tables.1.1.1.1.1.0 (omega arith), at 6 ∙ step.tables.1.1.1.1.1.1.0 (omega arith)))
+    (at 0 ∙ step.rows ∙ edit, (at 1 ∙ step.tables.1.0 (omega arith), at 2 ∙ step.tables.1.1.0 (omega arith), at 3
+        ∙ step.tables.1.1.1.0 (omega arith), at 4 ∙ step.tables.1.1.1.1.0 (omega arith), at 5 ∙ step.tables.1.1.1.1.1.0 (omega arith), at 6
+        ∙ step.tables.1.1.1.1.1.1.0 (omega arith)))
 
 then_same : (a b d : Trees) → SameTrees a b → SameTrees b d → SameTrees a d
 then_same a b d p q = (q.0 ∙ p.0, q.1 ∙ p.1, q.2 ∙ p.2, q.3 ∙ p.3, q.4 ∙ p.4, q.5 ∙ p.5)
@@ -79,23 +84,28 @@ then_same a b d p q = (q.0 ∙ p.0, q.1 ∙ p.1, q.2 ∙ p.2, q.3 ∙ p.3, q.4 �
 abbrev IsWritten : Trees → Trees → Type 0
 IsWritten old new = (new 0 ≡ source ∷ []) × SameTrees old new
 
-put_empty : (limit : Option ℕ) (keys : Keys) (db : Trees) (one : Written) → db 0 ≡ [] → Puts (task_of limit keys) source db (Ok one) → IsWritten db one.trees
+put_empty : (limit : Option ℕ) (keys : Keys) (db : Trees) (one : Written) → db 0 ≡ [] → Puts (task_of limit keys) source db (Ok one)
+    → IsWritten db one.trees
 put_empty limit keys db one none h = let all = put_step limit keys db one h in (all.0 ∙ ap (put_row source) none, all.1)
 
 -- the old row goes, whatever else was found to conflict
-cleared : (limit : Option ℕ) (keys : Keys) (db : Trees) (version : ℤ) (one : Written) (x : Row) (more : List Row) → db 0 ≡ meta_row version ∷ [] → x ≡ Int (pos 1) ∷ []
+cleared : (limit : Option ℕ) (keys : Keys) (db : Trees) (version : ℤ) (one : Written) (x : Row) (more : List Row)
+    → db 0 ≡ meta_row version ∷ [] → x ≡ Int (pos 1) ∷ []
     → Clears (task_of limit keys) Replace source db (x ∷ more) (Ok one) → IsWritten db one.trees
 cleared limit keys db version one x more row is h =
     let went_on = went h in
     let mid = went_on.0 in
     let edit = edit_of db (meta_at 0) (ids_of (x ∷ more)) Given 0 [] in
     let step = one_step store_schema keys db mid edit refl went_on.1 in
-    let left : without_all (db 0) (ids_of (x ∷ more)) ≡ [] = rw (row, is) (ap (λ rows. without_all rows (ids_of more)) (gone version) ∙ none_left (ids_of more)) in
-    let same : SameTrees db mid = (step.tables.1.0 (omega arith), step.tables.1.1.0 (omega arith), step.tables.1.1.1.0 (omega arith), step.tables.1.1.1.1.0 (omega arith), step.tables.1.1.1.1.1.0 (omega arith), step.tables.1.1.1.1.1.1.0 (omega arith)) in
+    let left : without_all (db 0) (ids_of (x ∷ more)) ≡ [] =
+        rw (row, is) (ap (λ rows. without_all rows (ids_of more)) (gone version) ∙ none_left (ids_of more)) in
+    let same : SameTrees db mid = (step.tables.1.0 (omega arith), step.tables.1.1.0 (omega arith), step.tables.1.1.1.0 (omega arith),
+          step.tables.1.1.1.1.0 (omega arith), step.tables.1.1.1.1.1.0 (omega arith), step.tables.1.1.1.1.1.1.0 (omega arith)) in
     let put = put_empty limit keys mid one (step.rows ∙ left) went_on.2 in
     (put.0, then_same db mid one.trees same put.1)
 
-found_rows : (limit : Option ℕ) (keys : Keys) (db : Trees) (one : Written) (found : List Row) → IsMeta (db 0) → AreConflicts None [] (meta_at 0) (db 0) source found
+found_rows : (limit : Option ℕ) (keys : Keys) (db : Trees) (one : Written) (found : List Row) → IsMeta (db 0)
+    → AreConflicts None [] (meta_at 0) (db 0) source found
     → Clears (task_of limit keys) Replace source db found (Ok one) → IsWritten db one.trees
 found_rows limit keys db one [] (inl none) same h = put_empty limit keys db one none h
 found_rows limit keys db one [] (inr (version, row)) same h =
@@ -110,15 +120,19 @@ found_rows limit keys db one (x ∷ more) (inr (version, row)) same h =
     let here : met.0 ≡ meta_row version = elim only [ inl e ↦ e | inr never ↦ absurd never ] in
     cleared limit keys db version one x more row (met.3 ∙ ap (λ (r : Row). rowid r ∷ []) here) h
 
-judged : (limit : Option ℕ) (keys : Keys) (db : Trees) (one : Written) (verdict : Option Refusal) → IsMeta (db 0) → Judged (task_of limit keys) Replace [] source db verdict (Ok one) → IsWritten db one.trees
+judged : (limit : Option ℕ) (keys : Keys) (db : Trees) (one : Written) (verdict : Option Refusal) → IsMeta (db 0)
+    → Judged (task_of limit keys) Replace [] source db verdict (Ok one) → IsWritten db one.trees
 judged limit keys db one None meta h = found_rows limit keys db one h.0 meta h.1 h.2
 judged limit keys db one (Some why) meta h = absurd cc
 
 -- what was written is the row that was judged last
 abbrev IsJudgedLast : Option ℕ → Keys → Trees → Written → Type 0
-IsJudgedLast limit keys db w = (one : Written) × (verdict : Option Refusal) × Judged (task_of limit keys) Replace [] source db verdict (Ok one) × (w.trees ≡ one.trees)
+IsJudgedLast limit keys db w = (one : Written) × (verdict : Option Refusal)
+    × Judged (task_of limit keys) Replace [] source db verdict (Ok one) × (w.trees ≡ one.trees)
 
-judged_last : (limit : Option ℕ) (keys : Keys) (db : Trees) (w : Written) → InsertsOr (task_of limit keys) Replace [] (Values (lit (Int (pos 1)) ∷ lit Null ∷ lit (Int (pos 2)) ∷ []) 3) db (Ok w) → IsJudgedLast limit keys db w
+judged_last : (limit : Option ℕ) (keys : Keys) (db : Trees) (w : Written)
+    → InsertsOr (task_of limit keys) Replace [] (Values (lit (Int (pos 1)) ∷ lit Null ∷ lit (Int (pos 2)) ∷ []) 3) db (Ok w)
+    → IsJudgedLast limit keys db w
 judged_last limit keys db w h =
     let task = task_of limit keys in
     let given = went h in
@@ -144,11 +158,13 @@ written limit keys db w meta last = subst (IsWritten db) (sym last.3) (judged li
 abbrev IsPut : Trees → Type 0
 IsPut db = (rows : List Row) × (db 0 ≡ put_row source rows)
 
-put_anyhow : (limit : Option ℕ) (keys : Keys) (db : Trees) (one : Written) (found : List Row) → Clears (task_of limit keys) Replace source db found (Ok one) → IsPut one.trees
+put_anyhow : (limit : Option ℕ) (keys : Keys) (db : Trees) (one : Written) (found : List Row)
+    → Clears (task_of limit keys) Replace source db found (Ok one) → IsPut one.trees
 put_anyhow limit keys db one [] h = (db 0, (put_step limit keys db one h).0)
 put_anyhow limit keys db one (x ∷ more) h = let on = went h in (on.0 0, (put_step limit keys on.0 one on.2).0)
 
-judged_anyhow : (limit : Option ℕ) (keys : Keys) (db : Trees) (one : Written) (verdict : Option Refusal) → Judged (task_of limit keys) Replace [] source db verdict (Ok one) → IsPut one.trees
+judged_anyhow : (limit : Option ℕ) (keys : Keys) (db : Trees) (one : Written) (verdict : Option Refusal)
+    → Judged (task_of limit keys) Replace [] source db verdict (Ok one) → IsPut one.trees
 judged_anyhow limit keys db one None h = put_anyhow limit keys db one h.0 h.2
 judged_anyhow limit keys db one (Some why) h = absurd cc
 
@@ -172,7 +188,9 @@ wrote old new count has h =
     let command = InsertOr 0 Replace (Values (lit (Int (pos 1)) ∷ lit Null ∷ lit (Int (pos 2)) ∷ []) 3) [] in
     let w = runs_as replace_meta [] old new store_schema has command meta_replaced meta_plain count h in
     let text = statement_of replace_meta (understood store_schema replace_meta) in
-    let done = went (subst (λ s. Does old.step_limit (mode_of old) [] (record old.now { schema = s }) text None command (Ok (w.tally, new.now))) has w.changed) in
+    let done =
+        went (subst (λ s. Does old.step_limit (mode_of old) [] (record old.now { schema = s }) text None command (Ok (w.tally, new.now)))
+          has w.changed) in
     record {
       sound = w.sound;
       rows = done.0;
@@ -180,7 +198,8 @@ wrote old new count has h =
       now = ap (λ (p : Tally × Database). p.1) (same_value (went (went done.2).2).2);
     }
 
-pub writes_version : (old new : State) (count : ℕ) → old.now.schema ≡ store_schema → IsMeta (old.now.trees 0) → Executes replace_meta [] old new (Ok count) → WritesVersion (pos 2) old.now new.now
+pub writes_version : (old new : State) (count : ℕ) → old.now.schema ≡ store_schema → IsMeta (old.now.trees 0)
+    → Executes replace_meta [] old new (Ok count) → WritesVersion (pos 2) old.now new.now
 writes_version old new count has meta h =
     let w = wrote old new count has h in
     let put = written old.step_limit (mode_of old).keys old.now.trees w.rows meta w.last in

@@ -9,7 +9,8 @@ use Rattle.keeper_sql.specs.Store.{IsMeta, Makes, Settles, OpensTo, OpensAt, IsO
 bare : store_schema ≡ no_schema → ⊥
 bare e = let tables = ap (λ (s : Schema). s.tables) e in cc
 
-pub made_ours : (old mid : State) → IsOurs old.now → Makes schema_prefix_0 0 schema_prefix_7 7 old mid → (mid.now.schema ≡ store_schema) × IsMeta (mid.now.trees 0)
+pub made_ours : (old mid : State) → IsOurs old.now → Makes schema_prefix_0 0 schema_prefix_7 7 old mid
+    → (mid.now.schema ≡ store_schema) × IsMeta (mid.now.trees 0)
 made_ours old mid (inl (has, meta)) made =
     let now = made.kept has in
     (ap (λ (d : Database). d.schema) now ∙ has, subst (λ (d : Database). IsMeta (d.trees 0)) (sym now) meta)
@@ -29,12 +30,14 @@ opens_at v old mid new made settled = record {
     none = λ none.
         let all = made.made (record { schema = none; empty = tt }) in
         let w = settled.writes in
-        (settled.fresh all.empty.0, (w.docs ∙ all.empty.1.0, (w.notes ∙ all.empty.1.1.0, (w.queries ∙ all.empty.1.1.1.0, (w.runs ∙ all.empty.1.1.1.1.0, (w.picks ∙ all.empty.1.1.1.1.1.0, (w.filters ∙ all.empty.1.1.1.1.1.1.0, tt)))))));
+        (settled.fresh all.empty.0, (w.docs ∙ all.empty.1.0, (w.notes ∙ all.empty.1.1.0, (w.queries ∙ all.empty.1.1.1.0,
+                (w.runs ∙ all.empty.1.1.1.1.0, (w.picks ∙ all.empty.1.1.1.1.1.0, (w.filters ∙ all.empty.1.1.1.1.1.1.0, tt)))))));
   };
 }
 
 pub undone_then : (old mid new : State) → Makes schema_prefix_0 0 schema_prefix_7 7 old mid → Undone mid new → Undone old new
-undone_then old mid new made h = record { was_open = λ now. made.was_open (h.was_open now); committed = λ now. h.committed now ∙ made.committed }
+undone_then old mid new made h =
+    record { was_open = λ now. made.was_open (h.was_open now); committed = λ now. h.committed now ∙ made.committed }
 
 pub opens_still : (v : ℤ) (old mid new : State) → OpensAt v old mid → IsUnchanged mid new → OpensAt v old new
 opens_still v old mid new at same = record {

@@ -20,7 +20,8 @@ unfolding IsNotRun
 not_run_undone old new sql params e (inl h) = unchanged_undone old new h.1
 not_run_undone old new sql params e (inr h) = back_undone old new h.3
 
-show_undone : (old new : State) (sql : List ℕ) (c : Compiled) (params : Row) (e : Error) (what : Option Returning) → FailsToShow old new sql c params e what → Undone old new
+show_undone : (old new : State) (sql : List ℕ) (c : Compiled) (params : Row) (e : Error) (what : Option Returning)
+    → FailsToShow old new sql c params e what → Undone old new
 show_undone old new sql c params e None h = unchanged_undone old new h.3
 show_undone old new sql c params e (Some what) (inl h) = unchanged_undone old new h.1
 show_undone old new sql c params e (Some what) (inr h) = back_undone old new h.3
@@ -30,7 +31,8 @@ unfolding FailsToQuery
 fails_undone old new sql params e (inl h) = not_run_undone old new sql params e h
 fails_undone old new sql params e (inr h) = show_undone old new sql h.0 _ e h.0.returning h.2
 
-pub query_undone : (old new : State) (sql : List ℕ) (params : Row) (e : Error) → FailsToQuery sql params old new e ⊎ IsTooLate sql params old new e → Undone old new
+pub query_undone : (old new : State) (sql : List ℕ) (params : Row) (e : Error)
+    → FailsToQuery sql params old new e ⊎ IsTooLate sql params old new e → Undone old new
 query_undone old new sql params e (inl h) = fails_undone old new sql params e h
 query_undone old new sql params e (inr h) = unchanged_undone old new h.5
 

@@ -25,13 +25,15 @@ no_failure Full fault e = let x = e in cc
 no_failure Broken fault e = let x = e in cc
 no_failure Unstorable fault e = let x = e in cc
 
-not_run_rests : (old new : State) (sql : List ℕ) (params : Row) (e : Error) (fault : CompileError) → e ≡ SqlInputError fault → IsNotRun old new sql params e → IsUnchanged old new
+not_run_rests : (old new : State) (sql : List ℕ) (params : Row) (e : Error) (fault : CompileError) → e ≡ SqlInputError fault
+    → IsNotRun old new sql params e → IsUnchanged old new
 unfolding IsNotRun
 not_run_rests old new sql params e fault is (inl h) = h.1
 not_run_rests old new sql params e fault is (inr h) = absurd (no_failure h.0 fault (sym is ∙ h.1))
 
 -- it changes nothing
-pub refused_rests : {T : Type 0} (answer : Result T Error) (old new : State) (sql : List ℕ) (params : Row) → IsRefused answer → IfErr answer (λ e. (params : Row) → IsNotRun old new sql params e) → IsUnchanged old new
+pub refused_rests : {T : Type 0} (answer : Result T Error) (old new : State) (sql : List ℕ) (params : Row) → IsRefused answer
+    → IfErr answer (λ e. (params : Row) → IsNotRun old new sql params e) → IsUnchanged old new
 refused_rests (Ok x) old new sql params refused h = absurd refused
 refused_rests (Err e) old new sql params refused h = not_run_rests old new sql params e refused.0 refused.1 (h params)
 
@@ -54,7 +56,9 @@ not_run_fails old new sql params e none never (inl h) = elim h.0 [
 not_run_fails old new sql params e none never (inr h) = (e, h)
 
 -- a text that is no statement, and was not refused, failed
-pub not_refused_fails : (answer : Result Outline Error) (old new : State) (sql : List ℕ) → ((c : Compiled) → understood old.now.schema sql ≡ Ok c → ⊥)
-    → (IsRefused answer → ⊥) → IfOk answer (Outlines (understood old.now.schema sql)) → IfErr answer (λ e. (params : Row) → IsNotRun old new sql params e) → FailsAtTest old new
+pub not_refused_fails : (answer : Result Outline Error) (old new : State) (sql : List ℕ)
+    → ((c : Compiled) → understood old.now.schema sql ≡ Ok c → ⊥)
+    → (IsRefused answer → ⊥) → IfOk answer (Outlines (understood old.now.schema sql))
+        → IfErr answer (λ e. (params : Row) → IsNotRun old new sql params e) → FailsAtTest old new
 not_refused_fails (Ok s) old new sql none never shape err = absurd (no_outline (understood old.now.schema sql) s none shape)
 not_refused_fails (Err e) old new sql none never shape err = not_run_fails old new sql [] e none (λ fault is. never (fault, is)) (err [])

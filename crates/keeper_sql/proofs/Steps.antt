@@ -8,19 +8,24 @@ use Rattle.keeper_sql.specs.Schema.{store_schema}
 use Rattle.keeper_sql.specs.RowsAsValues.{only}
 use Rattle.keeper_sql.specs.Store.{put_all, Puts, RowsWritten, Undone}
 
-pub went_by : (rows : ℕ → List Row) (old new : State) (sql : List ℕ) (params : Row) (count : ℕ) → ExecutesInside 0 sql params old new (Ok count)
+pub went_by : (rows : ℕ → List Row) (old new : State) (sql : List ℕ) (params : Row) (count : ℕ)
+    → ExecutesInside 0 sql params old new (Ok count)
     → (old.now.schema ≡ store_schema → Executes sql params old new (Ok count) → Puts rows old.now new.now) → RowsWritten rows old new
 went_by rows old new sql params count h puts =
-    record { was_open = λ _. h.1.was_open; is_open = λ _. h.1.is_open; mode = h.1.mode; committed = h.1.committed_is; puts = λ has. puts has h.0 }
+    record { was_open = λ _. h.1.was_open; is_open = λ _. h.1.is_open; mode = h.1.mode; committed = h.1.committed_is;
+        puts = λ has. puts has h.0 }
 
 pub put_all_both : (xs ys tree : List Row) → put_all (xs ++ ys) tree ≡ put_all ys (put_all xs tree)
 put_all_both [] ys tree = refl
 put_all_both (x ∷ xs) ys tree = put_all_both xs ys (put_row x tree)
 
-one_tree : (a b both : List Row) (old mid new : List Row) → both ≡ a ++ b → mid ≡ put_all a old → new ≡ put_all b mid → new ≡ put_all both old
-one_tree a b both old mid new is first second = second ∙ ap (put_all b) first ∙ sym (put_all_both a b old) ∙ ap (λ rows. put_all rows old) (sym is)
+one_tree : (a b both : List Row) (old mid new : List Row) → both ≡ a ++ b → mid ≡ put_all a old → new ≡ put_all b mid
+    → new ≡ put_all both old
+one_tree a b both old mid new is first second = second ∙ ap (put_all b) first ∙ sym (put_all_both a b old)
+    ∙ ap (λ rows. put_all rows old) (sym is)
 
-pub puts_then : (a b both : ℕ → List Row) (old mid new : Database) → ((t : ℕ) → both t ≡ a t ++ b t) → Puts a old mid → Puts b mid new → Puts both old new
+pub puts_then : (a b both : ℕ → List Row) (old mid new : Database) → ((t : ℕ) → both t ≡ a t ++ b t) → Puts a old mid → Puts b mid new
+    → Puts both old new
 puts_then a b both old mid new is p q = record {
   sound = λ was. q.sound (p.sound was);
   schema = q.schema;
@@ -33,7 +38,8 @@ puts_then a b both old mid new is p q = record {
   filters = one_tree (a 6) (b 6) (both 6) _ _ _ (is 6) p.filters q.filters;
 }
 
-pub went_then : (a b both : ℕ → List Row) (old mid new : State) → ((t : ℕ) → both t ≡ a t ++ b t) → RowsWritten a old mid → RowsWritten b mid new → RowsWritten both old new
+pub went_then : (a b both : ℕ → List Row) (old mid new : State) → ((t : ℕ) → both t ≡ a t ++ b t) → RowsWritten a old mid
+    → RowsWritten b mid new → RowsWritten both old new
 went_then a b both old mid new is p q = record {
   was_open = λ now. p.was_open (q.was_open now);
   is_open = λ was. q.is_open (p.is_open was);
@@ -62,7 +68,8 @@ only_none k t = none (t == k)
 pub puts_none : (rows : ℕ → List Row) (db : Database) → ((t : ℕ) → rows t ≡ []) → db.schema ≡ store_schema → Puts rows db db
 puts_none rows db none has =
     let same : (t : ℕ) → db.trees t ≡ put_all (rows t) (db.trees t) = λ t. ap (λ rows. put_all rows (db.trees t)) (sym (none t)) in
-    record { sound = λ was. was; schema = has; meta = same 0; docs = same 1; notes = same 2; queries = same 3; runs = same 4; picks = same 5; filters = same 6 }
+    record { sound = λ was. was; schema = has; meta = same 0; docs = same 1; notes = same 2; queries = same 3; runs = same 4;
+        picks = same 5; filters = same 6 }
 
 pub went_none : (rows : ℕ → List Row) (s : State) → ((t : ℕ) → rows t ≡ []) → s.in_transaction ≡ true → RowsWritten rows s s
 went_none rows s none inside =

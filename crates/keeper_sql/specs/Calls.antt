@@ -42,7 +42,8 @@ module _ {S : Type 0} (g : Ghosts S) (old new : Held S) where
 
   -- a call in a transaction returns this if it succeeds
   abbrev pub Gives : {T : Type 0} → Result T Error → (T → State → State → Type 0) → Type 0
-  Gives result Step = HasCleanDisk (state g new) → IsTrue (state g old).in_transaction → IfOk result (λ x. Step x (state g old) (state g new))
+  Gives result Step = HasCleanDisk (state g new) → IsTrue (state g old).in_transaction
+      → IfOk result (λ x. Step x (state g old) (state g new))
 
   -- this holds over a store of ours, or over none
   abbrev pub OverOurs : Type 0 → Type 0

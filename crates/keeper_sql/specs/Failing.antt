@@ -1,5 +1,6 @@
 -- How the calls of this crate fail: by which statement, and between which states.
-use Rattle.std.specs.Prelude.{◌≡◌, ◌≢◌, ◌⊎◌, ℕ, ℤ, pos, ◌<◌, ◌≤◌, true, List, [], ◌∷◌, length, get_or, slice_get, Some, IsTrue, OnOk, IfErr, Result, Err}
+use Rattle.std.specs.Prelude.{◌≡◌, ◌≢◌, ◌⊎◌, ℕ, ℤ, pos, ◌<◌, ◌≤◌, true, List, [], ◌∷◌, length, get_or, slice_get, Some, IsTrue, OnOk, IfErr}
+use Rattle.std.specs.Prelude.{Result, Err}
 use Rattle.sqlite_value.specs.Order.{Row, column}
 use Rattle.sqlite_trees.specs.declared.store.Store.{Ghosts}
 use Rattle.sqlite.specs.declared.error.Error.{Error}
@@ -9,7 +10,8 @@ use Rattle.sqlite.specs.declared.types.Type.{«Type» as SqlType}
 use Rattle.sqlite.specs.Values.{type_of}
 use Rattle.sqlite.specs.Held.{Held, state}
 use Rattle.sqlite.specs.Effect.{Database}
-use Rattle.sqlite.specs.State.{State, HasCleanDisk, Survives, IsRolledBack, IsUnchanged, Fails, ExecutesInside, FailsToQuery, IsTooLate, Shown}
+use Rattle.sqlite.specs.State.{State, HasCleanDisk, Survives, IsRolledBack, IsUnchanged, Fails, ExecutesInside, FailsToQuery, IsTooLate}
+use Rattle.sqlite.specs.State.{Shown}
 use Rattle.sqlite.specs.Steps.{FailsToCommit}
 use Rattle.tap_rows.specs.declared.change.Change.{Change}
 use Rattle.tap_rows.specs.declared.change.Change.TheVariants.{Docs, OneNote, OneQuery, RunDone, OneFilter}
@@ -20,7 +22,8 @@ use Rattle.keeper_core.specs.declared.fault.AttachFault.TheVariants as attach
 use Rattle.keeper_sql.specs.Store.{IsOurs, OpensTo, IsAfterOpen}
 use Rattle.keeper_sql.specs.Schema.{create_meta, create_docs, create_notes, create_queries, create_runs, create_picks, create_filters}
 use Rattle.keeper_sql.specs.Schema.{select_docs, select_notes, select_queries, select_runs, select_picks, select_filters}
-use Rattle.keeper_sql.specs.Schema.{select_meta, replace_meta, insert_doc, insert_note, insert_query, insert_run, insert_pick, insert_filter}
+use Rattle.keeper_sql.specs.Schema.{select_meta, replace_meta, insert_doc, insert_note, insert_query, insert_run, insert_pick}
+use Rattle.keeper_sql.specs.Schema.{insert_filter}
 use Rattle.keeper_sql.specs.RowsAsValues.{version_kinds, given_doc, given_note, given_query, given_run, given_pick, given_filter}
 use Rattle.keeper_sql.specs.RowsAsValues.{doc_kinds, note_kinds, query_kinds, run_kinds, pick_kinds, filter_kinds}
 
@@ -47,7 +50,8 @@ abbrev pub FailsToInsertRows : Change → State → State → Error → Type 0
 FailsToInsertRows (Docs docs) old new e = FailsToInsert insert_doc given_doc docs old new e
 FailsToInsertRows (OneNote note) old new e = FailsToWrite insert_note (given_note note) old new e
 FailsToInsertRows (OneQuery query) old new e = FailsToWrite insert_query (given_query query) old new e
-FailsToInsertRows (RunDone run picks) old new e = FailsToWrite insert_run (given_run run) old new e ⊎ FailsToInsert insert_pick given_pick picks old new e
+FailsToInsertRows (RunDone run picks) old new e = FailsToWrite insert_run (given_run run) old new e
+    ⊎ FailsToInsert insert_pick given_pick picks old new e
 FailsToInsertRows (OneFilter filter) old new e = FailsToWrite insert_filter (given_filter filter) old new e
 
 -- the texts that make the tables
@@ -85,7 +89,8 @@ FailsToTakeRows kinds rows e = IsShortage e ⊎ ((row : Row) × IsOneOf rows row
 -- a query without parameters failed with this error, or one of the rows that it shows isn't of these types
 abbrev pub FailsToRead : List ℕ → List SqlType → State → State → Error → Type 0
 FailsToRead sql kinds old new e =
-    (FailsToQuery sql [] old new e ⊎ IsTooLate sql [] old new e) ⊎ ((rows : List Row) × Shown sql [] old new rows × FailsToTakeRows kinds rows e)
+    (FailsToQuery sql [] old new e ⊎ IsTooLate sql [] old new e)
+      ⊎ ((rows : List Row) × Shown sql [] old new rows × FailsToTakeRows kinds rows e)
 
 -- the version was not read, or not raised
 abbrev pub FailsToSettle : State → State → Error → Type 0
@@ -94,7 +99,8 @@ FailsToSettle old new e = FailsToRead select_meta version_kinds old new e ⊎ Fa
 -- the queries that read the tables, with the types of what they show
 abbrev pub table_reads : List (List ℕ × List SqlType)
 table_reads =
-    (select_docs, doc_kinds) ∷ (select_notes, note_kinds) ∷ (select_queries, query_kinds) ∷ (select_runs, run_kinds) ∷ (select_picks, pick_kinds)
+    (select_docs, doc_kinds) ∷ (select_notes, note_kinds) ∷ (select_queries, query_kinds) ∷ (select_runs, run_kinds)
+      ∷ (select_picks, pick_kinds)
     ∷ (select_filters, filter_kinds) ∷ []
 
 -- one of the tables was not read
@@ -145,7 +151,8 @@ module _ {S : Type 0} (g : Ghosts S) (old new : Held S) where
   -- a statement in it failed, and then it was rolled back
   abbrev pub FailsInside : (State → State → Error → Type 0) → Error → Type 0
   FailsInside How e =
-      (end : Held S) × FailsLater g (begun old) end How e × IsRolledBack (state g end) (state g new) × Survives (state g end) (state g new) (λ _. ⊥)
+      (end : Held S) × FailsLater g (begun old) end How e × IsRolledBack (state g end) (state g new)
+        × Survives (state g end) (state g new) (λ _. ⊥)
 
   -- its commit failed
   abbrev pub FailsAtCommit : Error → Type 0

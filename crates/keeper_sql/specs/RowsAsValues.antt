@@ -104,7 +104,8 @@ query_in r = record {
 
 -- a run as it is read, by the same rules as a document
 abbrev pub run_in : Row → RunRow
-run_in r = record { num = number_in_value (column r 0); query = record { 0 = number_in_value (column r 2) }; moment = integer_of (column r 3) }
+run_in r =
+    record { num = number_in_value (column r 0); query = record { 0 = number_in_value (column r 2) }; moment = integer_of (column r 3) }
 
 -- a pick as it is read, by the same rules as a document
 abbrev pub pick_in : Row → Pick
@@ -118,7 +119,8 @@ pick_in r = record {
 
 -- a filter as it is read, by the same rules as a document
 abbrev pub filter_in : Row → FilterRow
-filter_in r = record { num = number_in_value (column r 0); owner = bytes_of (column r 2); source = bytes_of (column r 3); arrival = integer_of (column r 4) }
+filter_in r = record { num = number_in_value (column r 0); owner = bytes_of (column r 2); source = bytes_of (column r 3);
+      arrival = integer_of (column r 4) }
 
 -- the version in the row of `meta`, if there is one
 abbrev pub version_in : List Row → Option ℤ
@@ -201,7 +203,8 @@ query_shown r = record {
 }
 
 abbrev pub run_shown : Row → RunRow
-run_shown r = record { num = number_in_value (column r 0); query = record { 0 = number_in_value (column r 1) }; moment = integer_of (column r 2) }
+run_shown r =
+    record { num = number_in_value (column r 0); query = record { 0 = number_in_value (column r 1) }; moment = integer_of (column r 2) }
 
 abbrev pub pick_shown : Row → Pick
 pick_shown r = record {
@@ -213,7 +216,8 @@ pick_shown r = record {
 }
 
 abbrev pub filter_shown : Row → FilterRow
-filter_shown r = record { num = number_in_value (column r 0); owner = bytes_of (column r 1); source = bytes_of (column r 2); arrival = integer_of (column r 3) }
+filter_shown r = record { num = number_in_value (column r 0); owner = bytes_of (column r 1); source = bytes_of (column r 2);
+      arrival = integer_of (column r 3) }
 
 -- the tables that the trees of the store's schema hold
 abbrev pub tables_in : Trees → Tables

@@ -4,9 +4,11 @@ ghost use Rattle.std.specs.Prelude.{◌≡◌, ◌<◌, ◌^◌, [], ◌∷◌, 
 ghost use Rattle.sqlite.specs.Values.{bound};
 ghost use Rattle.keeper_sql.specs.RowsAsValues.{given_doc, doc_in, doc_kinds, doc_shown, as_kept};
 ghost use Rattle.keeper_sql.specs.Store.{only, RowsWritten};
-ghost use Rattle.keeper_sql.specs.Calls.{AreRowsOf, CommitsNothing, Does, DoesOrUndoes, Reads, ReadsOnly, ReadsOrUndoes};
+ghost use Rattle.keeper_sql.specs.Calls.{AreRowsOf, CommitsNothing, Does, DoesOrUndoes, Reads};
+ghost use Rattle.keeper_sql.specs.Calls.{ReadsOnly, ReadsOrUndoes};
 ghost use Rattle.keeper_sql.specs.Schema.{insert_doc, select_docs};
-ghost use Rattle.keeper_sql.specs.Failing.{FailsBy, FailsToInsert, FailsToRead, FailsToWrite, FailsWithin};
+ghost use Rattle.keeper_sql.specs.Failing.{FailsBy, FailsToInsert, FailsToRead, FailsToWrite};
+ghost use Rattle.keeper_sql.specs.Failing.{FailsWithin};
 
 use crate::reading::{TableRow, bytes, integer, no_memory, number, read_rows};
 use sqlite::types::ValueRef;
@@ -30,10 +32,12 @@ fn doc_values(doc: &Doc) -> [ValueRef<'_>; 3]
 /// Inserts the row of a document.
 pub fn insert_doc<S: Alter>(tx: &mut Transaction<'_, S>, doc: &Doc) -> Result<(), Error>
     ensures same_reference { tx.new.conn.ghost_name ≡ tx.old.conn.ghost_name }
-    ensures ok { Does S.Store tx.old.conn.now tx.new.conn.now result (RowsWritten (only 1 (as_kept (given_doc doc.now) ∷ []))) }
+    ensures ok { Does S.Store tx.old.conn.now tx.new.conn.now result
+        (RowsWritten (only 1 (as_kept (given_doc doc.now) ∷ []))) }
     ensures err { DoesOrUndoes S.Store tx.old.conn.now tx.new.conn.now result }
     ensures survives { CommitsNothing S.Store tx.old.conn.now tx.new.conn.now }
-    ensures fails { FailsBy S.Store tx.old.conn.now tx.new.conn.now result (FailsToWrite insert_doc (given_doc doc.now)) }
+    ensures fails { FailsBy S.Store tx.old.conn.now tx.new.conn.now result
+        (FailsToWrite insert_doc (given_doc doc.now)) }
     ensures read { OnOk result (doc_in (as_kept (given_doc doc.now)) ≡ doc.now) }
 {
     let values = doc_values(doc);
@@ -49,10 +53,12 @@ pub fn insert_doc<S: Alter>(tx: &mut Transaction<'_, S>, doc: &Doc) -> Result<()
 /// Inserts the rows of the documents, in their order.
 pub fn insert_docs<S: Alter>(tx: &mut Transaction<'_, S>, docs: &[Doc]) -> Result<(), Error>
     ensures same_reference { tx.new.conn.ghost_name ≡ tx.old.conn.ghost_name }
-    ensures ok { Does S.Store tx.old.conn.now tx.new.conn.now result (RowsWritten (only 1 (map (λ x. as_kept (given_doc x)) docs.now))) }
+    ensures ok { Does S.Store tx.old.conn.now tx.new.conn.now result
+        (RowsWritten (only 1 (map (λ x. as_kept (given_doc x)) docs.now))) }
     ensures err { DoesOrUndoes S.Store tx.old.conn.now tx.new.conn.now result }
     ensures survives { CommitsNothing S.Store tx.old.conn.now tx.new.conn.now }
-    ensures fails { FailsWithin S.Store tx.old.conn.now tx.new.conn.now result (FailsToInsert insert_doc given_doc docs.now) }
+    ensures fails { FailsWithin S.Store tx.old.conn.now tx.new.conn.now result
+        (FailsToInsert insert_doc given_doc docs.now) }
     ensures read { OnOk result (map doc_in (map (λ x. as_kept (given_doc x)) docs.now) ≡ docs.now) }
 {
     'adds: for doc in docs {
@@ -85,7 +91,8 @@ pub fn read_docs<S: Alter>(alloc: Global, tx: &mut Transaction<'_, S>) -> Result
     ensures read { Reads S.Store tx.old.conn.now tx.new.conn.now result (AreRowsOf 1 doc_in) }
     ensures err { ReadsOrUndoes S.Store tx.old.conn.now tx.new.conn.now result }
     ensures survives { CommitsNothing S.Store tx.old.conn.now tx.new.conn.now }
-    ensures fails { FailsBy S.Store tx.old.conn.now tx.new.conn.now result (FailsToRead select_docs doc_kinds) }
+    ensures fails { FailsBy S.Store tx.old.conn.now tx.new.conn.now result
+        (FailsToRead select_docs doc_kinds) }
 {
     match tx.query_all("SELECT num, arrival, body FROM docs ORDER BY num", &[]) {
         Ok(shown) => read_rows(alloc, shown),

@@ -2,9 +2,11 @@
 
 ghost use Rattle.std.specs.Prelude.{◌≡◌, ◌<◌, ◌^◌, [], ◌∷◌, OnOk};
 ghost use Rattle.sqlite.specs.Values.{bound};
-ghost use Rattle.keeper_sql.specs.RowsAsValues.{given_filter, filter_in, filter_kinds, filter_shown, as_kept};
+ghost use Rattle.keeper_sql.specs.RowsAsValues.{given_filter, filter_in, filter_kinds};
+ghost use Rattle.keeper_sql.specs.RowsAsValues.{filter_shown, as_kept};
 ghost use Rattle.keeper_sql.specs.Store.{only, RowsWritten};
-ghost use Rattle.keeper_sql.specs.Calls.{AreRowsOf, CommitsNothing, Does, DoesOrUndoes, Reads, ReadsOnly, ReadsOrUndoes};
+ghost use Rattle.keeper_sql.specs.Calls.{AreRowsOf, CommitsNothing, Does, DoesOrUndoes, Reads};
+ghost use Rattle.keeper_sql.specs.Calls.{ReadsOnly, ReadsOrUndoes};
 ghost use Rattle.keeper_sql.specs.Schema.{insert_filter, select_filters};
 ghost use Rattle.keeper_sql.specs.Failing.{FailsBy, FailsToRead, FailsToWrite};
 
@@ -30,10 +32,12 @@ fn filter_values(filter: &FilterRow) -> [ValueRef<'_>; 4]
 
 pub fn insert_filter<S: Alter>(tx: &mut Transaction<'_, S>, filter: &FilterRow) -> Result<(), Error>
     ensures same_reference { tx.new.conn.ghost_name ≡ tx.old.conn.ghost_name }
-    ensures ok { Does S.Store tx.old.conn.now tx.new.conn.now result (RowsWritten (only 6 (as_kept (given_filter filter.now) ∷ []))) }
+    ensures ok { Does S.Store tx.old.conn.now tx.new.conn.now result
+        (RowsWritten (only 6 (as_kept (given_filter filter.now) ∷ []))) }
     ensures err { DoesOrUndoes S.Store tx.old.conn.now tx.new.conn.now result }
     ensures survives { CommitsNothing S.Store tx.old.conn.now tx.new.conn.now }
-    ensures fails { FailsBy S.Store tx.old.conn.now tx.new.conn.now result (FailsToWrite insert_filter (given_filter filter.now)) }
+    ensures fails { FailsBy S.Store tx.old.conn.now tx.new.conn.now result
+        (FailsToWrite insert_filter (given_filter filter.now)) }
     ensures read { OnOk result (filter_in (as_kept (given_filter filter.now)) ≡ filter.now) }
 {
     let values = filter_values(filter);
@@ -75,7 +79,8 @@ pub fn read_filters<S: Alter>(
     ensures read { Reads S.Store tx.old.conn.now tx.new.conn.now result (AreRowsOf 6 filter_in) }
     ensures err { ReadsOrUndoes S.Store tx.old.conn.now tx.new.conn.now result }
     ensures survives { CommitsNothing S.Store tx.old.conn.now tx.new.conn.now }
-    ensures fails { FailsBy S.Store tx.old.conn.now tx.new.conn.now result (FailsToRead select_filters filter_kinds) }
+    ensures fails { FailsBy S.Store tx.old.conn.now tx.new.conn.now result
+        (FailsToRead select_filters filter_kinds) }
 {
     match tx.query_all(
         "SELECT num, owner, source, arrival FROM filters ORDER BY num",

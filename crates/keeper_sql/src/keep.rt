@@ -24,10 +24,12 @@ pub fn is_memory(error: &Error) -> bool
 pub fn is_settled<S: Alter>(conn: &Connection<S>) -> bool
     requires { IsIdle (state S.Store conn.now) }
     ensures live { IsLive (state S.Store conn.now) }
-    ensures committed { IsTrue (state S.Store conn.now).is_open → (state S.Store conn.now).now ≡ (state S.Store conn.now).committed }
+    ensures committed { IsTrue (state S.Store conn.now).is_open
+        → (state S.Store conn.now).now ≡ (state S.Store conn.now).committed }
     ensures settled { IsSettled (state S.Store conn.now) }
     ensures holds { IsTrue result }
-    ensures exact { IsTrue (state S.Store conn.now).is_open → LeavesItsTrees (state S.Store conn.now) }
+    ensures exact { IsTrue (state S.Store conn.now).is_open
+        → LeavesItsTrees (state S.Store conn.now) }
 {
     // For the clause `live`.
     let _schema = conn.schema();
@@ -41,14 +43,18 @@ fn is_refused(answer: Result<Statement, Error>) -> bool
     matches!(answer, Err(Error::SqlInputError(_)))
 }
 
-// Is the store still open? A connection doesn't say so itself. One that is open refuses this text, which takes no memory.
+// Is the store still open? A connection doesn't say so itself. One that is open refuses this text,
+// which takes no memory.
 pub fn is_still_open<S: Alter>(conn: &mut Connection<S>) -> bool
     requires { IsIdle (state S.Store conn.old) }
     ensures ended { IsIdle (state S.Store conn.new) }
-    ensures same { HasCleanDisk (state S.Store conn.new) → IsTrue result → IsUnchanged (state S.Store conn.old) (state S.Store conn.new) }
-    ensures exact { HasCleanDisk (state S.Store conn.new) → IsTrue result → LeavesItsTrees (state S.Store conn.new) }
+    ensures same { HasCleanDisk (state S.Store conn.new) → IsTrue result
+        → IsUnchanged (state S.Store conn.old) (state S.Store conn.new) }
+    ensures exact { HasCleanDisk (state S.Store conn.new) → IsTrue result
+        → LeavesItsTrees (state S.Store conn.new) }
     ensures survives { Survives (state S.Store conn.old) (state S.Store conn.new) (λ _. ⊥) }
-    ensures fails { HasCleanDisk (state S.Store conn.new) → result ≡ false → FailsAtTest (state S.Store conn.old) (state S.Store conn.new) }
+    ensures fails { HasCleanDisk (state S.Store conn.new) → result ≡ false
+        → FailsAtTest (state S.Store conn.old) (state S.Store conn.new) }
 {
     is_refused(conn.prepare("DROP")) && is_settled(conn)
 }
@@ -58,8 +64,10 @@ pub fn is_only_memory<S: Alter>(conn: &mut Connection<S>, error: &Error) -> bool
     requires { IsIdle (state S.Store conn.old) }
     ensures ended { IsIdle (state S.Store conn.new) }
     ensures memory { IsTrue result → error.now ≡ Error.SqliteFailure ErrorCode.OutOfMemory }
-    ensures same { HasCleanDisk (state S.Store conn.new) → IsTrue result → IsUnchanged (state S.Store conn.old) (state S.Store conn.new) }
-    ensures exact { HasCleanDisk (state S.Store conn.new) → IsTrue result → LeavesItsTrees (state S.Store conn.new) }
+    ensures same { HasCleanDisk (state S.Store conn.new) → IsTrue result
+        → IsUnchanged (state S.Store conn.old) (state S.Store conn.new) }
+    ensures exact { HasCleanDisk (state S.Store conn.new) → IsTrue result
+        → LeavesItsTrees (state S.Store conn.new) }
     ensures survives { Survives (state S.Store conn.old) (state S.Store conn.new) (λ _. ⊥) }
     ensures fails { HasCleanDisk (state S.Store conn.new) → result ≡ false
         → IsNotOnlyMemory (state S.Store conn.old) (state S.Store conn.new) error.now }
@@ -67,20 +75,26 @@ pub fn is_only_memory<S: Alter>(conn: &mut Connection<S>, error: &Error) -> bool
     is_memory(error) && is_still_open(conn)
 }
 
-/// Commits all rows of a change, or none. `Memory` if the commit was out of memory and the store is open, else `Failed`.
+/// Commits all rows of a change, or none. `Memory` if the commit was out of memory and the store is
+/// open, else `Failed`.
 pub fn keep<S: Alter>(conn: &mut Connection<S>, change: &Change) -> Result<(), CommitFault>
     requires { IsIdle (state S.Store conn.old) }
     ensures ended { IsIdle (state S.Store conn.new) }
     ensures honest { HasCleanDisk (state S.Store conn.new) → HasCleanDisk (state S.Store conn.old) }
-    ensures ok { HasCleanDisk (state S.Store conn.new) → OnOk result (Commits (added_rows change.now) (state S.Store conn.old) (state S.Store conn.new)) }
+    ensures ok { HasCleanDisk (state S.Store conn.new) → OnOk result
+        (Commits (added_rows change.now) (state S.Store conn.old) (state S.Store conn.new)) }
     ensures read { OnOk result (IsReadBack change.now) }
-    ensures exact { HasCleanDisk (state S.Store conn.new) → OnOk result (LeavesItsTrees (state S.Store conn.new)) }
+    ensures exact { HasCleanDisk (state S.Store conn.new)
+        → OnOk result (LeavesItsTrees (state S.Store conn.new)) }
     ensures memory { HasCleanDisk (state S.Store conn.new) → result ≡ Err CommitFault.Memory
-        → IsTrue (state S.Store conn.new).is_open × ((state S.Store conn.new).now ≡ (state S.Store conn.old).now)
+        → IsTrue (state S.Store conn.new).is_open
+            × ((state S.Store conn.new).now ≡ (state S.Store conn.old).now)
         × LeavesItsTrees (state S.Store conn.new) }
     ensures crash { HasCleanDisk (state S.Store conn.new) → IsTrue (state S.Store conn.old).is_open
-        → LeavesOldOr (IsAfter change.now (state S.Store conn.old)) (state S.Store conn.old) (state S.Store conn.new) }
-    ensures fails { HasCleanDisk (state S.Store conn.new) → IfErr result (FailsToKeep S.Store conn.old conn.new change.now) }
+        → LeavesOldOr (IsAfter change.now (state S.Store conn.old)) (state S.Store conn.old)
+            (state S.Store conn.new) }
+    ensures fails { HasCleanDisk (state S.Store conn.new)
+        → IfErr result (FailsToKeep S.Store conn.old conn.new change.now) }
 {
     // For its clauses, which the error needs.
     let _settled = is_settled(conn);

@@ -2,9 +2,11 @@
 
 ghost use Rattle.std.specs.Prelude.{◌≡◌, ◌<◌, ◌^◌, [], ◌∷◌, OnOk};
 ghost use Rattle.sqlite.specs.Values.{bound};
-ghost use Rattle.keeper_sql.specs.RowsAsValues.{given_note, note_in, note_kinds, note_shown, as_kept};
+ghost use Rattle.keeper_sql.specs.RowsAsValues.{given_note, note_in, note_kinds, note_shown};
+ghost use Rattle.keeper_sql.specs.RowsAsValues.{as_kept};
 ghost use Rattle.keeper_sql.specs.Store.{only, RowsWritten};
-ghost use Rattle.keeper_sql.specs.Calls.{AreRowsOf, CommitsNothing, Does, DoesOrUndoes, Reads, ReadsOnly, ReadsOrUndoes};
+ghost use Rattle.keeper_sql.specs.Calls.{AreRowsOf, CommitsNothing, Does, DoesOrUndoes, Reads};
+ghost use Rattle.keeper_sql.specs.Calls.{ReadsOnly, ReadsOrUndoes};
 ghost use Rattle.keeper_sql.specs.Schema.{insert_note, select_notes};
 ghost use Rattle.keeper_sql.specs.Failing.{FailsBy, FailsToRead, FailsToWrite};
 
@@ -34,15 +36,18 @@ fn note_values(note: &Note) -> [ValueRef<'_>; 7]
 /// Inserts the row of a note.
 pub fn insert_note<S: Alter>(tx: &mut Transaction<'_, S>, note: &Note) -> Result<(), Error>
     ensures same_reference { tx.new.conn.ghost_name ≡ tx.old.conn.ghost_name }
-    ensures ok { Does S.Store tx.old.conn.now tx.new.conn.now result (RowsWritten (only 2 (as_kept (given_note note.now) ∷ []))) }
+    ensures ok { Does S.Store tx.old.conn.now tx.new.conn.now result
+        (RowsWritten (only 2 (as_kept (given_note note.now) ∷ []))) }
     ensures err { DoesOrUndoes S.Store tx.old.conn.now tx.new.conn.now result }
     ensures survives { CommitsNothing S.Store tx.old.conn.now tx.new.conn.now }
-    ensures fails { FailsBy S.Store tx.old.conn.now tx.new.conn.now result (FailsToWrite insert_note (given_note note.now)) }
+    ensures fails { FailsBy S.Store tx.old.conn.now tx.new.conn.now result
+        (FailsToWrite insert_note (given_note note.now)) }
     ensures read { OnOk result (note_in (as_kept (given_note note.now)) ≡ note.now) }
 {
     let values = note_values(note);
     match tx.execute(
-        "INSERT INTO notes (num, doc, author, kind, value, arrival, body) VALUES (?1, ?2, ?3, ?4, ?5, ?6, ?7)",
+        "INSERT INTO notes (num, doc, author, kind, value, arrival, body) VALUES (?1, ?2, ?3, ?4, \
+        ?5, ?6, ?7)",
         &values,
     ) {
         Ok(_) => Ok(()),
@@ -82,7 +87,8 @@ pub fn read_notes<S: Alter>(alloc: Global, tx: &mut Transaction<'_, S>) -> Resul
     ensures read { Reads S.Store tx.old.conn.now tx.new.conn.now result (AreRowsOf 2 note_in) }
     ensures err { ReadsOrUndoes S.Store tx.old.conn.now tx.new.conn.now result }
     ensures survives { CommitsNothing S.Store tx.old.conn.now tx.new.conn.now }
-    ensures fails { FailsBy S.Store tx.old.conn.now tx.new.conn.now result (FailsToRead select_notes note_kinds) }
+    ensures fails { FailsBy S.Store tx.old.conn.now tx.new.conn.now result
+        (FailsToRead select_notes note_kinds) }
 {
     match tx.query_all(
         "SELECT num, doc, author, kind, value, arrival, body FROM notes ORDER BY num",

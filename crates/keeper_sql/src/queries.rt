@@ -2,9 +2,11 @@
 
 ghost use Rattle.std.specs.Prelude.{◌≡◌, ◌<◌, ◌^◌, [], ◌∷◌, OnOk};
 ghost use Rattle.sqlite.specs.Values.{bound};
-ghost use Rattle.keeper_sql.specs.RowsAsValues.{given_query, query_in, query_kinds, query_shown, as_kept};
+ghost use Rattle.keeper_sql.specs.RowsAsValues.{given_query, query_in, query_kinds, query_shown};
+ghost use Rattle.keeper_sql.specs.RowsAsValues.{as_kept};
 ghost use Rattle.keeper_sql.specs.Store.{only, RowsWritten};
-ghost use Rattle.keeper_sql.specs.Calls.{AreRowsOf, CommitsNothing, Does, DoesOrUndoes, Reads, ReadsOnly, ReadsOrUndoes};
+ghost use Rattle.keeper_sql.specs.Calls.{AreRowsOf, CommitsNothing, Does, DoesOrUndoes, Reads};
+ghost use Rattle.keeper_sql.specs.Calls.{ReadsOnly, ReadsOrUndoes};
 ghost use Rattle.keeper_sql.specs.Schema.{insert_query, select_queries};
 ghost use Rattle.keeper_sql.specs.Failing.{FailsBy, FailsToRead, FailsToWrite};
 
@@ -31,10 +33,12 @@ fn query_values(query: &QueryRow) -> [ValueRef<'_>; 5]
 
 pub fn insert_query<S: Alter>(tx: &mut Transaction<'_, S>, query: &QueryRow) -> Result<(), Error>
     ensures same_reference { tx.new.conn.ghost_name ≡ tx.old.conn.ghost_name }
-    ensures ok { Does S.Store tx.old.conn.now tx.new.conn.now result (RowsWritten (only 3 (as_kept (given_query query.now) ∷ []))) }
+    ensures ok { Does S.Store tx.old.conn.now tx.new.conn.now result
+        (RowsWritten (only 3 (as_kept (given_query query.now) ∷ []))) }
     ensures err { DoesOrUndoes S.Store tx.old.conn.now tx.new.conn.now result }
     ensures survives { CommitsNothing S.Store tx.old.conn.now tx.new.conn.now }
-    ensures fails { FailsBy S.Store tx.old.conn.now tx.new.conn.now result (FailsToWrite insert_query (given_query query.now)) }
+    ensures fails { FailsBy S.Store tx.old.conn.now tx.new.conn.now result
+        (FailsToWrite insert_query (given_query query.now)) }
     ensures read { OnOk result (query_in (as_kept (given_query query.now)) ≡ query.now) }
 {
     let values = query_values(query);
@@ -78,7 +82,8 @@ pub fn read_queries<S: Alter>(
     ensures read { Reads S.Store tx.old.conn.now tx.new.conn.now result (AreRowsOf 3 query_in) }
     ensures err { ReadsOrUndoes S.Store tx.old.conn.now tx.new.conn.now result }
     ensures survives { CommitsNothing S.Store tx.old.conn.now tx.new.conn.now }
-    ensures fails { FailsBy S.Store tx.old.conn.now tx.new.conn.now result (FailsToRead select_queries query_kinds) }
+    ensures fails { FailsBy S.Store tx.old.conn.now tx.new.conn.now result
+        (FailsToRead select_queries query_kinds) }
 {
     match tx.query_all(
         "SELECT num, owner, name, source, arrival FROM queries ORDER BY num",

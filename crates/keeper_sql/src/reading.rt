@@ -27,7 +27,8 @@ pub trait TableRow: Drop {
         ensures fails { IfErr result (FailsToTakeRow kinds row.now) };
 }
 
-/// Returns the number in a column, or 0 if it isn't between 0 and 4,294,967,295. A row with the number 0 is damaged.
+/// Returns the number in a column, or 0 if it isn't between 0 and 4,294,967,295. A row with the
+/// number 0 is damaged.
 pub fn number(row: &Row, at: usize) -> Result<u32, Error>
     ensures ok { IfOk result (λ n. n ≡ number_in_value (column row.now at)) }
     ensures fails { IfErr result (FailsToTake Integer row.now at) }

@@ -4,7 +4,8 @@ ghost use Rattle.std.specs.Prelude.{◌≡◌, ◌<◌, ◌^◌, [], ◌∷◌, 
 ghost use Rattle.sqlite.specs.Values.{bound};
 ghost use Rattle.keeper_sql.specs.RowsAsValues.{given_run, run_in, run_kinds, run_shown, as_kept};
 ghost use Rattle.keeper_sql.specs.Store.{only, RowsWritten};
-ghost use Rattle.keeper_sql.specs.Calls.{AreRowsOf, CommitsNothing, Does, DoesOrUndoes, Reads, ReadsOnly, ReadsOrUndoes};
+ghost use Rattle.keeper_sql.specs.Calls.{AreRowsOf, CommitsNothing, Does, DoesOrUndoes, Reads};
+ghost use Rattle.keeper_sql.specs.Calls.{ReadsOnly, ReadsOrUndoes};
 ghost use Rattle.keeper_sql.specs.Schema.{insert_run, select_runs};
 ghost use Rattle.keeper_sql.specs.Failing.{FailsBy, FailsToRead, FailsToWrite};
 
@@ -29,10 +30,12 @@ fn run_values(run: &RunRow) -> [ValueRef<'_>; 3]
 
 pub fn insert_run<S: Alter>(tx: &mut Transaction<'_, S>, run: &RunRow) -> Result<(), Error>
     ensures same_reference { tx.new.conn.ghost_name ≡ tx.old.conn.ghost_name }
-    ensures ok { Does S.Store tx.old.conn.now tx.new.conn.now result (RowsWritten (only 4 (as_kept (given_run run.now) ∷ []))) }
+    ensures ok { Does S.Store tx.old.conn.now tx.new.conn.now result
+        (RowsWritten (only 4 (as_kept (given_run run.now) ∷ []))) }
     ensures err { DoesOrUndoes S.Store tx.old.conn.now tx.new.conn.now result }
     ensures survives { CommitsNothing S.Store tx.old.conn.now tx.new.conn.now }
-    ensures fails { FailsBy S.Store tx.old.conn.now tx.new.conn.now result (FailsToWrite insert_run (given_run run.now)) }
+    ensures fails { FailsBy S.Store tx.old.conn.now tx.new.conn.now result
+        (FailsToWrite insert_run (given_run run.now)) }
     ensures read { OnOk result (run_in (as_kept (given_run run.now)) ≡ run.now) }
 {
     let values = run_values(run);
@@ -68,7 +71,8 @@ pub fn read_runs<S: Alter>(
     ensures read { Reads S.Store tx.old.conn.now tx.new.conn.now result (AreRowsOf 4 run_in) }
     ensures err { ReadsOrUndoes S.Store tx.old.conn.now tx.new.conn.now result }
     ensures survives { CommitsNothing S.Store tx.old.conn.now tx.new.conn.now }
-    ensures fails { FailsBy S.Store tx.old.conn.now tx.new.conn.now result (FailsToRead select_runs run_kinds) }
+    ensures fails { FailsBy S.Store tx.old.conn.now tx.new.conn.now result
+        (FailsToRead select_runs run_kinds) }
 {
     match tx.query_all("SELECT num, query, moment FROM runs ORDER BY num", &[]) {
         Ok(shown) => read_rows(alloc, shown),

@@ -1,6 +1,7 @@
 //! The keeper over a connection to a database.
 
-ghost use Rattle.std.specs.Prelude.{◌≡◌, ◌≢◌, ◌⊎◌, ◌↔◌, ◌≤◌, ℤ, pos, true, false, [], None, Err, IsOk, IfOk, IfErr, OnOk, unwrap_or};
+ghost use Rattle.std.specs.Prelude.{◌≡◌, ◌≢◌, ◌⊎◌, ◌↔◌, ◌≤◌, ℤ, pos, true, false, [], None, Err};
+ghost use Rattle.std.specs.Prelude.{IsOk, IfOk, IfErr, OnOk, unwrap_or};
 ghost use Rattle.sqlite.specs.Held.{state};
 ghost use Rattle.sqlite.specs.State.{HasCleanDisk};
 ghost use Rattle.tap_base.specs.Counts.{Rose};
@@ -28,7 +29,8 @@ pub struct SqlKeeper<S: Alter> {
     stopped: bool,
     faults: u64,
     ghost idle: { connection.in_transaction ≡ false },
-    ghost settled: { IsSettled (state S.Store connection) } by { IsSettled-prop (state S.Store connection) },
+    ghost settled: { IsSettled (state S.Store connection) }
+        by { IsSettled-prop (state S.Store connection) },
 }
 
 impl<S: Alter> SqlKeeper<S> {
@@ -93,34 +95,49 @@ impl<S: Alter> Keeper for SqlKeeper<S> {
         ensures attached { (self.new.attached ≡ true) ↔ IsOk result }
         ensures stopped { (self.new.stopped ≡ true) ↔ (result ≡ Err AttachFault.Failed) }
         ensures placed { (unwrap_or self.new.path [] ≡ at.now)
-            ⊎ ((result ≡ Err AttachFault.Memory) × (unwrap_or self.new.path [] ≡ unwrap_or self.old.path [])) }
-        ensures stays { result ≡ Err AttachFault.Memory → unwrap_or self.new.path [] ≡ unwrap_or self.old.path [] }
+            ⊎ ((result ≡ Err AttachFault.Memory)
+                  × (unwrap_or self.new.path [] ≡ unwrap_or self.old.path [])) }
+        ensures stays { result ≡ Err AttachFault.Memory
+            → unwrap_or self.new.path [] ≡ unwrap_or self.old.path [] }
         ensures later { self.old.faults ≤ self.new.faults }
         ensures cause { result ≡ Err AttachFault.Failed → Rose self.old.faults self.new.faults }
         ensures calm { self.new.stopped ≡ false → self.new.faults ≡ self.old.faults }
-        ensures honest { HasCleanDisk (state S.Store self.new.connection) → HasCleanDisk (state S.Store self.old.connection) }
-        ensures given { IfOk result (λ given. HasCleanDisk (state S.Store self.new.connection) → (s : TableRows)
+        ensures honest { HasCleanDisk (state S.Store self.new.connection)
+            → HasCleanDisk (state S.Store self.old.connection) }
+        ensures given { IfOk result (λ given. HasCleanDisk (state S.Store self.new.connection)
+            → (s : TableRows)
             → TellsAs self.old.attached (state S.Store self.old.connection) s → s ≡ given) }
         ensures kept { HasCleanDisk (state S.Store self.new.connection) → (s : TableRows)
-            → TellsAs self.old.attached (state S.Store self.old.connection) s → self.new.stopped ≡ false
-            → IsDurable (TellsAs self.new.attached (state S.Store self.new.connection)) (MayLeave (state S.Store self.new.connection)) s }
+            → TellsAs self.old.attached (state S.Store self.old.connection) s
+                → self.new.stopped ≡ false
+            → IsDurable (TellsAs self.new.attached (state S.Store self.new.connection))
+                (MayLeave (state S.Store self.new.connection)) s }
         ensures crash { HasCleanDisk (state S.Store self.new.connection) → (s : TableRows)
             → TellsAs self.old.attached (state S.Store self.old.connection) s → (x : TableRows)
             → MayLeave (state S.Store self.new.connection) x → x ≡ s }
-        ensures answered { IfOk result (λ given. HasCleanDisk (state S.Store self.new.connection) → (t : TableRows)
+        ensures answered { IfOk result (λ given. HasCleanDisk (state S.Store self.new.connection)
+            → (t : TableRows)
             → TellsAs self.new.attached (state S.Store self.new.connection) t → t ≡ given) }
-        ensures version { OnOk result (HasCleanDisk (state S.Store self.new.connection) → (t : TableRows)
-            → TellsAs self.new.attached (state S.Store self.new.connection) t → HasVersion (state S.Store self.new.connection) (pos 2)) }
+        ensures version { OnOk result
+            (HasCleanDisk (state S.Store self.new.connection) → (t : TableRows)
+            → TellsAs self.new.attached (state S.Store self.new.connection) t
+                → HasVersion (state S.Store self.new.connection) (pos 2)) }
         ensures known { HasCleanDisk (state S.Store self.new.connection) → (v : ℤ)
-            → HasVersion (state S.Store self.old.connection) v → OnOk result ((v ≡ pos 1) ⊎ (v ≡ pos 2)) }
+            → HasVersion (state S.Store self.old.connection) v
+                → OnOk result ((v ≡ pos 1) ⊎ (v ≡ pos 2)) }
         ensures alien { IfAlien result (λ v. (v ≢ pos 1) × (v ≢ pos 2)) }
-        ensures same { IfAlien result (λ v. HasCleanDisk (state S.Store self.new.connection) → (w : ℤ)
-            → HasVersion (state S.Store self.old.connection) w → (w ≡ v) × HasVersion (state S.Store self.new.connection) w) }
-        ensures migrated { result ≡ Err AttachFault.Memory → HasCleanDisk (state S.Store self.new.connection) → (w : ℤ)
-            → HasVersion (state S.Store self.old.connection) w → HasVersion (state S.Store self.new.connection) w
+        ensures same { IfAlien result (λ v. HasCleanDisk (state S.Store self.new.connection)
+            → (w : ℤ)
+            → HasVersion (state S.Store self.old.connection) w
+                → (w ≡ v) × HasVersion (state S.Store self.new.connection) w) }
+        ensures migrated { result ≡ Err AttachFault.Memory
+            → HasCleanDisk (state S.Store self.new.connection) → (w : ℤ)
+            → HasVersion (state S.Store self.old.connection) w
+                → HasVersion (state S.Store self.new.connection) w
             ⊎ ((w ≡ pos 1) × HasVersion (state S.Store self.new.connection) (pos 2)) }
 
-        // Beside the trait's clauses: it was out of memory before it used the store, or its open failed by one of the calls below.
+        // Beside the trait's clauses: it was out of memory before it used the store, or its open
+        // failed by one of the calls below.
         ensures fails { HasCleanDisk (state S.Store self.new.connection) → IfErr result (λ fault.
             ((fault ≡ AttachFault.Memory) × (self.new.connection ≡ self.old.connection))
             ⊎ FailsToAttach S.Store self.old.connection self.new.connection fault) }
@@ -154,30 +171,39 @@ impl<S: Alter> Keeper for SqlKeeper<S> {
     fn commit(&mut self, change: &Change) -> Result<(), CommitFault>
         requires ready { self.old.attached ≡ true }
         requires running { self.old.stopped ≡ false }
-        ensures same { (unwrap_or self.new.path [] ≡ unwrap_or self.old.path []) × (self.new.attached ≡ self.old.attached) }
+        ensures same { (unwrap_or self.new.path [] ≡ unwrap_or self.old.path [])
+            × (self.new.attached ≡ self.old.attached) }
         ensures stopped { (self.new.stopped ≡ true) ↔ (result ≡ Err CommitFault.Failed) }
         ensures later { self.old.faults ≤ self.new.faults }
         ensures cause { result ≡ Err CommitFault.Failed → Rose self.old.faults self.new.faults }
         ensures calm { self.new.stopped ≡ false → self.new.faults ≡ self.old.faults }
-        ensures honest { HasCleanDisk (state S.Store self.new.connection) → HasCleanDisk (state S.Store self.old.connection) }
+        ensures honest { HasCleanDisk (state S.Store self.new.connection)
+            → HasCleanDisk (state S.Store self.old.connection) }
         ensures ok { HasCleanDisk (state S.Store self.new.connection) → (s : TableRows)
-            → TellsAs self.old.attached (state S.Store self.old.connection) s → AddsRowsTo change.now s
+            → TellsAs self.old.attached (state S.Store self.old.connection) s
+                → AddsRowsTo change.now s
             → OnOk result (IsDurable (TellsAs self.new.attached (state S.Store self.new.connection))
             (MayLeave (state S.Store self.new.connection)) (after s change.now)) }
         ensures memory { HasCleanDisk (state S.Store self.new.connection) → (s : TableRows)
-            → TellsAs self.old.attached (state S.Store self.old.connection) s → result ≡ Err CommitFault.Memory
-            → IsDurable (TellsAs self.new.attached (state S.Store self.new.connection)) (MayLeave (state S.Store self.new.connection)) s }
+            → TellsAs self.old.attached (state S.Store self.old.connection) s
+                → result ≡ Err CommitFault.Memory
+            → IsDurable (TellsAs self.new.attached (state S.Store self.new.connection))
+                (MayLeave (state S.Store self.new.connection)) s }
         ensures crash { HasCleanDisk (state S.Store self.new.connection) → (s : TableRows)
-            → TellsAs self.old.attached (state S.Store self.old.connection) s → AddsRowsTo change.now s
-            → (x : TableRows) → MayLeave (state S.Store self.new.connection) x → (x ≡ s) ⊎ (x ≡ after s change.now) }
+            → TellsAs self.old.attached (state S.Store self.old.connection) s
+                → AddsRowsTo change.now s
+            → (x : TableRows) → MayLeave (state S.Store self.new.connection) x
+                → (x ≡ s) ⊎ (x ≡ after s change.now) }
         ensures version { HasCleanDisk (state S.Store self.new.connection) → (s : TableRows)
-            → TellsAs self.old.attached (state S.Store self.old.connection) s → AddsRowsTo change.now s
+            → TellsAs self.old.attached (state S.Store self.old.connection) s
+                → AddsRowsTo change.now s
             → (v : ℤ) → HasVersion (state S.Store self.old.connection) v → self.new.stopped ≡ false
             → HasVersion (state S.Store self.new.connection) v }
 
         // Beside the trait's clauses: a statement or the commit failed.
         ensures fails { HasCleanDisk (state S.Store self.new.connection)
-            → IfErr result (FailsToKeep S.Store self.old.connection self.new.connection change.now) }
+            → IfErr result
+                (FailsToKeep S.Store self.old.connection self.new.connection change.now) }
     {
         let kept = keep(&mut self.connection, change);
         let _after = is_settled(&self.connection);
@@ -194,7 +220,9 @@ impl<S: Alter> Keeper for SqlKeeper<S> {
 
     ghost one = { λ k s t a b. tells_one k.attached _ s t a b };
 
-    ghost left = { λ k t clean running told. told_left _ k.attached t told k.settled (S.Store.stays k.connection.store) };
+    ghost left = { λ k t clean running told.
+        told_left _ k.attached t told k.settled (S.Store.stays k.connection.store) };
 
-    ghost exact = { λ k t x clean running told left. told_alone _ k.attached t told k.settled (S.Store.settled k.connection.store) x left };
+    ghost exact = { λ k t x clean running told left.
+        told_alone _ k.attached t told k.settled (S.Store.settled k.connection.store) x left };
 }

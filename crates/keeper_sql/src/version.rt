@@ -5,9 +5,11 @@ ghost use Rattle.sqlite.specs.Held.{state};
 ghost use Rattle.sqlite.specs.State.{HasCleanDisk};
 ghost use Rattle.keeper_sql.specs.RowsAsValues.{version_in, version_kinds, version_shown};
 ghost use Rattle.keeper_sql.specs.Store.{Undone, Raises, Settles, AreKeyed, IsMeta, IsAtVersion};
-ghost use Rattle.keeper_sql.specs.Calls.{CommitsNothing, Does, DoesOrUndoes, Gives, InStore, Reads, ReadsOnly, ReadsOrUndoes};
+ghost use Rattle.keeper_sql.specs.Calls.{CommitsNothing, Does, DoesOrUndoes, Gives, InStore, Reads};
+ghost use Rattle.keeper_sql.specs.Calls.{ReadsOnly, ReadsOrUndoes};
 ghost use Rattle.keeper_sql.specs.Schema.{replace_meta, select_meta};
-ghost use Rattle.keeper_sql.specs.Failing.{FailsBy, FailsToRead, FailsToSettle, FailsToTakeRows, FailsToWrite, FailsWithin, ReachesOnSuccess};
+ghost use Rattle.keeper_sql.specs.Failing.{FailsBy, FailsToRead, FailsToSettle, FailsToTakeRows};
+ghost use Rattle.keeper_sql.specs.Failing.{FailsToWrite, FailsWithin, ReachesOnSuccess};
 
 use crate::reading::integer;
 use sqlite::{Alter, Error, Row, Transaction};
@@ -27,10 +29,12 @@ fn version_of(shown: &[Row]) -> Result<Option<i64>, Error>
 pub fn read_version<S: Alter>(tx: &mut Transaction<'_, S>) -> Result<Option<i64>, Error>
     ensures same_reference { tx.new.conn.ghost_name ≡ tx.old.conn.ghost_name }
     ensures same { ReadsOnly S.Store tx.old.conn.now tx.new.conn.now result }
-    ensures read { Reads S.Store tx.old.conn.now tx.new.conn.now result (λ db version. AreKeyed (db.trees 0) → version ≡ version_in (db.trees 0)) }
+    ensures read { Reads S.Store tx.old.conn.now tx.new.conn.now result (λ db version.
+        AreKeyed (db.trees 0) → version ≡ version_in (db.trees 0)) }
     ensures err { ReadsOrUndoes S.Store tx.old.conn.now tx.new.conn.now result }
     ensures survives { CommitsNothing S.Store tx.old.conn.now tx.new.conn.now }
-    ensures fails { FailsBy S.Store tx.old.conn.now tx.new.conn.now result (FailsToRead select_meta version_kinds) }
+    ensures fails { FailsBy S.Store tx.old.conn.now tx.new.conn.now result
+        (FailsToRead select_meta version_kinds) }
 {
     match tx.query_all("SELECT id, version FROM meta ORDER BY id", &[]) {
         Ok(shown) => version_of(shown.as_slice()),
@@ -42,10 +46,12 @@ pub fn read_version<S: Alter>(tx: &mut Transaction<'_, S>) -> Result<Option<i64>
 pub fn write_version<S: Alter>(tx: &mut Transaction<'_, S>) -> Result<(), Error>
     ensures same_reference { tx.new.conn.ghost_name ≡ tx.old.conn.ghost_name }
     ensures ok { Does S.Store tx.old.conn.now tx.new.conn.now result Raises }
-    ensures at { HasCleanDisk (state S.Store tx.new.conn.now) → OnOk result (IsAtVersion (state S.Store tx.new.conn.now).now (pos 2)) }
+    ensures at { HasCleanDisk (state S.Store tx.new.conn.now)
+        → OnOk result (IsAtVersion (state S.Store tx.new.conn.now).now (pos 2)) }
     ensures err { DoesOrUndoes S.Store tx.old.conn.now tx.new.conn.now result }
     ensures survives { CommitsNothing S.Store tx.old.conn.now tx.new.conn.now }
-    ensures fails { FailsBy S.Store tx.old.conn.now tx.new.conn.now result (FailsToWrite replace_meta []) }
+    ensures fails { FailsBy S.Store tx.old.conn.now tx.new.conn.now result
+        (FailsToWrite replace_meta []) }
 {
     match tx.execute(
         "INSERT OR REPLACE INTO meta (id, version) VALUES (1, 2)",
@@ -59,12 +65,15 @@ pub fn write_version<S: Alter>(tx: &mut Transaction<'_, S>) -> Result<(), Error>
 // Writes version 2, and returns it.
 fn raise_version<S: Alter>(tx: &mut Transaction<'_, S>) -> Result<i64, Error>
     ensures same_reference { tx.new.conn.ghost_name ≡ tx.old.conn.ghost_name }
-    ensures ok { Gives S.Store tx.old.conn.now tx.new.conn.now result (λ version old new. (version ≡ pos 2) × Raises old new) }
+    ensures ok { Gives S.Store tx.old.conn.now tx.new.conn.now result (λ version old new.
+        (version ≡ pos 2) × Raises old new) }
     ensures two { IfOk result (λ version. version ≡ pos 2) }
-    ensures at { HasCleanDisk (state S.Store tx.new.conn.now) → IfOk result (IsAtVersion (state S.Store tx.new.conn.now).now) }
+    ensures at { HasCleanDisk (state S.Store tx.new.conn.now)
+        → IfOk result (IsAtVersion (state S.Store tx.new.conn.now).now) }
     ensures err { DoesOrUndoes S.Store tx.old.conn.now tx.new.conn.now result }
     ensures survives { CommitsNothing S.Store tx.old.conn.now tx.new.conn.now }
-    ensures fails { FailsBy S.Store tx.old.conn.now tx.new.conn.now result (FailsToWrite replace_meta []) }
+    ensures fails { FailsBy S.Store tx.old.conn.now tx.new.conn.now result
+        (FailsToWrite replace_meta []) }
 {
     match write_version(tx) {
         Ok(()) => Ok(2),
@@ -76,10 +85,14 @@ fn raise_version<S: Alter>(tx: &mut Transaction<'_, S>) -> Result<i64, Error>
 pub fn settle_version<S: Alter>(tx: &mut Transaction<'_, S>) -> Result<i64, Error>
     ensures same_reference { tx.new.conn.ghost_name ≡ tx.old.conn.ghost_name }
     ensures never { IfOk result (λ version. version ≢ pos 1) }
-    ensures ok { InStore S.Store tx.old.conn.now tx.new.conn.now (IsMeta ((state S.Store tx.old.conn.now).now.trees 0)
-        → IfOk result (λ version. Settles version (state S.Store tx.old.conn.now) (state S.Store tx.new.conn.now))) }
-    ensures at { HasCleanDisk (state S.Store tx.new.conn.now) → IfOk result (IsAtVersion (state S.Store tx.new.conn.now).now) }
-    ensures err { InStore S.Store tx.old.conn.now tx.new.conn.now (OnErr result (Undone (state S.Store tx.old.conn.now) (state S.Store tx.new.conn.now))) }
+    ensures ok { InStore S.Store tx.old.conn.now tx.new.conn.now
+        (IsMeta ((state S.Store tx.old.conn.now).now.trees 0)
+        → IfOk result (λ version.
+            Settles version (state S.Store tx.old.conn.now) (state S.Store tx.new.conn.now))) }
+    ensures at { HasCleanDisk (state S.Store tx.new.conn.now)
+        → IfOk result (IsAtVersion (state S.Store tx.new.conn.now).now) }
+    ensures err { InStore S.Store tx.old.conn.now tx.new.conn.now
+        (OnErr result (Undone (state S.Store tx.old.conn.now) (state S.Store tx.new.conn.now))) }
     ensures survives { CommitsNothing S.Store tx.old.conn.now tx.new.conn.now }
     ensures goes_on { ReachesOnSuccess S.Store tx.old.conn.now tx.new.conn.now result }
     ensures fails { FailsWithin S.Store tx.old.conn.now tx.new.conn.now result FailsToSettle }

@@ -15,22 +15,25 @@ use std::test::Fail;
 use tap_base::Memory;
 use tap_rows::{Change, Tables};
 
-// Attaches any keeper and commits two changes. Returns 0 if both were committed, 5 if the keeper failed, 6 if its store
-// has another version, 7 if a call was out of memory.
+// Attaches any keeper and commits two changes. Returns 0 if both were committed, 5 if the keeper
+// failed, 6 if its store has another version, 7 if a call was out of memory.
 fn keep_two<P: Keeper>(alloc: Global, keeper: &mut P, one: &Change, two: &Change) -> u8
     requires free { IsFree P.Keeper keeper.old }
     ensures stopped { (P.stopped keeper.new ≡ true) ↔ (result ≡ 5) }
     ensures cause { result ≡ 5 → Rose (P.faults keeper.old) (P.faults keeper.new) }
     ensures placed { (P.path keeper.new ≡ codes "store") ⊎ (result ≡ 7) }
-    ensures known { P.honest keeper.new → (v : ℤ) → P.has_version keeper.old v → (v ≡ pos 1) ⊎ (v ≡ pos 2) → result ≢ 6 }
+    ensures known { P.honest keeper.new → (v : ℤ) → P.has_version keeper.old v
+        → (v ≡ pos 1) ⊎ (v ≡ pos 2) → result ≢ 6 }
     ensures done { result ≡ 0 → P.honest keeper.new → (s : TableRows) → P.tells keeper.old s
         → AddsRowsTo one.now s → AddsRowsTo two.now (after s one.now)
-        → IsDurable (P.tells keeper.new) (P.may_leave keeper.new) (after (after s one.now) two.now) }
+        → IsDurable (P.tells keeper.new) (P.may_leave keeper.new)
+            (after (after s one.now) two.now) }
     ensures refused { result ≡ 6 → P.honest keeper.new → (s : TableRows) → P.tells keeper.old s
         → IsDurable (P.tells keeper.new) (P.may_leave keeper.new) s }
     ensures crash { P.honest keeper.new → (s : TableRows) → P.tells keeper.old s
         → AddsRowsTo one.now s → AddsRowsTo two.now (after s one.now)
-        → (x : TableRows) → P.may_leave keeper.new x → (x ≡ s) ⊎ ((x ≡ after s one.now) ⊎ (x ≡ after (after s one.now) two.now)) }
+        → (x : TableRows) → P.may_leave keeper.new x
+            → (x ≡ s) ⊎ ((x ≡ after s one.now) ⊎ (x ≡ after (after s one.now) two.now)) }
 {
     match keeper.attach(alloc, "store") {
         Ok(tables) => drop(tables),
@@ -50,8 +53,8 @@ fn keep_two<P: Keeper>(alloc: Global, keeper: &mut P, one: &Change, two: &Change
     }
 }
 
-// What a keeper that kept two documents says: the status, the number of documents and the version then, and the number
-// of documents that a crash leaves.
+// What a keeper that kept two documents says: the status, the number of documents and the version
+// then, and the number of documents that a crash leaves.
 type Kept = (u8, usize, i64, usize);
 
 // Commits two documents over a keeper of a version whose calls fail so.
@@ -113,7 +116,8 @@ fn one_row(alloc: Global) -> Result<Tables, Memory> {
     }
 }
 
-// Commits a change over a keeper of one document that never fails; how many documents it gave before.
+// Commits a change over a keeper of one document that never fails; how many documents it gave
+// before.
 fn surely_kept(alloc: Global, change: &Change) -> Result<Option<usize>, Memory> {
     let mut keeper = SureKeeper::new(alloc, one_row(alloc)?);
     let found = keep(alloc, &mut keeper, "store", change);

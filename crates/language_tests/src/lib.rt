@@ -1,4 +1,5 @@
-//! Tests of the language of queries: its texts, their trees and faults, and what conditions are over no rows.
+//! Tests of the language of queries: its texts, their trees and faults, and what conditions are
+//! over no rows.
 #![tactic(auto)]
 
 #[cfg(test)]

@@ -255,8 +255,10 @@ fn copies(rt: HostRuntime) {
     assert!(rt;
         canonical_copy(
             alloc,
-            b"not(m.size>=3 or m.words has 'a') and exists(r:note where time'5'-1 day<today or -1=now)",
-            b"NOT (m.size >= 3 OR m.words HAS 'a') AND EXISTS (r: NOTE WHERE TIME '5' - 1 DAYS < TODAY OR -1 = NOW)"
+            b"not(m.size>=3 or m.words has 'a') and exists(r:note where time'5'-1 day<today or \
+            -1=now)",
+            b"NOT (m.size >= 3 OR m.words HAS 'a') AND EXISTS (r: NOTE WHERE TIME '5' - 1 DAYS < \
+            TODAY OR -1 = NOW)"
         )
     );
 }

@@ -138,13 +138,15 @@ fn limits_are_exact(rt: HostRuntime) -> Result<(), Fail> {
     assert!(rt;
         is_condition(
             alloc,
-            b"EXISTS (a: DOC WHERE EXISTS (b: DOC WHERE EXISTS (c: DOC WHERE EXISTS (d: DOC WHERE EXISTS (e: DOC WHERE TRUE)))))"
+            b"EXISTS (a: DOC WHERE EXISTS (b: DOC WHERE EXISTS (c: DOC WHERE EXISTS (d: DOC WHERE \
+            EXISTS (e: DOC WHERE TRUE)))))"
         )
     );
     assert!(rt;
         has_fault(
             alloc,
-            b"EXISTS (a: DOC WHERE EXISTS (b: DOC WHERE EXISTS (c: DOC WHERE EXISTS (d: DOC WHERE EXISTS (e: DOC WHERE EXISTS (f: DOC WHERE TRUE))))))",
+            b"EXISTS (a: DOC WHERE EXISTS (b: DOC WHERE EXISTS (c: DOC WHERE EXISTS (d: DOC WHERE \
+            EXISTS (e: DOC WHERE EXISTS (f: DOC WHERE TRUE))))))",
             TextFault::Types(TypeFault::ManyVars { place: 113 }),
         )
     );

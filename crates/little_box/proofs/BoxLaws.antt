@@ -1,5 +1,6 @@
 -- The deliveries of a box and their marks.
-use Rattle.std.proofs.Common.{◌≡◌, ℕ, zero, suc, ◌<◌, Bool, true, false, List, [], ◌∷◌, ◌++◌, refl, sym, ap, ◌∙◌, nat_eq, length, set, arith, inl, inr, length-append}
+use Rattle.std.proofs.Common.{◌≡◌, ℕ, zero, suc, ◌<◌, Bool, true, false, List, [], ◌∷◌, ◌++◌, refl, sym, ap, ◌∙◌, nat_eq, length, set}
+use Rattle.std.proofs.Common.{arith, inl, inr, length-append}
 use Rattle.std.specs.Prelude.{◌||◌, slice_get}
 use Rattle.std.proofs.lemmas.Bool.{cases_Bool}
 use Rattle.tap_rows.specs.declared.results.Entry.{Entry}
@@ -77,15 +78,19 @@ distinct_more (e ∷ es) x d h =
     (other_more e.doc.0 es x (turned _ _ a.0) ∙ d.0, distinct_more es x d.1 a.1)
 
 -- the marks after an entry more
-marked_more : (es : List Entry) (bs : List Bool) (e : Entry) → ((n : ℕ) → is_set (slice_get bs n) ≡ is_in n es) → e.doc.0 < length bs → (n : ℕ) → is_set (slice_get (set bs e.doc.0 true) n) ≡ is_in n (es ++ e ∷ [])
+marked_more : (es : List Entry) (bs : List Bool) (e : Entry) → ((n : ℕ) → is_set (slice_get bs n) ≡ is_in n es) → e.doc.0 < length bs
+    → (n : ℕ) → is_set (slice_get (set bs e.doc.0 true) n) ≡ is_in n (es ++ e ∷ [])
 marked_more es bs e m w n =
     elim (cases_Bool (nat_eq n e.doc.0)) [
-      | inl b ↦ ap (λ k. is_set (slice_get (set bs e.doc.0 true) k)) (same_number n e.doc.0 b) ∙ mark_same bs e.doc.0 true w ∙ sym (last_is_in n es e b)
+      | inl b ↦ ap (λ k. is_set (slice_get (set bs e.doc.0 true) k)) (same_number n e.doc.0 b) ∙ mark_same bs e.doc.0 true w
+        ∙ sym (last_is_in n es e b)
       | inr b ↦ ap is_set (mark_other bs e.doc.0 n true b) ∙ m n ∙ sym (other_more n es e b)
     ]
 
 -- a box with an entry more
-pub box_more : (es : List Entry) (bs cs : List Bool) (e : Entry) → IsBox es bs → ((n : ℕ) → is_set (slice_get cs n) ≡ is_set (slice_get bs n)) → e.doc.0 < length cs → is_in e.doc.0 es ≡ false → length es < 4294967295 → IsBox (es ++ e ∷ []) (set cs e.doc.0 true)
+pub box_more : (es : List Entry) (bs cs : List Bool) (e : Entry) → IsBox es bs
+    → ((n : ℕ) → is_set (slice_get cs n) ≡ is_set (slice_get bs n)) → e.doc.0 < length cs → is_in e.doc.0 es ≡ false
+    → length es < 4294967295 → IsBox (es ++ e ∷ []) (set cs e.doc.0 true)
 box_more es bs cs e b s w h r = record {
   marked = marked_more es cs e (λ n. s n ∙ b.marked n) w;
   distinct = distinct_more es e b.distinct h;
@@ -112,12 +117,14 @@ distinct_fewer (e ∷ es) x d =
     ((u.0, i.0), rw t i.1)
 
 -- the marks after an entry fewer
-marked_fewer : (es : List Entry) (bs : List Bool) (e : Entry) → IsBox (es ++ e ∷ []) bs → (n : ℕ) → is_set (slice_get (set bs e.doc.0 false) n) ≡ is_in n es
+marked_fewer : (es : List Entry) (bs : List Bool) (e : Entry) → IsBox (es ++ e ∷ []) bs → (n : ℕ)
+    → is_set (slice_get (set bs e.doc.0 false) n) ≡ is_in n es
 marked_fewer es bs e x n =
     elim (cases_Bool (nat_eq n e.doc.0)) [
       | inl b ↦
           let k = same_number n e.doc.0 b in
-          ap (λ k. is_set (slice_get (set bs e.doc.0 false) k)) k ∙ mark_off bs e.doc.0 ∙ sym (distinct_fewer es e x.distinct).1 ∙ ap (λ k. is_in k es) (sym k)
+          ap (λ k. is_set (slice_get (set bs e.doc.0 false) k)) k ∙ mark_off bs e.doc.0 ∙ sym (distinct_fewer es e x.distinct).1
+            ∙ ap (λ k. is_in k es) (sym k)
       | inr b ↦ ap is_set (mark_other bs e.doc.0 n false b) ∙ x.marked n ∙ other_more n es e b
     ]
 

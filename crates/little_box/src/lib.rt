@@ -1,7 +1,8 @@
 //! The deliveries of one query, in order of delivery.
 #![tactic(auto)]
 
-ghost use Rattle.std.specs.Prelude.{◌≡◌, ℕ, ◌-◌, ◌<◌, ◌≤◌, ◌++◌, ◌∷◌, [], false, length, take, OnOk, OnErr};
+ghost use Rattle.std.specs.Prelude.{◌≡◌, ℕ, ◌-◌, ◌<◌, ◌≤◌, ◌++◌, ◌∷◌, [], false, length, take};
+ghost use Rattle.std.specs.Prelude.{OnOk, OnErr};
 ghost use Rattle.std.specs.Prelude.{option_copied, slice_get};
 ghost use Rattle.little_box.specs.Boxes.{is_in, is_set, AreDistinct};
 
@@ -14,8 +15,8 @@ use tap_rows::Entry;
 #[derive(Drop)]
 pub struct LittleBox {
     entries: Vec<Entry>,
-    // Whether the document of each number, from 0, is delivered. Numbers are places of documents, so this is short, and a look-up
-    // hashes nothing.
+    // Whether the document of each number, from 0, is delivered. Numbers are places of documents,
+    // so this is short, and a look-up hashes nothing.
     delivered: Vec<bool>,
 }
 
@@ -112,7 +113,8 @@ impl LittleBox {
 // Makes a mark for the document, unset if it is new. `Memory` comes if memory runs out.
 fn make_mark(delivered: &mut Vec<bool>, doc: DocNum) -> Result<(), Memory>
     ensures ok { OnOk result (doc.0 < length delivered.new.items) }
-    ensures same { (n : ℕ) → is_set (slice_get delivered.new.items n) ≡ is_set (slice_get delivered.old.items n) }
+    ensures same { (n : ℕ)
+        → is_set (slice_get delivered.new.items n) ≡ is_set (slice_get delivered.old.items n) }
 {
     let place = doc.0 as usize;
     if place >= delivered.len() {

@@ -28,10 +28,13 @@ no_more before b is =
 no_comma : (b : ℕ) → (b == 34) ≡ true → (b == 44) ≡ false
 no_comma b is = grind arith
 
-parts-same : (quoted : Bool) (before bytes : List ℕ) → quoted ≡ not (is_even (quote_count before)) → comma_parts_from quoted bytes ≡ parts_after before bytes
+parts-same : (quoted : Bool) (before bytes : List ℕ) → quoted ≡ not (is_even (quote_count before))
+    → comma_parts_from quoted bytes ≡ parts_after before bytes
 parts-same quoted before [] is = refl
 parts-same quoted before (b ∷ bytes) is = go (b == 34) refl (λ q. parts-same q (before ++ b ∷ []) bytes) where
-  go : (x : Bool) → (b == 34) ≡ x → ((q : Bool) → q ≡ not (is_even (quote_count (before ++ b ∷ []))) → comma_parts_from q bytes ≡ parts_after (before ++ b ∷ []) bytes) → comma_parts_from quoted (b ∷ bytes) ≡ parts_after before (b ∷ bytes)
+  go : (x : Bool) → (b == 34) ≡ x
+      → ((q : Bool) → q ≡ not (is_even (quote_count (before ++ b ∷ []))) → comma_parts_from q bytes ≡ parts_after (before ++ b ∷ []) bytes)
+      → comma_parts_from quoted (b ∷ bytes) ≡ parts_after before (b ∷ bytes)
   go true e rec =
       let flipped : not quoted ≡ not (is_even (quote_count (before ++ b ∷ []))) = ap not (is ∙ sym (ap is_even (one_more before b e))) in
       rw (e, no_comma b e) (ap (onto_first b) (rec (not quoted) flipped))

@@ -1,12 +1,15 @@
 //! The second of a Date field.
 ghost use Rattle.std.specs.Prelude.{◌≡◌, ◌≤◌, ◌<◌, ◌+◌, ◌*◌, ◌+ℤ◌, ◌-ℤ◌, ◌*ℤ◌, neg_ℤ, ◌∷◌};
-ghost use Rattle.std.specs.Prelude.{List, [], ℕ, ℤ, pos, Some, None, true, length, if◌then◌else◌, ◌==◌, IfSome, IfOk, take, drop};
+ghost use Rattle.std.specs.Prelude.{List, [], ℕ, ℤ, pos, Some, None, true, length, if◌then◌else◌};
+ghost use Rattle.std.specs.Prelude.{◌==◌, IfSome, IfOk, take, drop};
 ghost use Rattle.std.specs.List.{slice_split};
 ghost use Rattle.std.specs.Option.{option_map, option_copied, option_and_then};
 ghost use Rattle.std.specs.Str.{all_ascii_digits, str_eq_ignore_ascii_case};
 ghost use Rattle.jiff_core.specs.Calendar.{days_from_civil, IsWithin};
-ghost use Rattle.tap_rows.specs.Dates.{month_of, time_of, hours_west, offset_of, zone_of, first_zone, has_day, second_of};
-ghost use Rattle.tap_rows.specs.Dates.{second_of_parts, digits_within, date_from, date_of, date_parts, without_weekday};
+ghost use Rattle.tap_rows.specs.Dates.{month_of, time_of, hours_west, offset_of, zone_of};
+ghost use Rattle.tap_rows.specs.Dates.{first_zone, has_day, second_of};
+ghost use Rattle.tap_rows.specs.Dates.{second_of_parts, digits_within, date_from, date_of};
+ghost use Rattle.tap_rows.specs.Dates.{date_parts, without_weekday};
 ghost use Rattle.tap_rows.specs.Dates.{begins_with_letter, second_of_day, clock_second};
 
 use crate::bytes::place_of;
@@ -67,7 +70,8 @@ fn month(part: &[u8]) -> Option<u32>
     None
 }
 
-// Returns how many hours west of Greenwich a zone of this name is (RFC 5322 4.3). A name that isn't known is Greenwich.
+// Returns how many hours west of Greenwich a zone of this name is (RFC 5322 4.3). A name that isn't
+// known is Greenwich.
 fn west(name: &[u8]) -> u32
     ensures value { result ≡ hours_west name.now }
     ensures small { result ≤ 8 }
@@ -152,7 +156,8 @@ fn zone_at(text: &[u8]) -> Option<i64>
     }
 }
 
-// Returns the second of the day of an hour, a minute and a second. A leap second counts as the second before it.
+// Returns the second of the day of an hour, a minute and a second. A leap second counts as the
+// second before it.
 fn clock(hour: Option<u32>, minute: Option<u32>, second: Option<u32>) -> Option<u32>
     requires hour { IfSome hour (λ n. n ≤ 23) }
     requires minute { IfSome minute (λ n. n ≤ 59) }
@@ -194,7 +199,8 @@ fn time(part: &[u8]) -> Option<u32>
 fn day_number(year: u32, month: u32, day: u32) -> Option<i64>
     requires year { year ≤ 9999 }
     requires month { (1 ≤ month) × (month ≤ 12) }
-    ensures value { result ≡ (if has_day year month day then Some (days_from_civil (pos year) month day) else None) }
+    ensures value { result
+        ≡ (if has_day year month day then Some (days_from_civil (pos year) month day) else None) }
     ensures small { IfSome result (λ n. IsWithin 3000000000 n) }
 {
     // A day of more than 31 might not fit in the calendar's 8 bits.
@@ -289,7 +295,8 @@ fn is_weekday(part: &[u8]) -> bool
     !part.is_empty() && part[0].is_ascii_alphabetic()
 }
 
-// Returns the second of a Date field's value (RFC 5322 3.3 and 4.3), if it is a date. Fails with `Memory` when out of memory.
+// Returns the second of a Date field's value (RFC 5322 3.3 and 4.3), if it is a date. Fails with
+// `Memory` when out of memory.
 pub(crate) fn read_date(alloc: Global, value: &[u8]) -> Result<Option<i64>, Memory>
     ensures { IfOk result (λ date. date ≡ date_of value.now) }
 {

@@ -1,5 +1,6 @@
 //! The entries of a field's value.
-ghost use Rattle.std.specs.Prelude.{◌≡◌, ◌≤◌, ◌<◌, ◌++◌, ◌∷◌, List, [], ℕ, false, length, drop, take, OnOk, OnErr, IfOk};
+ghost use Rattle.std.specs.Prelude.{◌≡◌, ◌≤◌, ◌<◌, ◌++◌, ◌∷◌, List, [], ℕ, false, length, drop};
+ghost use Rattle.std.specs.Prelude.{take, OnOk, OnErr, IfOk};
 ghost use Rattle.std.specs.List.{list_any, slice_split};
 ghost use Rattle.tap_base.specs.Bytes.{is_blank};
 ghost use Rattle.tap_rows.specs.Entries.{address_of, addresses_in, listed, referred};
@@ -9,7 +10,8 @@ use crate::bytes::{place_of, trim};
 use std::alloc::Global;
 use tap_base::{Memory, Texts, after_byte, blank_place, lower};
 
-// Returns the address of an entry: what is between `<` and `>`, or else what comes before a comment.
+// Returns the address of an entry: what is between `<` and `>`, or else what comes before a
+// comment.
 fn address(part: &[u8]) -> &[u8]
     ensures { result.now ≡ address_of part.now }
 {

@@ -8,7 +8,8 @@ ghost use Rattle.mail_lines.specs.Lines.{is_end};
 
 use memchr::memchr;
 
-/// The place of a line in its text: its bytes are from `start` to `end`, and the next line begins at `next`.
+/// The place of a line in its text: its bytes are from `start` to `end`, and the next line begins
+/// at `next`.
 #[derive(Clone, Copy, Debug, PartialEq, Eq)]
 pub struct LineAt {
     pub start: usize,
@@ -46,14 +47,17 @@ fn without_carriage_return(line: &[u8]) -> usize
     }
 }
 
-/// Returns the place of the line from `at` on, without its LF and without a CR directly before that LF. A last line without
-/// an LF has all its bytes. Returns `None` if and only if `at` is the end of the text.
+/// Returns the place of the line from `at` on, without its LF and without a CR directly before that
+/// LF. A last line without an LF has all its bytes. Returns `None` if and only if `at` is the end
+/// of the text.
 pub fn next_line(text: &[u8], at: usize) -> Option<LineAt>
     requires { IsPlaceOrEnd text.now at }
     ensures some { IfSome result (λ l.
-        lines (drop at text.now) ≡ slice_range text.now l.start l.end ∷ lines (drop l.next text.now)) }
+        lines (drop at text.now)
+            ≡ slice_range text.now l.start l.end ∷ lines (drop l.next text.now)) }
     ensures within { IfSome result (λ l.
-        (l.start ≡ at) × (l.start ≤ l.end) × (l.end ≤ l.next) × (l.next ≤ length text.now) × (at < l.next)) }
+        (l.start ≡ at) × (l.start ≤ l.end) × (l.end ≤ l.next) × (l.next ≤ length text.now)
+            × (at < l.next)) }
     ensures none { IfNone result (at ≡ length text.now) }
 {
     if at == text.len() {
@@ -75,8 +79,8 @@ pub fn next_line(text: &[u8], at: usize) -> Option<LineAt>
     })
 }
 
-/// Returns the first line of a text that isn't empty, without its LF and without a CR directly before that LF, and the text
-/// after it. A last line without an LF has all its bytes.
+/// Returns the first line of a text that isn't empty, without its LF and without a CR directly
+/// before that LF, and the text after it. A last line without an LF has all its bytes.
 pub fn first_line(text: &[u8]) -> FirstLine<'_>
     requires { IsNonEmpty text.now }
     ensures lines { lines text.now ≡ result.line.now ∷ lines result.rest.now }

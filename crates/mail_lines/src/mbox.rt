@@ -1,8 +1,10 @@
 //! The messages of a mailbox file.
-ghost use Rattle.std.specs.Prelude.{◌≡◌, ◌≤◌, ◌<◌, ◌++◌, ◌==◌, List, [], ℕ, true, false, length, OnOk, OnErr, IfOk};
+ghost use Rattle.std.specs.Prelude.{◌≡◌, ◌≤◌, ◌<◌, ◌++◌, ◌==◌, List, [], ℕ, true, false, length};
+ghost use Rattle.std.specs.Prelude.{OnOk, OnErr, IfOk};
 ghost use Rattle.std.specs.List.{prefix_len};
 ghost use Rattle.std.specs.Str.Lines.{lines};
-ghost use Rattle.mail_lines.specs.Mbox.{is_from_line, message_from, messages_from, quotes, unquoted};
+ghost use Rattle.mail_lines.specs.Mbox.{is_from_line, message_from, messages_from, quotes};
+ghost use Rattle.mail_lines.specs.Mbox.{unquoted};
 ghost use Rattle.mail_lines.specs.Mbox.{message_text, mbox_messages, at_message, written};
 
 use crate::lines::first_line;
@@ -41,8 +43,8 @@ fn unquote(line: &[u8]) -> &[u8]
     }
 }
 
-// Appends a line, and before it the empty line that waits, if one does. An empty line waits until the next line shows that it
-// isn't the last of its message, which is left out.
+// Appends a line, and before it the empty line that waits, if one does. An empty line waits until
+// the next line shows that it isn't the last of its message, which is left out.
 fn write_line(into: &mut Text, opens: bool, line: &[u8]) -> Result<(), Memory>
     ensures { OnOk result (into.new ≡ into.old ++ written opens line.now) }
 {
@@ -82,8 +84,10 @@ fn next_message(text: &[u8]) -> &[u8]
 
 // Appends the text of the message at the start, and returns the text from the next message on.
 fn take_message<'a>(into: &mut Text, text: &'a [u8]) -> Result<&'a [u8], Memory>
-    ensures text { OnOk result (into.new ≡ into.old ++ message_text (message_from false (lines text.now))) }
-    ensures same { IfOk result (λ rest. messages_from true (lines rest.now) ≡ messages_from false (lines text.now)) }
+    ensures text { OnOk result
+        (into.new ≡ into.old ++ message_text (message_from false (lines text.now))) }
+    ensures same { IfOk result (λ rest.
+        messages_from true (lines rest.now) ≡ messages_from false (lines text.now)) }
     ensures start { IfOk result (λ rest. at_message (lines rest.now) ≡ true) }
     ensures shorter { IfOk result (λ rest. length rest.now ≤ length text.now) }
 {
@@ -101,9 +105,10 @@ fn take_message<'a>(into: &mut Text, text: &'a [u8]) -> Result<&'a [u8], Memory>
     Ok(rest)
 }
 
-/// Returns the texts of the messages of a mailbox file in mbox form (RFC 4155). A message begins after a line that begins
-/// with `From ` and is the first or follows an empty line; lines before the first such line are left out. A last empty line of
-/// a message is left out, a line of one or more `>` and then `From ` loses one `>`, and each line ends by LF. Fails with
+/// Returns the texts of the messages of a mailbox file in mbox form (RFC 4155). A message begins
+/// after a line that begins with `From ` and is the first or follows an empty line; lines before
+/// the first such line are left out. A last empty line of a message is left out, a line of one or
+/// more `>` and then `From ` loses one `>`, and each line ends by LF. Fails with
 /// `Memory` when out of memory.
 pub fn cut_mbox(alloc: Global, text: &[u8]) -> Result<Texts, Memory>
     ensures { IfOk result (λ texts. texts ≡ mbox_messages text.now) }

@@ -24,7 +24,8 @@ fn mbox_texts_are_cut(rt: HostRuntime) -> Result<(), Memory> {
     let rows: [(&[u8], &[u8]); 9] = [
         // two messages, a quoted line
         (
-            b"From a Mon Jun  1 10:00:00 1992\nSubject: one\n\nx\n>From here\n\nFrom b Mon Jun  1 10:01:00 1992\nSubject: two\n\n",
+            b"From a Mon Jun  1 10:00:00 1992\nSubject: one\n\nx\n>From here\n\n\
+            From b Mon Jun  1 10:01:00 1992\nSubject: two\n\n",
             b"{Subject: one\n\nx\nFrom here\n}{Subject: two\n}",
         ),
         (b"", b""),
@@ -54,7 +55,8 @@ fn mbox_texts_are_cut(rt: HostRuntime) -> Result<(), Memory> {
 
 #[test]
 fn lines_have_places(rt: HostRuntime) -> Result<(), Memory> {
-    // a CR before an LF is of no line, an empty line has no bytes, and a last line without an LF has its CR
+    // a CR before an LF is of no line, an empty line has no bytes, and a last line without an LF
+    // has its CR
     let text: &[u8] = b"a\r\n\nb\r";
     let first = LineAt {
         start: 0,

@@ -12,7 +12,8 @@ use Rattle.tql_core.specs.Condition.{Condition, Always, Never, Plain, NowAtLeast
 use Rattle.tql_core.specs.Bounds.{is_near, is_bounded_base, is_bounded, are_bounded}
 use Rattle.time_marks.specs.declared.mark.Mark.{Mark}
 use Rattle.time_marks.specs.declared.mark.Step.{Step}
-use Rattle.time_marks.specs.Marks.{copy, copy_base, copy_term, arrival_term, step_of, under_step, mark_if, marks, document_var, fixed_term, marks_from, rising_from}
+use Rattle.time_marks.specs.Marks.{copy, copy_base, copy_term, arrival_term, step_of, under_step, mark_if, marks, document_var, fixed_term}
+use Rattle.time_marks.specs.Marks.{marks_from, rising_from}
 
 abbrev pub bounded_marks : List Mark → Bool
 bounded_marks ms = list_all (λ mark. is_bounded mark.at) ms
@@ -48,7 +49,8 @@ inner (NowBefore e) up h = one (not up) (copy_term e) (copied_term e h)
 inner (All l r) up h = let p = and_parts _ _ h in both (marks l up) (marks r up) (inner l up p.0) (inner r up p.1)
 inner (Either l r) up h = let p = and_parts _ _ h in both (marks l up) (marks r up) (inner l up p.0) (inner r up p.1)
 inner (Not x) up h = inner x (not up) h
-inner (Exists v t x) up h = below_step (step_of v t x) (mark_if up (arrival_term (copy v)) ++ marks x up) (both (mark_if up (arrival_term (copy v))) (marks x up) (one up (arrival_term (copy v)) refl) (inner x up h))
+inner (Exists v t x) up h = below_step (step_of v t x) (mark_if up (arrival_term (copy v)) ++ marks x up)
+    (both (mark_if up (arrival_term (copy v))) (marks x up) (one up (arrival_term (copy v)) refl) (inner x up h))
 
 start_near : (a : ℤ) → pos 0 ≤ℤ a → a ≤ℤ pos 250000000000 → is_bounded (fixed_term a) ≡ true
 start_near a low high =
@@ -56,7 +58,8 @@ start_near a low high =
     let h : int_le a (pos 450000086400) ≡ true = grind (arith, ints) in
     rw (l, h) refl
 
-pub rising_bounded : (c : Condition) (a : ℤ) → are_bounded c ≡ true → pos 0 ≤ℤ a → a ≤ℤ pos 250000000000 → bounded_marks (rising_from c a) ≡ true
+pub rising_bounded : (c : Condition) (a : ℤ) → are_bounded c ≡ true → pos 0 ≤ℤ a → a ≤ℤ pos 250000000000
+    → bounded_marks (rising_from c a) ≡ true
 rising_bounded c a h low high =
     below_step (step_of document_var Docs c) (marks_from c a)
     (both (mark_if true (arrival_term document_var) ++ marks c true) (mark_if (int_lt (pos 0) a) (fixed_term a))

@@ -1,5 +1,6 @@
 -- How many variables a probe binds at once.
-use Rattle.std.proofs.Common.{◌≡◌, refl, sym, subst, arith, ℕ, zero, suc, ◌+◌, ◌≤◌, ℤ, pos, Bool, true, false, List, [], ◌∷◌, ◌++◌, length, inl, inr, if◌then◌else◌}
+use Rattle.std.proofs.Common.{◌≡◌, refl, sym, subst, arith, ℕ, zero, suc, ◌+◌, ◌≤◌, ℤ, pos, Bool, true, false, List, [], ◌∷◌, ◌++◌, length}
+use Rattle.std.proofs.Common.{inl, inr, if◌then◌else◌}
 use Rattle.std.specs.Prelude.{◌&&◌, not, nat_le, nat_eq, int_lt}
 use Rattle.std.specs.List.{list_any}
 use Rattle.std.proofs.lemmas.Bool.{cases_Bool, eqb-true}
@@ -12,10 +13,12 @@ use Rattle.tql_core.specs.Values.{compare}
 use Rattle.tql_core.specs.Scope.{Scoped, IsQuery}
 use Rattle.tap_rows.specs.Kept.{In}
 use Rattle.time_marks.specs.declared.mark.Mark.{Mark}
-use Rattle.time_marks.specs.Marks.{copy, copy_term, arrival_term, step_of, under_step, mark_if, marks, document_var, fixed_term, marks_from, body}
+use Rattle.time_marks.specs.Marks.{copy, copy_term, arrival_term, step_of, under_step, mark_if, marks, document_var, fixed_term, marks_from}
+use Rattle.time_marks.specs.Marks.{body}
 use Rattle.time_marks.specs.Found.{higher, nested}
 use Rattle.time_marks.proofs.Lists.{append_in, map_in}
-use Rattle.monotone_rewrite.specs.Folding.{KnownTruth, Yes, No, Open, known, constant, same_base, is_there, fold_all, fold_either, fold_not, fold_exists, fold}
+use Rattle.monotone_rewrite.specs.Folding.{KnownTruth, Yes, No, Open, known, constant, same_base, is_there, fold_all, fold_either, fold_not}
+use Rattle.monotone_rewrite.specs.Folding.{fold_exists, fold}
 
 high_left : (a b : ℕ) → a ≤ higher a b
 high_left a b = elim (cases_Bool (nat_le a b)) [ inl y ↦ rw y (le y) | inr n ↦ rw n (omega arith) ] where
@@ -60,7 +63,8 @@ short (Exists v t x) up mark i =
     let k = map_in (under_step (step_of v t x)) (mark_if up (arrival_term (copy v)) ++ marks x up) mark i in
     subst (λ z. length z.path ≤ suc (nested x)) (sym k.2) (longer k.0 (inner (λ z h. short x up z h) k.0 k.1))
   where
-    inner : ((z : Mark) → In z (marks x up) → length z.path ≤ nested x) → (z : Mark) → In z (mark_if up (arrival_term (copy v)) ++ marks x up) → length z.path ≤ nested x
+    inner : ((z : Mark) → In z (marks x up) → length z.path ≤ nested x) → (z : Mark)
+        → In z (mark_if up (arrival_term (copy v)) ++ marks x up) → length z.path ≤ nested x
     inner rest z j = elim (append_in (mark_if up (arrival_term (copy v))) (marks x up) z j) [
       | inl h ↦ omega (arith, empty_here up (arrival_term (copy v)) z h)
       | inr h ↦ rest z h
@@ -113,7 +117,8 @@ free_few false = omega arith
 
 -- a query's EXISTS stand in one another five times at most
 pub nested_few : (c : Condition) (scope : List ℕ) → Scoped scope c → nested c ≤ 5
-nested_few c scope s = omega (arith, nested_count c scope s, free_few (has 1 scope), free_few (has 2 scope), free_few (has 3 scope), free_few (has 4 scope), free_few (has 5 scope))
+nested_few c scope s = omega (arith, nested_count c scope s, free_few (has 1 scope), free_few (has 2 scope), free_few (has 3 scope),
+      free_few (has 4 scope), free_few (has 5 scope))
 
 pub short_from : (c : Condition) (a : ℤ) → IsQuery c → (mark : Mark) → In mark (marks_from c a) → length mark.path ≤ 5
 short_from c a q mark i =
@@ -131,8 +136,10 @@ nested_body Never at = omega arith
 nested_body (Plain a) at = omega arith
 nested_body (NowAtLeast e) at = omega arith
 nested_body (NowBefore e) at = omega arith
-nested_body (All l r) at = high_least (nested (body l at)) (nested (body r at)) (higher (nested l) (nested r)) (omega (arith, nested_body l at, high_left (nested l) (nested r))) (omega (arith, nested_body r at, high_right (nested l) (nested r)))
-nested_body (Either l r) at = high_least (nested (body l at)) (nested (body r at)) (higher (nested l) (nested r)) (omega (arith, nested_body l at, high_left (nested l) (nested r))) (omega (arith, nested_body r at, high_right (nested l) (nested r)))
+nested_body (All l r) at = high_least (nested (body l at)) (nested (body r at)) (higher (nested l) (nested r))
+    (omega (arith, nested_body l at, high_left (nested l) (nested r))) (omega (arith, nested_body r at, high_right (nested l) (nested r)))
+nested_body (Either l r) at = high_least (nested (body l at)) (nested (body r at)) (higher (nested l) (nested r))
+    (omega (arith, nested_body l at, high_left (nested l) (nested r))) (omega (arith, nested_body r at, high_right (nested l) (nested r)))
 nested_body (Not x) at = nested_body x at
 nested_body (Exists v t x) at = omega (arith, high_least 0 (nested (body x at)) (nested x) (omega arith) (nested_body x at))
 
@@ -180,7 +187,9 @@ nested_fold at (Plain (Times x op y)) =
     ]
 nested_fold at (NowAtLeast e) = omega arith
 nested_fold at (NowBefore e) = omega arith
-nested_fold at (All l r) = omega (arith, all_nested (known (fold at l)) (known (fold at r)) (fold at l) (fold at r), higher_both (nested (fold at l)) (nested (fold at r)) (nested l) (nested r) (nested_fold at l) (nested_fold at r))
-nested_fold at (Either l r) = omega (arith, either_nested (known (fold at l)) (known (fold at r)) (fold at l) (fold at r), higher_both (nested (fold at l)) (nested (fold at r)) (nested l) (nested r) (nested_fold at l) (nested_fold at r))
+nested_fold at (All l r) = omega (arith, all_nested (known (fold at l)) (known (fold at r)) (fold at l) (fold at r),
+      higher_both (nested (fold at l)) (nested (fold at r)) (nested l) (nested r) (nested_fold at l) (nested_fold at r))
+nested_fold at (Either l r) = omega (arith, either_nested (known (fold at l)) (known (fold at r)) (fold at l) (fold at r),
+      higher_both (nested (fold at l)) (nested (fold at r)) (nested l) (nested r) (nested_fold at l) (nested_fold at r))
 nested_fold at (Not x) = omega (arith, not_nested (known (fold at x)) (fold at x), nested_fold at x)
 nested_fold at (Exists v t x) = omega (arith, exists_nested (known (fold at x)) v t (fold at x), nested_fold at x)

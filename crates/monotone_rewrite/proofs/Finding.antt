@@ -17,7 +17,8 @@ use Rattle.tql_core.specs.Scope.{Scoped, IsQuery}
 use Rattle.tap_rows.specs.Kept.{In}
 use Rattle.time_marks.specs.declared.mark.Step.{Step}
 use Rattle.time_marks.specs.declared.mark.Mark.{Mark}
-use Rattle.time_marks.specs.Marks.{copied, copy, copy_term, arrival_term, step_of, under_step, mark_if, marks, document_var, fixed_term, marks_from, rising_from, body}
+use Rattle.time_marks.specs.Marks.{copied, copy, copy_term, arrival_term, step_of, under_step, mark_if, marks, document_var, fixed_term}
+use Rattle.time_marks.specs.Marks.{marks_from, rising_from, body}
 use Rattle.time_marks.specs.Probes.{choices, some_rows, come_by, is_satisfied, finds, found}
 use Rattle.monotone_rewrite.specs.Query.{probe_of, unfolded}
 use Rattle.time_marks.specs.Laws.{Keeps, Same, Along, Crossed}
@@ -57,13 +58,16 @@ fine (Either l r) up scope sc mark i =
 fine (Not x) up scope sc mark i = fine x (not up) scope sc mark i
 fine (Exists v t x) up scope sc mark i =
     let k = map_in (under_step (step_of v t x)) (mark_if up (arrival_term (copy v)) ++ marks x up) mark i in
-    let f : Fine k.0 = elim (append_in (mark_if up (arrival_term (copy v))) (marks x up) k.0 k.1) [ inl j ↦ fine_if up (arrival_term v) k.0 j | inr j ↦ fine x up (v.0 ∷ scope) sc.3 k.0 j ] in
-    record { apart = subst (λ z. Apart z.path) (sym k.2) (copied_pos v.0 sc.0, f.apart); term = f.term; is_copy = ap (λ z. z.at) k.2 ∙ f.is_copy }
+    let f : Fine k.0 = elim (append_in (mark_if up (arrival_term (copy v))) (marks x up) k.0 k.1) [ inl j ↦
+          fine_if up (arrival_term v) k.0 j | inr j ↦ fine x up (v.0 ∷ scope) sc.3 k.0 j ] in
+    record { apart = subst (λ z. Apart z.path) (sym k.2) (copied_pos v.0 sc.0, f.apart); term = f.term; is_copy = ap (λ z. z.at) k.2
+        ∙ f.is_copy }
 
 pub fine_from : (c : Condition) (a : ℤ) → IsQuery c → (mark : Mark) → In mark (marks_from c a) → Fine mark
 fine_from c a q mark i =
     elim (append_in (mark_if true (arrival_term document_var) ++ marks c true) (mark_if (int_lt (pos 0) a) (fixed_term a)) mark i) [
-      | inl j ↦ elim (append_in (mark_if true (arrival_term document_var)) (marks c true) mark j) [ inl k ↦ fine_if true (arrival_term document_var) mark k | inr k ↦ fine c true (0 ∷ []) q mark k ]
+      | inl j ↦ elim (append_in (mark_if true (arrival_term document_var)) (marks c true) mark j) [ inl k ↦
+          fine_if true (arrival_term document_var) mark k | inr k ↦ fine c true (0 ∷ []) q mark k ]
       | inr j ↦ fine_if (int_lt (pos 0) a) (fixed_term a) mark j
     ]
 
@@ -72,13 +76,15 @@ module _ (T : Tables) (d : Doc) where
   choices_other step h = rw (ne_eqb step.var.0 0 h)
 
   -- rows along a path that pass the test
-  pub rows_pass : (s : ℤ) (path : List Step) (env final : Env) (test : Env → Bool) → Apart path → Along T s path env final → test final ≡ true → some_rows T d path env test ≡ true
+  pub rows_pass : (s : ℤ) (path : List Step) (env final : Env) (test : Env → Bool) → Apart path → Along T s path env final
+      → test final ≡ true → some_rows T d path env test ≡ true
   rows_pass s [] env final test a e h = subst (λ x. test x ≡ true) e h
   rows_pass s (step ∷ path) env final test a (r, i, c, along) h =
       rw (choices_other step a.0) (in_any _ (rows_of step.table T) r i (rows_pass s path (bind step.var r env) final test a.1 along h))
 
   -- the other way round: some rows that do
-  pub some_pass : (b : ℤ) (path : List Step) (env : Env) (test : Env → Bool) → Apart path → some_rows T d path env test ≡ true → (final : Env) × (test final ≡ true) × (lookup 0 final ≡ lookup 0 env) × (come_by b final ≡ true → come_by b env ≡ true)
+  pub some_pass : (b : ℤ) (path : List Step) (env : Env) (test : Env → Bool) → Apart path → some_rows T d path env test ≡ true
+      → (final : Env) × (test final ≡ true) × (lookup 0 final ≡ lookup 0 env) × (come_by b final ≡ true → come_by b env ≡ true)
   some_pass b [] env test a h = (env, h, refl, λ k. k)
   some_pass b (step ∷ path) env test a h =
       let k = any_in (λ r. some_rows T d path (bind step.var r env) test) (choices T d step) h in
@@ -98,15 +104,18 @@ module _ (c : Condition) (a : ℤ) (q : IsQuery c) (T : Tables) (d : Doc) where
   keeps_m k (inl e) = subst (λ j. lookup (copied j) (asked_of d) ≡ lookup j (asked_of d)) (sym e) refl
   keeps_m k (inr i) = absurd i
 
-  crossed_found : (s : ℤ) → int_le d.arrival s ≡ true → truth (visible T s) s c (asked_of d) ≡ true → Crossed T s (0 ∷ []) (asked_of d) (asked_of d) (marks_from c a) → found (unfolded c a) T d s ≡ true
+  crossed_found : (s : ℤ) → int_le d.arrival s ≡ true → truth (visible T s) s c (asked_of d) ≡ true
+      → Crossed T s (0 ∷ []) (asked_of d) (asked_of d) (marks_from c a) → found (unfolded c a) T d s ≡ true
   crossed_found s come y k =
       let f = fine_from c a q k.mark k.is_mark in
       let mark = under_step (step_of document_var Docs c) k.mark in
       let here = subst (λ t. value t k.final ≡ Some s) f.is_copy k.reaches in
-      let true_body = subst (λ t. truth T (pos 0) (body c t) k.final ≡ true) (sym f.is_copy) (body_truth T (pos 0) s f.term c (0 ∷ []) (asked_of d) k.final q (only_m k.final (k.keeps 0 (inl refl))) here ∙ y) in
+      let true_body = subst (λ t. truth T (pos 0) (body c t) k.final ≡ true) (sym f.is_copy)
+          (body_truth T (pos 0) s f.term c (0 ∷ []) (asked_of d) k.final q (only_m k.final (k.keeps 0 (inl refl))) here ∙ y) in
       let guards = and_from _ _ (guards_hold (0 ∷ []) (asked_of d) k.final k.keeps (visible T s) s c q y) k.guards in
       let come' = along_come T d s k.mark.path (asked_of d) k.final k.along (and_from _ _ come refl) in
-      let fit : is_satisfied (probe_of c mark) T s k.final ≡ true = and_from _ _ (and_from _ _ (and_from _ _ guards (value_is _ s k.reaches)) come') true_body in
+      let fit : is_satisfied (probe_of c mark) T s k.final ≡ true =
+          and_from _ _ (and_from _ _ (and_from _ _ guards (value_is _ s k.reaches)) come') true_body in
       in_any (finds T d s) (unfolded c a) (probe_of c mark)
       (in_map (probe_of c) (rising_from c a) mark (in_map (under_step (step_of document_var Docs c)) (marks_from c a) k.mark k.is_mark))
       (or_left _ false (rows_pass T d s k.mark.path (asked_of d) k.final (is_satisfied (probe_of c mark) T s) f.apart k.along fit))
@@ -115,7 +124,8 @@ module _ (c : Condition) (a : ℤ) (q : IsQuery c) (T : Tables) (d : Doc) where
   pub begins : (u s : ℤ) → s ≡ u +ℤ pos 1 → given c T d u ≡ false → given c T d s ≡ true → found (unfolded c a) T d s ≡ true
   begins u s n h b =
       let p = and_parts (int_le d.arrival s) (truth (visible T s) s c (asked_of d)) b in
-      crossed_found s p.0 p.1 (crossed_left T s (0 ∷ []) (asked_of d) (asked_of d) (mark_if true (arrival_term document_var) ++ marks c true) (mark_if (int_lt (pos 0) a) (fixed_term a)) (
+      crossed_found s p.0 p.1 (crossed_left T s (0 ∷ []) (asked_of d) (asked_of d)
+          (mark_if true (arrival_term document_var) ++ marks c true) (mark_if (int_lt (pos 0) a) (fixed_term a)) (
       elim (cases_Bool (int_le d.arrival u)) [
         | inl was ↦
             let a' : truth (visible T u) u c (asked_of d) ≡ false = rw was at h in
@@ -123,7 +133,8 @@ module _ (c : Condition) (a : ℤ) (q : IsQuery c) (T : Tables) (d : Doc) where
             (crossing T u s n c true (0 ∷ []) (asked_of d) (asked_of d) q keeps_m a' p.1)
         | inr new ↦
             crossed_left T s (0 ∷ []) (asked_of d) (asked_of d) (mark_if true (arrival_term document_var)) (marks c true)
-            (crossed_here T s (0 ∷ []) (asked_of d) (asked_of d) true (arrival_term document_var) refl (ap Some (plus_none d.arrival ∙ reached u s d.arrival n new p.0)) keeps_m)
+            (crossed_here T s (0 ∷ []) (asked_of d) (asked_of d) true (arrival_term document_var) refl
+              (ap Some (plus_none d.arrival ∙ reached u s d.arrival n new p.0)) keeps_m)
       ]))
 
   -- and so is one that is given at the start, if that is above 0
@@ -132,7 +143,8 @@ module _ (c : Condition) (a : ℤ) (q : IsQuery c) (T : Tables) (d : Doc) where
       let p = and_parts (int_le d.arrival a) (truth (visible T a) a c (asked_of d)) b in
       let late : int_lt (pos 0) a ≡ true = grind (arith, ints) in
       let sum : pos 0 +ℤ a ≡ a = omega (arith, ints) in
-      crossed_found a p.0 p.1 (crossed_right T a (0 ∷ []) (asked_of d) (asked_of d) (mark_if true (arrival_term document_var) ++ marks c true) (mark_if (int_lt (pos 0) a) (fixed_term a))
+      crossed_found a p.0 p.1 (crossed_right T a (0 ∷ []) (asked_of d) (asked_of d)
+          (mark_if true (arrival_term document_var) ++ marks c true) (mark_if (int_lt (pos 0) a) (fixed_term a))
       (crossed_here T a (0 ∷ []) (asked_of d) (asked_of d) (int_lt (pos 0) a) (fixed_term a) late (ap Some sum) keeps_m))
 
   -- and whatever is found is given then
@@ -143,8 +155,10 @@ module _ (c : Condition) (a : ℤ) (q : IsQuery c) (T : Tables) (d : Doc) where
       let k = map_in (probe_of c) (rising_from c a) p.0 p.1 in
       let l = map_in (under_step step) (marks_from c a) k.0 k.1 in
       let f = fine_from c a q l.0 l.1 in
-      let finds' : finds T d b (probe_of c (under_step step l.0)) ≡ true = subst (λ z. finds T d b z ≡ true) (k.2 ∙ ap (probe_of c) l.2) p.2 in
-      let some : some_rows T d l.0.path (asked_of d) (is_satisfied (probe_of c (under_step step l.0)) T b) ≡ true = elim (or_cases _ false finds') [ inl y ↦ y | inr n ↦ absurd (false≢true n) ] in
+      let finds' : finds T d b (probe_of c (under_step step l.0)) ≡ true =
+          subst (λ z. finds T d b z ≡ true) (k.2 ∙ ap (probe_of c) l.2) p.2 in
+      let some : some_rows T d l.0.path (asked_of d) (is_satisfied (probe_of c (under_step step l.0)) T b) ≡ true =
+          elim (or_cases _ false finds') [ inl y ↦ y | inr n ↦ absurd (false≢true n) ] in
       let e = some_pass T d b l.0.path (asked_of d) (is_satisfied (probe_of c (under_step step l.0)) T b) f.apart some in
       let w = and_parts _ _ e.1 in
       let x = and_parts _ _ w.0 in

@@ -27,7 +27,8 @@ use Rattle.tql_core.specs.Holds.{truth}
 use Rattle.tql_core.specs.Scope.{BaseIn, NumIn, TextIn, AtomIn, Scoped}
 use Rattle.tap_rows.specs.Kept.{In}
 use Rattle.time_marks.specs.Marks.{copy_base, copy_term, body}
-use Rattle.monotone_rewrite.specs.Folding.{KnownTruth, Yes, No, Open, known, is_no, constant, same_base, is_there, fold_atom, fold_all, fold_either, fold_not, fold_exists, fold}
+use Rattle.monotone_rewrite.specs.Folding.{KnownTruth, Yes, No, Open, known, is_no, constant, same_base, is_there, fold_atom, fold_all}
+use Rattle.monotone_rewrite.specs.Folding.{fold_either, fold_not, fold_exists, fold}
 use Rattle.time_marks.specs.Found.{NamesInScope}
 use Rattle.time_marks.proofs.Lists.{any_same}
 use Rattle.time_marks.proofs.Envs.{bind_same, bind_other, base_stays}
@@ -116,7 +117,8 @@ base_wider v scope Fixed i = tt
 base_wider v scope (ArrivalDay w n) i = inr i
 base_wider v scope (DateDay w n) i = inr i
 
-pub body_named : (at : Term) (c : Condition) (scope outer : List ℕ) → Scoped scope c → ((k : ℕ) → In k scope → In k outer) → BaseIn outer at.base → NamesInScope outer (body c at)
+pub body_named : (at : Term) (c : Condition) (scope outer : List ℕ) → Scoped scope c → ((k : ℕ) → In k scope → In k outer)
+    → BaseIn outer at.base → NamesInScope outer (body c at)
 body_named at Always scope outer sc h b = tt
 body_named at Never scope outer sc h b = tt
 body_named at (Plain a) scope outer sc h b = atom_within scope outer h a sc
@@ -134,18 +136,24 @@ module _ (T : Tables) (n : ℤ) (e : Term) where
   abbrev Present : Env → Type 0
   Present env = (z : ℤ) × (base_value (copy_base e.base) env ≡ Some z)
 
-  there : (scope : List ℕ) (env : Env) → Bounds scope env → Present env → (b : Base) → BaseIn scope b → is_there (copy_term e) b ≡ true → (z : ℤ) × (base_value b env ≡ Some z)
+  there : (scope : List ℕ) (env : Env) → Bounds scope env → Present env → (b : Base) → BaseIn scope b → is_there (copy_term e) b ≡ true
+      → (z : ℤ) × (base_value b env ≡ Some z)
   there scope env h p (Arrival v) i y = let k = h v.0 i in (arrival k.0, ap (λ o. on_row o (λ r. Some (arrival r))) k.1)
   there scope env h p (Date v) i y = let q = same_base_is (Date v) (copy_base e.base) y in (p.0, ap (λ b. base_value b env) q ∙ p.1)
   there scope env h p Fixed i y = (pos 0, refl)
-  there scope env h p (ArrivalDay v n) i y = let q = same_base_is (ArrivalDay v n) (copy_base e.base) y in (p.0, ap (λ b. base_value b env) q ∙ p.1)
-  there scope env h p (DateDay v n) i y = let q = same_base_is (DateDay v n) (copy_base e.base) y in (p.0, ap (λ b. base_value b env) q ∙ p.1)
+  there scope env h p (ArrivalDay v n) i y =
+      let q = same_base_is (ArrivalDay v n) (copy_base e.base) y in
+      (p.0, ap (λ b. base_value b env) q ∙ p.1)
+  there scope env h p (DateDay v n) i y =
+      let q = same_base_is (DateDay v n) (copy_base e.base) y in
+      (p.0, ap (λ b. base_value b env) q ∙ p.1)
 
   constant_truth : (b : Bool) (env : Env) → truth T n (constant b) env ≡ b
   constant_truth true env = refl
   constant_truth false env = refl
 
-  fold_times : (x y : Term) (op : Op) (scope : List ℕ) (env : Env) → BaseIn scope x.base → Bounds scope env → Present env → truth T n (fold_atom (copy_term e) (Times x op y)) env ≡ both op (value x env) (value y env)
+  fold_times : (x y : Term) (op : Op) (scope : List ℕ) (env : Env) → BaseIn scope x.base → Bounds scope env → Present env
+      → truth T n (fold_atom (copy_term e) (Times x op y)) env ≡ both op (value x env) (value y env)
   fold_times x y op scope env i h p =
       elim (cases_Bool (same_base x.base y.base && is_there (copy_term e) x.base)) [
         | inl t ↦
@@ -153,12 +161,14 @@ module _ (T : Tables) (n : ℤ) (e : Term) where
             let same = same_base_is x.base y.base w.0 in
             let z = there scope env h p x.base i w.1 in
             let vx : value x env ≡ Some (z.0 +ℤ x.plus) = ap (λ o. plus_to o x.plus) z.1 in
-            let vy : value y env ≡ Some (z.0 +ℤ y.plus) = ap (λ b. plus_to (base_value b env) y.plus) (sym same) ∙ ap (λ o. plus_to o y.plus) z.1 in
+            let vy : value y env ≡ Some (z.0 +ℤ y.plus) = ap (λ b. plus_to (base_value b env) y.plus) (sym same)
+                ∙ ap (λ o. plus_to o y.plus) z.1 in
             rw (t, vx, vy) (constant_truth (compare op x.plus y.plus) env ∙ sym (moved op z.0 x.plus y.plus))
         | inr f ↦ rw f
       ]
 
-  all_truth : (k k' : KnownTruth) (l r : Condition) (env : Env) → known l ≡ k → known r ≡ k' → truth T n (fold_all k k' l r) env ≡ (truth T n l env && truth T n r env)
+  all_truth : (k k' : KnownTruth) (l r : Condition) (env : Env) → known l ≡ k → known r ≡ k'
+      → truth T n (fold_all k k' l r) env ≡ (truth T n l env && truth T n r env)
   all_truth No k' l r env a b = rw (no_is l a)
   all_truth Yes k' l r env a b = rw (yes_is l a)
   all_truth Open No l r env a b = rw (no_is r b) (sym (and_false (truth T n l env)))
@@ -173,7 +183,8 @@ module _ (T : Tables) (n : ℤ) (e : Term) where
       and_true false = refl
   all_truth Open Open l r env a b = refl
 
-  either_truth : (k k' : KnownTruth) (l r : Condition) (env : Env) → known l ≡ k → known r ≡ k' → truth T n (fold_either k k' l r) env ≡ (truth T n l env || truth T n r env)
+  either_truth : (k k' : KnownTruth) (l r : Condition) (env : Env) → known l ≡ k → known r ≡ k'
+      → truth T n (fold_either k k' l r) env ≡ (truth T n l env || truth T n r env)
   either_truth Yes k' l r env a b = rw (yes_is l a)
   either_truth No k' l r env a b = rw (no_is l a)
   either_truth Open Yes l r env a b = rw (yes_is r b) (sym (or_true (truth T n l env)))
@@ -197,13 +208,15 @@ module _ (T : Tables) (n : ℤ) (e : Term) where
   any_false [] = refl
   any_false (x ∷ xs) = any_false xs
 
-  exists_truth : (k : KnownTruth) (v : Var) (t : Table) (x : Condition) (env : Env) → known x ≡ k → truth T n (fold_exists k v t x) env ≡ truth T n (Exists v t x) env
+  exists_truth : (k : KnownTruth) (v : Var) (t : Table) (x : Condition) (env : Env) → known x ≡ k
+      → truth T n (fold_exists k v t x) env ≡ truth T n (Exists v t x) env
   exists_truth Yes v t x env a = refl
   exists_truth Open v t x env a = refl
   exists_truth No v t x env a = rw (no_is x a) (sym (any_false (rows_of t T)))
 
   -- folding keeps the truth of a body if at is present
-  pub fold_truth : (x : Condition) (scope : List ℕ) (env : Env) → NamesInScope scope x → Bounds scope env → Present env → truth T n (fold (copy_term e) x) env ≡ truth T n x env
+  pub fold_truth : (x : Condition) (scope : List ℕ) (env : Env) → NamesInScope scope x → Bounds scope env → Present env
+      → truth T n (fold (copy_term e) x) env ≡ truth T n x env
   fold_truth Always scope env na h p = refl
   fold_truth Never scope env na h p = refl
   fold_truth (Plain (Numbers x op y)) scope env na h p = refl
@@ -212,9 +225,12 @@ module _ (T : Tables) (n : ℤ) (e : Term) where
   fold_truth (Plain (Times x op y)) scope env na h p = fold_times x y op scope env na.0 h p
   fold_truth (NowAtLeast y) scope env na h p = absurd na
   fold_truth (NowBefore y) scope env na h p = absurd na
-  fold_truth (All l r) scope env na h p = all_truth _ _ (fold (copy_term e) l) (fold (copy_term e) r) env refl refl ∙ rw (fold_truth l scope env na.0 h p, fold_truth r scope env na.1 h p)
-  fold_truth (Either l r) scope env na h p = either_truth _ _ (fold (copy_term e) l) (fold (copy_term e) r) env refl refl ∙ rw (fold_truth l scope env na.0 h p, fold_truth r scope env na.1 h p)
+  fold_truth (All l r) scope env na h p = all_truth _ _ (fold (copy_term e) l) (fold (copy_term e) r) env refl refl
+      ∙ rw (fold_truth l scope env na.0 h p, fold_truth r scope env na.1 h p)
+  fold_truth (Either l r) scope env na h p = either_truth _ _ (fold (copy_term e) l) (fold (copy_term e) r) env refl refl
+      ∙ rw (fold_truth l scope env na.0 h p, fold_truth r scope env na.1 h p)
   fold_truth (Not x) scope env na h p = not_truth _ (fold (copy_term e) x) env refl ∙ ap not (fold_truth x scope env na h p)
   fold_truth (Exists v t x) scope env na h p =
       exists_truth _ v t (fold (copy_term e) x) env refl
-      ∙ any_same _ _ (rows_of t T) (λ r. fold_truth x (v.0 ∷ scope) (bind v r env) na.2 (bounds_bind scope env v r h) (p.0, base_stays e.base v r env na.0 na.1 ∙ p.1))
+      ∙ any_same _ _ (rows_of t T) (λ r.
+          fold_truth x (v.0 ∷ scope) (bind v r env) na.2 (bounds_bind scope env v r h) (p.0, base_stays e.base v r env na.0 na.1 ∙ p.1))

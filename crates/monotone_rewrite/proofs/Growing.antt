@@ -1,5 +1,6 @@
 -- Rows that come later, and the union as the least growing family.
-use Rattle.std.proofs.Common.{◌≡◌, ℕ, zero, suc, ℤ, pos, Bool, true, Option, Some, None, List, [], ◌∷◌, refl, sym, ap, ◌∙◌, subst, inl, inr, arith}
+use Rattle.std.proofs.Common.{◌≡◌, ℕ, zero, suc, ℤ, pos, Bool, true, Option, Some, None, List, [], ◌∷◌, refl, sym, ap, ◌∙◌, subst, inl, inr}
+use Rattle.std.proofs.Common.{arith}
 use Rattle.std.specs.Prelude.{◌⊎◌, ◌+ℤ◌, ◌≤ℤ◌, ◌<ℤ◌, nat_eq}
 use Rattle.std.specs.List.{filter, filter_map, cons_option}
 use Rattle.std.proofs.lemmas.Bool.{cases_Bool, both_ways, eqb-true, eq-eqb}
@@ -21,7 +22,8 @@ use Rattle.tap_rows.proofs.SecondsLaws.{first_from-none, first_from-within, gap-
 use Rattle.monotone_rewrite.proofs.Union.{keep_all}
 
 pub later_keeps_first : LaterRowsKeepFirst
-later_keeps_first c t tables later doc start until grown le = first-later (truth_of c) t tables later doc start until (of-the-second c) grown le
+later_keeps_first c t tables later doc start until grown le =
+    first-later (truth_of c) t tables later doc start until (of-the-second c) grown le
 
 -- the first of the numbers tried is found if one of them passes
 first_there : (p : ℤ → Bool) (n : ℕ) (a x : ℤ) → a ≤ℤ x → x <ℤ (a +ℤ pos n) → p x ≡ true → (f : ℤ) × (first_from p n a ≡ Some f)
@@ -48,7 +50,8 @@ in_put a [] h i = i
 in_put a (b ∷ bs) h i =
     elim (cases_Bool (is_before a b)) [
       | inl y ↦ rw y i
-      | inr n ↦ rw n (elim i [ inl e ↦ inr (in_put a bs h (inl e)) | inr j ↦ elim j [ inl e ↦ inl e | inr k ↦ inr (in_put a bs h (inr k)) ] ])
+      | inr n ↦
+        rw n (elim i [ inl e ↦ inr (in_put a bs h (inl e)) | inr j ↦ elim j [ inl e ↦ inl e | inr k ↦ inr (in_put a bs h (inr k)) ] ])
     ]
 
 put_out : (a : Hit) (bs : List Hit) (h : Hit) → In h (put_in a bs) → In h (a ∷ bs)
@@ -79,12 +82,14 @@ cons_out (Some x) hs h (inl e) = inl (ap Some (sym e))
 cons_out (Some x) hs h (inr i) = inr i
 
 -- a document with a second is among the hits
-in_hits : (second : Doc → Option ℤ) (docs : List Doc) (d : Doc) (s : ℤ) → In d docs → second d ≡ Some s → In (record { doc = d.num; first = s }) (filter_map (λ d. hit_of d (second d)) docs)
+in_hits : (second : Doc → Option ℤ) (docs : List Doc) (d : Doc) (s : ℤ) → In d docs → second d ≡ Some s
+    → In (record { doc = d.num; first = s }) (filter_map (λ d. hit_of d (second d)) docs)
 in_hits second [] d s i h = absurd i
 in_hits second (x ∷ docs) d s (inl e) h =
     let h' : second x ≡ Some s = ap second (sym e) ∙ h in
     rw h' (inl (ap (λ (z : Doc). record { doc = z.num; first = s }) e))
-in_hits second (x ∷ docs) d s (inr i) h = cons_in (hit_of x (second x)) (filter_map (λ d. hit_of d (second d)) docs) _ (in_hits second docs d s i h)
+in_hits second (x ∷ docs) d s (inr i) h =
+    cons_in (hit_of x (second x)) (filter_map (λ d. hit_of d (second d)) docs) _ (in_hits second docs d s i h)
 
 hit_is : (x : Doc) (o : Option ℤ) (h : Hit) → hit_of x o ≡ Some h → (o ≡ Some h.first) × (h.doc ≡ x.num)
 hit_is x None h e = absurd cc
@@ -95,7 +100,8 @@ hit_is x (Some s) h e =
     some_same : {a b : Hit} → Some a ≡ Some b → a ≡ b
     some_same e = cc
 
-hits_in : (second : Doc → Option ℤ) (docs : List Doc) (h : Hit) → In h (filter_map (λ d. hit_of d (second d)) docs) → (d : Doc) × In d docs × (second d ≡ Some h.first) × (h.doc ≡ d.num)
+hits_in : (second : Doc → Option ℤ) (docs : List Doc) (h : Hit) → In h (filter_map (λ d. hit_of d (second d)) docs)
+    → (d : Doc) × In d docs × (second d ≡ Some h.first) × (h.doc ≡ d.num)
 hits_in second [] h i = absurd i
 hits_in second (x ∷ docs) h i =
     elim (cons_out (hit_of x (second x)) (filter_map (λ d. hit_of d (second d)) docs) h i) [
@@ -128,17 +134,20 @@ module _ (c : Condition) (T : Tables) (a : ℤ) where
       let z = gap-is a t (omega (arith, ints)) in
       let f = first_there (given c T d) (count_between a t) a s lo (omega (arith, ints, z)) y in
       let hit = in_ordered _ _ (in_hits (λ d. at_least a (first c T d a t)) T.docs d f.0 i (zero_on t d ∙ f.1)) in
-      in_any (λ k. nat_eq k d.num.0) (union_docs c T a t) d.num.0 (in_map (λ (h : Hit). h.doc.0) (union c T a t) _ hit) (eq-eqb d.num.0 d.num.0 refl)
+      in_any (λ k. nat_eq k d.num.0) (union_docs c T a t) d.num.0 (in_map (λ (h : Hit). h.doc.0) (union c T a t) _ hit)
+          (eq-eqb d.num.0 d.num.0 refl)
 
   -- and the other way round
-  in_given : (t : ℤ) (n : ℕ) → in_union c T a t n ≡ true → (d : Doc) × (s : ℤ) × In d T.docs × (n ≡ d.num.0) × (a ≤ℤ s) × (s <ℤ t) × (given c T d s ≡ true)
+  in_given : (t : ℤ) (n : ℕ) → in_union c T a t n ≡ true
+      → (d : Doc) × (s : ℤ) × In d T.docs × (n ≡ d.num.0) × (a ≤ℤ s) × (s <ℤ t) × (given c T d s ≡ true)
   in_given t n y =
       let k = any_in (λ k. nat_eq k n) (union_docs c T a t) y in
       let l = map_in (λ (h : Hit). h.doc.0) (union c T a t) k.0 k.1 in
       let r = hits_in (λ d. at_least a (first c T d a t)) T.docs l.0 (ordered_in _ l.0 l.1) in
       let e : first c T r.0 a t ≡ Some l.0.first = sym (zero_on t r.0) ∙ r.2 in
       let b = first_from-within (given c T r.0) (count_between a t) a l.0.first e in
-      (r.0, l.0.first, r.1, sym (eqb-true k.0 n k.2) ∙ l.2 ∙ ap (λ z. z.0) r.3, b.0, gap-end a t l.0.first b.0 b.1, first_passes (given c T r.0) (count_between a t) a l.0.first e)
+      (r.0, l.0.first, r.1, sym (eqb-true k.0 n k.2) ∙ l.2
+        ∙ ap (λ z. z.0) r.3, b.0, gap-end a t l.0.first b.0 b.1, first_passes (given c T r.0) (count_between a t) a l.0.first e)
 
   gives_in : (d : Doc) (s : ℤ) → In d (gives c T s) → In d T.docs × (given c T d s ≡ true)
   gives_in d s i = filter_in (λ d. given c T d s) T.docs d i

@@ -1,5 +1,6 @@
 -- The window query's meaning is the union over past seconds, before folding.
-use Rattle.std.proofs.Common.{◌≡◌, ℕ, ◌+◌, ℤ, pos, negsuc, Bool, true, false, not, Option, Some, None, List, [], ◌∷◌, refl, sym, ap, ◌∙◌, subst, inl, inr, arith}
+use Rattle.std.proofs.Common.{◌≡◌, ℕ, ◌+◌, ℤ, pos, negsuc, Bool, true, false, not, Option, Some, None, List, [], ◌∷◌, refl, sym, ap, ◌∙◌}
+use Rattle.std.proofs.Common.{subst, inl, inr, arith}
 use Rattle.std.specs.Prelude.{◌+ℤ◌, ◌-ℤ◌, ◌≤ℤ◌, int_le, is_some}
 use Rattle.std.specs.List.{filter, filter_map}
 use Rattle.std.proofs.lemmas.Bool.{cases_Bool}
@@ -20,7 +21,8 @@ use Rattle.monotone_rewrite.specs.Laws.{IsUnionOf}
 use Rattle.time_marks.proofs.Seconds.{first_same}
 use Rattle.monotone_rewrite.proofs.Finding.{begins, starts, found_given}
 
-pub hits_same : (f g : Doc → Option ℤ) (docs : List Doc) → ((d : Doc) → In d docs → f d ≡ g d) → filter_map (λ d. hit_of d (f d)) docs ≡ filter_map (λ d. hit_of d (g d)) docs
+pub hits_same : (f g : Doc → Option ℤ) (docs : List Doc) → ((d : Doc) → In d docs → f d ≡ g d)
+    → filter_map (λ d. hit_of d (f d)) docs ≡ filter_map (λ d. hit_of d (g d)) docs
 hits_same f g [] h = refl
 hits_same f g (d ∷ ds) h = rw (h d (inl refl), hits_same f g ds (λ e i. h e (inr i)))
 
@@ -28,7 +30,8 @@ abbrev none_if : Bool → Option ℤ → Option ℤ
 none_if true o = None
 none_if false o = o
 
-hits_without : (seen : Doc → Bool) (f : Doc → Option ℤ) (docs : List Doc) → filter_map (λ d. hit_of d (f d)) (filter (λ d. not (seen d)) docs) ≡ filter_map (λ d. hit_of d (none_if (seen d) (f d))) docs
+hits_without : (seen : Doc → Bool) (f : Doc → Option ℤ) (docs : List Doc)
+    → filter_map (λ d. hit_of d (f d)) (filter (λ d. not (seen d)) docs) ≡ filter_map (λ d. hit_of d (none_if (seen d) (f d))) docs
 hits_without seen f [] = refl
 hits_without seen f (d ∷ ds) =
     elim (cases_Bool (seen d)) [
@@ -57,7 +60,8 @@ module _ (c : Condition) (a : ℤ) (q : IsQuery c) (start : pos 0 ≤ℤ a) (T :
       (λ w. let z : a ≡ negsuc 0 +ℤ pos 1 = omega (arith, ints) in begins c a q T d (negsuc 0) a z not_yet y)
 
   -- the first second is the least mark
-  least_first : (n : ℕ) (x : ℤ) → (given c T d x ≡ true → found (unfolded c a) T d x ≡ true) → first_from (given c T d) n x ≡ first_from (found (unfolded c a) T d) n x
+  least_first : (n : ℕ) (x : ℤ) → (given c T d x ≡ true → found (unfolded c a) T d x ≡ true)
+      → first_from (given c T d) n x ≡ first_from (found (unfolded c a) T d) n x
   least_first n x st = first_same (given c T d) (found (unfolded c a) T d) n x st (found_given c a q T d) (begins c a q T d)
 
   pub first_whole : (t : ℤ) → least (unfolded c a) T d (record { low = a; high = t }) ≡ first c T d a t
@@ -71,19 +75,24 @@ module _ (c : Condition) (a : ℤ) (q : IsQuery c) (start : pos 0 ≤ℤ a) (T :
       let b = tau -ℤ pos 1 in
       let next : tau ≡ b +ℤ pos 1 = omega (arith, ints) in
       let z = gap-is a tau h in
-      begins c a q T d b tau next (first_from-none (given c T d) (count_between a tau) a b n (omega (arith, ints)) (omega (arith, ints, z))) y)
+      begins c a q T d b tau next (first_from-none (given c T d) (count_between a tau) a b n (omega (arith, ints)) (omega (arith, ints, z)))
+        y)
       (λ w. let z : a ≡ tau = omega (arith, ints) in
       subst (λ x. given c T d x ≡ true → found (unfolded c a) T d x ≡ true) z at_start y)
 
-  first_since : (tau t : ℤ) → a ≤ℤ tau → tau ≤ℤ t → none_if (is_some (first c T d a tau)) (least (unfolded c a) T d (record { low = tau; high = t })) ≡ at_least tau (first c T d a t)
+  first_since : (tau t : ℤ) → a ≤ℤ tau → tau ≤ℤ t
+      → none_if (is_some (first c T d a tau)) (least (unfolded c a) T d (record { low = tau; high = t })) ≡ at_least tau (first c T d a t)
   first_since tau t h k = go (first c T d a tau) refl
     where
       parts : first c T d a t ≡ option_or (first c T d a tau) (first c T d tau t)
-      parts = ap (λ n. first_from (given c T d) n a) (gap-more a tau t h k) ∙ first_from-more (given c T d) (count_between a tau) (count_between tau t) a tau (gap-is a tau h)
+      parts = ap (λ n. first_from (given c T d) n a) (gap-more a tau t h k)
+          ∙ first_from-more (given c T d) (count_between a tau) (count_between tau t) a tau (gap-is a tau h)
 
-      go : (o : Option ℤ) → first c T d a tau ≡ o → none_if (is_some (first c T d a tau)) (least (unfolded c a) T d (record { low = tau; high = t })) ≡ at_least tau (first c T d a t)
+      go : (o : Option ℤ) → first c T d a tau ≡ o → none_if (is_some (first c T d a tau))
+          (least (unfolded c a) T d (record { low = tau; high = t })) ≡ at_least tau (first c T d a t)
       go None e =
-          rw (parts, e) (sym (least_first (count_between tau t) tau (at_tau tau h e)) ∙ sym (keep_all tau (first c T d tau t) (λ f y. (first_from-within (given c T d) (count_between tau t) tau f y).0)))
+          rw (parts, e) (sym (least_first (count_between tau t) tau (at_tau tau h e))
+              ∙ sym (keep_all tau (first c T d tau t) (λ f y. (first_from-within (given c T d) (count_between tau t) tau f y).0)))
       go (Some f) e =
           let hi = (first_from-within (given c T d) (count_between a tau) a f e).1 in
           let z = gap-is a tau h in
@@ -92,9 +101,13 @@ module _ (c : Condition) (a : ℤ) (q : IsQuery c) (start : pos 0 ≤ℤ a) (T :
 
 pub unfolded_is_union : (c : Condition) (a : ℤ) → IsQuery c → pos 0 ≤ℤ a → IsUnionOf c a (unfolded c a)
 unfolded_is_union c a q st = record {
-  whole = λ T t from. ap hits_in_order (hits_same (λ d. least (unfolded c a) T d (record { low = a; high = t })) (λ d. at_least a (first c T d a t)) T.docs
-      (λ d i. first_whole c a q st T d (from d i) t ∙ sym (keep_all a (first c T d a t) (λ f y. (first_from-within (given c T d) (count_between a t) a f y).0))));
-  since = λ T tau t from h k. ap hits_in_order (hits_without (λ d. is_some (first c T d a tau)) (λ d. least (unfolded c a) T d (record { low = tau; high = t })) T.docs
-      ∙ hits_same (λ d. none_if (is_some (first c T d a tau)) (least (unfolded c a) T d (record { low = tau; high = t }))) (λ d. at_least tau (first c T d a t)) T.docs
+  whole = λ T t from.
+      ap hits_in_order (hits_same (λ d. least (unfolded c a) T d (record { low = a; high = t })) (λ d. at_least a (first c T d a t)) T.docs
+      (λ d i. first_whole c a q st T d (from d i) t
+        ∙ sym (keep_all a (first c T d a t) (λ f y. (first_from-within (given c T d) (count_between a t) a f y).0))));
+  since = λ T tau t from h k. ap hits_in_order
+      (hits_without (λ d. is_some (first c T d a tau)) (λ d. least (unfolded c a) T d (record { low = tau; high = t })) T.docs
+      ∙ hits_same (λ d. none_if (is_some (first c T d a tau)) (least (unfolded c a) T d (record { low = tau; high = t })))
+          (λ d. at_least tau (first c T d a t)) T.docs
       (λ d i. first_since c a q st T d (from d i) tau t h k));
 }

@@ -1,5 +1,6 @@
 -- The folded window query, and its distinct probes, find the same.
-use Rattle.std.proofs.Common.{◌≡◌, ℕ, zero, suc, ℤ, pos, Bool, true, false, not, Option, Some, None, List, [], ◌∷◌, refl, sym, ap, ◌∙◌, subst, inl, inr}
+use Rattle.std.proofs.Common.{◌≡◌, ℕ, zero, suc, ℤ, pos, Bool, true, false, not, Option, Some, None, List, [], ◌∷◌, refl, sym, ap, ◌∙◌}
+use Rattle.std.proofs.Common.{subst, inl, inr}
 use Rattle.std.specs.Prelude.{◌&&◌, ◌||◌, ◌+ℤ◌, map, is_some}
 use Rattle.std.specs.List.{list_any, filter}
 use Rattle.std.proofs.lemmas.Bool.{not-false, cases_Bool}
@@ -74,14 +75,22 @@ m_bound env d h k (inl e) = (OfDoc d, subst (λ j. lookup j env ≡ Some (OfDoc 
 m_bound env d h k (inr i) = absurd i
 
 at_bound : (b : Base) (env : Env) (z : ℤ) → base_value b env ≡ Some z → Bounds (0 ∷ []) env → Bounds (at_scope b) env
-at_bound (Arrival v) env z e h k (inl i) = let r = row_there (lookup v.0 env) (λ r. Some (arrival r)) z e in (r.0, subst (λ j. lookup j env ≡ Some r.0) (sym i) r.1)
+at_bound (Arrival v) env z e h k (inl i) =
+    let r = row_there (lookup v.0 env) (λ r. Some (arrival r)) z e in
+    (r.0, subst (λ j. lookup j env ≡ Some r.0) (sym i) r.1)
 at_bound (Arrival v) env z e h k (inr i) = h k i
-at_bound (Date v) env z e h k (inl i) = let r = row_there (lookup v.0 env) date z e in (r.0, subst (λ j. lookup j env ≡ Some r.0) (sym i) r.1)
+at_bound (Date v) env z e h k (inl i) =
+    let r = row_there (lookup v.0 env) date z e in
+    (r.0, subst (λ j. lookup j env ≡ Some r.0) (sym i) r.1)
 at_bound (Date v) env z e h k (inr i) = h k i
 at_bound Fixed env z e h k i = h k i
-at_bound (ArrivalDay v n) env z e h k (inl i) = let r = row_there (lookup v.0 env) (λ r. Some (round_up_to_day (arrival r +ℤ n))) z e in (r.0, subst (λ j. lookup j env ≡ Some r.0) (sym i) r.1)
+at_bound (ArrivalDay v n) env z e h k (inl i) =
+    let r = row_there (lookup v.0 env) (λ r. Some (round_up_to_day (arrival r +ℤ n))) z e in
+    (r.0, subst (λ j. lookup j env ≡ Some r.0) (sym i) r.1)
 at_bound (ArrivalDay v n) env z e h k (inr i) = h k i
-at_bound (DateDay v n) env z e h k (inl i) = let r = row_there (lookup v.0 env) (λ r. day_of n (date r)) z e in (r.0, subst (λ j. lookup j env ≡ Some r.0) (sym i) r.1)
+at_bound (DateDay v n) env z e h k (inl i) =
+    let r = row_there (lookup v.0 env) (λ r. day_of n (date r)) z e in
+    (r.0, subst (λ j. lookup j env ≡ Some r.0) (sym i) r.1)
 at_bound (DateDay v n) env z e h k (inr i) = h k i
 
 base_there : (o : Option ℤ) (n b : ℤ) → plus_to o n ≡ Some b → (z : ℤ) × (o ≡ Some z)
@@ -90,12 +99,16 @@ base_there (Some z) n b e = (z, refl)
 
 module _ (T : Tables) (d : Doc) where
   -- two tests that agree wherever m is the document
-  some_same : (path : List Step) (env : Env) (test test' : Env → Bool) → Apart path → ((final : Env) → lookup 0 final ≡ lookup 0 env → test final ≡ test' final) → some_rows T d path env test ≡ some_rows T d path env test'
+  some_same : (path : List Step) (env : Env) (test test' : Env → Bool) → Apart path
+      → ((final : Env) → lookup 0 final ≡ lookup 0 env → test final ≡ test' final)
+      → some_rows T d path env test ≡ some_rows T d path env test'
   some_same [] env test test' a h = h env refl
   some_same (step ∷ path) env test test' a h =
-      any_same _ _ (choices T d step) (λ r. some_same path (bind step.var r env) test test' a.1 (λ final e. h final (e ∙ bind_other 0 step.var r env (λ z. a.0 (sym z)))))
+      any_same _ _ (choices T d step) (λ r. some_same path (bind step.var r env) test test' a.1 (λ final e.
+        h final (e ∙ bind_other 0 step.var r env (λ z. a.0 (sym z)))))
 
-  some_never : (path : List Step) (env : Env) (test : Env → Bool) → ((final : Env) → test final ≡ false) → some_rows T d path env test ≡ false
+  some_never : (path : List Step) (env : Env) (test : Env → Bool) → ((final : Env) → test final ≡ false)
+      → some_rows T d path env test ≡ false
   some_never [] env test h = h env
   some_never (step ∷ path) env test h = any_never _ (choices T d step) (λ r. some_never path (bind step.var r env) test h)
     where
@@ -107,7 +120,8 @@ module _ (T : Tables) (d : Doc) where
 abbrev probe_at : Condition → Mark → Probe
 probe_at c mark = probe_of c (under_step (step_of document_var Docs c) mark)
 
-filter_found : (test keep : Probe → Bool) → (X : List Probe) → ((p : Probe) → keep p ≡ false → test p ≡ false) → list_any test (filter keep X) ≡ list_any test X
+filter_found : (test keep : Probe → Bool) → (X : List Probe) → ((p : Probe) → keep p ≡ false → test p ≡ false)
+    → list_any test (filter keep X) ≡ list_any test X
 filter_found test keep [] h = refl
 filter_found test keep (p ∷ ps) h =
     elim (cases_Bool (keep p)) [
@@ -115,7 +129,8 @@ filter_found test keep (p ∷ ps) h =
       | inr n ↦ rw (n, h p n) (filter_found test keep ps h)
     ]
 
-map_found : (test : Probe → Bool) (f : Probe → Probe) (X : List Probe) → ((p : Probe) → In p X → test (f p) ≡ test p) → list_any test (map f X) ≡ list_any test X
+map_found : (test : Probe → Bool) (f : Probe → Probe) (X : List Probe) → ((p : Probe) → In p X → test (f p) ≡ test p)
+    → list_any test (map f X) ≡ list_any test X
 map_found test f [] h = refl
 map_found test f (p ∷ ps) h = rw (h p (inl refl), map_found test f ps (λ p i. h p (inr i)))
 
@@ -123,13 +138,15 @@ module _ (c : Condition) (a : ℤ) (q : IsQuery c) (T : Tables) (d : Doc) (b : �
   -- a probe finds the same after folding
   fold_finds : (mark : Mark) → Fine mark → finds T d b (fold_probe (probe_at c mark)) ≡ finds T d b (probe_at c mark)
   fold_finds mark f =
-      ap (λ y. y || false) (some_same T d mark.path (asked_of d) (is_satisfied (fold_probe (probe_at c mark)) T b) (is_satisfied (probe_at c mark) T b) f.apart (λ final e.
+      ap (λ y. y || false) (some_same T d mark.path (asked_of d) (is_satisfied (fold_probe (probe_at c mark)) T b)
+          (is_satisfied (probe_at c mark) T b) f.apart (λ final e.
       and_last (guards_true (probe_at c mark).path final) (is_value (value mark.at final) b) (come_by b final) _ _ (λ y.
       let v = subst (λ t. value t final ≡ Some b) f.is_copy (is_value_of (value mark.at final) b y) in
       let z = base_there (base_value (copy_base f.term.base) final) f.term.plus b v in
       subst (λ t. truth T (pos 0) (fold t (body c t)) final ≡ truth T (pos 0) (body c t) final) (sym f.is_copy)
       (fold_truth T (pos 0) f.term (body c (copy_term f.term)) (at_scope (copy_base f.term.base)) final
-      (body_named (copy_term f.term) c (0 ∷ []) (at_scope (copy_base f.term.base)) q (m_in (copy_base f.term.base)) (at_in (copy_base f.term.base)))
+      (body_named (copy_term f.term) c (0 ∷ []) (at_scope (copy_base f.term.base)) q (m_in (copy_base f.term.base))
+        (at_in (copy_base f.term.base)))
       (at_bound (copy_base f.term.base) final z.0 z.1 (m_bound final d e)) z))))
 
   -- a probe whose body is False finds nothing
@@ -152,10 +169,15 @@ first_from_same p q zero a h = refl
 first_from_same p q (suc n) a h = rw (h a, first_from_same p q n (a +ℤ pos 1) h)
 
 -- queries that find the same have the same meaning
-pub same_union : (c : Condition) (a : ℤ) (X Y : List Probe) → ((T : Tables) (d : Doc) (b : ℤ) → found X T d b ≡ found Y T d b) → IsUnionOf c a Y → IsUnionOf c a X
+pub same_union : (c : Condition) (a : ℤ) (X Y : List Probe) → ((T : Tables) (d : Doc) (b : ℤ) → found X T d b ≡ found Y T d b)
+    → IsUnionOf c a Y → IsUnionOf c a X
 same_union c a X Y h u = record {
-  whole = λ T t from. ap hits_in_order (hits_same (λ d. least X T d (record { low = a; high = t })) (λ d. least Y T d (record { low = a; high = t })) T.docs (λ d i. first_from_same (found X T d) (found Y T d) (count_between a t) a (h T d))) ∙ u.whole T t from;
-  since = λ T tau t from g b. ap hits_in_order (hits_same (λ d. least X T d (record { low = tau; high = t })) (λ d. least Y T d (record { low = tau; high = t })) (filter (λ d. not (is_some (first c T d a tau))) T.docs) (λ d i. first_from_same (found X T d) (found Y T d) (count_between tau t) tau (h T d))) ∙ u.since T tau t from g b;
+  whole = λ T t from.
+      ap hits_in_order (hits_same (λ d. least X T d (record { low = a; high = t })) (λ d. least Y T d (record { low = a; high = t }))
+        T.docs (λ d i. first_from_same (found X T d) (found Y T d) (count_between a t) a (h T d))) ∙ u.whole T t from;
+  since = λ T tau t from g b. ap hits_in_order (hits_same (λ d. least X T d (record { low = tau; high = t }))
+        (λ d. least Y T d (record { low = tau; high = t })) (filter (λ d. not (is_some (first c T d a tau))) T.docs)
+        (λ d i. first_from_same (found X T d) (found Y T d) (count_between tau t) tau (h T d))) ∙ u.since T tau t from g b;
 }
 
 pub window_is_union : WindowIsUnion
@@ -163,4 +185,5 @@ window_is_union c a q st = same_union c a (window c a) (unfolded c a) (window_fo
 
 pub distinct_is_union : DistinctIsUnion
 distinct_is_union c a q st =
-    same_union c a (distinct_probes (window c a)) (window c a) (λ T d b. distinct_found same_probe probe_is (finds T d b) [] (window c a)) (window_is_union c a q st)
+    same_union c a (distinct_probes (window c a)) (window c a) (λ T d b. distinct_found same_probe probe_is (finds T d b) [] (window c a))
+      (window_is_union c a q st)

@@ -53,11 +53,13 @@ between = All (NowAtLeast (ts document_var 3)) (NowBefore (ts document_var 6))
 between-union : union_until (truth_of between) (rows (doc 1 100 ∷ []) []) (pos 0) (pos 200) ≡ hit 1 103 ∷ []
 between-union = refl
 
-between-probes : window between (pos 0) ≡ record { path = record { var = document_var; table = Docs; guards = [] } ∷ []; at = ts document_var 3; body = Always } ∷ []
+between-probes : window between (pos 0)
+    ≡ record { path = record { var = document_var; table = Docs; guards = [] } ∷ []; at = ts document_var 3; body = Always } ∷ []
 between-probes = refl
 
 -- once before and once after: the first second counts
-either-union : union_until (truth_of (Either (NowBefore (ts document_var 2)) (NowAtLeast (ts document_var 10)))) (rows (doc 1 100 ∷ []) []) (pos 0) (pos 200) ≡ hit 1 100 ∷ []
+either-union : union_until (truth_of (Either (NowBefore (ts document_var 2)) (NowAtLeast (ts document_var 10)))) (rows (doc 1 100 ∷ []) [])
+    (pos 0) (pos 200) ≡ hit 1 100 ∷ []
 either-union = refl
 
 abbrev of_doc : Var → Atom
@@ -74,8 +76,12 @@ unnoted-window : window_meaning (window unnoted (pos 0)) (rows (doc 1 100 ∷ []
 unnoted-window = refl
 
 unnoted-probes : window unnoted (pos 0)
-    ≡ record { path = record { var = document_var; table = Docs; guards = [] } ∷ []; at = ts document_var 0; body = Not (Exists v1 Notes (All (Plain (Times (ts v1 0) Le (ts document_var 0))) (All (Plain (of_doc v1)) (Plain (Times (ts document_var 0) Lt (ts v1 5)))))) }
-    ∷ record { path = record { var = document_var; table = Docs; guards = [] } ∷ record { var = p1; table = Notes; guards = of_doc p1 ∷ [] } ∷ []; at = ts p1 5; body = Not (Exists v1 Notes (All (Plain (Times (ts v1 0) Le (ts p1 5))) (All (Plain (of_doc v1)) (Plain (Times (ts p1 5) Lt (ts v1 5)))))) }
+    ≡ record { path = record { var = document_var; table = Docs; guards = [] } ∷ []; at = ts document_var 0;
+          body = Not (Exists v1 Notes (All (Plain (Times (ts v1 0) Le (ts document_var 0)))
+              (All (Plain (of_doc v1)) (Plain (Times (ts document_var 0) Lt (ts v1 5)))))) }
+    ∷ record { path = record { var = document_var; table = Docs; guards = [] } ∷ record { var = p1; table = Notes; guards = of_doc p1 ∷ [] }
+          ∷ []; at = ts p1 5; body = Not
+          (Exists v1 Notes (All (Plain (Times (ts v1 0) Le (ts p1 5))) (All (Plain (of_doc v1)) (Plain (Times (ts p1 5) Lt (ts v1 5)))))) }
     ∷ []
 unnoted-probes = refl
 

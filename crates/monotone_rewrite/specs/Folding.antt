@@ -51,7 +51,8 @@ abbrev pub fold_atom : Term → Atom → Condition
 fold_atom at (Numbers x op y) = Plain (Numbers x op y)
 fold_atom at (Texts x op y) = Plain (Texts x op y)
 fold_atom at (Has v f y) = Plain (Has v f y)
-fold_atom at (Times x op y) = if same_base x.base y.base && is_there at x.base then constant (compare op x.plus y.plus) else Plain (Times x op y)
+fold_atom at (Times x op y) = if same_base x.base y.base && is_there at x.base then constant (compare op x.plus y.plus)
+    else Plain (Times x op y)
 
 abbrev pub fold_all : KnownTruth → KnownTruth → Condition → Condition → Condition
 fold_all No k l r = Never

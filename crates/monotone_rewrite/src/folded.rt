@@ -59,11 +59,12 @@ fn folded_atom(pool: &mut Pool<TNode>, at: &Term, atom: Atom) -> Result<NodeId, 
     }
 }
 
-/// Interns the body of the condition at the term, folded from the leaves up, and returns its node. `Memory` comes if
-/// memory runs out or the pool is full.
+/// Interns the body of the condition at the term, folded from the leaves up, and returns its node.
+/// `Memory` comes if memory runs out or the pool is full.
 pub(crate) fn folded_body(pool: &mut Pool<TNode>, cond: &Cond, at: &Term) -> Result<NodeId, Memory>
     ensures kept { OnOk result (KeepsTrees pool.old pool.new) }
-    ensures tree { IfOk result (λ id. IsTreeAt pool.new id.0 (fold at.now (body (condition cond.now) at.now))) }
+    ensures tree { IfOk result (λ id.
+        IsTreeAt pool.new id.0 (fold at.now (body (condition cond.now) at.now))) }
 {
     match cond {
         Cond::True => shared(pool, TNode::True),

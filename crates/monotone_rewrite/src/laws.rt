@@ -1,8 +1,10 @@
 //! Laws of window queries, over their definitions alone.
-ghost use Rattle.monotone_rewrite.specs.Laws.{WindowIsUnion, DistinctIsUnion, LaterRowsKeepFirst, UnionIsLeast, ProbesKeepScopes};
+ghost use Rattle.monotone_rewrite.specs.Laws.{WindowIsUnion, DistinctIsUnion, LaterRowsKeepFirst};
+ghost use Rattle.monotone_rewrite.specs.Laws.{UnionIsLeast, ProbesKeepScopes};
 
-/// States that the window query over the past seconds gives the union of what each of them gives, with first seconds.
-/// Over the seconds since the last run, without what was given before, it gives what is fresh.
+/// States that the window query over the past seconds gives the union of what each of them gives,
+/// with first seconds. Over the seconds since the last run, without what was given before, it gives
+/// what is fresh.
 pub fn the_window_is_the_union()
     ensures { WindowIsUnion }
 {}

@@ -4,7 +4,8 @@ ghost use Rattle.std.specs.Prelude.{◌≡◌, ◌<◌, length, true, Some, IfOk
 ghost use Rattle.tap_base.specs.Bytes.{IsPlaceOf};
 ghost use Rattle.node_pool.specs.Pools.{are_below};
 ghost use Rattle.tql_core.specs.Trees.{kids_of, node_tree, tree_at, IsTreeAt, KeepsTrees};
-ghost use Rattle.monotone_rewrite.specs.Folding.{known, constant, fold_all, fold_either, fold_not, fold_exists};
+ghost use Rattle.monotone_rewrite.specs.Folding.{known, constant, fold_all, fold_either, fold_not};
+ghost use Rattle.monotone_rewrite.specs.Folding.{fold_exists};
 ghost use Rattle.monotone_rewrite.specs.Kinds.{kind_is};
 
 use node_pool::{NodeId, Pool};
@@ -20,11 +21,13 @@ pub(crate) enum FoldedNode {
     Open,
 }
 
-// Interns the node and returns its number. `Memory` comes if memory runs out or the pool has no further number.
+// Interns the node and returns its number. `Memory` comes if memory runs out or the pool has no
+// further number.
 pub(crate) fn shared(pool: &mut Pool<TNode>, node: TNode) -> Result<NodeId, Memory>
     requires { are_below (length pool.old) (kids_of node) ≡ true }
     ensures kept { OnOk result (KeepsTrees pool.old pool.new) }
-    ensures tree { IfOk result (λ id. IsTreeAt pool.new id.0 (node_tree (Some node) (tree_at pool.old))) }
+    ensures tree { IfOk result (λ id.
+        IsTreeAt pool.new id.0 (node_tree (Some node) (tree_at pool.old))) }
 {
     if pool.len() == u32::MAX {
         return Err(Memory);
@@ -62,7 +65,8 @@ pub(crate) fn shared_all(pool: &mut Pool<TNode>, l: NodeId, r: NodeId) -> Result
     requires left { IsPlaceOf pool.old l.0 }
     requires right { IsPlaceOf pool.old r.0 }
     ensures kept { OnOk result (KeepsTrees pool.old pool.new) }
-    ensures tree { IfOk result (λ id. IsTreeAt pool.new id.0 (fold_all (known (tree_at pool.old l.0)) (known (tree_at pool.old r.0)) (tree_at pool.old l.0)
+    ensures tree { IfOk result (λ id. IsTreeAt pool.new id.0 (fold_all
+          (known (tree_at pool.old l.0)) (known (tree_at pool.old r.0)) (tree_at pool.old l.0)
         (tree_at pool.old r.0))) }
 {
     match (kind_of(pool, l), kind_of(pool, r)) {
@@ -79,7 +83,8 @@ pub(crate) fn shared_either(pool: &mut Pool<TNode>, l: NodeId, r: NodeId) -> Res
     requires left { IsPlaceOf pool.old l.0 }
     requires right { IsPlaceOf pool.old r.0 }
     ensures kept { OnOk result (KeepsTrees pool.old pool.new) }
-    ensures tree { IfOk result (λ id. IsTreeAt pool.new id.0 (fold_either (known (tree_at pool.old l.0)) (known (tree_at pool.old r.0)) (tree_at pool.old l.0)
+    ensures tree { IfOk result (λ id. IsTreeAt pool.new id.0 (fold_either
+          (known (tree_at pool.old l.0)) (known (tree_at pool.old r.0)) (tree_at pool.old l.0)
         (tree_at pool.old r.0))) }
 {
     match (kind_of(pool, l), kind_of(pool, r)) {
@@ -95,7 +100,8 @@ pub(crate) fn shared_either(pool: &mut Pool<TNode>, l: NodeId, r: NodeId) -> Res
 pub(crate) fn shared_not(pool: &mut Pool<TNode>, x: NodeId) -> Result<NodeId, Memory>
     requires { IsPlaceOf pool.old x.0 }
     ensures kept { OnOk result (KeepsTrees pool.old pool.new) }
-    ensures tree { IfOk result (λ id. IsTreeAt pool.new id.0 (fold_not (known (tree_at pool.old x.0)) (tree_at pool.old x.0))) }
+    ensures tree { IfOk result (λ id.
+        IsTreeAt pool.new id.0 (fold_not (known (tree_at pool.old x.0)) (tree_at pool.old x.0))) }
 {
     match kind_of(pool, x) {
         FoldedNode::Yes => shared(pool, TNode::False),
@@ -113,7 +119,8 @@ pub(crate) fn shared_exists(
 ) -> Result<NodeId, Memory>
     requires { IsPlaceOf pool.old x.0 }
     ensures kept { OnOk result (KeepsTrees pool.old pool.new) }
-    ensures tree { IfOk result (λ id. IsTreeAt pool.new id.0 (fold_exists (known (tree_at pool.old x.0)) var table (tree_at pool.old x.0))) }
+    ensures tree { IfOk result (λ id. IsTreeAt pool.new id.0
+        (fold_exists (known (tree_at pool.old x.0)) var table (tree_at pool.old x.0))) }
 {
     match kind_of(pool, x) {
         FoldedNode::No => shared(pool, TNode::False),

@@ -9,7 +9,8 @@ ghost use Rattle.tql_core.specs.Trees.{tree_at};
 ghost use Rattle.time_marks.specs.Kept.{are_kept};
 ghost use Rattle.time_marks.specs.Views.{probes_in, probes_of};
 ghost use Rattle.monotone_rewrite.specs.Folding.{known, is_no};
-ghost use Rattle.monotone_rewrite.specs.Query.{can_find, fold_probe, probe_of, window, CanRewrite, CanRewriteFrom};
+ghost use Rattle.monotone_rewrite.specs.Query.{can_find, fold_probe, probe_of, window, CanRewrite};
+ghost use Rattle.monotone_rewrite.specs.Query.{CanRewriteFrom};
 ghost use Rattle.monotone_rewrite.specs.Laws.{IsUnionOf, AreProbes};
 
 use crate::folded::folded_body;
@@ -43,7 +44,8 @@ fn push_probe(
     requires kept { are_kept pool.now probes.old ≡ true }
     ensures kept { OnOk result (are_kept pool.now probes.new ≡ true) }
     ensures probes { OnOk result (probes_in pool.now probes.new ≡ probes_in pool.now probes.old
-        ++ filter can_find (record { path = mark.now.path; at = mark.now.at; body = tree_at pool.now body.0 } ∷ [])) }
+        ++ filter can_find (record { path = mark.now.path; at = mark.now.at;
+                body = tree_at pool.now body.0 } ∷ [])) }
 {
     if can_find(pool, body) {
         let path = mark.path.copy()?;
@@ -88,27 +90,32 @@ fn window_query(alloc: Global, cond: &Cond, start: i64) -> Result<WindowQuery, M
     Ok(WindowQuery { pool, probes })
 }
 
-/// Returns the window query of a condition for the seconds from the start on. It has a probe for each rising mark, with
-/// its body folded, without those whose body is False. Over the window from the start to t it finds each document that
-/// some second below t gives, with the first such second, and no other: it is the minimum bounding monotone query.
-/// The condition names no variable but `m` and those that its EXISTS bind, and its times are in the range that typing
-/// gives them. Times are in seconds since 1970-01-01T00:00:00Z. `Memory` comes if memory runs out or the bodies have
-/// more than 4,294,967,295 nodes.
+/// Returns the window query of a condition for the seconds from the start on. It has a probe for
+/// each rising mark, with its body folded, without those whose body is False. Over the window from
+/// the start to t it finds each document that some second below t gives, with the first such
+/// second, and no other: it is the minimum bounding monotone query. The condition names no variable
+/// but `m` and those that its EXISTS bind, and its times are in the range that typing gives them.
+/// Times are in seconds since 1970-01-01T00:00:00Z. `Memory` comes if memory runs out or the bodies
+/// have more than 4,294,967,295 nodes.
 pub fn monotone_from(alloc: Global, cond: &Cond, start: i64) -> Result<WindowQuery, Memory>
     requires { CanRewriteFrom (condition cond.now) start }
     ensures is_window { IfOk result (λ query. probes_of query ≡ window (condition cond.now) start) }
-    ensures is_union { IfOk result (λ query. IsUnionOf (condition cond.now) start (probes_of query)) }
+    ensures is_union { IfOk result (λ query.
+        IsUnionOf (condition cond.now) start (probes_of query)) }
     ensures scopes { IfOk result (λ query. AreProbes (probes_of query)) }
 {
     let query = window_query(alloc, cond, start)?;
     Ok(query)
 }
 
-/// Returns the window query of a condition for all seconds from 0. `Memory` comes as in `monotone_from`.
+/// Returns the window query of a condition for all seconds from 0. `Memory` comes as in
+/// `monotone_from`.
 pub fn monotone(alloc: Global, cond: &Cond) -> Result<WindowQuery, Memory>
     requires { CanRewrite (condition cond.now) }
-    ensures is_window { IfOk result (λ query. probes_of query ≡ window (condition cond.now) (pos 0)) }
-    ensures is_union { IfOk result (λ query. IsUnionOf (condition cond.now) (pos 0) (probes_of query)) }
+    ensures is_window { IfOk result (λ query.
+        probes_of query ≡ window (condition cond.now) (pos 0)) }
+    ensures is_union { IfOk result (λ query.
+        IsUnionOf (condition cond.now) (pos 0) (probes_of query)) }
     ensures scopes { IfOk result (λ query. AreProbes (probes_of query)) }
 {
     monotone_from(alloc, cond, 0)

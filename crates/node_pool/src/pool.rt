@@ -1,5 +1,6 @@
 //! A pool of nodes.
-ghost use Rattle.std.specs.Prelude.{◌≡◌, ◌<◌, ◌^◌, List, [], length, slice_get, Some, true, IfOk, OnOk, OnErr};
+ghost use Rattle.std.specs.Prelude.{◌≡◌, ◌<◌, ◌^◌, List, [], length, slice_get, Some, true, IfOk};
+ghost use Rattle.std.specs.Prelude.{OnOk, OnErr};
 ghost use Rattle.tap_base.specs.Bytes.{IsPlaceOf};
 ghost use Rattle.node_pool.specs.Pools.{are_below, IsPool, with_node, number_of, Extends};
 
@@ -12,7 +13,8 @@ use tap_base::Memory;
 /// How many nodes a pool may have at most: a count of nodes fits in 32 bits.
 pub const NODE_LIMIT: u32 = 4294967295;
 
-/// A list of nodes that only grows: no two nodes are equal, and each stands behind its children. A node's number is its place.
+/// A list of nodes that only grows: no two nodes are equal, and each stands behind its children. A
+/// node's number is its place.
 #[derive(Drop)]
 pub struct Pool<N: PoolNode + Drop> {
     nodes: IndexSet<N>,
@@ -39,8 +41,9 @@ impl<N: PoolNode + Drop> Pool<N> {
         }
     }
 
-    /// Returns the number of the equal node if the pool has one; else appends the node and returns its new number. The other
-    /// nodes are unchanged. Fails with `Memory` when out of memory, and the pool is unchanged then.
+    /// Returns the number of the equal node if the pool has one; else appends the node and returns
+    /// its new number. The other nodes are unchanged. Fails with `Memory` when out of memory, and
+    /// the pool is unchanged then.
     pub fn intern(&mut self, node: N) -> Result<NodeId, Memory>
         requires kids { are_below (length self.old) (N.kids node) ≡ true }
         requires room { length self.old < NODE_LIMIT }

@@ -1,5 +1,6 @@
 //! A source in memory that keeps what was out each time that it was asked for more.
-ghost use Rattle.std.specs.Prelude.{◌≡◌, ◌<◌, ◌≤◌, ℕ, List, [], Option, Some, length, take, drop, IfOk, OnOk};
+ghost use Rattle.std.specs.Prelude.{◌≡◌, ◌<◌, ◌≤◌, ℕ, List, [], Option, Some, length, take, drop};
+ghost use Rattle.std.specs.Prelude.{IfOk, OnOk};
 ghost use Rattle.std.specs.Io.{ReadsAtMost};
 ghost use Rattle.std.specs.Io.KnownBytes.{ReadConsumes};
 ghost use Rattle.tap_edges.specs.Edges.{HasCause};
@@ -11,15 +12,16 @@ use std::alloc::Global;
 use tap_base::Text;
 use tap_edges::{MemSink, ReadFailed, Sink};
 
-/// What a source saw when it was asked for more: how many of its bytes were taken, and the bytes that were out.
+/// What a source saw when it was asked for more: how many of its bytes were taken, and the bytes
+/// that were out.
 #[derive(Drop)]
 pub struct Seen {
     pub at: usize,
     pub out: Text,
 }
 
-/// A source over a text in memory that keeps what it saw each time that it was asked for more. A read fails if there is no
-/// memory to keep it in.
+/// A source over a text in memory that keeps what it saw each time that it was asked for more. A
+/// read fails if there is no memory to keep it in.
 #[derive(Drop)]
 pub struct WatchedSource {
     alloc: Global,
@@ -86,13 +88,17 @@ impl Peer<MemSink> for WatchedSource {
     fn ask(&mut self, sink: &MemSink, into: &mut [u8]) -> Result<usize, ReadFailed>
         requires { 0 < length into.old }
         ensures bound { ReadsAtMost result into.new }
-        ensures bytes { ReadConsumes (Some (drop self.old.at self.old.bytes)) (Some (drop self.new.at self.new.bytes)) result into.new }
+        ensures bytes { ReadConsumes (Some (drop self.old.at self.old.bytes))
+            (Some (drop self.new.at self.new.bytes)) result into.new }
         ensures cause { HasCause self.old.faults self.new.faults result }
-        ensures asked { AskedOnlyWhen (λ l o. (l ≡ Some (drop self.old.at self.old.bytes)) × (o ≡ Some sink.now.taken))
-            (WasSeen self.old.bytes self.old.seen.items) (WasSeen self.new.bytes self.new.seen.items) }
+        ensures asked { AskedOnlyWhen (λ l o. (l ≡ Some (drop self.old.at self.old.bytes))
+            × (o ≡ Some sink.now.taken))
+            (WasSeen self.old.bytes self.old.seen.items)
+                (WasSeen self.new.bytes self.new.seen.items) }
 
         // It keeps what it saw.
-        ensures told { OnOk result (WasSeen self.new.bytes self.new.seen.items (Some (drop self.old.at self.old.bytes)) (Some sink.now.taken)) }
+        ensures told { OnOk result (WasSeen self.new.bytes self.new.seen.items
+              (Some (drop self.old.at self.old.bytes)) (Some sink.now.taken)) }
     {
         let Ok(out) = Text::from_slice(self.alloc, sink.written()) else {
             self.faults = self.faults.saturating_add(1);

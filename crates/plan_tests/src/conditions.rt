@@ -48,7 +48,8 @@ pub fn not(alloc: Global, cond: Cond) -> Result<Cond, Memory>
 
 /// Returns the condition that it holds for no note.
 pub fn for_no_note(alloc: Global, cond: Cond) -> Result<Cond, Memory>
-    ensures { IfOk result (λ none. condition none ≡ Not (Exists (record { 0 = 1 }) Notes (condition cond))) }
+    ensures { IfOk result (λ none.
+        condition none ≡ Not (Exists (record { 0 = 1 }) Notes (condition cond))) }
 {
     let noted = Cond::Exists(Var(1), Table::Notes, Box::new(alloc, cond)?);
     not(alloc, noted)

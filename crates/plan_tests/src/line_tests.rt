@@ -9,7 +9,8 @@ ghost use Rattle.tql_core.specs.declared.atom.NumExpr.TheVariants.{Field};
 ghost use Rattle.tql_core.specs.declared.atom.ListField.TheVariants.{Words};
 ghost use Rattle.tql_core.specs.declared.atom.TextExpr.TheVariants as X;
 ghost use Rattle.tql_core.specs.declared.atom.Atom.TheVariants.{Numbers, Has};
-ghost use Rattle.tql_core.specs.Condition.{condition, Plain, All, Not, Exists, NowAtLeast, NowBefore};
+ghost use Rattle.tql_core.specs.Condition.{condition, Plain, All, Not, Exists, NowAtLeast};
+ghost use Rattle.tql_core.specs.Condition.{NowBefore};
 ghost use Rattle.monotone_rewrite.specs.Query.{CanRewriteFrom};
 
 use crate::conditions::{arrival, both, for_no_note};
@@ -41,7 +42,8 @@ fn explained(alloc: Global, cond: Cond, start: i64) -> Result<Texts, Memory>
 
 // Returns the condition that the message came at least 3 and less than 6 seconds ago.
 fn between(alloc: Global) -> Result<Cond, Memory>
-    ensures { IfOk result (λ cond. condition cond ≡ All (NowAtLeast (record { base = B.Arrival (record { 0 = 0 }); plus = pos 3 }))
+    ensures { IfOk result (λ cond. condition cond
+        ≡ All (NowAtLeast (record { base = B.Arrival (record { 0 = 0 }); plus = pos 3 }))
         (NowBefore (record { base = B.Arrival (record { 0 = 0 }); plus = pos 6 }))) }
 {
     let since = Cond::NowAtLeast(arrival(0, 3));
@@ -52,7 +54,8 @@ fn between(alloc: Global) -> Result<Cond, Memory>
 // Returns the condition that no note on the message came less than 5 seconds ago.
 fn unnoted(alloc: Global) -> Result<Cond, Memory>
     ensures { IfOk result (λ cond. condition cond ≡ Not
-        (Exists (record { 0 = 1 }) Notes (All (Plain (Numbers (Field (record { 0 = 1 }) DocOf) Eq (Field (record { 0 = 0 }) Id)))
+        (Exists (record { 0 = 1 }) Notes
+            (All (Plain (Numbers (Field (record { 0 = 1 }) DocOf) Eq (Field (record { 0 = 0 }) Id)))
         (NowBefore (record { base = B.Arrival (record { 0 = 1 }); plus = pos 5 }))))) }
 {
     let on = Cond::Plain(Atom::Numbers(
@@ -67,7 +70,8 @@ fn unnoted(alloc: Global) -> Result<Cond, Memory>
 
 // Returns the condition that the day of now began after the message came.
 fn next_day() -> Cond
-    ensures { condition result ≡ NowAtLeast (record { base = B.ArrivalDay (record { 0 = 0 }) (pos 1); plus = pos 0 }) }
+    ensures { condition result
+        ≡ NowAtLeast (record { base = B.ArrivalDay (record { 0 = 0 }) (pos 1); plus = pos 0 }) }
 {
     Cond::NowAtLeast(Term {
         base: Base::ArrivalDay(Var(0), 1),
@@ -77,7 +81,8 @@ fn next_day() -> Cond
 
 // Returns the condition that hi is a word of the message.
 fn says_hi(alloc: Global) -> Result<Cond, Memory>
-    ensures { IfOk result (λ cond. condition cond ≡ Plain (Has (record { 0 = 0 }) Words (X.Literal (codes "hi")))) }
+    ensures { IfOk result (λ cond.
+        condition cond ≡ Plain (Has (record { 0 = 0 }) Words (X.Literal (codes "hi")))) }
 {
     let word = Text::from_slice(alloc, b"hi")?;
     Ok(Cond::Plain(Atom::Has(Var(0), ListField::Words, TextExpr::Literal(word))))
@@ -102,11 +107,13 @@ fn a_row_that_is_missing_has_its_own_line(rt: HostRuntime) -> Result<(), Memory>
     assert_eq!(rt; lines.len(), 2);
     assert_eq!(rt;
         lines.as_slice()[0].as_slice(),
-        b"OVER m: DOC AT m.ts WHERE NOT EXISTS (v1: NOTE WHERE v1.ts <= m.ts AND (v1.doc = m.id AND m.ts < v1.ts + 5))".as_slice()
+        b"OVER m: DOC AT m.ts WHERE NOT EXISTS (v1: NOTE WHERE v1.ts <= m.ts AND (v1.doc = m.id \
+        AND m.ts < v1.ts + 5))".as_slice()
     );
     assert_eq!(rt;
         lines.as_slice()[1].as_slice(),
-        b"OVER m: DOC, p1: NOTE [p1.doc = m.id] AT p1.ts + 5 WHERE NOT EXISTS (v1: NOTE WHERE v1.ts <= p1.ts + 5 AND \
+        b"OVER m: DOC, p1: NOTE [p1.doc = m.id] AT p1.ts + 5 WHERE NOT EXISTS (v1: NOTE WHERE \
+        v1.ts <= p1.ts + 5 AND \
           (v1.doc = m.id AND p1.ts + 5 < v1.ts + 5))"
             .as_slice()
     );

@@ -14,7 +14,8 @@ use tql_core::{Cond, Term};
 // Returns the condition that no note arrived less than 5 seconds ago.
 fn unnoted(alloc: Global) -> Result<Cond, Memory>
     ensures { IfOk result (λ cond. condition cond ≡ Not
-        (Exists (record { 0 = 1 }) Notes (NowBefore (record { base = Arrival (record { 0 = 1 }); plus = pos 5 })))) }
+        (Exists (record { 0 = 1 }) Notes
+            (NowBefore (record { base = Arrival (record { 0 = 1 }); plus = pos 5 })))) }
 {
     for_no_note(alloc, Cond::NowBefore(arrival(1, 5)))
 }

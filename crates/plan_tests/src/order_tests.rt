@@ -111,13 +111,15 @@ fn senders(alloc: Global) -> Result<Rows<Atom>, Memory> {
     Ok(Rows::from_vec(vec![in alloc; other, same]?))
 }
 
-// Returns whether this is the order of two documents, the tenth with these guards, with m as the driver.
+// Returns whether this is the order of two documents, the tenth with these guards, with m as the
+// driver.
 fn has_order(alloc: Global, tenth: Rows<Atom>, order: &[Reach]) -> Result<bool, Memory> {
     let path = path(alloc, Rows::new(alloc), tenth)?;
     plans(alloc, asked(alloc, path, 0)?, order)
 }
 
-// Returns whether a number goes before a word, and a step with an access of the index before an earlier one without.
+// Returns whether a number goes before a word, and a step with an access of the index before an
+// earlier one without.
 fn numbers_before_words(alloc: Global) -> Result<bool, Memory> {
     let tenth = word_and_number(alloc)?;
     let order = [
@@ -158,7 +160,8 @@ fn bound_before(alloc: Global) -> Result<bool, Memory> {
     same
 }
 
-// Returns whether the first step comes first if no guard serves, and then a guard of the other one serves.
+// Returns whether the first step comes first if no guard serves, and then a guard of the other one
+// serves.
 fn tables_in_order(alloc: Global) -> Result<bool, Memory> {
     let tenth = parent(alloc)?;
     let order = [

@@ -7,7 +7,8 @@ ghost use Rattle.tql_core.specs.declared.atom.TextField.TheVariants.{MsgId, InRe
 ghost use Rattle.tql_core.specs.declared.atom.TextExpr.TheVariants.{Field};
 ghost use Rattle.tql_core.specs.declared.atom.Atom.TheVariants.{Texts};
 ghost use Rattle.tql_core.specs.declared.term.Base.TheVariants.{Arrival};
-ghost use Rattle.tql_core.specs.Condition.{condition, Not, Exists, Plain, NowBefore, Always, Never, All};
+ghost use Rattle.tql_core.specs.Condition.{condition, Not, Exists, Plain, NowBefore, Always, Never};
+ghost use Rattle.tql_core.specs.Condition.{All};
 ghost use Rattle.monotone_rewrite.specs.Query.{CanRewrite};
 
 use crate::conditions::{arrival, both, for_no_note, not};
@@ -21,7 +22,8 @@ use tql_tree::Table;
 // Returns the condition that no note arrived less than 5 seconds ago.
 fn unnoted(alloc: Global) -> Result<Cond, Memory>
     ensures { IfOk result (λ cond. condition cond ≡ Not
-        (Exists (record { 0 = 1 }) Notes (NowBefore (record { base = Arrival (record { 0 = 1 }); plus = pos 5 })))) }
+        (Exists (record { 0 = 1 }) Notes
+            (NowBefore (record { base = Arrival (record { 0 = 1 }); plus = pos 5 })))) }
 {
     for_no_note(alloc, Cond::NowBefore(arrival(1, 5)))
 }
@@ -69,7 +71,8 @@ fn what_is_never_true_has_no_probe(rt: HostRuntime) -> Result<(), Memory> {
 
 // Returns the guard that a variable's document replies to the message.
 fn replies(var: u8) -> Atom
-    ensures { result ≡ Texts (Field (record { 0 = var }) InReplyTo) Eq (Field (record { 0 = 0 }) MsgId) }
+    ensures { result
+        ≡ Texts (Field (record { 0 = var }) InReplyTo) Eq (Field (record { 0 = 0 }) MsgId) }
 {
     Atom::Texts(
         TextExpr::Field(Var(var), TextField::InReplyTo),
@@ -92,7 +95,8 @@ fn is_step(step: &Step, var: u8, guards: &[Atom]) -> bool {
     step.var == Var(var) && step.table == Table::Docs && step.guards.as_slice() == guards
 }
 
-// Returns whether the probe is that of new replies, for which the law of linear bounds has its example.
+// Returns whether the probe is that of new replies, for which the law of linear bounds has its
+// example.
 fn is_of_replies(probe: &Probe) -> bool {
     match probe.path.as_slice() {
         [m, r] => is_step(m, 0, &[]) && is_step(r, 9, &[replies(9)]) && probe.at == arrival(9, 0),

@@ -30,7 +30,8 @@ pub record NoBox (status : ℕ) (left left' out out' : Option (List ℕ)) : Type
 abbrev pub BoxServed : ℕ → Option (List Letter) → List ℕ → List ℕ
     → Option (List ℕ) → Option (List ℕ) → Option (List ℕ) → Option (List ℕ) → Type 0
 BoxServed status None user secret left left' out out' = NoBox status left left' out out'
-BoxServed status (Some letters) user secret left left' out out' = IsSession status × LettersEnd status user secret letters left left' out out'
+BoxServed status (Some letters) user secret left left' out out' = IsSession status
+    × LettersEnd status user secret letters left left' out out'
 
 -- the box was served; or memory ran out before, and nothing was read or written
 abbrev pub LettersServed : ℕ → Option (List Letter) → List ℕ → List ℕ

@@ -22,7 +22,8 @@ fn push_letter(
 ) -> Result<(), Memory>
     requires letters { AreShort letters.old }
     requires short { IfSome (option_copied text) (λ bytes. length bytes ≤ 1048576) }
-    ensures letters { OnOk result (letters.new ≡ letters.old ++ letter_with doc (option_copied text.entry)) }
+    ensures letters { OnOk result
+        (letters.new ≡ letters.old ++ letter_with doc (option_copied text.entry)) }
     ensures short { OnOk result (AreShort letters.new) }
 {
     match text {
@@ -62,7 +63,8 @@ fn find_letters<L: Ledger>(
     steps: &mut Steps<L>,
 ) -> Result<Option<Rows<Letter>>, Memory>
     requires { HasShortTexts engine.now }
-    ensures letters { IfOk result (λ found. OverSound engine.now (λ t. found ≡ letters_in user.now name.now t)) }
+    ensures letters { IfOk result (λ found. OverSound engine.now (λ t.
+        found ≡ letters_in user.now name.now t)) }
     ensures short { IfOk result (λ found. IfSome found AreShort) }
 {
     match engine.listing(alloc, user, name, steps)? {
@@ -71,9 +73,10 @@ fn find_letters<L: Ledger>(
     }
 }
 
-/// Copies the letters of the user's box of this name out of the engine, in the order of its listing, and drops the engine.
-/// `None` comes if and only if one of the two is no name or the user has no query of this name. Fails with `Memory` when out
-/// of memory.
+/// Copies the letters of the user's box of this name out of the engine, in the order of its
+/// listing, and drops the engine.
+/// `None` comes if and only if one of the two is no name or the user has no query of this name.
+/// Fails with `Memory` when out of memory.
 pub fn letters_from<L: Ledger>(
     alloc: Global,
     engine: Engine,
@@ -82,7 +85,8 @@ pub fn letters_from<L: Ledger>(
     steps: &mut Steps<L>,
 ) -> Result<Option<Rows<Letter>>, Memory>
     requires { HasShortTexts engine }
-    ensures letters { IfOk result (λ found. OverSound engine (λ t. found ≡ letters_in user.now name.now t)) }
+    ensures letters { IfOk result (λ found. OverSound engine (λ t.
+        found ≡ letters_in user.now name.now t)) }
     ensures short { IfOk result (λ found. IfSome found AreShort) }
 {
     find_letters(alloc, &engine, user, name, steps)

@@ -5,7 +5,8 @@ ghost use Rattle.pop_box.specs.Served.{BoxLine};
 
 use tap_edges::Sink;
 
-/// Puts the line that says that there is no such box; returns the status: 9, or 4 if the put failed.
+/// Puts the line that says that there is no such box; returns the status: 9, or 4 if the put
+/// failed.
 pub fn refuse_box<K: Sink>(sink: &mut K) -> u8
     ensures statuses { (result ≡ 9) ⊎ (result ≡ 4) }
     ensures line { BoxLine result (K.out sink.old) (K.out sink.new) }

@@ -5,7 +5,8 @@ ghost use Rattle.std.specs.Str.{IsUtf8};
 ghost use Rattle.std.specs.Io.KnownBytes.{IsAtEnd};
 ghost use Rattle.clap.specs.Words.{takes, fault_of as faults_of};
 ghost use Rattle.command_words.specs.PopOptions.{pop_app};
-ghost use Rattle.command_words.specs.PopWords.{pop_path_in, user_in, box_in, secret_in, IsPopWorded};
+ghost use Rattle.command_words.specs.PopWords.{pop_path_in, user_in, box_in, secret_in};
+ghost use Rattle.command_words.specs.PopWords.{IsPopWorded};
 ghost use Rattle.command_words.specs.WellWorded.{path_or_default};
 ghost use Rattle.tap_base.specs.Counts.{Rose};
 ghost use Rattle.keeper_core.specs.States.{IsFree, IsPlacedUnless, IsPlacedBy};
@@ -20,7 +21,8 @@ ghost use Rattle.pop_box.specs.Letters.{letters_in};
 ghost use Rattle.tap_engine.specs.Standing.{OverSound};
 ghost use Rattle.pop_session.specs.Ends.{IsSession, PassedSessionLimit};
 ghost use Rattle.pop_box.specs.Prompt.{AskedUpToDate};
-ghost use Rattle.pop_box.specs.Served.{LettersServed, Served, TookQuit, Unchanged, IsUndisturbedSession};
+ghost use Rattle.pop_box.specs.Served.{LettersServed, Served, TookQuit, Unchanged};
+ghost use Rattle.pop_box.specs.Served.{IsUndisturbedSession};
 
 use crate::letters::letters_from;
 use crate::no_box::refuse_box;
@@ -35,7 +37,8 @@ use tap_edges::Sink;
 use tap_engine::Engine;
 use tap_top::{OpenFault, open_store, refuse};
 
-// Holds a session over the letters of the box, which are copied out of the engine; returns the status.
+// Holds a session over the letters of the box, which are copied out of the engine; returns the
+// status.
 fn serve_with<S: Peer<K>, K: Sink, L: Ledger>(
     alloc: Global,
     asked: &PopWords,
@@ -46,7 +49,8 @@ fn serve_with<S: Peer<K>, K: Sink, L: Ledger>(
 ) -> u8
     requires short { HasShortTexts engine }
     ensures session { OverSound engine (λ t.
-        LettersServed result (letters_in asked.now.user asked.now.name t) asked.now.user asked.now.secret
+        LettersServed result (letters_in asked.now.user asked.now.name t)
+            asked.now.user asked.now.secret
         (S.left source.old) (S.left source.new) (K.out sink.old) (K.out sink.new)) }
     ensures prompt { OverSound engine (λ t.
         AskedUpToDate (letters_in asked.now.user asked.now.name t) asked.now.user asked.now.secret
@@ -57,7 +61,8 @@ fn serve_with<S: Peer<K>, K: Sink, L: Ledger>(
     ensures put_cause { result ≡ 4 → Rose (K.faults sink.old) (K.faults sink.new) }
     ensures put_calm { result ≢ 4 → K.faults sink.new ≡ K.faults sink.old }
     ensures many { result ≡ 8 → PassedSessionLimit (S.left source.old) (S.left source.new) }
-    ensures quit { result ≡ 0 → TookQuit asked.now.user asked.now.secret (S.left source.old) (S.left source.new) }
+    ensures quit { result ≡ 0
+        → TookQuit asked.now.user asked.now.secret (S.left source.old) (S.left source.new) }
     ensures ended { result ≡ 1 → IsAtEnd (S.left source.new) }
 {
     let user = asked.user.as_slice();
@@ -74,7 +79,8 @@ fn serve_with<S: Peer<K>, K: Sink, L: Ledger>(
     }
 }
 
-// Opens the store at the path that the words name, and holds a session over the letters of the box; returns the status.
+// Opens the store at the path that the words name, and holds a session over the letters of the box;
+// returns the status.
 fn serve_box<S: Peer<K>, K: Sink, P: Keeper, L: Ledger>(
     alloc: Global,
     key: HashKey,
@@ -87,7 +93,8 @@ fn serve_box<S: Peer<K>, K: Sink, P: Keeper, L: Ledger>(
     requires can { CanOpen P.Keeper keeper.old asked.now.path }
     ensures session { FromStore P.Keeper keeper.old keeper.new (λ t.
         Served result (letters_in asked.now.user asked.now.name t) asked.now.user asked.now.secret
-        (S.left source.old) (S.left source.new) (K.out sink.old) (K.out sink.new) (P.has_version keeper.old)) }
+        (S.left source.old) (S.left source.new) (K.out sink.old) (K.out sink.new)
+            (P.has_version keeper.old)) }
     ensures prompt { FromStore P.Keeper keeper.old keeper.new (λ t.
         AskedUpToDate (letters_in asked.now.user asked.now.name t) asked.now.user asked.now.secret
         (S.left source.old) (K.out sink.old) (S.was_asked source.old) (S.was_asked source.new)) }
@@ -97,15 +104,19 @@ fn serve_box<S: Peer<K>, K: Sink, P: Keeper, L: Ledger>(
         VersionAtExit result (P.has_version keeper.old) (P.has_version keeper.new)) }
     ensures refusals { Refusals P.Keeper keeper.old keeper.new result
         (S.left source.old) (S.left source.new) (K.out sink.old) (K.out sink.new) }
-    ensures causes { Causes result (S.faults source.old) (S.faults source.new) (K.faults sink.old) (K.faults sink.new)
+    ensures causes { Causes result (S.faults source.old) (S.faults source.new) (K.faults sink.old)
+        (K.faults sink.new)
         (P.faults keeper.old) (P.faults keeper.new) (P.stopped keeper.new) }
     ensures many { result ≡ 8 → PassedSessionLimit (S.left source.old) (S.left source.new) }
-    ensures quit { result ≡ 0 → TookQuit asked.now.user asked.now.secret (S.left source.old) (S.left source.new) }
+    ensures quit { result ≡ 0
+        → TookQuit asked.now.user asked.now.secret (S.left source.old) (S.left source.new) }
     ensures ended { result ≡ 1 → IsAtEnd (S.left source.new) }
     ensures complete { IfCalm (S.faults source.old) (S.faults source.new)
-        (K.faults sink.old) (K.faults sink.new) (P.faults keeper.old) (P.faults keeper.new) (IsUndisturbedSession result) }
+        (K.faults sink.old) (K.faults sink.new) (P.faults keeper.old) (P.faults keeper.new)
+            (IsUndisturbedSession result) }
     ensures statuses { (result ≤ 9) × (result ≢ 2) }
-    ensures path { IsPlacedUnless (result ≡ 7) (P.path keeper.old) (P.path keeper.new) asked.now.path }
+    ensures path { IsPlacedUnless (result ≡ 7) (P.path keeper.old) (P.path keeper.new)
+        asked.now.path }
 {
     match open_store(alloc, key, &asked.path, keeper) {
         Ok(engine) => serve_with(alloc, asked, source, sink, engine, steps),
@@ -115,11 +126,13 @@ fn serve_box<S: Peer<K>, K: Sink, P: Keeper, L: Ledger>(
     }
 }
 
-/// Serves the box of a store by one session of the post office protocol, version 3 (RFC 1939): reads the words of the command
-/// line, attaches the keeper at the path that they name, checks its tables, copies the letters of the box, greets, and
-/// answers the requests of the source, up to an accepted QUIT. The letters are the documents of the user's box, in the order
-/// in which `list` shows them. It reads pieces of at most 65,536 bytes, and puts the reply to each request before it looks at
-/// the next one. After the greeting it takes no memory. It changes nothing in the store.
+/// Serves the box of a store by one session of the post office protocol, version 3 (RFC 1939):
+/// reads the words of the command line, attaches the keeper at the path that they name, checks its
+/// tables, copies the letters of the box, greets, and answers the requests of the source, up to an
+/// accepted QUIT. The letters are the documents of the user's box, in the order in which `list`
+/// shows them. It reads pieces of at most 65,536 bytes, and puts the reply to each request before
+/// it looks at the next one. After the greeting it takes no memory. It changes nothing in the
+/// store.
 ///
 /// Returns the status:
 /// - 0: QUIT was accepted, and all replies were put;
@@ -147,27 +160,36 @@ pub fn serve<S: Peer<K>, K: Sink, P: Keeper, L: Ledger>(
     // The words of the command line.
     ensures words { result ≡ 2 → takes pop_app words.now ≡ false }
     ensures exact { result ≡ 2 → faults_of pop_app words.now ≢ [] }
-    ensures worded { (path : Option (List ℕ)) (user name secret : List ℕ) → IsPopWorded words.now path user name secret → result ≢ 2 }
+    ensures worded { (path : Option (List ℕ)) (user name secret : List ℕ)
+        → IsPopWorded words.now path user name secret → result ≢ 2 }
     ensures faulty { (result ≡ 2) ⊎ ((result ≡ 7) ⊎ (faults_of pop_app words.now ≡ [])) }
     ensures nothing { result ≡ 2 →
-        (keeper.new ≡ keeper.old) × ((K.out sink.new ≡ K.out sink.old) × (S.left source.new ≡ S.left source.old)) }
-    ensures path { IsPlacedBy result (P.path keeper.old) (P.path keeper.new) (pop_path_in words.now) }
-    ensures named { (path : Option (List ℕ)) (user name secret : List ℕ) → IsPopWorded words.now path user name secret →
-        (pop_path_in words.now ≡ path_or_default path) × ((user_in words.now ≡ user) × ((box_in words.now ≡ name) × (secret_in words.now ≡ secret))) }
+        (keeper.new ≡ keeper.old)
+            × ((K.out sink.new ≡ K.out sink.old) × (S.left source.new ≡ S.left source.old)) }
+    ensures path { IsPlacedBy result (P.path keeper.old) (P.path keeper.new)
+        (pop_path_in words.now) }
+    ensures named { (path : Option (List ℕ)) (user name secret : List ℕ)
+        → IsPopWorded words.now path user name secret →
+        (pop_path_in words.now ≡ path_or_default path) × ((user_in words.now ≡ user)
+              × ((box_in words.now ≡ name) × (secret_in words.now ≡ secret))) }
 
     // A box of a store that a session left: how it was served, by the status.
     ensures session { FromStore P.Keeper keeper.old keeper.new (λ t.
-        Served result (letters_in (user_in words.now) (box_in words.now) t) (user_in words.now) (secret_in words.now)
-        (S.left source.old) (S.left source.new) (K.out sink.old) (K.out sink.new) (P.has_version keeper.old)) }
+        Served result (letters_in (user_in words.now) (box_in words.now) t) (user_in words.now)
+            (secret_in words.now)
+        (S.left source.old) (S.left source.new) (K.out sink.old) (K.out sink.new)
+            (P.has_version keeper.old)) }
 
-    // Over such a store, whenever the source was asked for more, the greeting and the replies to all requests that were complete
-    // in the bytes taken so far were out, whole, and nothing else; and no QUIT among them was accepted.
+    // Over such a store, whenever the source was asked for more, the greeting and the replies to
+    // all requests that were complete in the bytes taken so far were out, whole, and nothing else;
+    // and no QUIT among them was accepted.
     ensures prompt { FromStore P.Keeper keeper.old keeper.new (λ t.
-        AskedUpToDate (letters_in (user_in words.now) (box_in words.now) t) (user_in words.now) (secret_in words.now)
+        AskedUpToDate (letters_in (user_in words.now) (box_in words.now) t) (user_in words.now)
+            (secret_in words.now)
         (S.left source.old) (K.out sink.old) (S.was_asked source.old) (S.was_asked source.new)) }
 
-    // Whatever the store holds, its tables are unchanged, and, unless the keeper failed, its version is the one before, or 2 if
-    // that was 1.
+    // Whatever the store holds, its tables are unchanged, and, unless the keeper failed, its
+    // version is the one before, or 2 if that was 1.
     ensures unchanged { FromDurable P.Keeper keeper.old keeper.new (λ t.
         Unchanged result t (P.tells keeper.new) (P.may_leave keeper.new)) }
     ensures version { FromDurable P.Keeper keeper.old keeper.new (λ t.
@@ -178,12 +200,15 @@ pub fn serve<S: Peer<K>, K: Sink, P: Keeper, L: Ledger>(
         (S.left source.old) (S.left source.new) (K.out sink.old) (K.out sink.new) }
 
     // When each status comes.
-    ensures causes { Causes result (S.faults source.old) (S.faults source.new) (K.faults sink.old) (K.faults sink.new)
+    ensures causes { Causes result (S.faults source.old) (S.faults source.new) (K.faults sink.old)
+        (K.faults sink.new)
         (P.faults keeper.old) (P.faults keeper.new) (P.stopped keeper.new) }
     ensures many { result ≡ 8 → PassedSessionLimit (S.left source.old) (S.left source.new) }
-    ensures quit { result ≡ 0 → TookQuit (user_in words.now) (secret_in words.now) (S.left source.old) (S.left source.new) }
+    ensures quit { result ≡ 0 → TookQuit (user_in words.now) (secret_in words.now)
+        (S.left source.old) (S.left source.new) }
     ensures ended { result ≡ 1 → IsAtEnd (S.left source.new) }
-    ensures complete { (path : Option (List ℕ)) (user name secret : List ℕ) → IsPopWorded words.now path user name secret →
+    ensures complete { (path : Option (List ℕ)) (user name secret : List ℕ)
+        → IsPopWorded words.now path user name secret →
         IfCalm (S.faults source.old) (S.faults source.new) (K.faults sink.old) (K.faults sink.new)
         (P.faults keeper.old) (P.faults keeper.new) (IsUndisturbedSession result) }
     ensures statuses { result ≤ 9 }

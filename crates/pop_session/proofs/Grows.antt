@@ -30,10 +30,17 @@ requests-more a b =
 replies-more : (user secret : List ℕ) (letters : List Letter) (phase : Phase) (rs ss : List (List ℕ))
     → (more : List ℕ) × (replies_to user secret letters phase (rs ++ ss) ≡ replies_to user secret letters phase rs ++ more)
 replies-more user secret letters phase [] ss = (replies_to user secret letters phase ss, refl)
-replies-more user secret letters phase (r ∷ rs) ss = go (is_ended phase) (replies-more user secret letters (outcome_of user secret phase r).phase rs ss) where
-  go : (b : Bool) → (more : List ℕ) × (replies_to user secret letters (outcome_of user secret phase r).phase (rs ++ ss) ≡ replies_to user secret letters (outcome_of user secret phase r).phase rs ++ more) → (more : List ℕ) × ((if b then [] else pop_reply_bytes letters (outcome_of user secret phase r).reply ++ replies_to user secret letters (outcome_of user secret phase r).phase (rs ++ ss)) ≡ (if b then [] else pop_reply_bytes letters (outcome_of user secret phase r).reply ++ replies_to user secret letters (outcome_of user secret phase r).phase rs) ++ more)
+replies-more user secret letters phase (r ∷ rs) ss =
+    go (is_ended phase) (replies-more user secret letters (outcome_of user secret phase r).phase rs ss) where
+  go : (b : Bool) → (more : List ℕ) × (replies_to user secret letters (outcome_of user secret phase r).phase (rs ++ ss)
+        ≡ replies_to user secret letters (outcome_of user secret phase r).phase rs ++ more)
+      → (more : List ℕ) × ((if b then [] else pop_reply_bytes letters (outcome_of user secret phase r).reply
+          ++ replies_to user secret letters (outcome_of user secret phase r).phase (rs ++ ss)) ≡ (if b then [] else pop_reply_bytes letters
+          (outcome_of user secret phase r).reply ++ replies_to user secret letters (outcome_of user secret phase r).phase rs) ++ more)
   go true rest = ([], refl)
-  go false rest = (rest.0, ap (λ xs. pop_reply_bytes letters (outcome_of user secret phase r).reply ++ xs) rest.1 ∙ sym (append_assoc (pop_reply_bytes letters (outcome_of user secret phase r).reply) (replies_to user secret letters (outcome_of user secret phase r).phase rs) rest.0))
+  go false rest = (rest.0, ap (λ xs. pop_reply_bytes letters (outcome_of user secret phase r).reply ++ xs) rest.1
+        ∙ sym (append_assoc (pop_reply_bytes letters (outcome_of user secret phase r).reply)
+          (replies_to user secret letters (outcome_of user secret phase r).phase rs) rest.0))
 
 pub replies-grow : RepliesGrow
 replies-grow a b user secret letters =

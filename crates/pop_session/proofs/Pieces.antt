@@ -1,5 +1,6 @@
 -- The requests of bytes that come in pieces.
-use Rattle.std.proofs.Common.{◌≡◌, ◌∙◌, sym, ap, subst, refl, arith, ℕ, List, [], ◌∷◌, ◌++◌, ◌+◌, ◌-◌, get_or, take, length, true, false, if◌then◌else◌, ◌≤◌, ◌<◌, inl, inr}
+use Rattle.std.proofs.Common.{◌≡◌, ◌∙◌, sym, ap, subst, refl, arith, ℕ, List, [], ◌∷◌, ◌++◌, ◌+◌, ◌-◌, get_or, take, length, true, false}
+use Rattle.std.proofs.Common.{if◌then◌else◌, ◌≤◌, ◌<◌, inl, inr}
 use Rattle.std.specs.Prelude.{nat_le, ◌⊎◌}
 use Rattle.std.specs.List.{position_or_len}
 use Rattle.std.proofs.lemmas.Bool.{cases_lt}
@@ -38,11 +39,13 @@ Same f = (a b more : List ℕ) (rest : List (List ℕ)) → 512 < length a → 5
 
 same-replies : (user secret : List ℕ) (letters : List Letter) (phase : Phase) → Same (replies_to user secret letters phase)
 same-replies user secret letters phase a b more rest la lb =
-    ap (λ o. if is_ended phase then [] else pop_reply_bytes letters o.reply ++ replies_to user secret letters o.phase rest) (outcome-long user secret phase a more la ∙ sym (outcome-long user secret phase b more lb))
+    ap (λ o. if is_ended phase then [] else pop_reply_bytes letters o.reply ++ replies_to user secret letters o.phase rest)
+      (outcome-long user secret phase a more la ∙ sym (outcome-long user secret phase b more lb))
 
 same-phases : (user secret : List ℕ) (phase : Phase) → Same (phase_after user secret phase)
 same-phases user secret phase a b more rest la lb =
-    ap (λ o. if is_ended phase then phase else phase_after user secret o.phase rest) (outcome-long user secret phase a more la ∙ sym (outcome-long user secret phase b more lb))
+    ap (λ o. if is_ended phase then phase else phase_after user secret o.phase rest)
+      (outcome-long user secret phase a more la ∙ sym (outcome-long user secret phase b more lb))
 
 long-same : {A : Type 0} (f : List (List ℕ) → A)
     → Same f → (a b rest : List ℕ) → NoEnd a → NoEnd b → 512 < length a → 512 < length b
@@ -66,27 +69,32 @@ grown-same : {A : Type 0} (f : List (List ℕ) → A)
     → Same f → (front bytes rest : List ℕ) → NoEnd front → NoEnd bytes
     → f (requests (front ++ bytes ++ rest)) ≡ f (requests (request_grown front bytes ++ rest))
 grown-same f same front bytes rest nf nb = go (cases_lt (513 - length front) (length bytes)) where
-  go : (513 - length front < length bytes) ⊎ (length bytes ≤ 513 - length front) → f (requests ((front ++ bytes) ++ rest)) ≡ f (requests (request_grown front bytes ++ rest))
-  go (inl lt) = long-same f same (front ++ bytes) (request_grown front bytes) rest (NoEnd-append front bytes nf nb) (NoEnd-grown front bytes nf nb) (whole-long front bytes lt) (grown-long front bytes lt)
+  go : (513 - length front < length bytes) ⊎ (length bytes ≤ 513 - length front)
+      → f (requests ((front ++ bytes) ++ rest)) ≡ f (requests (request_grown front bytes ++ rest))
+  go (inl lt) = long-same f same (front ++ bytes) (request_grown front bytes) rest (NoEnd-append front bytes nf nb)
+      (NoEnd-grown front bytes nf nb) (whole-long front bytes lt) (grown-long front bytes lt)
   go (inr le) = rw (take_all (513 - length front) bytes le) refl
 
 pub grown-replies : (user secret : List ℕ) (letters : List Letter) (phase : Phase) (front bytes rest : List ℕ)
     → NoEnd front → NoEnd bytes
-    → replies_to user secret letters phase (requests (front ++ (bytes ++ rest))) ≡ replies_to user secret letters phase (requests (request_grown front bytes ++ rest))
+    → replies_to user secret letters phase (requests (front ++ (bytes ++ rest)))
+        ≡ replies_to user secret letters phase (requests (request_grown front bytes ++ rest))
 grown-replies user secret letters phase front bytes rest nf nb =
     ap (λ xs. replies_to user secret letters phase (requests xs)) (sym (append_assoc front bytes rest))
     ∙ grown-same (replies_to user secret letters phase) (same-replies user secret letters phase) front bytes rest nf nb
 
 pub grown-phases : (user secret : List ℕ) (phase : Phase) (front bytes rest : List ℕ)
     → NoEnd front → NoEnd bytes
-    → phase_after user secret phase (requests (front ++ (bytes ++ rest))) ≡ phase_after user secret phase (requests (request_grown front bytes ++ rest))
+    → phase_after user secret phase (requests (front ++ (bytes ++ rest)))
+        ≡ phase_after user secret phase (requests (request_grown front bytes ++ rest))
 grown-phases user secret phase front bytes rest nf nb =
     ap (λ xs. phase_after user secret phase (requests xs)) (sym (append_assoc front bytes rest))
     ∙ grown-same (phase_after user secret phase) (same-phases user secret phase) front bytes rest nf nb
 
 -- a piece up to its first LF
 with_end : (piece : List ℕ) (n : ℕ) → n ≡ position_or_len is_end piece → n < length piece → take (n + 1) piece ≡ take n piece ++ 10 ∷ []
-with_end piece n e lt = take_more piece n 0 lt ∙ ap (λ x. take n piece ++ x ∷ []) (at_end (get_or piece n 0) (subst (λ k. is_end (get_or piece k 0) ≡ true) (sym e) (passes_at_first is_end piece 0 (rw (sym e) lt)))) where
+with_end piece n e lt = take_more piece n 0 lt ∙ ap (λ x. take n piece ++ x ∷ []) (at_end (get_or piece n 0)
+      (subst (λ k. is_end (get_or piece k 0) ≡ true) (sym e) (passes_at_first is_end piece 0 (rw (sym e) lt)))) where
   at_end : (x : ℕ) → is_end x ≡ true → x ≡ 10
   at_end x e = grind arith
 
@@ -97,26 +105,34 @@ sides piece rest n e lt = ap (λ xs. xs ++ rest) (with_end piece n e lt) ∙ app
 -- the replies to a piece up to its first LF: one reply, and those to what follows
 pub cut-replies : (user secret : List ℕ) (letters : List Letter) (phase : Phase) (front piece rest : List ℕ) (n : ℕ)
     → NoEnd front → n ≡ position_or_len is_end piece → n < length piece → is_ended phase ≡ false
-    → replies_to user secret letters phase (requests (front ++ (take (n + 1) piece ++ rest))) ≡ pop_reply_bytes letters (outcome_of user secret phase (request_grown front (take n piece))).reply ++ replies_to user secret letters (outcome_of user secret phase (request_grown front (take n piece))).phase (requests rest)
+    → replies_to user secret letters phase (requests (front ++ (take (n + 1) piece ++ rest)))
+        ≡ pop_reply_bytes letters (outcome_of user secret phase (request_grown front (take n piece))).reply
+        ++ replies_to user secret letters (outcome_of user secret phase (request_grown front (take n piece))).phase (requests rest)
 cut-replies user secret letters phase front piece rest n none e lt going =
     ap (λ xs. replies_to user secret letters phase (requests (front ++ xs))) (sides piece rest n e lt)
     ∙ grown-replies user secret letters phase front (take n piece) (10 ∷ rest) none (NoEnd-front piece n e)
-    ∙ ap (replies_to user secret letters phase) (requests-line (request_grown front (take n piece)) rest (NoEnd-grown front (take n piece) none (NoEnd-front piece n e)))
-    ∙ ap (λ b. if b then [] else pop_reply_bytes letters (outcome_of user secret phase (request_grown front (take n piece))).reply ++ replies_to user secret letters (outcome_of user secret phase (request_grown front (take n piece))).phase (requests rest)) going
+    ∙ ap (replies_to user secret letters phase)
+        (requests-line (request_grown front (take n piece)) rest (NoEnd-grown front (take n piece) none (NoEnd-front piece n e)))
+    ∙ ap (λ b. if b then [] else pop_reply_bytes letters (outcome_of user secret phase (request_grown front (take n piece))).reply
+          ++ replies_to user secret letters (outcome_of user secret phase (request_grown front (take n piece))).phase (requests rest)) going
 
 pub cut-phases : (user secret : List ℕ) (phase : Phase) (front piece rest : List ℕ) (n : ℕ)
     → NoEnd front → n ≡ position_or_len is_end piece → n < length piece → is_ended phase ≡ false
-    → phase_after user secret phase (requests (front ++ (take (n + 1) piece ++ rest))) ≡ phase_after user secret (outcome_of user secret phase (request_grown front (take n piece))).phase (requests rest)
+    → phase_after user secret phase (requests (front ++ (take (n + 1) piece ++ rest)))
+        ≡ phase_after user secret (outcome_of user secret phase (request_grown front (take n piece))).phase (requests rest)
 cut-phases user secret phase front piece rest n none e lt going =
     ap (λ xs. phase_after user secret phase (requests (front ++ xs))) (sides piece rest n e lt)
     ∙ grown-phases user secret phase front (take n piece) (10 ∷ rest) none (NoEnd-front piece n e)
-    ∙ ap (phase_after user secret phase) (requests-line (request_grown front (take n piece)) rest (NoEnd-grown front (take n piece) none (NoEnd-front piece n e)))
-    ∙ ap (λ b. if b then phase else phase_after user secret (outcome_of user secret phase (request_grown front (take n piece))).phase (requests rest)) going
+    ∙ ap (phase_after user secret phase)
+        (requests-line (request_grown front (take n piece)) rest (NoEnd-grown front (take n piece) none (NoEnd-front piece n e)))
+    ∙ ap (λ b. if b then phase
+          else phase_after user secret (outcome_of user secret phase (request_grown front (take n piece))).phase (requests rest)) going
 
 -- the one reply to a piece up to its first LF
 pub cut-reply : (user secret : List ℕ) (letters : List Letter) (phase : Phase) (front piece : List ℕ) (n : ℕ)
     → NoEnd front → n ≡ position_or_len is_end piece → n < length piece → is_ended phase ≡ false
-    → replies_to user secret letters phase (requests (front ++ take (n + 1) piece)) ≡ pop_reply_bytes letters (outcome_of user secret phase (request_grown front (take n piece))).reply
+    → replies_to user secret letters phase (requests (front ++ take (n + 1) piece))
+        ≡ pop_reply_bytes letters (outcome_of user secret phase (request_grown front (take n piece))).reply
 cut-reply user secret letters phase front piece n none e lt going =
     ap (λ xs. replies_to user secret letters phase (requests (front ++ xs))) (sym (append-nil (take (n + 1) piece)))
     ∙ cut-replies user secret letters phase front piece [] n none e lt going
@@ -128,6 +144,7 @@ pub ended-replies : (user secret : List ℕ) (letters : List Letter) (phase : Ph
 ended-replies user secret letters phase [] e = refl
 ended-replies user secret letters phase (r ∷ rs) e = rw e refl
 
-pub ended-phases : (user secret : List ℕ) (phase : Phase) (rs : List (List ℕ)) → is_ended phase ≡ true → phase_after user secret phase rs ≡ phase
+pub ended-phases : (user secret : List ℕ) (phase : Phase) (rs : List (List ℕ)) → is_ended phase ≡ true
+    → phase_after user secret phase rs ≡ phase
 ended-phases user secret phase [] e = refl
 ended-phases user secret phase (r ∷ rs) e = rw e refl

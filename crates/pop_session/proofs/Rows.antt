@@ -26,7 +26,8 @@ pub dotted : (text : List ℕ) → (slice_index text 0 == 46) ≡ true → crlf_
 dotted text e = ap (λ b. crlf_line (if b then 46 ∷ text else text)) e
 
 -- the lines of a text are the first and those of the rest
-pub lines-next : (text first rest : List ℕ) → lined text ≡ first ∷ lined rest → sent_lines text ≡ crlf_line (stuffed first) ++ sent_lines rest
+pub lines-next : (text first rest : List ℕ) → lined text ≡ first ∷ lined rest
+    → sent_lines text ≡ crlf_line (stuffed first) ++ sent_lines rest
 lines-next text first rest e = ap (flat_map (λ t. crlf_line (stuffed t))) e
 
 -- behind the last letter there is no row

@@ -1,5 +1,6 @@
 -- How large the lines of a text can be.
-use Rattle.std.proofs.Common.{◌≡◌, ◌∙◌, sym, ap, subst, refl, arith, ℕ, suc, List, [], ◌∷◌, ◌++◌, ◌+◌, ◌-◌, ◌*◌, ◌≤◌, ◌<◌, drop, length, map, get_or, Bool, true, false}
+use Rattle.std.proofs.Common.{◌≡◌, ◌∙◌, sym, ap, subst, refl, arith, ℕ, suc, List, [], ◌∷◌, ◌++◌, ◌+◌, ◌-◌, ◌*◌, ◌≤◌, ◌<◌, drop, length}
+use Rattle.std.proofs.Common.{map, get_or, Bool, true, false}
 use Rattle.std.specs.Prelude.{◌==◌, if◌then◌else◌}
 use Rattle.std.specs.List.{flat_map, onto_first, suffix_len}
 use Rattle.std.proofs.lemmas.List.{length-append, length-take}
@@ -28,7 +29,8 @@ parts-weight : (xs : List ℕ) → weight (parts xs) ≡ length xs
 unfolding weight
 parts-weight [] = refl
 parts-weight (x ∷ xs) = go (is_end x) (has_first xs) (parts-weight xs) where
-  go : (b : Bool) → HasFirst (parts xs) → weight (parts xs) ≡ length xs → weight (if b then [] ∷ parts xs else onto_first x (parts xs)) ≡ suc (length xs)
+  go : (b : Bool) → HasFirst (parts xs) → weight (parts xs) ≡ length xs
+      → weight (if b then [] ∷ parts xs else onto_first x (parts xs)) ≡ suc (length xs)
   go true h e = rw h.is (one (weight (h.part ∷ h.more)) ∙ ap suc (subst (λ ps. weight ps ≡ length xs) h.is e)) where
     one : (n : ℕ) → 0 + 1 + n ≡ suc n
     one n = omega arith
@@ -41,7 +43,8 @@ shorter p = let l = length-take (length p - suffix_len (λ b. b == 13) p) p in o
 line-size : (p : List ℕ) → length (crlf_line (without_returns p)) ≤ length p + 2
 line-size p =
     let s = shorter p in
-    let l : length (without_returns p ++ 13 ∷ 10 ∷ []) ≡ length (without_returns p) + 2 = length-append (without_returns p) (13 ∷ 10 ∷ []) in
+    let l : length (without_returns p ++ 13 ∷ 10 ∷ []) ≡ length (without_returns p) + 2 =
+        length-append (without_returns p) (13 ∷ 10 ∷ []) in
     omega arith
 
 abbrev all-lines : List (List ℕ) → List ℕ
@@ -56,7 +59,8 @@ parts-size (p ∷ []) = go (length p == 0) refl where
   go false e =
       let some : 0 < length p = grind (arith, e) in
       let s = line-size p in
-      let l : length (crlf_line (without_returns p) ++ []) ≡ length (crlf_line (without_returns p)) + 0 = length-append (crlf_line (without_returns p)) [] in
+      let l : length (crlf_line (without_returns p) ++ []) ≡ length (crlf_line (without_returns p)) + 0 =
+          length-append (crlf_line (without_returns p)) [] in
       omega arith
 parts-size (p ∷ q ∷ ps) =
     let more = parts-size (q ∷ ps) in

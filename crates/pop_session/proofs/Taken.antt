@@ -1,5 +1,6 @@
 -- What a session has taken of a piece.
-use Rattle.std.proofs.Common.{◌≡◌, ◌∙◌, sym, ap, subst, refl, arith, ℕ, List, [], ◌∷◌, ◌++◌, ◌+◌, ◌^◌, take, drop, length, Option, Bool, true, false, ◌<◌, inl, inr}
+use Rattle.std.proofs.Common.{◌≡◌, ◌∙◌, sym, ap, subst, refl, arith, ℕ, List, [], ◌∷◌, ◌++◌, ◌+◌, ◌^◌, take, drop, length, Option, Bool}
+use Rattle.std.proofs.Common.{true, false, ◌<◌, inl, inr}
 use Rattle.std.specs.Io.KnownBytes.{Appends}
 use Rattle.std.proofs.lemmas.List.{append_assoc, append-nil, take-append-drop}
 use Rattle.tap_edges.specs.declared.edges.PutFailed.{PutFailed}
@@ -8,19 +9,24 @@ use Rattle.mail_lines.specs.Lines.{NoEnd, is_end}
 use Rattle.mail_lines.proofs.Ends.{NoEnd-append}
 use Rattle.pop_session.specs.Requests.{requests}
 use Rattle.tap_edges.specs.Puts.{counted, TookSome}
-use Rattle.pop_session.specs.Sessions.{PopSessionState, replies_from, quits_from, replies_to, phase_after, is_ended, held, open_reply, answered, IsOver}
+use Rattle.pop_session.specs.Sessions.{PopSessionState, replies_from, quits_from, replies_to, phase_after, is_ended, held, open_reply}
+use Rattle.pop_session.specs.Sessions.{answered, IsOver}
 use Rattle.tap_edges.proofs.Puts.{Puts, Puts-cut, Puts-more, Appends-none, counted-start, first-cut-of}
-use Rattle.pop_session.proofs.Pieces.{requests-none, ended-replies, ended-phases, grown-replies, grown-phases, cut-replies, cut-phases, cut-reply}
+use Rattle.pop_session.proofs.Pieces.{requests-none, ended-replies, ended-phases, grown-replies, grown-phases, cut-replies, cut-phases}
+use Rattle.pop_session.proofs.Pieces.{cut-reply}
 
 -- more bytes of the open request
-pub held-next : (s : PopSessionState) (bytes rest : List ℕ) → NoEnd s.front → NoEnd bytes → replies_from s (bytes ++ rest) ≡ replies_from (held s bytes) rest
+pub held-next : (s : PopSessionState) (bytes rest : List ℕ) → NoEnd s.front → NoEnd bytes
+    → replies_from s (bytes ++ rest) ≡ replies_from (held s bytes) rest
 held-next s bytes rest nf nb = grown-replies s.user s.secret s.letters s.phase s.front bytes rest nf nb
 
-pub held-quits : (s : PopSessionState) (bytes rest : List ℕ) → NoEnd s.front → NoEnd bytes → quits_from s (bytes ++ rest) ≡ quits_from (held s bytes) rest
+pub held-quits : (s : PopSessionState) (bytes rest : List ℕ) → NoEnd s.front → NoEnd bytes
+    → quits_from s (bytes ++ rest) ≡ quits_from (held s bytes) rest
 held-quits s bytes rest nf nb = ap is_ended (grown-phases s.user s.secret s.phase s.front bytes rest nf nb)
 
 pub held-none : (s : PopSessionState) (bytes : List ℕ) → NoEnd s.front → NoEnd bytes → replies_from s bytes ≡ []
-held-none s bytes nf nb = ap (replies_to s.user s.secret s.letters s.phase) (requests-none (s.front ++ bytes) (NoEnd-append s.front bytes nf nb))
+held-none s bytes nf nb =
+    ap (replies_to s.user s.secret s.letters s.phase) (requests-none (s.front ++ bytes) (NoEnd-append s.front bytes nf nb))
 
 -- no reply is put
 pub open-count : (start : ℕ) (bytes : List ℕ) → start < 2 ^ 64 → bytes ≡ [] → start ≡ counted (start + length bytes)
@@ -32,7 +38,8 @@ open-put out bytes none = subst (λ xs. Appends out out xs) (sym none) (Appends-
 -- a piece up to its first LF
 pub cut-next : (s : PopSessionState) (piece rest : List ℕ) (n : ℕ)
     → NoEnd s.front → n ≡ position_or_len is_end piece → n < length piece → is_ended s.phase ≡ false
-    → replies_from s (take (n + 1) piece ++ rest) ≡ open_reply (held s (take n piece)) ++ replies_from (answered (held s (take n piece))) rest
+    → replies_from s (take (n + 1) piece ++ rest)
+        ≡ open_reply (held s (take n piece)) ++ replies_from (answered (held s (take n piece))) rest
 cut-next s piece rest n none e lt going = cut-replies s.user s.secret s.letters s.phase s.front piece rest n none e lt going
 
 pub cut-quits : (s : PopSessionState) (piece rest : List ℕ) (n : ℕ)
@@ -50,7 +57,8 @@ pub cut-failed : (s : PopSessionState) (piece : List ℕ) (n start : ℕ) (befor
     → NoEnd s.front → n ≡ position_or_len is_end piece → n < length piece → is_ended s.phase ≡ false
     → TookSome start before after (open_reply (held s (take n piece))) failed → TookSome start before after (replies_from s piece) failed
 cut-failed s piece n start before after failed none e lt going cut =
-    first-cut-of start before after (replies_from s piece) (open_reply (held s (take n piece))) (replies_from (answered (held s (take n piece))) (drop (n + 1) piece)) failed
+    first-cut-of start before after (replies_from s piece) (open_reply (held s (take n piece)))
+      (replies_from (answered (held s (take n piece))) (drop (n + 1) piece)) failed
     (ap (replies_from s) (sym (take-append-drop (n + 1) piece)) ∙ cut-next s piece (drop (n + 1) piece) n none e lt going)
     cut
 
@@ -95,8 +103,10 @@ Taken-more old now new piece rest left used done done' before mid after taken is
 } where
   grow : (front : List ℕ) → Puts front [] 0 done before mid → Puts (front ++ replies_from now (take used rest)) [] 0 done' before after
   grow front puts =
-      Puts-more (front ++ replies_from now (take used rest)) (replies_from now (take used rest)) [] (replies_from now (take used rest)) 0 done done' before mid after
-      (record { front = puts.front; split = ap (λ xs. xs ++ replies_from now (take used rest)) (puts.split ∙ append-nil puts.front); count = puts.count; written = puts.written })
+      Puts-more (front ++ replies_from now (take used rest)) (replies_from now (take used rest)) [] (replies_from now (take used rest)) 0
+        done done' before mid after
+      (record { front = puts.front; split = ap (λ xs. xs ++ replies_from now (take used rest)) (puts.split ∙ append-nil puts.front);
+          count = puts.count; written = puts.written })
       (sym (append-nil (replies_from now (take used rest)))) count one
 
 -- nothing more is looked at
@@ -116,10 +126,12 @@ over-quits now rest more (inr e) =
 
 -- no request is open and complete
 pub open-replies : (now : PopSessionState) → NoEnd now.front → replies_from now [] ≡ []
-open-replies now none = ap (λ xs. replies_to now.user now.secret now.letters now.phase (requests xs)) (append-nil now.front) ∙ ap (replies_to now.user now.secret now.letters now.phase) (requests-none now.front none)
+open-replies now none = ap (λ xs. replies_to now.user now.secret now.letters now.phase (requests xs)) (append-nil now.front)
+    ∙ ap (replies_to now.user now.secret now.letters now.phase) (requests-none now.front none)
 
 open-quits : (now : PopSessionState) → NoEnd now.front → quits_from now [] ≡ is_ended now.phase
-open-quits now none = ap (λ xs. is_ended (phase_after now.user now.secret now.phase (requests xs))) (append-nil now.front) ∙ ap (λ rs. is_ended (phase_after now.user now.secret now.phase rs)) (requests-none now.front none)
+open-quits now none = ap (λ xs. is_ended (phase_after now.user now.secret now.phase (requests xs))) (append-nil now.front)
+    ∙ ap (λ rs. is_ended (phase_after now.user now.secret now.phase rs)) (requests-none now.front none)
 
 -- at the end the bytes that were put are the replies to the piece
 taken-all : (old now : PopSessionState) (piece rest : List ℕ) (done : ℕ) (before after : Option (List ℕ))
@@ -133,7 +145,9 @@ taken-all old now piece rest done before after taken none over =
 pub end-put : (old now : PopSessionState) (piece rest : List ℕ) (done : ℕ) (before after : Option (List ℕ))
     → Taken old now piece rest done before after → NoEnd now.front → IsOver now rest → Appends before after (replies_from old piece)
 end-put old now piece rest done before after taken none over =
-    subst (λ xs. Appends before after xs) (sym (taken-all old now piece rest done before after taken none over ∙ taken.puts.split ∙ append-nil taken.puts.front)) taken.puts.written
+    subst (λ xs. Appends before after xs)
+      (sym (taken-all old now piece rest done before after taken none over ∙ taken.puts.split ∙ append-nil taken.puts.front))
+      taken.puts.written
 
 pub end-next : (old now : PopSessionState) (piece rest : List ℕ) (done : ℕ) (before after : Option (List ℕ))
     → Taken old now piece rest done before after → NoEnd now.front → IsOver now rest → (more : List ℕ)
@@ -155,7 +169,8 @@ end-quit old now piece rest done before after taken none over =
     ∙ ap (quits_from old) (append-nil piece)
 
 -- a session that has ended replies nothing more
-pub ended-silent : (now : PopSessionState) (quit : Bool) → quit ≡ is_ended now.phase → quit ≡ true → (rest : List ℕ) → replies_from now rest ≡ []
+pub ended-silent : (now : PopSessionState) (quit : Bool) → quit ≡ is_ended now.phase → quit ≡ true → (rest : List ℕ)
+    → replies_from now rest ≡ []
 ended-silent now quit is e rest = ended-replies now.user now.secret now.letters now.phase (requests (now.front ++ rest)) (sym is ∙ e)
 
 -- a put was cut off
@@ -166,7 +181,9 @@ taken-cut old now piece rest done before mid after failed taken cut =
     Puts-cut (replies_from old piece) (replies_from now rest) [] (replies_from now rest) 0 done before mid after failed
     (record {
       front = taken.puts.front;
-      split = ap (replies_from old) (sym (append-nil piece)) ∙ taken.replies [] ∙ ap (λ xs. taken.front ++ replies_from now xs) (append-nil rest) ∙ ap (λ xs. xs ++ replies_from now rest) (taken.puts.split ∙ append-nil taken.puts.front);
+      split = ap (replies_from old) (sym (append-nil piece)) ∙ taken.replies []
+          ∙ ap (λ xs. taken.front ++ replies_from now xs) (append-nil rest)
+          ∙ ap (λ xs. xs ++ replies_from now rest) (taken.puts.split ∙ append-nil taken.puts.front);
       count = taken.puts.count;
       written = taken.puts.written;
     })

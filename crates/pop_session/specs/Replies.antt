@@ -44,6 +44,7 @@ abbrev pub pop_reply_bytes : List Letter → PopReply → List ℕ
 pop_reply_bytes letters Accepted = crlf_line (codes "+OK")
 pop_reply_bytes letters (Refused refusal) = crlf_line (pop_refusal_text refusal)
 pop_reply_bytes letters Totals = crlf_line (codes "+OK " ++ decimal (length letters) ++ codes " " ++ decimal (total_size letters))
-pop_reply_bytes letters (Rows listing) = crlf_line (rows_head listing (length letters)) ++ (rows_from listing 1 letters ++ crlf_line (codes "."))
+pop_reply_bytes letters (Rows listing) =
+    crlf_line (rows_head listing (length letters)) ++ (rows_from listing 1 letters ++ crlf_line (codes "."))
 pop_reply_bytes letters (Row listing n) = row_reply listing n (letter_at letters n)
 pop_reply_bytes letters (Text n) = text_reply (letter_at letters n)

@@ -87,7 +87,8 @@ lettered phase (Some n) reply = replied phase (reply n)
 
 -- a request for the row of one letter or of all
 abbrev pub list_outcome : List ℕ → Phase → Listing → Outcome
-list_outcome text phase listing = if has_words 1 text then replied phase (Rows listing) else lettered phase (letter_number text) (Row listing)
+list_outcome text phase listing = if has_words 1 text then replied phase (Rows listing)
+    else lettered phase (letter_number text) (Row listing)
 
 -- has the phase the right name?
 abbrev pub is_right : Phase → Bool

@@ -12,7 +12,8 @@ use crate::reply::{Listing, PopRefusal};
 use arrayvec::ArrayVec;
 use itoa::{Buffer, Integer};
 
-// Appends bytes, for which there is room. A buffer of 128 bytes holds any line of a reply that is no letter's.
+// Appends bytes, for which there is room. A buffer of 128 bytes holds any line of a reply that is
+// no letter's.
 fn push_bytes(buffer: &mut ArrayVec<u8, 128>, bytes: &[u8])
     requires { array_vec_len buffer.old + length bytes.now ≤ 128 }
     ensures { buffer.new.items ≡ buffer.old.items ++ bytes.now }
@@ -80,7 +81,8 @@ pub(crate) fn number_line(n: u64) -> ArrayVec<u8, 128>
 
 /// Returns the reply to STAT: the number of letters and their size.
 pub(crate) fn totals_line(count: usize, size: u128) -> ArrayVec<u8, 128>
-    ensures { result.items ≡ crlf_line (codes "+OK " ++ decimal count ++ codes " " ++ decimal size) }
+    ensures { result.items
+        ≡ crlf_line (codes "+OK " ++ decimal count ++ codes " " ++ decimal size) }
 {
     let mut buffer = ArrayVec::new();
     push_bytes(&mut buffer, b"+OK ");
@@ -180,7 +182,8 @@ pub(crate) fn has_dot(text: &[u8]) -> bool
     text.first() == Some(&b'.')
 }
 
-/// Returns a line of a letter as it is sent: with one more dot before one that begins with a dot (RFC 1939 3).
+/// Returns a line of a letter as it is sent: with one more dot before one that begins with a dot
+/// (RFC 1939 3).
 pub(crate) fn sent_line(text: &[u8]) -> ArrayVec<u8, 1024>
     requires { length text.now ≤ 1000 }
     ensures { result.items ≡ crlf_line (stuffed text.now) }

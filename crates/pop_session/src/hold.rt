@@ -3,7 +3,8 @@ ghost use Rattle.std.specs.Prelude.{◌≡◌, ◌≢◌, [], min};
 ghost use Rattle.tap_base.specs.Counts.{Rose};
 ghost use Rattle.pop_session.specs.declared.outcome.Phase.{Phase};
 ghost use Rattle.pop_session.specs.Sessions.{AreShort, CanTakeBytes, replies_from, quits_from};
-ghost use Rattle.pop_session.specs.Ends.{SessionEnds, PassedSessionLimit, IsSession, LettersEnd, OpenEnd, IsSessionUpToDate};
+ghost use Rattle.pop_session.specs.Ends.{SessionEnds, PassedSessionLimit, IsSession, LettersEnd};
+ghost use Rattle.pop_session.specs.Ends.{OpenEnd, IsSessionUpToDate};
 ghost use Rattle.peer_edges.specs.Asks.{AskedOnlyWhen};
 
 use crate::laws::replies_grow;
@@ -24,7 +25,8 @@ fn least(a: usize, b: usize) -> usize
     if a < b { a } else { b }
 }
 
-// Takes the pieces of the source and puts the replies to each before the next one is read; returns the status.
+// Takes the pieces of the source and puts the replies to each before the next one is read; returns
+// the status.
 fn answer_pieces<S: Peer<K>, K: Sink>(
     session: &mut PopSession<'_>,
     source: &mut S,
@@ -33,10 +35,12 @@ fn answer_pieces<S: Peer<K>, K: Sink>(
     requires ready { CanTakeBytes session.old }
     requires unread { session.old.front ≡ [] }
     requires first { session.old.phase ≡ Phase.Authorization }
-    ensures ends { SessionEnds (replies_from session.old) (quits_from session.old) (S.left source.old) (S.left source.new)
+    ensures ends { SessionEnds (replies_from session.old) (quits_from session.old)
+        (S.left source.old) (S.left source.new)
         (K.out sink.old) (K.out sink.new) result [] }
     ensures prompt { AskedOnlyWhen (λ l o.
-        OpenEnd (replies_from session.old) (quits_from session.old) (S.left source.old) l (K.out sink.old) o)
+        OpenEnd (replies_from session.old) (quits_from session.old) (S.left source.old) l
+            (K.out sink.old) o)
         (S.was_asked source.old) (S.was_asked source.new) }
     ensures statuses { IsSession result }
     ensures read_cause { result ≡ 3 → Rose (S.faults source.old) (S.faults source.new) }
@@ -67,8 +71,9 @@ fn answer_pieces<S: Peer<K>, K: Sink>(
     8
 }
 
-/// Holds a session of the user over these letters: greets, and answers the requests of the source, up to an accepted QUIT, in
-/// pieces of at most 65,536 bytes. It takes no memory. Returns the status: 0, 1, 3, 4 or 8, as `serve` has them.
+/// Holds a session of the user over these letters: greets, and answers the requests of the source,
+/// up to an accepted QUIT, in pieces of at most 65,536 bytes. It takes no memory. Returns the
+/// status: 0, 1, 3, 4 or 8, as `serve` has them.
 pub fn hold_session<S: Peer<K>, K: Sink>(
     user: &[u8],
     secret: &[u8],
@@ -77,10 +82,13 @@ pub fn hold_session<S: Peer<K>, K: Sink>(
     sink: &mut K,
 ) -> u8
     requires { AreShort letters.now }
-    ensures ends { LettersEnd result user.now secret.now letters.now (S.left source.old) (S.left source.new) (K.out sink.old) (K.out sink.new) }
+    ensures ends { LettersEnd result user.now secret.now letters.now (S.left source.old)
+        (S.left source.new) (K.out sink.old) (K.out sink.new) }
 
-    // Whenever the source was asked for more, exactly the greeting and the replies to the bytes taken so far were out.
-    ensures prompt { AskedOnlyWhen (λ l o. IsSessionUpToDate user.now secret.now letters.now (S.left source.old) l (K.out sink.old) o)
+    // Whenever the source was asked for more, exactly the greeting and the replies to the bytes
+    // taken so far were out.
+    ensures prompt { AskedOnlyWhen (λ l o.
+        IsSessionUpToDate user.now secret.now letters.now (S.left source.old) l (K.out sink.old) o)
         (S.was_asked source.old) (S.was_asked source.new) }
     ensures statuses { IsSession result }
     ensures read_cause { result ≡ 3 → Rose (S.faults source.old) (S.faults source.new) }

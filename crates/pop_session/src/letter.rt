@@ -9,7 +9,8 @@ ghost use Rattle.pop_session.specs.Sessions.{AreShort};
 use digest_mail::first_lined;
 use tap_base::{DocNum, Text};
 
-/// A letter: the number of its document, and its text. Its number in a session is its place in the list, from 1.
+/// A letter: the number of its document, and its text. Its number in a session is its place in the
+/// list, from 1.
 #[derive(Drop)]
 pub struct Letter {
     pub doc: DocNum,

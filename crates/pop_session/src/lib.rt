@@ -1,4 +1,5 @@
-//! One session of the post office protocol, version 3 (RFC 1939), over a list of letters, without memory.
+//! One session of the post office protocol, version 3 (RFC 1939), over a list of letters, without
+//! memory.
 #![tactic(auto)]
 
 mod buffer;

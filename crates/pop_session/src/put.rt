@@ -97,7 +97,8 @@ fn put_all_rows<K: Sink>(
     letters: &[Letter],
 ) -> Result<usize, PutFailed>
     requires { AreShort letters.now }
-    ensures { PutBehind K.Sink start (rows_from listing 1 letters.now ++ crlf_line (codes ".")) sink.old sink.new result }
+    ensures { PutBehind K.Sink start (rows_from listing 1 letters.now ++ crlf_line (codes "."))
+        sink.old sink.new result }
 {
     match put_rows(sink, start, listing, letters) {
         Ok(done) => put_line(sink, done, b"."),
@@ -107,7 +108,8 @@ fn put_all_rows<K: Sink>(
 
 // Puts the lines of a text, and a line of one dot.
 fn put_all_lines<K: Sink>(sink: &mut K, start: usize, text: &[u8]) -> Result<usize, PutFailed>
-    ensures { PutBehind K.Sink start (sent_lines text.now ++ crlf_line (codes ".")) sink.old sink.new result }
+    ensures { PutBehind K.Sink start (sent_lines text.now ++ crlf_line (codes "."))
+        sink.old sink.new result }
 {
     match put_lines(sink, start, text) {
         Ok(done) => put_line(sink, done, b"."),
@@ -124,7 +126,8 @@ fn put_row<K: Sink>(
     letters: &[Letter],
 ) -> Result<usize, PutFailed>
     requires { AreShort letters.now }
-    ensures { PutBehind K.Sink start (row_reply listing number (letter_at letters.now number)) sink.old sink.new result }
+    ensures { PutBehind K.Sink start (row_reply listing number (letter_at letters.now number))
+        sink.old sink.new result }
 {
     match letter_at(letters, number) {
         None => put_next(sink, start, refusal_line(PopRefusal::NoMessage).as_slice()),
@@ -156,7 +159,8 @@ fn put_text<K: Sink>(
     letters: &[Letter],
 ) -> Result<usize, PutFailed>
     requires { AreShort letters.now }
-    ensures { PutBehind K.Sink start (text_reply (letter_at letters.now number)) sink.old sink.new result }
+    ensures { PutBehind K.Sink start (text_reply (letter_at letters.now number))
+        sink.old sink.new result }
 {
     match letter_at(letters, number) {
         None => put_next(sink, start, refusal_line(PopRefusal::NoMessage).as_slice()),
@@ -172,7 +176,8 @@ fn put_list<K: Sink>(
     letters: &[Letter],
 ) -> Result<usize, PutFailed>
     requires { AreShort letters.now }
-    ensures { PutBehind K.Sink start (pop_reply_bytes letters.now (Rows listing)) sink.old sink.new result }
+    ensures { PutBehind K.Sink start (pop_reply_bytes letters.now (Rows listing))
+        sink.old sink.new result }
 {
     match put_next(sink, start, head_line(listing, letters.len()).as_slice()) {
         Ok(done) => put_all_rows(sink, done, listing, letters),
@@ -180,8 +185,8 @@ fn put_list<K: Sink>(
     }
 }
 
-/// Puts a reply behind `start` bytes, and returns how many bytes are put then. An error gives how many bytes were put, with
-/// these `start`. It takes no memory.
+/// Puts a reply behind `start` bytes, and returns how many bytes are put then. An error gives how
+/// many bytes were put, with these `start`. It takes no memory.
 pub(crate) fn put_reply<K: Sink>(
     sink: &mut K,
     start: usize,

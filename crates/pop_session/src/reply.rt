@@ -21,7 +21,8 @@ pub enum PopRefusal {
     NoMessage,
 }
 
-/// The reply to a request. A letter is named by its number, from 1; if there is no such letter, the request is refused.
+/// The reply to a request. A letter is named by its number, from 1; if there is no such letter, the
+/// request is refused.
 #[derive(Clone, Copy)]
 pub enum PopReply {
     Accepted,

@@ -1,13 +1,17 @@
 //! Reads a request and checks it.
-ghost use Rattle.std.specs.Prelude.{◌≡◌, ◌≤◌, ◌+◌, ◌==◌, ◌&&◌, Bool, true, false, Option, Some, None, length, drop};
+ghost use Rattle.std.specs.Prelude.{◌≡◌, ◌≤◌, ◌+◌, ◌==◌, ◌&&◌, Bool, true, false, Option, Some};
+ghost use Rattle.std.specs.Prelude.{None, length, drop};
 ghost use Rattle.std.specs.Prelude.{if◌then◌else◌, nat_le};
 ghost use Rattle.std.specs.List.{position_or_len};
 ghost use Rattle.std.specs.Str.{bytes_eq};
 ghost use Rattle.std.specs.Str.Lines.{strip_carriage_return};
 ghost use Rattle.tap_base.specs.LineWords.{word, has_words, after_blanks};
 ghost use Rattle.tap_base.specs.Numbers.{number_of};
-ghost use Rattle.pop_session.specs.Requests.{keyword_of, is_allowed, unnamed, replied, refused_request, after_keyword, letter_number, bare, lettered, list_outcome, is_right};
-ghost use Rattle.pop_session.specs.Requests.{user_outcome, pass_outcome, allowed_outcome, keyword_outcome, text_outcome, outcome_of};
+ghost use Rattle.pop_session.specs.Requests.{keyword_of, is_allowed, unnamed, replied};
+ghost use Rattle.pop_session.specs.Requests.{refused_request, after_keyword, letter_number, bare};
+ghost use Rattle.pop_session.specs.Requests.{lettered, list_outcome, is_right};
+ghost use Rattle.pop_session.specs.Requests.{user_outcome, pass_outcome, allowed_outcome};
+ghost use Rattle.pop_session.specs.Requests.{keyword_outcome, text_outcome, outcome_of};
 ghost use Rattle.pop_session.specs.declared.reply.PopReply.{PopReply};
 ghost use Rattle.pop_session.specs.declared.reply.PopReply.TheVariants.{Row, Text, Refused};
 ghost use Rattle.pop_session.specs.declared.reply.PopRefusal.TheVariants.{Kept};
@@ -241,7 +245,8 @@ fn without_return(request: &[u8]) -> &[u8]
     }
 }
 
-/// Returns the outcome of a request, which is given without its LF: the first check that applies refuses it.
+/// Returns the outcome of a request, which is given without its LF: the first check that applies
+/// refuses it.
 pub(crate) fn outcome_of(user: &[u8], secret: &[u8], phase: Phase, request: &[u8]) -> Outcome
     ensures { result ≡ outcome_of user.now secret.now phase request.now }
 {

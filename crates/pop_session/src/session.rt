@@ -1,5 +1,6 @@
 //! A session: the client's bytes in pieces, and the replies to them.
-ghost use Rattle.std.specs.Prelude.{◌≡◌, ◌≤◌, ◌<◌, ◌+◌, ◌-◌, ◌++◌, List, [], ℕ, Bool, true, false, length, take, drop};
+ghost use Rattle.std.specs.Prelude.{◌≡◌, ◌≤◌, ◌<◌, ◌+◌, ◌-◌, ◌++◌, List, [], ℕ, Bool, true, false};
+ghost use Rattle.std.specs.Prelude.{length, take, drop};
 ghost use Rattle.std.specs.Prelude.{OnOk, OnErr, IfOk, IfErr};
 ghost use Rattle.std.specs.List.{position_or_len};
 ghost use Rattle.std.specs.Io.KnownBytes.{Appends};
@@ -7,7 +8,9 @@ ghost use Rattle.mail_lines.specs.Lines.{is_end, NoEnd};
 ghost use Rattle.tap_edges.specs.Edges.{HasCause};
 ghost use Rattle.tap_edges.specs.Puts.{counted, TookSome, PutBehind};
 ghost use Rattle.pop_session.specs.Replies.{greeting, pop_reply_bytes};
-ghost use Rattle.pop_session.specs.Sessions.{PopSessionState, new_session, greeted, replies_from, quits_from, CanTakeBytes, is_ended, request_grown, AreShort};
+ghost use Rattle.pop_session.specs.Sessions.{PopSessionState, new_session, greeted, replies_from};
+ghost use Rattle.pop_session.specs.Sessions.{quits_from, CanTakeBytes, is_ended, request_grown};
+ghost use Rattle.pop_session.specs.Sessions.{AreShort};
 ghost use Rattle.pop_session.specs.Sessions.{held, open_reply, answered, IsOver};
 
 use crate::buffer::greeting_line;
@@ -20,14 +23,15 @@ use memchr::memchr;
 use std::marker::Model;
 use tap_edges::{PutFailed, Sink, put_next};
 
-/// A session of RFC 1939 over a list of letters. It takes the client's bytes in pieces of any size, and puts the reply to each
-/// request before it looks at the next. It takes no memory.
+/// A session of RFC 1939 over a list of letters. It takes the client's bytes in pieces of any size,
+/// and puts the reply to each request before it looks at the next. It takes no memory.
 #[derive(Drop)]
 pub struct PopSession<'a> {
     user: &'a [u8],
     secret: &'a [u8],
     letters: &'a [Letter],
-    // The bytes of the open request. Of one that is too long only a front is stored: one byte more than a request may have.
+    // The bytes of the open request. Of one that is too long only a front is stored: one byte more
+    // than a request may have.
     front: ArrayVec<u8, 513>,
     phase: Phase,
     greeted: bool,
@@ -65,7 +69,8 @@ fn end_of_request(bytes: &[u8]) -> usize
     }
 }
 
-// Appends bytes of the open request, up to one byte more than a request may have, which shows that it is too long.
+// Appends bytes of the open request, up to one byte more than a request may have, which shows that
+// it is too long.
 fn grow(front: &mut ArrayVec<u8, 513>, bytes: &[u8])
     ensures { front.new.items ≡ request_grown front.old.items bytes.now }
 {
@@ -95,7 +100,8 @@ fn rest_from(bytes: &[u8], n: usize) -> &[u8]
     &bytes[n..]
 }
 
-// How many bytes of a piece a request took, and how many bytes of the replies to the piece are put then.
+// How many bytes of a piece a request took, and how many bytes of the replies to the piece are put
+// then.
 #[derive(Clone, Copy)]
 struct Step {
     used: usize,
@@ -119,7 +125,8 @@ impl<'a> PopSession<'a> {
         }
     }
 
-    /// Puts the greeting (RFC 1939 4). Fails only if the put fails, and the session has failed then.
+    /// Puts the greeting (RFC 1939 4). Fails only if the put fails, and the session has failed
+    /// then.
     pub fn greet<K: Sink>(&mut self, sink: &mut K) -> Result<(), PutFailed>
         requires first { self.old.greeted ≡ false }
         requires open { is_ended self.old.phase ≡ false }
@@ -127,7 +134,8 @@ impl<'a> PopSession<'a> {
         ensures ok { OnOk result (Appends (K.out sink.old) (K.out sink.new) greeting) }
         ensures next { OnOk result (self.new ≡ greeted self.old) }
         ensures ready { OnOk result (CanTakeBytes self.new) }
-        ensures err { IfErr result (λ failed. TookSome 0 (K.out sink.old) (K.out sink.new) greeting failed) }
+        ensures err { IfErr result (λ failed.
+            TookSome 0 (K.out sink.old) (K.out sink.new) greeting failed) }
         ensures cause { HasCause (K.faults sink.old) (K.faults sink.new) result }
         ensures failed { OnErr result (self.new.failed ≡ true) }
     {
@@ -180,7 +188,8 @@ impl<'a> PopSession<'a> {
         }
     }
 
-    // Takes the bytes of a piece up to the end of the next request, and puts the reply to it. `start` bytes are put before.
+    // Takes the bytes of a piece up to the end of the next request, and puts the reply to it.
+    // `start` bytes are put before.
     fn take_one<K: Sink>(
         &mut self,
         piece: &[u8],
@@ -190,15 +199,19 @@ impl<'a> PopSession<'a> {
         requires some { 0 < length piece.now }
         requires ready { CanTakeBytes self.old }
         ensures within { IfOk result (λ step. (0 < step.used) × (step.used ≤ length piece.now)) }
-        ensures count { IfOk result (λ step. step.done ≡ counted (start + length (replies_from self.old (take step.used piece.now)))) }
-        ensures ok { IfOk result (λ step. Appends (K.out sink.old) (K.out sink.new) (replies_from self.old (take step.used piece.now))) }
-        ensures next { IfOk result (λ step. (rest : List ℕ) → replies_from self.old (take step.used piece.now ++ rest)
+        ensures count { IfOk result (λ step. step.done
+            ≡ counted (start + length (replies_from self.old (take step.used piece.now)))) }
+        ensures ok { IfOk result (λ step. Appends (K.out sink.old) (K.out sink.new)
+            (replies_from self.old (take step.used piece.now))) }
+        ensures next { IfOk result (λ step. (rest : List ℕ)
+            → replies_from self.old (take step.used piece.now ++ rest)
             ≡ replies_from self.old (take step.used piece.now) ++ replies_from self.new rest) }
         ensures quits { IfOk result (λ step. (rest : List ℕ) →
             quits_from self.old (take step.used piece.now ++ rest) ≡ quits_from self.new rest) }
         ensures going { OnOk result ((self.new.greeted ≡ true) × (self.new.failed ≡ false)) }
         ensures err { IfErr result (λ failed.
-            TookSome start (K.out sink.old) (K.out sink.new) (replies_from self.old piece.now) failed) }
+            TookSome start (K.out sink.old) (K.out sink.new) (replies_from self.old piece.now)
+                failed) }
         ensures cause { HasCause (K.faults sink.old) (K.faults sink.new) result }
         ensures failed { OnErr result (self.new.failed ≡ true) }
     {
@@ -219,21 +232,27 @@ impl<'a> PopSession<'a> {
         }
     }
 
-    /// Takes a piece of the client's bytes, and puts the reply to each request that the piece completes. Returns whether one of
-    /// these requests was an accepted QUIT; no later byte is looked at then, and the session has ended. However the bytes go on,
-    /// the replies to all of them are those that were put and those to the rest. Fails only if a put fails, with the number
-    /// of bytes that this call put before, and the session has failed then.
+    /// Takes a piece of the client's bytes, and puts the reply to each request that the piece
+    /// completes. Returns whether one of these requests was an accepted QUIT; no later byte is
+    /// looked at then, and the session has ended. However the bytes go on, the replies to all of
+    /// them are those that were put and those to the rest. Fails only if a put fails, with the
+    /// number of bytes that this call put before, and the session has failed then.
     pub fn take<K: Sink>(&mut self, piece: &[u8], sink: &mut K) -> Result<bool, PutFailed>
         requires ready { CanTakeBytes self.old }
-        ensures ok { OnOk result (Appends (K.out sink.old) (K.out sink.new) (replies_from self.old piece.now)) }
+        ensures ok { OnOk result
+            (Appends (K.out sink.old) (K.out sink.new) (replies_from self.old piece.now)) }
         ensures next { OnOk result ((rest : List ℕ) →
-            replies_from self.old (piece.now ++ rest) ≡ replies_from self.old piece.now ++ replies_from self.new rest) }
+            replies_from self.old (piece.now ++ rest)
+                ≡ replies_from self.old piece.now ++ replies_from self.new rest) }
         ensures open { OnOk result (replies_from self.new [] ≡ []) }
-        ensures quits { OnOk result ((rest : List ℕ) → quits_from self.old (piece.now ++ rest) ≡ quits_from self.new rest) }
+        ensures quits { OnOk result
+            ((rest : List ℕ) → quits_from self.old (piece.now ++ rest) ≡ quits_from self.new rest) }
         ensures quit { IfOk result (λ quit. quit ≡ quits_from self.old piece.now) }
-        ensures over { IfOk result (λ quit. quit ≡ true → (rest : List ℕ) → replies_from self.new rest ≡ []) }
+        ensures over { IfOk result (λ quit. quit ≡ true → (rest : List ℕ)
+            → replies_from self.new rest ≡ []) }
         ensures ready { IfOk result (λ quit. quit ≡ false → CanTakeBytes self.new) }
-        ensures err { IfErr result (λ failed. TookSome 0 (K.out sink.old) (K.out sink.new) (replies_from self.old piece.now) failed) }
+        ensures err { IfErr result (λ failed.
+            TookSome 0 (K.out sink.old) (K.out sink.new) (replies_from self.old piece.now) failed) }
         ensures cause { HasCause (K.faults sink.old) (K.faults sink.new) result }
         ensures failed { OnErr result (self.new.failed ≡ true) }
     {

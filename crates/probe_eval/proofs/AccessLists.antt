@@ -1,5 +1,6 @@
 -- The rows that walks of the index hand out are those that an access admits.
-use Rattle.std.proofs.Common.{◌≡◌, ℕ, suc, ◌+◌, ◌<◌, ◌≤◌, ℤ, pos, Bool, true, false, List, [], ◌∷◌, Option, Some, None, length, refl, sym, ap, ◌∙◌, subst, inl, inr, arith, map, nat_eq}
+use Rattle.std.proofs.Common.{◌≡◌, ℕ, suc, ◌+◌, ◌<◌, ◌≤◌, ℤ, pos, Bool, true, false, List, [], ◌∷◌, Option, Some, None, length, refl, sym}
+use Rattle.std.proofs.Common.{ap, ◌∙◌, subst, inl, inr, arith, map, nat_eq}
 use Rattle.std.specs.Prelude.{◌||◌, ◌≤ℤ◌, int_le, option_to_list, filter}
 use Rattle.std.specs.List.{list_any, find}
 use Rattle.std.specs.Str.{bytes_eq}
@@ -41,7 +42,8 @@ module _ {A : Type 0} (of : A → Row) where
   none_picked q (x ∷ xs) h = rw (h x) (none_picked q xs h)
 
   -- rows that have all come by a second
-  pub all_by : (f : A → ℤ) (last : ℤ) (xs : List A) → ((x : A) → arrival (of x) ≡ f x) → pos 250000000000 ≤ℤ last → Each (λ x. IsMoment (f x)) xs → filter (λ row. int_le (arrival row) last) (map of xs) ≡ filter (λ row. true) (map of xs)
+  pub all_by : (f : A → ℤ) (last : ℤ) (xs : List A) → ((x : A) → arrival (of x) ≡ f x) → pos 250000000000 ≤ℤ last
+      → Each (λ x. IsMoment (f x)) xs → filter (λ row. int_le (arrival row) last) (map of xs) ≡ filter (λ row. true) (map of xs)
   all_by f last [] s l m = refl
   all_by f last (x ∷ xs) s l m =
       let e : int_le (arrival (of x)) last ≡ true = ap (λ y. int_le y last) (s x) ∙ late (f x) m.0.1 in
@@ -66,7 +68,8 @@ both_same false true f g = g refl
 both_same false false f g = refl
 
 pub same_number : (a k : ℕ) → nat_eq a k ≡ int_eq (pos a) (pos k)
-same_number a k = both_same (nat_eq a k) (int_eq (pos a) (pos k)) (λ e. (Decides-int_eq (pos a) (pos k)).1 (ap pos (eq_is a k e))) (λ e. is_eq_nat a k (same ((Decides-int_eq (pos a) (pos k)).0 e)))
+same_number a k = both_same (nat_eq a k) (int_eq (pos a) (pos k)) (λ e. (Decides-int_eq (pos a) (pos k)).1 (ap pos (eq_is a k e))) (λ e.
+    is_eq_nat a k (same ((Decides-int_eq (pos a) (pos k)).0 e)))
   where
     same : pos a ≡ pos k → a ≡ k
     same e = cc
@@ -76,7 +79,8 @@ none_from : (k n : ℕ) (ds : List Doc) → Numbered doc_number n ds → k < n �
 none_from k n [] h l = refl
 none_from k n (d ∷ ds) h l = rw (ne d.num.0 k (subst (λ z. k < z) (sym h.0) l)) (none_from k (n + 1) ds h.1 (omega (arith, l)))
 
-one_found : (k n : ℕ) (ds : List Doc) → Numbered doc_number n ds → option_to_list (find (λ doc. nat_eq doc.num.0 k) ds) ≡ filter (λ doc. nat_eq doc.num.0 k) ds
+one_found : (k n : ℕ) (ds : List Doc) → Numbered doc_number n ds
+    → option_to_list (find (λ doc. nat_eq doc.num.0 k) ds) ≡ filter (λ doc. nat_eq doc.num.0 k) ds
 one_found k n [] h = refl
 one_found k n (d ∷ ds) h =
     elim (cases_Bool (nat_eq d.num.0 k)) [
@@ -87,13 +91,17 @@ one_found k n (d ∷ ds) h =
     past : n ≡ k → k < (n + 1)
     past e = omega (arith, e)
 
-pub doc_picked : (docs : List Doc) (o : Option ℤ) (k : ℕ) → o ≡ Some (pos k) → Numbered doc_number 1 docs → map OfDoc (option_to_list (find (λ doc. nat_eq doc.num.0 k) docs)) ≡ filter (λ row. both Eq (field Id row) o) (map OfDoc docs)
+pub doc_picked : (docs : List Doc) (o : Option ℤ) (k : ℕ) → o ≡ Some (pos k) → Numbered doc_number 1 docs
+    → map OfDoc (option_to_list (find (λ doc. nat_eq doc.num.0 k) docs)) ≡ filter (λ row. both Eq (field Id row) o) (map OfDoc docs)
 doc_picked docs o k e n =
-    subst (λ z. map OfDoc (option_to_list (find (λ doc. nat_eq doc.num.0 k) docs)) ≡ filter (λ row. both Eq (field Id row) z) (map OfDoc docs)) (sym e)
-    (ap (map OfDoc) (one_found k 1 docs n) ∙ picked OfDoc (λ doc. nat_eq doc.num.0 k) (λ row. both Eq (field Id row) (Some (pos k))) docs (λ d. same_number d.num.0 k))
+    subst (λ z. map OfDoc (option_to_list (find (λ doc. nat_eq doc.num.0 k) docs))
+        ≡ filter (λ row. both Eq (field Id row) z) (map OfDoc docs)) (sym e)
+    (ap (map OfDoc) (one_found k 1 docs n)
+      ∙ picked OfDoc (λ doc. nat_eq doc.num.0 k) (λ row. both Eq (field Id row) (Some (pos k))) docs (λ d. same_number d.num.0 k))
 
 -- none of these numbers is the one asked for
-none_numbered : (q : Row → Bool) (n : ℕ) (docs : List Doc) → Numbered doc_number n docs → ((d : Doc) → d.num.0 < n + length docs → q (OfDoc d) ≡ false) → [] ≡ filter q (map OfDoc docs)
+none_numbered : (q : Row → Bool) (n : ℕ) (docs : List Doc) → Numbered doc_number n docs
+    → ((d : Doc) → d.num.0 < n + length docs → q (OfDoc d) ≡ false) → [] ≡ filter q (map OfDoc docs)
 none_numbered q n [] h f = refl
 none_numbered q n (d ∷ ds) h f =
     rw (f d (here d.num.0 n (length ds) h.0)) (none_numbered q (n + 1) ds h.1 (λ x l. f x (further x.num.0 n (length ds) l)))
@@ -104,13 +112,15 @@ none_numbered q n (d ∷ ds) h f =
     further : (a n l : ℕ) → a < n + 1 + l → a < n + suc l
     further a n l h = omega (arith, h)
 
-pub no_doc : (docs : List Doc) (o : Option ℤ) → ((k : ℕ) → k ≤ 4294967295 → both Eq (Some (pos k)) o ≡ false) → Numbered doc_number 1 docs → length docs < 4294967296 → [] ≡ filter (λ row. both Eq (field Id row) o) (map OfDoc docs)
+pub no_doc : (docs : List Doc) (o : Option ℤ) → ((k : ℕ) → k ≤ 4294967295 → both Eq (Some (pos k)) o ≡ false) → Numbered doc_number 1 docs
+    → length docs < 4294967296 → [] ≡ filter (λ row. both Eq (field Id row) o) (map OfDoc docs)
 no_doc docs o out n r = none_numbered (λ row. both Eq (field Id row) o) 1 docs n (λ d l. out d.num.0 (small d.num.0 (length docs) l r))
   where
     small : (a l : ℕ) → a < 1 + l → l < 4294967296 → a ≤ 4294967295
     small a l h k = omega (arith, h, k)
 
-pub notes_picked : (notes : List Note) (o : Option ℤ) (k : ℕ) → o ≡ Some (pos k) → map OfNote (indexed_notes k notes) ≡ filter (λ row. both Eq (field DocOf row) o) (map OfNote notes)
+pub notes_picked : (notes : List Note) (o : Option ℤ) (k : ℕ) → o ≡ Some (pos k)
+    → map OfNote (indexed_notes k notes) ≡ filter (λ row. both Eq (field DocOf row) o) (map OfNote notes)
 notes_picked notes o k e =
     subst (λ z. map OfNote (indexed_notes k notes) ≡ filter (λ row. both Eq (field DocOf row) z) (map OfNote notes)) (sym e)
     (picked OfNote (λ note. (nat_eq k note.doc.0 || false)) (λ row. both Eq (field DocOf row) (Some (pos k))) notes (λ n. turned k n.doc.0))
@@ -120,9 +130,12 @@ notes_picked notes o k e =
     or_false false = refl
 
     turned : (k a : ℕ) → (nat_eq k a || false) ≡ int_eq (pos a) (pos k)
-    turned k a = or_false (nat_eq k a) ∙ both_same (nat_eq k a) (nat_eq a k) (λ e. is_eq_nat a k (sym (eq_is k a e))) (λ e. is_eq_nat k a (sym (eq_is a k e))) ∙ same_number a k
+    turned k a = or_false (nat_eq k a)
+        ∙ both_same (nat_eq k a) (nat_eq a k) (λ e. is_eq_nat a k (sym (eq_is k a e))) (λ e. is_eq_nat k a (sym (eq_is a k e)))
+        ∙ same_number a k
 
-pub no_note : (notes : List Note) (o : Option ℤ) → ((k : ℕ) → k ≤ 4294967295 → both Eq (Some (pos k)) o ≡ false) → Each (λ note. note.doc.0 < 4294967296) notes → [] ≡ filter (λ row. both Eq (field DocOf row) o) (map OfNote notes)
+pub no_note : (notes : List Note) (o : Option ℤ) → ((k : ℕ) → k ≤ 4294967295 → both Eq (Some (pos k)) o ≡ false)
+    → Each (λ note. note.doc.0 < 4294967296) notes → [] ≡ filter (λ row. both Eq (field DocOf row) o) (map OfNote notes)
 no_note [] o out r = refl
 no_note (n ∷ ns) o out r = rw (out n.doc.0 (small n.doc.0 r.0)) (no_note ns o out r.1)
   where
@@ -133,10 +146,12 @@ same_text : (x text : List ℕ) → bytes_eq text x ≡ is_eq (text_cmp x text)
 same_text x text = turned ∙ sym (is_eq-slice_cmp x text)
   where
     turned : bytes_eq text x ≡ bytes_eq x text
-    turned = both_same (bytes_eq text x) (bytes_eq x text) (λ e. (bytes_eq-Decides x text).1 (sym ((bytes_eq-Decides text x).0 e))) (λ e. (bytes_eq-Decides text x).1 (sym ((bytes_eq-Decides x text).0 e)))
+    turned = both_same (bytes_eq text x) (bytes_eq x text) (λ e. (bytes_eq-Decides x text).1 (sym ((bytes_eq-Decides text x).0 e))) (λ e.
+        (bytes_eq-Decides text x).1 (sym ((bytes_eq-Decides x text).0 e)))
 
 -- a text that may be absent
-pub text_asked : (o : Option (List ℕ)) (text : List ℕ) → list_any (λ other. bytes_eq text other) (option_to_list o) ≡ both_texts Eq o (Some text)
+pub text_asked : (o : Option (List ℕ)) (text : List ℕ)
+    → list_any (λ other. bytes_eq text other) (option_to_list o) ≡ both_texts Eq o (Some text)
 text_asked None text = refl
 text_asked (Some x) text = or_false (bytes_eq text x) ∙ same_text x text
   where
@@ -144,31 +159,40 @@ text_asked (Some x) text = or_false (bytes_eq text x) ∙ same_text x text
     or_false true = refl
     or_false false = refl
 
-pub word_asked : (xs : List (List ℕ)) (text : List ℕ) → list_any (λ other. bytes_eq text other) xs ≡ list_any (λ x. is_eq (text_cmp x text)) xs
+pub word_asked : (xs : List (List ℕ)) (text : List ℕ)
+    → list_any (λ other. bytes_eq text other) xs ≡ list_any (λ x. is_eq (text_cmp x text)) xs
 word_asked [] text = refl
 word_asked (x ∷ xs) text = rw (same_text x text, word_asked xs text) refl
 
 -- the documents that an index finds by a text
 module _ (docs : List Doc) (text : List ℕ) where
-  pub msgid_picked : map OfDoc (with_text msgids text docs) ≡ filter (λ row. both_texts Eq (text_field MsgId row) (Some text)) (map OfDoc docs)
+  pub msgid_picked : map OfDoc (with_text msgids text docs)
+      ≡ filter (λ row. both_texts Eq (text_field MsgId row) (Some text)) (map OfDoc docs)
   unfolding fields texts.fields
   msgid_picked = picked OfDoc (λ doc. list_any (λ other. bytes_eq text other) (msgids doc)) _ docs (λ d. text_asked (fields d).msgid text)
 
-  pub parent_picked : map OfDoc (with_text parents text docs) ≡ filter (λ row. both_texts Eq (text_field InReplyTo row) (Some text)) (map OfDoc docs)
+  pub parent_picked : map OfDoc (with_text parents text docs)
+      ≡ filter (λ row. both_texts Eq (text_field InReplyTo row) (Some text)) (map OfDoc docs)
   unfolding fields texts.fields
-  parent_picked = picked OfDoc (λ doc. list_any (λ other. bytes_eq text other) (parents doc)) _ docs (λ d. text_asked (fields d).inreplyto text)
+  parent_picked =
+      picked OfDoc (λ doc. list_any (λ other. bytes_eq text other) (parents doc)) _ docs (λ d. text_asked (fields d).inreplyto text)
 
-  pub sender_picked : map OfDoc (with_text senders text docs) ≡ filter (λ row. both_texts Eq (text_field From row) (Some text)) (map OfDoc docs)
+  pub sender_picked : map OfDoc (with_text senders text docs)
+      ≡ filter (λ row. both_texts Eq (text_field From row) (Some text)) (map OfDoc docs)
   unfolding fields texts.fields
   sender_picked = picked OfDoc (λ doc. list_any (λ other. bytes_eq text other) (senders doc)) _ docs (λ d. text_asked (fields d).from text)
 
-  pub subject_picked : map OfDoc (with_text subjects text docs) ≡ filter (λ row. both_texts Eq (text_field Subject row) (Some text)) (map OfDoc docs)
+  pub subject_picked : map OfDoc (with_text subjects text docs)
+      ≡ filter (λ row. both_texts Eq (text_field Subject row) (Some text)) (map OfDoc docs)
   unfolding fields texts.fields
-  subject_picked = picked OfDoc (λ doc. list_any (λ other. bytes_eq text other) (subjects doc)) _ docs (λ d. text_asked (fields d).subject text)
+  subject_picked =
+      picked OfDoc (λ doc. list_any (λ other. bytes_eq text other) (subjects doc)) _ docs (λ d. text_asked (fields d).subject text)
 
-  pub reference_picked : map OfDoc (with_text references_in text docs) ≡ filter (λ row. has (list_field References row) (Some text)) (map OfDoc docs)
+  pub reference_picked : map OfDoc (with_text references_in text docs)
+      ≡ filter (λ row. has (list_field References row) (Some text)) (map OfDoc docs)
   unfolding fields texts.fields
-  reference_picked = picked OfDoc (λ doc. list_any (λ other. bytes_eq text other) (references_in doc)) _ docs (λ d. word_asked (fields d).references text)
+  reference_picked =
+      picked OfDoc (λ doc. list_any (λ other. bytes_eq text other) (references_in doc)) _ docs (λ d. word_asked (fields d).references text)
 
   pub word_picked : map OfDoc (with_text words_in text docs) ≡ filter (λ row. has (list_field Words row) (Some text)) (map OfDoc docs)
   unfolding fields texts.fields
@@ -177,14 +201,16 @@ module _ (docs : List Doc) (text : List ℕ) where
 -- the same where the text may be absent
 module _ (docs : List Doc) (o : Option (List ℕ)) where
   pub no_text : (f : TextField) → o ≡ None → [] ≡ filter (λ row. both_texts Eq (text_field f row) o) (map OfDoc docs)
-  no_text f e = subst (λ z. [] ≡ filter (λ row. both_texts Eq (text_field f row) z) (map OfDoc docs)) (sym e) (none_picked OfDoc _ docs (λ d. neither (text_field f (OfDoc d))))
+  no_text f e = subst (λ z. [] ≡ filter (λ row. both_texts Eq (text_field f row) z) (map OfDoc docs)) (sym e)
+      (none_picked OfDoc _ docs (λ d. neither (text_field f (OfDoc d))))
     where
       neither : (x : Option (List ℕ)) → both_texts Eq x None ≡ false
       neither None = refl
       neither (Some x) = refl
 
   pub no_reference : o ≡ None → [] ≡ filter (λ row. has (list_field References row) o) (map OfDoc docs)
-  no_reference e = subst (λ z. [] ≡ filter (λ row. has (list_field References row) z) (map OfDoc docs)) (sym e) (none_picked OfDoc _ docs (λ d. refl))
+  no_reference e =
+      subst (λ z. [] ≡ filter (λ row. has (list_field References row) z) (map OfDoc docs)) (sym e) (none_picked OfDoc _ docs (λ d. refl))
 
   pub no_word : o ≡ None → [] ≡ filter (λ row. has (list_field Words row) o) (map OfDoc docs)
   no_word e = subst (λ z. [] ≡ filter (λ row. has (list_field Words row) z) (map OfDoc docs)) (sym e) (none_picked OfDoc _ docs (λ d. refl))

@@ -17,14 +17,17 @@ use Rattle.probe_eval.specs.Work.{admits_by, rows_by, all_rows_by, reached}
 use Rattle.probe_eval.proofs.AccessLists.{picked, all_by}
 use Rattle.tap_base.specs.Numbers.{IsMoment}
 
-pub docs_by : (last : ℤ) (a : Access) (env : Env) (T : Tables) → a ≡ AllDocs → map OfDoc (up_to doc_arrival last T.docs) ≡ rows_by last a env T
+pub docs_by : (last : ℤ) (a : Access) (env : Env) (T : Tables) → a ≡ AllDocs
+    → map OfDoc (up_to doc_arrival last T.docs) ≡ rows_by last a env T
 docs_by last a env T e = picked OfDoc _ _ T.docs (λ d. refl) ∙ ap (λ z. rows_by last z env T) (sym e)
 
-pub notes_by : (last : ℤ) (a : Access) (env : Env) (T : Tables) → a ≡ AllNotes → map OfNote (up_to note_arrival last T.notes) ≡ rows_by last a env T
+pub notes_by : (last : ℤ) (a : Access) (env : Env) (T : Tables) → a ≡ AllNotes
+    → map OfNote (up_to note_arrival last T.notes) ≡ rows_by last a env T
 notes_by last a env T e = picked OfNote _ _ T.notes (λ d. refl) ∙ ap (λ z. rows_by last z env T) (sym e)
 
 -- if all rows have come, a walk by an access hands out all that it admits
-module _ (last : ℤ) (T : Tables) (late : pos 250000000000 ≤ℤ last) (docs : Each (λ doc. IsMoment (doc_arrival doc)) T.docs) (notes : Each (λ note. IsMoment (note_arrival note)) T.notes) where
+module _ (last : ℤ) (T : Tables) (late : pos 250000000000 ≤ℤ last) (docs : Each (λ doc. IsMoment (doc_arrival doc)) T.docs)
+    (notes : Each (λ note. IsMoment (note_arrival note)) T.notes) where
   rows_come : (t : Table) → filter (λ row. admits_by last AllDocs [] row) (rows_of t T) ≡ filter (λ row. true) (rows_of t T)
   rows_come Docs = all_by OfDoc doc_arrival last T.docs (λ d. refl) late docs
   rows_come Notes = all_by OfNote note_arrival last T.notes (λ d. refl) late notes
@@ -34,5 +37,6 @@ module _ (last : ℤ) (T : Tables) (late : pos 250000000000 ≤ℤ last) (docs :
   all_admitted AllNotes env = rows_come Notes
   all_admitted a env = refl
 
-  pub inner_reached : (v : Var) (t : Table) (x : Condition) (env : Env) (a : Access) → a ≡ inner_access v t x → rows_by last a env T ≡ reached T v t x env
+  pub inner_reached : (v : Var) (t : Table) (x : Condition) (env : Env) (a : Access) → a ≡ inner_access v t x
+      → rows_by last a env T ≡ reached T v t x env
   inner_reached v t x env a e = ap (λ z. rows_by last z env T) e ∙ all_admitted (inner_access v t x) env

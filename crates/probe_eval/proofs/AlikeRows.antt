@@ -1,5 +1,6 @@
 -- Rows of a variable that no guard names beside one without a row are alike: the rest of a path exists beside all of them or beside none.
-use Rattle.std.proofs.Common.{◌≡◌, ◌∙◌, ℕ, ℤ, Bool, true, false, not, Option, Some, None, List, [], ◌∷◌, refl, sym, ap, subst, inl, inr, nat_eq, if◌then◌else◌}
+use Rattle.std.proofs.Common.{◌≡◌, ◌∙◌, ℕ, ℤ, Bool, true, false, not, Option, Some, None, List, [], ◌∷◌, refl, sym, ap, subst, inl, inr}
+use Rattle.std.proofs.Common.{nat_eq, if◌then◌else◌}
 use Rattle.std.specs.Prelude.{◌⊎◌, ◌&&◌, ◌||◌, is_some, option_map, unwrap_or, int_le}
 use Rattle.std.specs.List.{list_any, list_all, flat_map}
 use Rattle.std.proofs.lemmas.Bool.{cases_Bool, and_parts, or_cases, false≢true, eq-eqb}
@@ -32,18 +33,22 @@ use Rattle.time_marks.specs.Probes.{come_by}
 use Rattle.time_marks.proofs.Lists.{any_in, any_same, all_in, or_right}
 use Rattle.time_marks.proofs.Envs.{bind_other}
 use Rattle.access_plan.specs.declared.access.Access.{Access}
-use Rattle.access_plan.specs.declared.access.Access.TheVariants.{ById, ByMsgId, ByParent, BySender, BySubject, ReferencedBy, ByReference, ByWord, NotesOf, AllDocs, AllNotes}
+use Rattle.access_plan.specs.declared.access.Access.TheVariants.{ById, ByMsgId, ByParent, BySender, BySubject, ReferencedBy, ByReference}
+use Rattle.access_plan.specs.declared.access.Access.TheVariants.{ByWord, NotesOf, AllDocs, AllNotes}
 use Rattle.access_plan.specs.declared.kind.AccessKind.{AccessKind}
 use Rattle.access_plan.specs.declared.kind.AccessKind.TheVariants as K
 use Rattle.access_plan.specs.declared.reach.Reach.{Reach}
-use Rattle.access_plan.specs.Accesses.{table_of, first_some, is_other, is_held, is_held_or, is_known_number, is_known_text, other_number, other_text, number_side, text_side, referring_side, reference_side, word_side, guard_access, near_kinds, whole}
+use Rattle.access_plan.specs.Accesses.{table_of, first_some, is_other, is_held, is_held_or, is_known_number, is_known_text, other_number}
+use Rattle.access_plan.specs.Accesses.{other_text, number_side, text_side, referring_side, reference_side, word_side, guard_access}
+use Rattle.access_plan.specs.Accesses.{near_kinds, whole}
 use Rattle.access_plan.specs.Laws.{AreSame}
 use Rattle.access_plan.specs.Nearest.{kind_access, near, nearest, IsNearest}
 use Rattle.access_plan.proofs.Admits.{made_of, one_of}
 use Rattle.access_plan.proofs.Enough.{first_of}
 use Rattle.access_plan.proofs.Fields as same
 use Rattle.access_plan.proofs.Nearests.{nearest_serves}
-use Rattle.probe_eval.specs.Open.{number_known, text_known, atom_known, atom_held, may_hold, are_open, path_open, is_apart, are_apart, path_apart, may_go}
+use Rattle.probe_eval.specs.Open.{number_known, text_known, atom_known, atom_held, may_hold, are_open, path_open, is_apart, are_apart}
+use Rattle.probe_eval.specs.Open.{path_apart, may_go}
 use Rattle.probe_eval.specs.Work.{admits_by, docs_of_id, rows_by}
 use Rattle.probe_eval.specs.Laws.{RestsAreAlike}
 use Rattle.probe_eval.specs.Rests.{all_or, rest_of}
@@ -68,19 +73,22 @@ access_known known AllNotes = true
 
 -- a guard whose variables are among some names by an access that it gives these alone, and is of one of them
 module _ (some known : ℕ → Bool) (u : Var) where
-  number_names : (f : NumField) (x y e : NumExpr) → other_number known u f x y ≡ Some e → number_known some x ≡ true → number_known some y ≡ true → (some u.0 ≡ true) × (number_known some e ≡ true)
+  number_names : (f : NumField) (x y e : NumExpr) → other_number known u f x y ≡ Some e → number_known some x ≡ true
+      → number_known some y ≡ true → (some u.0 ≡ true) × (number_known some e ≡ true)
   number_names f x y e h i j =
       let c = cond_some (num_expr.ghosts.eq x (Field u f) && is_known_number known y) y e h in
       let p = and_parts _ _ c.0 in
       (subst (λ z. number_known some z ≡ true) (same.number_is x (Field u f) p.0) i, subst (λ z. number_known some z ≡ true) c.1 j)
 
-  text_names : (f : TextField) (x y e : TextExpr) → other_text known u f x y ≡ Some e → text_known some x ≡ true → text_known some y ≡ true → (some u.0 ≡ true) × (text_known some e ≡ true)
+  text_names : (f : TextField) (x y e : TextExpr) → other_text known u f x y ≡ Some e → text_known some x ≡ true → text_known some y ≡ true
+      → (some u.0 ≡ true) × (text_known some e ≡ true)
   text_names f x y e h i j =
       let c = cond_some (text_expr.ghosts.eq x (X.Field u f) && is_known_text known y) y e h in
       let p = and_parts _ _ c.0 in
       (subst (λ z. text_known some z ≡ true) (same.text_is x (X.Field u f) p.0) i, subst (λ z. text_known some z ≡ true) c.1 j)
 
-  by_number : (f : NumField) (a : Atom) (e : NumExpr) → number_side known u f a ≡ Some e → atom_known some a ≡ true → (some u.0 ≡ true) × (number_known some e ≡ true)
+  by_number : (f : NumField) (a : Atom) (e : NumExpr) → number_side known u f a ≡ Some e → atom_known some a ≡ true
+      → (some u.0 ≡ true) × (number_known some e ≡ true)
   by_number f (Numbers x Eq y) e h t =
       let p = and_parts (number_known some x) (number_known some y) t in
       elim (one_of (other_number known u f x y) (other_number known u f y x) e h) [
@@ -89,7 +97,8 @@ module _ (some known : ℕ → Bool) (u : Var) where
       ]
   by_number f _ e h t = absurd (none-some e h)
 
-  by_text : (f : TextField) (a : Atom) (e : TextExpr) → text_side known u f a ≡ Some e → atom_known some a ≡ true → (some u.0 ≡ true) × (text_known some e ≡ true)
+  by_text : (f : TextField) (a : Atom) (e : TextExpr) → text_side known u f a ≡ Some e → atom_known some a ≡ true
+      → (some u.0 ≡ true) × (text_known some e ≡ true)
   by_text f (Texts x Eq y) e h t =
       let p = and_parts (text_known some x) (text_known some y) t in
       elim (one_of (other_text known u f x y) (other_text known u f y x) e h) [
@@ -98,18 +107,21 @@ module _ (some known : ℕ → Bool) (u : Var) where
       ]
   by_text f _ e h t = absurd (none-some e h)
 
-  has_names : (w : Var) (y e : TextExpr) → (if var.ghosts.eq w u && is_known_text known y then Some y else None) ≡ Some e → (some w.0 && text_known some y) ≡ true → (some u.0 ≡ true) × (text_known some e ≡ true)
+  has_names : (w : Var) (y e : TextExpr) → (if var.ghosts.eq w u && is_known_text known y then Some y else None) ≡ Some e
+      → (some w.0 && text_known some y) ≡ true → (some u.0 ≡ true) × (text_known some e ≡ true)
   has_names w y e h t =
       let c = cond_some (var.ghosts.eq w u && is_known_text known y) y e h in
       let p = and_parts _ _ c.0 in
       let q = and_parts (some w.0) (text_known some y) t in
       (subst (λ (z : Var). some z.0 ≡ true) (var_is w u p.0) q.0, subst (λ z. text_known some z ≡ true) c.1 q.1)
 
-  by_word : (a : Atom) (e : TextExpr) → word_side known u a ≡ Some e → atom_known some a ≡ true → (some u.0 ≡ true) × (text_known some e ≡ true)
+  by_word : (a : Atom) (e : TextExpr) → word_side known u a ≡ Some e → atom_known some a ≡ true
+      → (some u.0 ≡ true) × (text_known some e ≡ true)
   by_word (Has w Words y) e h t = has_names w y e h t
   by_word _ e h t = absurd (none-some e h)
 
-  by_reference : (a : Atom) (e : TextExpr) → reference_side known u a ≡ Some e → atom_known some a ≡ true → (some u.0 ≡ true) × (text_known some e ≡ true)
+  by_reference : (a : Atom) (e : TextExpr) → reference_side known u a ≡ Some e → atom_known some a ≡ true
+      → (some u.0 ≡ true) × (text_known some e ≡ true)
   by_reference (Has w References y) e h t = has_names w y e h t
   by_reference _ e h t = absurd (none-some e h)
 
@@ -121,40 +133,51 @@ module _ (some known : ℕ → Bool) (u : Var) where
       (subst (λ (z : Var). some z.0 ≡ true) (var_is y u p.0) q.1, subst (λ (z : Var). some z.0 ≡ true) c.1 q.0)
   by_referring _ w h t = absurd (none-some w h)
 
-  referring_access : (side : Option Var) (access : Access) → ((w : Var) → side ≡ Some w → (some u.0 ≡ true) × (some w.0 ≡ true)) → option_map ReferencedBy side ≡ Some access → (some u.0 ≡ true) × (access_known some access ≡ true)
+  referring_access : (side : Option Var) (access : Access) → ((w : Var) → side ≡ Some w → (some u.0 ≡ true) × (some w.0 ≡ true))
+      → option_map ReferencedBy side ≡ Some access → (some u.0 ≡ true) × (access_known some access ≡ true)
   referring_access side access n h =
       let m = made_of ReferencedBy side access h in
       let k = n m.0 m.1 in
       (k.0, subst (λ z. access_known some z ≡ true) m.2 k.1)
 
-  text_access : (make : TextExpr → Access) → ((e : TextExpr) → access_known some (make e) ≡ text_known some e) → (side : Option TextExpr) (access : Access)
-      → ((e : TextExpr) → side ≡ Some e → (some u.0 ≡ true) × (text_known some e ≡ true)) → option_map make side ≡ Some access → (some u.0 ≡ true) × (access_known some access ≡ true)
+  text_access : (make : TextExpr → Access) → ((e : TextExpr) → access_known some (make e) ≡ text_known some e)
+      → (side : Option TextExpr) (access : Access)
+      → ((e : TextExpr) → side ≡ Some e → (some u.0 ≡ true) × (text_known some e ≡ true)) → option_map make side ≡ Some access
+          → (some u.0 ≡ true) × (access_known some access ≡ true)
   text_access make is side access n h =
       let m = made_of make side access h in
       let k = n m.0 m.1 in
       (k.0, subst (λ z. access_known some z ≡ true) m.2 (is m.0 ∙ k.1))
 
-  number_access : (make : NumExpr → Access) → ((e : NumExpr) → access_known some (make e) ≡ number_known some e) → (side : Option NumExpr) (access : Access)
-      → ((e : NumExpr) → side ≡ Some e → (some u.0 ≡ true) × (number_known some e ≡ true)) → option_map make side ≡ Some access → (some u.0 ≡ true) × (access_known some access ≡ true)
+  number_access : (make : NumExpr → Access) → ((e : NumExpr) → access_known some (make e) ≡ number_known some e)
+      → (side : Option NumExpr) (access : Access)
+      → ((e : NumExpr) → side ≡ Some e → (some u.0 ≡ true) × (number_known some e ≡ true)) → option_map make side ≡ Some access
+          → (some u.0 ≡ true) × (access_known some access ≡ true)
   number_access make is side access n h =
       let m = made_of make side access h in
       let k = n m.0 m.1 in
       (k.0, subst (λ z. access_known some z ≡ true) m.2 (is m.0 ∙ k.1))
 
-  guard_names : (kind : AccessKind) (a : Atom) (access : Access) → guard_access known u kind a ≡ Some access → atom_known some a ≡ true → (some u.0 ≡ true) × (access_known some access ≡ true)
+  guard_names : (kind : AccessKind) (a : Atom) (access : Access) → guard_access known u kind a ≡ Some access → atom_known some a ≡ true
+      → (some u.0 ≡ true) × (access_known some access ≡ true)
   guard_names K.ById a access h t = number_access ById (λ e. refl) (number_side known u Id a) access (λ e i. by_number Id a e i t) h
   guard_names K.ByMsgId a access h t = text_access ByMsgId (λ e. refl) (text_side known u MsgId a) access (λ e i. by_text MsgId a e i t) h
-  guard_names K.ByParent a access h t = text_access ByParent (λ e. refl) (text_side known u InReplyTo a) access (λ e i. by_text InReplyTo a e i t) h
+  guard_names K.ByParent a access h t =
+      text_access ByParent (λ e. refl) (text_side known u InReplyTo a) access (λ e i. by_text InReplyTo a e i t) h
   guard_names K.BySender a access h t = text_access BySender (λ e. refl) (text_side known u From a) access (λ e i. by_text From a e i t) h
-  guard_names K.BySubject a access h t = text_access BySubject (λ e. refl) (text_side known u Subject a) access (λ e i. by_text Subject a e i t) h
+  guard_names K.BySubject a access h t =
+      text_access BySubject (λ e. refl) (text_side known u Subject a) access (λ e i. by_text Subject a e i t) h
   guard_names K.ReferencedBy a access h t = referring_access (referring_side known u a) access (λ w i. by_referring a w i t) h
-  guard_names K.ByReference a access h t = text_access ByReference (λ e. refl) (reference_side known u a) access (λ e i. by_reference a e i t) h
+  guard_names K.ByReference a access h t =
+      text_access ByReference (λ e. refl) (reference_side known u a) access (λ e i. by_reference a e i t) h
   guard_names K.ByWord a access h t = text_access ByWord (λ e. refl) (word_side known u a) access (λ e i. by_word a e i t) h
-  guard_names K.NotesOf a access h t = number_access NotesOf (λ e. refl) (number_side known u DocOf a) access (λ e i. by_number DocOf a e i t) h
+  guard_names K.NotesOf a access h t =
+      number_access NotesOf (λ e. refl) (number_side known u DocOf a) access (λ e i. by_number DocOf a e i t) h
 
 -- an access gives the same rows beside environments that agree on the variables that it names
 module _ (some : ℕ → Bool) (env final : Env) (h : AreSame some env final) (b : ℤ) where
-  admits_same : (access : Access) → access_known some access ≡ true → (row : Row) → admits_by b access final row ≡ admits_by b access env row
+  admits_same : (access : Access) → access_known some access ≡ true → (row : Row)
+      → admits_by b access final row ≡ admits_by b access env row
   admits_same (ById e) k row = ap (both Eq (field Id row)) (number_is some env final h e k)
   admits_same (ByMsgId e) k row = ap (both_texts Eq (text_field MsgId row)) (text_is some env final h e k)
   admits_same (ByParent e) k row = ap (both_texts Eq (text_field InReplyTo row)) (text_is some env final h e k)
@@ -169,7 +192,8 @@ module _ (some : ℕ → Bool) (env final : Env) (h : AreSame some env final) (b
 
   rows_same : (access : Access) → access_known some access ≡ true → (T : Tables) → rows_by b access final T ≡ rows_by b access env T
   rows_same (ReferencedBy w) k T = ap (λ o. flat_map (docs_of_id T) (unwrap_or (on_row o (list_field References)) [])) (h w.0 k)
-  rows_same access k T = filter_same (admits_by b access final) (admits_by b access env) (rows_of (table_of access) T) (admits_same access k)
+  rows_same access k T =
+      filter_same (admits_by b access final) (admits_by b access env) (rows_of (table_of access) T) (admits_same access k)
 
 all_same : {A : Type 0} (p q : A → Bool) (xs : List A) → ((x : A) → In x xs → p x ≡ q x) → list_all p xs ≡ list_all q xs
 all_same p q [] h = refl
@@ -185,7 +209,8 @@ AreSettled known v path one two =
     (step : Step) → In step path → (a : Atom) → In a step.guards
     → (atom_known (is_other v) a ≡ true) ⊎ ((atom_known known a ≡ true) × (true_atom a one ≡ true) × (true_atom a two ≡ true))
 
-module _ (T : Tables) (path : List Step) (b : ℤ) (v : Var) (known : ℕ → Bool) (one two : Env) (settled : AreSettled known v path one two) where
+module _ (T : Tables) (path : List Step) (b : ℤ) (v : Var) (known : ℕ → Bool) (one two : Env)
+    (settled : AreSettled known v path one two) where
   -- they agree on all but v, and each has what the one or the other had initially
   record Alike (e f : Env) : Type 0 where
     held : is_held e ≡ is_held f
@@ -198,14 +223,17 @@ module _ (T : Tables) (path : List Step) (b : ℤ) (v : Var) (known : ℕ → Bo
   open_same : (e f : Env) → Alike e f → (step : Step) → In step path → (a : Atom) → In a step.guards → may_hold e a ≡ may_hold f a
   open_same e f x step i a j =
       elim (settled step i a j) [
-        | inl n ↦ ap (λ h. not (atom_known h a) || true_atom a e) x.held ∙ ap (λ t. not (atom_held f a) || t) (sym (atom_is (is_other v) e f x.same a n))
-        | inr m ↦ or_right (not (atom_held e a)) (true_atom a e) (atom_is known one e x.first a m.0 ∙ m.1) ∙ sym (or_right (not (atom_held f a)) (true_atom a f) (atom_is known two f x.second a m.0 ∙ m.2))
+        | inl n ↦ ap (λ h. not (atom_known h a) || true_atom a e) x.held
+          ∙ ap (λ t. not (atom_held f a) || t) (sym (atom_is (is_other v) e f x.same a n))
+        | inr m ↦ or_right (not (atom_held e a)) (true_atom a e) (atom_is known one e x.first a m.0 ∙ m.1)
+          ∙ sym (or_right (not (atom_held f a)) (true_atom a f) (atom_is known two f x.second a m.0 ∙ m.2))
       ]
 
   go_same : (e f : Env) → Alike e f → may_go path b e ≡ may_go path b f
   go_same e f x =
       ap (λ c. c && path_open path e) x.come
-      ∙ ap (λ o. come_by b f && o) (all_same (λ (step : Step). are_open e step.guards) (λ (step : Step). are_open f step.guards) path (λ step i. all_same (may_hold e) (may_hold f) step.guards (λ a j. open_same e f x step i a j)))
+      ∙ ap (λ o. come_by b f && o) (all_same (λ (step : Step). are_open e step.guards) (λ (step : Step). are_open f step.guards) path
+            (λ step i. all_same (may_hold e) (may_hold f) step.guards (λ a j. open_same e f x step i a j)))
 
   held_by : (e f : Env) (u : Var) (row : Row) → is_held e ≡ is_held f → (k : ℕ) → is_held (bind u row e) k ≡ is_held (bind u row f) k
   held_by e f u row h k = go (nat_eq k u.0)
@@ -241,7 +269,8 @@ module _ (T : Tables) (path : List Step) (b : ℤ) (v : Var) (known : ℕ → Bo
   reach_names : (e f : Env) → Alike e f → (r : Reach) → IsNearest path e r → access_known (is_other v) r.access ≡ true
   reach_names e f x r k = ap (access_known (is_other v)) k.access ∙ go (near path e k.step) refl
     where
-      go : (o : Option Access) → near path e k.step ≡ o → access_known (is_other v) (unwrap_or (near path e k.step) (whole k.step.table)) ≡ true
+      go : (o : Option Access) → near path e k.step ≡ o
+          → access_known (is_other v) (unwrap_or (near path e k.step) (whole k.step.table)) ≡ true
       go None q = ap (λ o. access_known (is_other v) (unwrap_or o (whole k.step.table))) q ∙ whole_known (is_other v) k.step.table
       go (Some access) q =
           let kind = first_of (kind_access path e k.step) (near_kinds k.step.table) access q in
@@ -249,7 +278,8 @@ module _ (T : Tables) (path : List Step) (b : ℤ) (v : Var) (known : ℕ → Bo
           let a = first_of (guard_access (is_held e) k.step.var kind.0) s.0.guards access s.2 in
           ap (λ o. access_known (is_other v) (unwrap_or o (whole k.step.table))) q ∙ elim (settled s.0 s.1 a.0 a.1) [
             | inl n ↦ (guard_names (is_other v) (is_held e) k.step.var kind.0 a.0 access a.2 n).1
-            | inr m ↦ absurd (false≢true (sym k.fresh ∙ x.more k.step.var.0 (guard_names known (is_held e) k.step.var kind.0 a.0 access a.2 m.0).0))
+            | inr m ↦
+              absurd (false≢true (sym k.fresh ∙ x.more k.step.var.0 (guard_names known (is_held e) k.step.var kind.0 a.0 access a.2 m.0).0))
           ]
 
   abbrev beside : List Reach → Env → Reach → Bool
@@ -257,18 +287,22 @@ module _ (T : Tables) (path : List Step) (b : ℤ) (v : Var) (known : ℕ → Bo
 
   rest_same : (order : List Reach) (e f : Env) → Alike e f → rest_of T path b order e ≡ rest_of T path b order f
   rest_same [] e f x =
-      ap (λ m. m && all_or (nearest path e) (λ r. false)) (go_same e f x) ∙ ap (λ o. may_go path b f && all_or o (λ r. false)) (nearest_held path e f x.held)
+      ap (λ m. m && all_or (nearest path e) (λ r. false)) (go_same e f x)
+        ∙ ap (λ o. may_go path b f && all_or o (λ r. false)) (nearest_held path e f x.held)
   rest_same (y ∷ rs) e f x =
-      ap (λ m. m && all_or (nearest path e) (beside rs e)) (go_same e f x) ∙ ap (λ z. may_go path b f && z) (go (λ d c a. rest_same rs d c a) (nearest path e) refl)
+      ap (λ m. m && all_or (nearest path e) (beside rs e)) (go_same e f x)
+        ∙ ap (λ z. may_go path b f && z) (go (λ d c a. rest_same rs d c a) (nearest path e) refl)
     where
-      go : ((d c : Env) → Alike d c → rest_of T path b rs d ≡ rest_of T path b rs c) → (o : Option Reach) → nearest path e ≡ o → all_or (nearest path e) (beside rs e) ≡ all_or (nearest path f) (beside rs f)
+      go : ((d c : Env) → Alike d c → rest_of T path b rs d ≡ rest_of T path b rs c) → (o : Option Reach) → nearest path e ≡ o
+          → all_or (nearest path e) (beside rs e) ≡ all_or (nearest path f) (beside rs f)
       go each None q = ap (λ o. all_or o (beside rs e)) q ∙ sym (ap (λ o. all_or o (beside rs f)) (sym (nearest_held path e f x.held) ∙ q))
       go each (Some r) q =
           let k = nearest_serves path e r q in
           let fresh : is_held e r.var.0 ≡ false = ap (λ (w : Var). is_held e w.0) k.var ∙ k.fresh in
           ap (λ o. all_or o (beside rs e)) q
           ∙ (any_same _ _ (rows_by b r.access e T) (λ row. each (bind r.var row e) (bind r.var row f) (bound e f x r.var row fresh))
-          ∙ ap (list_any (λ row. rest_of T path b rs (bind r.var row f))) (sym (rows_same (is_other v) e f x.same b r.access (reach_names e f x r k) T)))
+          ∙ ap (list_any (λ row. rest_of T path b rs (bind r.var row f)))
+              (sym (rows_same (is_other v) e f x.same b r.access (reach_names e f x r k) T)))
           ∙ sym (ap (λ o. all_or o (beside rs f)) (sym (nearest_held path e f x.held) ∙ q))
 
 module _ (T : Tables) (path : List Step) (b : ℤ) (env : Env) (v : Var) (apart : path_apart path env v ≡ true) where
@@ -283,18 +317,22 @@ module _ (T : Tables) (path : List Step) (b : ℤ) (env : Env) (v : Var) (apart 
   held_is row t k = held_at row k t
 
   -- a guard that can be evaluated is true beside a row that may go on
-  is_true : (row : Row) (step : Step) (a : Atom) → In step path → In a step.guards → atom_known (is_held_or env v) a ≡ true → path_open path (bind v row env) ≡ true → true_atom a (bind v row env) ≡ true
+  is_true : (row : Row) (step : Step) (a : Atom) → In step path → In a step.guards → atom_known (is_held_or env v) a ≡ true
+      → path_open path (bind v row env) ≡ true → true_atom a (bind v row env) ≡ true
   is_true row step a i j m o =
       let y : atom_held (bind v row env) a ≡ true = subst (λ h. atom_known h a ≡ true) (held_is row) m in
-      let p : may_hold (bind v row env) a ≡ true = all_in (may_hold (bind v row env)) step.guards a (all_in (λ (step : Step). are_open (bind v row env) step.guards) path step o i) j in
+      let p : may_hold (bind v row env) a ≡ true = all_in (may_hold (bind v row env)) step.guards a
+          (all_in (λ (step : Step). are_open (bind v row env) step.guards) path step o i) j in
       rw y at p
 
   -- beside rows that may go on the rest exists or not alike
-  pub rest_alike : (order : List Reach) (row other : Row) → may_go path b (bind v row env) ≡ true → may_go path b (bind v other env) ≡ true → rest_of T path b order (bind v row env) ≡ rest_of T path b order (bind v other env)
+  pub rest_alike : (order : List Reach) (row other : Row) → may_go path b (bind v row env) ≡ true → may_go path b (bind v other env) ≡ true
+      → rest_of T path b order (bind v row env) ≡ rest_of T path b order (bind v other env)
   rest_alike order row other g h =
       let p = and_parts (come_by b (bind v row env)) (path_open path (bind v row env)) g in
       let q = and_parts (come_by b (bind v other env)) (path_open path (bind v other env)) h in
-      rest_same T path b v (is_held (bind v row env)) (bind v row env) (bind v other env) (settled p.1 q.1) order (bind v row env) (bind v other env) (record {
+      rest_same T path b v (is_held (bind v row env)) (bind v row env) (bind v other env) (settled p.1 q.1) order (bind v row env)
+        (bind v other env) (record {
         held = held_alike v row other env;
         more = λ k i. i;
         same = λ k i. bind_other k v other env (apart_from k i) ∙ sym (bind_other k v row env (apart_from k i));
@@ -306,16 +344,19 @@ module _ (T : Tables) (path : List Step) (b : ℤ) (env : Env) (v : Var) (apart 
       apart_from : (k : ℕ) → is_other v k ≡ true → k ≡ v.0 → ⊥
       apart_from k i q = false≢true (sym (ap not (eq-eqb v.0 k (sym q))) ∙ i)
 
-      settled : path_open path (bind v row env) ≡ true → path_open path (bind v other env) ≡ true → AreSettled (is_held (bind v row env)) v path (bind v row env) (bind v other env)
+      settled : path_open path (bind v row env) ≡ true → path_open path (bind v other env) ≡ true
+          → AreSettled (is_held (bind v row env)) v path (bind v row env) (bind v other env)
       settled o u step i a j =
-          let n : is_apart env v a ≡ true = all_in (is_apart env v) step.guards a (all_in (λ (step : Step). are_apart env v step.guards) path step apart i) j in
+          let n : is_apart env v a ≡ true =
+              all_in (is_apart env v) step.guards a (all_in (λ (step : Step). are_apart env v step.guards) path step apart i) j in
           elim (or_cases (atom_known (is_other v) a) (atom_known (is_held_or env v) a) n) [
             | inl y ↦ inl y
             | inr m ↦ inr (subst (λ h. atom_known h a ≡ true) (held_is row) m, is_true row step a i j m o, is_true other step a i j m u)
           ]
 
   -- if there is none beside one that may go on, there is none beside any
-  pub none_beside : (order : List Reach) (row other : Row) → may_go path b (bind v row env) ≡ true → rest_of T path b order (bind v row env) ≡ false → rest_of T path b order (bind v other env) ≡ false
+  pub none_beside : (order : List Reach) (row other : Row) → may_go path b (bind v row env) ≡ true
+      → rest_of T path b order (bind v row env) ≡ false → rest_of T path b order (bind v other env) ≡ false
   none_beside order row other g h =
       elim (cases_Bool (may_go path b (bind v other env))) [
         | inl e ↦ sym (rest_alike order row other g e) ∙ h
@@ -323,16 +364,19 @@ module _ (T : Tables) (path : List Step) (b : ℤ) (env : Env) (v : Var) (apart 
       ]
 
   -- a walk may stop there
-  pub none_left : (order : List Reach) (whole : Bool) (rows left : List Row) (r : Row) → whole ≡ list_any (λ row. rest_of T path b order (bind v row env)) rows → rows ≡ r ∷ left
+  pub none_left : (order : List Reach) (whole : Bool) (rows left : List Row) (r : Row)
+      → whole ≡ list_any (λ row. rest_of T path b order (bind v row env)) rows → rows ≡ r ∷ left
       → may_go path b (bind v r env) ≡ true → rest_of T path b order (bind v r env) ≡ false → false ≡ whole
-  none_left order whole rows left r h e g d = sym (any_step (λ row. rest_of T path b order (bind v row env)) whole rows left r h e d ∙ none left)
+  none_left order whole rows left r h e g d =
+      sym (any_step (λ row. rest_of T path b order (bind v row env)) whole rows left r h e d ∙ none left)
     where
       none : (xs : List Row) → list_any (λ row. rest_of T path b order (bind v row env)) xs ≡ false
       none [] = refl
       none (x ∷ xs) = rw (none_beside order r x g d, none xs) refl
 
   -- if there is one beside some row, there is one beside each that may go on
-  pub each_beside : (order : List Reach) (rows : List Row) → list_any (λ row. rest_of T path b order (bind v row env)) rows ≡ true → (other : Row) → may_go path b (bind v other env) ≡ true → rest_of T path b order (bind v other env) ≡ true
+  pub each_beside : (order : List Reach) (rows : List Row) → list_any (λ row. rest_of T path b order (bind v row env)) rows ≡ true
+      → (other : Row) → may_go path b (bind v other env) ≡ true → rest_of T path b order (bind v other env) ≡ true
   each_beside order rows h other g =
       let y = any_in (λ row. rest_of T path b order (bind v row env)) rows h in
       sym (rest_alike order y.0 other (goes y.0 y.2) g) ∙ y.2

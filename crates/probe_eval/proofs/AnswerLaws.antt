@@ -22,7 +22,8 @@ use Rattle.probe_eval.proofs.HitSteps.{doc_hits, note_hits}
 use Rattle.probe_eval.proofs.LevelLaws.{no_hit}
 
 -- one that is false and doesn't name v is so
-pub never_named : (T : Tables) (v : Var) (x : Condition) (env : Env) → mentions v x ≡ false → truth T (pos 0) x env ≡ false → IsNever T v x env
+pub never_named : (T : Tables) (v : Var) (x : Condition) (env : Env) → mentions v x ≡ false → truth T (pos 0) x env ≡ false
+    → IsNever T v x env
 never_named T v x env n f final s = stays T (pos 0) v x env final s n ∙ f
 
 -- one of two conjuncts is enough
@@ -34,26 +35,31 @@ and_false true b e = e
 and_false false b e = refl
 
 pub never_right : (T : Tables) (v : Var) (x l r : Condition) (env : Env) → x ≡ All l r → IsNever T v r env → IsNever T v x env
-never_right T v x l r env e n = subst (λ z. IsNever T v z env) (sym e) (λ final s. and_false (truth T (pos 0) l final) (truth T (pos 0) r final) (n final s))
+never_right T v x l r env e n =
+    subst (λ z. IsNever T v z env) (sym e) (λ final s. and_false (truth T (pos 0) l final) (truth T (pos 0) r final) (n final s))
 
 -- so is a conjunct of an EXISTS that doesn't name its variable
-pub never_exists : (T : Tables) (v w : Var) (t : Table) (x : Condition) (env : Env) (row : Row) → IsNever T v (fixed_part w x) (bind w row env) → IsNever T v (Exists w t x) env
+pub never_exists : (T : Tables) (v w : Var) (t : Table) (x : Condition) (env : Env) (row : Row)
+    → IsNever T v (fixed_part w x) (bind w row env) → IsNever T v (Exists w t x) env
 never_exists T v w t x env row n final s =
     fixed_false T x w final (rows_of t T) row (n (bind w row final) (bound_same (is_other v) w row env final s))
 
 -- what is false beside all rows of v is so beside each other row that is bound under its number
-pub never_beside : (T : Tables) (v w : Var) (x : Condition) (env : Env) (row other : Row) → w.0 ≡ v.0 → IsNever T v x (bind w row env) → truth T (pos 0) x (bind w other env) ≡ false
+pub never_beside : (T : Tables) (v w : Var) (x : Condition) (env : Env) (row other : Row) → w.0 ≡ v.0 → IsNever T v x (bind w row env)
+    → truth T (pos 0) x (bind w other env) ≡ false
 never_beside T v w x env row other e n = n (bind w other env) (λ k h.
     let d : k ≡ w.0 → ⊥ = λ q. is_apart_from v k h (q ∙ e) in
     bind_other k w other env d ∙ sym (bind_other k w row env d))
 
 -- then no document that is bound there is found
-module _ (entries : List Entry) (T : Tables) (p : Probe) (b : ℤ) (order : List Reach) (env : Env) (v : Var) (row : Row) (e : v.0 ≡ 0) (n : IsNever T query_var p.body (bind v row env)) where
+module _ (entries : List Entry) (T : Tables) (p : Probe) (b : ℤ) (order : List Reach) (env : Env) (v : Var) (row : Row) (e : v.0 ≡ 0)
+    (n : IsNever T query_var p.body (bind v row env)) where
   bound_at : (other : Row) → lookup 0 (bind v other env) ≡ Some other
   bound_at other = subst (λ k. lookup k (bind v other env) ≡ Some other) e (bind_same v other env)
 
   never_hit : (other : Row) → hits_over entries T p b order (bind v other env) ≡ []
-  never_hit (OfNote note) = note_hits entries T p b order (bind v (OfNote note) env) (OfNote note) (bound_at (OfNote note)) (λ d z. absurd cc)
+  never_hit (OfNote note) =
+      note_hits entries T p b order (bind v (OfNote note) env) (OfNote note) (bound_at (OfNote note)) (λ d z. absurd cc)
   never_hit (OfDoc d) =
       let x = bind v (OfDoc d) env in
       let f : truth T (pos 0) p.body x ≡ false = never_beside T query_var v p.body env row (OfDoc d) e n in

@@ -1,5 +1,6 @@
 -- An EXISTS whose conjuncts that don't name its variable are evaluated once.
-use Rattle.std.proofs.Common.{◌≡◌, ◌∙◌, ◌+◌, ◌≤◌, ℕ, ℤ, pos, Bool, true, false, not, ◌&&◌, ◌||◌, List, [], ◌∷◌, refl, sym, ap, subst, inl, inr, arith, if◌then◌else◌}
+use Rattle.std.proofs.Common.{◌≡◌, ◌∙◌, ◌+◌, ◌≤◌, ℕ, ℤ, pos, Bool, true, false, not, ◌&&◌, ◌||◌, List, [], ◌∷◌, refl, sym, ap, subst, inl}
+use Rattle.std.proofs.Common.{inr, arith, if◌then◌else◌}
 use Rattle.std.specs.List.{list_any}
 use Rattle.std.proofs.lemmas.Bool.{cases_eq, eq-eqb, false≢true}
 use Rattle.tap_rows.specs.declared.tables.Tables.{Tables}
@@ -27,7 +28,8 @@ bound_apart v r q env k h =
     bind_other k v q env n ∙ sym (bind_other k v r env n)
 
 -- and stay so as one more is bound
-pub bound_same : (known : ℕ → Bool) (w : Var) (r : Row) (env final : Env) → AreSame known env final → AreSame known (bind w r env) (bind w r final)
+pub bound_same : (known : ℕ → Bool) (w : Var) (r : Row) (env final : Env) → AreSame known env final
+    → AreSame known (bind w r env) (bind w r final)
 bound_same known w r env final same k h =
     elim (cases_eq k w.0) [
       | inl e ↦ subst (λ j. lookup j (bind w r final) ≡ lookup j (bind w r env)) (sym e) (bind_same w r final ∙ sym (bind_same w r env))
@@ -43,7 +45,8 @@ neither false b h = (refl, h)
 neither true b h = absurd (false≢true (sym h))
 
 -- a condition that doesn't name v has one truth for all rows of v
-pub stays : (T : Tables) (n : ℤ) (v : Var) (x : Condition) (env final : Env) → AreSame (is_other v) env final → mentions v x ≡ false → truth T n x final ≡ truth T n x env
+pub stays : (T : Tables) (n : ℤ) (v : Var) (x : Condition) (env final : Env) → AreSame (is_other v) env final → mentions v x ≡ false
+    → truth T n x final ≡ truth T n x env
 stays T n v Always env final s h = refl
 stays T n v Never env final s h = refl
 stays T n v (Plain a) env final s h = atom_is (is_other v) env final s a (not_true (atom_known (is_other v) a) h)
@@ -67,7 +70,8 @@ fixed_one T n v x env final s = go (mentions v x) refl
     go true e = refl
     go false e = stays T n v x env final s e
 
-split_one : (T : Tables) (n : ℤ) (b : Bool) (x : Condition) (env : Env) → truth T n x env ≡ (truth T n (if b then Always else x) env && truth T n (if b then x else Always) env)
+split_one : (T : Tables) (n : ℤ) (b : Bool) (x : Condition) (env : Env)
+    → truth T n x env ≡ (truth T n (if b then Always else x) env && truth T n (if b then x else Always) env)
 split_one T n true x env = refl
 split_one T n false x env = right (truth T n x env)
   where
@@ -75,7 +79,8 @@ split_one T n false x env = right (truth T n x env)
     right true = refl
     right false = refl
 
-work_one : (T : Tables) (b : Bool) (x : Condition) (env : Env) → work T (if b then Always else x) env + work T (if b then x else Always) env ≡ work T x env
+work_one : (T : Tables) (b : Bool) (x : Condition) (env : Env)
+    → work T (if b then Always else x) env + work T (if b then x else Always) env ≡ work T x env
 work_one T true x env = omega arith
 work_one T false x env = omega arith
 
@@ -86,7 +91,8 @@ paired true false false d = refl
 paired false b c d = refl
 
 -- the fixed conjuncts have one truth for all rows of v
-fixed_stays : (T : Tables) (n : ℤ) (v : Var) (x : Condition) (env final : Env) → AreSame (is_other v) env final → truth T n (fixed_part v x) final ≡ truth T n (fixed_part v x) env
+fixed_stays : (T : Tables) (n : ℤ) (v : Var) (x : Condition) (env final : Env) → AreSame (is_other v) env final
+    → truth T n (fixed_part v x) final ≡ truth T n (fixed_part v x) env
 fixed_stays T n v (All l r) env final s = rw (fixed_stays T n v l env final s, fixed_stays T n v r env final s)
 fixed_stays T n v Always env final s = refl
 fixed_stays T n v Never env final s = refl
@@ -98,8 +104,10 @@ fixed_stays T n v (Not x) env final s = fixed_one T n v (Not x) env final s
 fixed_stays T n v (Exists w t x) env final s = fixed_one T n v (Exists w t x) env final s
 
 -- a condition is true if and only if both parts are
-splits : (T : Tables) (n : ℤ) (v : Var) (x : Condition) (env : Env) → truth T n x env ≡ (truth T n (fixed_part v x) env && truth T n (own_part v x) env)
-splits T n v (All l r) env = rw (splits T n v l env, splits T n v r env) (paired (truth T n (fixed_part v l) env) (truth T n (own_part v l) env) (truth T n (fixed_part v r) env) (truth T n (own_part v r) env))
+splits : (T : Tables) (n : ℤ) (v : Var) (x : Condition) (env : Env)
+    → truth T n x env ≡ (truth T n (fixed_part v x) env && truth T n (own_part v x) env)
+splits T n v (All l r) env = rw (splits T n v l env, splits T n v r env)
+    (paired (truth T n (fixed_part v l) env) (truth T n (own_part v l) env) (truth T n (fixed_part v r) env) (truth T n (own_part v r) env))
 splits T n v Always env = refl
 splits T n v Never env = refl
 splits T n v (Plain a) env = split_one T n (mentions v (Plain a)) (Plain a) env
@@ -150,15 +158,18 @@ module _ (T : Tables) (x : Condition) (v : Var) (env : Env) where
   pub own_true : (rows left : List Row) (r : Row) → rows ≡ r ∷ left → fixed_at r ≡ true → own_at r ≡ true → list_any whole_at rows ≡ true
   own_true rows left r e f o = own_decides rows r f ∙ ap (list_any own_at) e ∙ rw o refl
 
-  pub own_false : (rows left : List Row) (r : Row) → rows ≡ r ∷ left → fixed_at r ≡ true → own_at r ≡ false → list_any whole_at rows ≡ list_any own_at left
+  pub own_false : (rows left : List Row) (r : Row) → rows ≡ r ∷ left → fixed_at r ≡ true → own_at r ≡ false
+      → list_any whole_at rows ≡ list_any own_at left
   own_false rows left r e f o = own_decides rows r f ∙ ap (list_any own_at) e ∙ rw o refl
 
-  own_total : (rows : List Row) → total (λ row. 1 + work T (own_part v x) (bind v row env)) rows ≤ total (λ row. 1 + work T x (bind v row env)) rows
+  own_total : (rows : List Row)
+      → total (λ row. 1 + work T (own_part v x) (bind v row env)) rows ≤ total (λ row. 1 + work T x (bind v row env)) rows
   own_total [] = omega arith
   own_total (r ∷ rows) = let k = work_splits T v x (bind v r env) in let i = own_total rows in omega (arith, k, i)
 
   -- the first row pays for the fixed conjuncts
-  pub later_steps : (s next fixed own now : ℕ) (rows left : List Row) (r : Row) → rows ≡ r ∷ left → next ≡ s + 1 → fixed ≤ next + work T (fixed_part v x) (bind v r env)
+  pub later_steps : (s next fixed own now : ℕ) (rows left : List Row) (r : Row) → rows ≡ r ∷ left → next ≡ s + 1
+      → fixed ≤ next + work T (fixed_part v x) (bind v r env)
       → own ≤ fixed + work T (own_part v x) (bind v r env) → now ≤ own + total (λ row. 1 + work T (own_part v x) (bind v row env)) left
       → now ≤ s + total (λ row. 1 + work T x (bind v row env)) rows
   later_steps s next fixed own now rows left r e n f o h =
@@ -167,10 +178,12 @@ module _ (T : Tables) (x : Condition) (v : Var) (env : Env) where
       let j : now ≤ s + total (λ row. 1 + work T x (bind v row env)) (r ∷ left) = omega (arith, n, f, o, h, k, i) in
       subst (λ z. now ≤ s + total (λ row. 1 + work T x (bind v row env)) z) (sym e) j
 
-  pub own_steps : (s next fixed own : ℕ) (rows left : List Row) (r : Row) → rows ≡ r ∷ left → next ≡ s + 1 → fixed ≤ next + work T (fixed_part v x) (bind v r env)
+  pub own_steps : (s next fixed own : ℕ) (rows left : List Row) (r : Row) → rows ≡ r ∷ left → next ≡ s + 1
+      → fixed ≤ next + work T (fixed_part v x) (bind v r env)
       → own ≤ fixed + work T (own_part v x) (bind v r env) → own ≤ s + total (λ row. 1 + work T x (bind v row env)) rows
   own_steps s next fixed own rows left r e n f o = later_steps s next fixed own own rows left r e n f o (omega arith)
 
-  pub fixed_steps : (s next fixed : ℕ) (rows left : List Row) (r : Row) → rows ≡ r ∷ left → next ≡ s + 1 → fixed ≤ next + work T (fixed_part v x) (bind v r env)
+  pub fixed_steps : (s next fixed : ℕ) (rows left : List Row) (r : Row) → rows ≡ r ∷ left → next ≡ s + 1
+      → fixed ≤ next + work T (fixed_part v x) (bind v r env)
       → fixed ≤ s + total (λ row. 1 + work T x (bind v row env)) rows
   fixed_steps s next fixed rows left r e n f = own_steps s next fixed fixed rows left r e n f (omega arith)

@@ -59,7 +59,8 @@ module _ {A : Type 0} where
   filter_both p q [] = refl
   filter_both p q (x ∷ xs) =
       elim (cases_Bool (p x)) [
-        | inl e ↦ elim (cases_Bool (q x)) [ inl k ↦ rw (e, k) (ap (λ z. x ∷ z) (filter_both p q xs)) | inr k ↦ rw (e, k) (filter_both p q xs) ]
+        | inl e ↦
+          elim (cases_Bool (q x)) [ inl k ↦ rw (e, k) (ap (λ z. x ∷ z) (filter_both p q xs)) | inr k ↦ rw (e, k) (filter_both p q xs) ]
         | inr e ↦ rw e (filter_both p q xs)
       ]
 
@@ -80,7 +81,8 @@ module _ (f : Doc → ℕ) (q : Doc → Bool) where
         | inr e ↦ rw e (swapped (put_total d xs))
       ]
     where
-      swapped : total f (filter q (put_dated d xs)) ≡ (if q d then f d else 0) + total f (filter q xs) → total f (filter q (x ∷ put_dated d xs)) ≡ (if q d then f d else 0) + total f (filter q (x ∷ xs))
+      swapped : total f (filter q (put_dated d xs)) ≡ (if q d then f d else 0) + total f (filter q xs)
+          → total f (filter q (x ∷ put_dated d xs)) ≡ (if q d then f d else 0) + total f (filter q (x ∷ xs))
       swapped r =
           let a = step_total x (put_dated d xs) in
           let b = step_total x xs in
@@ -89,7 +91,8 @@ module _ (f : Doc → ℕ) (q : Doc → Bool) where
           sums : (l r p q' s t : ℕ) → l ≡ p + s → r ≡ p + t → s ≡ q' + t → l ≡ q' + r
           sums l r p q' s t a b c = omega (arith, a, b, c)
 
-  fold_total : (acc ds : List Doc) → total f (filter q (fold (λ sorted doc. put_dated doc sorted) acc ds)) ≡ total f (filter q ds) + total f (filter q acc)
+  fold_total : (acc ds : List Doc)
+      → total f (filter q (fold (λ sorted doc. put_dated doc sorted) acc ds)) ≡ total f (filter q ds) + total f (filter q acc)
   fold_total acc [] = omega arith
   fold_total acc (d ∷ ds) =
       let a = fold_total (put_dated d acc) ds in
@@ -106,7 +109,9 @@ module _ (f : Doc → ℕ) (q : Doc → Bool) where
       plus_none : (n : ℕ) → n + 0 ≡ n
       plus_none n = omega arith
 
-pub dated_total : (f : Doc → ℕ) (w : Window) (ds : List Doc) → total f (dated_in w.low w.high ds) ≡ total f (filter (λ d. lies_in w (date (OfDoc d))) ds)
+pub dated_total : (f : Doc → ℕ) (w : Window) (ds : List Doc)
+    → total f (dated_in w.low w.high ds) ≡ total f (filter (λ d. lies_in w (date (OfDoc d))) ds)
 dated_total f w ds =
     order_total f (λ x. int_le w.low (stored_date x) && int_lt (stored_date x) w.high) ds
-    ∙ ap (total f) (filter_both has_date (λ x. int_le w.low (stored_date x) && int_lt (stored_date x) w.high) ds ∙ filter_same _ _ ds (λ d. sym (date_lies w d)))
+    ∙ ap (total f) (filter_both has_date (λ x. int_le w.low (stored_date x) && int_lt (stored_date x) w.high) ds
+          ∙ filter_same _ _ ds (λ d. sym (date_lies w d)))

@@ -1,5 +1,6 @@
 -- The driving rows are just those whose mark lies in the window.
-use Rattle.std.proofs.Common.{◌≡◌, ℤ, pos, Bool, true, false, List, [], ◌∷◌, Option, Some, None, refl, sym, ap, ◌∙◌, subst, inl, inr, map, is_some}
+use Rattle.std.proofs.Common.{◌≡◌, ℤ, pos, Bool, true, false, List, [], ◌∷◌, Option, Some, None, refl, sym, ap, ◌∙◌, subst, inl, inr, map}
+use Rattle.std.proofs.Common.{is_some}
 use Rattle.std.specs.Prelude.{◌⊎◌, ◌&&◌, filter, fold, int_le, int_lt}
 use Rattle.std.specs.Option.{unwrap_or}
 use Rattle.std.proofs.lemmas.Bool.{cases_Bool, false≢true, and_parts}
@@ -106,13 +107,15 @@ module _ (w : Window) (T : Tables) where
     arrived_in row i =
         let k = map_in of (in_window f w.low w.high xs) row i in
         let j = in_filter (λ x. int_le w.low (f x) && int_lt (f x) w.high) xs k.0 k.1 in
-        (subst (λ z. In z (map of xs)) (sym k.2) (in_map of xs k.0 j.0), ap (λ z. is_within w (arrival z)) k.2 ∙ ap (λ z. is_within w z) (same k.0) ∙ j.1)
+        (subst (λ z. In z (map of xs)) (sym k.2) (in_map of xs k.0 j.0), ap (λ z. is_within w (arrival z)) k.2
+          ∙ ap (λ z. is_within w z) (same k.0) ∙ j.1)
 
     in_arrived : (row : Row) → In row (map of xs) → is_within w (arrival row) ≡ true → In row (map of (in_window f w.low w.high xs))
     in_arrived row i h =
         let k = map_in of xs row i in
         subst (λ z. In z (map of (in_window f w.low w.high xs))) (sym k.2)
-        (in_map of (in_window f w.low w.high xs) k.0 (to_filter (λ x. int_le w.low (f x) && int_lt (f x) w.high) xs k.0 k.1 (ap (λ z. is_within w z) (sym (same k.0)) ∙ ap (λ z. is_within w (arrival z)) (sym k.2) ∙ h)))
+        (in_map of (in_window f w.low w.high xs) k.0 (to_filter (λ x. int_le w.low (f x) && int_lt (f x) w.high) xs
+            k.0 k.1 (ap (λ z. is_within w z) (sym (same k.0)) ∙ ap (λ z. is_within w (arrival z)) (sym k.2) ∙ h)))
 
   arrived_are : (t : Table) (row : Row) → In row (arrived_rows t w T) → In row (rows_of t T) × (is_within w (arrival row) ≡ true)
   arrived_are Docs row i = arrived_in OfDoc doc_arrival T.docs (λ x. refl) row i
@@ -128,7 +131,8 @@ module _ (w : Window) (T : Tables) where
       let k = map_in OfDoc (dated_in w.low w.high T.docs) row i in
       let j = in_filter (λ x. int_le w.low (stored_date x) && int_lt (stored_date x) w.high) (in_date_order T.docs) k.0 k.1 in
       let o = in_order_of k.0 T.docs j.0 in
-      (subst (λ z. In z (map OfDoc T.docs)) (sym k.2) (in_map OfDoc T.docs k.0 o.0), ap (λ z. lies_in w (date z)) k.2 ∙ date_lies w k.0 ∙ both_true (has_date k.0) _ o.1 j.1)
+      (subst (λ z. In z (map OfDoc T.docs)) (sym k.2) (in_map OfDoc T.docs k.0 o.0), ap (λ z. lies_in w (date z)) k.2 ∙ date_lies w k.0
+        ∙ both_true (has_date k.0) _ o.1 j.1)
 
   are_dated : (t : Table) (row : Row) → In row (rows_of t T) → lies_in w (date row) ≡ true → In row (dated_rows t w T)
   are_dated Notes row i h =
@@ -136,25 +140,31 @@ module _ (w : Window) (T : Tables) where
       absurd (false≢true (ap (λ z. lies_in w (date z)) (sym k.2) ∙ h))
   are_dated Docs row i h =
       let k = map_in OfDoc T.docs row i in
-      let p = and_parts (has_date k.0) (is_within w (stored_date k.0)) (sym (date_lies w k.0) ∙ ap (λ z. lies_in w (date z)) (sym k.2) ∙ h) in
+      let p =
+          and_parts (has_date k.0) (is_within w (stored_date k.0)) (sym (date_lies w k.0) ∙ ap (λ z. lies_in w (date z)) (sym k.2) ∙ h) in
       subst (λ z. In z (map OfDoc (dated_in w.low w.high T.docs))) (sym k.2)
-      (in_map OfDoc (dated_in w.low w.high T.docs) k.0 (to_filter (λ x. int_le w.low (stored_date x) && int_lt (stored_date x) w.high) (in_date_order T.docs) k.0 (order_of_in k.0 T.docs k.1 p.0) p.1))
+      (in_map OfDoc (dated_in w.low w.high T.docs) k.0 (to_filter (λ x. int_le w.low (stored_date x) && int_lt (stored_date x) w.high)
+          (in_date_order T.docs) k.0 (order_of_in k.0 T.docs k.1 p.0) p.1))
 
   module _ (v : Var) (row : Row) where
     arrival_stored : (u : Var) → Some u ≡ Some v → on_row (lookup u.0 (bind v row [])) (λ r. Some (arrival r)) ≡ Some (arrival row)
-    arrival_stored u e = ap (λ (z : Var). on_row (lookup z.0 (bind v row [])) (λ r. Some (arrival r))) (some_same e) ∙ ap (λ o. on_row o (λ r. Some (arrival r))) (bind_same v row [])
+    arrival_stored u e = ap (λ (z : Var). on_row (lookup z.0 (bind v row [])) (λ r. Some (arrival r))) (some_same e)
+        ∙ ap (λ o. on_row o (λ r. Some (arrival r))) (bind_same v row [])
 
     date_stored : (u : Var) → Some u ≡ Some v → on_row (lookup u.0 (bind v row [])) date ≡ date row
-    date_stored u e = ap (λ (z : Var). on_row (lookup z.0 (bind v row [])) date) (some_same e) ∙ ap (λ o. on_row o date) (bind_same v row [])
+    date_stored u e = ap (λ (z : Var). on_row (lookup z.0 (bind v row [])) date) (some_same e)
+        ∙ ap (λ o. on_row o date) (bind_same v row [])
 
-    pub stored_are : (s : Seek) (t : Table) → seek_var s ≡ Some v → In row (stored_rows s t w T) → In row (rows_of t T) × (lies_in w (driving_second s (bind v row [])) ≡ true)
+    pub stored_are : (s : Seek) (t : Table) → seek_var s ≡ Some v → In row (stored_rows s t w T)
+        → In row (rows_of t T) × (lies_in w (driving_second s (bind v row [])) ≡ true)
     stored_are (Arrived u n) t e i = let k = arrived_are t row i in (k.0, ap (lies_in w) (arrival_stored u e) ∙ k.1)
     stored_are (Dated u n) t e i = let k = dated_are t row i in (k.0, ap (lies_in w) (date_stored u e) ∙ k.1)
     stored_are (Fixed moment) t e i = absurd i
     stored_are (ArrivedDay u n) t e i = let k = arrived_are t row i in (k.0, ap (lies_in w) (arrival_stored u e) ∙ k.1)
     stored_are (DatedDay u n) t e i = let k = dated_are t row i in (k.0, ap (lies_in w) (date_stored u e) ∙ k.1)
 
-    pub are_stored : (s : Seek) (t : Table) → seek_var s ≡ Some v → In row (rows_of t T) → lies_in w (driving_second s (bind v row [])) ≡ true → In row (stored_rows s t w T)
+    pub are_stored : (s : Seek) (t : Table) → seek_var s ≡ Some v → In row (rows_of t T)
+        → lies_in w (driving_second s (bind v row [])) ≡ true → In row (stored_rows s t w T)
     are_stored (Arrived u n) t e i h = are_arrived t row i (ap (lies_in w) (sym (arrival_stored u e)) ∙ h)
     are_stored (Dated u n) t e i h = are_dated t row i (ap (lies_in w) (sym (date_stored u e)) ∙ h)
     are_stored (Fixed moment) t e i h = absurd (none_some e)
@@ -165,11 +175,15 @@ module _ (w : Window) (T : Tables) where
     are_stored (DatedDay u n) t e i h = are_dated t row i (ap (lies_in w) (sym (date_stored u e)) ∙ h)
 
 -- a driving row is a row of its table whose mark lies in the window, and each such row is one
-module _ (T : Tables) (w : Window) (p : Probe) (v : Var) (bounded : is_bounded p.at ≡ true) (e : seek_var (seek_of p.at) ≡ Some v) (row : Row) where
-  pub driven_are : In row (driving T w p (seek_of p.at) v) → In row (rows_of (table_in p.path v.0) T) × (lies_in w (value p.at (bind v row [])) ≡ true)
+module _ (T : Tables) (w : Window) (p : Probe) (v : Var) (bounded : is_bounded p.at ≡ true) (e : seek_var (seek_of p.at) ≡ Some v)
+    (row : Row) where
+  pub driven_are : In row (driving T w p (seek_of p.at) v)
+      → In row (rows_of (table_in p.path v.0) T) × (lies_in w (value p.at (bind v row [])) ≡ true)
   driven_are i =
       let k = stored_are (seek_window w (seek_of p.at)) T v row (seek_of p.at) (table_in p.path v.0) e i in
       (k.0, solved p.at w (bind v row []) bounded ∙ k.1)
 
-  pub are_driven : In row (rows_of (table_in p.path v.0) T) → lies_in w (value p.at (bind v row [])) ≡ true → In row (driving T w p (seek_of p.at) v)
-  are_driven i h = are_stored (seek_window w (seek_of p.at)) T v row (seek_of p.at) (table_in p.path v.0) e i (sym (solved p.at w (bind v row []) bounded) ∙ h)
+  pub are_driven : In row (rows_of (table_in p.path v.0) T) → lies_in w (value p.at (bind v row [])) ≡ true
+      → In row (driving T w p (seek_of p.at) v)
+  are_driven i h = are_stored (seek_window w (seek_of p.at)) T v row (seek_of p.at) (table_in p.path v.0) e i
+      (sym (solved p.at w (bind v row []) bounded) ∙ h)

@@ -1,5 +1,6 @@
 -- What a run costs if nothing is marked, and if each path is the document alone.
-use Rattle.std.proofs.Common.{◌≡◌, ℕ, ◌+◌, ◌≤◌, ℤ, Bool, true, false, List, [], ◌∷◌, ◌++◌, Option, Some, None, refl, sym, ap, ◌∙◌, subst, inl, inr, arith, map, if◌then◌else◌}
+use Rattle.std.proofs.Common.{◌≡◌, ℕ, ◌+◌, ◌≤◌, ℤ, Bool, true, false, List, [], ◌∷◌, ◌++◌, Option, Some, None, refl, sym, ap, ◌∙◌, subst}
+use Rattle.std.proofs.Common.{inl, inr, arith, map, if◌then◌else◌}
 use Rattle.std.specs.Prelude.{◌&&◌, filter, option_to_list, int_le, int_lt}
 use Rattle.std.proofs.lemmas.Bool.{cases_Bool, false≢true}
 use Rattle.tap_rows.specs.declared.rows.Doc.{Doc}
@@ -65,18 +66,23 @@ mark_lies w (Some x) b e = elim (cases_Bool (is_within w x)) [
 
 -- a sum over the documents that a seek gives
 module _ (G : Row → ℕ) (w : Window) (T : Tables) where
-  arrived_total : (u : Var) (of : (d : Doc) → Option ℤ) → ((d : Doc) → of d ≡ Some d.arrival) → total G (map OfDoc (in_window doc_arrival w.low w.high T.docs)) ≡ total (λ d. G (OfDoc d)) (filter (λ d. lies_in w (of d)) T.docs)
+  arrived_total : (u : Var) (of : (d : Doc) → Option ℤ) → ((d : Doc) → of d ≡ Some d.arrival)
+      → total G (map OfDoc (in_window doc_arrival w.low w.high T.docs)) ≡ total (λ d. G (OfDoc d)) (filter (λ d. lies_in w (of d)) T.docs)
   arrived_total u of h =
       total_map G OfDoc (in_window doc_arrival w.low w.high T.docs)
-      ∙ ap (total (λ d. G (OfDoc d))) (filter_same (λ d. int_le w.low (doc_arrival d) && int_lt (doc_arrival d) w.high) (λ d. lies_in w (of d)) T.docs (λ d. ap (lies_in w) (sym (h d))))
+      ∙ ap (total (λ d. G (OfDoc d))) (filter_same (λ d. int_le w.low (doc_arrival d) && int_lt (doc_arrival d) w.high)
+            (λ d. lies_in w (of d)) T.docs (λ d. ap (lies_in w) (sym (h d))))
 
-  dates_total : (u : Var) (of : (d : Doc) → Option ℤ) → ((d : Doc) → of d ≡ date (OfDoc d)) → total G (map OfDoc (dated_in w.low w.high T.docs)) ≡ total (λ d. G (OfDoc d)) (filter (λ d. lies_in w (of d)) T.docs)
+  dates_total : (u : Var) (of : (d : Doc) → Option ℤ) → ((d : Doc) → of d ≡ date (OfDoc d))
+      → total G (map OfDoc (dated_in w.low w.high T.docs)) ≡ total (λ d. G (OfDoc d)) (filter (λ d. lies_in w (of d)) T.docs)
   dates_total u of h =
       total_map G OfDoc (dated_in w.low w.high T.docs)
       ∙ dated_total (λ d. G (OfDoc d)) w T.docs
-      ∙ ap (total (λ d. G (OfDoc d))) (filter_same (λ d. lies_in w (date (OfDoc d))) (λ d. lies_in w (of d)) T.docs (λ d. ap (lies_in w) (sym (h d))))
+      ∙ ap (total (λ d. G (OfDoc d)))
+          (filter_same (λ d. lies_in w (date (OfDoc d))) (λ d. lies_in w (of d)) T.docs (λ d. ap (lies_in w) (sym (h d))))
 
-  stored_total : (s : Seek) → seek_var s ≡ Some document_var → total G (stored_rows s Docs w T) ≡ total (λ d. G (OfDoc d)) (filter (λ d. lies_in w (driving_second s (asked_of d))) T.docs)
+  stored_total : (s : Seek) → seek_var s ≡ Some document_var
+      → total G (stored_rows s Docs w T) ≡ total (λ d. G (OfDoc d)) (filter (λ d. lies_in w (driving_second s (asked_of d))) T.docs)
   stored_total (Arrived u n) e = arrived_total u _ (λ d. ap (λ (z : Var). driving_second (Arrived z n) (asked_of d)) (some_same e))
   stored_total (Dated u n) e = dates_total u _ (λ d. ap (λ (z : Var). driving_second (Dated z n) (asked_of d)) (some_same e))
   stored_total (Fixed moment) e = absurd (none e)
@@ -86,7 +92,8 @@ module _ (G : Row → ℕ) (w : Window) (T : Tables) where
   stored_total (ArrivedDay u n) e = arrived_total u _ (λ d. ap (λ (z : Var). driving_second (ArrivedDay z n) (asked_of d)) (some_same e))
   stored_total (DatedDay u n) e = dates_total u _ (λ d. ap (λ (z : Var). driving_second (DatedDay z n) (asked_of d)) (some_same e))
 
-module _ (T : Tables) (w : Window) (p : Probe) (order : List Reach) (k : IsProbe p) (o : IsOrder p.path p.at.base order) (bounded : is_bounded p.at ≡ true) where
+module _ (T : Tables) (w : Window) (p : Probe) (order : List Reach) (k : IsProbe p) (o : IsOrder p.path p.at.base order)
+    (bounded : is_bounded p.at ≡ true) where
   -- if nothing is marked there is no step
   pub quiet_cost : (sv : Option Var) → seek_var (seek_of p.at) ≡ sv → HasNoMark T w p → seek_cost T w p order (seek_of p.at) sv ≡ 0
   quiet_cost None e q =
@@ -94,7 +101,8 @@ module _ (T : Tables) (w : Window) (p : Probe) (order : List Reach) (k : IsProbe
       ap (marked_cost T w p order []) (no_mark w (value p.at []) l)
   quiet_cost (Some v) e q = total_none (λ row. 1 + cost_at T w p order (bind v row [])) (walked T w p (seek_of p.at) v) (λ row i.
       let r = driven_are T w p v bounded e row (walked_in T w p (seek_of p.at) v row i) in
-      let l : lies_in w (value p.at (bind v row [])) ≡ false = q (bind v row []) (subst (λ z. In (bind v row []) (starts_of T p z)) (sym e) (in_map (λ row. bind v row []) (rows_of (table_in p.path v.0) T) row r.0)) in
+      let l : lies_in w (value p.at (bind v row [])) ≡ false = q (bind v row []) (subst (λ z. In (bind v row []) (starts_of T p z)) (sym e)
+            (in_map (λ row. bind v row []) (rows_of (table_in p.path v.0) T) row r.0)) in
       absurd (false≢true (sym l ∙ r.1)))
 
   module _ (a : PathIsDocument p) where
@@ -144,7 +152,8 @@ module _ (T : Tables) (w : Window) (p : Probe) (order : List Reach) (k : IsProbe
     driven_due v e =
         let a = walked_total T w p (seek_of p.at) v (λ row. 1 + cost_at T w p order (bind v row [])) in
         let b : total (λ row. 1 + cost_at T w p order (bind v row [])) (driving T w p (seek_of p.at) v) ≤ rows_due T w p =
-        subst (λ z. total (λ row. 1 + cost_at T w p order (bind z row [])) (driving T w p (seek_of p.at) z) ≤ rows_due T w p) (sym v_is) by_m in
+        subst (λ z. total (λ row. 1 + cost_at T w p order (bind z row [])) (driving T w p (seek_of p.at) z) ≤ rows_due T w p) (sym v_is)
+          by_m in
         omega (arith, a, b)
       where
         v_in : In v.0 (numbers_of (driven p.at.base))
@@ -160,25 +169,35 @@ module _ (T : Tables) (w : Window) (p : Probe) (order : List Reach) (k : IsProbe
         no_order [] q = refl
         no_order (r ∷ rs) q =
             let i : In r.var.0 (order_vars order) = subst (λ z. In r.var.0 (order_vars z)) q (inl refl) in
-            absurd (apart_left (numbers_of (driven p.at.base)) (order_vars order) o.once r.var.0 (subst (λ z. In z (numbers_of (driven p.at.base))) (sym (in_order r.var.0 i)) zero_in) i)
+            absurd (apart_left (numbers_of (driven p.at.base)) (order_vars order)
+                o.once r.var.0 (subst (λ z. In z (numbers_of (driven p.at.base))) (sym (in_order r.var.0 i)) zero_in) i)
 
         e_m : seek_var (seek_of p.at) ≡ Some document_var
         e_m = e ∙ ap Some v_is
 
-        less : total (λ row. 1 + cost_at T w p order (bind document_var row [])) (driving T w p (seek_of p.at) document_var) ≤ total (λ row. 1 + work T p.body (bind document_var row [])) (driving T w p (seek_of p.at) document_var)
-        less = total_less _ _ (driving T w p (seek_of p.at) document_var) (λ row. one row (subst (λ z. cost_at T w p z (bind document_var row []) ≤ work T p.body (bind document_var row [])) (sym (no_order order refl)) (cost_less (bind document_var row []))))
+        less : total (λ row. 1 + cost_at T w p order (bind document_var row [])) (driving T w p (seek_of p.at) document_var)
+            ≤ total (λ row. 1 + work T p.body (bind document_var row [])) (driving T w p (seek_of p.at) document_var)
+        less = total_less _ _ (driving T w p (seek_of p.at) document_var) (λ row.
+            one row (subst (λ z. cost_at T w p z (bind document_var row []) ≤ work T p.body (bind document_var row []))
+              (sym (no_order order refl)) (cost_less (bind document_var row []))))
           where
-            one : (row : Row) → cost_at T w p order (bind document_var row []) ≤ work T p.body (bind document_var row []) → 1 + cost_at T w p order (bind document_var row []) ≤ 1 + work T p.body (bind document_var row [])
+            one : (row : Row) → cost_at T w p order (bind document_var row []) ≤ work T p.body (bind document_var row [])
+                → 1 + cost_at T w p order (bind document_var row []) ≤ 1 + work T p.body (bind document_var row [])
             one row h = omega (arith, h)
 
         same : total (λ row. 1 + work T p.body (bind document_var row [])) (driving T w p (seek_of p.at) document_var) ≡ rows_due T w p
         same =
-            ap (λ t. total (λ row. 1 + work T p.body (bind document_var row [])) (stored_rows (seek_of p.at) t (seek_window w (seek_of p.at)) T)) (asked_table p k)
+            ap (λ t. total (λ row. 1 + work T p.body (bind document_var row []))
+                (stored_rows (seek_of p.at) t (seek_window w (seek_of p.at)) T)) (asked_table p k)
             ∙ stored_total (λ row. 1 + work T p.body (bind document_var row [])) (seek_window w (seek_of p.at)) T (seek_of p.at) e_m
-            ∙ ap (total due) (filter_same (λ d. lies_in (seek_window w (seek_of p.at)) (driving_second (seek_of p.at) (asked_of d))) (λ d. lies_in w (value p.at (asked_of d))) T.docs (λ d. sym (solved p.at w (asked_of d) bounded)))
+            ∙ ap (total due) (filter_same (λ d. lies_in (seek_window w (seek_of p.at)) (driving_second (seek_of p.at) (asked_of d)))
+                  (λ d. lies_in w (value p.at (asked_of d))) T.docs (λ d. sym (solved p.at w (asked_of d) bounded)))
 
-        by_m : total (λ row. 1 + cost_at T w p order (bind document_var row [])) (driving T w p (seek_of p.at) document_var) ≤ rows_due T w p
-        by_m = subst (λ z. total (λ row. 1 + cost_at T w p order (bind document_var row [])) (driving T w p (seek_of p.at) document_var) ≤ z) same less
+        by_m : total (λ row. 1 + cost_at T w p order (bind document_var row [])) (driving T w p (seek_of p.at) document_var)
+            ≤ rows_due T w p
+        by_m =
+            subst (λ z. total (λ row. 1 + cost_at T w p order (bind document_var row [])) (driving T w p (seek_of p.at) document_var) ≤ z)
+            same less
 
     fixed_due : seek_var (seek_of p.at) ≡ None → seek_cost T w p order (seek_of p.at) None ≤ rows_due T w p
     fixed_due e = go (mark_in w (value p.at [])) refl
@@ -189,15 +208,19 @@ module _ (T : Tables) (w : Window) (p : Probe) (order : List Reach) (k : IsProbe
         bound_zero : In 0 (order_vars order)
         bound_zero =
             let s = map_in (λ (s : Step). s.var.0) p.path 0 asked_var in
-            subst (λ vs. In 0 (numbers_of vs ++ order_vars order)) none_driven (subst (λ z. In z (numbers_of (driven p.at.base) ++ order_vars order)) (sym s.2) (o.steps s.0 s.1))
+            subst (λ vs. In 0 (numbers_of vs ++ order_vars order)) none_driven
+              (subst (λ z. In z (numbers_of (driven p.at.base) ++ order_vars order)) (sym s.2) (o.steps s.0 s.1))
 
         once : Distinct (order_vars order)
         once = subst (λ vs. Distinct (numbers_of vs ++ order_vars order)) none_driven o.once
 
-        every : (b : ℤ) → value p.at [] ≡ Some b → lies_in w (value p.at []) ≡ true → filter (λ d. lies_in w (value p.at (asked_of d))) T.docs ≡ T.docs
-        every b v l = filter_all _ T.docs (λ d i. ap (lies_in w) (value_same (numbers_of (driven p.at.base)) [] (asked_of d) (λ j z. absurd (subst (λ vs. In j (numbers_of vs)) none_driven z)) p.at (base_driven p.at.base)) ∙ l)
+        every : (b : ℤ) → value p.at [] ≡ Some b → lies_in w (value p.at []) ≡ true
+            → filter (λ d. lies_in w (value p.at (asked_of d))) T.docs ≡ T.docs
+        every b v l = filter_all _ T.docs (λ d i. ap (lies_in w) (value_same (numbers_of (driven p.at.base)) [] (asked_of d)
+              (λ j z. absurd (subst (λ vs. In j (numbers_of vs)) none_driven z)) p.at (base_driven p.at.base)) ∙ l)
 
-        walk : (b : ℤ) (rs : List Reach) (bound : List Var) → IsServed p.path bound rs → Distinct (order_vars rs) → In 0 (order_vars rs) → work_over T p b false rs [] ≤ total due T.docs
+        walk : (b : ℤ) (rs : List Reach) (bound : List Var) → IsServed p.path bound rs → Distinct (order_vars rs) → In 0 (order_vars rs)
+            → work_over T p b false rs [] ≤ total due T.docs
         walk b [] bound s u i = absurd i
         walk b (r ∷ rs) bound s u i = subst (λ z. work_over T p b false (r ∷ z) [] ≤ total due T.docs) (sym (alone rs s.2 u)) one
           where
@@ -213,18 +236,22 @@ module _ (T : Tables) (w : Window) (p : Probe) (order : List Reach) (k : IsProbe
             one : work_over T p b false (r ∷ []) [] ≤ total due T.docs
             one = go (further p.path b []) refl
               where
-                go : (o : Option Reach) → further p.path b [] ≡ o → cost_of o (λ x. 0 + total (λ row. 1 + work_over T p b false [] (bind x.var row [])) (rows_by b x.access [] T)) ≤ total due T.docs
+                go : (o : Option Reach) → further p.path b [] ≡ o → cost_of o
+                    (λ x. 0 + total (λ row. 1 + work_over T p b false [] (bind x.var row [])) (rows_by b x.access [] T)) ≤ total due T.docs
                 go None e = omega arith
                 go (Some x) e = plain _ _ (next x (nearest_serves p.path [] x (further_is p.path b [] x e).1))
                   where
                     plain : (n m : ℕ) → n ≤ m → 0 + n ≤ m
                     plain n m h = omega (arith, h)
 
-                    next : (x : Reach) → IsNearest p.path [] x → total (λ row. 1 + work_over T p b false [] (bind x.var row [])) (rows_by b x.access [] T) ≤ total due T.docs
-                    next x near = subst (λ z. total (λ row. 1 + work_over T p b false [] (bind x.var row [])) (rows_by b x.access [] T) ≤ z) all (trans (rows_less _ b x.access T) (total_less _ _ (rows_of (table_of x.access) T) each))
+                    next : (x : Reach) → IsNearest p.path [] x
+                        → total (λ row. 1 + work_over T p b false [] (bind x.var row [])) (rows_by b x.access [] T) ≤ total due T.docs
+                    next x near = subst (λ z. total (λ row. 1 + work_over T p b false [] (bind x.var row [])) (rows_by b x.access [] T) ≤ z)
+                        all (trans (rows_less _ b x.access T) (total_less _ _ (rows_of (table_of x.access) T) each))
                       where
                         x_zero : x.var.0 ≡ 0
-                        x_zero = is_asked x.var.0 (subst (λ (v : Var). In v.0 (vars_of p.path)) (sym near.var) (in_map (λ (s : Step). s.var.0) p.path near.step near.is_step))
+                        x_zero = is_asked x.var.0 (subst (λ (v : Var). In v.0 (vars_of p.path)) (sym near.var)
+                              (in_map (λ (s : Step). s.var.0) p.path near.step near.is_step))
 
                         plus : (a b : ℕ) → a ≤ b → 1 + a ≤ 1 + b
                         plus a b h = omega (arith, h)
@@ -237,7 +264,8 @@ module _ (T : Tables) (w : Window) (p : Probe) (order : List Reach) (k : IsProbe
 
                         all : total (λ row. 1 + work T p.body (bind x.var row [])) (rows_of (table_of x.access) T) ≡ total due T.docs
                         all =
-                            ap (λ t. total (λ row. 1 + work T p.body (bind x.var row [])) (rows_of t T)) (reach_rows T p.path b k.once [] x near ∙ ap (table_in p.path) x_zero ∙ asked_table p k)
+                            ap (λ t. total (λ row. 1 + work T p.body (bind x.var row [])) (rows_of t T))
+                              (reach_rows T p.path b k.once [] x near ∙ ap (table_in p.path) x_zero ∙ asked_table p k)
                             ∙ total_map (λ row. 1 + work T p.body (bind x.var row [])) OfDoc T.docs
                             ∙ total_same _ _ T.docs (λ d. ap (λ (v : Var). 1 + work T p.body (bind v (OfDoc d) [])) (var_is x.var x_zero))
 
@@ -245,7 +273,8 @@ module _ (T : Tables) (w : Window) (p : Probe) (order : List Reach) (k : IsProbe
         go None q = omega arith
         go (Some b) q =
             let l = mark_lies w (value p.at []) b q in
-            subst (λ z. work_over T p b false order [] ≤ total due z) (sym (every b l.0 l.1)) (walk b order (driven p.at.base) o.served once bound_zero)
+            subst (λ z. work_over T p b false order [] ≤ total due z) (sym (every b l.0 l.1))
+              (walk b order (driven p.at.base) o.served once bound_zero)
 
     -- a path of the document alone takes no more steps than its marked documents are due
     pub alone_cost : (sv : Option Var) → seek_var (seek_of p.at) ≡ sv → seek_cost T w p order (seek_of p.at) sv ≤ rows_due T w p

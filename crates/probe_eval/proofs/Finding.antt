@@ -1,5 +1,6 @@
 -- The hits of a probe are just the marks that it finds.
-use Rattle.std.proofs.Common.{◌≡◌, ℕ, suc, ◌≤◌, ℤ, Bool, true, not, List, [], ◌∷◌, ◌++◌, Option, Some, None, length, refl, sym, ap, ◌∙◌, subst, inl, inr, arith, map}
+use Rattle.std.proofs.Common.{◌≡◌, ℕ, suc, ◌≤◌, ℤ, Bool, true, not, List, [], ◌∷◌, ◌++◌, Option, Some, None, length, refl, sym, ap, ◌∙◌}
+use Rattle.std.proofs.Common.{subst, inl, inr, arith, map}
 use Rattle.std.specs.Prelude.{◌⊎◌, int_le, option_to_list}
 use Rattle.std.specs.List.{filter}
 use Rattle.std.proofs.lemmas.Bool.{cases_Bool, and_from, false≢true}
@@ -55,11 +56,13 @@ mark_parts w (Some x) b e = elim (cases_Bool (is_within w x)) [
 to_mark : (w : Window) (o : Option ℤ) (b : ℤ) → o ≡ Some b → is_within w b ≡ true → mark_in w o ≡ Some b
 to_mark w o b e h = ap (mark_in w) e ∙ rw h refl
 
-marked_parts : (entries : List Entry) (T : Tables) (w : Window) (p : Probe) (order : List Reach) (env : Env) (h : Hit) → In h (hits_at entries T w p order env)
+marked_parts : (entries : List Entry) (T : Tables) (w : Window) (p : Probe) (order : List Reach) (env : Env) (h : Hit)
+    → In h (hits_at entries T w p order env)
     → (b : ℤ) × (value p.at env ≡ Some b) × (is_within w b ≡ true) × In h (hits_over entries T p b order env)
 marked_parts entries T w p order env h i = go (mark_in w (value p.at env)) refl i
   where
-    go : (o : Option ℤ) → mark_in w (value p.at env) ≡ o → In h (marked_hits entries T w p order env o) → (b : ℤ) × (value p.at env ≡ Some b) × (is_within w b ≡ true) × In h (hits_over entries T p b order env)
+    go : (o : Option ℤ) → mark_in w (value p.at env) ≡ o → In h (marked_hits entries T w p order env o)
+        → (b : ℤ) × (value p.at env ≡ Some b) × (is_within w b ≡ true) × In h (hits_over entries T p b order env)
     go None e i = absurd i
     go (Some b) e i = let k = mark_parts w (value p.at env) b e in (b, k.0, k.1, i)
 
@@ -121,7 +124,8 @@ length_map : {A C : Type 0} (f : A → C) (xs : List A) → length (map f xs) �
 length_map f [] = refl
 length_map f (x ∷ xs) = ap suc (length_map f xs)
 
-module _ (entries : List Entry) (T : Tables) (w : Window) (p : Probe) (order : List Reach) (k : IsProbe p) (o : IsOrder p.path p.at.base order) where
+module _ (entries : List Entry) (T : Tables) (w : Window) (p : Probe) (order : List Reach) (k : IsProbe p)
+    (o : IsOrder p.path p.at.base order) where
   -- after the driver no more steps are left than the order has
   order_left : (env : Env) → HasDriver p env → left_of p.path env ≤ length order
   order_left env dr =
@@ -137,14 +141,17 @@ module _ (entries : List Entry) (T : Tables) (w : Window) (p : Probe) (order : L
       ordered j i =
           let s = map_in (λ (x : Step). x.var.0) (filter (is_left env) p.path) j i in
           let f = in_filter (is_left env) p.path s.0 s.1 in
-          subst (λ z. In z (order_vars order)) (sym s.2) (go s.0 f.1 (append_in (numbers_of (driven p.at.base)) (order_vars order) s.0.var.0 (o.steps s.0 f.0)))
+          subst (λ z. In z (order_vars order)) (sym s.2)
+            (go s.0 f.1 (append_in (numbers_of (driven p.at.base)) (order_vars order) s.0.var.0 (o.steps s.0 f.0)))
         where
-          go : (step : Step) → is_left env step ≡ true → In step.var.0 (numbers_of (driven p.at.base)) ⊎ In step.var.0 (order_vars order) → In step.var.0 (order_vars order)
+          go : (step : Step) → is_left env step ≡ true → In step.var.0 (numbers_of (driven p.at.base)) ⊎ In step.var.0 (order_vars order)
+              → In step.var.0 (order_vars order)
           go step h (inr z) = z
           go step h (inl z) = absurd (false≢true (sym (ap not (dr step.var.0 (subst (In step.var.0) (sym (vars_driven p.at.base)) z))) ∙ h))
 
   -- each hit beside driving rows is found by the probe
-  beside_sound : (env : Env) → InTables T p.path env → HasDriver p env → (h : Hit) → In h (hits_at entries T w p order env) → IsFoundBy entries p T w h
+  beside_sound : (env : Env) → InTables T p.path env → HasDriver p env → (h : Hit) → In h (hits_at entries T w p order env)
+      → IsFoundBy entries p T w h
   beside_sound env t dr h i =
       let mk = marked_parts entries T w p order env h i in
       let x = hits_sound entries T p mk.0 k order env h t dr mk.1 mk.3 in
@@ -162,18 +169,22 @@ module _ (entries : List Entry) (T : Tables) (w : Window) (p : Probe) (order : L
     f : Finds T g.doc h.first p
     f = finds_rows T g.doc h.first p k g.at
 
-    beside_complete : (env : Env) → AreSame (is_held env) env f.env → HasDriver p env → come_by h.first env ≡ true → In h (hits_at entries T w p order env)
+    beside_complete : (env : Env) → AreSame (is_held env) env f.env → HasDriver p env → come_by h.first env ≡ true
+        → In h (hits_at entries T w p order env)
     beside_complete env same dr come =
-        let v : value p.at env ≡ Some h.first = sym (value_same (base_vars p.at.base) env f.env (λ j i. same j (dr j i)) p.at (base_own p.at.base)) ∙ f.at in
+        let v : value p.at env ≡ Some h.first =
+            sym (value_same (base_vars p.at.base) env f.env (λ j i. same j (dr j i)) p.at (base_own p.at.base)) ∙ f.at in
         let i = hits_complete entries T p h.first k g.doc f g.is_row order env h g.unseen g.num refl same come (order_left env dr) dr in
         subst (λ z. In h (marked_hits entries T w p order env z)) (sym (to_mark w (value p.at env) h.first v g.within)) i
 
   module _ (bounded : is_bounded p.at ≡ true) where
     no_driver : seek_var (seek_of p.at) ≡ None → HasDriver p []
-    no_driver e j z = absurd (subst (λ vs. In j (numbers_of vs)) (driven_is p.at ∙ ap option_to_list e) (subst (In j) (vars_driven p.at.base) z))
+    no_driver e j z =
+        absurd (subst (λ vs. In j (numbers_of vs)) (driven_is p.at ∙ ap option_to_list e) (subst (In j) (vars_driven p.at.base) z))
 
     one_driver : (v : Var) (row : Row) → seek_var (seek_of p.at) ≡ Some v → HasDriver p (bind v row [])
-    one_driver v row e j z = go (subst (λ vs. In j (numbers_of vs)) (driven_is p.at ∙ ap option_to_list e) (subst (In j) (vars_driven p.at.base) z))
+    one_driver v row e j z =
+        go (subst (λ vs. In j (numbers_of vs)) (driven_is p.at ∙ ap option_to_list e) (subst (In j) (vars_driven p.at.base) z))
       where
         go : In j (v.0 ∷ []) → is_held (bind v row []) j ≡ true
         go (inl q) = ap (is_held (bind v row [])) q ∙ row_held (bind v row []) v.0 row (bind_same v row [])
@@ -182,7 +193,8 @@ module _ (entries : List Entry) (T : Tables) (w : Window) (p : Probe) (order : L
     none_held : (j : ℕ) → is_held [] j ≡ true → ⊥
     none_held j h = false≢true h
 
-    pub seek_sound : (sv : Option Var) → seek_var (seek_of p.at) ≡ sv → (h : Hit) → In h (seek_hits entries T w p order (seek_of p.at) sv) → IsFoundBy entries p T w h
+    pub seek_sound : (sv : Option Var) → seek_var (seek_of p.at) ≡ sv → (h : Hit) → In h (seek_hits entries T w p order (seek_of p.at) sv)
+        → IsFoundBy entries p T w h
     seek_sound None e h i = beside_sound [] (λ j z y. absurd (none_held j y)) (no_driver e) h i
     seek_sound (Some v) e h i =
         let x = from_flat (λ row. hits_at entries T w p order (bind v row [])) (driving T w p (seek_of p.at) v) h i in
@@ -193,27 +205,35 @@ module _ (entries : List Entry) (T : Tables) (w : Window) (p : Probe) (order : L
         bound row t j z y = go (held_was [] v row j y)
           where
             go : (j ≡ v.0) ⊎ (is_held [] j ≡ true) → (r : Row) × In r (rows_of (table_in p.path j) T) × (lookup j (bind v row []) ≡ Some r)
-            go (inl q) = (row, subst (λ y. In row (rows_of (table_in p.path y) T)) (sym q) t, ap (λ y. lookup y (bind v row [])) q ∙ bind_same v row [])
+            go (inl q) = (row, subst (λ y. In row (rows_of (table_in p.path y) T)) (sym q) t, ap (λ y. lookup y (bind v row [])) q
+                  ∙ bind_same v row [])
             go (inr y) = absurd (none_held j y)
 
-    pub seek_complete : (sv : Option Var) → seek_var (seek_of p.at) ≡ sv → (h : Hit) → IsFoundBy entries p T w h → In h (seek_hits entries T w p order (seek_of p.at) sv)
+    pub seek_complete : (sv : Option Var) → seek_var (seek_of p.at) ≡ sv → (h : Hit) → IsFoundBy entries p T w h
+        → In h (seek_hits entries T w p order (seek_of p.at) sv)
     seek_complete None e h g = beside_complete h g [] (λ j y. absurd (none_held j y)) (no_driver e) refl
     seek_complete (Some v) e h g = go (found_row v driver)
       where
         driver : In v.0 (vars_of p.path)
-        driver = driven_in p.at.base (vars_of p.path) k.at v.0 (subst (λ vs. In v.0 (numbers_of vs)) (sym (driven_is p.at ∙ ap option_to_list e)) (inl refl))
+        driver = driven_in p.at.base (vars_of p.path)
+            k.at v.0 (subst (λ vs. In v.0 (numbers_of vs)) (sym (driven_is p.at ∙ ap option_to_list e)) (inl refl))
 
-        found_row : (v : Var) → In v.0 (vars_of p.path) → (row : Row) × In row (rows_of (table_in p.path v.0) T) × (lookup v.0 (f h g).env ≡ Some row) × (int_le (arrival row) h.first ≡ true)
+        found_row : (v : Var) → In v.0 (vars_of p.path) → (row : Row) × In row (rows_of (table_in p.path v.0) T)
+            × (lookup v.0 (f h g).env ≡ Some row) × (int_le (arrival row) h.first ≡ true)
         found_row v i =
             let s = map_in (λ (x : Step). x.var.0) p.path v.0 i in
             let x = found_rows entries T p h.first k g.doc (f h g) g.is_row s.0 s.1 in
-            (x.0, subst (λ z. In x.0 (rows_of z T)) (sym (table_is p.path s.0 k.once s.1) ∙ ap (table_in p.path) (sym s.2)) x.1, ap (λ z. lookup z (f h g).env) s.2 ∙ x.2, x.3)
+            (x.0, subst (λ z. In x.0 (rows_of z T)) (sym (table_is p.path s.0 k.once s.1) ∙ ap (table_in p.path) (sym s.2)) x.1,
+              ap (λ z. lookup z (f h g).env) s.2 ∙ x.2, x.3)
 
-        go : (row : Row) × In row (rows_of (table_in p.path v.0) T) × (lookup v.0 (f h g).env ≡ Some row) × (int_le (arrival row) h.first ≡ true) → In h (seek_hits entries T w p order (seek_of p.at) (Some v))
+        go : (row : Row) × In row (rows_of (table_in p.path v.0) T) × (lookup v.0 (f h g).env ≡ Some row)
+            × (int_le (arrival row) h.first ≡ true) → In h (seek_hits entries T w p order (seek_of p.at) (Some v))
         go x =
             let same : AreSame (is_held (bind v x.0 [])) (bind v x.0 []) (f h g).env = agree x.0 x.2 in
             let dr = one_driver v x.0 e in
-            let val : value p.at (bind v x.0 []) ≡ Some h.first = sym (value_same (base_vars p.at.base) (bind v x.0 []) (f h g).env (λ j i. same j (dr j i)) p.at (base_own p.at.base)) ∙ (f h g).at in
+            let val : value p.at (bind v x.0 []) ≡ Some h.first =
+                sym (value_same (base_vars p.at.base) (bind v x.0 []) (f h g).env (λ j i. same j (dr j i)) p.at (base_own p.at.base))
+                ∙ (f h g).at in
             to_flat (λ row. hits_at entries T w p order (bind v row [])) (driving T w p (seek_of p.at) v) x.0 h
             (are_driven T w p v bounded e x.0 x.1 (ap (lies_in w) val ∙ g.within))
             (beside_complete h g (bind v x.0 []) same dr (and_from _ _ x.3 refl))

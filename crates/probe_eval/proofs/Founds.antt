@@ -1,5 +1,6 @@
 -- The hits of all parts are just the marks that their query finds.
-use Rattle.std.proofs.Common.{◌≡◌, ℕ, suc, ◌+◌, ◌<◌, ◌≤◌, ℤ, true, List, [], ◌∷◌, ◌++◌, length, refl, sym, ap, ◌∙◌, subst, inl, inr, arith, map}
+use Rattle.std.proofs.Common.{◌≡◌, ℕ, suc, ◌+◌, ◌<◌, ◌≤◌, ℤ, true, List, [], ◌∷◌, ◌++◌, length, refl, sym, ap, ◌∙◌, subst, inl, inr, arith}
+use Rattle.std.proofs.Common.{map}
 use Rattle.std.specs.Prelude.{◌⊎◌, int_le, int_lt, nat_lt, ◌≤ℤ◌, ◌<ℤ◌, option_to_list}
 use Rattle.std.proofs.lemmas.Int.{ints}
 use Rattle.std.proofs.lemmas.Bool.{and_parts, and_from}
@@ -51,7 +52,8 @@ lt_back x y h = grind (arith, ints)
 near_plus : (at : Term) → is_bounded at ≡ true → is_near (seek_plus (seek_of at)) ≡ true
 near_plus at h = let k = and_parts (is_near at.plus) (is_bounded_base at.base at.plus) h in go at.base at.plus k.0 k.1
   where
-    go : (base : Base) (plus : ℤ) → is_near plus ≡ true → is_bounded_base base plus ≡ true → is_near (seek_plus (seek_of (record { base = base; plus = plus }))) ≡ true
+    go : (base : Base) (plus : ℤ) → is_near plus ≡ true → is_bounded_base base plus ≡ true
+        → is_near (seek_plus (seek_of (record { base = base; plus = plus }))) ≡ true
     go (B.Arrival v) plus h b = h
     go (B.Date v) plus h b = h
     go B.Fixed plus h b = refl
@@ -67,7 +69,8 @@ length_append [] ys = omega arith
 length_append (x ∷ xs) ys = let k = length_append xs ys in omega (arith, k)
 
 -- the variables of the order are some of the path
-pub ordered : (path : List Step) (rs : List Reach) (bound : List Var) → IsServed path bound rs → (j : ℕ) → In j (order_vars rs) → In j (vars_of path)
+pub ordered : (path : List Step) (rs : List Reach) (bound : List Var) → IsServed path bound rs → (j : ℕ) → In j (order_vars rs)
+    → In j (vars_of path)
 ordered path [] bound s j i = absurd i
 ordered path (r ∷ rs) bound s j (inl e) =
     let q : s.0.0.var.0 ≡ j = ap (λ (v : Var). v.0) (sym s.0.2.var) ∙ sym e in
@@ -75,7 +78,8 @@ ordered path (r ∷ rs) bound s j (inl e) =
 ordered path (r ∷ rs) bound s j (inr i) = ordered path rs (bound ++ r.var ∷ []) s.2 j i
 
 -- no more variables are bound than stand in the path
-pub bound_fit : (p : Probe) → IsProbe p → length (option_to_list (seek_var (seek_of p.at))) + length (order_of p.path p.at.base) ≤ length p.path
+pub bound_fit : (p : Probe) → IsProbe p
+    → length (option_to_list (seek_var (seek_of p.at))) + length (order_of p.path p.at.base) ≤ length p.path
 bound_fit p k =
     let o = orders_serve p.path p.at.base in
     let vs = numbers_of (driven p.at.base) in
@@ -88,7 +92,8 @@ bound_fit p k =
     let e = ap length (driven_is p.at) in
     sums _ _ _ _ _ _ _ _ l a b c d e
   where
-    within : IsOrder p.path p.at.base (order_of p.path p.at.base) → (j : ℕ) → In j (numbers_of (driven p.at.base)) ⊎ In j (order_vars (order_of p.path p.at.base)) → In j (vars_of p.path)
+    within : IsOrder p.path p.at.base (order_of p.path p.at.base) → (j : ℕ)
+        → In j (numbers_of (driven p.at.base)) ⊎ In j (order_vars (order_of p.path p.at.base)) → In j (vars_of p.path)
     within o j (inl i) = driven_in p.at.base (vars_of p.path) k.at j i
     within o j (inr i) = ordered p.path (order_of p.path p.at.base) (driven p.at.base) o.served j i
 
@@ -115,7 +120,9 @@ module _ (q : RangedQuery) where
         record {
           node = below part.probe.body.0 (length q.pool) b.0;
           plus = subst (λ s. is_near (seek_plus s) ≡ true) (sym part.solved) (near_plus part.probe.at b.1);
-          room = subst (λ s. length (option_to_list (seek_var s)) + length (part_order part) + nested (tree_at q.pool part.probe.body.0) ≤ 16) (sym part.solved) (sum _ _ _ _ l r);
+          room =
+              subst (λ s. length (option_to_list (seek_var s)) + length (part_order part) + nested (tree_at q.pool part.probe.body.0) ≤ 16)
+              (sym part.solved) (sum _ _ _ _ l r);
         }
       where
         below : (a n : ℕ) → nat_lt a n ≡ true → a < n
@@ -125,11 +132,16 @@ module _ (q : RangedQuery) where
         sum a b n p h k = omega (arith, h, k)
 
     module _ (entries : List Entry) (T : Tables) (w : Window) where
-      of_seek : (part : Ranged) (h : Hit) → In h (part_hits entries T w q.pool part) → In h (seek_hits entries T w (probe_in q.pool part.probe) (part_order part) (seek_of part.probe.at) (seek_var (seek_of part.probe.at)))
-      of_seek part h i = subst (λ s. In h (seek_hits entries T w (probe_in q.pool part.probe) (part_order part) s (seek_var s))) part.solved i
+      of_seek : (part : Ranged) (h : Hit) → In h (part_hits entries T w q.pool part) → In h
+          (seek_hits entries T w (probe_in q.pool part.probe) (part_order part) (seek_of part.probe.at) (seek_var (seek_of part.probe.at)))
+      of_seek part h i =
+          subst (λ s. In h (seek_hits entries T w (probe_in q.pool part.probe) (part_order part) s (seek_var s))) part.solved i
 
-      to_seek : (part : Ranged) (h : Hit) → In h (seek_hits entries T w (probe_in q.pool part.probe) (part_order part) (seek_of part.probe.at) (seek_var (seek_of part.probe.at))) → In h (part_hits entries T w q.pool part)
-      to_seek part h i = subst (λ s. In h (seek_hits entries T w (probe_in q.pool part.probe) (part_order part) s (seek_var s))) (sym part.solved) i
+      to_seek : (part : Ranged) (h : Hit) → In h
+          (seek_hits entries T w (probe_in q.pool part.probe) (part_order part) (seek_of part.probe.at) (seek_var (seek_of part.probe.at)))
+          → In h (part_hits entries T w q.pool part)
+      to_seek part h i =
+          subst (λ s. In h (seek_hits entries T w (probe_in q.pool part.probe) (part_order part) s (seek_var s))) (sym part.solved) i
 
       pub query_found : AreFound (was_seen entries) (ranged_probes q) T w (query_hits entries T w q)
       query_found = record { sound = to; complete = back }
@@ -138,14 +150,16 @@ module _ (q : RangedQuery) where
           to h i =
               let a = from_flat (part_hits entries T w q.pool) q.parts h i in
               let p = probe_in q.pool a.0.probe in
-              let f = seek_sound entries T w p (part_order a.0) (part_probe a.0 a.1) (orders_serve p.path p.at.base) (part_bounded a.0 a.1) (seek_var (seek_of p.at)) refl h (of_seek a.0 h a.2) in
+              let f = seek_sound entries T w p (part_order a.0) (part_probe a.0 a.1) (orders_serve p.path p.at.base) (part_bounded a.0 a.1)
+                  (seek_var (seek_of p.at)) refl h (of_seek a.0 h a.2) in
               let b = and_parts (int_le w.low h.first) (int_lt h.first w.high) f.within in
               record {
                 doc = f.doc;
                 is_row = f.is_row;
                 unseen = f.unseen;
                 num = f.num;
-                at = in_any (finds T f.doc h.first) (ranged_probes q) p (in_map (λ (part : Ranged). probe_in q.pool part.probe) q.parts a.0 a.1) f.at;
+                at = in_any (finds T f.doc h.first) (ranged_probes q) p
+                    (in_map (λ (part : Ranged). probe_in q.pool part.probe) q.parts a.0 a.1) f.at;
                 low = le_back w.low h.first b.0;
                 high = lt_back h.first w.high b.1;
               }
@@ -164,4 +178,5 @@ module _ (q : RangedQuery) where
                 within = and_from _ _ (le_to w.low h.first f.low) (lt_to h.first w.high f.high);
               } in
               to_flat (part_hits entries T w q.pool) q.parts a.0 h a.1
-              (to_seek a.0 h (seek_complete entries T w p (part_order a.0) (part_probe a.0 a.1) (orders_serve p.path p.at.base) (part_bounded a.0 a.1) (seek_var (seek_of p.at)) refl h g))
+              (to_seek a.0 h (seek_complete entries T w p (part_order a.0) (part_probe a.0 a.1) (orders_serve p.path p.at.base)
+                  (part_bounded a.0 a.1) (seek_var (seek_of p.at)) refl h g))

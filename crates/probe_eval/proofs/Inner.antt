@@ -15,7 +15,8 @@ use Rattle.probe_eval.specs.LeftOut.{LeavesFalse}
 use Rattle.probe_eval.proofs.LeftOutLaws.{any_left}
 use Rattle.probe_eval.proofs.WalkRows.{any_walked}
 
-module _ (T : Tables) (x : Condition) (v : Var) (t : Table) (env : Env) (rows : List Row) (r : LeavesFalse (λ row. truth T (pos 0) x (bind v row env)) (reached T v t x env) rows) where
+module _ (T : Tables) (x : Condition) (v : Var) (t : Table) (env : Env) (rows : List Row)
+    (r : LeavesFalse (λ row. truth T (pos 0) x (bind v row env)) (reached T v t x env) rows) where
   -- the truth of the inner condition with a row
   abbrev with_row : Row → Bool
   with_row row = truth T (pos 0) x (bind v row env)
@@ -32,5 +33,6 @@ module _ (T : Tables) (x : Condition) (v : Var) (t : Table) (env : Env) (rows : 
   pub first_row : (left : List Row) (row : Row) → rows ≡ row ∷ left → with_row row ≡ true → truth T (pos 0) (Exists v t x) env ≡ true
   first_row left row e h = exists_same ∙ ap (list_any with_row) e ∙ rw h refl
 
-  pub later_row : (left : List Row) (row : Row) → rows ≡ row ∷ left → with_row row ≡ false → truth T (pos 0) (Exists v t x) env ≡ list_any with_row left
+  pub later_row : (left : List Row) (row : Row) → rows ≡ row ∷ left → with_row row ≡ false
+      → truth T (pos 0) (Exists v t x) env ≡ list_any with_row left
   later_row left row e h = exists_same ∙ ap (list_any with_row) e ∙ rw h refl

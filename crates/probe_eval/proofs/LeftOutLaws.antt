@@ -1,5 +1,6 @@
 -- Rows that a walk leaves out because a test is false with them.
-use Rattle.std.proofs.Common.{◌≡◌, ◌∙◌, ◌+◌, ℕ, ◌≤◌, ℤ, Bool, true, false, ◌&&◌, ◌||◌, Option, Some, None, List, [], ◌∷◌, refl, sym, ap, subst, inl, inr, map, arith}
+use Rattle.std.proofs.Common.{◌≡◌, ◌∙◌, ◌+◌, ℕ, ◌≤◌, ℤ, Bool, true, false, ◌&&◌, ◌||◌, Option, Some, None, List, [], ◌∷◌, refl, sym, ap}
+use Rattle.std.proofs.Common.{subst, inl, inr, map, arith}
 use Rattle.std.specs.Prelude.{◌<ℤ◌, IfSome, filter, int_le, nat_lt}
 use Rattle.std.specs.List.{list_any}
 use Rattle.std.proofs.lemmas.Int.{ints}
@@ -23,7 +24,8 @@ use Rattle.probe_eval.proofs.Costs.{total_filter, filter_all, filter_both}
 
 module _ {A : Type 0} where
   -- if f is false of all that a filter leaves out, some of those that it keeps pass if and only if some of all do
-  any_kept : (f keeps : A → Bool) (xs : List A) → ((x : A) → In x xs → keeps x ≡ false → f x ≡ false) → list_any f (filter keeps xs) ≡ list_any f xs
+  any_kept : (f keeps : A → Bool) (xs : List A) → ((x : A) → In x xs → keeps x ≡ false → f x ≡ false)
+      → list_any f (filter keeps xs) ≡ list_any f xs
   any_kept f keeps [] h = refl
   any_kept f keeps (x ∷ xs) h =
       let r = any_kept f keeps xs (λ y i. h y (inr i)) in
@@ -33,7 +35,8 @@ module _ {A : Type 0} where
       ]
 
   -- and up to the first of which f is true there are no more of them
-  until_kept : (cost : A → ℕ) (f keeps : A → Bool) (xs : List A) → ((x : A) → In x xs → keeps x ≡ false → f x ≡ false) → total cost (until f (filter keeps xs)) ≤ total cost (until f xs)
+  until_kept : (cost : A → ℕ) (f keeps : A → Bool) (xs : List A) → ((x : A) → In x xs → keeps x ≡ false → f x ≡ false)
+      → total cost (until f (filter keeps xs)) ≤ total cost (until f xs)
   until_kept cost f keeps [] h = omega arith
   until_kept cost f keeps (x ∷ xs) h =
       let r = until_kept cost f keeps xs (λ y i. h y (inr i)) in
@@ -52,8 +55,10 @@ module _ {A : Type 0} where
     total_left cost = subst (λ z. total cost z ≤ total cost rows) (sym k.left_are) (total_filter cost k.keeps rows)
 
     -- nor does it up to the first row that decides
-    pub until_left : (cost : A → ℕ) (f : A → Bool) → ((row : A) → In row rows → test row ≡ false → f row ≡ false) → total cost (until f left) ≤ total cost (until f rows)
-    until_left cost f h = subst (λ z. total cost (until f z) ≤ total cost (until f rows)) (sym k.left_are) (until_kept cost f k.keeps rows (λ row i e. h row i (k.refused row i e)))
+    pub until_left : (cost : A → ℕ) (f : A → Bool) → ((row : A) → In row rows → test row ≡ false → f row ≡ false)
+        → total cost (until f left) ≤ total cost (until f rows)
+    until_left cost f h = subst (λ z. total cost (until f z) ≤ total cost (until f rows)) (sym k.left_are)
+        (until_kept cost f k.keeps rows (λ row i e. h row i (k.refused row i e)))
 
     -- of rows that are left some can be left out again
     pub left_again : (fewer : List A) → LeavesFalse test left fewer → LeavesFalse test rows fewer
@@ -115,10 +120,12 @@ doc_in (x ∷ xs) d (inl q) = inl (ap (doc_of d) q)
 doc_in (x ∷ xs) d (inr i) = inr (doc_in xs d i)
 
 -- documents that are left are rows that are left
-pub docs_as_rows : (test : Row → Bool) (docs left : List Doc) (all rows : List Row) → all ≡ map OfDoc docs → rows ≡ map OfDoc left → LeavesFalse (λ d. test (OfDoc d)) docs left → LeavesFalse test all rows
+pub docs_as_rows : (test : Row → Bool) (docs left : List Doc) (all rows : List Row) → all ≡ map OfDoc docs → rows ≡ map OfDoc left
+    → LeavesFalse (λ d. test (OfDoc d)) docs left → LeavesFalse test all rows
 docs_as_rows test docs left all rows e l k = record {
   keeps = on_docs k.keeps;
-  left_are = l ∙ ap (map OfDoc) k.left_are ∙ picked OfDoc k.keeps (on_docs k.keeps) docs (λ d. refl) ∙ ap (filter (on_docs k.keeps)) (sym e);
+  left_are = l ∙ ap (map OfDoc) k.left_are ∙ picked OfDoc k.keeps (on_docs k.keeps) docs (λ d. refl)
+      ∙ ap (filter (on_docs k.keeps)) (sym e);
   refused = λ row i h. refused row (subst (In row) e i) h;
 }
   where
@@ -134,7 +141,8 @@ module _ (test : Doc → Bool) (docs : List Doc) where
   up_to_here a b h = grind arith
 
   -- documents are left up to a second, if the test is false with all later ones
-  pub left_up_to : (last : ℤ) (left : List Doc) → left ≡ up_to doc_arrival last docs → ((d : Doc) → last <ℤ d.arrival → test d ≡ false) → LeavesFalse test docs left
+  pub left_up_to : (last : ℤ) (left : List Doc) → left ≡ up_to doc_arrival last docs → ((d : Doc) → last <ℤ d.arrival → test d ≡ false)
+      → LeavesFalse test docs left
   left_up_to last left e late = record {
     keeps = λ d. int_le d.arrival last;
     left_are = e;
@@ -158,13 +166,16 @@ module _ (test : Doc → Bool) (docs : List Doc) where
   }
 
 -- documents are left between two bounds, if the test is false with all others
-pub left_between : (test : Doc → Bool) (docs left : List Doc) (low high : Option DocNum) → left ≡ between low high docs → IfSome low (λ num. RulesOut Above test num.0) → IfSome high (λ num. RulesOut Below test num.0) → LeavesFalse test docs left
+pub left_between : (test : Doc → Bool) (docs left : List Doc) (low high : Option DocNum) → left ≡ between low high docs
+    → IfSome low (λ num. RulesOut Above test num.0) → IfSome high (λ num. RulesOut Below test num.0) → LeavesFalse test docs left
 left_between test docs left low high e l h =
     subst (LeavesFalse test docs) (sym e)
-    (left_again test docs (cut_above low docs) (left_above test docs low l) (between low high docs) (left_below test (cut_above low docs) high h))
+    (left_again test docs (cut_above low docs) (left_above test docs low l) (between low high docs)
+      (left_below test (cut_above low docs) high h))
 
 -- what a bound rules out with all tables it rules out with these
-pub for_tables : (side : Side) (test : Tables → Doc → Bool) (T : Tables) (r : Option DocNum) → IfSome r (λ num. (t : Tables) → RulesOut side (test t) num.0) → IfSome r (λ num. RulesOut side (test T) num.0)
+pub for_tables : (side : Side) (test : Tables → Doc → Bool) (T : Tables) (r : Option DocNum)
+    → IfSome r (λ num. (t : Tables) → RulesOut side (test t) num.0) → IfSome r (λ num. RulesOut side (test T) num.0)
 for_tables side test T None h = tt
 for_tables side test T (Some num) h = h T
 

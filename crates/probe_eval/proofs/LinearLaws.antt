@@ -1,5 +1,6 @@
 -- Where each row is found by an index, the bound is linear in the rows that are due.
-use Rattle.std.proofs.Common.{◌≡◌, ◌∙◌, ℕ, zero, suc, ◌+◌, ◌*◌, ◌≤◌, ℤ, Bool, true, false, Option, Some, None, List, [], ◌∷◌, length, refl, sym, ap, subst, inl, inr, arith, if◌then◌else◌}
+use Rattle.std.proofs.Common.{◌≡◌, ◌∙◌, ℕ, zero, suc, ◌+◌, ◌*◌, ◌≤◌, ℤ, Bool, true, false, Option, Some, None, List, [], ◌∷◌, length, refl}
+use Rattle.std.proofs.Common.{sym, ap, subst, inl, inr, arith, if◌then◌else◌}
 use Rattle.std.specs.Prelude.{◌⊎◌, unwrap_or, option_map, filter}
 use Rattle.std.specs.Option.{option_or}
 use Rattle.std.proofs.lemmas.Bool.{cases_Bool, false≢true}
@@ -30,7 +31,8 @@ use Rattle.access_plan.specs.Nearest.{kind_access, near, IsNearest}
 use Rattle.access_plan.specs.Orders.{order_of}
 use Rattle.access_plan.proofs.Nearests.{nearest_serves}
 use Rattle.probe_eval.specs.Drivers.{walked, mark_in, marked_cost, cost_at}
-use Rattle.probe_eval.specs.Linear.{HasShortAccesses, HasShortBody, rest_bound, path_bound, ProbesByIndexAreLinear, reply_var, reply_probe, HasDistinctIds, RepliesTakeThreeSteps}
+use Rattle.probe_eval.specs.Linear.{HasShortAccesses, HasShortBody, rest_bound, path_bound, ProbesByIndexAreLinear, reply_var, reply_probe}
+use Rattle.probe_eval.specs.Linear.{HasDistinctIds, RepliesTakeThreeSteps}
 use Rattle.probe_eval.specs.Nested.{cost_here, asked_cost, is_once, is_walked, once_cost, work_over}
 use Rattle.probe_eval.specs.Rests.{InTables, further, cost_of, until, decides, rest_of, rest_cost}
 use Rattle.probe_eval.specs.Tables.{table_in}
@@ -106,33 +108,46 @@ add_left a x y h = omega (arith, h)
 with_middle : (a r m x : ℕ) → a ≤ r + x → a ≤ r + m + x
 with_middle a r m x h = omega (arith, h)
 
-module _ (T : Tables) (p : Probe) (v : Var) (n m : ℕ) (k : IsProbe p) (short : HasShortAccesses T p.path v n) (body : HasShortBody T p m) (b : ℤ) where
+module _ (T : Tables) (p : Probe) (v : Var) (n m : ℕ) (k : IsProbe p) (short : HasShortAccesses T p.path v n) (body : HasShortBody T p m)
+    (b : ℤ) where
   -- the rows of a next step
-  next_less : (env : Env) (r : Reach) (f : Row → ℕ) (c : ℕ) (rows : List Row) → InTables T p.path env → is_held env v.0 ≡ true → further p.path b env ≡ Some r → length rows ≤ length (rows_by b r.access env T) → ((row : Row) → In row rows → In row (rows_by b r.access env T))
-      → ((row : Row) → InTables T p.path (bind r.var row env) → is_held (bind r.var row env) v.0 ≡ true → f row ≤ c) → total (λ row. 1 + f row) rows ≤ n * (1 + c)
+  next_less : (env : Env) (r : Reach) (f : Row → ℕ) (c : ℕ) (rows : List Row) → InTables T p.path env → is_held env v.0 ≡ true
+      → further p.path b env ≡ Some r → length rows ≤ length (rows_by b r.access env T)
+      → ((row : Row) → In row rows → In row (rows_by b r.access env T))
+      → ((row : Row) → InTables T p.path (bind r.var row env) → is_held (bind r.var row env) v.0 ≡ true → f row ≤ c)
+          → total (λ row. 1 + f row) rows ≤ n * (1 + c)
   next_less env r f c rows t h e few same each =
       let near = (further_is p.path b env r e).1 in
       let serves = nearest_serves p.path env r near in
-      let s = total_times (λ row. 1 + f row) (1 + c) rows (λ row i. plus_one (f row) c (each row (in_tables T p.path b k.once env r row t (walked_row T p.path b k.once env r row serves (same row i))) (held_more env r.var row v.0 h))) in
+      let s = total_times (λ row. 1 + f row) (1 + c) rows (λ row i. plus_one (f row) c
+          (each row (in_tables T p.path b k.once env r row t (walked_row T p.path b k.once env r row serves (same row i)))
+            (held_more env r.var row v.0 h))) in
       le _ _ _ s (times_less (length rows) n (1 + c) (le _ _ _ few (short b env r t h near)))
 
-  rest_less : (order : List Reach) (env : Env) → InTables T p.path env → is_held env v.0 ≡ true → rest_cost T p.path b order env ≤ rest_bound n (length order)
+  rest_less : (order : List Reach) (env : Env) → InTables T p.path env → is_held env v.0 ≡ true
+      → rest_cost T p.path b order env ≤ rest_bound n (length order)
   rest_less [] env t h = omega arith
   rest_less (x ∷ rs) env t h = go (λ e. rest_less rs e) (further p.path b env) refl
     where
-      go : ((e : Env) → InTables T p.path e → is_held e v.0 ≡ true → rest_cost T p.path b rs e ≤ rest_bound n (length rs)) → (o : Option Reach) → further p.path b env ≡ o
-          → cost_of o (λ r. total (λ row. 1 + rest_cost T p.path b rs (bind r.var row env)) (until (decides T p.path b rs env r.var) (rows_by b r.access env T))) ≤ n * (1 + rest_bound n (length rs))
+      go : ((e : Env) → InTables T p.path e → is_held e v.0 ≡ true → rest_cost T p.path b rs e ≤ rest_bound n (length rs))
+          → (o : Option Reach) → further p.path b env ≡ o
+          → cost_of o (λ r. total (λ row. 1 + rest_cost T p.path b rs (bind r.var row env))
+                (until (decides T p.path b rs env r.var) (rows_by b r.access env T))) ≤ n * (1 + rest_bound n (length rs))
       go more None e = omega arith
       go more (Some r) e =
           let f = decides T p.path b rs env r.var in
           let rows = rows_by b r.access env T in
-          next_less env r (λ row. rest_cost T p.path b rs (bind r.var row env)) (rest_bound n (length rs)) (until f rows) t h e (until_less f rows) (λ row i. in_until f rows row i) (λ row s g. more (bind r.var row env) s g)
+          next_less env r (λ row. rest_cost T p.path b rs (bind r.var row env)) (rest_bound n (length rs)) (until f rows) t h e
+            (until_less f rows) (λ row i. in_until f rows row i) (λ row s g. more (bind r.var row env) s g)
 
-  here_less : (sure : Bool) (order : List Reach) (env : Env) → InTables T p.path env → is_held env v.0 ≡ true → cost_here T p b sure order env ≤ rest_bound n (length order) + m
+  here_less : (sure : Bool) (order : List Reach) (env : Env) → InTables T p.path env → is_held env v.0 ≡ true
+      → cost_here T p b sure order env ≤ rest_bound n (length order) + m
   here_less sure order env t h =
-      parts_less sure (rest_of T p.path b order env) (rest_cost T p.path b order env) (work T p.body env) (rest_bound n (length order)) m (rest_less order env t h) (body env t)
+      parts_less sure (rest_of T p.path b order env) (rest_cost T p.path b order env) (work T p.body env) (rest_bound n (length order)) m
+        (rest_less order env t h) (body env t)
 
-  walk_less : (sure : Bool) (order : List Reach) (env : Env) → InTables T p.path env → is_held env v.0 ≡ true → work_over T p b sure order env ≤ path_bound n m (length order)
+  walk_less : (sure : Bool) (order : List Reach) (env : Env) → InTables T p.path env → is_held env v.0 ≡ true
+      → work_over T p b sure order env ≤ path_bound n m (length order)
   walk_less sure [] env t h = go (lookup 0 env)
     where
       go : (o : Option Row) → asked_cost T p b sure [] env o 0 ≤ m
@@ -145,33 +160,45 @@ module _ (T : Tables) (p : Probe) (v : Var) (n m : ℕ) (k : IsProbe p) (short :
       More = (s : Bool) (e : Env) → InTables T p.path e → is_held e v.0 ≡ true → work_over T p b s rs e ≤ path_bound n m (length rs)
 
       next : More → (o : Option Reach) → further p.path b env ≡ o
-          → cost_of o (λ r. once_cost T p b (is_once p.path env rs r.var) (x ∷ rs) env (total (λ row. 1 + work_over T p b (is_once p.path env rs r.var) rs (bind r.var row env)) (rows_by b r.access env T))) ≤ path_bound n m (suc (length rs))
+          → cost_of o (λ r. once_cost T p b (is_once p.path env rs r.var) (x ∷ rs) env
+                (total (λ row. 1 + work_over T p b (is_once p.path env rs r.var) rs (bind r.var row env)) (rows_by b r.access env T)))
+              ≤ path_bound n m (suc (length rs))
       next more None e = omega arith
       next more (Some r) e =
           let once = is_once p.path env rs r.var in
-          let walk = next_less env r (λ row. work_over T p b once rs (bind r.var row env)) (path_bound n m (length rs)) (rows_by b r.access env T) t h e (no_less _ _ refl) (λ row i. i) (λ row s g. more once (bind r.var row env) s g) in
-          with_middle _ (rest_bound n (suc (length rs))) m (n * (1 + path_bound n m (length rs))) (both_less once (is_walked T p b once (x ∷ rs) env) (rest_cost T p.path b (x ∷ rs) env) _ (rest_bound n (suc (length rs))) (n * (1 + path_bound n m (length rs))) (rest_less (x ∷ rs) env t h) walk)
+          let walk = next_less env r (λ row. work_over T p b once rs (bind r.var row env)) (path_bound n m (length rs))
+              (rows_by b r.access env T) t h e (no_less _ _ refl) (λ row i. i) (λ row s g. more once (bind r.var row env) s g) in
+          with_middle _ (rest_bound n (suc (length rs))) m (n * (1 + path_bound n m (length rs)))
+            (both_less once (is_walked T p b once (x ∷ rs) env) (rest_cost T p.path b (x ∷ rs) env) _ (rest_bound n (suc (length rs)))
+              (n * (1 + path_bound n m (length rs))) (rest_less (x ∷ rs) env t h) walk)
 
       go : More → (o : Option Row)
-          → asked_cost T p b sure (x ∷ rs) env o (cost_of (further p.path b env) (λ r. once_cost T p b (is_once p.path env rs r.var) (x ∷ rs) env (total (λ row. 1 + work_over T p b (is_once p.path env rs r.var) rs (bind r.var row env)) (rows_by b r.access env T)))) ≤ path_bound n m (suc (length rs))
+          → asked_cost T p b sure (x ∷ rs) env o
+              (cost_of (further p.path b env) (λ r. once_cost T p b (is_once p.path env rs r.var) (x ∷ rs) env
+                  (total (λ row. 1 + work_over T p b (is_once p.path env rs r.var) rs (bind r.var row env)) (rows_by b r.access env T))))
+              ≤ path_bound n m (suc (length rs))
       go more None = next more (further p.path b env) refl
-      go more (Some (OfDoc d)) = add_left _ (rest_bound n (suc (length rs)) + m) (n * (1 + path_bound n m (length rs))) (here_less sure (x ∷ rs) env t h)
+      go more (Some (OfDoc d)) =
+          add_left _ (rest_bound n (suc (length rs)) + m) (n * (1 + path_bound n m (length rs))) (here_less sure (x ∷ rs) env t h)
       go more (Some (OfNote d)) = omega arith
 
 none_held : (j : ℕ) → is_held [] j ≡ true → ⊥
 none_held j h = false≢true h
 
 -- a row of the driver's table, bound alone, is in the tables
-driver_tables : (T : Tables) (path : List Step) (v : Var) (row : Row) → In row (rows_of (table_in path v.0) T) → InTables T path (bind v row [])
+driver_tables : (T : Tables) (path : List Step) (v : Var) (row : Row) → In row (rows_of (table_in path v.0) T)
+    → InTables T path (bind v row [])
 driver_tables T path v row t j z y = go (held_was [] v row j y)
   where
     go : (j ≡ v.0) ⊎ (is_held [] j ≡ true) → (r : Row) × In r (rows_of (table_in path j) T) × (lookup j (bind v row []) ≡ Some r)
-    go (inl q) = (row, subst (λ y. In row (rows_of (table_in path y) T)) (sym q) t, ap (λ y. lookup y (bind v row [])) q ∙ bind_same v row [])
+    go (inl q) =
+        (row, subst (λ y. In row (rows_of (table_in path y) T)) (sym q) t, ap (λ y. lookup y (bind v row [])) q ∙ bind_same v row [])
     go (inr y) = absurd (none_held j y)
 
 pub probes_by_index_are_linear : ProbesByIndexAreLinear
 probes_by_index_are_linear T w p v order n m k bounded e short body =
-    total_times (λ row. 1 + cost_at T w p order (bind v row [])) (1 + path_bound n m (length order)) (walked T w p (seek_of p.at) v) (λ row i. plus_one _ _ (marked row (driven_are T w p v bounded e row (walked_in T w p (seek_of p.at) v row i)).0))
+    total_times (λ row. 1 + cost_at T w p order (bind v row [])) (1 + path_bound n m (length order)) (walked T w p (seek_of p.at) v)
+      (λ row i. plus_one _ _ (marked row (driven_are T w p v bounded e row (walked_in T w p (seek_of p.at) v row i)).0))
   where
     marked : (row : Row) → In row (rows_of (table_in p.path v.0) T) → cost_at T w p order (bind v row []) ≤ path_bound n m (length order)
     marked row i = go (mark_in w (value p.at (bind v row [])))
@@ -215,9 +242,11 @@ asked_access = ByMsgId (Field reply_var InReplyTo)
 near_asked : (env : Env) → is_held env reply_var.0 ≡ true → near reply_probe.path env asked_step ≡ Some asked_access
 near_asked env h =
     ap (λ c. option_or (option_or (option_or (option_map ByMsgId (if c then Some (Field reply_var InReplyTo) else None)) None) None)
-    (first_some (kind_access reply_probe.path env asked_step) (K.ByParent ∷ K.ReferencedBy ∷ K.ByReference ∷ K.BySubject ∷ K.BySender ∷ K.ByWord ∷ []))) h
+    (first_some (kind_access reply_probe.path env asked_step)
+          (K.ByParent ∷ K.ReferencedBy ∷ K.ByReference ∷ K.BySubject ∷ K.BySender ∷ K.ByWord ∷ []))) h
 
-one_asked : (T : Tables) → HasDistinctIds T → (o : Option (List ℕ)) → length (filter (λ row. both_texts Eq (text_field MsgId row) o) (rows_of Docs T)) ≤ 1
+one_asked : (T : Tables) → HasDistinctIds T → (o : Option (List ℕ))
+    → length (filter (λ row. both_texts Eq (text_field MsgId row) o) (rows_of Docs T)) ≤ 1
 one_asked T d None = subst (λ rows. length rows ≤ 1) (no_text T.docs None MsgId refl) (omega arith)
 one_asked T d (Some id) = d id
 
@@ -230,11 +259,14 @@ reply_short T d b env r t h e = go k.step k.is_step k.fresh k.access
     asked : r.access ≡ asked_access → length (rows_by b r.access env T) ≤ 1
     asked q = subst (λ a. length (rows_by b a env T) ≤ 1) (sym q) (one_asked T d (text (Field reply_var InReplyTo) env))
 
-    go : (step : Step) → In step reply_probe.path → is_held env step.var.0 ≡ false → r.access ≡ unwrap_or (near reply_probe.path env step) (whole step.table) → length (rows_by b r.access env T) ≤ 1
-    go step (inl q) f a = asked (a ∙ ap (λ (s : Step). unwrap_or (near reply_probe.path env s) (whole s.table)) q ∙ ap (λ o. unwrap_or o (whole Docs)) (near_asked env h))
+    go : (step : Step) → In step reply_probe.path → is_held env step.var.0 ≡ false
+        → r.access ≡ unwrap_or (near reply_probe.path env step) (whole step.table) → length (rows_by b r.access env T) ≤ 1
+    go step (inl q) f a = asked (a ∙ ap (λ (s : Step). unwrap_or (near reply_probe.path env s) (whole s.table)) q
+          ∙ ap (λ o. unwrap_or o (whole Docs)) (near_asked env h))
     go step (inr (inl q)) f a = absurd (false≢true (sym f ∙ ap (λ (s : Step). is_held env s.var.0) q ∙ h))
     go step (inr (inr i)) f a = absurd i
 
 pub replies_take_three_steps : RepliesTakeThreeSteps
 replies_take_three_steps T w d =
-    probes_by_index_are_linear T w reply_probe reply_var (order_of reply_probe.path reply_probe.at.base) 1 0 reply_is_probe refl refl (reply_short T d) (λ env t. omega arith)
+    probes_by_index_are_linear T w reply_probe reply_var (order_of reply_probe.path reply_probe.at.base) 1 0 reply_is_probe refl refl
+      (reply_short T d) (λ env t. omega arith)

@@ -1,5 +1,6 @@
 -- A probe that goes by a posting list finds each row that is walked, at each mark that isn't before it.
-use Rattle.std.proofs.Common.{◌≡◌, ◌∙◌, ℕ, ℤ, pos, Bool, true, false, Option, Some, None, List, [], ◌∷◌, ◌++◌, refl, sym, ap, subst, inl, inr}
+use Rattle.std.proofs.Common.{◌≡◌, ◌∙◌, ℕ, ℤ, pos, Bool, true, false, Option, Some, None, List, [], ◌∷◌, ◌++◌, refl, sym, ap, subst, inl}
+use Rattle.std.proofs.Common.{inr}
 use Rattle.std.specs.Prelude.{◌&&◌, ◌||◌, not, is_some, int_le, nat_eq, fold, option_to_list}
 use Rattle.std.specs.List.{flat_map}
 use Rattle.std.proofs.lemmas.Bool.{cases_Bool, and_parts, false≢true, eqb-true}
@@ -25,7 +26,8 @@ use Rattle.access_plan.specs.Accesses.{is_held}
 use Rattle.access_plan.specs.Nearest.{nearest}
 use Rattle.access_plan.specs.declared.reach.Reach.{Reach}
 use Rattle.probe_eval.specs.Drivers.{driving, walked, mark_in, marked_hits, hits_at}
-use Rattle.probe_eval.specs.Listed.{is_by_arrival, is_docs, is_implied, asks_literal, guard_goes_by_list, path_goes_by_list, goes_by_list, listed_hit, marked_hit, listed_hits}
+use Rattle.probe_eval.specs.Listed.{is_by_arrival, is_docs, is_implied, asks_literal, guard_goes_by_list, path_goes_by_list, goes_by_list}
+use Rattle.probe_eval.specs.Listed.{listed_hit, marked_hit, listed_hits}
 use Rattle.probe_eval.specs.Literals.{literal_kind, rarer, rarest, chosen, rows_where}
 use Rattle.probe_eval.specs.Nested.{hit_if, new_doc, holds_here, hits_over}
 use Rattle.probe_eval.specs.Open.{atom_held, may_hold, are_open, path_open, may_go}
@@ -85,13 +87,15 @@ module _ (env : Env) (a : Atom) (t : true_atom a env ≡ true) where
 none_left : (step : Step) (env : Env) → is_held env step.var.0 ≡ true → nearest (step ∷ []) env ≡ None
 none_left step env h = rw h refl
 
-rest_is : (T : Tables) (path : List Step) (b : ℤ) (order : List Reach) (env : Env) → nearest path env ≡ None → rest_of T path b order env ≡ may_go path b env
+rest_is : (T : Tables) (path : List Step) (b : ℤ) (order : List Reach) (env : Env) → nearest path env ≡ None
+    → rest_of T path b order env ≡ may_go path b env
 rest_is T path b [] env n = ap (λ o. may_go path b env && all_or o (λ r. false)) n ∙ and_true (may_go path b env)
 rest_is T path b (x ∷ xs) env n = rw n (and_true (may_go path b env))
 
 -- the parts of such a probe
 abbrev Parts : Probe → Var → Type 0
-Parts p v = (step : Step) × (a : Atom) × (p.path ≡ step ∷ []) × (step.guards ≡ a ∷ []) × (asks_literal v step a ≡ true) × (is_implied a p.body ≡ true)
+Parts p v = (step : Step) × (a : Atom) × (p.path ≡ step ∷ []) × (step.guards ≡ a ∷ []) × (asks_literal v step a ≡ true)
+    × (is_implied a p.body ≡ true)
 
 guard_parts : (v : Var) (body : Condition) (step : Step) (guards : List Atom) → guard_goes_by_list v body step guards ≡ true
     → (a : Atom) × (guards ≡ a ∷ []) × (asks_literal v step a ≡ true) × (is_implied a body ≡ true)
@@ -105,22 +109,28 @@ path_parts v body [] h = absurd (false≢true h)
 path_parts v body (step ∷ []) h = let k = guard_parts v body step step.guards h in (step, k.0, refl, k.1, k.2, k.3)
 path_parts v body (step ∷ other ∷ path) h = absurd (false≢true h)
 
-module _ (T : Tables) (w : Window) (p : Probe) (seek : Seek) (v : Var) (step : Step) (a : Atom) (path : p.path ≡ step ∷ []) (guards : step.guards ≡ a ∷ [])
-    (table : step.table ≡ Docs) (is : step.var.0 ≡ v.0) (by : is_by_arrival seek ≡ true) (literal : is_some (literal_kind v a) ≡ true) (body : is_implied a p.body ≡ true) where
+module _ (T : Tables) (w : Window) (p : Probe) (seek : Seek) (v : Var) (step : Step) (a : Atom) (path : p.path ≡ step ∷ [])
+    (guards : step.guards ≡ a ∷ [])
+    (table : step.table ≡ Docs) (is : step.var.0 ≡ v.0) (by : is_by_arrival seek ≡ true) (literal : is_some (literal_kind v a) ≡ true)
+      (body : is_implied a p.body ≡ true) where
   chosen_one : chosen T v p.path seek (table_in p.path v.0) ≡ Some a
   chosen_one =
-      ap (λ x. chosen T v x seek (table_in x v.0)) path ∙ ap (chosen T v (step ∷ []) seek) (table_one step v.0 table) ∙ chosen_by T v (step ∷ []) seek by
+      ap (λ x. chosen T v x seek (table_in x v.0)) path ∙ ap (chosen T v (step ∷ []) seek) (table_one step v.0 table)
+        ∙ chosen_by T v (step ∷ []) seek by
       ∙ rarest_one T v step a guards literal
 
   walked_true : (row : Row) → In row (walked T w p seek v) → true_atom a (bind v row []) ≡ true
-  walked_true row i = (in_filter (λ row. true_atom a (bind v row [])) (driving T w p seek v) row (subst (λ o. In row (rows_where v o (driving T w p seek v))) chosen_one i)).1
+  walked_true row i = (in_filter (λ row. true_atom a (bind v row [])) (driving T w p seek v) row
+        (subst (λ o. In row (rows_where v o (driving T w p seek v))) chosen_one i)).1
 
   may_go_is : (row : Row) → true_atom a (bind v row []) ≡ true → (b : ℤ) → may_go p.path b (bind v row []) ≡ int_le (arrival row) b
   may_go_is row t b =
-      let o : path_open p.path (bind v row []) ≡ true = ap (λ x. path_open x (bind v row [])) path ∙ open_one (bind v row []) a t step guards in
+      let o : path_open p.path (bind v row []) ≡ true = ap (λ x. path_open x (bind v row [])) path
+          ∙ open_one (bind v row []) a t step guards in
       ap (λ c. come_by b (bind v row []) && c) o ∙ and_true (come_by b (bind v row [])) ∙ and_true (int_le (arrival row) b)
 
-  holds_is : (row : Row) → In row (walked T w p seek v) → (b : ℤ) (order : List Reach) → holds_here T p b order (bind v row []) ≡ int_le (arrival row) b
+  holds_is : (row : Row) → In row (walked T w p seek v) → (b : ℤ) (order : List Reach)
+      → holds_here T p b order (bind v row []) ≡ int_le (arrival row) b
   holds_is row i b order =
       let t = walked_true row i in
       let h : is_held (bind v row []) step.var.0 ≡ true = ap (is_held (bind v row [])) is ∙ held_same [] v row in
@@ -131,7 +141,8 @@ module _ (T : Tables) (w : Window) (p : Probe) (seek : Seek) (v : Var) (step : S
 
 -- such a probe finds each row that is walked, at each mark that isn't before it
 list_holds : (T : Tables) (w : Window) (p : Probe) (seek : Seek) (v : Var) → goes_by_list p seek v ≡ true
-    → (v.0 ≡ 0) × ((row : Row) → In row (walked T w p seek v) → (b : ℤ) (order : List Reach) → holds_here T p b order (bind v row []) ≡ int_le (arrival row) b)
+    → (v.0 ≡ 0) × ((row : Row) → In row (walked T w p seek v) → (b : ℤ) (order : List Reach)
+          → holds_here T p b order (bind v row []) ≡ int_le (arrival row) b)
 list_holds T w p seek v h =
     let k = and_parts _ _ h in
     let q = path_parts v p.body p.path k.1 in
@@ -149,7 +160,8 @@ module _ (entries : List Entry) (T : Tables) (w : Window) (p : Probe) (order : L
   -- the hits over the document's row
   over_row : (b : ℤ) (row : Row) → lookup 0 (bind v row []) ≡ Some row → holds_here T p b order (bind v row []) ≡ int_le (arrival row) b
       → hits_over entries T p b order (bind v row []) ≡ listed_hit entries b row
-  over_row b (OfDoc d) l h = doc_hits entries T p b order (bind v (OfDoc d) []) d l ∙ ap (λ c. option_to_list (hit_if c b (new_doc entries d))) h
+  over_row b (OfDoc d) l h = doc_hits entries T p b order (bind v (OfDoc d) []) d l
+      ∙ ap (λ c. option_to_list (hit_if c b (new_doc entries d))) h
   over_row b (OfNote n) l h = note_hits entries T p b order (bind v (OfNote n) []) (OfNote n) l (λ d e. no_doc d e)
     where
       no_doc : (d : _) → OfNote n ≡ OfDoc d → ⊥
@@ -162,8 +174,10 @@ module _ (entries : List Entry) (T : Tables) (w : Window) (p : Probe) (order : L
 
   -- the hits of the rows that are walked need no test but that of their marks
   pub listed_rows : (seek : Seek) → goes_by_list p seek v ≡ true
-      → flat_map (λ row. hits_at entries T w p order (bind v row [])) (walked T w p seek v) ≡ flat_map (listed_hits entries w p v) (walked T w p seek v)
+      → flat_map (λ row. hits_at entries T w p order (bind v row [])) (walked T w p seek v)
+          ≡ flat_map (listed_hits entries w p v) (walked T w p seek v)
   listed_rows seek h =
       let k = list_holds T w p seek v h in
       flat_same (λ row. hits_at entries T w p order (bind v row [])) (listed_hits entries w p v) (walked T w p seek v)
-      (λ row i. at_row row (subst (λ n. lookup n (bind v row []) ≡ Some row) k.0 (bind_same v row [])) (λ b. k.1 row i b order) (mark_in w (value p.at (bind v row []))))
+      (λ row i. at_row row (subst (λ n. lookup n (bind v row []) ≡ Some row) k.0 (bind_same v row [])) (λ b. k.1 row i b order)
+        (mark_in w (value p.at (bind v row []))))

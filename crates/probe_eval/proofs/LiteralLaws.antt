@@ -1,5 +1,6 @@
 -- The documents that a posting list has under a guard's literal are those of which the guard is true.
-use Rattle.std.proofs.Common.{◌≡◌, ◌∙◌, ℕ, ℤ, pos, Bool, true, false, List, [], ◌∷◌, Option, Some, None, refl, sym, ap, inl, inr, arith, map}
+use Rattle.std.proofs.Common.{◌≡◌, ◌∙◌, ℕ, ℤ, pos, Bool, true, false, List, [], ◌∷◌, Option, Some, None, refl, sym, ap, inl, inr, arith}
+use Rattle.std.proofs.Common.{map}
 use Rattle.std.specs.Prelude.{◌⊎◌, ◌&&◌, ◌||◌, ◌≤ℤ◌, ◌<ℤ◌, int_le, int_lt, filter, fold, is_some, nat_eq, nat_lt, option_to_list}
 use Rattle.std.specs.List.{list_any}
 use Rattle.std.specs.Str.{bytes_eq}
@@ -32,7 +33,8 @@ use Rattle.time_marks.specs.declared.seek.Seek.{Seek}
 use Rattle.time_marks.specs.declared.seek.Seek.TheVariants.{Arrived, ArrivedDay}
 use Rattle.time_marks.specs.declared.window.Window.{Window}
 use Rattle.probe_eval.specs.Drivers.{stored_rows}
-use Rattle.probe_eval.specs.Literals.{field_kind, list_field_kind, kind_if, literal_kind, literal_of, list_length, shorter, rarer, rarest, chosen}
+use Rattle.probe_eval.specs.Literals.{field_kind, list_field_kind, kind_if, literal_kind, literal_of, list_length, shorter, rarer, rarest}
+use Rattle.probe_eval.specs.Literals.{chosen}
 use Rattle.probe_eval.proofs.AccessLists.{picked, text_asked, word_asked}
 use Rattle.probe_eval.proofs.Costs.{filter_same, filter_both}
 use Rattle.tap_rows.specs.Fields.{fields}
@@ -58,33 +60,49 @@ turned_asked None t = refl
 turned_asked (Some x) t = or_false (bytes_eq t x) ∙ sym (is_eq-slice_cmp t x)
 
 module _ (d : Doc) (t : List ℕ) where
-  field_same : (f : TextField) (kind : TextKind) → field_kind f ≡ Some kind → list_any (λ other. bytes_eq t other) (texts_of kind d) ≡ both_texts Eq (text_field f (OfDoc d)) (Some t)
+  field_same : (f : TextField) (kind : TextKind) → field_kind f ≡ Some kind
+      → list_any (λ other. bytes_eq t other) (texts_of kind d) ≡ both_texts Eq (text_field f (OfDoc d)) (Some t)
   unfolding fields texts.fields
   field_same From kind h = ap (λ k. list_any (λ other. bytes_eq t other) (texts_of k d)) (sym (some_same h)) ∙ text_asked (fields d).from t
-  field_same Subject kind h = ap (λ k. list_any (λ other. bytes_eq t other) (texts_of k d)) (sym (some_same h)) ∙ text_asked (fields d).subject t
-  field_same MsgId kind h = ap (λ k. list_any (λ other. bytes_eq t other) (texts_of k d)) (sym (some_same h)) ∙ text_asked (fields d).msgid t
-  field_same InReplyTo kind h = ap (λ k. list_any (λ other. bytes_eq t other) (texts_of k d)) (sym (some_same h)) ∙ text_asked (fields d).inreplyto t
+  field_same Subject kind h = ap (λ k. list_any (λ other. bytes_eq t other) (texts_of k d)) (sym (some_same h))
+      ∙ text_asked (fields d).subject t
+  field_same MsgId kind h = ap (λ k. list_any (λ other. bytes_eq t other) (texts_of k d)) (sym (some_same h))
+      ∙ text_asked (fields d).msgid t
+  field_same InReplyTo kind h = ap (λ k. list_any (λ other. bytes_eq t other) (texts_of k d)) (sym (some_same h))
+      ∙ text_asked (fields d).inreplyto t
   field_same _ kind h = absurd (none-some kind h)
 
-  field_turned : (f : TextField) (kind : TextKind) → field_kind f ≡ Some kind → list_any (λ other. bytes_eq t other) (texts_of kind d) ≡ both_texts Eq (Some t) (text_field f (OfDoc d))
+  field_turned : (f : TextField) (kind : TextKind) → field_kind f ≡ Some kind
+      → list_any (λ other. bytes_eq t other) (texts_of kind d) ≡ both_texts Eq (Some t) (text_field f (OfDoc d))
   unfolding fields texts.fields
-  field_turned From kind h = ap (λ k. list_any (λ other. bytes_eq t other) (texts_of k d)) (sym (some_same h)) ∙ turned_asked (fields d).from t
-  field_turned Subject kind h = ap (λ k. list_any (λ other. bytes_eq t other) (texts_of k d)) (sym (some_same h)) ∙ turned_asked (fields d).subject t
-  field_turned MsgId kind h = ap (λ k. list_any (λ other. bytes_eq t other) (texts_of k d)) (sym (some_same h)) ∙ turned_asked (fields d).msgid t
-  field_turned InReplyTo kind h = ap (λ k. list_any (λ other. bytes_eq t other) (texts_of k d)) (sym (some_same h)) ∙ turned_asked (fields d).inreplyto t
+  field_turned From kind h = ap (λ k. list_any (λ other. bytes_eq t other) (texts_of k d)) (sym (some_same h))
+      ∙ turned_asked (fields d).from t
+  field_turned Subject kind h = ap (λ k. list_any (λ other. bytes_eq t other) (texts_of k d)) (sym (some_same h))
+      ∙ turned_asked (fields d).subject t
+  field_turned MsgId kind h = ap (λ k. list_any (λ other. bytes_eq t other) (texts_of k d)) (sym (some_same h))
+      ∙ turned_asked (fields d).msgid t
+  field_turned InReplyTo kind h = ap (λ k. list_any (λ other. bytes_eq t other) (texts_of k d)) (sym (some_same h))
+      ∙ turned_asked (fields d).inreplyto t
   field_turned _ kind h = absurd (none-some kind h)
 
-  entry_same : (f : ListField) (kind : TextKind) → list_field_kind f ≡ Some kind → list_any (λ other. bytes_eq t other) (texts_of kind d) ≡ has (list_field f (OfDoc d)) (Some t)
+  entry_same : (f : ListField) (kind : TextKind) → list_field_kind f ≡ Some kind
+      → list_any (λ other. bytes_eq t other) (texts_of kind d) ≡ has (list_field f (OfDoc d)) (Some t)
   unfolding fields texts.fields
-  entry_same References kind h = ap (λ k. list_any (λ other. bytes_eq t other) (texts_of k d)) (sym (some_same h)) ∙ word_asked (fields d).references t
-  entry_same Words kind h = ap (λ k. list_any (λ other. bytes_eq t other) (texts_of k d)) (sym (some_same h)) ∙ word_asked (fields d).words t
+  entry_same References kind h = ap (λ k. list_any (λ other. bytes_eq t other) (texts_of k d)) (sym (some_same h))
+      ∙ word_asked (fields d).references t
+  entry_same Words kind h = ap (λ k. list_any (λ other. bytes_eq t other) (texts_of k d)) (sym (some_same h))
+      ∙ word_asked (fields d).words t
   entry_same _ kind h = absurd (none-some kind h)
 
 -- a document has the literal if and only if the guard is true of it
 same_truth : (v : Var) (a : Atom) (kind : TextKind) → literal_kind v a ≡ Some kind → (d : Doc)
     → list_any (λ other. bytes_eq (literal_of a) other) (texts_of kind d) ≡ true_atom a (bind v (OfDoc d) [])
-same_truth v (Texts (Field u f) Eq (Literal t)) kind h d = let k = kind_parts v u (field_kind f) kind h in rw k.0 (field_same d t f kind k.1)
-same_truth v (Texts (Literal t) Eq (Field u f)) kind h d = let k = kind_parts v u (field_kind f) kind h in rw k.0 (field_turned d t f kind k.1)
+same_truth v (Texts (Field u f) Eq (Literal t)) kind h d =
+    let k = kind_parts v u (field_kind f) kind h in
+    rw k.0 (field_same d t f kind k.1)
+same_truth v (Texts (Literal t) Eq (Field u f)) kind h d =
+    let k = kind_parts v u (field_kind f) kind h in
+    rw k.0 (field_turned d t f kind k.1)
 same_truth v (Has u f (Literal t)) kind h d = let k = kind_parts v u (list_field_kind f) kind h in rw k.0 (entry_same d t f kind k.1)
 same_truth v _ kind h d = absurd (none-some kind h)
 
@@ -96,7 +114,8 @@ and_turned false false = refl
 
 -- two filters may be exchanged
 pub filter_swap : {A : Type 0} (p q : A → Bool) (xs : List A) → filter p (filter q xs) ≡ filter q (filter p xs)
-filter_swap p q xs = filter_both q p xs ∙ filter_same (λ x. q x && p x) (λ x. p x && q x) xs (λ x. and_turned (q x) (p x)) ∙ sym (filter_both p q xs)
+filter_swap p q xs = filter_both q p xs ∙ filter_same (λ x. q x && p x) (λ x. p x && q x) xs (λ x. and_turned (q x) (p x))
+    ∙ sym (filter_both p q xs)
 
 -- the documents under the literal that arrived in a window
 pub under_literal : (v : Var) (a : Atom) (kind : TextKind) (low high : ℤ) (docs : List Doc) → literal_kind v a ≡ Some kind
@@ -104,7 +123,8 @@ pub under_literal : (v : Var) (a : Atom) (kind : TextKind) (low high : ℤ) (doc
     ≡ filter (λ row. true_atom a (bind v row [])) (map OfDoc (in_window doc_arrival low high docs))
 under_literal v a kind low high docs h =
     ap (map OfDoc) (filter_swap _ (λ d. list_any (λ other. bytes_eq (literal_of a) other) (texts_of kind d)) docs)
-    ∙ picked OfDoc (λ d. list_any (λ other. bytes_eq (literal_of a) other) (texts_of kind d)) (λ row. true_atom a (bind v row [])) (in_window doc_arrival low high docs) (same_truth v a kind h)
+    ∙ picked OfDoc (λ d. list_any (λ other. bytes_eq (literal_of a) other) (texts_of kind d)) (λ row. true_atom a (bind v row []))
+        (in_window doc_arrival low high docs) (same_truth v a kind h)
 
 -- all documents arrived at moments of the clock
 module _ (P : Doc → Bool) (high : ℤ) (late : pos 250000000000 <ℤ high) where
@@ -117,7 +137,8 @@ module _ (P : Doc → Bool) (high : ℤ) (late : pos 250000000000 <ℤ high) whe
       before : (s : ℤ) → s ≤ℤ pos 250000000000 → int_lt s high ≡ true
       before s h = grind (arith, ints)
 
-  pub all_in_clock : (docs : List Doc) → Each (λ doc. IsMoment (doc_arrival doc)) docs → in_window doc_arrival (pos 0) high (filter P docs) ≡ filter P docs
+  pub all_in_clock : (docs : List Doc) → Each (λ doc. IsMoment (doc_arrival doc)) docs
+      → in_window doc_arrival (pos 0) high (filter P docs) ≡ filter P docs
   all_in_clock [] m = refl
   all_in_clock (d ∷ ds) m = elim (cases_Bool (P d)) [
     | inl e ↦ rw (e, in_clock (doc_arrival d) m.0) (ap (λ z. d ∷ z) (all_in_clock ds m.1))
@@ -139,7 +160,8 @@ module _ (T : Tables) (v : Var) (a : Atom) where
     | inr k ↦ inl (rw k at h)
   ]
 
-  of_guards : (best : Option Atom) (xs : List Atom) → fold (rarer T v) best xs ≡ Some a → (best ≡ Some a) ⊎ (In a xs × (is_some (literal_kind v a) ≡ true))
+  of_guards : (best : Option Atom) (xs : List Atom) → fold (rarer T v) best xs ≡ Some a
+      → (best ≡ Some a) ⊎ (In a xs × (is_some (literal_kind v a) ≡ true))
   of_guards best [] h = inl h
   of_guards best (x ∷ xs) h = elim (of_guards (rarer T v best x) xs h) [
     | inl e ↦ elim (rarer_is best x e) [ inl q ↦ inl q | inr q ↦ inr (inl q.0, q.1) ]
@@ -154,7 +176,8 @@ module _ (T : Tables) (v : Var) (a : Atom) where
     | inr i ↦ inr (i.0, inr i.1, i.2, i.3)
   ]
 
-  pub rarest_is : (path : List Step) → rarest T v path ≡ Some a → (step : Step) × In step path × In a step.guards × (is_some (literal_kind v a) ≡ true)
+  pub rarest_is : (path : List Step) → rarest T v path ≡ Some a
+      → (step : Step) × In step path × In a step.guards × (is_some (literal_kind v a) ≡ true)
   rarest_is path h = elim (of_steps None path h) [ inl e ↦ absurd (none-some a e) | inr i ↦ i ]
 
   pub chosen_is : (path : List Step) (seek : Seek) (t : Table) → chosen T v path seek t ≡ Some a

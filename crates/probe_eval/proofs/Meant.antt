@@ -25,11 +25,13 @@ module _ {A B : Type 0} where
   kept_from f [] y i = absurd i
   kept_from f (x ∷ xs) y i = go (f x) refl i (λ j. kept_from f xs y j)
     where
-      go : (o : Option B) → f x ≡ o → In y (filter_map f (x ∷ xs)) → (In y (filter_map f xs) → (x : A) × In x xs × (f x ≡ Some y)) → (z : A) × In z (x ∷ xs) × (f z ≡ Some y)
+      go : (o : Option B) → f x ≡ o → In y (filter_map f (x ∷ xs)) → (In y (filter_map f xs) → (x : A) × In x xs × (f x ≡ Some y))
+          → (z : A) × In z (x ∷ xs) × (f z ≡ Some y)
       go None e i r = let k = r (rw e at i) in (k.0, inr k.1, k.2)
       go (Some b) e i r = other e (rw e at i) r
         where
-          other : f x ≡ Some b → (y ≡ b) ⊎ In y (filter_map f xs) → (In y (filter_map f xs) → (x : A) × In x xs × (f x ≡ Some y)) → (z : A) × In z (x ∷ xs) × (f z ≡ Some y)
+          other : f x ≡ Some b → (y ≡ b) ⊎ In y (filter_map f xs) → (In y (filter_map f xs) → (x : A) × In x xs × (f x ≡ Some y))
+              → (z : A) × In z (x ∷ xs) × (f z ≡ Some y)
           other e (inl q) r = (x, inl refl, e ∙ ap Some (sym q))
           other e (inr j) r = let k = r j in (k.0, inr k.1, k.2)
 
@@ -62,23 +64,27 @@ module _ (seen : Doc → Bool) (X : List Probe) (T : Tables) (w : Window) where
   not_false false h = refl
 
   -- the least mark, if one is found
-  pub least_is : (d : Doc) (b : ℤ) → found X T d b ≡ true → w.low ≤ℤ b → b <ℤ w.high → (least_b : ℤ) × (least X T d w ≡ Some least_b) × (least_b ≤ℤ b)
+  pub least_is : (d : Doc) (b : ℤ) → found X T d b ≡ true → w.low ≤ℤ b → b <ℤ w.high
+      → (least_b : ℤ) × (least X T d w ≡ Some least_b) × (least_b ≤ℤ b)
   least_is d b f l h = go (least X T d w) refl
     where
       go : (o : Option ℤ) → least X T d w ≡ o → (least_b : ℤ) × (least X T d w ≡ Some least_b) × (least_b ≤ℤ b)
       go None e = absurd (both_ways (found X T d b) (least_none (found X T d) w.low w.high b e l h) f)
       go (Some s) e = (s, e, least_least (found X T d) w.low w.high s b e l f)
 
-  pub meaning_in : (h : Hit) → In h (meaning_without seen X T w) → (d : Doc) × In d T.docs × (seen d ≡ false) × (h.doc ≡ d.num) × (least X T d w ≡ Some h.first)
+  pub meaning_in : (h : Hit) → In h (meaning_without seen X T w)
+      → (d : Doc) × In d T.docs × (seen d ≡ false) × (h.doc ≡ d.num) × (least X T d w ≡ Some h.first)
   meaning_in h i =
       let k = kept_from (λ d. hit_of d (least X T d w)) unseen_docs h (ordered_in h _ i) in
       let a = in_filter (λ d. not (seen d)) T.docs k.0 k.1 in
       let b = hit_parts k.0 (least X T k.0 w) h k.2 in
       (k.0, a.0, not_false (seen k.0) a.1, b.0, b.1)
 
-  pub in_meaning : (h : Hit) (d : Doc) → In d T.docs → seen d ≡ false → h.doc ≡ d.num → least X T d w ≡ Some h.first → In h (meaning_without seen X T w)
+  pub in_meaning : (h : Hit) (d : Doc) → In d T.docs → seen d ≡ false → h.doc ≡ d.num → least X T d w ≡ Some h.first
+      → In h (meaning_without seen X T w)
   in_meaning h d i u n e =
-      in_ordered h _ (from_kept (λ d. hit_of d (least X T d w)) unseen_docs d h (to_filter (λ d. not (seen d)) T.docs d i (ap not u)) (hit_back d (least X T d w) h n e))
+      in_ordered h _ (from_kept (λ d. hit_of d (least X T d w)) unseen_docs d h (to_filter (λ d. not (seen d)) T.docs d i (ap not u))
+          (hit_back d (least X T d w) h n e))
 
   pub found_least : (h : Hit) (d : Doc) → In d T.docs → seen d ≡ false → h.doc ≡ d.num → least X T d w ≡ Some h.first → IsFound seen X T w h
   found_least h d i u n e =

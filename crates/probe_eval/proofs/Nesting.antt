@@ -1,5 +1,6 @@
 -- The documents and marks that are found beside driving rows are those that the probe finds.
-use Rattle.std.proofs.Common.{◌≡◌, ◌∙◌, ℕ, suc, ◌≤◌, ◌<◌, ℤ, pos, Bool, true, false, Option, Some, None, List, [], ◌∷◌, length, refl, sym, ap, subst, inl, inr, arith, nat_eq, map, if◌then◌else◌}
+use Rattle.std.proofs.Common.{◌≡◌, ◌∙◌, ℕ, suc, ◌≤◌, ◌<◌, ℤ, pos, Bool, true, false, Option, Some, None, List, [], ◌∷◌, length, refl, sym}
+use Rattle.std.proofs.Common.{ap, subst, inl, inr, arith, nat_eq, map, if◌then◌else◌}
 use Rattle.std.specs.Prelude.{◌⊎◌, int_le, option_to_list}
 use Rattle.std.proofs.lemmas.Bool.{cases_Bool, and_parts, and_from, false≢true}
 use Rattle.tap_rows.specs.declared.rows.Doc.{Doc}
@@ -36,7 +37,8 @@ use Rattle.probe_eval.specs.Nested.{was_seen, new_doc, hit_if, over_rows, holds_
 use Rattle.probe_eval.proofs.Members.{from_flat, to_flat, only_one, one_only}
 use Rattle.probe_eval.proofs.Tables.{table_is}
 use Rattle.probe_eval.proofs.OpenLaws.{held_more, row_held, not_held, same_bound}
-use Rattle.probe_eval.proofs.RestLaws.{walked_row, in_tables, kept_on, next_row, fewer_left, some_left, may_go_on, rest_sound, rest_complete}
+use Rattle.probe_eval.proofs.RestLaws.{walked_row, in_tables, kept_on, next_row, fewer_left, some_left, may_go_on, rest_sound}
+use Rattle.probe_eval.proofs.RestLaws.{rest_complete}
 use Rattle.probe_eval.proofs.HitSteps.{doc_hits, next_hits}
 
 some_same : {A : Type 0} {x y : A} → Some x ≡ Some y → x ≡ y
@@ -79,13 +81,15 @@ pub asked_in : (p : Probe) → IsProbe p → In 0 (vars_of p.path)
 asked_in p k = subst (λ z. In 0 (vars_of z)) (sym k.asked.2) (inl refl)
 
 -- a next step that may be looked for
-pub further_is : (path : List Step) (b : ℤ) (env : Env) (r : Reach) → further path b env ≡ Some r → (may_go path b env ≡ true) × (nearest path env ≡ Some r)
+pub further_is : (path : List Step) (b : ℤ) (env : Env) (r : Reach) → further path b env ≡ Some r
+    → (may_go path b env ≡ true) × (nearest path env ≡ Some r)
 further_is path b env r h = elim (cases_Bool (may_go path b env)) [ inl y ↦ (y, rw y at h) | inr n ↦ absurd (none (rw n at h)) ]
   where
     none : None ≡ Some r → ⊥
     none e = cc
 
-pub is_further : (path : List Step) (b : ℤ) (env : Env) (r : Reach) → may_go path b env ≡ true → nearest path env ≡ Some r → further path b env ≡ Some r
+pub is_further : (path : List Step) (b : ℤ) (env : Env) (r : Reach) → may_go path b env ≡ true → nearest path env ≡ Some r
+    → further path b env ≡ Some r
 is_further path b env r m n = rw m n
 
 -- the driver has a row
@@ -93,7 +97,8 @@ abbrev pub HasDriver : Probe → Env → Type 0
 HasDriver p env = (j : ℕ) → In j (base_vars p.at.base) → is_held env j ≡ true
 
 -- what a hit of a document says
-hit_parts : (passed : Bool) (b : ℤ) (entries : List Entry) (d : Doc) (h : Hit) → hit_if passed b (new_doc entries d) ≡ Some h → (passed ≡ true) × (was_seen entries d ≡ false) × (h.doc ≡ d.num) × (h.first ≡ b)
+hit_parts : (passed : Bool) (b : ℤ) (entries : List Entry) (d : Doc) (h : Hit) → hit_if passed b (new_doc entries d) ≡ Some h
+    → (passed ≡ true) × (was_seen entries d ≡ false) × (h.doc ≡ d.num) × (h.first ≡ b)
 hit_parts passed b entries d h e = elim (cases_Bool (was_seen entries d)) [
   | inl y ↦ absurd (none (rw y at e))
   | inr n ↦ go passed n (rw n at e)
@@ -102,11 +107,13 @@ hit_parts passed b entries d h e = elim (cases_Bool (was_seen entries d)) [
     none : None ≡ Some h → ⊥
     none e = cc
 
-    go : (c : Bool) → was_seen entries d ≡ false → (if c then Some (record { doc = d.num; first = b }) else None) ≡ Some h → (c ≡ true) × (was_seen entries d ≡ false) × (h.doc ≡ d.num) × (h.first ≡ b)
+    go : (c : Bool) → was_seen entries d ≡ false → (if c then Some (record { doc = d.num; first = b }) else None) ≡ Some h
+        → (c ≡ true) × (was_seen entries d ≡ false) × (h.doc ≡ d.num) × (h.first ≡ b)
     go true n e = (refl, n, ap (λ (z : Hit). z.doc) (sym (some_same e)), ap (λ (z : Hit). z.first) (sym (some_same e)))
     go false n e = absurd (none e)
 
-hit_back : (passed : Bool) (b : ℤ) (entries : List Entry) (d : Doc) (h : Hit) → passed ≡ true → was_seen entries d ≡ false → h.doc ≡ d.num → h.first ≡ b → hit_if passed b (new_doc entries d) ≡ Some h
+hit_back : (passed : Bool) (b : ℤ) (entries : List Entry) (d : Doc) (h : Hit) → passed ≡ true → was_seen entries d ≡ false → h.doc ≡ d.num
+    → h.first ≡ b → hit_if passed b (new_doc entries d) ≡ Some h
 hit_back passed b entries d h y u n f = rw (u, y) (ap Some hit_is)
   where
     hit_is : record { doc = d.num; first = b } ≡ h
@@ -123,7 +130,8 @@ pub record IsHit (entries : List Entry) (T : Tables) (p : Probe) (b : ℤ) (h : 
 
 module _ (entries : List Entry) (T : Tables) (p : Probe) (b : ℤ) (k : IsProbe p) where
   -- beside rows with which the rest of the path exists and the body is true, the probe finds the document
-  pub pair_finds : (env : Env) (d : Doc) → lookup 0 env ≡ Some (OfDoc d) → HasDriver p env → value p.at env ≡ Some b → Rest T p.path b env → truth T (pos 0) p.body env ≡ true → Finds T d b p
+  pub pair_finds : (env : Env) (d : Doc) → lookup 0 env ≡ Some (OfDoc d) → HasDriver p env → value p.at env ≡ Some b → Rest T p.path b env
+      → truth T (pos 0) p.body env ≡ true → Finds T d b p
   pair_finds env d q dr v x body = record {
     env = x.final;
     rows = λ step i. row step i;
@@ -136,12 +144,15 @@ module _ (entries : List Entry) (T : Tables) (p : Probe) (b : ℤ) (k : IsProbe 
       same j (inl e) = x.same j (ap (is_held env) e ∙ row_held env 0 (OfDoc d) q)
       same j (inr i) = x.same j (dr j i)
 
-      row : (step : Step) → In step p.path → (r : Row) × In r (choices T d step) × (lookup step.var.0 x.final ≡ Some r) × (int_le (arrival r) b ≡ true)
+      row : (step : Step) → In step p.path
+          → (r : Row) × In r (choices T d step) × (lookup step.var.0 x.final ≡ Some r) × (int_le (arrival r) b ≡ true)
       row step i = let y = x.rows step i in (y.0, chosen y.0 y.1 y.2 (cases_Bool (nat_eq step.var.0 0)), y.2, y.3)
         where
-          chosen : (r : Row) → In r (rows_of step.table T) → lookup step.var.0 x.final ≡ Some r → (nat_eq step.var.0 0 ≡ true) ⊎ (nat_eq step.var.0 0 ≡ false) → In r (choices T d step)
+          chosen : (r : Row) → In r (rows_of step.table T) → lookup step.var.0 x.final ≡ Some r
+              → (nat_eq step.var.0 0 ≡ true) ⊎ (nat_eq step.var.0 0 ≡ false) → In r (choices T d step)
           chosen r i l (inl e) =
-              let s : r ≡ OfDoc d = some_same (sym l ∙ ap (λ z. lookup z x.final) (nat_is step.var.0 0 e) ∙ x.same 0 (row_held env 0 (OfDoc d) q) ∙ q) in
+              let s : r ≡ OfDoc d =
+                  some_same (sym l ∙ ap (λ z. lookup z x.final) (nat_is step.var.0 0 e) ∙ x.same 0 (row_held env 0 (OfDoc d) q) ∙ q) in
               rw e (inl s)
           chosen r i l (inr e) = rw e i
 
@@ -151,9 +162,12 @@ module _ (entries : List Entry) (T : Tables) (p : Probe) (b : ℤ) (k : IsProbe 
       let e : x.0 ≡ OfDoc d = some_same (sym x.2 ∙ q) in
       doc_in d T.docs (subst (λ z. In z (map OfDoc T.docs)) e (subst (λ t. In x.0 (rows_of t T)) (asked_table p k) x.1))
 
-  pair_sound : (order : List Reach) (env : Env) (d : Doc) (h : Hit) → lookup 0 env ≡ Some (OfDoc d) → InTables T p.path env → HasDriver p env → value p.at env ≡ Some b → In h (option_to_list (hit_if (holds_here T p b order env) b (new_doc entries d))) → IsHit entries T p b h
+  pair_sound : (order : List Reach) (env : Env) (d : Doc) (h : Hit) → lookup 0 env ≡ Some (OfDoc d) → InTables T p.path env
+      → HasDriver p env → value p.at env ≡ Some b → In h (option_to_list (hit_if (holds_here T p b order env) b (new_doc entries d)))
+      → IsHit entries T p b h
   pair_sound order env d h q t dr v i =
-      let x = hit_parts (holds_here T p b order env) b entries d h (only_one (hit_if (holds_here T p b order env) b (new_doc entries d)) h i) in
+      let x =
+          hit_parts (holds_here T p b order env) b entries d h (only_one (hit_if (holds_here T p b order env) b (new_doc entries d)) h i) in
       let y = and_parts (rest_of T p.path b order env) (truth T (pos 0) p.body env) x.0 in
       record {
         doc = d;
@@ -164,7 +178,8 @@ module _ (entries : List Entry) (T : Tables) (p : Probe) (b : ℤ) (k : IsProbe 
         finds = pair_finds env d q dr v (rest_sound T p.path b k.once k.guards order env t y.0) y.1;
       }
 
-  pub hits_sound : (order : List Reach) (env : Env) (h : Hit) → InTables T p.path env → HasDriver p env → value p.at env ≡ Some b → In h (hits_over entries T p b order env) → IsHit entries T p b h
+  pub hits_sound : (order : List Reach) (env : Env) (h : Hit) → InTables T p.path env → HasDriver p env → value p.at env ≡ Some b
+      → In h (hits_over entries T p b order env) → IsHit entries T p b h
   hits_sound [] env h t dr v i = go (lookup 0 env) refl i
     where
       go : (o : Option Row) → lookup 0 env ≡ o → In h (asked_or entries T p b [] env o []) → IsHit entries T p b h
@@ -174,17 +189,22 @@ module _ (entries : List Entry) (T : Tables) (p : Probe) (b : ℤ) (k : IsProbe 
   hits_sound (x ∷ rs) env h t dr v i = go (λ e. hits_sound rs e h) (lookup 0 env) refl i
     where
       More : Type 0
-      More = (e : Env) → InTables T p.path e → HasDriver p e → value p.at e ≡ Some b → In h (hits_over entries T p b rs e) → IsHit entries T p b h
+      More = (e : Env) → InTables T p.path e → HasDriver p e → value p.at e ≡ Some b → In h (hits_over entries T p b rs e)
+          → IsHit entries T p b h
 
-      next : More → (o : Option Reach) → further p.path b env ≡ o → In h (over_rows T b env o (λ r row. hits_over entries T p b rs (bind r.var row env))) → IsHit entries T p b h
+      next : More → (o : Option Reach) → further p.path b env ≡ o
+          → In h (over_rows T b env o (λ r row. hits_over entries T p b rs (bind r.var row env))) → IsHit entries T p b h
       next more None e i = absurd i
       next more (Some r) e i =
           let n = nearest_serves p.path env r (further_is p.path b env r e).1 in
           let y = from_flat (λ row. hits_over entries T p b rs (bind r.var row env)) (rows_by b r.access env T) h i in
-          more (bind r.var y.0 env) (in_tables T p.path b k.once env r y.0 t (walked_row T p.path b k.once env r y.0 n y.1)) (λ j z. held_more env r.var y.0 j (dr j z))
-          (value_same (base_vars p.at.base) env (bind r.var y.0 env) (λ j z. kept_on T p.path b k.once env r y.0 n j (dr j z)) p.at (base_own p.at.base) ∙ v) y.2
+          more (bind r.var y.0 env) (in_tables T p.path b k.once env r y.0 t (walked_row T p.path b k.once env r y.0 n y.1)) (λ j z.
+            held_more env r.var y.0 j (dr j z))
+          (value_same (base_vars p.at.base) env (bind r.var y.0 env) (λ j z. kept_on T p.path b k.once env r y.0 n j (dr j z))
+              p.at (base_own p.at.base) ∙ v) y.2
 
-      go : More → (o : Option Row) → lookup 0 env ≡ o → In h (asked_or entries T p b (x ∷ rs) env o (over_rows T b env (further p.path b env) (λ r row. hits_over entries T p b rs (bind r.var row env)))) → IsHit entries T p b h
+      go : More → (o : Option Row) → lookup 0 env ≡ o → In h (asked_or entries T p b (x ∷ rs) env o
+            (over_rows T b env (further p.path b env) (λ r row. hits_over entries T p b rs (bind r.var row env)))) → IsHit entries T p b h
       go more None q i = next more (further p.path b env) refl i
       go more (Some (OfDoc d)) q i = pair_sound (x ∷ rs) env d h q t dr v i
       go more (Some (OfNote n)) q i = absurd i
@@ -202,10 +222,12 @@ module _ (entries : List Entry) (T : Tables) (p : Probe) (b : ℤ) (k : IsProbe 
         ap (λ z. lookup z f.env) s.2 ∙ x.2 ∙ ap Some (only x.0 (OfDoc d) (rw (is_nat s.0.var.0 0 (sym s.2)) at x.1))
 
     -- the rows of the steps
-    pub found_rows : (step : Step) → In step p.path → (r : Row) × In r (rows_of step.table T) × (lookup step.var.0 f.env ≡ Some r) × (int_le (arrival r) b ≡ true)
+    pub found_rows : (step : Step) → In step p.path
+        → (r : Row) × In r (rows_of step.table T) × (lookup step.var.0 f.env ≡ Some r) × (int_le (arrival r) b ≡ true)
     found_rows step i = let x = f.rows step i in (x.0, within x.0 x.1 (cases_Bool (nat_eq step.var.0 0)), x.2, x.3)
       where
-        within : (r : Row) → In r (choices T d step) → (nat_eq step.var.0 0 ≡ true) ⊎ (nat_eq step.var.0 0 ≡ false) → In r (rows_of step.table T)
+        within : (r : Row) → In r (choices T d step) → (nat_eq step.var.0 0 ≡ true) ⊎ (nat_eq step.var.0 0 ≡ false)
+            → In r (rows_of step.table T)
         within r c (inl e) =
             let q = only r (OfDoc d) (rw e at c) in
             let z = nat_is step.var.0 0 e in
@@ -217,20 +239,26 @@ module _ (entries : List Entry) (T : Tables) (p : Probe) (b : ℤ) (k : IsProbe 
     pub finds_rest : (env : Env) → AreSame (is_held env) env f.env → Rest T p.path b env
     finds_rest env same = record { final = f.env; same = same; rows = λ step i. found_rows step i; guards = f.guards }
 
-    pair_complete : (order : List Reach) (env : Env) (row : Row) (h : Hit) → was_seen entries d ≡ false → h.doc ≡ d.num → h.first ≡ b → lookup 0 env ≡ Some row → AreSame (is_held env) env f.env → come_by b env ≡ true → left_of p.path env ≤ length order → HasDriver p env
+    pair_complete : (order : List Reach) (env : Env) (row : Row) (h : Hit) → was_seen entries d ≡ false → h.doc ≡ d.num → h.first ≡ b
+        → lookup 0 env ≡ Some row → AreSame (is_held env) env f.env → come_by b env ≡ true → left_of p.path env ≤ length order
+        → HasDriver p env
         → In h (hits_over entries T p b order env)
     pair_complete order env row h u n first q same c l dr =
         let is : Some row ≡ Some (OfDoc d) = sym q ∙ sym (same 0 (row_held env 0 row q)) ∙ asked_row in
         let own = q ∙ is in
         let rest = rest_complete T p.path b k.once order env c l (finds_rest env same) in
-        let body : truth T (pos 0) p.body env ≡ true = sym (truth_same T (pos 0) p.body (0 ∷ base_vars p.at.base) env f.env k.body (agree own)) ∙ f.body in
-        subst (In h) (sym (doc_hits entries T p b order env d own)) (one_only (hit_if (holds_here T p b order env) b (new_doc entries d)) h (hit_back (holds_here T p b order env) b entries d h (and_from _ _ rest body) u n first))
+        let body : truth T (pos 0) p.body env ≡ true =
+            sym (truth_same T (pos 0) p.body (0 ∷ base_vars p.at.base) env f.env k.body (agree own)) ∙ f.body in
+        subst (In h) (sym (doc_hits entries T p b order env d own)) (one_only (hit_if (holds_here T p b order env) b (new_doc entries d)) h
+            (hit_back (holds_here T p b order env) b entries d h (and_from _ _ rest body) u n first))
       where
         agree : lookup 0 env ≡ Some (OfDoc d) → Same (0 ∷ base_vars p.at.base) env f.env
         agree own j (inl e) = same j (ap (is_held env) e ∙ row_held env 0 (OfDoc d) own)
         agree own j (inr i) = same j (dr j i)
 
-    pub hits_complete : (order : List Reach) (env : Env) (h : Hit) → was_seen entries d ≡ false → h.doc ≡ d.num → h.first ≡ b → AreSame (is_held env) env f.env → come_by b env ≡ true → left_of p.path env ≤ length order → HasDriver p env → In h (hits_over entries T p b order env)
+    pub hits_complete : (order : List Reach) (env : Env) (h : Hit) → was_seen entries d ≡ false → h.doc ≡ d.num → h.first ≡ b
+        → AreSame (is_held env) env f.env → come_by b env ≡ true → left_of p.path env ≤ length order → HasDriver p env
+        → In h (hits_over entries T p b order env)
     unfolding finds_rest
     hits_complete [] env h u n first same c l dr = go (lookup 0 env) refl
       where
@@ -240,21 +268,26 @@ module _ (entries : List Entry) (T : Tables) (p : Probe) (b : ℤ) (k : IsProbe 
           where
             none : (o : Option Reach) → nearest p.path env ≡ o → In h (hits_over entries T p b [] env)
             none (Some r) e = absurd (some_left T p.path b k.once env r (nearest_serves p.path env r e) l)
-            none None e = let s = map_in (λ (s : Step). s.var.0) p.path 0 (asked_in p k) in absurd (false≢true (sym (not_held env 0 q) ∙ ap (is_held env) s.2 ∙ nearest_is_none p.path env e s.0 s.1))
+            none None e =
+                let s = map_in (λ (s : Step). s.var.0) p.path 0 (asked_in p k) in
+                absurd (false≢true (sym (not_held env 0 q) ∙ ap (is_held env) s.2 ∙ nearest_is_none p.path env e s.0 s.1))
     hits_complete (x ∷ rs) env h u n first same c l dr = go (λ e. hits_complete rs e h u n first) (lookup 0 env) refl
       where
         less : (a b n : ℕ) → a < b → b ≤ suc n → a ≤ n
         less a b n h k = omega (arith, h, k)
 
         More : Type 0
-        More = (e : Env) → AreSame (is_held e) e f.env → come_by b e ≡ true → left_of p.path e ≤ length rs → HasDriver p e → In h (hits_over entries T p b rs e)
+        More = (e : Env) → AreSame (is_held e) e f.env → come_by b e ≡ true → left_of p.path e ≤ length rs → HasDriver p e
+            → In h (hits_over entries T p b rs e)
 
         go : More → (o : Option Row) → lookup 0 env ≡ o → In h (hits_over entries T p b (x ∷ rs) env)
         go more (Some row) q = pair_complete (x ∷ rs) env row h u n first q same c l dr
         go more None q = next (nearest p.path env) refl
           where
             next : (o : Option Reach) → nearest p.path env ≡ o → In h (hits_over entries T p b (x ∷ rs) env)
-            next None e = let s = map_in (λ (s : Step). s.var.0) p.path 0 (asked_in p k) in absurd (false≢true (sym (not_held env 0 q) ∙ ap (is_held env) s.2 ∙ nearest_is_none p.path env e s.0 s.1))
+            next None e =
+                let s = map_in (λ (s : Step). s.var.0) p.path 0 (asked_in p k) in
+                absurd (false≢true (sym (not_held env 0 q) ∙ ap (is_held env) s.2 ∙ nearest_is_none p.path env e s.0 s.1))
             next (Some r) e =
                 let near = nearest_serves p.path env r e in
                 let rest = finds_rest env same in
@@ -262,4 +295,5 @@ module _ (entries : List Entry) (T : Tables) (p : Probe) (b : ℤ) (k : IsProbe 
                 let on = is_further p.path b env r (may_go_on T p.path b k.once env c rest) e in
                 subst (In h) (sym (next_hits entries T p b x rs env r q on))
                 (to_flat (λ row. hits_over entries T p b rs (bind r.var row env)) (rows_by b r.access env T) z.0 h z.1
-                (more (bind r.var z.0 env) (same_bound env f.env r.var z.0 same z.2) (and_from _ _ z.3 c) (less _ _ _ (fewer_left T p.path b k.once env r z.0 near) l) (λ j i. held_more env r.var z.0 j (dr j i))))
+                (more (bind r.var z.0 env) (same_bound env f.env r.var z.0 same z.2) (and_from _ _ z.3 c)
+                  (less _ _ _ (fewer_left T p.path b k.once env r z.0 near) l) (λ j i. held_more env r.var z.0 j (dr j i))))

@@ -17,11 +17,13 @@ use Rattle.probe_eval.specs.Nexts.{IsNearestIfKnown}
 
 module _ (path : List Step) (known : ℕ → Bool) where
   near_known : Step → Option Access
-  near_known step = first_some (λ kind. first_some (λ (s : Step). first_some (guard_access known step.var kind) s.guards) path) (near_kinds step.table)
+  near_known step =
+      first_some (λ kind. first_some (λ (s : Step). first_some (guard_access known step.var kind) s.guards) path) (near_kinds step.table)
 
   nearest_known : Option Reach
   nearest_known =
-      option_or (first_some (λ (step : Step). if known step.var.0 then None else option_map (reach_of step) (from_row (near_known step))) path)
+      option_or
+          (first_some (λ (step : Step). if known step.var.0 then None else option_map (reach_of step) (from_row (near_known step))) path)
       (option_or (first_some (λ (step : Step). if known step.var.0 then None else option_map (reach_of step) (near_known step)) path)
       (first_some (λ (step : Step). if known step.var.0 then None else Some (reach_of step (whole step.table))) path))
 
@@ -47,6 +49,7 @@ nearest_alike : (path : List Step) (v : Var) (row other : Row) (env : Env) → n
 nearest_alike path v row other env = nearest_held path (bind v row env) (bind v other env) (held_alike v row other env)
 
 -- so what was found beside one row of a variable serves beside each other
-pub next_alike : (path : List Step) (v : Var) (row other : Row) (env : Env) (next : Next) → IsNearestIfKnown path (bind v row env) next → IsNearestIfKnown path (bind v other env) next
+pub next_alike : (path : List Step) (v : Var) (row other : Row) (env : Env) (next : Next) → IsNearestIfKnown path (bind v row env) next
+    → IsNearestIfKnown path (bind v other env) next
 next_alike path v row other env Unknown h = h
 next_alike path v row other env (Known reach) h = h ∙ nearest_alike path v row other env

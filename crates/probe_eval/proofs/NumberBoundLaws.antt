@@ -14,7 +14,8 @@ use Rattle.probe_eval.specs.declared.side.Side.TheVariants.{Above, Below}
 use Rattle.probe_eval.specs.NumberBounds.{RulesOut}
 
 -- what a bound rules out of a test it rules out of each test that is false where this one is
-ruled_by : (side : Side) (num : ℕ) (test other : Doc → Bool) → ((d : Doc) → test d ≡ false → other d ≡ false) → RulesOut side test num → RulesOut side other num
+ruled_by : (side : Side) (num : ℕ) (test other : Doc → Bool) → ((d : Doc) → test d ≡ false → other d ≡ false) → RulesOut side test num
+    → RulesOut side other num
 ruled_by Above num test other by h = λ d l. by d (h d l)
 ruled_by Below num test other by h = λ d l. by d (h d l)
 
@@ -36,9 +37,12 @@ module _ (side : Side) (v : Var) (env : Env) (x l r : Condition) (is : x ≡ All
 
   -- a bound by the first of two conditions that both have to hold is one by both
   pub left_rules : (num : DocNum) → ((T : Tables) → RulesOut side (with_doc l T) num.0) → (T : Tables) → RulesOut side (with_doc x T) num.0
-  left_rules num h T = ruled_by side num.0 (with_doc l T) (with_doc x T) (λ d e. parts T d ∙ not_first (with_doc l T d) (with_doc r T d) e) (h T)
+  left_rules num h T =
+      ruled_by side num.0 (with_doc l T) (with_doc x T) (λ d e. parts T d ∙ not_first (with_doc l T d) (with_doc r T d) e) (h T)
 
   -- and so is one by the second
-  pub right_rules : (o : Option DocNum) → IfSome o (λ num. (T : Tables) → RulesOut side (with_doc r T) num.0) → IfSome o (λ num. (T : Tables) → RulesOut side (with_doc x T) num.0)
+  pub right_rules : (o : Option DocNum) → IfSome o (λ num. (T : Tables) → RulesOut side (with_doc r T) num.0)
+      → IfSome o (λ num. (T : Tables) → RulesOut side (with_doc x T) num.0)
   right_rules None h = tt
-  right_rules (Some num) h = λ T. ruled_by side num.0 (with_doc r T) (with_doc x T) (λ d e. parts T d ∙ not_second (with_doc l T d) (with_doc r T d) e) (h T)
+  right_rules (Some num) h =
+      λ T. ruled_by side num.0 (with_doc r T) (with_doc x T) (λ d e. parts T d ∙ not_second (with_doc l T d) (with_doc r T d) e) (h T)

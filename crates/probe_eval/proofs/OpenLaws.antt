@@ -15,7 +15,8 @@ use Rattle.tql_core.specs.declared.atom.Atom.TheVariants.{Numbers, Texts, Times,
 use Rattle.tql_core.specs.Row.{Row, date, arrival}
 use Rattle.tql_core.specs.Scope.{BaseIn, NumIn, TextIn, AtomIn}
 use Rattle.tap_rows.specs.Kept.{In}
-use Rattle.tql_core.specs.Values.{Env, bind, lookup, on_row, round_up_to_day, day_of, base_value, plus_to, value, field, number, text_field, text, true_atom}
+use Rattle.tql_core.specs.Values.{Env, bind, lookup, on_row, round_up_to_day, day_of, base_value, plus_to, value, field, number, text_field}
+use Rattle.tql_core.specs.Values.{text, true_atom}
 use Rattle.time_marks.specs.declared.mark.Step.{Step}
 use Rattle.time_marks.proofs.Lists.{all_in}
 use Rattle.time_marks.proofs.Envs.{bind_same, bind_other}
@@ -48,7 +49,8 @@ pub not_held : (env : Env) (k : ℕ) → lookup k env ≡ None → is_held env k
 not_held env k e = ap is_some e
 
 -- binding a row of the end keeps what agrees with it
-pub same_bound : (env final : Env) (v : Var) (row : Row) → AreSame (is_held env) env final → lookup v.0 final ≡ Some row → AreSame (is_held (bind v row env)) (bind v row env) final
+pub same_bound : (env final : Env) (v : Var) (row : Row) → AreSame (is_held env) env final → lookup v.0 final ≡ Some row
+    → AreSame (is_held (bind v row env)) (bind v row env) final
 same_bound env final v row same e k h =
     elim (cases_eq k v.0) [
       | inl q ↦ subst (λ j. lookup j final ≡ lookup j (bind v row env)) (sym q) (e ∙ sym (bind_same v row env))
@@ -90,8 +92,10 @@ module _ (env final : Env) (h : AreSame (is_held env) env final) where
   ]
 
   -- guards that are true in the end are open before
-  pub stays_open : (path : List Step) → ((step : Step) → In step path → (a : Atom) → In a step.guards → true_atom a final ≡ true) → path_open path env ≡ true
-  stays_open path g = all_from (λ (step : Step). are_open env step.guards) path (λ step i. all_from (may_hold env) step.guards (λ a j. open_one a (g step i a j)))
+  pub stays_open : (path : List Step) → ((step : Step) → In step path → (a : Atom) → In a step.guards → true_atom a final ≡ true)
+      → path_open path env ≡ true
+  stays_open path g = all_from (λ (step : Step). are_open env step.guards) path (λ step i. all_from (may_hold env) step.guards (λ a j.
+      open_one a (g step i a j)))
 
 -- if each variable that is named has a row, a guard can be evaluated
 module _ (env : Env) (scope : List ℕ) (h : (k : ℕ) → In k scope → is_held env k ≡ true) where
@@ -120,5 +124,7 @@ module _ (env : Env) (scope : List ℕ) (h : (k : ℕ) → In k scope → is_hel
   open_true a i o = let y = held_atom a i in rw y at o
 
   -- open guards are then true
-  pub all_true : (path : List Step) → ((step : Step) → In step path → (a : Atom) → In a step.guards → AtomIn scope a) → path_open path env ≡ true → (step : Step) → In step path → (a : Atom) → In a step.guards → true_atom a env ≡ true
-  all_true path s o step i a j = open_true a (s step i a j) (all_in (may_hold env) step.guards a (all_in (λ (step : Step). are_open env step.guards) path step o i) j)
+  pub all_true : (path : List Step) → ((step : Step) → In step path → (a : Atom) → In a step.guards → AtomIn scope a)
+      → path_open path env ≡ true → (step : Step) → In step path → (a : Atom) → In a step.guards → true_atom a env ≡ true
+  all_true path s o step i a j =
+      open_true a (s step i a j) (all_in (may_hold env) step.guards a (all_in (λ (step : Step). are_open env step.guards) path step o i) j)

@@ -1,5 +1,6 @@
 -- The search for the rest of a path finds it if and only if it exists.
-use Rattle.std.proofs.Common.{◌≡◌, ◌∙◌, ℕ, suc, ◌≤◌, ◌<◌, ℤ, true, false, not, Option, Some, None, List, [], ◌∷◌, length, refl, sym, ap, subst, inl, inr, arith}
+use Rattle.std.proofs.Common.{◌≡◌, ◌∙◌, ℕ, suc, ◌≤◌, ◌<◌, ℤ, true, false, not, Option, Some, None, List, [], ◌∷◌, length, refl, sym, ap}
+use Rattle.std.proofs.Common.{subst, inl, inr, arith}
 use Rattle.std.specs.Prelude.{◌⊎◌, int_le}
 use Rattle.std.specs.List.{list_any}
 use Rattle.std.proofs.lemmas.Bool.{cases_Bool, cases_eq, and_parts, and_from, false≢true}
@@ -37,18 +38,23 @@ module _ (T : Tables) (path : List Step) (b : ℤ) (once : Distinct (vars_of pat
 
   -- the rows that a reach gives are rows of its step's table
   pub reach_rows : (env : Env) (r : Reach) → IsNearest path env r → table_of r.access ≡ table_in path r.var.0
-  reach_rows env r k = nearest_keeps_table path env r k ∙ k.table ∙ sym (table_is path k.step once k.is_step) ∙ ap (λ (v : Var). table_in path v.0) (sym k.var)
+  reach_rows env r k = nearest_keeps_table path env r k ∙ k.table ∙ sym (table_is path k.step once k.is_step)
+      ∙ ap (λ (v : Var). table_in path v.0) (sym k.var)
 
-  pub walked_row : (env : Env) (r : Reach) (row : Row) → IsNearest path env r → In row (rows_by b r.access env T) → In row (rows_of (table_in path r.var.0) T)
+  pub walked_row : (env : Env) (r : Reach) (row : Row) → IsNearest path env r → In row (rows_by b r.access env T)
+      → In row (rows_of (table_in path r.var.0) T)
   walked_row env r row k i = subst (λ t. In row (rows_of t T)) (reach_rows env r k) (in_rows env T row b r.access i)
 
-  pub in_tables : (env : Env) (r : Reach) (row : Row) → InTables T path env → In row (rows_of (table_in path r.var.0) T) → InTables T path (bind r.var row env)
+  pub in_tables : (env : Env) (r : Reach) (row : Row) → InTables T path env → In row (rows_of (table_in path r.var.0) T)
+      → InTables T path (bind r.var row env)
   in_tables env r row t i k j h = go (held_was env r.var row k h)
     where
       at : k ≡ r.var.0 → (row' : Row) × In row' (rows_of (table_in path k) T) × (lookup k (bind r.var row env) ≡ Some row')
-      at e = (row, subst (λ z. In row (rows_of (table_in path z) T)) (sym e) i, ap (λ z. lookup z (bind r.var row env)) e ∙ bind_same r.var row env)
+      at e = (row, subst (λ z. In row (rows_of (table_in path z) T)) (sym e) i, ap (λ z. lookup z (bind r.var row env)) e
+            ∙ bind_same r.var row env)
 
-      go : (k ≡ r.var.0) ⊎ (is_held env k ≡ true) → (row' : Row) × In row' (rows_of (table_in path k) T) × (lookup k (bind r.var row env) ≡ Some row')
+      go : (k ≡ r.var.0) ⊎ (is_held env k ≡ true)
+          → (row' : Row) × In row' (rows_of (table_in path k) T) × (lookup k (bind r.var row env) ≡ Some row')
       go (inl e) = at e
       go (inr y) = elim (cases_eq k r.var.0) [ inl e ↦ at e | inr n ↦ let x = t k j y in (x.0, x.1, bind_other k r.var row env n ∙ x.2) ]
 
@@ -57,11 +63,13 @@ module _ (T : Tables) (path : List Step) (b : ℤ) (once : Distinct (vars_of pat
   fresh_var env r k = ap (λ (v : Var). is_held env v.0) k.var ∙ k.fresh
 
   -- what is held stays as it is
-  pub kept_on : (env : Env) (r : Reach) (row : Row) → IsNearest path env r → (k : ℕ) → is_held env k ≡ true → lookup k (bind r.var row env) ≡ lookup k env
+  pub kept_on : (env : Env) (r : Reach) (row : Row) → IsNearest path env r → (k : ℕ) → is_held env k ≡ true
+      → lookup k (bind r.var row env) ≡ lookup k env
   kept_on env r row n k h = bind_other k r.var row env (λ e. false≢true (sym (fresh_var env r n) ∙ ap (is_held env) (sym e) ∙ h))
 
   -- a row that serves in the end is walked
-  pub walks_row : (env final : Env) (r : Reach) (row : Row) → IsNearest path env r → AreSame (is_held env) env final → lookup r.var.0 final ≡ Some row → In row (rows_of (table_in path r.var.0) T) → int_le (arrival row) b ≡ true
+  pub walks_row : (env final : Env) (r : Reach) (row : Row) → IsNearest path env r → AreSame (is_held env) env final
+      → lookup r.var.0 final ≡ Some row → In row (rows_of (table_in path r.var.0) T) → int_le (arrival row) b ≡ true
       → ((step : Step) → In step path → (a : Atom) → In a step.guards → true_atom a final ≡ true) → In row (rows_by b r.access env T)
   walks_row env final r row k same e i c g =
       let a : admits r.access env row ≡ true = nearest_admits path env final r row k same e g in
@@ -102,7 +110,8 @@ module _ (T : Tables) (path : List Step) (b : ℤ) (once : Distinct (vars_of pat
         held : (k : ℕ) → In k (vars_of path) → is_held env k ≡ true
         held k i = let s = map_in (λ (s : Step). s.var.0) path k i in ap (is_held env) s.2 ∙ all_held s.0 s.1
 
-        row : come_by b env ≡ true → (step : Step) → In step path → (r : Row) × In r (rows_of step.table T) × (lookup step.var.0 env ≡ Some r) × (int_le (arrival r) b ≡ true)
+        row : come_by b env ≡ true → (step : Step) → In step path
+            → (r : Row) × In r (rows_of step.table T) × (lookup step.var.0 env ≡ Some r) × (int_le (arrival r) b ≡ true)
         row c step i =
             let x = t step.var.0 (step_var step i) (all_held step i) in
             (x.0, subst (λ z. In x.0 (rows_of z T)) (table_is path step once i) x.1, x.2, lookup_come b env step.var.0 x.0 c x.2)
@@ -117,17 +126,22 @@ module _ (T : Tables) (path : List Step) (b : ℤ) (once : Distinct (vars_of pat
     }
 
     pub rest_sound : (order : List Reach) (env : Env) → InTables T path env → rest_of T path b order env ≡ true → Rest T path b env
-    rest_sound [] env t h = let p = and_parts (may_go path b env) (all_or (nearest path env) (λ r. false)) h in go (nearest path env) refl p.0 p.1
+    rest_sound [] env t h =
+        let p = and_parts (may_go path b env) (all_or (nearest path env) (λ r. false)) h in
+        go (nearest path env) refl p.0 p.1
       where
         go : (o : Option Reach) → nearest path env ≡ o → may_go path b env ≡ true → all_or o (λ r. false) ≡ true → Rest T path b env
         go None e m h = there env t m e
         go (Some r) e m h = absurd (false≢true h)
     rest_sound (x ∷ rs) env t h =
-        let p = and_parts (may_go path b env) (all_or (nearest path env) (λ r. list_any (λ row. rest_of T path b rs (bind r.var row env)) (rows_by b r.access env T))) h in
+        let p = and_parts (may_go path b env)
+            (all_or (nearest path env) (λ r. list_any (λ row. rest_of T path b rs (bind r.var row env)) (rows_by b r.access env T))) h in
         go (λ e. rest_sound rs e) (nearest path env) refl p.0 p.1
       where
-        go : ((e : Env) → InTables T path e → rest_of T path b rs e ≡ true → Rest T path b e) → (o : Option Reach) → nearest path env ≡ o → may_go path b env ≡ true
-            → all_or o (λ r. list_any (λ row. rest_of T path b rs (bind r.var row env)) (rows_by b r.access env T)) ≡ true → Rest T path b env
+        go : ((e : Env) → InTables T path e → rest_of T path b rs e ≡ true → Rest T path b e) → (o : Option Reach) → nearest path env ≡ o
+            → may_go path b env ≡ true
+            → all_or o (λ r. list_any (λ row. rest_of T path b rs (bind r.var row env)) (rows_by b r.access env T)) ≡ true
+                → Rest T path b env
         go more None e m h = there env t m e
         go more (Some r) e m h =
             let k = nearest_serves path env r e in
@@ -135,21 +149,25 @@ module _ (T : Tables) (path : List Step) (b : ℤ) (once : Distinct (vars_of pat
             beside env r y.0 k (more (bind r.var y.0 env) (in_tables env r y.0 t (walked_row env r y.0 k y.1)) y.2)
 
   -- the rest goes on from one of its rows
-  goes_on : (env : Env) (r : Reach) (row : Row) (x : Rest T path b env) → lookup r.var.0 x.final ≡ Some row → Rest T path b (bind r.var row env)
+  goes_on : (env : Env) (r : Reach) (row : Row) (x : Rest T path b env) → lookup r.var.0 x.final ≡ Some row
+      → Rest T path b (bind r.var row env)
   goes_on env r row x e = record { final = x.final; same = same_bound env x.final r.var row x.same e; rows = x.rows; guards = x.guards }
 
   pub may_go_on : (env : Env) → come_by b env ≡ true → Rest T path b env → may_go path b env ≡ true
   may_go_on env c x = and_from _ _ c (stays_open env x.final x.same path x.guards)
 
   -- the row of the next step
-  pub next_row : (env : Env) (r : Reach) (k : IsNearest path env r) (x : Rest T path b env) → (row : Row) × In row (rows_by b r.access env T) × (lookup r.var.0 x.final ≡ Some row) × (int_le (arrival row) b ≡ true)
+  pub next_row : (env : Env) (r : Reach) (k : IsNearest path env r) (x : Rest T path b env)
+      → (row : Row) × In row (rows_by b r.access env T) × (lookup r.var.0 x.final ≡ Some row) × (int_le (arrival row) b ≡ true)
   next_row env r k x =
       let y = x.rows k.step k.is_step in
       let e : lookup r.var.0 x.final ≡ Some y.0 = ap (λ (v : Var). lookup v.0 x.final) k.var ∙ y.2 in
-      let i : In y.0 (rows_of (table_in path r.var.0) T) = subst (λ (v : Var). In y.0 (rows_of (table_in path v.0) T)) (sym k.var) (subst (λ t. In y.0 (rows_of t T)) (sym (table_is path k.step once k.is_step)) y.1) in
+      let i : In y.0 (rows_of (table_in path r.var.0) T) = subst (λ (v : Var). In y.0 (rows_of (table_in path v.0) T)) (sym k.var)
+          (subst (λ t. In y.0 (rows_of t T)) (sym (table_is path k.step once k.is_step)) y.1) in
       (y.0, walks_row env x.final r y.0 k x.same e i y.3 x.guards, e, y.3)
 
-  pub rest_complete : (order : List Reach) (env : Env) → come_by b env ≡ true → left_of path env ≤ length order → Rest T path b env → rest_of T path b order env ≡ true
+  pub rest_complete : (order : List Reach) (env : Env) → come_by b env ≡ true → left_of path env ≤ length order → Rest T path b env
+      → rest_of T path b order env ≡ true
   rest_complete [] env c l x = and_from _ _ (may_go_on env c x) (go (nearest path env) refl)
     where
       go : (o : Option Reach) → nearest path env ≡ o → all_or o (λ r. false) ≡ true
@@ -160,7 +178,8 @@ module _ (T : Tables) (path : List Step) (b : ℤ) (once : Distinct (vars_of pat
       less : (a b n : ℕ) → a < b → b ≤ suc n → a ≤ n
       less a b n h k = omega (arith, h, k)
 
-      go : ((e : Env) → come_by b e ≡ true → left_of path e ≤ length rs → Rest T path b e → rest_of T path b rs e ≡ true) → (o : Option Reach) → nearest path env ≡ o
+      go : ((e : Env) → come_by b e ≡ true → left_of path e ≤ length rs → Rest T path b e → rest_of T path b rs e ≡ true)
+          → (o : Option Reach) → nearest path env ≡ o
           → all_or o (λ r. list_any (λ row. rest_of T path b rs (bind r.var row env)) (rows_by b r.access env T)) ≡ true
       go more None e = refl
       go more (Some r) e =
@@ -170,4 +189,5 @@ module _ (T : Tables) (path : List Step) (b : ℤ) (once : Distinct (vars_of pat
           (more (bind r.var z.0 env) (and_from _ _ z.3 c) (less _ _ _ (fewer_left env r z.0 k) l) (goes_on env r z.0 x z.2))
 
 pub rests_are_found : RestsAreFound
-rests_are_found T path b order env once scoped t c l = ((λ h. rest_sound T path b once scoped order env t h), (λ x. rest_complete T path b once order env c l x))
+rests_are_found T path b order env once scoped t c l =
+    ((λ h. rest_sound T path b once scoped order env t h), (λ x. rest_complete T path b once order env c l x))

@@ -22,9 +22,11 @@ module _ (T : Tables) (path : List Step) (b : ℤ) where
   all_there (x ∷ rs) env h n = rw (h, n) refl
 
   -- if there is a rest beside rows that may go on, there is one if and only if they may
-  pub sure_rest : (order : List Reach) (env : Env) → (may_go path b env ≡ true → rest_of T path b order env ≡ true) → may_go path b env ≡ rest_of T path b order env
+  pub sure_rest : (order : List Reach) (env : Env) → (may_go path b env ≡ true → rest_of T path b order env ≡ true)
+      → may_go path b env ≡ rest_of T path b order env
   sure_rest order env h = elim (cases_Bool (may_go path b env)) [ inl y ↦ y ∙ sym (h y) | inr n ↦ n ∙ stopped order env n ]
 
 -- the row that was handed out has no rest
-pub any_step : {A : Type 0} (f : A → Bool) (whole : Bool) (rows left : List A) (r : A) → whole ≡ list_any f rows → rows ≡ r ∷ left → f r ≡ false → whole ≡ list_any f left
+pub any_step : {A : Type 0} (f : A → Bool) (whole : Bool) (rows left : List A) (r : A) → whole ≡ list_any f rows → rows ≡ r ∷ left
+    → f r ≡ false → whole ≡ list_any f left
 any_step f whole rows left r h e d = h ∙ (ap (list_any f) e ∙ ap (λ b. b || list_any f left) d)

@@ -1,5 +1,6 @@
 -- One turn of a loop over rows, and the items at places of a list.
-use Rattle.std.proofs.Common.{◌≡◌, ◌∙◌, ◌+◌, ◌≤◌, ◌||◌, ℕ, zero, suc, Bool, false, Some, drop, List, [], ◌∷◌, refl, sym, ap, subst, inl, inr, arith}
+use Rattle.std.proofs.Common.{◌≡◌, ◌∙◌, ◌+◌, ◌≤◌, ◌||◌, ℕ, zero, suc, Bool, false, Some, drop, List, [], ◌∷◌, refl, sym, ap, subst, inl}
+use Rattle.std.proofs.Common.{inr, arith}
 use Rattle.std.specs.Prelude.{◌<◌, length, slice_get, slice_index_or}
 use Rattle.tap_rows.specs.Kept.{In}
 use Rattle.probe_eval.specs.Work.{total}
@@ -7,26 +8,31 @@ use Rattle.probe_eval.specs.Rests.{until}
 
 module _ {A : Type 0} where
   -- the steps of the row that was handed out are taken
-  pub cost_step : (cost : A → ℕ) (s next now bound : ℕ) (rows left : List A) (r : A) → s + total (λ x. 1 + cost x) rows ≤ bound → rows ≡ r ∷ left → next ≡ s + 1 → now ≤ next + cost r → now + total (λ x. 1 + cost x) left ≤ bound
+  pub cost_step : (cost : A → ℕ) (s next now bound : ℕ) (rows left : List A) (r : A) → s + total (λ x. 1 + cost x) rows ≤ bound
+      → rows ≡ r ∷ left → next ≡ s + 1 → now ≤ next + cost r → now + total (λ x. 1 + cost x) left ≤ bound
   cost_step cost s next now bound rows left r h e n c =
       let k : s + (1 + cost r + total (λ x. 1 + cost x) left) ≤ bound = subst (λ z. s + total (λ x. 1 + cost x) z ≤ bound) e h in
       omega (arith, k, n, c)
 
   -- the same of a walk that stops at the first row of which f is true, if it goes on
-  pub until_step : (cost : A → ℕ) (f : A → Bool) (s next now bound : ℕ) (rows left : List A) (r : A) → s + total (λ x. 1 + cost x) (until f rows) ≤ bound → rows ≡ r ∷ left → f r ≡ false → next ≡ s + 1 → now ≤ next + cost r → now + total (λ x. 1 + cost x) (until f left) ≤ bound
+  pub until_step : (cost : A → ℕ) (f : A → Bool) (s next now bound : ℕ) (rows left : List A) (r : A)
+      → s + total (λ x. 1 + cost x) (until f rows) ≤ bound → rows ≡ r ∷ left → f r ≡ false → next ≡ s + 1 → now ≤ next + cost r
+      → now + total (λ x. 1 + cost x) (until f left) ≤ bound
   until_step cost f s next now bound rows left r h e q n c =
       let k : s + total (λ x. 1 + cost x) (until f (r ∷ left)) ≤ bound = subst (λ z. s + total (λ x. 1 + cost x) (until f z) ≤ bound) e h in
       let m : s + (1 + cost r + total (λ x. 1 + cost x) (until f left)) ≤ bound = rw q at k in
       omega (arith, m, n, c)
 
   -- and if it stops there
-  pub until_end : (cost : A → ℕ) (f : A → Bool) (s next now bound : ℕ) (rows left : List A) (r : A) → s + total (λ x. 1 + cost x) (until f rows) ≤ bound → rows ≡ r ∷ left → next ≡ s + 1 → now ≤ next + cost r → now ≤ bound
+  pub until_end : (cost : A → ℕ) (f : A → Bool) (s next now bound : ℕ) (rows left : List A) (r : A)
+      → s + total (λ x. 1 + cost x) (until f rows) ≤ bound → rows ≡ r ∷ left → next ≡ s + 1 → now ≤ next + cost r → now ≤ bound
   until_end cost f s next now bound rows left r h e n c =
       let k : s + total (λ x. 1 + cost x) (until f (r ∷ left)) ≤ bound = subst (λ z. s + total (λ x. 1 + cost x) (until f z) ≤ bound) e h in
       omega (arith, k, n, c)
 
   -- the same of a loop that takes no step of its own
-  pub part_step : (cost : A → ℕ) (s now bound : ℕ) (rows left : List A) (r : A) → s + total cost rows ≤ bound → rows ≡ r ∷ left → now ≤ s + cost r → now + total cost left ≤ bound
+  pub part_step : (cost : A → ℕ) (s now bound : ℕ) (rows left : List A) (r : A) → s + total cost rows ≤ bound → rows ≡ r ∷ left
+      → now ≤ s + cost r → now + total cost left ≤ bound
   part_step cost s now bound rows left r h e c =
       let k : s + (cost r + total cost left) ≤ bound = subst (λ z. s + total cost z ≤ bound) e h in
       omega (arith, k, c)

@@ -9,7 +9,8 @@ use Rattle.time_marks.specs.declared.mark.Step.{Step}
 use Rattle.time_marks.specs.Found.{vars_of, Distinct}
 use Rattle.time_marks.proofs.Lists.{in_map}
 use Rattle.access_plan.specs.declared.access.Access.{Access}
-use Rattle.access_plan.specs.declared.access.Access.TheVariants.{ById, ByMsgId, ByParent, BySender, BySubject, ReferencedBy, ByReference, ByWord, NotesOf, AllDocs, AllNotes}
+use Rattle.access_plan.specs.declared.access.Access.TheVariants.{ById, ByMsgId, ByParent, BySender, BySubject, ReferencedBy, ByReference}
+use Rattle.access_plan.specs.declared.access.Access.TheVariants.{ByWord, NotesOf, AllDocs, AllNotes}
 use Rattle.access_plan.specs.Accesses.{admits}
 use Rattle.probe_eval.specs.Tables.{table_in}
 use Rattle.probe_eval.specs.Work.{admits_by}
@@ -28,11 +29,13 @@ table_is (x ∷ xs) step u (inr i) = go (cases_eq x.var.0 step.var.0) (table_is 
     ne : (a b : ℕ) → (a ≡ b → ⊥) → nat_eq a b ≡ false
     ne a b h = grind arith
 
-    go : (x.var.0 ≡ step.var.0) ⊎ (x.var.0 ≡ step.var.0 → ⊥) → table_in xs step.var.0 ≡ step.table → table_in (x ∷ xs) step.var.0 ≡ step.table
+    go : (x.var.0 ≡ step.var.0) ⊎ (x.var.0 ≡ step.var.0 → ⊥) → table_in xs step.var.0 ≡ step.table
+        → table_in (x ∷ xs) step.var.0 ≡ step.table
     go (inl e) k = absurd (u.0 (subst (λ z. In z (vars_of xs)) (sym e) (in_map (λ (s : Step). s.var.0) xs step i)))
     go (inr n) k = let q : nat_eq x.var.0 step.var.0 ≡ false = ne x.var.0 step.var.0 n in rw q k
 
-pub by_both : (b : ℤ) (a : Access) (env : Env) (row : Row) → admits a env row ≡ true → int_le (arrival row) b ≡ true → admits_by b a env row ≡ true
+pub by_both : (b : ℤ) (a : Access) (env : Env) (row : Row) → admits a env row ≡ true → int_le (arrival row) b ≡ true
+    → admits_by b a env row ≡ true
 by_both b AllDocs env row h k = k
 by_both b AllNotes env row h k = k
 by_both b (ById e) env row h k = h

@@ -34,12 +34,14 @@ referenced_under v env T = go (references_of v env)
     go (id ∷ ids) = ap (λ rows. rows ++ docs_under T ids) (msgid_picked T.docs id) ∙ ap (λ rows. docs_of_id T id ++ rows) (go ids)
 
 -- a document of a message id among some texts has one of them
-has_one : (texts : Option (List (List ℕ))) (own : Option (List ℕ)) (id : List ℕ) → In id (unwrap_or texts []) → both_texts Eq own (Some id) ≡ true → has texts own ≡ true
+has_one : (texts : Option (List (List ℕ))) (own : Option (List ℕ)) (id : List ℕ) → In id (unwrap_or texts [])
+    → both_texts Eq own (Some id) ≡ true → has texts own ≡ true
 has_one None own id i h = absurd i
 has_one (Some xs) None id i h = absurd (false≢true h)
 has_one (Some xs) (Some y) id i h = in_any (λ x. is_eq (text_cmp x y)) xs id i (texts_round (Some y) (Some id) h)
 
-one_had : (texts : Option (List (List ℕ))) (own : Option (List ℕ)) → has texts own ≡ true → (id : List ℕ) × In id (unwrap_or texts []) × (both_texts Eq own (Some id) ≡ true)
+one_had : (texts : Option (List (List ℕ))) (own : Option (List ℕ)) → has texts own ≡ true
+    → (id : List ℕ) × In id (unwrap_or texts []) × (both_texts Eq own (Some id) ≡ true)
 one_had None own h = absurd (false≢true h)
 one_had (Some xs) None h = absurd (false≢true h)
 one_had (Some xs) (Some y) h = let k = any_in (λ x. is_eq (text_cmp x y)) xs h in (k.0, k.1, texts_round (Some k.0) (Some y) k.2)
@@ -54,13 +56,15 @@ module _ (env : Env) (T : Tables) (row : Row) where
   to_referenced : (v : Var) → In row (rows_of Docs T) → admits (ReferencedBy v) env row ≡ true → In row (referenced v env T)
   to_referenced v i h =
       let x = one_had (on_row (lookup v.0 env) (list_field References)) (text_field MsgId row) h in
-      to_flat (docs_of_id T) (references_of v env) x.0 row x.1 (to_filter (λ row. both_texts Eq (text_field MsgId row) (Some x.0)) (rows_of Docs T) row i x.2)
+      to_flat (docs_of_id T) (references_of v env) x.0 row
+        x.1 (to_filter (λ row. both_texts Eq (text_field MsgId row) (Some x.0)) (rows_of Docs T) row i x.2)
 
   pub in_rows : (b : ℤ) (a : Access) → In row (rows_by b a env T) → In row (rows_of (table_of a) T)
   in_rows b (ReferencedBy v) i = (in_referenced v i).0
   in_rows b a i = (in_filter (admits_by b a env) (rows_of (table_of a) T) row i).0
 
-  pub to_rows : (b : ℤ) (a : Access) → In row (rows_of (table_of a) T) → admits a env row ≡ true → int_le (arrival row) b ≡ true → In row (rows_by b a env T)
+  pub to_rows : (b : ℤ) (a : Access) → In row (rows_of (table_of a) T) → admits a env row ≡ true → int_le (arrival row) b ≡ true
+      → In row (rows_by b a env T)
   to_rows b (ReferencedBy v) i h c = to_referenced v i h
   to_rows b a i h c = to_filter (admits_by b a env) (rows_of (table_of a) T) row i (by_both b a env row h c)
 
@@ -78,7 +82,8 @@ rows_less f b (ReferencedBy v) T = omega arith
 rows_less f b a T = total_filter f (admits_by b a []) (rows_of (table_of a) T)
 
 -- a test that only admitted rows pass says the same of the rows that an access gives
-pub any_walked : (f : Row → Bool) (a : Access) (env : Env) (T : Tables) → ((row : Row) → f row ≡ true → admits a env row ≡ true) → list_any f (rows_of (table_of a) T) ≡ list_any f (all_rows_by a env T)
+pub any_walked : (f : Row → Bool) (a : Access) (env : Env) (T : Tables) → ((row : Row) → f row ≡ true → admits a env row ≡ true)
+    → list_any f (rows_of (table_of a) T) ≡ list_any f (all_rows_by a env T)
 any_walked f a env T h = alike (list_any f (rows_of (table_of a) T)) (list_any f (all_rows_by a env T)) to back
   where
     alike : (x y : Bool) → (x ≡ true → y ≡ true) → (y ≡ true → x ≡ true) → x ≡ y

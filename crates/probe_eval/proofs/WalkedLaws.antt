@@ -1,5 +1,6 @@
 -- The driving rows that are walked lead to the same hits as all driving rows.
-use Rattle.std.proofs.Common.{◌≡◌, ◌∙◌, ℕ, ◌≤◌, ℤ, Bool, true, false, List, [], ◌∷◌, ◌++◌, Option, Some, None, refl, sym, ap, inl, inr, arith, map}
+use Rattle.std.proofs.Common.{◌≡◌, ◌∙◌, ℕ, ◌≤◌, ℤ, Bool, true, false, List, [], ◌∷◌, ◌++◌, Option, Some, None, refl, sym, ap, inl, inr}
+use Rattle.std.proofs.Common.{arith, map}
 use Rattle.std.specs.Prelude.{◌&&◌, filter, is_some, option_to_list}
 use Rattle.std.specs.List.{flat_map, list_all}
 use Rattle.std.proofs.lemmas.Bool.{cases_Bool, false≢true}
@@ -54,7 +55,8 @@ not_all f xs x i h = elim (cases_Bool (list_all f xs)) [
 ]
 
 -- a row of which a guard by a literal is false may not go on
-refused : (path : List Step) (b : ℤ) (v : Var) (row : Row) (a : Atom) (step : Step) → In step path → In a step.guards → is_some (literal_kind v a) ≡ true
+refused : (path : List Step) (b : ℤ) (v : Var) (row : Row) (a : Atom) (step : Step) → In step path → In a step.guards
+    → is_some (literal_kind v a) ≡ true
     → true_atom a (bind v row []) ≡ false → may_go path b (bind v row []) ≡ false
 refused path b v row a step i j h e =
     let kind = some_kind (literal_kind v a) h in
@@ -88,10 +90,12 @@ module _ (entries : List Entry) (T : Tables) (p : Probe) (b : ℤ) (env : Env) (
   pub none_over : (order : List Reach) → hits_over entries T p b order env ≡ []
   none_over [] = not_asked [] (lookup 0 env)
   none_over (x ∷ rs) =
-      ap (λ o. asked_or entries T p b (x ∷ rs) env (lookup 0 env) (over_rows T b env o (λ r row. hits_over entries T p b rs (bind r.var row env)))) no_further
+      ap (λ o. asked_or entries T p b (x ∷ rs) env (lookup 0 env)
+          (over_rows T b env o (λ r row. hits_over entries T p b rs (bind r.var row env)))) no_further
       ∙ not_asked (x ∷ rs) (lookup 0 env)
 
-flat_filter : {A B : Type 0} (f : A → List B) (q : A → Bool) (xs : List A) → ((x : A) → q x ≡ false → f x ≡ []) → flat_map f (filter q xs) ≡ flat_map f xs
+flat_filter : {A B : Type 0} (f : A → List B) (q : A → Bool) (xs : List A) → ((x : A) → q x ≡ false → f x ≡ [])
+    → flat_map f (filter q xs) ≡ flat_map f xs
 flat_filter f q [] h = refl
 flat_filter f q (x ∷ xs) h = elim (cases_Bool (q x)) [
   | inl e ↦ rw e (ap (λ z. f x ++ z) (flat_filter f q xs h))
@@ -111,13 +115,16 @@ module _ (T : Tables) (w : Window) (p : Probe) (seek : Seek) (v : Var) where
 
   -- the rows that are left out have no hits
   pub walked_hits : (entries : List Entry) (order : List Reach)
-      → flat_map (λ row. hits_at entries T w p order (bind v row [])) (walked T w p seek v) ≡ flat_map (λ row. hits_at entries T w p order (bind v row [])) (driving T w p seek v)
+      → flat_map (λ row. hits_at entries T w p order (bind v row [])) (walked T w p seek v)
+          ≡ flat_map (λ row. hits_at entries T w p order (bind v row [])) (driving T w p seek v)
   walked_hits entries order = go (chosen T v p.path seek (table_in p.path v.0)) refl
     where
       go : (o : Option Atom) → chosen T v p.path seek (table_in p.path v.0) ≡ o
-          → flat_map (λ row. hits_at entries T w p order (bind v row [])) (rows_where v o (driving T w p seek v)) ≡ flat_map (λ row. hits_at entries T w p order (bind v row [])) (driving T w p seek v)
+          → flat_map (λ row. hits_at entries T w p order (bind v row [])) (rows_where v o (driving T w p seek v))
+              ≡ flat_map (λ row. hits_at entries T w p order (bind v row [])) (driving T w p seek v)
       go None e = refl
-      go (Some a) e = flat_filter (λ row. hits_at entries T w p order (bind v row [])) (λ row. true_atom a (bind v row [])) (driving T w p seek v) (none_beside entries order a e)
+      go (Some a) e = flat_filter (λ row. hits_at entries T w p order (bind v row [])) (λ row. true_atom a (bind v row []))
+          (driving T w p seek v) (none_beside entries order a e)
 
   pub walked_in : (row : Row) → In row (walked T w p seek v) → In row (driving T w p seek v)
   walked_in row i = go (chosen T v p.path seek (table_in p.path v.0)) i
@@ -135,7 +142,8 @@ module _ (T : Tables) (w : Window) (p : Probe) (seek : Seek) (v : Var) where
 
   -- with a chosen guard they are the documents of the window of which it is true
   pub walked_is : (a : Atom) → chosen T v p.path seek (table_in p.path v.0) ≡ Some a
-      → filter (λ row. true_atom a (bind v row [])) (map OfDoc (in_window doc_arrival (seek_window w seek).low (seek_window w seek).high T.docs)) ≡ walked T w p seek v
+      → filter (λ row. true_atom a (bind v row []))
+          (map OfDoc (in_window doc_arrival (seek_window w seek).low (seek_window w seek).high T.docs)) ≡ walked T w p seek v
   walked_is a e =
       ap (filter (λ row. true_atom a (bind v row []))) (sym (chosen_rows T v a p.path seek (table_in p.path v.0) (seek_window w seek) e))
       ∙ ap (λ o. rows_where v o (driving T w p seek v)) (sym e)

@@ -33,4 +33,5 @@ pub record IsLevel (entries : List Entry) (T : Tables) (p : Probe) (b : ℤ) (or
 -- the steps that its rows cost
 abbrev pub level_cost : Tables → Probe → ℤ → Env → Option Level → ℕ
 level_cost T p b env None = 0
-level_cost T p b env (Some level) = total (λ row. 1 + work_over T p b level.sure level.rest.now (bind level.reach.var row env)) (rows_at T b env level)
+level_cost T p b env (Some level) =
+    total (λ row. 1 + work_over T p b level.sure level.rest.now (bind level.reach.var row env)) (rows_at T b env level)

@@ -44,7 +44,8 @@ module _ (T : Tables) (p : Probe) (b : ℤ) where
 
   -- the steps that this may take; none for the rest, if it is known to exist
   abbrev pub cost_here : Bool → List Reach → Env → ℕ
-  cost_here sure order env = (if sure then 0 else rest_cost T p.path b order env) + (if rest_of T p.path b order env then work T p.body env else 0)
+  cost_here sure order env =
+      (if sure then 0 else rest_cost T p.path b order env) + (if rest_of T p.path b order env then work T p.body env else 0)
 
 module _ (entries : List Entry) (T : Tables) (p : Probe) (b : ℤ) where
   -- the hit of the query's document with the mark b, if it has a row and isn't in the box; the others if it has none
@@ -56,7 +57,8 @@ module _ (entries : List Entry) (T : Tables) (p : Probe) (b : ℤ) where
   -- the hits beside the rows of env: the nearest step's rows next, until the query's document has a row
   abbrev pub hits_over : List Reach → Env → List Hit
   hits_over [] env = asked_or [] env (lookup 0 env) []
-  hits_over (x ∷ rs) env = asked_or (x ∷ rs) env (lookup 0 env) (over_rows T b env (further p.path b env) (λ r row. hits_over rs (bind r.var row env)))
+  hits_over (x ∷ rs) env =
+      asked_or (x ∷ rs) env (lookup 0 env) (over_rows T b env (further p.path b env) (λ r row. hits_over rs (bind r.var row env)))
 
 abbrev pub has_more : List Reach → Bool
 has_more [] = false

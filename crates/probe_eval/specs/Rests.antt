@@ -18,7 +18,8 @@ use Rattle.access_plan.specs.Nearest.{nearest}
 use Rattle.probe_eval.specs.Open.{path_apart, may_go}
 use Rattle.probe_eval.specs.Work.{rows_by, total}
 
--- the rest of a path exists beside the rows of env: each step has a row that arrived by b, that of env if there is one, and all guards are true
+-- the rest of a path exists beside the rows of env: each step has a row that arrived by b, that of env if there is one, and all guards are
+-- true
 pub record Rest (T : Tables) (path : List Step) (b : ℤ) (env : Env) : Type 0 where
   pub final : Env
   pub same : AreSame (is_held env) env final
@@ -63,7 +64,8 @@ module _ (T : Tables) (path : List Step) (b : ℤ) where
   -- whether it exists, as it is looked for: the nearest row next, of at most that many
   abbrev pub rest_of : List Reach → Env → Bool
   rest_of [] env = may_go path b env && all_or (nearest path env) (λ r. false)
-  rest_of (x ∷ rs) env = may_go path b env && all_or (nearest path env) (λ r. list_any (λ row. rest_of rs (bind r.var row env)) (rows_by b r.access env T))
+  rest_of (x ∷ rs) env =
+      may_go path b env && all_or (nearest path env) (λ r. list_any (λ row. rest_of rs (bind r.var row env)) (rows_by b r.access env T))
 
   -- the row decides: the rest exists beside it, or it doesn't beside any other either, since no guard names the two
   abbrev pub decides : List Reach → Env → Var → Row → Bool

@@ -1,9 +1,11 @@
 //! The rows that an access of the index reaches.
 
-ghost use Rattle.std.specs.Prelude.{◌≡◌, ◌≤◌, ℕ, pos, false, filter, map, option_copied, Option, Some, None, IfSome};
+ghost use Rattle.std.specs.Prelude.{◌≡◌, ◌≤◌, ℕ, pos, false, filter, map, option_copied, Option};
+ghost use Rattle.std.specs.Prelude.{Some, None, IfSome};
 ghost use Rattle.tap_base.specs.declared.numbers.Op.TheVariants.{Eq};
 ghost use Rattle.tql_core.specs.declared.atom.NumField.TheVariants.{Id, DocOf};
-ghost use Rattle.tql_core.specs.declared.atom.TextField.TheVariants.{From, Subject, MsgId, InReplyTo};
+ghost use Rattle.tql_core.specs.declared.atom.TextField.TheVariants.{From, Subject, MsgId};
+ghost use Rattle.tql_core.specs.declared.atom.TextField.TheVariants.{InReplyTo};
 ghost use Rattle.tql_core.specs.declared.atom.ListField.TheVariants.{References, Words};
 ghost use Rattle.tql_core.specs.Row.{OfDoc, OfNote};
 ghost use Rattle.tql_core.specs.Values.{field, both, text_field, both_texts, list_field, has};
@@ -41,7 +43,9 @@ fn with_number(num: Option<i128>, index: &RowIndex) -> RowWalk<'_>
 
 // Returns the documents of this message id.
 fn with_msgid<'a>(text: Option<&[u8]>, index: &'a RowIndex) -> RowWalk<'a>
-    ensures { result ≡ filter (λ row. both_texts Eq (text_field MsgId row) (option_copied text.entry)) (map OfDoc index.now.docs) }
+    ensures { result
+        ≡ filter (λ row. both_texts Eq (text_field MsgId row) (option_copied text.entry))
+        (map OfDoc index.now.docs) }
 {
     match text {
         None => RowWalk::none(),
@@ -51,7 +55,9 @@ fn with_msgid<'a>(text: Option<&[u8]>, index: &'a RowIndex) -> RowWalk<'a>
 
 // Returns the documents that reply to this message id.
 fn with_parent<'a>(text: Option<&[u8]>, index: &'a RowIndex) -> RowWalk<'a>
-    ensures { result ≡ filter (λ row. both_texts Eq (text_field InReplyTo row) (option_copied text.entry)) (map OfDoc index.now.docs) }
+    ensures { result
+        ≡ filter (λ row. both_texts Eq (text_field InReplyTo row) (option_copied text.entry))
+        (map OfDoc index.now.docs) }
 {
     match text {
         None => RowWalk::none(),
@@ -61,7 +67,9 @@ fn with_parent<'a>(text: Option<&[u8]>, index: &'a RowIndex) -> RowWalk<'a>
 
 // Returns the documents of this sender.
 fn with_sender<'a>(text: Option<&[u8]>, index: &'a RowIndex) -> RowWalk<'a>
-    ensures { result ≡ filter (λ row. both_texts Eq (text_field From row) (option_copied text.entry)) (map OfDoc index.now.docs) }
+    ensures { result
+        ≡ filter (λ row. both_texts Eq (text_field From row) (option_copied text.entry))
+        (map OfDoc index.now.docs) }
 {
     match text {
         None => RowWalk::none(),
@@ -71,7 +79,9 @@ fn with_sender<'a>(text: Option<&[u8]>, index: &'a RowIndex) -> RowWalk<'a>
 
 // Returns the documents of this subject.
 fn with_subject<'a>(text: Option<&[u8]>, index: &'a RowIndex) -> RowWalk<'a>
-    ensures { result ≡ filter (λ row. both_texts Eq (text_field Subject row) (option_copied text.entry)) (map OfDoc index.now.docs) }
+    ensures { result
+        ≡ filter (λ row. both_texts Eq (text_field Subject row) (option_copied text.entry))
+        (map OfDoc index.now.docs) }
 {
     match text {
         None => RowWalk::none(),
@@ -89,7 +99,8 @@ fn references_of<'a>(var: Var, env: &Env<'a>) -> &'a [Text]
     }
 }
 
-// Returns the documents that the variable's row refers to, those of each of its references after the other.
+// Returns the documents that the variable's row refers to, those of each of its references after
+// the other.
 fn referenced<'a>(var: Var, env: &Env<'a>, index: &'a RowIndex) -> RowWalk<'a>
     ensures { result ≡ referenced var env.now index.now }
 {
@@ -98,7 +109,8 @@ fn referenced<'a>(var: Var, env: &Env<'a>, index: &'a RowIndex) -> RowWalk<'a>
 
 // Returns the documents that have this text among their references.
 fn with_reference<'a>(text: Option<&[u8]>, index: &'a RowIndex) -> RowWalk<'a>
-    ensures { result ≡ filter (λ row. has (list_field References row) (option_copied text.entry)) (map OfDoc index.now.docs) }
+    ensures { result ≡ filter (λ row. has (list_field References row) (option_copied text.entry))
+        (map OfDoc index.now.docs) }
 {
     match text {
         None => RowWalk::none(),
@@ -108,7 +120,8 @@ fn with_reference<'a>(text: Option<&[u8]>, index: &'a RowIndex) -> RowWalk<'a>
 
 // Returns the documents that have this word.
 fn with_word<'a>(text: Option<&[u8]>, index: &'a RowIndex) -> RowWalk<'a>
-    ensures { result ≡ filter (λ row. has (list_field Words row) (option_copied text.entry)) (map OfDoc index.now.docs) }
+    ensures { result ≡ filter (λ row. has (list_field Words row) (option_copied text.entry))
+        (map OfDoc index.now.docs) }
 {
     match text {
         None => RowWalk::none(),
@@ -128,8 +141,8 @@ fn with_doc(num: Option<i128>, index: &RowIndex) -> RowWalk<'_>
     }
 }
 
-/// Returns the rows that an access reaches, of a whole table those that have arrived by `last`. A document whose message id
-/// is named twice among a row's references comes twice.
+/// Returns the rows that an access reaches, of a whole table those that have arrived by `last`. A
+/// document whose message id is named twice among a row's references comes twice.
 pub fn rows_by<'a>(
     access: AccessRef<'a>,
     last: i64,

@@ -11,19 +11,21 @@ ghost use Rattle.probe_eval.specs.declared.answer.TruthOfRows.TheVariants.{Never
 ghost use Rattle.probe_eval.specs.Answers.{is_true, IsNever};
 ghost use Rattle.probe_eval.specs.Conjuncts.{mentions, fixed_part};
 ghost use Rattle.probe_eval.specs.Work.{work, total};
-ghost use Rattle.probe_eval.specs.Searches.{pool_of, condition_at, CanEvaluate, CanEvaluateInner, IsExists};
+ghost use Rattle.probe_eval.specs.Searches.{pool_of, condition_at, CanEvaluate, CanEvaluateInner};
+ghost use Rattle.probe_eval.specs.Searches.{IsExists};
 
 use crate::bodies::{any_own, body_holds, own_holds};
 use crate::inner_rows::rows_left;
 use crate::names::names;
-use crate::{TruthOfRows, RowWalk, Search};
+use crate::{RowWalk, Search, TruthOfRows};
 use node_pool::NodeId;
 use std::sync::ledger::Ledger;
 use tap_base::Steps;
 use tql_core::{Env, TNode, Var, node_at};
 use tql_tree::Table;
 
-// Returns the answer of a condition that is false: it is never true if it doesn't name the variable.
+// Returns the answer of a condition that is false: it is never true if it doesn't name the
+// variable.
 fn false_answer(search: &Search, body: NodeId, var: Var) -> TruthOfRows
     requires { IsPlaceOf (pool_of search.now) body.0 }
     ensures truth { is_true result ≡ false }
@@ -45,9 +47,12 @@ fn whole_answer<'a, L: Ledger>(
     steps: &mut Steps<L>,
 ) -> TruthOfRows
     requires { CanEvaluate search.now body.0 env.now }
-    ensures truth { is_true result ≡ truth search.now.index.now (pos 0) (condition_at search.now body.0) env.now }
-    ensures never { result ≡ Never → IsNever search.now.index.now var (condition_at search.now body.0) env.now }
-    ensures steps { steps.new ≤ steps.old + work search.now.index.now (condition_at search.now body.0) env.now }
+    ensures truth { is_true result
+        ≡ truth search.now.index.now (pos 0) (condition_at search.now body.0) env.now }
+    ensures never { result ≡ Never
+        → IsNever search.now.index.now var (condition_at search.now body.0) env.now }
+    ensures steps { steps.new
+        ≤ steps.old + work search.now.index.now (condition_at search.now body.0) env.now }
     ensures more { steps.old ≤ steps.new }
 {
     if body_holds(search, body, env, steps) {
@@ -57,7 +62,8 @@ fn whole_answer<'a, L: Ledger>(
     }
 }
 
-// Returns the answer of the conjuncts of the condition at the number that don't name the variable `of`.
+// Returns the answer of the conjuncts of the condition at the number that don't name the variable
+// `of`.
 fn fixed_answer<'a, L: Ledger>(
     search: &Search<'a>,
     body: NodeId,
@@ -67,9 +73,12 @@ fn fixed_answer<'a, L: Ledger>(
     steps: &mut Steps<L>,
 ) -> TruthOfRows
     requires { CanEvaluate search.now body.0 env.now }
-    ensures truth { is_true result ≡ truth search.now.index.now (pos 0) (fixed_part of (condition_at search.now body.0)) env.now }
-    ensures never { result ≡ Never → IsNever search.now.index.now var (fixed_part of (condition_at search.now body.0)) env.now }
-    ensures steps { steps.new ≤ steps.old + work search.now.index.now (fixed_part of (condition_at search.now body.0)) env.now }
+    ensures truth { is_true result ≡ truth search.now.index.now (pos 0)
+        (fixed_part of (condition_at search.now body.0)) env.now }
+    ensures never { result ≡ Never → IsNever search.now.index.now var
+        (fixed_part of (condition_at search.now body.0)) env.now }
+    ensures steps { steps.new ≤ steps.old
+        + work search.now.index.now (fixed_part of (condition_at search.now body.0)) env.now }
     ensures more { steps.old ≤ steps.new }
 {
     match node_at(&search.plan.query.pool, body) {
@@ -100,10 +109,13 @@ fn later_answer<'a, L: Ledger>(
 ) -> TruthOfRows
     requires { CanEvaluateInner search.now inner.0 env.now }
     ensures truth { is_true result ≡ list_any
-        (λ row. truth search.now.index.now (pos 0) (condition_at search.now inner.0) (bind of row env.now)) rows.entry }
-    ensures never { (table : Table) → result ≡ Never → IsNever search.now.index.now var (Exists of table (condition_at search.now inner.0)) env.now }
+        (λ row. truth search.now.index.now (pos 0) (condition_at search.now inner.0)
+              (bind of row env.now)) rows.entry }
+    ensures never { (table : Table) → result ≡ Never → IsNever search.now.index.now var
+        (Exists of table (condition_at search.now inner.0)) env.now }
     ensures steps { steps.new ≤ steps.old + total
-        (λ row. 1 + work search.now.index.now (condition_at search.now inner.0) (bind of row env.now)) rows.entry }
+        (λ row. 1 + work search.now.index.now (condition_at search.now inner.0)
+              (bind of row env.now)) rows.entry }
     ensures more { steps.old ≤ steps.new }
 {
     match rows.next(steps) {
@@ -128,7 +140,8 @@ fn later_answer<'a, L: Ledger>(
     }
 }
 
-// Returns the answer of the EXISTS at the number `body`, whose inner condition is at `inner`, as far as its rows tell it.
+// Returns the answer of the EXISTS at the number `body`, whose inner condition is at `inner`, as
+// far as its rows tell it.
 fn rows_answer<'a, L: Ledger>(
     search: &Search<'a>,
     body: NodeId,
@@ -141,9 +154,12 @@ fn rows_answer<'a, L: Ledger>(
 ) -> TruthOfRows
     requires inner { CanEvaluateInner search.now inner.0 env.now }
     requires exists { IsExists search.now body.0 of table inner.0 }
-    ensures truth { is_true result ≡ truth search.now.index.now (pos 0) (Exists of table (condition_at search.now inner.0)) env.now }
-    ensures never { result ≡ Never → IsNever search.now.index.now var (Exists of table (condition_at search.now inner.0)) env.now }
-    ensures steps { steps.new ≤ steps.old + work search.now.index.now (Exists of table (condition_at search.now inner.0)) env.now }
+    ensures truth { is_true result ≡ truth search.now.index.now (pos 0)
+        (Exists of table (condition_at search.now inner.0)) env.now }
+    ensures never { result ≡ Never → IsNever search.now.index.now var
+        (Exists of table (condition_at search.now inner.0)) env.now }
+    ensures steps { steps.new ≤ steps.old
+        + work search.now.index.now (Exists of table (condition_at search.now inner.0)) env.now }
     ensures more { steps.old ≤ steps.new }
 {
     let mut rows = rows_left(search, body, inner, of, table, env);
@@ -172,9 +188,12 @@ fn exists_answer<'a, L: Ledger>(
 ) -> TruthOfRows
     requires inner { CanEvaluateInner search.now inner.0 env.now }
     requires exists { IsExists search.now body.0 of table inner.0 }
-    ensures truth { is_true result ≡ truth search.now.index.now (pos 0) (Exists of table (condition_at search.now inner.0)) env.now }
-    ensures never { result ≡ Never → IsNever search.now.index.now var (Exists of table (condition_at search.now inner.0)) env.now }
-    ensures steps { steps.new ≤ steps.old + work search.now.index.now (Exists of table (condition_at search.now inner.0)) env.now }
+    ensures truth { is_true result ≡ truth search.now.index.now (pos 0)
+        (Exists of table (condition_at search.now inner.0)) env.now }
+    ensures never { result ≡ Never → IsNever search.now.index.now var
+        (Exists of table (condition_at search.now inner.0)) env.now }
+    ensures steps { steps.new ≤ steps.old
+        + work search.now.index.now (Exists of table (condition_at search.now inner.0)) env.now }
     ensures more { steps.old ≤ steps.new }
 {
     match rows_answer(search, body, inner, of, table, var, env, steps) {
@@ -184,9 +203,10 @@ fn exists_answer<'a, L: Ledger>(
     }
 }
 
-/// Returns whether the body at the number is true. `Never` comes only if it is false whatever row the variable has: if it, or a
-/// conjunct of it, or of the inner condition of an EXISTS that is a conjunct, is false without naming the variable or that of
-/// the EXISTS. No row is walked but those that the truth needs.
+/// Returns whether the body at the number is true. `Never` comes only if it is false whatever row
+/// the variable has: if it, or a conjunct of it, or of the inner condition of an EXISTS that is a
+/// conjunct, is false without naming the variable or that of the EXISTS. No row is walked but those
+/// that the truth needs.
 pub(crate) fn body_answer<'a, L: Ledger>(
     search: &Search<'a>,
     body: NodeId,
@@ -195,9 +215,12 @@ pub(crate) fn body_answer<'a, L: Ledger>(
     steps: &mut Steps<L>,
 ) -> TruthOfRows
     requires { CanEvaluate search.now body.0 env.now }
-    ensures truth { is_true result ≡ truth search.now.index.now (pos 0) (condition_at search.now body.0) env.now }
-    ensures never { result ≡ Never → IsNever search.now.index.now var (condition_at search.now body.0) env.now }
-    ensures steps { steps.new ≤ steps.old + work search.now.index.now (condition_at search.now body.0) env.now }
+    ensures truth { is_true result
+        ≡ truth search.now.index.now (pos 0) (condition_at search.now body.0) env.now }
+    ensures never { result ≡ Never
+        → IsNever search.now.index.now var (condition_at search.now body.0) env.now }
+    ensures steps { steps.new
+        ≤ steps.old + work search.now.index.now (condition_at search.now body.0) env.now }
     ensures more { steps.old ≤ steps.new }
 {
     match node_at(&search.plan.query.pool, body) {

@@ -18,8 +18,9 @@ use tap_base::Steps;
 use tql_core::{Env, TNode, Var, node_at, true_atom};
 use tql_tree::Table;
 
-/// Returns whether the body at the number is true over all rows. It stops at the first row that decides an EXISTS. From the
-/// second row on, the conjuncts that don't name the variable of the EXISTS are evaluated once. It takes no memory.
+/// Returns whether the body at the number is true over all rows. It stops at the first row that
+/// decides an EXISTS. From the second row on, the conjuncts that don't name the variable of the
+/// EXISTS are evaluated once. It takes no memory.
 #[cycle(bodies)]
 pub(crate) fn body_holds<'a, L: Ledger>(
     search: &Search<'a>,
@@ -28,8 +29,10 @@ pub(crate) fn body_holds<'a, L: Ledger>(
     steps: &mut Steps<L>,
 ) -> bool
     requires { CanEvaluate search.now body.0 env.now }
-    ensures truth { result ≡ truth search.now.index.now (pos 0) (condition_at search.now body.0) env.now }
-    ensures steps { steps.new ≤ steps.old + work search.now.index.now (condition_at search.now body.0) env.now }
+    ensures truth { result
+        ≡ truth search.now.index.now (pos 0) (condition_at search.now body.0) env.now }
+    ensures steps { steps.new
+        ≤ steps.old + work search.now.index.now (condition_at search.now body.0) env.now }
     ensures more { steps.old ≤ steps.new }
 {
     match node_at(&search.plan.query.pool, body) {
@@ -60,8 +63,10 @@ fn exists_holds<'a, L: Ledger>(
 ) -> bool
     requires inner { CanEvaluateInner search.now inner.0 env.now }
     requires exists { IsExists search.now body.0 var table inner.0 }
-    ensures truth { result ≡ truth search.now.index.now (pos 0) (Exists var table (condition_at search.now inner.0)) env.now }
-    ensures steps { steps.new ≤ steps.old + work search.now.index.now (Exists var table (condition_at search.now inner.0)) env.now }
+    ensures truth { result ≡ truth search.now.index.now (pos 0)
+        (Exists var table (condition_at search.now inner.0)) env.now }
+    ensures steps { steps.new ≤ steps.old
+        + work search.now.index.now (Exists var table (condition_at search.now inner.0)) env.now }
     ensures more { steps.old ≤ steps.new }
 {
     let mut rows = rows_left(search, body, inner, var, table, env);
@@ -74,8 +79,8 @@ fn exists_holds<'a, L: Ledger>(
     }
 }
 
-// Returns whether the condition at the number is true with one of the rows. Its conjuncts that don't name the variable are
-// evaluated once, with the first of these rows.
+// Returns whether the condition at the number is true with one of the rows. Its conjuncts that
+// don't name the variable are evaluated once, with the first of these rows.
 #[cycle(bodies)]
 fn any_later<'a, L: Ledger>(
     search: &Search<'a>,
@@ -87,9 +92,11 @@ fn any_later<'a, L: Ledger>(
 ) -> bool
     requires { CanEvaluateInner search.now inner.0 env.now }
     ensures truth { result ≡ list_any
-        (λ row. truth search.now.index.now (pos 0) (condition_at search.now inner.0) (bind var row env.now)) rows.entry }
+        (λ row. truth search.now.index.now (pos 0) (condition_at search.now inner.0)
+              (bind var row env.now)) rows.entry }
     ensures steps { steps.new ≤ steps.old + total
-        (λ row. 1 + work search.now.index.now (condition_at search.now inner.0) (bind var row env.now)) rows.entry }
+        (λ row. 1 + work search.now.index.now (condition_at search.now inner.0)
+              (bind var row env.now)) rows.entry }
     ensures more { steps.old ≤ steps.new }
 {
     match rows.next(steps) {
@@ -115,9 +122,11 @@ pub(crate) fn any_own<'a, L: Ledger>(
 ) -> bool
     requires { CanEvaluateInner search.now inner.0 env.now }
     ensures truth { result ≡ list_any
-        (λ row. truth search.now.index.now (pos 0) (own_part var (condition_at search.now inner.0)) (bind var row env.now)) rows.entry }
+        (λ row. truth search.now.index.now (pos 0) (own_part var (condition_at search.now inner.0))
+              (bind var row env.now)) rows.entry }
     ensures steps { steps.new ≤ steps.old + total
-        (λ row. 1 + work search.now.index.now (own_part var (condition_at search.now inner.0)) (bind var row env.now)) rows.entry }
+        (λ row. 1 + work search.now.index.now (own_part var (condition_at search.now inner.0))
+              (bind var row env.now)) rows.entry }
     ensures more { steps.old ≤ steps.new }
 {
     while let Some(row) = rows.next(steps) {
@@ -128,7 +137,8 @@ pub(crate) fn any_own<'a, L: Ledger>(
     false
 }
 
-// Returns whether the conjuncts of the condition at the number that don't name the variable are true.
+// Returns whether the conjuncts of the condition at the number that don't name the variable are
+// true.
 #[cycle(bodies)]
 fn fixed_holds<'a, L: Ledger>(
     search: &Search<'a>,
@@ -138,8 +148,10 @@ fn fixed_holds<'a, L: Ledger>(
     steps: &mut Steps<L>,
 ) -> bool
     requires { CanEvaluate search.now body.0 env.now }
-    ensures truth { result ≡ truth search.now.index.now (pos 0) (fixed_part var (condition_at search.now body.0)) env.now }
-    ensures steps { steps.new ≤ steps.old + work search.now.index.now (fixed_part var (condition_at search.now body.0)) env.now }
+    ensures truth { result ≡ truth search.now.index.now (pos 0)
+        (fixed_part var (condition_at search.now body.0)) env.now }
+    ensures steps { steps.new ≤ steps.old
+        + work search.now.index.now (fixed_part var (condition_at search.now body.0)) env.now }
     ensures more { steps.old ≤ steps.new }
 {
     match node_at(&search.plan.query.pool, body) {
@@ -160,8 +172,10 @@ pub(crate) fn own_holds<'a, L: Ledger>(
     steps: &mut Steps<L>,
 ) -> bool
     requires { CanEvaluate search.now body.0 env.now }
-    ensures truth { result ≡ truth search.now.index.now (pos 0) (own_part var (condition_at search.now body.0)) env.now }
-    ensures steps { steps.new ≤ steps.old + work search.now.index.now (own_part var (condition_at search.now body.0)) env.now }
+    ensures truth { result ≡ truth search.now.index.now (pos 0)
+        (own_part var (condition_at search.now body.0)) env.now }
+    ensures steps { steps.new ≤ steps.old
+        + work search.now.index.now (own_part var (condition_at search.now body.0)) env.now }
     ensures more { steps.old ≤ steps.new }
 {
     match node_at(&search.plan.query.pool, body) {

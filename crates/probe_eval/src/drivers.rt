@@ -2,7 +2,8 @@
 
 ghost use Rattle.std.specs.Prelude.{◌≡◌};
 ghost use Rattle.time_marks.specs.Seeks.{CanSeek};
-ghost use Rattle.probe_eval.specs.Drivers.{seek_var, arrived_rows, dated_rows, stored_rows, walked, mark_in};
+ghost use Rattle.probe_eval.specs.Drivers.{seek_var, arrived_rows, dated_rows, stored_rows, walked};
+ghost use Rattle.probe_eval.specs.Drivers.{mark_in};
 ghost use Rattle.probe_eval.specs.Searches.{searched};
 ghost use Rattle.probe_eval.specs.Tables.{table_in};
 
@@ -71,9 +72,10 @@ fn stored_rows(seek: Seek, table: Table, w: Window, index: &RowIndex) -> RowWalk
     }
 }
 
-/// Returns the driving rows of the probe that are walked, in order of their stored second. If documents drive it by their
-/// arrival, and a guard of its path compares a text of them with a literal by which the index finds documents, these are the
-/// documents of its posting list: of several such guards of the one with the shortest list.
+/// Returns the driving rows of the probe that are walked, in order of their stored second. If
+/// documents drive it by their arrival, and a guard of its path compares a text of them with a
+/// literal by which the index finds documents, these are the documents of its posting list: of
+/// several such guards of the one with the shortest list.
 pub fn walked<'a>(search: &Search<'a>, seek: Seek, var: Var, w: Window) -> RowWalk<'a>
     requires window { CanSeek seek w }
     ensures { result ≡ walked search.now.index.now w (searched search.now) seek var }

@@ -1,7 +1,8 @@
 //! The rows of an EXISTS, without those that a conjunct between numbers or times rules out.
 //!
-//! A posting list is in order of number and of arrival. A conjunct such as `v.id > m.id` rules out all of its front, and one
-//! such as `v.ts <= m.ts` all of its end, so that both are found by halving and not walked.
+//! A posting list is in order of number and of arrival. A conjunct such as `v.id > m.id` rules out
+//! all of its front, and one such as `v.ts <= m.ts` all of its end, so that both are found by
+//! halving and not walked.
 
 ghost use Rattle.std.specs.Prelude.{◌≡◌, ◌≤◌, ◌+◌, pos, true, Some, IfSome};
 ghost use Rattle.tap_base.specs.Bytes.{IsPlaceOf};
@@ -33,11 +34,13 @@ use tap_base::{DocNum, Op};
 use tql_core::{Atom, Base, Env, TNode, Term, Var, node_at, value};
 use tql_tree::Table;
 
-// Returns the bound on this side of the numbers of the variable's documents, by the first conjunct that gives one.
+// Returns the bound on this side of the numbers of the variable's documents, by the first conjunct
+// that gives one.
 fn bound_in(pool: &Pool<TNode>, body: NodeId, side: Side, var: Var, env: &Env) -> Option<DocNum>
     requires { IsPlaceOf pool.now body.0 }
     ensures { IfSome result (λ num. (T : Tables)
-        → RulesOut side (λ d. truth T (pos 0) (tree_at pool.now body.0) (bind var (OfDoc d) env.now)) num.0) }
+        → RulesOut side
+            (λ d. truth T (pos 0) (tree_at pool.now body.0) (bind var (OfDoc d) env.now)) num.0) }
 {
     match node_at(pool, body) {
         TNode::Plain(guard) => bound_by(guard, side, var, env),
@@ -51,7 +54,8 @@ fn bound_in(pool: &Pool<TNode>, body: NodeId, side: Side, var: Var, env: &Env) -
 
 // Returns whether the time is the arrival of the variable's row.
 fn is_arrival(time: Term, var: Var) -> bool
-    ensures { result ≡ true → (row : Row) (env : Env) → value time (bind var row env) ≡ Some (arrival row) }
+    ensures { result ≡ true → (row : Row) (env : Env)
+        → value time (bind var row env) ≡ Some (arrival row) }
 {
     match time.base {
         Base::Arrival(of) => of.0 == var.0 && time.plus == 0,
@@ -61,7 +65,8 @@ fn is_arrival(time: Term, var: Var) -> bool
 
 // Returns the second of a time that doesn't name the variable, if it has 64 bits.
 fn second_beside(time: Term, var: Var, env: &Env) -> Option<i64>
-    ensures { IfSome result (λ second. (row : Row) → value time (bind var row env.now) ≡ Some second) }
+    ensures { IfSome result (λ second. (row : Row)
+        → value time (bind var row env.now) ≡ Some second) }
 {
     if !base_known(Known::AllBut(var), time.base) {
         return None;
@@ -72,10 +77,12 @@ fn second_beside(time: Term, var: Var, env: &Env) -> Option<i64>
     }
 }
 
-// Returns the second by which the variable's row has to arrive if the time is its arrival and no later than the bound.
+// Returns the second by which the variable's row has to arrive if the time is its arrival and no
+// later than the bound.
 fn last_arrival(time: Term, bound: Term, var: Var, env: &Env) -> Option<i64>
     ensures { IfSome result (λ last.
-        ArrivesBy (λ row. both Le (value time (bind var row env.now)) (value bound (bind var row env.now))) last) }
+        ArrivesBy (λ row. both Le (value time (bind var row env.now))
+              (value bound (bind var row env.now))) last) }
 {
     if is_arrival(time, var) {
         second_beside(bound, var, env)
@@ -84,9 +91,11 @@ fn last_arrival(time: Term, bound: Term, var: Var, env: &Env) -> Option<i64>
     }
 }
 
-// Returns the second by which the variable's row has to arrive if the guard is true, where it says so.
+// Returns the second by which the variable's row has to arrive if the guard is true, where it says
+// so.
 fn last_by(guard: &Atom, var: Var, env: &Env) -> Option<i64>
-    ensures { IfSome result (λ last. ArrivesBy (λ row. true_atom guard.now (bind var row env.now)) last) }
+    ensures { IfSome result (λ last.
+        ArrivesBy (λ row. true_atom guard.now (bind var row env.now)) last) }
 {
     match guard {
         Atom::Times(x, Op::Le, y) => last_arrival(*x, *y, var, env),
@@ -99,7 +108,8 @@ fn last_by(guard: &Atom, var: Var, env: &Env) -> Option<i64>
 fn last_in(pool: &Pool<TNode>, body: NodeId, var: Var, env: &Env) -> Option<i64>
     requires { IsPlaceOf pool.now body.0 }
     ensures { IfSome result (λ last. (T : Tables)
-        → ArrivesBy (λ row. truth T (pos 0) (tree_at pool.now body.0) (bind var row env.now)) last) }
+        → ArrivesBy (λ row. truth T (pos 0) (tree_at pool.now body.0) (bind var row env.now))
+            last) }
 {
     match node_at(pool, body) {
         TNode::Plain(guard) => last_by(guard, var, env),
@@ -111,7 +121,8 @@ fn last_in(pool: &Pool<TNode>, body: NodeId, var: Var, env: &Env) -> Option<i64>
     }
 }
 
-// Returns the documents of the list without those whose numbers or arrivals the inner condition rules out.
+// Returns the documents of the list without those whose numbers or arrivals the inner condition
+// rules out.
 fn docs_left<'a>(
     search: &Search<'a>,
     inner: NodeId,
@@ -121,7 +132,8 @@ fn docs_left<'a>(
 ) -> PostingList<'a>
     requires node { IsPlaceOf (pool_of search.now) inner.0 }
     requires docs { IsSorted docs }
-    ensures { LeavesFalse (λ d. truth search.now.index.now (pos 0) (condition_at search.now inner.0) (bind var (OfDoc d) env.now))
+    ensures { LeavesFalse (λ d. truth search.now.index.now (pos 0) (condition_at search.now inner.0)
+        (bind var (OfDoc d) env.now))
         docs.entry result }
 {
     if docs.len() < LONG {
@@ -136,8 +148,9 @@ fn docs_left<'a>(
     }
 }
 
-/// Returns the rows of the EXISTS at the number `body`, whose inner condition is at `inner`, by its access. Of a long posting list
-/// those are left out that a conjunct between numbers or times rules out.
+/// Returns the rows of the EXISTS at the number `body`, whose inner condition is at `inner`, by its
+/// access. Of a long posting list those are left out that a conjunct between numbers or times rules
+/// out.
 pub(crate) fn rows_left<'a>(
     search: &Search<'a>,
     body: NodeId,
@@ -148,9 +161,11 @@ pub(crate) fn rows_left<'a>(
 ) -> RowWalk<'a>
     requires node { IsPlaceOf (pool_of search.now) inner.0 }
     requires exists { IsExists search.now body.0 var table inner.0 }
-    ensures rows { LeavesFalse (λ row. truth search.now.index.now (pos 0) (condition_at search.now inner.0) (bind var row env.now))
+    ensures rows { LeavesFalse (λ row.
+        truth search.now.index.now (pos 0) (condition_at search.now inner.0) (bind var row env.now))
         (reached search.now.index.now var table (condition_at search.now inner.0) env.now) result }
-    ensures steps { total (λ row. 1 + work search.now.index.now (condition_at search.now inner.0) (bind var row env.now)) result
+    ensures steps { total (λ row. 1 + work search.now.index.now (condition_at search.now inner.0)
+          (bind var row env.now)) result
         ≤ work search.now.index.now (Exists var table (condition_at search.now inner.0)) env.now }
 {
     // Brings into scope that no row arrived after the last second.

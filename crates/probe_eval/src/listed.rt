@@ -3,7 +3,8 @@
 ghost use Rattle.std.specs.Prelude.{◌≡◌, true};
 ghost use Rattle.tap_base.specs.Bytes.{IsPlaceOf};
 ghost use Rattle.tql_core.specs.Trees.{tree_at};
-ghost use Rattle.probe_eval.specs.Listed.{is_by_arrival, is_docs, is_implied, asks_literal, guard_goes_by_list, path_goes_by_list, goes_by_list};
+ghost use Rattle.probe_eval.specs.Listed.{is_by_arrival, is_docs, is_implied, asks_literal};
+ghost use Rattle.probe_eval.specs.Listed.{guard_goes_by_list, path_goes_by_list, goes_by_list};
 ghost use Rattle.probe_eval.specs.Searches.{searched, HasBody};
 
 use crate::literals::literal_kind;
@@ -46,7 +47,8 @@ fn is_implied(pool: &Pool<TNode>, guard: &Atom, body: NodeId) -> bool
     }
 }
 
-// Returns whether the variable is the query's document, and the guard a comparison of a text of it with a literal.
+// Returns whether the variable is the query's document, and the guard a comparison of a text of it
+// with a literal.
 fn asks_literal(var: Var, step: &Step, guard: &Atom) -> bool
     ensures { result ≡ asks_literal var step.now guard.now }
 {
@@ -78,9 +80,10 @@ fn path_goes_by_list(search: &Search, var: Var) -> bool
     }
 }
 
-/// Returns whether the probe is about the query's document alone, driven by its arrival, and has one guard, which compares a
-/// text of it with a literal by which the index finds documents, and beside which nothing is asked for. It then finds each
-/// row that is walked, at each mark that isn't before the row.
+/// Returns whether the probe is about the query's document alone, driven by its arrival, and has
+/// one guard, which compares a text of it with a literal by which the index finds documents, and
+/// beside which nothing is asked for. It then finds each row that is walked, at each mark that
+/// isn't before the row.
 pub fn goes_by_list(search: &Search, seek: Seek, var: Var) -> bool
     requires { HasBody search.now }
     ensures { result ≡ goes_by_list (searched search.now) seek var }

@@ -1,11 +1,14 @@
-//! Guards that compare a text of a driving document with a literal: the index has a posting list under it.
+//! Guards that compare a text of a driving document with a literal: the index has a posting list
+//! under it.
 
-ghost use Rattle.std.specs.Prelude.{◌≡◌, [], fold, filter, length, map, Some, true, is_some, option_copied};
+ghost use Rattle.std.specs.Prelude.{◌≡◌, [], fold, filter, length, map, Some, true, is_some};
+ghost use Rattle.std.specs.Prelude.{option_copied};
 ghost use Rattle.tql_core.specs.Row.{OfDoc};
 ghost use Rattle.tql_core.specs.Values.{bind, true_atom};
 ghost use Rattle.row_index.specs.Orders.{in_window, doc_arrival};
 ghost use Rattle.row_index.specs.Texts.{texts_of, with_text};
-ghost use Rattle.probe_eval.specs.Literals.{field_kind, list_field_kind, kind_if, literal_kind, literal_of};
+ghost use Rattle.probe_eval.specs.Literals.{field_kind, list_field_kind, kind_if, literal_kind};
+ghost use Rattle.probe_eval.specs.Literals.{literal_of};
 ghost use Rattle.probe_eval.specs.Literals.{list_length, shorter, rarer, rarest, chosen};
 
 use crate::row_walk::RowWalk;
@@ -46,8 +49,9 @@ fn kind_if(var: Var, of: Var, kind: Option<TextKind>) -> Option<TextKind>
     if of.0 == var.0 { kind } else { None }
 }
 
-/// Returns the kind of text that a guard asks of the variable's document by a literal. `None` comes if and only if the guard
-/// isn't such a comparison or the index doesn't find documents by the field.
+/// Returns the kind of text that a guard asks of the variable's document by a literal. `None` comes
+/// if and only if the guard isn't such a comparison or the index doesn't find documents by the
+/// field.
 pub(crate) fn literal_kind(var: Var, guard: &Atom) -> Option<TextKind>
     ensures { result ≡ literal_kind var guard.now }
 {
@@ -86,7 +90,8 @@ fn count_under(kind: TextKind, text: &[u8], index: &RowIndex) -> usize
 
 // Returns the documents that have the text, of this kind, and that arrived in a window.
 fn docs_under<'a>(kind: TextKind, text: &[u8], w: Window, index: &'a RowIndex) -> RowWalk<'a>
-    ensures { result ≡ map OfDoc (in_window doc_arrival w.low w.high (with_text (texts_of kind) text.now index.now.docs)) }
+    ensures { result ≡ map OfDoc
+        (in_window doc_arrival w.low w.high (with_text (texts_of kind) text.now index.now.docs)) }
 {
     let list = index.by_text_arrived(kind, text, w.low, w.high);
     RowWalk::of_docs(list.walk())
@@ -146,7 +151,8 @@ fn rarest_of<'a>(
     before: Option<&'a Atom>,
     guards: &'a [Atom],
 ) -> Option<&'a Atom>
-    ensures { option_copied result ≡ fold (rarer index.now var) (option_copied before.entry) guards.now }
+    ensures { option_copied result
+        ≡ fold (rarer index.now var) (option_copied before.entry) guards.now }
 {
     let mut best = before;
     for guard in guards {
@@ -155,7 +161,8 @@ fn rarest_of<'a>(
     best
 }
 
-// Returns of the guards of a path by a literal that of the shortest posting list. `None` comes if and only if there is none.
+// Returns of the guards of a path by a literal that of the shortest posting list. `None` comes if
+// and only if there is none.
 fn rarest<'a>(index: &RowIndex, var: Var, path: &'a [Step]) -> Option<&'a Atom>
     ensures { option_copied result ≡ rarest index.now var path.now }
 {
@@ -183,7 +190,8 @@ pub(crate) fn chosen<'a>(
     }
 }
 
-/// Returns the documents under the guard's literal that arrived in a window, by two halvings of the posting list.
+/// Returns the documents under the guard's literal that arrived in a window, by two halvings of the
+/// posting list.
 pub(crate) fn under_literal<'a>(
     guard: &'a Atom,
     var: Var,
@@ -191,7 +199,8 @@ pub(crate) fn under_literal<'a>(
     index: &'a RowIndex,
 ) -> RowWalk<'a>
     requires { is_some (literal_kind var guard.now) ≡ true }
-    ensures { result ≡ filter (λ row. true_atom guard.now (bind var row [])) (map OfDoc (in_window doc_arrival w.low w.high index.now.docs)) }
+    ensures { result ≡ filter (λ row. true_atom guard.now (bind var row []))
+        (map OfDoc (in_window doc_arrival w.low w.high index.now.docs)) }
 {
     match literal_kind(var, guard) {
         None => RowWalk::none(),

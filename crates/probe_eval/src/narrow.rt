@@ -1,7 +1,8 @@
 //! The rows of a reach, without those that a guard between numbers or the mark rules out.
 //!
-//! A posting list is in order of number and of arrival. A guard such as `r.id > m.id` rules out all of its front, or all of its
-//! end, and the mark all of its end, so that these are found by halving and not walked.
+//! A posting list is in order of number and of arrival. A guard such as `r.id > m.id` rules out all
+//! of its front, or all of its end, and the mark all of its end, so that these are found by halving
+//! and not walked.
 
 ghost use Rattle.std.specs.Prelude.{IfSome};
 ghost use Rattle.tql_core.specs.Row.{OfDoc};
@@ -24,12 +25,15 @@ use tap_base::DocNum;
 use time_marks::Step;
 use tql_core::{Atom, Env, Var};
 
-/// How many documents a posting list has at least that is walked in part: a walk over a shorter one costs no more.
+/// How many documents a posting list has at least that is walked in part: a walk over a shorter one
+/// costs no more.
 pub const LONG: usize = 8;
 
-// Returns the bound on this side of the numbers of the variable's documents, by the first guard that gives one.
+// Returns the bound on this side of the numbers of the variable's documents, by the first guard
+// that gives one.
 fn bound_in(guards: &[Atom], side: Side, var: Var, env: &Env) -> Option<DocNum>
-    ensures { IfSome result (λ num. RulesOut side (λ d. are_open (bind var (OfDoc d) env.now) guards.now) num.0) }
+    ensures { IfSome result (λ num.
+        RulesOut side (λ d. are_open (bind var (OfDoc d) env.now) guards.now) num.0) }
 {
     match guards.split_first() {
         None => None,
@@ -40,9 +44,11 @@ fn bound_in(guards: &[Atom], side: Side, var: Var, env: &Env) -> Option<DocNum>
     }
 }
 
-// Returns the bound on this side of the numbers of the variable's documents, by the first guard of the path that gives one.
+// Returns the bound on this side of the numbers of the variable's documents, by the first guard of
+// the path that gives one.
 fn bound_on(path: &[Step], side: Side, var: Var, env: &Env) -> Option<DocNum>
-    ensures { IfSome result (λ num. RulesOut side (λ d. path_open path.now (bind var (OfDoc d) env.now)) num.0) }
+    ensures { IfSome result (λ num.
+        RulesOut side (λ d. path_open path.now (bind var (OfDoc d) env.now)) num.0) }
 {
     match path.split_first() {
         None => None,
@@ -53,8 +59,9 @@ fn bound_on(path: &[Step], side: Side, var: Var, env: &Env) -> Option<DocNum>
     }
 }
 
-/// Returns the documents of a posting list, or of a part of one, with which as the variable's rows there may be a way on. Of a
-/// long one those are left out that arrived after the mark, or that a guard between numbers rules out.
+/// Returns the documents of a posting list, or of a part of one, with which as the variable's rows
+/// there may be a way on. Of a long one those are left out that arrived after the mark, or that a
+/// guard between numbers rules out.
 pub fn docs_beside<'a>(
     path: &[Step],
     var: Var,
@@ -63,7 +70,8 @@ pub fn docs_beside<'a>(
     env: &Env,
 ) -> PostingList<'a>
     requires { IsSorted docs }
-    ensures { LeavesFalse (λ d. may_go path.now mark (bind var (OfDoc d) env.now)) docs.entry result }
+    ensures { LeavesFalse (λ d. may_go path.now mark (bind var (OfDoc d) env.now))
+        docs.entry result }
 {
     if docs.len() < LONG {
         return docs;
@@ -73,8 +81,8 @@ pub fn docs_beside<'a>(
     between(docs.arrived_to(mark), low, high)
 }
 
-/// Returns the rows of the reach beside those of `env`, by its access. Of a long posting list those are left out that the mark
-/// or a guard between numbers rules out.
+/// Returns the rows of the reach beside those of `env`, by its access. Of a long posting list those
+/// are left out that the mark or a guard between numbers rules out.
 pub fn rows_beside<'a>(
     path: &[Step],
     reach: ReachRef<'a>,

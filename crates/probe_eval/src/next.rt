@@ -17,7 +17,8 @@ pub enum Next<'a> {
 }
 
 impl<'a> Next<'a> {
-    /// Returns the step of the path that is looked for next beside the rows of `env`. It is found the first time.
+    /// Returns the step of the path that is looked for next beside the rows of `env`. It is found
+    /// the first time.
     pub fn get(&mut self, path: &'a [Step], env: &Env) -> Option<ReachRef<'a>>
         requires { IsNearestIfKnown path.now env.now self.old }
         ensures reach { option_reach result ≡ nearest path.now env.now }

@@ -6,14 +6,16 @@ ghost use Rattle.tql_core.specs.Values.{bind, true_atom};
 ghost use Rattle.row_index.specs.Orders.{Rising, doc_rank};
 ghost use Rattle.probe_eval.specs.declared.side.Side.TheVariants.{Above, Below};
 ghost use Rattle.probe_eval.specs.Open.{may_hold};
-ghost use Rattle.probe_eval.specs.NumberBounds.{HasNumber, IsBoundBeside, RulesOut, cut_above, cut_below, between};
+ghost use Rattle.probe_eval.specs.NumberBounds.{HasNumber, IsBoundBeside, RulesOut, cut_above};
+ghost use Rattle.probe_eval.specs.NumberBounds.{cut_below, between};
 
 use crate::side::Side;
 use row_index::PostingList;
 use tap_base::{DocNum, Op};
 use tql_core::{Atom, Env, NumExpr, NumField, RowRef, Var};
 
-// Returns the number of the other variable's document, if the first one is the variable whose rows are looked for.
+// Returns the number of the other variable's document, if the first one is the variable whose rows
+// are looked for.
 fn number_beside(of: Var, other: Var, var: Var, env: &Env) -> Option<DocNum>
     ensures { IfSome result (λ num. IsBoundBeside of other var env.now num) }
 {
@@ -26,10 +28,13 @@ fn number_beside(of: Var, other: Var, var: Var, env: &Env) -> Option<DocNum>
     }
 }
 
-// Returns the bound on this side of the variable's numbers, if the higher and the lower number are those of these variables.
+// Returns the bound on this side of the variable's numbers, if the higher and the lower number are
+// those of these variables.
 fn bound_beside(higher: Var, lower: Var, side: Side, var: Var, env: &Env) -> Option<DocNum>
-    ensures above { side ≡ Above → IfSome result (λ num. IsBoundBeside higher lower var env.now num) }
-    ensures below { side ≡ Below → IfSome result (λ num. IsBoundBeside lower higher var env.now num) }
+    ensures above { side ≡ Above
+        → IfSome result (λ num. IsBoundBeside higher lower var env.now num) }
+    ensures below { side ≡ Below
+        → IfSome result (λ num. IsBoundBeside lower higher var env.now num) }
 {
     match side {
         Side::Above => number_beside(higher, lower, var, env),
@@ -37,10 +42,13 @@ fn bound_beside(higher: Var, lower: Var, side: Side, var: Var, env: &Env) -> Opt
     }
 }
 
-/// Returns the bound on this side of the numbers of the variable's documents, if the guard gives one.
+/// Returns the bound on this side of the numbers of the variable's documents, if the guard gives
+/// one.
 pub(crate) fn bound_by(guard: &Atom, side: Side, var: Var, env: &Env) -> Option<DocNum>
-    ensures truth { IfSome result (λ num. RulesOut side (λ d. true_atom guard.now (bind var (OfDoc d) env.now)) num.0) }
-    ensures open { IfSome result (λ num. RulesOut side (λ d. may_hold (bind var (OfDoc d) env.now) guard.now) num.0) }
+    ensures truth { IfSome result (λ num.
+        RulesOut side (λ d. true_atom guard.now (bind var (OfDoc d) env.now)) num.0) }
+    ensures open { IfSome result (λ num.
+        RulesOut side (λ d. may_hold (bind var (OfDoc d) env.now) guard.now) num.0) }
 {
     match guard {
         Atom::Numbers(
@@ -79,7 +87,8 @@ fn cut_below<'a>(docs: PostingList<'a>, bound: Option<DocNum>) -> PostingList<'a
     }
 }
 
-/// Returns the documents whose numbers lie between the bounds, as far as there are such, by halving.
+/// Returns the documents whose numbers lie between the bounds, as far as there are such, by
+/// halving.
 pub(crate) fn between<'a>(
     docs: PostingList<'a>,
     low: Option<DocNum>,

@@ -2,7 +2,8 @@
 
 ghost use Rattle.std.specs.Prelude.{◌≡◌, ◌&&◌};
 ghost use Rattle.access_plan.specs.Views.{is_known};
-ghost use Rattle.probe_eval.specs.Open.{base_known, number_known, text_known, atom_known, may_hold, are_open, path_open, may_go};
+ghost use Rattle.probe_eval.specs.Open.{base_known, number_known, text_known, atom_known, may_hold};
+ghost use Rattle.probe_eval.specs.Open.{are_open, path_open, may_go};
 ghost use Rattle.probe_eval.specs.Open.{is_apart, are_apart, path_apart};
 
 use access_plan::Known;
@@ -85,7 +86,8 @@ fn path_open<'a>(path: &'a [Step], env: &Env<'a>) -> bool
     true
 }
 
-// Returns whether the guard doesn't name the variable, or names besides it only variables that have a row.
+// Returns whether the guard doesn't name the variable, or names besides it only variables that have
+// a row.
 fn is_apart(env: &Env, var: Var, guard: &Atom) -> bool
     ensures { result ≡ is_apart env.now var guard.now }
 {
@@ -116,15 +118,17 @@ pub(crate) fn path_apart(path: &[Step], env: &Env, var: Var) -> bool
     true
 }
 
-/// Returns whether the rows so far have arrived by the mark and no guard that can be evaluated is false.
+/// Returns whether the rows so far have arrived by the mark and no guard that can be evaluated is
+/// false.
 pub(crate) fn may_go<'a>(path: &'a [Step], mark: i64, env: &Env<'a>) -> bool
     ensures { result ≡ may_go path.now mark env.now }
 {
     env.come_by(mark) && path_open(path, env)
 }
 
-/// Returns whether one row of the variable decides for all of them in a search for the rest of the path beside `env`: it may
-/// go on, and no guard names the variable and another one that has no row yet.
+/// Returns whether one row of the variable decides for all of them in a search for the rest of the
+/// path beside `env`: it may go on, and no guard names the variable and another one that has no row
+/// yet.
 pub(crate) fn is_like_others<'a>(
     path: &'a [Step],
     mark: i64,

@@ -15,8 +15,8 @@ use tap_base::Steps;
 use time_marks::Step;
 use tql_core::Env;
 
-/// Returns the step of a path that is looked for next. `None` comes if each has a row or the rows so far are refused. The
-/// nearest step is found once for all rows of a level.
+/// Returns the step of a path that is looked for next. `None` comes if each has a row or the rows
+/// so far are refused. The nearest step is found once for all rows of a level.
 pub(crate) fn further_once<'a>(
     path: &'a [Step],
     next: &mut Next<'a>,
@@ -34,10 +34,11 @@ pub(crate) fn further_once<'a>(
     }
 }
 
-/// Returns whether there are rows for the rest of the path, arrived by the mark, with which all guards are true. It stops at
-/// the first row that decides: beside it the rest exists, or no guard names it and a row that is still looked for, so that
-/// there is no rest beside any other row of its level. At most as many steps are left as `order` has. The nearest step is
-/// found once for all rows of a level.
+/// Returns whether there are rows for the rest of the path, arrived by the mark, with which all
+/// guards are true. It stops at the first row that decides: beside it the rest exists, or no guard
+/// names it and a row that is still looked for, so that there is no rest beside any other row of
+/// its level. At most as many steps are left as `order` has. The nearest step is found once for all
+/// rows of a level.
 pub(crate) fn rest_exists<'a, L: Ledger>(
     path: &'a [Step],
     order: &'a [Reach],

@@ -18,7 +18,8 @@ struct One<'a> {
     num: DocNum,
 }
 
-// The documents of a list of message ids: those that are left of one of them, and the message ids behind it.
+// The documents of a list of message ids: those that are left of one of them, and the message ids
+// behind it.
 #[derive(Drop)]
 struct Referenced<'a> {
     index: &'a RowIndex,
@@ -54,7 +55,8 @@ impl<'a> Model for RowWalk<'a> {
 
 // Returns the document of a number, with one step if there is one.
 fn doc_of<'a, L: Ledger>(one: &One<'a>, steps: &mut Steps<L>) -> Option<RowRef<'a>>
-    ensures row { row_list result ≡ map OfDoc (option_to_list (find (λ doc. nat_eq doc.num.0 one.now.num.0) one.now.index.now.docs)) }
+    ensures row { row_list result ≡ map OfDoc
+        (option_to_list (find (λ doc. nat_eq doc.num.0 one.now.num.0) one.now.index.now.docs)) }
     ensures steps { steps.new ≡ steps.old + length (row_list result) }
 {
     match one.index.doc(one.num, steps) {
@@ -116,7 +118,8 @@ impl<'a> RowWalk<'a> {
 
     /// Returns a walk over the document of this number, if there is one.
     pub fn of_one(index: &'a RowIndex, num: DocNum) -> RowWalk<'a>
-        ensures { result ≡ map OfDoc (option_to_list (find (λ doc. nat_eq doc.num.0 num.0) index.now.docs)) }
+        ensures { result
+            ≡ map OfDoc (option_to_list (find (λ doc. nat_eq doc.num.0 num.0) index.now.docs)) }
     {
         RowWalk {
             left: Left::One(One { index, num }),
@@ -138,7 +141,8 @@ impl<'a> RowWalk<'a> {
         }
     }
 
-    /// Removes and returns the next row, with one step. `None` comes if and only if no row is left, and then no step.
+    /// Removes and returns the next row, with one step. `None` comes if and only if no row is left,
+    /// and then no step.
     pub fn next<L: Ledger>(&mut self, steps: &mut Steps<L>) -> Option<RowRef<'a>>
         ensures rows { self.old ≡ row_list result ++ self.new }
         ensures end { result ≡ None → self.old ≡ [] }

@@ -16,7 +16,7 @@ use crate::answers::body_answer;
 use crate::bodies::body_holds;
 use crate::open::may_go;
 use crate::rests::rest_exists;
-use crate::{TruthOfRows, Next};
+use crate::{Next, TruthOfRows};
 use access_plan::{Plan, Reach};
 use little_box::LittleBox;
 use row_index::RowIndex;
@@ -43,7 +43,8 @@ pub fn new_doc(seen: &LittleBox, doc: &KeptDoc) -> Option<DocNum>
     if seen.has(num) { None } else { Some(num) }
 }
 
-// Returns whether the rest of the path exists beside these rows. If that is sure, it exists if they may go on.
+// Returns whether the rest of the path exists beside these rows. If that is sure, it exists if they
+// may go on.
 fn has_rest<'a, L: Ledger>(
     search: &Search<'a>,
     order: &'a [Reach],
@@ -54,10 +55,13 @@ fn has_rest<'a, L: Ledger>(
     steps: &mut Steps<L>,
 ) -> bool
     requires walk { CanWalk search.now order.now next.old env.now }
-    requires sure { IsSure search.now.index.now search.now.probe.now.path mark order.now env.now sure }
-    ensures rest { result ≡ rest_of search.now.index.now search.now.probe.now.path mark order.now env.now }
+    requires sure { IsSure search.now.index.now search.now.probe.now.path mark
+        order.now env.now sure }
+    ensures rest { result
+        ≡ rest_of search.now.index.now search.now.probe.now.path mark order.now env.now }
     ensures next { IsNearestIfKnown search.now.probe.now.path env.now next.new }
-    ensures steps { steps.new ≤ steps.old + (if sure then 0 else rest_cost search.now.index.now search.now.probe.now.path mark order.now env.now) }
+    ensures steps { steps.new ≤ steps.old + (if sure then 0
+          else rest_cost search.now.index.now search.now.probe.now.path mark order.now env.now) }
     ensures more { steps.old ≤ steps.new }
 {
     let path = search.probe.path.as_slice();
@@ -68,9 +72,10 @@ fn has_rest<'a, L: Ledger>(
     }
 }
 
-/// Returns whether the rest of the path exists beside these rows and the body is true of them. `Never` comes only if the body
-/// is false whatever document the query is about. If the rest is sure to exist beside rows that may go on, it isn't looked for.
-/// The nearest step is found once for all rows of a level.
+/// Returns whether the rest of the path exists beside these rows and the body is true of them.
+/// `Never` comes only if the body is false whatever document the query is about. If the rest is
+/// sure to exist beside rows that may go on, it isn't looked for. The nearest step is found once
+/// for all rows of a level.
 pub fn answer_here<'a, L: Ledger>(
     search: &Search<'a>,
     order: &'a [Reach],
@@ -81,10 +86,13 @@ pub fn answer_here<'a, L: Ledger>(
     steps: &mut Steps<L>,
 ) -> TruthOfRows
     requires { CanAnswer search.now order.now next.old sure env.now mark }
-    ensures holds { is_true result ≡ holds_here search.now.index.now (searched search.now) mark order.now env.now }
-    ensures never { result ≡ Never → IsNever search.now.index.now query_var (searched search.now).body env.now }
+    ensures holds { is_true result
+        ≡ holds_here search.now.index.now (searched search.now) mark order.now env.now }
+    ensures never { result ≡ Never
+        → IsNever search.now.index.now query_var (searched search.now).body env.now }
     ensures next { IsNearestIfKnown search.now.probe.now.path env.now next.new }
-    ensures steps { steps.new ≤ steps.old + cost_here search.now.index.now (searched search.now) mark sure order.now env.now }
+    ensures steps { steps.new ≤ steps.old
+        + cost_here search.now.index.now (searched search.now) mark sure order.now env.now }
     ensures more { steps.old ≤ steps.new }
 {
     if has_rest(search, order, next, sure, env, mark, steps) {
@@ -95,8 +103,9 @@ pub fn answer_here<'a, L: Ledger>(
     }
 }
 
-/// Returns whether the rest of the path exists beside these rows and the body is true of them. If the rest is sure to exist
-/// beside rows that may go on, it isn't looked for. The nearest step is found once for all rows of a level.
+/// Returns whether the rest of the path exists beside these rows and the body is true of them. If
+/// the rest is sure to exist beside rows that may go on, it isn't looked for. The nearest step is
+/// found once for all rows of a level.
 pub fn holds_here<'a, L: Ledger>(
     search: &Search<'a>,
     order: &'a [Reach],
@@ -107,9 +116,11 @@ pub fn holds_here<'a, L: Ledger>(
     steps: &mut Steps<L>,
 ) -> bool
     requires { CanAnswer search.now order.now next.old sure env.now mark }
-    ensures holds { result ≡ holds_here search.now.index.now (searched search.now) mark order.now env.now }
+    ensures holds { result
+        ≡ holds_here search.now.index.now (searched search.now) mark order.now env.now }
     ensures next { IsNearestIfKnown search.now.probe.now.path env.now next.new }
-    ensures steps { steps.new ≤ steps.old + cost_here search.now.index.now (searched search.now) mark sure order.now env.now }
+    ensures steps { steps.new ≤ steps.old
+        + cost_here search.now.index.now (searched search.now) mark sure order.now env.now }
     ensures more { steps.old ≤ steps.new }
 {
     has_rest(search, order, next, sure, env, mark, steps)
@@ -118,7 +129,8 @@ pub fn holds_here<'a, L: Ledger>(
 
 /// Returns the order in which the part at this place of the query binds its variables.
 pub fn order_at(plan: &Plan, place: usize) -> &[Reach]
-    ensures { (part : Ranged) → slice_get plan.now.query.parts place ≡ Some part → result.now ≡ part_order part }
+    ensures { (part : Ranged) → slice_get plan.now.query.parts place ≡ Some part
+        → result.now ≡ part_order part }
 {
     match plan.orders.as_slice().get(place) {
         None => &[],

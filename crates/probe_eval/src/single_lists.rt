@@ -8,7 +8,8 @@ use access_plan::AccessRef;
 use row_index::{PostingList, RowIndex, TextKind};
 use tql_core::{Env, text};
 
-/// The documents under a text of a kind of which each document has at most one, so that each stands in one such list.
+/// The documents under a text of a kind of which each document has at most one, so that each stands
+/// in one such list.
 #[derive(Drop)]
 pub struct SingleList<'a> {
     pub kind: TextKind,
@@ -21,7 +22,8 @@ fn list_under<'a>(
     text: Option<&[u8]>,
     index: &'a RowIndex,
 ) -> Option<SingleList<'a>>
-    ensures some { IfSome result (λ found. IsUnder kind (option_copied text.entry) index.now found) }
+    ensures some { IfSome result (λ found.
+        IsUnder kind (option_copied text.entry) index.now found) }
     ensures none { result ≡ None → option_copied text.entry ≡ None }
 {
     match text {
@@ -33,14 +35,15 @@ fn list_under<'a>(
     }
 }
 
-/// Returns the posting list that the access reaches, by one look-up. `None` comes if and only if it goes by no text of which each
-/// document has at most one, or the row that has that text has none.
+/// Returns the posting list that the access reaches, by one look-up. `None` comes if and only if it
+/// goes by no text of which each document has at most one, or the row that has that text has none.
 pub fn single_list<'a>(
     access: AccessRef<'a>,
     env: &Env<'a>,
     index: &'a RowIndex,
 ) -> Option<SingleList<'a>>
-    ensures some { IfSome result (λ found. ReachesList index.now (access_at access.entry) env.now found) }
+    ensures some { IfSome result (λ found.
+        ReachesList index.now (access_at access.entry) env.now found) }
     ensures none { result ≡ None → single_text (access_at access.entry) env.now ≡ None }
 {
     // Brings into scope that the documents arrived in order of their numbers.

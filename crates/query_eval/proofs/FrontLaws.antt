@@ -1,5 +1,6 @@
 -- Fronts of posting lists, and what a walk behind them leaves out.
-use Rattle.std.proofs.Common.{◌≡◌, ◌∙◌, ◌+◌, ◌≤◌, ℕ, ℤ, zero, suc, Bool, true, false, Option, Some, None, List, [], ◌∷◌, ◌++◌, map, take, drop, refl, sym, ap, subst, inl, inr, arith}
+use Rattle.std.proofs.Common.{◌≡◌, ◌∙◌, ◌+◌, ◌≤◌, ℕ, ℤ, zero, suc, Bool, true, false, Option, Some, None, List, [], ◌∷◌, ◌++◌, map, take}
+use Rattle.std.proofs.Common.{drop, refl, sym, ap, subst, inl, inr, arith}
 use Rattle.std.specs.Prelude.{◌≤ℤ◌, ◌⊎◌, IfSome, filter, length, slice_get, slice_set, option_to_list}
 use Rattle.std.specs.List.{flat_map}
 use Rattle.std.proofs.lemmas.Int.{ints}
@@ -34,7 +35,8 @@ use Rattle.probe_eval.proofs.WalkedLaws.{none_over}
 use Rattle.query_eval.specs.declared.least_hits.LeastHits.{LeastHits}
 use Rattle.query_eval.specs.declared.fronts.Front.{Front}
 use Rattle.query_eval.specs.Lowest.{keeping}
-use Rattle.query_eval.specs.Fronts.{IsDone, BeginsWith, IsPassed, IsFrontPassed, ArePassed, IsFrontOf, AreDoneDocs, AreDocsBehind, AreBehind}
+use Rattle.query_eval.specs.Fronts.{IsDone, BeginsWith, IsPassed, IsFrontPassed, ArePassed, IsFrontOf, AreDoneDocs, AreDocsBehind}
+use Rattle.query_eval.specs.Fronts.{AreBehind}
 use Rattle.query_eval.proofs.StableHits.{done_stays, done_later}
 use Rattle.query_eval.proofs.Steps.{keeping_append}
 
@@ -69,13 +71,15 @@ module _ {A : Type 0} where
   each_put P (y ∷ ys) zero x h p = (p, h.1)
   each_put P (y ∷ ys) (suc k) x h p = (h.0, each_put P ys k x h.1 p)
 
-  each_suc : (P : A → Type 0) (xs : List A) (n : ℕ) → Each P (take n xs) → ((x : A) → slice_get xs n ≡ Some x → P x) → Each P (take (suc n) xs)
+  each_suc : (P : A → Type 0) (xs : List A) (n : ℕ) → Each P (take n xs) → ((x : A) → slice_get xs n ≡ Some x → P x)
+      → Each P (take (suc n) xs)
   each_suc P [] n h f = tt
   each_suc P (x ∷ xs) zero h f = (f x refl, tt)
   each_suc P (x ∷ xs) (suc n) h f = (h.0, each_suc P xs n h.1 f)
 
   -- one more at the end of a front
-  pub each_longer : (P : A → Type 0) (xs : List A) (n : ℕ) → Each P (take n xs) → ((x : A) → slice_get xs n ≡ Some x → P x) → Each P (take (n + 1) xs)
+  pub each_longer : (P : A → Type 0) (xs : List A) (n : ℕ) → Each P (take n xs) → ((x : A) → slice_get xs n ≡ Some x → P x)
+      → Each P (take (n + 1) xs)
   each_longer P xs n h f = subst (λ k. Each P (take k xs)) (one_more n) (each_suc P xs n h f)
     where
       one_more : (k : ℕ) → suc k ≡ k + 1
@@ -94,7 +98,8 @@ module _ {A : Type 0} where
 
 -- documents in order are so behind a front
 pub sorted_behind : (n : ℕ) (docs : List Doc) → IsSorted docs → IsSorted (drop n docs)
-sorted_behind n docs s = record { arrivals = rising_behind doc_arrival n docs s.arrivals; numbers = rising_behind doc_rank n docs s.numbers }
+sorted_behind n docs s =
+    record { arrivals = rising_behind doc_arrival n docs s.arrivals; numbers = rising_behind doc_rank n docs s.numbers }
 
 module _ (entries : List Entry) (docs : List Doc) (n : ℕ) (kept : List Hit) where
   -- nothing is said of no documents
@@ -102,7 +107,8 @@ module _ (entries : List Entry) (docs : List Doc) (n : ℕ) (kept : List Hit) wh
   passed_none kind first b = record { done = λ text begins. tt }
 
   -- what a stored front says of its list
-  pub passed_by : (fronts : List Front) (front : Front) (kind : TextKind) (first : ℕ) (b : ℤ) → ArePassed entries docs n kept fronts → In front fronts → IsFrontOf kind first b front → IsPassed entries docs n kept kind first b front.len
+  pub passed_by : (fronts : List Front) (front : Front) (kind : TextKind) (first : ℕ) (b : ℤ) → ArePassed entries docs n kept fronts
+      → In front fronts → IsFrontOf kind first b front → IsPassed entries docs n kept kind first b front.len
   passed_by fronts front kind first b a i o =
       let own = each_one (IsFrontPassed entries docs n kept) fronts front a.each i in
       let same : IsPassed entries docs n kept kind first front.mark front.len =
@@ -115,17 +121,20 @@ module _ (entries : List Entry) (docs : List Doc) (n : ℕ) (kept : List Hit) wh
             (same.done text begins);
       }
 
-  pub passed_put : (fronts : List Front) (k : ℕ) (front : Front) → ArePassed entries docs n kept fronts → IsFrontPassed entries docs n kept front → ArePassed entries docs n kept (slice_set fronts k front)
+  pub passed_put : (fronts : List Front) (k : ℕ) (front : Front) → ArePassed entries docs n kept fronts
+      → IsFrontPassed entries docs n kept front → ArePassed entries docs n kept (slice_set fronts k front)
   passed_put fronts k front a p = record { each = each_put (IsFrontPassed entries docs n kept) fronts k front a.each p }
 
-  pub passed_more : (fronts : List Front) (front : Front) → ArePassed entries docs n kept fronts → IsFrontPassed entries docs n kept front → ArePassed entries docs n kept (fronts ++ front ∷ [])
+  pub passed_more : (fronts : List Front) (front : Front) → ArePassed entries docs n kept fronts → IsFrontPassed entries docs n kept front
+      → ArePassed entries docs n kept (fronts ++ front ∷ [])
   passed_more fronts front a p = record { each = each-append (IsFrontPassed entries docs n kept) fronts (front ∷ []) a.each (p, tt) }
 
   pub passed_empty : (fronts : List Front) → fronts ≡ [] → ArePassed entries docs n kept fronts
   passed_empty fronts e = record { each = subst (λ fs. Each (IsFrontPassed entries docs n kept) fs) (sym e) tt }
 
   -- they stay passed as more hits are stored
-  pub passed_stay : (fronts : List Front) (hs : List Hit) → ArePassed entries docs n kept fronts → ArePassed entries docs n (keeping n kept hs) fronts
+  pub passed_stay : (fronts : List Front) (hs : List Hit) → ArePassed entries docs n kept fronts
+      → ArePassed entries docs n (keeping n kept hs) fronts
   passed_stay fronts hs a = record {
     each = each-map (IsFrontPassed entries docs n kept) (IsFrontPassed entries docs n (keeping n kept hs)) fronts
         (λ front p.
@@ -139,20 +148,25 @@ module _ (entries : List Entry) (docs : List Doc) (n : ℕ) (kept : List Hit) wh
         a.each;
   }
 
-pub passed_on : (entries : List Entry) (docs : List Doc) (n m : ℕ) (kept now : List Hit) (fronts : List Front) (hs : List Hit) → m ≡ n → now ≡ keeping n kept hs → ArePassed entries docs n kept fronts → ArePassed entries docs m now fronts
+pub passed_on : (entries : List Entry) (docs : List Doc) (n m : ℕ) (kept now : List Hit) (fronts : List Front) (hs : List Hit) → m ≡ n
+    → now ≡ keeping n kept hs → ArePassed entries docs n kept fronts → ArePassed entries docs m now fronts
 passed_on entries docs n m kept now fronts hs q e a =
     subst (λ k. ArePassed entries docs k now fronts) (sym q)
     (subst (λ hits. ArePassed entries docs n hits fronts) (sym e) (passed_stay entries docs n kept fronts hs a))
 
 -- the number of the document at a place
-pub number_at : (docs : List Doc) (place : ℕ) (num : DocNum) (d : Doc) → Some num ≡ doc_num (slice_get docs place) → slice_get docs place ≡ Some d → d.num ≡ num
+pub number_at : (docs : List Doc) (place : ℕ) (num : DocNum) (d : Doc) → Some num ≡ doc_num (slice_get docs place)
+    → slice_get docs place ≡ Some d → d.num ≡ num
 number_at docs place num d e g = sym (num_is (e ∙ ap doc_num g))
   where
     num_is : {x y : DocNum} → Some x ≡ Some y → x ≡ y
     num_is q = cc
 
 -- the front of one list is that of each list of its kind that begins with the same document
-pub passed_here : (entries : List Entry) (docs : List Doc) (n : ℕ) (kept : List Hit) (kind : TextKind) (text : List ℕ) (list : List Doc) (first : DocNum) (b : ℤ) (len : ℕ) → is_single kind ≡ true → InPlace doc_number doc_arrival docs → list ≡ with_text (texts_of kind) text docs → Some first ≡ doc_num (slice_get list 0) → Each (IsDone entries n kept b) (take len list) → IsPassed entries docs n kept kind first.0 b len
+pub passed_here : (entries : List Entry) (docs : List Doc) (n : ℕ) (kept : List Hit) (kind : TextKind) (text : List ℕ) (list : List Doc)
+    (first : DocNum) (b : ℤ) (len : ℕ) → is_single kind ≡ true → InPlace doc_number doc_arrival docs
+    → list ≡ with_text (texts_of kind) text docs → Some first ≡ doc_num (slice_get list 0) → Each (IsDone entries n kept b) (take len list)
+    → IsPassed entries docs n kept kind first.0 b len
 passed_here entries docs n kept kind text list first b len single stand is number done = record {
   done = λ other begins.
       subst (λ ds. Each (IsDone entries n kept b) (take len ds)) (is ∙ same other begins) done;
@@ -164,17 +178,22 @@ passed_here entries docs n kept kind text list first b len single stand is numbe
     none_is : {x : DocNum} → Some x ≡ None → ⊥
     none_is e = cc
 
-    meet : (other : List ℕ) (ls os : List Doc) → with_text (texts_of kind) text docs ≡ ls → with_text (texts_of kind) other docs ≡ os → Some first ≡ doc_num (slice_get ls 0) → BeginsWith first.0 os → with_text (texts_of kind) text docs ≡ with_text (texts_of kind) other docs
+    meet : (other : List ℕ) (ls os : List Doc) → with_text (texts_of kind) text docs ≡ ls → with_text (texts_of kind) other docs ≡ os
+        → Some first ≡ doc_num (slice_get ls 0) → BeginsWith first.0 os
+        → with_text (texts_of kind) text docs ≡ with_text (texts_of kind) other docs
     meet other ls [] l o n begins = absurd begins
     meet other [] (e ∷ es) l o n begins = absurd (none_is n)
     meet other (d ∷ ds) (e ∷ es) l o n begins =
         lists_of_one_kind_are_apart kind text other docs d e ds es single stand l o (ap (λ (z : DocNum). z.0) (sym (num_is n)) ∙ sym begins)
 
-    same : (other : List ℕ) → BeginsWith first.0 (with_text (texts_of kind) other docs) → with_text (texts_of kind) text docs ≡ with_text (texts_of kind) other docs
+    same : (other : List ℕ) → BeginsWith first.0 (with_text (texts_of kind) other docs)
+        → with_text (texts_of kind) text docs ≡ with_text (texts_of kind) other docs
     same other begins = meet other _ _ refl refl (number ∙ ap (λ ds. doc_num (slice_get ds 0)) is) begins
 
 -- what the fronts say of this list
-pub known_here : (entries : List Entry) (docs : List Doc) (n : ℕ) (kept : List Hit) (kind : TextKind) (text : List ℕ) (list : List Doc) (first : DocNum) (b : ℤ) (len : ℕ) → list ≡ with_text (texts_of kind) text docs → Some first ≡ doc_num (slice_get list 0) → IsPassed entries docs n kept kind first.0 b len → Each (IsDone entries n kept b) (take len list)
+pub known_here : (entries : List Entry) (docs : List Doc) (n : ℕ) (kept : List Hit) (kind : TextKind) (text : List ℕ) (list : List Doc)
+    (first : DocNum) (b : ℤ) (len : ℕ) → list ≡ with_text (texts_of kind) text docs → Some first ≡ doc_num (slice_get list 0)
+    → IsPassed entries docs n kept kind first.0 b len → Each (IsDone entries n kept b) (take len list)
 known_here entries docs n kept kind text list first b len is number p =
     subst (λ ds. Each (IsDone entries n kept b) (take len ds)) (sym is) (p.done text (subst (BeginsWith first.0) is (begins list number)))
   where
@@ -189,7 +208,8 @@ known_here entries docs n kept kind text list first b len is number p =
     begins (d ∷ ds) e = ap (λ (z : DocNum). z.0) (sym (num_is e))
 
 -- all documents may be walked
-pub all_docs : (s : Search) (into : LeastHits) (b : ℤ) (v : Var) (env : Env) (docs left : List Doc) → left ≡ docs → AreDocsBehind s into b v env docs left
+pub all_docs : (s : Search) (into : LeastHits) (b : ℤ) (v : Var) (env : Env) (docs left : List Doc) → left ≡ docs
+    → AreDocsBehind s into b v env docs left
 all_docs s into b v env docs left e = record {
   passed = [];
   others = docs;
@@ -199,7 +219,8 @@ all_docs s into b v env docs left e = record {
 }
 
 -- rows may be walked without some with which there is no way on
-pub behind_none : (s : Search) (into : LeastHits) (b : ℤ) (v : Var) (env : Env) (rows left : List Row) → LeavesFalse (λ row. may_go s.probe.now.path b (bind v row env)) rows left → AreBehind s into b v env rows left
+pub behind_none : (s : Search) (into : LeastHits) (b : ℤ) (v : Var) (env : Env) (rows left : List Row)
+    → LeavesFalse (λ row. may_go s.probe.now.path b (bind v row env)) rows left → AreBehind s into b v env rows left
 behind_none s into b v env rows left k = record {
   passed = [];
   others = rows;
@@ -210,7 +231,8 @@ behind_none s into b v env rows left k = record {
 }
 
 -- documents of the query that are behind others are rows that are
-pub behind_docs : (s : Search) (into : LeastHits) (b : ℤ) (v : Var) (env : Env) (docs left : List Doc) (all rows : List Row) → v.0 ≡ 0 → all ≡ map OfDoc docs → rows ≡ map OfDoc left → AreDocsBehind s into b v env docs left → AreBehind s into b v env all rows
+pub behind_docs : (s : Search) (into : LeastHits) (b : ℤ) (v : Var) (env : Env) (docs left : List Doc) (all rows : List Row) → v.0 ≡ 0
+    → all ≡ map OfDoc docs → rows ≡ map OfDoc left → AreDocsBehind s into b v env docs left → AreBehind s into b v env all rows
 behind_docs s into b v env docs left all rows z e l w = record {
   passed = w.passed;
   others = map OfDoc w.others;
@@ -225,7 +247,8 @@ behind_docs s into b v env docs left all rows z e l w = record {
     parts (d ∷ ds) = ap (λ rs. OfDoc d ∷ rs) (parts ds)
 
 -- what is made of rows without those of which nothing is made is what is made of all
-flat_kept : {A B : Type 0} (f : A → List B) (keeps : A → Bool) (xs : List A) → ((x : A) → In x xs → keeps x ≡ false → f x ≡ []) → flat_map f xs ≡ flat_map f (filter keeps xs)
+flat_kept : {A B : Type 0} (f : A → List B) (keeps : A → Bool) (xs : List A) → ((x : A) → In x xs → keeps x ≡ false → f x ≡ [])
+    → flat_map f xs ≡ flat_map f (filter keeps xs)
 flat_kept f keeps [] h = refl
 flat_kept f keeps (x ∷ xs) h =
     let r = flat_kept f keeps xs (λ y i. h y (inr i)) in
@@ -249,9 +272,11 @@ module _ (s : Search) (into : LeastHits) (b : ℤ) (rest : List Reach) (env : En
   le_self x = omega (arith, ints)
 
   doc_over : v.0 ≡ 0 → (d : Doc) → over (OfDoc d) ≡ option_to_list (hit_if (here d) b (new_doc s.seen.now d))
-  doc_over z d = doc_hits s.seen.now s.index.now (searched s) b rest (bind v (OfDoc d) env) d (subst (λ k. lookup k (bind v (OfDoc d) env) ≡ Some (OfDoc d)) z (bind_same v (OfDoc d) env))
+  doc_over z d = doc_hits s.seen.now s.index.now (searched s) b rest (bind v (OfDoc d) env) d
+      (subst (λ k. lookup k (bind v (OfDoc d) env) ≡ Some (OfDoc d)) z (bind_same v (OfDoc d) env))
 
-  passed_over : v.0 ≡ 0 → (passed : List Doc) (others : List Row) → AreDoneDocs s into b passed → stored (flat_map over (map OfDoc passed ++ others)) ≡ stored (flat_map over others)
+  passed_over : v.0 ≡ 0 → (passed : List Doc) (others : List Row) → AreDoneDocs s into b passed
+      → stored (flat_map over (map OfDoc passed ++ others)) ≡ stored (flat_map over others)
   passed_over z [] others h = refl
   passed_over z (d ∷ ds) others h =
       let rest_hits = flat_map over (map OfDoc ds ++ others) in
@@ -260,13 +285,16 @@ module _ (s : Search) (into : LeastHits) (b : ℤ) (rest : List Reach) (env : En
       ∙ ap (λ k. keeping (length into.places.items) k rest_hits) one
       ∙ passed_over z ds others h.1
 
-  all_passed : (passed : List Doc) (others : List Row) → (passed ≡ []) ⊎ (v.0 ≡ 0) → AreDoneDocs s into b passed → stored (flat_map over (map OfDoc passed ++ others)) ≡ stored (flat_map over others)
+  all_passed : (passed : List Doc) (others : List Row) → (passed ≡ []) ⊎ (v.0 ≡ 0) → AreDoneDocs s into b passed
+      → stored (flat_map over (map OfDoc passed ++ others)) ≡ stored (flat_map over others)
   all_passed passed others (inl e) h = ap (λ ds. stored (flat_map over (map OfDoc ds ++ others))) e
   all_passed passed others (inr z) h = passed_over z passed others h
 
-  pub behind_hits : (rows left : List Row) → AreBehind s into b v env rows left → keeping (length into.places.items) into.hits.items (flat_map over rows) ≡ keeping (length into.places.items) into.hits.items (flat_map over left)
+  pub behind_hits : (rows left : List Row) → AreBehind s into b v env rows left → keeping (length into.places.items)
+      into.hits.items (flat_map over rows) ≡ keeping (length into.places.items) into.hits.items (flat_map over left)
   behind_hits rows left w =
-      let none : (row : Row) → In row w.others → w.leaves.keeps row ≡ false → over row ≡ [] = λ row i e. none_over s.seen.now s.index.now (searched s) b (bind v row env) (w.leaves.refused row i e) rest in
+      let none : (row : Row) → In row w.others → w.leaves.keeps row ≡ false
+          → over row ≡ [] = λ row i e. none_over s.seen.now s.index.now (searched s) b (bind v row env) (w.leaves.refused row i e) rest in
       ap (λ rs. stored (flat_map over rs)) w.rows_are
       ∙ all_passed w.passed w.others w.query_var w.done
       ∙ ap stored (flat_kept over w.leaves.keeps w.others none)
@@ -278,7 +306,8 @@ module _ (cost : Row → ℕ) where
   fewer_passed [] others = omega arith
   fewer_passed (d ∷ ds) others = let k = fewer_passed ds others in omega (arith, k)
 
-  pub behind_cost : (s : Search) (into : LeastHits) (b : ℤ) (v : Var) (env : Env) (rows left : List Row) → AreBehind s into b v env rows left → total cost left ≤ total cost rows
+  pub behind_cost : (s : Search) (into : LeastHits) (b : ℤ) (v : Var) (env : Env) (rows left : List Row)
+      → AreBehind s into b v env rows left → total cost left ≤ total cost rows
   behind_cost s into b v env rows left w =
       let r = ap (total cost) w.rows_are in
       let l = total_left (λ row. may_go s.probe.now.path b (bind v row env)) w.others left w.leaves cost in

@@ -35,7 +35,8 @@ lower_first x h = elim (cases_Bool (int_le x.first h.first)) [ inl e ↦ rw e (l
 lower_other : (x h : Hit) → int_le (lower x h).first h.first ≡ true
 lower_other x h = elim (cases_Bool (int_le x.first h.first)) [ inl e ↦ rw e e | inr e ↦ rw e (le_self h.first) ]
 
--- what a hit of the lowered list is: an old one or the new one, at most the new one of its document, and at most each old one of its document
+-- what a hit of the lowered list is: an old one or the new one, at most the new one of its document, and at most each old one of its
+-- document
 pub record IsLow (xs : List Hit) (h k : Hit) : Type 0 where
   pub from : (k ≡ h) ⊎ In k xs
   pub new : k.doc.0 ≡ h.doc.0 → int_le k.first h.first ≡ true
@@ -49,7 +50,8 @@ apart_le (z ∷ zs) k x a (inr i) (inl q) d = absurd (a.0 k i (sym d ∙ ap (λ 
 apart_le (z ∷ zs) k x a (inr i) (inr j) d = apart_le zs k x a.1 i j d
 
 pub lowered_is : (xs : List Hit) (h k : Hit) → HitsAreApart xs → In k (with_lowered xs h) → IsLow xs h k
-lowered_is [] h k a (inl e) = record { from = inl e; new = λ d. subst (λ (z : Hit). int_le z.first h.first ≡ true) (sym e) (le_self h.first); old = λ x i d. absurd i }
+lowered_is [] h k a (inl e) = record { from = inl e;
+      new = λ d. subst (λ (z : Hit). int_le z.first h.first ≡ true) (sym e) (le_self h.first); old = λ x i d. absurd i }
 lowered_is [] h k a (inr i) = absurd i
 lowered_is (x ∷ xs) h k a i = elim (cases_Bool (nat_eq x.doc.0 h.doc.0)) [
   | inl e ↦ here (nat_is x.doc.0 h.doc.0 e) (rw e at i)
@@ -64,7 +66,8 @@ lowered_is (x ∷ xs) h k a i = elim (cases_Bool (nat_eq x.doc.0 h.doc.0)) [
     }
       where
         old_one : (y : Hit) → In y (x ∷ xs) → y.doc.0 ≡ k.doc.0 → int_le k.first y.first ≡ true
-        old_one y (inl q) f = subst (λ (z : Hit). int_le z.first y.first ≡ true) (sym e) (subst (λ (z : Hit). int_le (lower x h).first z.first ≡ true) (sym q) (lower_first x h))
+        old_one y (inl q) f = subst (λ (z : Hit). int_le z.first y.first ≡ true) (sym e)
+            (subst (λ (z : Hit). int_le (lower x h).first z.first ≡ true) (sym q) (lower_first x h))
         old_one y (inr j) f = absurd (a.0 y j (f ∙ ap (λ (z : Hit). z.doc.0) e ∙ lower_doc x h d))
     here d (inr j) = record {
       from = inr (inr j);
@@ -111,7 +114,8 @@ lowered_has (z ∷ zs) h x i = elim (cases_Bool (nat_eq z.doc.0 h.doc.0)) [
     onto : (k : Hit) × In k (with_lowered zs h) × (k.doc.0 ≡ x.doc.0) → (k : Hit) × In k (z ∷ with_lowered zs h) × (k.doc.0 ≡ x.doc.0)
     onto k = (k.0, inr k.1, k.2)
 
-    there : (x ≡ h) ⊎ In x (z ∷ zs) → ((x ≡ h) ⊎ In x zs → (k : Hit) × In k (with_lowered zs h) × (k.doc.0 ≡ x.doc.0)) → (k : Hit) × In k (z ∷ with_lowered zs h) × (k.doc.0 ≡ x.doc.0)
+    there : (x ≡ h) ⊎ In x (z ∷ zs) → ((x ≡ h) ⊎ In x zs → (k : Hit) × In k (with_lowered zs h) × (k.doc.0 ≡ x.doc.0))
+        → (k : Hit) × In k (z ∷ with_lowered zs h) × (k.doc.0 ≡ x.doc.0)
     there (inl e) r = onto (r (inl e))
     there (inr (inl q)) r = (z, inl refl, sym (ap (λ (z : Hit). z.doc.0) q))
     there (inr (inr j)) r = onto (r (inr j))
@@ -167,7 +171,8 @@ kept_all D kept [] s = kept_same D (λ y. D y ⊎ In y []) kept (λ y d. inl d) 
     only : (y : Hit) → D y ⊎ In y [] → D y
     only y (inl d) = d
     only y (inr i) = absurd i
-kept_all D kept (h ∷ hs) s = kept_same (λ y. ((y ≡ h) ⊎ D y) ⊎ In y hs) (λ y. D y ⊎ In y (h ∷ hs)) (lowest (with_lowered kept h) hs) (λ y d. to y d) (λ y d. back y d) (kept_all (λ y. (y ≡ h) ⊎ D y) (with_lowered kept h) hs (kept_one D kept h s))
+kept_all D kept (h ∷ hs) s = kept_same (λ y. ((y ≡ h) ⊎ D y) ⊎ In y hs) (λ y. D y ⊎ In y (h ∷ hs)) (lowest (with_lowered kept h) hs)
+    (λ y d. to y d) (λ y d. back y d) (kept_all (λ y. (y ≡ h) ⊎ D y) (with_lowered kept h) hs (kept_one D kept h s))
   where
     to : (y : Hit) → ((y ≡ h) ⊎ D y) ⊎ In y hs → D y ⊎ In y (h ∷ hs)
     to y (inl (inl e)) = inr (inl e)

@@ -1,5 +1,6 @@
 -- The least hits of a run are the meaning of its query.
-use Rattle.std.proofs.Common.{◌≡◌, ℕ, suc, ◌+◌, ◌≤◌, ℤ, pos, Bool, true, not, List, [], ◌∷◌, Option, Some, None, refl, sym, ap, ◌∙◌, subst, inl, inr, arith}
+use Rattle.std.proofs.Common.{◌≡◌, ℕ, suc, ◌+◌, ◌≤◌, ℤ, pos, Bool, true, not, List, [], ◌∷◌, Option, Some, None, refl, sym, ap, ◌∙◌, subst}
+use Rattle.std.proofs.Common.{inl, inr, arith}
 use Rattle.std.specs.Prelude.{◌⊎◌, int_le, ◌≤ℤ◌}
 use Rattle.std.specs.List.{filter, filter_map}
 use Rattle.std.proofs.lemmas.Int.{ints}
@@ -33,7 +34,9 @@ Numbered n (doc ∷ docs) = (doc.num.0 ≡ n) × Numbered (n + 1) docs
 
 numbered_of : (n : ℕ) (low : ℤ) (docs : List Doc) → Arrived n low docs → Numbered n docs
 numbered_of n low [] h = tt
-numbered_of n low (doc ∷ docs) h = let e : suc n ≡ n + 1 = omega arith in (h.1, subst (λ m. Numbered m docs) e (numbered_of (suc n) doc.arrival docs h.2))
+numbered_of n low (doc ∷ docs) h =
+    let e : suc n ≡ n + 1 = omega arith in
+    (h.1, subst (λ m. Numbered m docs) e (numbered_of (suc n) doc.arrival docs h.2))
 
 numbered_from : (n : ℕ) (ds : List Doc) (d : Doc) → Numbered n ds → In d ds → n ≤ d.num.0
 numbered_from n [] d u i = absurd i
@@ -65,7 +68,8 @@ hit_same : (f h : Hit) → f.doc ≡ h.doc → f.first ≡ h.first → f ≡ h
 hit_same f h d e = ap (λ n. record { doc = n; first = f.first }) d ∙ ap (λ s. record { doc = h.doc; first = s }) e
 
 module _ (seen : Doc → Bool) (X : List Probe) (T : Tables) (w : Window) (numbered : Numbered 1 T.docs) where
-  apart_from : (n : ℕ) (ds : List Doc) → Numbered n ds → HitsAreApart (filter_map (λ d. hit_of d (least X T d w)) (filter (λ d. not (seen d)) ds))
+  apart_from : (n : ℕ) (ds : List Doc) → Numbered n ds
+      → HitsAreApart (filter_map (λ d. hit_of d (least X T d w)) (filter (λ d. not (seen d)) ds))
   apart_from n [] u = tt
   apart_from n (x ∷ xs) u = elim (cases_Bool (not (seen x))) [
     | inl e ↦ rw e (go (least X T x w) refl (apart_from (n + 1) xs u.1))
@@ -81,13 +85,15 @@ module _ (seen : Doc → Bool) (X : List Probe) (T : Tables) (w : Window) (numbe
           let v = u.0 in
           omega (arith, b, c, q, v)
 
-      go : (o : Option ℤ) → least X T x w ≡ o → HitsAreApart (filter_map (λ d. hit_of d (least X T d w)) (filter (λ d. not (seen d)) xs)) → HitsAreApart (filter_map (λ d. hit_of d (least X T d w)) (x ∷ filter (λ d. not (seen d)) xs))
+      go : (o : Option ℤ) → least X T x w ≡ o → HitsAreApart (filter_map (λ d. hit_of d (least X T d w)) (filter (λ d. not (seen d)) xs))
+          → HitsAreApart (filter_map (λ d. hit_of d (least X T d w)) (x ∷ filter (λ d. not (seen d)) xs))
       go None e r = rw e r
       go (Some s) e r = rw e ((λ y i q. above y i q), r)
 
   -- the same of a list in order with one hit of each document, the least of those that are found
   pub lowest_meaning : (C zs : List Hit) → AreFound seen X T w C → AreLowest (λ y. In y C) zs → InOrder zs → zs ≡ meaning_without seen X T w
-  lowest_meaning C zs all kept rising = same_rising zs (meaning_without seen X T w) rising (rising_order _ (apart_from 1 T.docs numbered)) to back
+  lowest_meaning C zs all kept rising =
+      same_rising zs (meaning_without seen X T w) rising (rising_order _ (apart_from 1 T.docs numbered)) to back
     where
       to : (h : Hit) → In h zs → In h (meaning_without seen X T w)
       to h i =
@@ -95,7 +101,8 @@ module _ (seen : Doc → Bool) (X : List Probe) (T : Tables) (w : Window) (numbe
           let m = least_is seen X T w g.doc h.first g.at g.low g.high in
           let other : Hit = record { doc = g.doc.num; first = m.0 } in
           let o = all.complete other (found_least seen X T w other g.doc g.is_row g.unseen refl m.1) in
-          let e : h.first ≡ m.0 = antisym h.first m.0 (le_back h.first m.0 (kept.least h other i o (sym (ap (λ (z : DocNum). z.0) g.num)))) m.2 in
+          let e : h.first ≡ m.0 =
+              antisym h.first m.0 (le_back h.first m.0 (kept.least h other i o (sym (ap (λ (z : DocNum). z.0) g.num)))) m.2 in
           in_meaning seen X T w h g.doc g.is_row g.unseen g.num (m.1 ∙ ap Some (sym e))
 
       back : (h : Hit) → In h (meaning_without seen X T w) → In h zs
@@ -104,14 +111,16 @@ module _ (seen : Doc → Bool) (X : List Probe) (T : Tables) (w : Window) (numbe
           let here = all.complete h (found_least seen X T w h m.0 m.1 m.2 m.3 m.4) in
           let k = kept.all h here in
           let g = all.sound k.0 (kept.among k.0 k.1) in
-          let d : g.doc ≡ m.0 = same_doc 1 T.docs g.doc m.0 numbered g.is_row m.1 (sym (ap (λ (z : DocNum). z.0) g.num) ∙ k.2 ∙ ap (λ (z : DocNum). z.0) m.3) in
+          let d : g.doc ≡ m.0 = same_doc 1 T.docs g.doc m.0 numbered
+              g.is_row m.1 (sym (ap (λ (z : DocNum). z.0) g.num) ∙ k.2 ∙ ap (λ (z : DocNum). z.0) m.3) in
           let at : found X T m.0 k.0.first ≡ true = subst (λ d. found X T d k.0.first ≡ true) d g.at in
           let up = least_least (found X T m.0) w.low w.high h.first k.0.first m.4 g.low at in
           let down = le_back k.0.first h.first (kept.least k.0 h k.1 here (sym k.2)) in
           subst (λ z. In z zs) (hit_same k.0 h (num_same k.0.doc h.doc k.2) (antisym k.0.first h.first down up)) k.1
 
 pub lowest_law : LowestHitsAreTheMeaning
-lowest_law seen X T w hits kept arrived found lowest ordered = lowest_meaning seen X T w (numbered_of 1 (pos 0) T.docs arrived) hits kept found lowest ordered
+lowest_law seen X T w hits kept arrived found lowest ordered =
+    lowest_meaning seen X T w (numbered_of 1 (pos 0) T.docs arrived) hits kept found lowest ordered
 
 -- stored hits in another order are the least, too
 lowest_moved : (Among : Hit → Type 0) (kept sorted : List Hit) → HaveSame kept sorted → AreLowest Among kept → AreLowest Among sorted
@@ -125,7 +134,8 @@ lowest_moved Among kept sorted same l = record {
 none_kept : AreLowest (λ y. ⊥) []
 none_kept = record { among = λ k i. i; least = λ k y i d e. absurd i; all = λ y d. absurd d; apart = tt }
 
-lowest_same : (D E : Hit → Type 0) (kept : List Hit) → ((y : Hit) → D y → E y) → ((y : Hit) → E y → D y) → AreLowest D kept → AreLowest E kept
+lowest_same : (D E : Hit → Type 0) (kept : List Hit) → ((y : Hit) → D y → E y) → ((y : Hit) → E y → D y) → AreLowest D kept
+    → AreLowest E kept
 lowest_same D E kept to back l = record {
   among = λ k i. to k (l.among k i);
   least = λ k y i d e. l.least k y i (back y d) e;
@@ -134,11 +144,14 @@ lowest_same D E kept to back l = record {
 }
 
 -- hits that were stored and then put in order
-pub finished : (seen : Doc → Bool) (X : List Probe) (T : Tables) (w : Window) (hits kept sorted : List Hit) → HaveSame kept sorted → InOrder sorted → kept ≡ lowest [] hits → Arrived 1 (pos 0) T.docs → AreFound seen X T w hits → sorted ≡ meaning_without seen X T w
+pub finished : (seen : Doc → Bool) (X : List Probe) (T : Tables) (w : Window) (hits kept sorted : List Hit) → HaveSame kept sorted
+    → InOrder sorted → kept ≡ lowest [] hits → Arrived 1 (pos 0) T.docs → AreFound seen X T w hits → sorted ≡ meaning_without seen X T w
 finished seen X T w hits kept sorted same order k arrived found =
     let all = kept_all (λ y. ⊥) [] hits none_kept in
-    let l : AreLowest (λ y. In y hits) (lowest [] hits) = lowest_same (λ y. ⊥ ⊎ In y hits) (λ y. In y hits) (lowest [] hits) (λ y d. right y d) (λ y i. inr i) all in
-    lowest_law seen X T w hits sorted arrived found (lowest_moved (λ y. In y hits) kept sorted same (subst (λ z. AreLowest (λ y. In y hits) z) (sym k) l)) order
+    let l : AreLowest (λ y. In y hits) (lowest [] hits) =
+        lowest_same (λ y. ⊥ ⊎ In y hits) (λ y. In y hits) (lowest [] hits) (λ y d. right y d) (λ y i. inr i) all in
+    lowest_law seen X T w hits sorted arrived found
+      (lowest_moved (λ y. In y hits) kept sorted same (subst (λ z. AreLowest (λ y. In y hits) z) (sym k) l)) order
   where
     right : (y : Hit) → ⊥ ⊎ In y hits → In y hits
     right y (inl d) = absurd d

@@ -1,5 +1,6 @@
 -- Hits with the places of their documents among them, with one hit more.
-use Rattle.std.proofs.Common.{◌≡◌, ℕ, zero, suc, ◌+◌, ◌-◌, ◌<◌, ◌≤◌, true, false, List, [], ◌∷◌, ◌++◌, Option, Some, None, length, map, refl, sym, ap, ◌∙◌, subst, inl, inr, arith, nat_eq}
+use Rattle.std.proofs.Common.{◌≡◌, ℕ, zero, suc, ◌+◌, ◌-◌, ◌<◌, ◌≤◌, true, false, List, [], ◌∷◌, ◌++◌, Option, Some, None, length, map}
+use Rattle.std.proofs.Common.{refl, sym, ap, ◌∙◌, subst, inl, inr, arith, nat_eq}
 use Rattle.std.specs.Prelude.{◌⊎◌, int_le, slice_get, slice_set, slice_index_or}
 use Rattle.std.specs.List.{list_any, IsDistinct, AllByRecursion}
 use Rattle.std.proofs.lemmas.Bool.{cases_Bool, true≢false, both_ways}
@@ -68,13 +69,15 @@ module _ {A : Type 0} where
 
 -- the stored hits with one more
 
-lowered_absent : (hs : List Hit) (h : Hit) → ((k : ℕ) (x : Hit) → slice_get hs k ≡ Some x → x.doc.0 ≡ h.doc.0 → ⊥) → with_lowered hs h ≡ hs ++ h ∷ []
+lowered_absent : (hs : List Hit) (h : Hit) → ((k : ℕ) (x : Hit) → slice_get hs k ≡ Some x → x.doc.0 ≡ h.doc.0 → ⊥)
+    → with_lowered hs h ≡ hs ++ h ∷ []
 lowered_absent [] h n = refl
 lowered_absent (x ∷ hs) h n =
     let e = nat_no x.doc.0 h.doc.0 (n 0 x refl) in
     rw e (ap (λ z. x ∷ z) (lowered_absent hs h (λ k y g. n (suc k) y g)))
 
-lowered_present : (hs : List Hit) (k : ℕ) (x h : Hit) → slice_get hs k ≡ Some x → x.doc.0 ≡ h.doc.0 → ((j : ℕ) (y : Hit) → j < k → slice_get hs j ≡ Some y → y.doc.0 ≡ h.doc.0 → ⊥) → with_lowered hs h ≡ slice_set hs k (lower x h)
+lowered_present : (hs : List Hit) (k : ℕ) (x h : Hit) → slice_get hs k ≡ Some x → x.doc.0 ≡ h.doc.0
+    → ((j : ℕ) (y : Hit) → j < k → slice_get hs j ≡ Some y → y.doc.0 ≡ h.doc.0 → ⊥) → with_lowered hs h ≡ slice_set hs k (lower x h)
 lowered_present [] k x h g d n = absurd (none_some g)
 lowered_present (z ∷ hs) zero x h g d n =
     let q : z ≡ x = some_same g in
@@ -113,10 +116,12 @@ module _ (hs : List Hit) (ps : List ℕ) (placed : IsPlaced hs ps) (doc place : 
   none_before j y w g e = less_not j place w (at_place j y g e)
 
 -- a hit lowered at its place
-pub kept_lower : (hs : List Hit) (ps : List ℕ) (h : Hit) (place : ℕ) (d : Hit) → IsPlaced hs ps → slice_get ps (h.doc.0 - 1) ≡ Some place → has_hit_at hs place h.doc.0 ≡ true → with_lowered hs h ≡ slice_set hs place (lower (slice_index_or hs place d) h)
+pub kept_lower : (hs : List Hit) (ps : List ℕ) (h : Hit) (place : ℕ) (d : Hit) → IsPlaced hs ps → slice_get ps (h.doc.0 - 1) ≡ Some place
+    → has_hit_at hs place h.doc.0 ≡ true → with_lowered hs h ≡ slice_set hs place (lower (slice_index_or hs place d) h)
 kept_lower hs ps h place d p k t =
     let x = there hs ps p h.doc.0 place k t in
-    lowered_present hs place x.0 h x.1 x.2 (none_before hs ps p h.doc.0 place k) ∙ ap (λ y. slice_set hs place (lower y h)) (sym (get_or_is hs place x.0 d x.1))
+    lowered_present hs place x.0 h x.1 x.2 (none_before hs ps p h.doc.0 place k)
+      ∙ ap (λ y. slice_set hs place (lower y h)) (sym (get_or_is hs place x.0 d x.1))
 
 lower_doc : (x h : Hit) → x.doc.0 ≡ h.doc.0 → (lower x h).doc.0 ≡ x.doc.0
 lower_doc x h e =
@@ -125,20 +130,27 @@ lower_doc x h e =
       | inr b ↦ rw b (sym e)
     ]
 
-pub placed_lower : (hs : List Hit) (ps : List ℕ) (h : Hit) (place : ℕ) (d : Hit) → IsPlaced hs ps → slice_get ps (h.doc.0 - 1) ≡ Some place → has_hit_at hs place h.doc.0 ≡ true → IsPlaced (slice_set hs place (lower (slice_index_or hs place d) h)) ps
+pub placed_lower : (hs : List Hit) (ps : List ℕ) (h : Hit) (place : ℕ) (d : Hit) → IsPlaced hs ps → slice_get ps (h.doc.0 - 1) ≡ Some place
+    → has_hit_at hs place h.doc.0 ≡ true → IsPlaced (slice_set hs place (lower (slice_index_or hs place d) h)) ps
 placed_lower hs ps h place d p k t = λ j y g. go j y g (there hs ps p h.doc.0 place k t)
   where
-    moved : (j : ℕ) (x y : Hit) → slice_get hs j ≡ Some x → y.doc.0 ≡ x.doc.0 → (0 < y.doc.0) × (y.doc.0 ≤ length ps) × (slice_get ps (y.doc.0 - 1) ≡ Some j)
+    moved : (j : ℕ) (x y : Hit) → slice_get hs j ≡ Some x → y.doc.0 ≡ x.doc.0
+        → (0 < y.doc.0) × (y.doc.0 ≤ length ps) × (slice_get ps (y.doc.0 - 1) ≡ Some j)
     moved j x y g e = subst (λ n. (0 < n) × (n ≤ length ps) × (slice_get ps (n - 1) ≡ Some j)) (sym e) (p j x g)
 
-    go : (j : ℕ) (y : Hit) → slice_get (slice_set hs place (lower (slice_index_or hs place d) h)) j ≡ Some y → (x : Hit) × (slice_get hs place ≡ Some x) × (x.doc.0 ≡ h.doc.0) → (0 < y.doc.0) × (y.doc.0 ≤ length ps) × (slice_get ps (y.doc.0 - 1) ≡ Some j)
+    go : (j : ℕ) (y : Hit) → slice_get (slice_set hs place (lower (slice_index_or hs place d) h)) j ≡ Some y
+        → (x : Hit) × (slice_get hs place ≡ Some x) × (x.doc.0 ≡ h.doc.0)
+        → (0 < y.doc.0) × (y.doc.0 ≤ length ps) × (slice_get ps (y.doc.0 - 1) ≡ Some j)
     go j y g x =
         let o : slice_index_or hs place d ≡ x.0 = get_or_is hs place x.0 d x.1 in
         elim (cases_Bool (nat_eq place j)) [
           | inl b ↦
               let e : place ≡ j = nat_is place j b in
-              let s : slice_get (slice_set hs place (lower (slice_index_or hs place d) h)) place ≡ Some (lower (slice_index_or hs place d) h) = set_same hs place _ (get_below hs place x.0 x.1) in
-              let q : y ≡ lower x.0 h = some_same (sym g ∙ ap (λ n. slice_get (slice_set hs place (lower (slice_index_or hs place d) h)) n) (sym e) ∙ s) ∙ ap (λ z. lower z h) o in
+              let s : slice_get (slice_set hs place (lower (slice_index_or hs place d) h)) place
+                  ≡ Some (lower (slice_index_or hs place d) h) = set_same hs place _ (get_below hs place x.0 x.1) in
+              let q : y ≡ lower x.0 h =
+                  some_same (sym g ∙ ap (λ n. slice_get (slice_set hs place (lower (slice_index_or hs place d) h)) n) (sym e) ∙ s)
+                  ∙ ap (λ z. lower z h) o in
               moved j x.0 y (ap (λ n. slice_get hs n) (sym e) ∙ x.1) (ap (λ (z : Hit). z.doc.0) q ∙ lower_doc x.0 h x.2)
           | inr b ↦
               let n : place ≡ j → ⊥ = λ e. both_ways (nat_eq place j) b (nat_yes place j e) in
@@ -150,23 +162,29 @@ placed_lower hs ps h place d p k t = λ j y g. go j y g (there hs ps p h.doc.0 p
 apart_places : (a b : ℕ) → 0 < a → 0 < b → (a ≡ b → ⊥) → b - 1 ≡ a - 1 → ⊥
 apart_places a b h k n e = n (omega (arith, h, k, e))
 
-pub placed_append : (hs : List Hit) (ps : List ℕ) (h : Hit) → IsPlaced hs ps → NoneOf hs h.doc.0 → 0 < h.doc.0 → h.doc.0 ≤ length ps → IsPlaced (hs ++ h ∷ []) (slice_set ps (h.doc.0 - 1) (length hs))
+pub placed_append : (hs : List Hit) (ps : List ℕ) (h : Hit) → IsPlaced hs ps → NoneOf hs h.doc.0 → 0 < h.doc.0 → h.doc.0 ≤ length ps
+    → IsPlaced (hs ++ h ∷ []) (slice_set ps (h.doc.0 - 1) (length hs))
 placed_append hs ps h p n a w = λ k x g. go k x (get_onto hs h x k g)
   where
     len : length (slice_set ps (h.doc.0 - 1) (length hs)) ≡ length ps
     len = set_length ps (h.doc.0 - 1) (length hs)
 
-    go : (k : ℕ) (x : Hit) → (slice_get hs k ≡ Some x) ⊎ ((k ≡ length hs) × (x ≡ h)) → (0 < x.doc.0) × (x.doc.0 ≤ length (slice_set ps (h.doc.0 - 1) (length hs))) × (slice_get (slice_set ps (h.doc.0 - 1) (length hs)) (x.doc.0 - 1) ≡ Some k)
+    go : (k : ℕ) (x : Hit) → (slice_get hs k ≡ Some x) ⊎ ((k ≡ length hs) × (x ≡ h))
+        → (0 < x.doc.0) × (x.doc.0 ≤ length (slice_set ps (h.doc.0 - 1) (length hs)))
+        × (slice_get (slice_set ps (h.doc.0 - 1) (length hs)) (x.doc.0 - 1) ≡ Some k)
     go k x (inl g) =
         let q = p k x g in
         let o : h.doc.0 - 1 ≡ x.doc.0 - 1 → ⊥ = apart_places x.doc.0 h.doc.0 q.0 a (n k x g) in
         (q.0, subst (λ z. x.doc.0 ≤ z) (sym len) q.1, set_other ps (h.doc.0 - 1) (x.doc.0 - 1) (length hs) o ∙ q.2)
     go k x (inr e) =
         let d : h.doc.0 ≡ x.doc.0 = ap (λ (z : Hit). z.doc.0) (sym e.1) in
-        let s : slice_get (slice_set ps (h.doc.0 - 1) (length hs)) (h.doc.0 - 1) ≡ Some (length hs) = set_same ps (h.doc.0 - 1) (length hs) (omega (arith, a, w)) in
-        (subst (λ z. 0 < z) d a, subst (λ z. z ≤ length (slice_set ps (h.doc.0 - 1) (length hs))) d (subst (λ z. h.doc.0 ≤ z) (sym len) w), subst (λ z. slice_get (slice_set ps (h.doc.0 - 1) (length hs)) (z - 1) ≡ Some k) d (s ∙ ap (λ z. Some z) (sym e.0)))
+        let s : slice_get (slice_set ps (h.doc.0 - 1) (length hs)) (h.doc.0 - 1) ≡ Some (length hs) =
+            set_same ps (h.doc.0 - 1) (length hs) (omega (arith, a, w)) in
+        (subst (λ z. 0 < z) d a, subst (λ z. z ≤ length (slice_set ps (h.doc.0 - 1) (length hs))) d (subst (λ z. h.doc.0 ≤ z) (sym len) w),
+          subst (λ z. slice_get (slice_set ps (h.doc.0 - 1) (length hs)) (z - 1) ≡ Some k) d (s ∙ ap (λ z. Some z) (sym e.0)))
 
-pub kept_append : (hs : List Hit) (ps : List ℕ) (h : Hit) (place : ℕ) → IsPlaced hs ps → slice_get ps (h.doc.0 - 1) ≡ Some place → has_hit_at hs place h.doc.0 ≡ false → with_lowered hs h ≡ hs ++ h ∷ []
+pub kept_append : (hs : List Hit) (ps : List ℕ) (h : Hit) (place : ℕ) → IsPlaced hs ps → slice_get ps (h.doc.0 - 1) ≡ Some place
+    → has_hit_at hs place h.doc.0 ≡ false → with_lowered hs h ≡ hs ++ h ∷ []
 kept_append hs ps h place p k t = lowered_absent hs h (none_of hs ps p h.doc.0 place k t)
 
 -- there are no more hits than documents
@@ -181,19 +199,24 @@ further : (n k : ℕ) → n + 0 ≡ n + suc k → ⊥
 further n k e = omega (arith, e)
 
 -- a key that none of these hits has
-key_apart : (key : ℕ) (zs : List Hit) → ((k : ℕ) (y : Hit) → slice_get zs k ≡ Some y → key ≡ y.doc.0 - 1 → ⊥) → AllByRecursion (λ y. nat_eq key y ≡ false) (keys zs)
+key_apart : (key : ℕ) (zs : List Hit) → ((k : ℕ) (y : Hit) → slice_get zs k ≡ Some y → key ≡ y.doc.0 - 1 → ⊥)
+    → AllByRecursion (λ y. nat_eq key y ≡ false) (keys zs)
 key_apart key [] n = tt
 key_apart key (z ∷ zs) n = (nat_no key (z.doc.0 - 1) (n 0 z refl), key_apart key zs (λ k y g. n (suc k) y g))
 
-head_apart : (n k : ℕ) (x y : Hit) (ps : List ℕ) → slice_get ps (x.doc.0 - 1) ≡ Some (n + 0) → slice_get ps (y.doc.0 - 1) ≡ Some (n + suc k) → x.doc.0 - 1 ≡ y.doc.0 - 1 → ⊥
+head_apart : (n k : ℕ) (x y : Hit) (ps : List ℕ) → slice_get ps (x.doc.0 - 1) ≡ Some (n + 0) → slice_get ps (y.doc.0 - 1) ≡ Some (n + suc k)
+    → x.doc.0 - 1 ≡ y.doc.0 - 1 → ⊥
 head_apart n k x y ps a b e = further n k (some_same (sym a ∙ ap (λ z. slice_get ps z) e ∙ b))
 
 distinct_keys : (n : ℕ) (hs : List Hit) (ps : List ℕ) → FromPlace n hs ps → IsDistinct nat_eq (keys hs)
 unfolding IsDistinct
 distinct_keys n [] ps f = tt
-distinct_keys n (x ∷ hs) ps f = (key_apart (x.doc.0 - 1) hs (λ k y g e. head_apart n k x y ps (f 0 x refl) (f (suc k) y g) e), distinct_keys (n + 1) hs ps (λ k y g. let e : n + suc k ≡ n + 1 + k = omega arith in subst (λ z. slice_get ps (y.doc.0 - 1) ≡ Some z) e (f (suc k) y g)))
+distinct_keys n (x ∷ hs) ps f =
+    (key_apart (x.doc.0 - 1) hs (λ k y g e. head_apart n k x y ps (f 0 x refl) (f (suc k) y g) e), distinct_keys (n + 1) hs ps (λ k y g.
+      let e : n + suc k ≡ n + 1 + k = omega arith in subst (λ z. slice_get ps (y.doc.0 - 1) ≡ Some z) e (f (suc k) y g)))
 
-keys_below : (n : ℕ) (hs : List Hit) → ((k : ℕ) (x : Hit) → slice_get hs k ≡ Some x → x.doc.0 - 1 < n) → (q : ℕ) → list_any (nat_eq q) (keys hs) ≡ true → q < n
+keys_below : (n : ℕ) (hs : List Hit) → ((k : ℕ) (x : Hit) → slice_get hs k ≡ Some x → x.doc.0 - 1 < n) → (q : ℕ)
+    → list_any (nat_eq q) (keys hs) ≡ true → q < n
 keys_below n [] f q h = absurd (true≢false (sym h))
 keys_below n (x ∷ hs) f q h =
     elim (cases_Bool (nat_eq q (x.doc.0 - 1))) [
@@ -206,7 +229,8 @@ keys_length [] = refl
 keys_length (x ∷ hs) = ap suc (keys_length hs)
 
 -- a hit of a new document finds room
-pub fewer_hits : (hs : List Hit) (ps : List ℕ) (h : Hit) → IsPlaced hs ps → NoneOf hs h.doc.0 → 0 < h.doc.0 → h.doc.0 ≤ length ps → length hs < length ps
+pub fewer_hits : (hs : List Hit) (ps : List ℕ) (h : Hit) → IsPlaced hs ps → NoneOf hs h.doc.0 → 0 < h.doc.0 → h.doc.0 ≤ length ps
+    → length hs < length ps
 unfolding IsDistinct
 fewer_hits hs ps h p n a w =
     let below : (k : ℕ) (x : Hit) → slice_get (h ∷ hs) k ≡ Some x → x.doc.0 - 1 < length ps = each in
@@ -219,7 +243,8 @@ fewer_hits hs ps h p n a w =
     each (suc k) x g = let q = p k x g in let q0 = q.0 in let q1 = q.1 in omega (arith, q0, q1)
 
     distinct : IsDistinct nat_eq (keys (h ∷ hs))
-    distinct = (key_apart (h.doc.0 - 1) hs (λ k y g e. apart_places y.doc.0 h.doc.0 (p k y g).0 a (n k y g) e), distinct_keys 0 hs ps (λ k y g. (p k y g).2 ∙ ap (λ z. Some z) (zero_plus k)))
+    distinct = (key_apart (h.doc.0 - 1) hs (λ k y g e. apart_places y.doc.0 h.doc.0 (p k y g).0 a (n k y g) e),
+          distinct_keys 0 hs ps (λ k y g. (p k y g).2 ∙ ap (λ z. Some z) (zero_plus k)))
       where
         zero_plus : (k : ℕ) → k ≡ 0 + k
         zero_plus k = omega arith
@@ -248,7 +273,8 @@ in_at (z ∷ zs) x (inr i) = let r = in_at zs x i in (suc r.0, r.1)
 
 apart_from : (n : ℕ) (hs : List Hit) (ps : List ℕ) → FromPlace n hs ps → HitsAreApart hs
 apart_from n [] ps f = tt
-apart_from n (x ∷ hs) ps f = (apart, apart_from (n + 1) hs ps (λ k y g. let e : n + suc k ≡ n + 1 + k = omega arith in subst (λ z. slice_get ps (y.doc.0 - 1) ≡ Some z) e (f (suc k) y g)))
+apart_from n (x ∷ hs) ps f = (apart, apart_from (n + 1) hs ps (λ k y g. let e : n + suc k ≡ n + 1 + k = omega arith in
+      subst (λ z. slice_get ps (y.doc.0 - 1) ≡ Some z) e (f (suc k) y g)))
   where
     apart : (y : Hit) → In y hs → y.doc.0 ≡ x.doc.0 → ⊥
     apart y i d = let r = in_at hs y i in head_apart n r.0 x y ps (f 0 x refl) (f (suc r.0) y r.1) (ap (λ z. z - 1) (sym d))

@@ -1,5 +1,6 @@
 -- What a run of a plan keeps, and what it costs.
-use Rattle.std.proofs.Common.{◌≡◌, ℕ, zero, suc, ◌+◌, ◌-◌, ◌<◌, ◌≤◌, true, List, [], ◌∷◌, Some, length, refl, sym, ap, ◌∙◌, subst, inl, inr, arith}
+use Rattle.std.proofs.Common.{◌≡◌, ℕ, zero, suc, ◌+◌, ◌-◌, ◌<◌, ◌≤◌, true, List, [], ◌∷◌, Some, length, refl, sym, ap, ◌∙◌, subst, inl, inr}
+use Rattle.std.proofs.Common.{arith}
 use Rattle.std.specs.Prelude.{nat_lt, nat_le, slice_get, if◌then◌else◌}
 use Rattle.tap_base.specs.declared.numbers.DocNum.{DocNum}
 use Rattle.tap_rows.specs.declared.rows.Doc.{Doc}
@@ -39,7 +40,9 @@ number_within n (x ∷ xs) d h (inr i) =
     (omega (arith, k.0), omega (arith, k.1))
 
 -- hits that the list of a plan's hits gives are stored
-pub hits_kept : (q : RangedQuery) (entries : List Entry) (T : Tables) (w : Window) (n : ℕ) (ks now : List Hit) → HasValidProbes q → Numbered doc_number 1 T.docs → length T.docs ≤ n → ks ≡ [] → now ≡ keeping n ks (query_hits entries T w q) → now ≡ lowest [] (query_hits entries T w q)
+pub hits_kept : (q : RangedQuery) (entries : List Entry) (T : Tables) (w : Window) (n : ℕ) (ks now : List Hit) → HasValidProbes q
+    → Numbered doc_number 1 T.docs → length T.docs ≤ n → ks ≡ [] → now ≡ keeping n ks (query_hits entries T w q)
+    → now ≡ lowest [] (query_hits entries T w q)
 hits_kept q entries T w n ks now ps num room none k =
     k ∙ ap (λ z. keeping n z (query_hits entries T w q)) none ∙ all_placed n [] (query_hits entries T w q) placed
   where
@@ -61,7 +64,8 @@ hits_kept q entries T w n ks now ps num room none k =
     placed : (h : Hit) → In h (query_hits entries T w q) → has_place n h.doc.0 ≡ true
     placed h i =
         let f = (query_found q ps entries T w).sound h i in
-        place h.doc.0 (subst (λ (z : DocNum). (1 ≤ z.0) × (z.0 < 1 + length T.docs)) (sym f.num) (number_within 1 T.docs f.doc num f.is_row))
+        place h.doc.0
+            (subst (λ (z : DocNum). (1 ≤ z.0) × (z.0 < 1 + length T.docs)) (sym f.num) (number_within 1 T.docs f.doc num f.is_row))
 
 -- the numbers below one
 abbrev below : ℕ → List ℕ
@@ -101,8 +105,10 @@ placed_fit hs ps h =
 
 module _ (q : RangedQuery) (ps : HasValidProbes q) (T : Tables) (w : Window) where
   -- the steps that were taken
-  pub taken_quiet : (old now : ℕ) → now ≤ old + query_cost T w q → old ≤ now → ((p : Probe) → In p (ranged_probes q) → HasNoMark T w p) → now ≡ old
+  pub taken_quiet : (old now : ℕ) → now ≤ old + query_cost T w q → old ≤ now → ((p : Probe) → In p (ranged_probes q) → HasNoMark T w p)
+      → now ≡ old
   taken_quiet old now h k quiet = let z = query_quiet q ps T w quiet in omega (arith, h, k, z)
 
-  pub taken_due : (old now : ℕ) → now ≤ old + query_cost T w q → ((p : Probe) → In p (ranged_probes q) → PathIsDocument p) → now ≤ old + total (rows_due T w) (ranged_probes q)
+  pub taken_due : (old now : ℕ) → now ≤ old + query_cost T w q → ((p : Probe) → In p (ranged_probes q) → PathIsDocument p)
+      → now ≤ old + total (rows_due T w) (ranged_probes q)
   taken_due old now h alone = let z = query_due q ps T w alone in omega (arith, h, z)

@@ -1,5 +1,6 @@
 -- Hits that were sorted.
-use Rattle.std.proofs.Common.{◌≡◌, ℕ, suc, ◌+◌, ◌≤◌, ◌<◌, Bool, true, false, List, [], ◌∷◌, length, refl, sym, ap, ◌∙◌, subst, inl, inr, arith, nat_eq}
+use Rattle.std.proofs.Common.{◌≡◌, ℕ, suc, ◌+◌, ◌≤◌, ◌<◌, Bool, true, false, List, [], ◌∷◌, length, refl, sym, ap, ◌∙◌, subst, inl, inr}
+use Rattle.std.proofs.Common.{arith, nat_eq}
 use Rattle.std.specs.Prelude.{◌&&◌, slice_index_or}
 use Rattle.std.specs.List.{list_any, IsDistinct, AllByRecursion}
 use Rattle.std.specs.List.Sorted.{IsPermutation, IsSortedBy}
@@ -115,7 +116,8 @@ strictly a b h n = grind (arith, ints)
 onward : (x y z : Hit) → is_before x y ≡ true → is_before y z ≡ true → is_before x z ≡ true
 onward x y z h k = grind (arith, ints)
 
-in_order_all : (xs : List Hit) → HitsAreApart xs → ((k : ℕ) (d : Hit) → 0 ≤ k → k + 1 < length xs → is_before (slice_index_or xs (k + 1) d) (slice_index_or xs k d) ≡ false) → InOrder xs
+in_order_all : (xs : List Hit) → HitsAreApart xs
+    → ((k : ℕ) (d : Hit) → 0 ≤ k → k + 1 < length xs → is_before (slice_index_or xs (k + 1) d) (slice_index_or xs k d) ≡ false) → InOrder xs
 in_order_all [] a s = tt
 in_order_all (x ∷ []) a s = ((λ y i. absurd i), tt)
 in_order_all (x ∷ y ∷ zs) a s =
@@ -123,7 +125,8 @@ in_order_all (x ∷ y ∷ zs) a s =
     let e : is_before x y ≡ true = strictly x y (s 0 x (omega arith) (omega arith)) (a.0 y (inl refl)) in
     (first e r, r)
   where
-    shift : (k : ℕ) (d : Hit) → is_before (slice_index_or (x ∷ y ∷ zs) (suc k + 1) d) (slice_index_or (x ∷ y ∷ zs) (suc k) d) ≡ false → is_before (slice_index_or (y ∷ zs) (k + 1) d) (slice_index_or (y ∷ zs) k d) ≡ false
+    shift : (k : ℕ) (d : Hit) → is_before (slice_index_or (x ∷ y ∷ zs) (suc k + 1) d) (slice_index_or (x ∷ y ∷ zs) (suc k) d) ≡ false
+        → is_before (slice_index_or (y ∷ zs) (k + 1) d) (slice_index_or (y ∷ zs) k d) ≡ false
     shift k d h =
         let e : suc k + 1 ≡ suc (k + 1) = omega arith in
         subst (λ n. is_before (slice_index_or (x ∷ y ∷ zs) n d) (slice_index_or (y ∷ zs) k d) ≡ false) e h

@@ -1,5 +1,6 @@
 -- A hit that changes nothing changes nothing later either: neither after other hits, nor with a later mark.
-use Rattle.std.proofs.Common.{◌≡◌, ℕ, ℤ, Bool, true, false, Option, Some, None, List, [], ◌∷◌, refl, sym, ap, ◌∙◌, subst, inl, inr, arith, nat_eq}
+use Rattle.std.proofs.Common.{◌≡◌, ℕ, ℤ, Bool, true, false, Option, Some, None, List, [], ◌∷◌, refl, sym, ap, ◌∙◌, subst, inl, inr, arith}
+use Rattle.std.proofs.Common.{nat_eq}
 use Rattle.std.specs.Prelude.{◌≤ℤ◌, int_le, option_to_list}
 use Rattle.std.proofs.lemmas.Int.{ints}
 use Rattle.std.proofs.lemmas.Bool.{cases_Bool}
@@ -62,16 +63,19 @@ head_is x y xs ys e = cc
 tail_is : (x y : Hit) (xs ys : List Hit) → x ∷ xs ≡ y ∷ ys → xs ≡ ys
 tail_is x y xs ys e = cc
 
-stays_head : (y : Hit) (xs : List Hit) (h : Hit) → nat_eq y.doc.0 h.doc.0 ≡ true → int_le y.first h.first ≡ true → with_lowered (y ∷ xs) h ≡ y ∷ xs
+stays_head : (y : Hit) (xs : List Hit) (h : Hit) → nat_eq y.doc.0 h.doc.0 ≡ true → int_le y.first h.first ≡ true
+    → with_lowered (y ∷ xs) h ≡ y ∷ xs
 stays_head y xs h q l =
     let low : lower y h ≡ y = rw l refl in
     at_same y xs h q ∙ ap (λ z. z ∷ xs) low
 
-stays_tail : (y : Hit) (xs : List Hit) (h : Hit) → nat_eq y.doc.0 h.doc.0 ≡ false → with_lowered xs h ≡ xs → with_lowered (y ∷ xs) h ≡ y ∷ xs
+stays_tail : (y : Hit) (xs : List Hit) (h : Hit) → nat_eq y.doc.0 h.doc.0 ≡ false → with_lowered xs h ≡ xs
+    → with_lowered (y ∷ xs) h ≡ y ∷ xs
 stays_tail y xs h q e = at_other y xs h q ∙ ap (λ zs. y ∷ zs) e
 
 -- a later hit of the document changes nothing either
-pub lowered_later : (xs : List Hit) (h g : Hit) → h.doc.0 ≡ g.doc.0 → int_le h.first g.first ≡ true → with_lowered xs h ≡ xs → with_lowered xs g ≡ xs
+pub lowered_later : (xs : List Hit) (h g : Hit) → h.doc.0 ≡ g.doc.0 → int_le h.first g.first ≡ true → with_lowered xs h ≡ xs
+    → with_lowered xs g ≡ xs
 lowered_later [] h g d l e = absurd cc
 lowered_later (x ∷ xs) h g d l e = elim (cases_Bool (nat_eq x.doc.0 h.doc.0)) [
   | inl q ↦
@@ -93,7 +97,8 @@ lowered_stays (x ∷ xs) h g e = elim (cases_Bool (nat_eq x.doc.0 h.doc.0)) [
         | inl r ↦
             let d = lower_doc x g (doc_is x.doc.0 g.doc.0 r) in
             subst (λ zs. with_lowered zs h ≡ zs) (sym (at_same x xs g r))
-            (stays_head (lower x g) xs h (subst (λ k. nat_eq k h.doc.0 ≡ true) (sym d) q) (le_after (lower x g).first x.first h.first (lower_le x g) l))
+            (stays_head (lower x g) xs h (subst (λ k. nat_eq k h.doc.0 ≡ true) (sym d) q)
+              (le_after (lower x g).first x.first h.first (lower_le x g) l))
         | inr r ↦ subst (λ zs. with_lowered zs h ≡ zs) (sym (at_other x xs g r)) (stays_head x (with_lowered xs g) h q l)
       ]
   | inr q ↦
@@ -101,8 +106,10 @@ lowered_stays (x ∷ xs) h g e = elim (cases_Bool (nat_eq x.doc.0 h.doc.0)) [
       elim (cases_Bool (nat_eq x.doc.0 g.doc.0)) [
         | inl r ↦
             let d = lower_doc x g (doc_is x.doc.0 g.doc.0 r) in
-            subst (λ zs. with_lowered zs h ≡ zs) (sym (at_same x xs g r)) (stays_tail (lower x g) xs h (subst (λ k. nat_eq k h.doc.0 ≡ false) (sym d) q) rest)
-        | inr r ↦ subst (λ zs. with_lowered zs h ≡ zs) (sym (at_other x xs g r)) (stays_tail x (with_lowered xs g) h q (lowered_stays xs h g rest))
+            subst (λ zs. with_lowered zs h ≡ zs) (sym (at_same x xs g r))
+              (stays_tail (lower x g) xs h (subst (λ k. nat_eq k h.doc.0 ≡ false) (sym d) q) rest)
+        | inr r ↦
+          subst (λ zs. with_lowered zs h ≡ zs) (sym (at_other x xs g r)) (stays_tail x (with_lowered xs g) h q (lowered_stays xs h g rest))
       ]
 ]
 
@@ -112,7 +119,8 @@ with_place n kept h p = rw p refl
 without_place : (n : ℕ) (kept : List Hit) (h : Hit) → has_place n h.doc.0 ≡ false → with_hit n kept h ≡ kept
 without_place n kept h p = rw p refl
 
-pub hit_later : (n : ℕ) (kept : List Hit) (h g : Hit) → h.doc.0 ≡ g.doc.0 → int_le h.first g.first ≡ true → with_hit n kept h ≡ kept → with_hit n kept g ≡ kept
+pub hit_later : (n : ℕ) (kept : List Hit) (h g : Hit) → h.doc.0 ≡ g.doc.0 → int_le h.first g.first ≡ true → with_hit n kept h ≡ kept
+    → with_hit n kept g ≡ kept
 hit_later n kept h g d l e = elim (cases_Bool (has_place n h.doc.0)) [
   | inl p ↦ with_place n kept g (subst (λ k. has_place n k ≡ true) d p) ∙ lowered_later kept h g d l (sym (with_place n kept h p) ∙ e)
   | inr p ↦ without_place n kept g (subst (λ k. has_place n k ≡ false) d p)
@@ -130,17 +138,20 @@ hit_stays n kept h g e = elim (cases_Bool (has_place n h.doc.0)) [
   | inr p ↦ without_place n (with_hit n kept g) h p
 ]
 
-keeping_stays : (n : ℕ) (kept : List Hit) (h : Hit) (hs : List Hit) → with_hit n kept h ≡ kept → with_hit n (keeping n kept hs) h ≡ keeping n kept hs
+keeping_stays : (n : ℕ) (kept : List Hit) (h : Hit) (hs : List Hit) → with_hit n kept h ≡ kept
+    → with_hit n (keeping n kept hs) h ≡ keeping n kept hs
 keeping_stays n kept h [] e = e
 keeping_stays n kept h (g ∷ hs) e = keeping_stays n (with_hit n kept g) h hs (hit_stays n kept h g e)
 
-one_stays : (n : ℕ) (kept : List Hit) (o : Option Hit) (hs : List Hit) → kept ≡ keeping n kept (option_to_list o) → keeping n kept hs ≡ keeping n (keeping n kept hs) (option_to_list o)
+one_stays : (n : ℕ) (kept : List Hit) (o : Option Hit) (hs : List Hit) → kept ≡ keeping n kept (option_to_list o)
+    → keeping n kept hs ≡ keeping n (keeping n kept hs) (option_to_list o)
 one_stays n kept None hs e = refl
 one_stays n kept (Some h) hs e = sym (keeping_stays n kept h hs (sym e))
 
 module _ (entries : List Entry) (n : ℕ) where
   -- a document that is done stays so
-  pub done_stays : (kept : List Hit) (b : ℤ) (d : Doc) (hs : List Hit) → IsDone entries n kept b d → IsDone entries n (keeping n kept hs) b d
+  pub done_stays : (kept : List Hit) (b : ℤ) (d : Doc) (hs : List Hit) → IsDone entries n kept b d
+      → IsDone entries n (keeping n kept hs) b d
   done_stays kept b d hs i = record {
     same = λ mark passed l. one_stays n kept (hit_if passed mark (new_doc entries d)) hs (i.same mark passed l);
   }
@@ -148,7 +159,9 @@ module _ (entries : List Entry) (n : ℕ) where
   pub done_later : (kept : List Hit) (b c : ℤ) (d : Doc) → b ≤ℤ c → IsDone entries n kept b d → IsDone entries n kept c d
   done_later kept b c d l i = record { same = λ mark passed k. i.same mark passed (omega (arith, ints, l, k)) }
 
-  any_left_out : (kept : List Hit) (passed : Bool) (mark : ℤ) (o : Option DocNum) → ((num : DocNum) → o ≡ Some num → with_hit n kept (record { doc = num; first = mark }) ≡ kept) → kept ≡ keeping n kept (option_to_list (hit_if passed mark o))
+  any_left_out : (kept : List Hit) (passed : Bool) (mark : ℤ) (o : Option DocNum)
+      → ((num : DocNum) → o ≡ Some num → with_hit n kept (record { doc = num; first = mark }) ≡ kept)
+      → kept ≡ keeping n kept (option_to_list (hit_if passed mark o))
   any_left_out kept passed mark None f = refl
   any_left_out kept passed mark (Some num) f = left_out n kept passed mark (Some num) num refl (f num refl)
 
@@ -169,18 +182,21 @@ module _ (entries : List Entry) (n : ℕ) where
       same q = cc
 
   -- a document of which a hit is stored that is no later is done
-  pub done_by_hit : (kept : List Hit) (b : ℤ) (d : Doc) (num : DocNum) → d.num ≡ num → with_hit n kept (record { doc = num; first = b }) ≡ kept → IsDone entries n kept b d
+  pub done_by_hit : (kept : List Hit) (b : ℤ) (d : Doc) (num : DocNum) → d.num ≡ num
+      → with_hit n kept (record { doc = num; first = b }) ≡ kept → IsDone entries n kept b d
   done_by_hit kept b d num q e = record {
     same = λ mark passed l.
         any_left_out kept passed mark (new_doc entries d)
         (λ m i.
-        hit_later n kept (record { doc = num; first = b }) (record { doc = m; first = mark }) (ap (λ (z : DocNum). z.0) (sym q ∙ new_is d m i))
+        hit_later n kept (record { doc = num; first = b }) (record { doc = m; first = mark })
+            (ap (λ (z : DocNum). z.0) (sym q ∙ new_is d m i))
         (le_is b mark l)
         e);
   }
 
   -- so is one that is in the box
-  pub done_by_box : (kept : List Hit) (b : ℤ) (d : Doc) (num : DocNum) → d.num ≡ num → is_in num.0 entries ≡ true → IsDone entries n kept b d
+  pub done_by_box : (kept : List Hit) (b : ℤ) (d : Doc) (num : DocNum) → d.num ≡ num → is_in num.0 entries ≡ true
+      → IsDone entries n kept b d
   done_by_box kept b d num q e = record {
     same = λ mark passed l.
         any_left_out kept passed mark (new_doc entries d)

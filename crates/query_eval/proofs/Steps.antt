@@ -11,12 +11,15 @@ keeping_append n kept (x ∷ xs) ys = keeping_append n (with_hit n kept x) xs ys
 
 module _ {A : Type 0} where
   -- the hits of the row that was handed out are stored
-  pub hits_step : (f : A → List Hit) (whole : List Hit) (n k : ℕ) (kept now : List Hit) (rows left : List A) (r : A) → whole ≡ keeping n kept (flat_map f rows) → rows ≡ r ∷ left → now ≡ keeping n kept (f r) → k ≡ n → whole ≡ keeping k now (flat_map f left)
+  pub hits_step : (f : A → List Hit) (whole : List Hit) (n k : ℕ) (kept now : List Hit) (rows left : List A) (r : A) → whole
+      ≡ keeping n kept (flat_map f rows) → rows ≡ r ∷ left → now ≡ keeping n kept (f r) → k ≡ n → whole ≡ keeping k now (flat_map f left)
   hits_step f whole n k kept now rows left r h e g q =
-      h ∙ ap (λ z. keeping n kept (flat_map f z)) e ∙ keeping_append n kept (f r) (flat_map f left) ∙ ap (λ z. keeping n z (flat_map f left)) (sym g) ∙ ap (λ z. keeping z now (flat_map f left)) (sym q)
+      h ∙ ap (λ z. keeping n kept (flat_map f z)) e ∙ keeping_append n kept (f r) (flat_map f left)
+        ∙ ap (λ z. keeping n z (flat_map f left)) (sym g) ∙ ap (λ z. keeping z now (flat_map f left)) (sym q)
 
   -- if no row that is left has a hit, those so far are all
-  pub hits_end : (f : A → List Hit) (whole : List Hit) (n k : ℕ) (kept now : List Hit) (rows left : List A) (r : A) → whole ≡ keeping n kept (flat_map f rows) → rows ≡ r ∷ left → now ≡ keeping n kept (f r) → k ≡ n → flat_map f left ≡ [] → now ≡ whole
+  pub hits_end : (f : A → List Hit) (whole : List Hit) (n k : ℕ) (kept now : List Hit) (rows left : List A) (r : A)
+      → whole ≡ keeping n kept (flat_map f rows) → rows ≡ r ∷ left → now ≡ keeping n kept (f r) → k ≡ n → flat_map f left ≡ [] → now ≡ whole
   hits_end f whole n k kept now rows left r h e g q z = sym (hits_step f whole n k kept now rows left r h e g q ∙ ap (keeping k now) z)
 
   -- each row takes a step of a bound that counts one and more

@@ -28,7 +28,8 @@ BeginsWith first [] = ⊥
 BeginsWith first (d ∷ ds) = d.num.0 ≡ first
 
 -- of each list of this kind that begins with this document, that many documents at its front are done
-pub record IsPassed (entries : List Entry) (docs : List Doc) (n : ℕ) (kept : List Hit) (kind : TextKind) (first : ℕ) (b : ℤ) (len : ℕ) : Type 0 where
+pub record IsPassed (entries : List Entry) (docs : List Doc) (n : ℕ) (kept : List Hit) (kind : TextKind) (first : ℕ) (b : ℤ) (len : ℕ) :
+    Type 0 where
   pub done : (text : List ℕ) → BeginsWith first (with_text (texts_of kind) text docs)
       → Each (IsDone entries n kept b) (take len (with_text (texts_of kind) text docs))
 

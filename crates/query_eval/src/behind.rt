@@ -20,7 +20,8 @@ use tap_base::DocNum;
 use tap_rows::Hit;
 use tql_core::{Env, Var};
 
-// Returns whether the document of this number is in the box, or a hit of it is stored that is no later than this mark.
+// Returns whether the document of this number is in the box, or a hit of it is stored that is no
+// later than this mark.
 fn is_done(search: &Search, num: DocNum, mark: i64, into: &LeastHits) -> bool
     requires { CanStoreHits into.now }
     ensures { result ≡ true → (d : Doc) → d.num ≡ num
@@ -36,7 +37,13 @@ fn is_done(search: &Search, num: DocNum, mark: i64, into: &LeastHits) -> bool
 }
 
 // Returns whether the list has a document at this place, and it is done.
-fn is_done_at(search: &Search, docs: &PostingList, place: usize, mark: i64, into: &LeastHits) -> bool
+fn is_done_at(
+    search: &Search,
+    docs: &PostingList,
+    place: usize,
+    mark: i64,
+    into: &LeastHits,
+) -> bool
     requires { CanStoreHits into.now }
     ensures { result ≡ true → (d : Doc) → slice_get docs.now place ≡ Some d
         → IsDone search.now.seen.now (length into.now.places.items) into.now.hits.items mark d }
@@ -47,7 +54,8 @@ fn is_done_at(search: &Search, docs: &PostingList, place: usize, mark: i64, into
     }
 }
 
-// Returns how many documents at the front of the list are done, of which the first `len` are known to be.
+// Returns how many documents at the front of the list are done, of which the first `len` are known
+// to be.
 fn done_from(search: &Search, docs: &PostingList, len: usize, mark: i64, into: &LeastHits) -> usize
     requires ready { CanStoreHits into.now }
     requires done { AreDoneDocs search.now into.now mark (take len docs.now) }
@@ -64,8 +72,8 @@ fn done_from(search: &Search, docs: &PostingList, len: usize, mark: i64, into: &
     done
 }
 
-// Returns the documents of the list with which there may be a way on to a hit that changes what is stored. Of a long list those
-// at its front are left out that are done, and the front is stored.
+// Returns the documents of the list with which there may be a way on to a hit that changes what is
+// stored. Of a long list those at its front are left out that are done, and the front is stored.
 fn docs_behind<'a>(
     search: &Search<'a>,
     found: SingleList<'a>,
@@ -103,9 +111,9 @@ fn docs_behind<'a>(
     }
 }
 
-/// Returns the rows of the reach that may change what is stored, beside those of `env`, with this mark or a later one. Of a
-/// long posting list those are left out that the mark or a guard between numbers rules out, and of the query's documents those
-/// that are done at its front.
+/// Returns the rows of the reach that may change what is stored, beside those of `env`, with this
+/// mark or a later one. Of a long posting list those are left out that the mark or a guard between
+/// numbers rules out, and of the query's documents those that are done at its front.
 pub(crate) fn open_rows<'a>(
     search: &Search<'a>,
     reach: ReachRef<'a>,

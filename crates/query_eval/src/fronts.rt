@@ -1,10 +1,12 @@
 //! Fronts of posting lists, behind which a walk begins.
 //!
-//! Many driving rows may lead to one posting list, as each document of a subject leads to all of that subject. Of a document
-//! that is in the box, or of which a hit is stored that is no later, nothing is asked. Without fronts each of them would be
-//! passed over once for each driving row; with them a run looks once at each that it finds.
+//! Many driving rows may lead to one posting list, as each document of a subject leads to all of
+//! that subject. Of a document that is in the box, or of which a hit is stored that is no later,
+//! nothing is asked. Without fronts each of them would be passed over once for each driving row;
+//! with them a run looks once at each that it finds.
 
-ghost use Rattle.std.specs.Prelude.{◌≡◌, ◌<◌, ◌++◌, ◌∷◌, ℕ, List, [], true, length, slice_get, IfSome, vec_capacity};
+ghost use Rattle.std.specs.Prelude.{◌≡◌, ◌<◌, ◌++◌, ◌∷◌, ℕ, List, [], true, length, slice_get};
+ghost use Rattle.std.specs.Prelude.{IfSome, vec_capacity};
 ghost use Rattle.tap_rows.specs.Kept.{In};
 ghost use Rattle.tap_rows.specs.declared.rows.Doc.{Doc};
 ghost use Rattle.tap_rows.specs.declared.results.Hit.{Hit};
@@ -16,8 +18,8 @@ use row_index::TextKind;
 use std::alloc::Global;
 use tap_base::{DocNum, Memory};
 
-/// The front of the posting list of this kind that begins with this document: of its first `len` documents no hit with this
-/// mark or a later one changes what is stored.
+/// The front of the posting list of this kind that begins with this document: of its first `len`
+/// documents no hit with this mark or a later one changes what is stored.
 #[derive(Clone, Copy, Drop)]
 pub(crate) struct Front {
     pub(crate) kind: TextKind,
@@ -26,14 +28,16 @@ pub(crate) struct Front {
     pub(crate) len: usize,
 }
 
-/// Fronts, and under the number of the document with which its list begins each front's place among them.
+/// Fronts, and under the number of the document with which its list begins each front's place among
+/// them.
 #[derive(Drop)]
 pub(crate) struct Fronts {
     pub(crate) fronts: Vec<Front>,
     pub(crate) places: Vec<u32>,
 }
 
-// Returns whether the front is that of the list of this kind that begins with this document, and holds at this mark.
+// Returns whether the front is that of the list of this kind that begins with this document, and
+// holds at this mark.
 fn is_front_of(front: &Front, kind: TextKind, first: u32, mark: i64) -> bool
     ensures { result ≡ true → IsFrontOf kind first mark front.now }
 {
@@ -77,9 +81,11 @@ impl Fronts {
         }
     }
 
-    /// Returns how many documents at the front of the list of this kind that begins with this document are done at this mark.
+    /// Returns how many documents at the front of the list of this kind that begins with this
+    /// document are done at this mark.
     pub(crate) fn done(&self, kind: TextKind, first: DocNum, mark: i64) -> usize
-        ensures { (entries : List Entry) (docs : List Doc) (n : ℕ) (kept : List Hit) → ArePassed entries docs n kept self.now.fronts.items
+        ensures { (entries : List Entry) (docs : List Doc) (n : ℕ) (kept : List Hit)
+            → ArePassed entries docs n kept self.now.fronts.items
             → IsPassed entries docs n kept kind first.0 mark result }
     {
         match self.front_under(first) {
@@ -111,10 +117,13 @@ impl Fronts {
         let _ = self.fronts.push(front);
     }
 
-    /// Stores a front in place of that of its list. It is left out if there is no room; no memory is taken.
+    /// Stores a front in place of that of its list. It is left out if there is no room; no memory
+    /// is taken.
     pub(crate) fn put(&mut self, front: Front)
-        ensures { (entries : List Entry) (docs : List Doc) (n : ℕ) (kept : List Hit) → ArePassed entries docs n kept self.old.fronts.items
-            → IsFrontPassed entries docs n kept front → ArePassed entries docs n kept self.new.fronts.items }
+        ensures { (entries : List Entry) (docs : List Doc) (n : ℕ) (kept : List Hit)
+            → ArePassed entries docs n kept self.old.fronts.items
+            → IsFrontPassed entries docs n kept front
+                → ArePassed entries docs n kept self.new.fronts.items }
     {
         let under = front.first as usize;
         if under >= self.places.len() {

@@ -1,6 +1,7 @@
 //! The hits of a run, in room that was taken before it.
 
-ghost use Rattle.std.specs.Prelude.{◌≡◌, ◌≤◌, ◌<◌, [], length, slice_get, option_copied, IfOk, OnOk, OnErr};
+ghost use Rattle.std.specs.Prelude.{◌≡◌, ◌≤◌, ◌<◌, [], length, slice_get, option_copied, IfOk};
+ghost use Rattle.std.specs.Prelude.{OnOk, OnErr};
 ghost use Rattle.tap_rows.specs.declared.results.Hit.{Hit};
 ghost use Rattle.query_eval.specs.Hits.{HitsWithRoom};
 
@@ -26,7 +27,8 @@ impl Model for Hits {
 
     ghost view = { λ h. record { hits = h.kept.hits.items; room = length h.kept.places.items } };
 
-    ghost invariant = { λ h. HasRoom h.kept × (length h.kept.hits.items ≤ length h.kept.places.items) };
+    ghost invariant = { λ h. HasRoom h.kept
+        × (length h.kept.hits.items ≤ length h.kept.places.items) };
 }
 
 impl Drop for Hits {
@@ -50,7 +52,8 @@ impl Hits {
         }
     }
 
-    /// Returns no hits, with room for one of each of the documents 1 to `n`. `Memory` comes if memory runs out.
+    /// Returns no hits, with room for one of each of the documents 1 to `n`. `Memory` comes if
+    /// memory runs out.
     pub fn with_room(alloc: Global, n: u32) -> Result<Hits, Memory>
         ensures { IfOk result (λ h. h ≡ record { hits = []; room = n }) }
     {
@@ -102,8 +105,8 @@ impl Hits {
         Rows::from_vec(hits)
     }
 
-    /// Makes the room at least `n`, and changes nothing else. `Memory` comes if memory runs out, and then nothing has
-    /// changed.
+    /// Makes the room at least `n`, and changes nothing else. `Memory` comes if memory runs out,
+    /// and then nothing has changed.
     pub fn grow(&mut self, n: u32) -> Result<(), Memory>
         ensures hits { self.new.hits ≡ self.old.hits }
         ensures room { self.old.room ≤ self.new.room }

@@ -1,4 +1,5 @@
-//! The hits of a probe that compares one text of the query's document with a literal and asks for nothing else.
+//! The hits of a probe that compares one text of the query's document with a literal and asks for
+//! nothing else.
 
 ghost use Rattle.std.specs.Prelude.{◌≡◌, ◌+◌, ◌≤◌, length};
 ghost use Rattle.std.specs.List.{flat_map};
@@ -18,7 +19,8 @@ use tap_rows::{Hit, KeptDoc};
 use time_marks::{Seek, Window};
 use tql_core::{Env, RowRef, Var, value};
 
-// Stores the hit of the document with the mark, if the mark isn't before it and it isn't in the box.
+// Stores the hit of the document with the mark, if the mark isn't before it and it isn't in the
+// box.
 fn collect_doc(search: &Search, doc: &KeptDoc, mark: i64, into: &mut LeastHits)
     requires { CanStoreHits into.old }
     ensures hits { Stores into.old into.new (listed_hit search.now.seen.now mark (OfDoc doc.now)) }
@@ -35,11 +37,12 @@ fn collect_doc(search: &Search, doc: &KeptDoc, mark: i64, into: &mut LeastHits)
     }
 }
 
-// Stores the hit of the row with the mark, if there is one, it isn't before the row, and the row is a document that isn't in
-// the box.
+// Stores the hit of the row with the mark, if there is one, it isn't before the row, and the row is
+// a document that isn't in the box.
 fn collect_marked(search: &Search, row: RowRef<'_>, mark: Option<i64>, into: &mut LeastHits)
     requires { CanStoreHits into.old }
-    ensures hits { Stores into.old into.new (marked_hit search.now.seen.now (row_of row.entry) mark) }
+    ensures hits { Stores into.old into.new
+        (marked_hit search.now.seen.now (row_of row.entry) mark) }
     ensures ready { CanStoreHits into.new }
     ensures places { length into.new.places.items ≡ length into.old.places.items }
 {
@@ -49,7 +52,8 @@ fn collect_marked(search: &Search, row: RowRef<'_>, mark: Option<i64>, into: &mu
     }
 }
 
-// Stores the hits of the rows that are walked, each of which is found at each mark that isn't before it.
+// Stores the hits of the rows that are walked, each of which is found at each mark that isn't
+// before it.
 pub(crate) fn collect_listed<'a, L: Ledger>(
     search: &Search<'a>,
     seek: Seek,
@@ -61,10 +65,12 @@ pub(crate) fn collect_listed<'a, L: Ledger>(
     requires window { CanSeek seek w }
     requires ready { CanStoreHits into.old }
     ensures hits { Stores into.old into.new
-        (flat_map (listed_hits search.now.seen.now w (searched search.now) var) (walked search.now.index.now w (searched search.now) seek var)) }
+        (flat_map (listed_hits search.now.seen.now w (searched search.now) var)
+            (walked search.now.index.now w (searched search.now) seek var)) }
     ensures ready { CanStoreHits into.new }
     ensures places { length into.new.places.items ≡ length into.old.places.items }
-    ensures steps { steps.new ≤ steps.old + length (walked search.now.index.now w (searched search.now) seek var) }
+    ensures steps { steps.new
+        ≤ steps.old + length (walked search.now.index.now w (searched search.now) seek var) }
     ensures more { steps.old ≤ steps.new }
 {
     let mut rows = walked(search, seek, var, w);

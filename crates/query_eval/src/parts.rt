@@ -36,12 +36,14 @@ fn collect_at<'a, L: Ledger>(
     requires ready { CanStoreHits into.old }
     requires fronts { AreDone search.now into.old fronts.old }
     ensures hits { Stores into.old into.new
-        (hits_at search.now.seen.now search.now.index.now w (searched search.now) order.now env.now) }
+        (hits_at search.now.seen.now search.now.index.now w (searched search.now)
+            order.now env.now) }
     ensures next { IsNearestIfKnown search.now.probe.now.path env.now next.new }
     ensures ready { CanStoreHits into.new }
     ensures places { length into.new.places.items ≡ length into.old.places.items }
     ensures fronts { AreDone search.now into.new fronts.new }
-    ensures steps { steps.new ≤ steps.old + cost_at search.now.index.now w (searched search.now) order.now env.now }
+    ensures steps { steps.new
+        ≤ steps.old + cost_at search.now.index.now w (searched search.now) order.now env.now }
     ensures more { steps.old ≤ steps.new }
 {
     if let Some(mark) = mark_in(w, value(search.probe.at, env)) {
@@ -49,7 +51,8 @@ fn collect_at<'a, L: Ledger>(
     }
 }
 
-// Stores the hits at the marks of the driving rows that are walked. The nearest step is found once for all of them.
+// Stores the hits at the marks of the driving rows that are walked. The nearest step is found once
+// for all of them.
 fn collect_driven<'a, L: Ledger>(
     search: &Search<'a>,
     order: &'a [Reach],
@@ -65,11 +68,13 @@ fn collect_driven<'a, L: Ledger>(
     requires ready { CanStoreHits into.old }
     requires fronts { AreDone search.now into.old fronts.old }
     ensures hits { Stores into.old into.new
-        (driven_hits search.now.seen.now search.now.index.now w (searched search.now) order.now seek var) }
+        (driven_hits search.now.seen.now search.now.index.now w (searched search.now) order.now seek
+            var) }
     ensures ready { CanStoreHits into.new }
     ensures places { length into.new.places.items ≡ length into.old.places.items }
     ensures fronts { AreDone search.now into.new fronts.new }
-    ensures steps { steps.new ≤ steps.old + driven_cost search.now.index.now w (searched search.now) order.now seek var }
+    ensures steps { steps.new
+        ≤ steps.old + driven_cost search.now.index.now w (searched search.now) order.now seek var }
     ensures more { steps.old ≤ steps.new }
 {
     let mut rows = walked(search, seek, var, w);
@@ -89,8 +94,8 @@ fn collect_driven<'a, L: Ledger>(
     }
 }
 
-// Stores the hits at the marks of the driving rows that are walked. If these are a posting list beside which nothing is asked
-// for, their marks alone are tested.
+// Stores the hits at the marks of the driving rows that are walked. If these are a posting list
+// beside which nothing is asked for, their marks alone are tested.
 fn collect_walked<'a, L: Ledger>(
     search: &Search<'a>,
     order: &'a [Reach],
@@ -106,11 +111,13 @@ fn collect_walked<'a, L: Ledger>(
     requires ready { CanStoreHits into.old }
     requires fronts { AreDone search.now into.old fronts.old }
     ensures hits { Stores into.old into.new
-        (driven_hits search.now.seen.now search.now.index.now w (searched search.now) order.now seek var) }
+        (driven_hits search.now.seen.now search.now.index.now w (searched search.now) order.now seek
+            var) }
     ensures ready { CanStoreHits into.new }
     ensures places { length into.new.places.items ≡ length into.old.places.items }
     ensures fronts { AreDone search.now into.new fronts.new }
-    ensures steps { steps.new ≤ steps.old + driven_cost search.now.index.now w (searched search.now) order.now seek var }
+    ensures steps { steps.new
+        ≤ steps.old + driven_cost search.now.index.now w (searched search.now) order.now seek var }
     ensures more { steps.old ≤ steps.new }
 {
     if goes_by_list(search, seek, var) {
@@ -131,15 +138,18 @@ pub(crate) fn collect_part<'a, L: Ledger>(
     steps: &mut Steps<L>,
 )
     requires window { CanSeek seek w }
-    requires search { CanSearch search.now (length (option_to_list (seek_var seek)) + length order.now) }
+    requires search { CanSearch search.now
+        (length (option_to_list (seek_var seek)) + length order.now) }
     requires ready { CanStoreHits into.old }
     requires fronts { AreDone search.now into.old fronts.old }
     ensures hits { Stores into.old into.new
-        (seek_hits search.now.seen.now search.now.index.now w (searched search.now) order.now seek (seek_var seek)) }
+        (seek_hits search.now.seen.now search.now.index.now w (searched search.now) order.now seek
+            (seek_var seek)) }
     ensures ready { CanStoreHits into.new }
     ensures places { length into.new.places.items ≡ length into.old.places.items }
     ensures fronts { AreDone search.now into.new fronts.new }
-    ensures steps { steps.new ≤ steps.old + seek_cost search.now.index.now w (searched search.now) order.now seek (seek_var seek) }
+    ensures steps { steps.new ≤ steps.old
+        + seek_cost search.now.index.now w (searched search.now) order.now seek (seek_var seek) }
     ensures more { steps.old ≤ steps.new }
 {
     match seek_var(seek) {

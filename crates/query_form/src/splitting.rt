@@ -83,7 +83,8 @@ fn small_or_whole(
     cond: &Cond,
     made: Cond,
 ) -> Result<Cond, Memory>
-    ensures { IfOk result (λ x. condition x ≡ small_or_whole var table (condition cond.now) (condition made)) }
+    ensures { IfOk result (λ x.
+        condition x ≡ small_or_whole var table (condition cond.now) (condition made)) }
 {
     if is_small(&made) {
         Ok(made)

@@ -19,7 +19,8 @@ use Rattle.time_marks.specs.Probes.{Probe}
 use Rattle.time_marks.specs.Views.{probe_in}
 
 old_probe : Probe
-old_probe = record { path = record { var = document_var; table = Docs; guards = [] } ∷ []; at = record { base = Arrival document_var; plus = pos 5 }; body = Always }
+old_probe = record { path = record { var = document_var; table = Docs; guards = [] } ∷ [];
+      at = record { base = Arrival document_var; plus = pos 5 }; body = Always }
 
 is_probe : IsProbe old_probe
 unfolding old_probe
@@ -38,13 +39,16 @@ tree_is nodes id e = ap (λ o. node_tree o (tree nodes id)) e
 
 -- the probe in the code
 abbrev pub old_code : ℕ → CodeProbe
-old_code id = record { path = record { var = document_var; table = Docs; guards = [] } ∷ []; at = record { base = Arrival document_var; plus = pos 5 }; body = record { 0 = id } }
+old_code id = record { path = record { var = document_var; table = Docs; guards = [] } ∷ [];
+      at = record { base = Arrival document_var; plus = pos 5 }; body = record { 0 = id } }
 
-pub are_probes : (nodes : List TNode) (parts : List Ranged) (id : ℕ) → map (λ (part : Ranged). part.probe) parts ≡ old_code id ∷ [] → slice_get nodes id ≡ Some N.True → (x : Probe) → In x (map (λ (part : Ranged). probe_in nodes part.probe) parts) → IsProbe x
+pub are_probes : (nodes : List TNode) (parts : List Ranged) (id : ℕ) → map (λ (part : Ranged). part.probe) parts ≡ old_code id ∷ []
+    → slice_get nodes id ≡ Some N.True → (x : Probe) → In x (map (λ (part : Ranged). probe_in nodes part.probe) parts) → IsProbe x
 unfolding old_probe
 are_probes nodes parts id e t x i = subst IsProbe (sym (only (subst (In x) (twice parts ∙ ap (map (probe_in nodes)) e) i) ∙ whole)) is_probe
   where
-    twice : (ps : List Ranged) → map (λ (part : Ranged). probe_in nodes part.probe) ps ≡ map (probe_in nodes) (map (λ (part : Ranged). part.probe) ps)
+    twice : (ps : List Ranged)
+        → map (λ (part : Ranged). probe_in nodes part.probe) ps ≡ map (probe_in nodes) (map (λ (part : Ranged). part.probe) ps)
     twice [] = refl
     twice (y ∷ ys) = ap (λ zs. probe_in nodes y.probe ∷ zs) (twice ys)
 
@@ -53,7 +57,8 @@ are_probes nodes parts id e t x i = subst IsProbe (sym (only (subst (In x) (twic
     only (inr h) = absurd h
 
     whole : probe_in nodes (old_code id) ≡ old_probe
-    whole = ap (λ y. record { path = record { var = document_var; table = Docs; guards = [] } ∷ []; at = record { base = Arrival document_var; plus = pos 5 }; body = y }) (tree_is nodes id t)
+    whole = ap (λ y. record { path = record { var = document_var; table = Docs; guards = [] } ∷ [];
+            at = record { base = Arrival document_var; plus = pos 5 }; body = y }) (tree_is nodes id t)
 
 -- its query keeps what queries keep
 get_less : (nodes : List TNode) (id : ℕ) (node : TNode) → slice_get nodes id ≡ Some node → id < length nodes
@@ -67,9 +72,11 @@ to_lt a n h = grind arith
 get_below : (nodes : List TNode) (id : ℕ) (node : TNode) → slice_get nodes id ≡ Some node → nat_lt id (length nodes) ≡ true
 get_below nodes id node e = to_lt id (length nodes) (get_less nodes id node e)
 
-pub kept_old : (nodes : List TNode) (parts : List Ranged) (id : ℕ) → map (λ (part : Ranged). part.probe) parts ≡ old_code id ∷ [] → slice_get nodes id ≡ Some N.True → parts_kept nodes parts ≡ true
+pub kept_old : (nodes : List TNode) (parts : List Ranged) (id : ℕ) → map (λ (part : Ranged). part.probe) parts ≡ old_code id ∷ []
+    → slice_get nodes id ≡ Some N.True → parts_kept nodes parts ≡ true
 kept_old nodes parts id e t = through parts ∙ ap (list_all (is_kept nodes)) e ∙ rw (get_below nodes id N.True t) refl
   where
-    through : (ps : List Ranged) → list_all (λ (part : Ranged). is_kept nodes part.probe) ps ≡ list_all (is_kept nodes) (map (λ (part : Ranged). part.probe) ps)
+    through : (ps : List Ranged)
+        → list_all (λ (part : Ranged). is_kept nodes part.probe) ps ≡ list_all (is_kept nodes) (map (λ (part : Ranged). part.probe) ps)
     through [] = refl
     through (y ∷ ys) = ap (λ b. is_kept nodes y.probe && b) (through ys)

@@ -44,12 +44,17 @@ marks_own at (inr (inr (inr x))) = absurd x
 tree_is : (nodes : List TNode) (id : ℕ) → slice_get nodes id ≡ Some N.True → tree_at nodes id ≡ Always
 tree_is nodes id e = ap (λ o. node_tree o (tree nodes id)) e
 
-pub three_probes : (nodes : List TNode) (parts : List Ranged) (id : ℕ) → map (λ (part : Ranged). part.probe) parts ≡ map (sample_probe id) sample_marks → slice_get nodes id ≡ Some N.True → (x : Probe) → In x (map (λ (part : Ranged). probe_in nodes part.probe) parts) → IsProbe x
+pub three_probes : (nodes : List TNode) (parts : List Ranged) (id : ℕ)
+    → map (λ (part : Ranged). part.probe) parts ≡ map (sample_probe id) sample_marks → slice_get nodes id ≡ Some N.True → (x : Probe)
+    → In x (map (λ (part : Ranged). probe_in nodes part.probe) parts) → IsProbe x
 unfolding probe_at
 three_probes nodes parts id e t x i =
     let a = map_in (λ (part : Ranged). probe_in nodes part.probe) parts x i in
-    let b = map_in (sample_probe id) sample_marks a.0.probe (subst (λ z. In a.0.probe z) e (in_map (λ (part : Ranged). part.probe) parts a.0 a.1)) in
-    let q : x ≡ probe_at b.0 = a.2 ∙ ap (probe_in nodes) b.2 ∙ ap (λ y. record { path = record { var = document_var; table = Docs; guards = [] } ∷ []; at = b.0; body = y }) (tree_is nodes id t) in
+    let b = map_in (sample_probe id) sample_marks
+        a.0.probe (subst (λ z. In a.0.probe z) e (in_map (λ (part : Ranged). part.probe) parts a.0 a.1)) in
+    let q : x ≡ probe_at b.0 = a.2 ∙ ap (probe_in nodes) b.2
+        ∙ ap (λ y. record { path = record { var = document_var; table = Docs; guards = [] } ∷ []; at = b.0; body = y })
+        (tree_is nodes id t) in
     subst IsProbe (sym q) (is_probe b.0 (marks_own b.0 b.1))
 
 -- its query keeps what queries keep
@@ -64,9 +69,11 @@ to_lt a n h = grind arith
 get_below : (nodes : List TNode) (id : ℕ) (node : TNode) → slice_get nodes id ≡ Some node → nat_lt id (length nodes) ≡ true
 get_below nodes id node e = to_lt id (length nodes) (get_less nodes id node e)
 
-pub three_kept : (nodes : List TNode) (parts : List Ranged) (id : ℕ) → map (λ (part : Ranged). part.probe) parts ≡ map (sample_probe id) sample_marks → slice_get nodes id ≡ Some N.True → parts_kept nodes parts ≡ true
+pub three_kept : (nodes : List TNode) (parts : List Ranged) (id : ℕ) → map (λ (part : Ranged). part.probe) parts
+    ≡ map (sample_probe id) sample_marks → slice_get nodes id ≡ Some N.True → parts_kept nodes parts ≡ true
 three_kept nodes parts id e t = through parts ∙ ap (list_all (is_kept nodes)) e ∙ rw (get_below nodes id N.True t) refl
   where
-    through : (ps : List Ranged) → list_all (λ (part : Ranged). is_kept nodes part.probe) ps ≡ list_all (is_kept nodes) (map (λ (part : Ranged). part.probe) ps)
+    through : (ps : List Ranged)
+        → list_all (λ (part : Ranged). is_kept nodes part.probe) ps ≡ list_all (is_kept nodes) (map (λ (part : Ranged). part.probe) ps)
     through [] = refl
     through (y ∷ ys) = ap (λ b. is_kept nodes y.probe && b) (through ys)

@@ -14,7 +14,8 @@ use tap_rows::{Doc, Entry, Fields, KeptDoc};
 
 /// Returns a document without a text.
 pub fn blank_doc(alloc: Global, num: u32, arrival: i64) -> Result<KeptDoc, Memory>
-    ensures { IfOk result (λ doc. doc ≡ record { num = record { 0 = num }; arrival = arrival; text = [] }) }
+    ensures { IfOk result (λ doc.
+        doc ≡ record { num = record { 0 = num }; arrival = arrival; text = [] }) }
 {
     let doc = Doc {
         num: DocNum(num),

@@ -1,4 +1,5 @@
-//! Tests over documents: what window queries find, when a run is next worthwhile, how a box is listed, and digests.
+//! Tests over documents: what window queries find, when a run is next worthwhile, how a box is
+//! listed, and digests.
 #![tactic(auto)]
 
 #[cfg(test)]

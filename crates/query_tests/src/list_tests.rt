@@ -76,7 +76,8 @@ fn a_box_is_listed_by_priority(rt: HostRuntime) -> Result<(), Memory> {
     Ok(())
 }
 
-// Returns the lines of the digest of a run over two documents without texts, which an entry without a document comes between.
+// Returns the lines of the digest of a run over two documents without texts, which an entry without
+// a document comes between.
 fn digested<L: Ledger>(alloc: Global, blank: Blank) -> Result<Texts, Memory>
     requires blank { IsBlankOf L.name L.parts blank }
 {

@@ -12,7 +12,8 @@ use tql_tree::Table;
 
 // Returns the path of the document alone.
 fn document_path(alloc: Global) -> Result<Rows<Step>, Memory>
-    ensures { IfOk result (λ path. path ≡ record { var = record { 0 = 0 }; table = Docs; guards = [] } ∷ []) }
+    ensures { IfOk result (λ path.
+        path ≡ record { var = record { 0 = 0 }; table = Docs; guards = [] } ∷ []) }
 {
     let mut path = Rows::new(alloc);
     let step = Step {

@@ -100,7 +100,8 @@ fn found_by<L: Ledger>(
     hits
 }
 
-// Returns what the plan of the probe gives below this second of two documents, one of which is in the box.
+// Returns what the plan of the probe gives below this second of two documents, one of which is in
+// the box.
 fn found<L: Ledger>(alloc: Global, blank: Blank, high: i64) -> Result<Rows<Hit>, Memory>
     requires blank { IsBlankOf L.name L.parts blank }
     requires high { IsWithin 500000000000 high }

@@ -19,10 +19,11 @@ use time_marks::{Ranged, RangedQuery};
 use tql_core::{Base, TNode, Term, Var};
 use wake_plan::wake;
 
-// Returns a probe with a mark five seconds after the arrival, one with a mark a second after the date, and one with the
-// fixed mark 130.
+// Returns a probe with a mark five seconds after the arrival, one with a mark a second after the
+// date, and one with the fixed mark 130.
 fn three_parts(alloc: Global, body: NodeId) -> Result<Rows<Ranged>, Memory>
-    ensures { IfOk result (λ parts. map (λ part. part.probe) parts ≡ map (sample_probe body.0) sample_marks) }
+    ensures { IfOk result (λ parts.
+        map (λ part. part.probe) parts ≡ map (sample_probe body.0) sample_marks) }
 {
     let mut parts = Rows::new(alloc);
     let at = Term {

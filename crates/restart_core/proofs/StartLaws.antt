@@ -1,5 +1,6 @@
 -- What is stored of a source says the same, and its text stands from a place on.
-use Rattle.std.proofs.Common.{◌≡◌, ◌∙◌, sym, ap, refl, arith, ℕ, zero, suc, ◌+◌, ◌-◌, List, [], ◌∷◌, ◌++◌, length, drop, Bool, true, false, if◌then◌else◌}
+use Rattle.std.proofs.Common.{◌≡◌, ◌∙◌, sym, ap, refl, arith, ℕ, zero, suc, ◌+◌, ◌-◌, List, [], ◌∷◌, ◌++◌, length, drop, Bool, true, false}
+use Rattle.std.proofs.Common.{if◌then◌else◌}
 use Rattle.std.specs.Prelude.{codes, min}
 use Rattle.std.specs.List.{prefix_len, position_or_len}
 use Rattle.std.proofs.Math.Seq.{drop-nil}
@@ -15,7 +16,8 @@ skipped-once (b ∷ text) = go (is_blank b) refl (skipped-once text) where
   one-more : (n : ℕ) → 1 + n ≡ suc n
   one-more n = omega arith
 
-  go : (x : Bool) → is_blank b ≡ x → after_blanks (after_blanks text) ≡ after_blanks text → after_blanks (after_blanks (b ∷ text)) ≡ after_blanks (b ∷ text)
+  go : (x : Bool) → is_blank b ≡ x → after_blanks (after_blanks text) ≡ after_blanks text
+      → after_blanks (after_blanks (b ∷ text)) ≡ after_blanks (b ∷ text)
   go true e rest = rw (e, one-more (prefix_len is_blank text)) rest
   go false e rest = rw e (rw e refl)
 
@@ -31,7 +33,8 @@ two-words text = rw (one-more (prefix_len is_blank text)) refl where
 
 text-stored : (text : List ℕ) → condition_text (codes "FROM NOW " ++ text) ≡ after_blanks text
 unfolding condition_text
-text-stored text = ap (λ b. if b then after_words 2 (codes "FROM NOW " ++ text) else codes "FROM NOW " ++ text) (from-stored text) ∙ two-words text
+text-stored text = ap (λ b. if b then after_words 2 (codes "FROM NOW " ++ text) else codes "FROM NOW " ++ text) (from-stored text)
+    ∙ two-words text
 
 -- a source by whether it is from now
 stored-now : (source : List ℕ) → is_from_now source ≡ true → stored_source source ≡ codes "FROM NOW " ++ condition_text source
@@ -100,5 +103,8 @@ two-end source =
     end-drop (prefix_len is_blank (after_word (after_words 1 source))) source (after_word (after_words 1 source)) e4
 
 -- the text of a source that is from now
-pub text-at : (source rest : List ℕ) → rest ≡ after_words 2 source → is_from_now source ≡ true → drop (length source - length rest) source ≡ condition_text source
-text-at source rest is now = let end = two-end source in place-is source rest (record { n = end.n; is = end.is ∙ sym is }) ∙ is ∙ sym (text-now source now)
+pub text-at : (source rest : List ℕ) → rest ≡ after_words 2 source → is_from_now source ≡ true
+    → drop (length source - length rest) source ≡ condition_text source
+text-at source rest is now =
+    let end = two-end source in
+    place-is source rest (record { n = end.n; is = end.is ∙ sym is }) ∙ is ∙ sym (text-now source now)

@@ -16,4 +16,5 @@ pub record StoredSourcesSayTheSame : Type 0 where
 pub record SoundTablesAreUndamaged : Type 0 where
   pub formed : (tables : Tables) → damage_of tables ≡ None → is_well_formed tables ≡ true
   pub readable : (tables : Tables) → damage_of tables ≡ None → Each (λ query. IsOk (reading_of query)) tables.queries
-  pub undamaged : (tables : Tables) → is_well_formed tables ≡ true → Each (λ query. IsOk (reading_of query)) tables.queries → damage_of tables ≡ None
+  pub undamaged : (tables : Tables) → is_well_formed tables ≡ true → Each (λ query. IsOk (reading_of query)) tables.queries
+      → damage_of tables ≡ None

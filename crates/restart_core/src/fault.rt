@@ -38,7 +38,8 @@ pub enum Why {
 /// Why stored tables can't be used again.
 #[derive(Clone, Copy, Debug, PartialEq, Eq)]
 pub enum RestartFault {
-    /// The first damaged row: its table, its place there from 1 (0 if the place is above 4,294,967,295), its first reason.
+    /// The first damaged row: its table, its place there from 1 (0 if the place is above
+    /// 4,294,967,295), its first reason.
     Damaged {
         table: TableName,
         num: u32,

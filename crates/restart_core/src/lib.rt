@@ -1,4 +1,5 @@
-//! Reads stored tables again: checks that no row is damaged, and reads the conditions of their queries.
+//! Reads stored tables again: checks that no row is damaged, and reads the conditions of their
+//! queries.
 #![tactic(auto)]
 
 mod docs;

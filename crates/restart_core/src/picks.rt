@@ -1,5 +1,6 @@
 //! The first damaged pick.
-ghost use Rattle.std.specs.Prelude.{◌≡◌, ◌++◌, ◌∷◌, ◌||◌, ◌&&◌, int_lt, int_le, nat_lt, List, [], map, None, IfOk};
+ghost use Rattle.std.specs.Prelude.{◌≡◌, ◌++◌, ◌∷◌, ◌||◌, ◌&&◌, int_lt, int_le, nat_lt, List, []};
+ghost use Rattle.std.specs.Prelude.{map, None, IfOk};
 ghost use Rattle.std.specs.Option.{option_copied};
 ghost use Rattle.tap_rows.specs.WellFormed.{comes_after};
 ghost use Rattle.tap_rows.specs.declared.rows.Pick.{Pick};
@@ -25,7 +26,8 @@ fn refers(pick: &Pick, run: Option<&RunRow>, doc: Option<&Doc>) -> bool
 
 // Does its first second lie from the document's arrival on and below the run's moment?
 fn is_second_possible(pick: &Pick, run: Option<&RunRow>, doc: Option<&Doc>) -> bool
-    ensures { result ≡ is_second_possible pick.now (option_copied run.entry) (option_copied doc.entry) }
+    ensures { result
+        ≡ is_second_possible pick.now (option_copied run.entry) (option_copied doc.entry) }
 {
     match (run, doc) {
         (Some(run), Some(doc)) => pick.first < run.moment && doc.arrival <= pick.first,
@@ -35,7 +37,8 @@ fn is_second_possible(pick: &Pick, run: Option<&RunRow>, doc: Option<&Doc>) -> b
 
 // Does the pick come after the one before, by first second and document?
 fn is_later(before: &Pick, pick: &Pick) -> bool
-    ensures { result ≡ (int_lt before.now.first pick.now.first || (int_le before.now.first pick.now.first && nat_lt before.now.doc.0 pick.now.doc.0)) }
+    ensures { result ≡ (int_lt before.now.first pick.now.first
+          || (int_le before.now.first pick.now.first && nat_lt before.now.doc.0 pick.now.doc.0)) }
 {
     before.first < pick.first || (before.first <= pick.first && before.doc.0 < pick.doc.0)
 }
@@ -52,8 +55,9 @@ fn comes_after(before: Option<&Pick>, pick: &Pick) -> bool
     }
 }
 
-// Returns why the pick is damaged at this place, behind the pick before and the keys of all before. Its own key joins these
-// in the third check, which so comes to the set only for a pick that refers to rows.
+// Returns why the pick is damaged at this place, behind the pick before and the keys of all before.
+// Its own key joins these in the third check, which so comes to the set only for a pick that refers
+// to rows.
 fn reason(
     runs: &[RunRow],
     docs: &[Doc],
@@ -63,7 +67,8 @@ fn reason(
     pick: &Pick,
 ) -> Result<Option<Why>, Memory>
     ensures why { (earlier : List Pick) → picked.old ≡ map pair_of earlier
-        → IfOk result (λ why. why ≡ pick_reason runs.now docs.now earlier place (option_copied before.entry) pick.now) }
+        → IfOk result (λ why. why
+            ≡ pick_reason runs.now docs.now earlier place (option_copied before.entry) pick.now) }
     ensures pairs { (earlier : List Pick) → picked.old ≡ map pair_of earlier
         → IfOk result (λ why. why ≡ None → picked.new ≡ map pair_of (earlier ++ pick.now ∷ [])) }
 {

@@ -1,5 +1,6 @@
 //! The conditions of queries, or the first damaged one.
-ghost use Rattle.std.specs.Prelude.{◌≡◌, ◌⊎◌, ◌++◌, ◌∷◌, List, map, pos, [], None, Some, Ok, OnOk, IfOk, IfErr};
+ghost use Rattle.std.specs.Prelude.{◌≡◌, ◌⊎◌, ◌++◌, ◌∷◌, List, map, pos, [], None, Some, Ok, OnOk};
+ghost use Rattle.std.specs.Prelude.{IfOk, IfErr};
 ghost use Rattle.tap_rows.specs.declared.rows.QueryRow.{QueryRow};
 ghost use Rattle.tql_core.specs.Condition.{condition};
 ghost use Rattle.tql_text.specs.Texts.{AgreesWithText};
@@ -56,7 +57,8 @@ fn read_query(
         → OnOk result (names.new ≡ map named_of (earlier ++ query.now ∷ [])) }
     ensures fault { (earlier : List QueryRow) → names.old ≡ map named_of earlier
         → IfErr result (λ fault. (fault ≡ RestartFault.Memory)
-        ⊎ (row_damage TableName.Queries place (query_reason earlier place low query.now) ≡ Some fault)) }
+        ⊎ (row_damage TableName.Queries place (query_reason earlier place low query.now)
+              ≡ Some fault)) }
 {
     if let Some(why) = own_reason(place, low, query) {
         return Err(damaged(TableName::Queries, place, why));
@@ -82,7 +84,8 @@ fn push_conds(
     requires conds { conds.old ≡ [] }
     ensures sound { OnOk result (queries_damage [] 1 (pos 0) queries.now ≡ None) }
     ensures conds { OnOk result (readings_of queries.now ≡ as_read conds.new) }
-    ensures fault { IfErr result (λ fault. (fault ≡ RestartFault.Memory) ⊎ (queries_damage [] 1 (pos 0) queries.now ≡ Some fault)) }
+    ensures fault { IfErr result (λ fault. (fault ≡ RestartFault.Memory)
+        ⊎ (queries_damage [] 1 (pos 0) queries.now ≡ Some fault)) }
 {
     let mut low = 0;
     for (i, query) in queries.iter().enumerate() {
@@ -92,7 +95,8 @@ fn push_conds(
     Ok(())
 }
 
-// Reads the conditions of the queries. An error gives the first damaged query, or means out of memory.
+// Reads the conditions of the queries. An error gives the first damaged query, or means out of
+// memory.
 pub(crate) fn read_queries(
     alloc: Global,
     key: HashKey,
@@ -100,7 +104,8 @@ pub(crate) fn read_queries(
 ) -> Result<Vec<Cond>, RestartFault>
     ensures sound { OnOk result (queries_damage [] 1 (pos 0) queries.now ≡ None) }
     ensures conds { IfOk result (λ conds. readings_of queries.now ≡ as_read conds.items) }
-    ensures fault { IfErr result (λ fault. (fault ≡ RestartFault.Memory) ⊎ (queries_damage [] 1 (pos 0) queries.now ≡ Some fault)) }
+    ensures fault { IfErr result (λ fault. (fault ≡ RestartFault.Memory)
+        ⊎ (queries_damage [] 1 (pos 0) queries.now ≡ Some fault)) }
 {
     let mut names = Names::new(alloc, key);
     let mut conds = Rows::new(alloc);

@@ -18,7 +18,8 @@ use tap_base::HashKey;
 use tap_rows::Tables;
 use tql_core::Cond;
 
-/// Stored tables of which no row is damaged, with the conditions of their queries. Contracts see the tables alone.
+/// Stored tables of which no row is damaged, with the conditions of their queries. Contracts see
+/// the tables alone.
 #[derive(Drop)]
 pub struct Sound {
     tables: Tables,
@@ -35,7 +36,8 @@ impl Model for Sound {
 
     ghost view = { λ sound. sound.tables };
 
-    ghost invariant = { λ sound. (damage_of sound.tables ≡ None) × (readings_of sound.tables.queries ≡ as_read sound.conds.items) };
+    ghost invariant = { λ sound. (damage_of sound.tables ≡ None)
+        × (readings_of sound.tables.queries ≡ as_read sound.conds.items) };
 }
 
 // Reports a damage as an error.
@@ -52,7 +54,8 @@ fn refuse(damage: Option<RestartFault>) -> Result<(), RestartFault>
 // Checks runs, picks and filters.
 fn check_later(alloc: Global, tables: &Tables) -> Result<(), RestartFault>
     ensures sound { OnOk result (later_damage tables.now ≡ None) }
-    ensures fault { IfErr result (λ fault. (fault ≡ RestartFault.Memory) ⊎ (later_damage tables.now ≡ Some fault)) }
+    ensures fault { IfErr result (λ fault. (fault ≡ RestartFault.Memory)
+        ⊎ (later_damage tables.now ≡ Some fault)) }
 {
     refuse(runs_damage(tables.queries.as_slice(), tables.runs.as_slice()))?;
     refuse(picks_damage(
@@ -70,7 +73,8 @@ fn check_later(alloc: Global, tables: &Tables) -> Result<(), RestartFault>
 fn check_rows(alloc: Global, key: HashKey, tables: &Tables) -> Result<Vec<Cond>, RestartFault>
     ensures sound { OnOk result (damage_of tables.now ≡ None) }
     ensures conds { IfOk result (λ conds. readings_of tables.now.queries ≡ as_read conds.items) }
-    ensures fault { IfErr result (λ fault. (fault ≡ RestartFault.Memory) ⊎ (damage_of tables.now ≡ Some fault)) }
+    ensures fault { IfErr result (λ fault. (fault ≡ RestartFault.Memory)
+        ⊎ (damage_of tables.now ≡ Some fault)) }
 {
     refuse(docs_damage(tables.docs.as_slice()))?;
     refuse(notes_damage(tables.docs.as_slice(), tables.notes.as_slice()))?;
@@ -84,13 +88,15 @@ fn check_rows(alloc: Global, key: HashKey, tables: &Tables) -> Result<Vec<Cond>,
     }
 }
 
-/// Checks all rows of stored tables, in the order documents, notes, queries, runs, picks, filters, and returns the tables if
-/// none is damaged. `Damaged` gives the first damaged row and its first reason, `Memory` means out of memory. The texts of
-/// queries are read, those of filters are not. Each query and each pick takes one look-up, the queries' under this key.
+/// Checks all rows of stored tables, in the order documents, notes, queries, runs, picks, filters,
+/// and returns the tables if none is damaged. `Damaged` gives the first damaged row and its first
+/// reason, `Memory` means out of memory. The texts of queries are read, those of filters are not.
+/// Each query and each pick takes one look-up, the queries' under this key.
 pub fn check_tables(alloc: Global, key: HashKey, tables: Tables) -> Result<Sound, RestartFault>
     ensures tables { IfOk result (λ sound. sound ≡ tables) }
     ensures sound { OnOk result (damage_of tables ≡ None) }
-    ensures fault { IfErr result (λ fault. (fault ≡ RestartFault.Memory) ⊎ (damage_of tables ≡ Some fault)) }
+    ensures fault { IfErr result (λ fault. (fault ≡ RestartFault.Memory)
+        ⊎ (damage_of tables ≡ Some fault)) }
 {
     match check_rows(alloc, key, &tables) {
         Ok(conds) => Ok(Sound { tables, conds }),

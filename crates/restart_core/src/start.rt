@@ -22,8 +22,9 @@ fn is_from_now(source: &[u8]) -> bool
         && nth_word(source, 1).eq_ignore_ascii_case(b"NOW")
 }
 
-/// Finds where the condition of a query's source begins: behind FROM NOW and the blanks after it, if these are its first two
-/// words in any case, else at its first byte. A word is a longest run of bytes other than space and tab. It takes no memory.
+/// Finds where the condition of a query's source begins: behind FROM NOW and the blanks after it,
+/// if these are its first two words in any case, else at its first byte. A word is a longest run of
+/// bytes other than space and tab. It takes no memory.
 #[tactic(auto, unfolding(crate::specs::Starts::condition_text))]
 pub fn cut_start(source: &[u8]) -> Start
     ensures value { result ≡ start_in source.now }

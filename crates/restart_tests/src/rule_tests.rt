@@ -51,7 +51,8 @@ fn each_fault_of_a_rule_has_its_place(rt: HostRuntime) -> Result<(), Fail> {
     let cases: [(&[u8], Result<usize, RuleFault>); 16] = [
         (b"".as_slice(), Ok(0)),
         (
-            b"WHEN m.from = 'boss@x' PRIORITY 9 CLASS 'work'\nWHEN m.words HAS 'lunch' PRIORITY 5 CLASS 'fun'\n",
+            b"WHEN m.from = 'boss@x' PRIORITY 9 CLASS 'work'\n\
+            WHEN m.words HAS 'lunch' PRIORITY 5 CLASS 'fun'\n",
             Ok(2),
         ),
         (

@@ -50,7 +50,8 @@ struct Stored {
     owner: &'static [u8],
 }
 
-// One document, one note on it, one query, one run of it that delivered the document, and one filter.
+// One document, one note on it, one query, one run of it that delivered the document, and one
+// filter.
 const SOUND: Stored = Stored {
     doc_num: 1,
     long: false,

@@ -1,5 +1,6 @@
 -- Documents that are put in order of date, and taken away again.
-use Rattle.std.proofs.Common.{◌≡◌, ℕ, zero, suc, ◌+◌, ◌-◌, ◌<◌, ◌≤◌, ℤ, Bool, true, false, not, List, [], ◌∷◌, ◌++◌, Some, length, map, filter, refl, sym, ap, ◌∙◌, inl, inr, arith, if◌then◌else◌}
+use Rattle.std.proofs.Common.{◌≡◌, ℕ, zero, suc, ◌+◌, ◌-◌, ◌<◌, ◌≤◌, ℤ, Bool, true, false, not, List, [], ◌∷◌, ◌++◌, Some, length, map}
+use Rattle.std.proofs.Common.{filter, refl, sym, ap, ◌∙◌, inl, inr, arith, if◌then◌else◌}
 use Rattle.std.specs.Prelude.{slice_get, pos, int_le, int_lt, nat_lt, fold, ◌&&◌, ◌||◌, ◌==◌}
 use Rattle.std.specs.Option.{is_some, unwrap_or}
 use Rattle.std.specs.declared.cmp.Ordering.{Ordering}
@@ -47,7 +48,8 @@ int_not_less x = grind (arith, ints)
 cmp_later : (d o : Doc) → o.num.0 - 1 < d.num.0 - 1 → dated_cmp (dated d) (dated o) ≡ (if is_earlier d o then Less else Greater)
 cmp_later d o h = plain (stored_date d) (stored_date o) (num_below o.num.0 d.num.0 h) (nat_greater (o.num.0 - 1) (d.num.0 - 1) h)
   where
-    plain : (x y : ℤ) → nat_lt d.num.0 o.num.0 ≡ false → nat_cmp (d.num.0 - 1) (o.num.0 - 1) ≡ Greater → ordering_then (int_cmp x y) (nat_cmp (d.num.0 - 1) (o.num.0 - 1)) ≡ (if int_lt x y || (not (int_lt y x) && nat_lt d.num.0 o.num.0) then Less else Greater)
+    plain : (x y : ℤ) → nat_lt d.num.0 o.num.0 ≡ false → nat_cmp (d.num.0 - 1) (o.num.0 - 1) ≡ Greater → ordering_then (int_cmp x y)
+        (nat_cmp (d.num.0 - 1) (o.num.0 - 1)) ≡ (if int_lt x y || (not (int_lt y x) && nat_lt d.num.0 o.num.0) then Less else Greater)
     plain x y a b =
         elim (cases_Bool (int_lt x y)) [
           | inl l ↦ rw l refl
@@ -64,7 +66,8 @@ cmp_self k = rw (int_not_less k.date, nat_same k.place) refl
 abbrev Below : ℕ → List Doc → Type 0
 Below place docs = Each (λ doc. doc.num.0 - 1 < place) docs
 
-put_in_keys : (d : Doc) (docs : List Doc) → Below (d.num.0 - 1) docs → map dated (put_dated d docs) ≡ insert_key dated_cmp (map dated docs) (dated d)
+put_in_keys : (d : Doc) (docs : List Doc) → Below (d.num.0 - 1) docs
+    → map dated (put_dated d docs) ≡ insert_key dated_cmp (map dated docs) (dated d)
 put_in_keys d [] b = refl
 put_in_keys d (o ∷ docs) b =
     let c = cmp_later d o b.0 in
@@ -73,7 +76,8 @@ put_in_keys d (o ∷ docs) b =
       | inr e ↦ rw (c, e) (ap (λ z. dated o ∷ z) (put_in_keys d docs b.1))
     ]
 
-taken_from_keys : (d : Doc) (docs : List Doc) → Below (d.num.0 - 1) docs → remove_key (λ k. is_eq (dated_cmp (dated d) k)) (map dated (put_dated d docs)) ≡ map dated docs
+taken_from_keys : (d : Doc) (docs : List Doc) → Below (d.num.0 - 1) docs
+    → remove_key (λ k. is_eq (dated_cmp (dated d) k)) (map dated (put_dated d docs)) ≡ map dated docs
 taken_from_keys d [] b = rw (cmp_self (dated d)) refl
 taken_from_keys d (o ∷ docs) b =
     let c = cmp_later d o b.0 in
@@ -82,12 +86,15 @@ taken_from_keys d (o ∷ docs) b =
       | inr e ↦ rw e (later (c ∙ rw e refl) (taken_from_keys d docs b.1))
     ]
   where
-    later : dated_cmp (dated d) (dated o) ≡ Greater → remove_key (λ k. is_eq (dated_cmp (dated d) k)) (map dated (put_dated d docs)) ≡ map dated docs → remove_key (λ k. is_eq (dated_cmp (dated d) k)) (dated o ∷ map dated (put_dated d docs)) ≡ dated o ∷ map dated docs
+    later : dated_cmp (dated d) (dated o) ≡ Greater
+        → remove_key (λ k. is_eq (dated_cmp (dated d) k)) (map dated (put_dated d docs)) ≡ map dated docs
+        → remove_key (λ k. is_eq (dated_cmp (dated d) k)) (dated o ∷ map dated (put_dated d docs)) ≡ dated o ∷ map dated docs
     later g i = rw g (ap (λ z. dated o ∷ z) i)
 
 -- the order of documents with one more
 
-fold_onto : (docs sorted : List Doc) (d : Doc) → fold (λ sorted doc. put_dated doc sorted) sorted (docs ++ d ∷ []) ≡ put_dated d (fold (λ sorted doc. put_dated doc sorted) sorted docs)
+fold_onto : (docs sorted : List Doc) (d : Doc) → fold (λ sorted doc. put_dated doc sorted) sorted (docs ++ d ∷ [])
+    ≡ put_dated d (fold (λ sorted doc. put_dated doc sorted) sorted docs)
 fold_onto [] sorted d = refl
 fold_onto (doc ∷ docs) sorted d = fold_onto docs (put_dated doc sorted) d
 
@@ -108,7 +115,8 @@ filter_without t (doc ∷ docs) d e =
     ]
 
 order_with : (docs : List Doc) (d : Doc) → has_date d ≡ true → in_date_order (docs ++ d ∷ []) ≡ put_dated d (in_date_order docs)
-order_with docs d e = ap (λ z. fold (λ sorted doc. put_dated doc sorted) [] z) (filter_with has_date docs d e) ∙ fold_onto (filter has_date docs) [] d
+order_with docs d e = ap (λ z. fold (λ sorted doc. put_dated doc sorted) [] z) (filter_with has_date docs d e)
+    ∙ fold_onto (filter has_date docs) [] d
 
 -- each document in order is one of those
 
@@ -143,15 +151,23 @@ below_from n m (doc ∷ docs) h z w =
     (omega (arith, e, z, w), below_from (n + 1) m docs h.1 (omega arith) (omega (arith, w)))
 
 below_all : (docs : List Doc) (d : Doc) → Numbered doc_number 1 docs → d.num.0 ≡ length docs + 1 → Below (d.num.0 - 1) (in_date_order docs)
-below_all docs d h e = each_ordered (λ doc. doc.num.0 - 1 < d.num.0 - 1) docs (below_from 1 (d.num.0 - 1) docs h (omega arith) (omega (arith, e)))
+below_all docs d h e =
+    each_ordered (λ doc. doc.num.0 - 1 < d.num.0 - 1) docs (below_from 1 (d.num.0 - 1) docs h (omega arith) (omega (arith, e)))
 
-pub dates_more : (docs : List Doc) (d : Doc) (keys more : List Dated) (k : Dated) → Numbered doc_number 1 docs → d.num.0 ≡ length docs + 1 → has_date d ≡ true → k ≡ dated d → more ≡ insert_key dated_cmp keys k → keys ≡ map dated (in_date_order docs) → more ≡ map dated (in_date_order (docs ++ d ∷ []))
+pub dates_more : (docs : List Doc) (d : Doc) (keys more : List Dated) (k : Dated) → Numbered doc_number 1 docs → d.num.0 ≡ length docs + 1
+    → has_date d ≡ true → k ≡ dated d → more ≡ insert_key dated_cmp keys k → keys ≡ map dated (in_date_order docs)
+    → more ≡ map dated (in_date_order (docs ++ d ∷ []))
 dates_more docs d keys more k h e s q m i =
-    m ∙ ap (λ z. insert_key dated_cmp z k) i ∙ ap (λ z. insert_key dated_cmp (map dated (in_date_order docs)) z) q ∙ sym (put_in_keys d (in_date_order docs) (below_all docs d h e)) ∙ ap (λ z. map dated z) (sym (order_with docs d s))
+    m ∙ ap (λ z. insert_key dated_cmp z k) i ∙ ap (λ z. insert_key dated_cmp (map dated (in_date_order docs)) z) q
+      ∙ sym (put_in_keys d (in_date_order docs) (below_all docs d h e)) ∙ ap (λ z. map dated z) (sym (order_with docs d s))
 
-pub dates_less : (docs : List Doc) (d : Doc) (keys fewer : List Dated) (k : Dated) → Numbered doc_number 1 docs → d.num.0 ≡ length docs + 1 → has_date d ≡ true → k ≡ dated d → fewer ≡ remove_key (λ x. is_eq (dated_cmp k x)) keys → keys ≡ map dated (in_date_order (docs ++ d ∷ [])) → fewer ≡ map dated (in_date_order docs)
+pub dates_less : (docs : List Doc) (d : Doc) (keys fewer : List Dated) (k : Dated) → Numbered doc_number 1 docs → d.num.0 ≡ length docs + 1
+    → has_date d ≡ true → k ≡ dated d → fewer ≡ remove_key (λ x. is_eq (dated_cmp k x)) keys
+    → keys ≡ map dated (in_date_order (docs ++ d ∷ [])) → fewer ≡ map dated (in_date_order docs)
 dates_less docs d keys fewer k h e s q m i =
-    m ∙ ap (λ z. remove_key (λ x. is_eq (dated_cmp k x)) z) (i ∙ ap (λ z. map dated z) (order_with docs d s)) ∙ ap (λ z. remove_key (λ x. is_eq (dated_cmp z x)) (map dated (put_dated d (in_date_order docs)))) q ∙ taken_from_keys d (in_date_order docs) (below_all docs d h e)
+    m ∙ ap (λ z. remove_key (λ x. is_eq (dated_cmp k x)) z) (i ∙ ap (λ z. map dated z) (order_with docs d s))
+      ∙ ap (λ z. remove_key (λ x. is_eq (dated_cmp z x)) (map dated (put_dated d (in_date_order docs)))) q
+      ∙ taken_from_keys d (in_date_order docs) (below_all docs d h e)
 
 -- a part of the dates
 
@@ -185,38 +201,57 @@ from_low low k = plain k.date (zero_first k.place)
 flipped : (x y : ℤ) → not (int_le x y) ≡ int_lt y x
 flipped x y = grind (arith, ints)
 
-between : (low end : ℤ) (k : Dated) → range_contains dated_cmp (Included (record { date = low; place = 0 })) (Excluded (record { date = end; place = 0 })) k ≡ (int_le low k.date && int_lt k.date end)
+between : (low end : ℤ) (k : Dated) → range_contains dated_cmp (Included (record { date = low; place = 0 }))
+    (Excluded (record { date = end; place = 0 })) k ≡ (int_le low k.date && int_lt k.date end)
 between low end k = rw (from_low low k, from_low end k, flipped end k.date) refl
 
-keys_in : (low high end : ℤ) (docs : List Doc) → ((x : ℤ) → (int_le low x && int_lt x end) ≡ (int_le low x && int_lt x high)) → filter (range_contains dated_cmp (Included (record { date = low; place = 0 })) (Excluded (record { date = end; place = 0 }))) (map dated docs) ≡ map dated (in_window stored_date low high docs)
+keys_in : (low high end : ℤ) (docs : List Doc) → ((x : ℤ) → (int_le low x && int_lt x end) ≡ (int_le low x && int_lt x high))
+    → filter (range_contains dated_cmp (Included (record { date = low; place = 0 })) (Excluded (record { date = end; place = 0 })))
+    (map dated docs) ≡ map dated (in_window stored_date low high docs)
 keys_in low high end [] w = refl
 keys_in low high end (doc ∷ docs) w =
     let i = keys_in low high end docs w in
     let e = between low end (dated doc) ∙ w (stored_date doc) in
     step e i
   where
-    step : range_contains dated_cmp (Included (record { date = low; place = 0 })) (Excluded (record { date = end; place = 0 })) (dated doc) ≡ (int_le low (stored_date doc) && int_lt (stored_date doc) high) → filter (range_contains dated_cmp (Included (record { date = low; place = 0 })) (Excluded (record { date = end; place = 0 }))) (map dated docs) ≡ map dated (in_window stored_date low high docs) → filter (range_contains dated_cmp (Included (record { date = low; place = 0 })) (Excluded (record { date = end; place = 0 }))) (dated doc ∷ map dated docs) ≡ map dated (in_window stored_date low high (doc ∷ docs))
+    step : range_contains dated_cmp (Included (record { date = low; place = 0 })) (Excluded (record { date = end; place = 0 })) (dated doc)
+        ≡ (int_le low (stored_date doc) && int_lt (stored_date doc) high)
+        → filter (range_contains dated_cmp (Included (record { date = low; place = 0 })) (Excluded (record { date = end; place = 0 })))
+        (map dated docs) ≡ map dated (in_window stored_date low high docs)
+        → filter (range_contains dated_cmp (Included (record { date = low; place = 0 })) (Excluded (record { date = end; place = 0 })))
+        (dated doc ∷ map dated docs) ≡ map dated (in_window stored_date low high (doc ∷ docs))
     step e i =
         elim (cases_Bool (int_le low (stored_date doc) && int_lt (stored_date doc) high)) [
           | inl b ↦ rw (e, b) (ap (λ z. dated doc ∷ z) i)
           | inr b ↦ rw (e, b) i
         ]
 
-dates_in : (low high end : ℤ) (docs : List Doc) (keys part : List Dated) → ((x : ℤ) → (int_le low x && int_lt x end) ≡ (int_le low x && int_lt x high)) → part ≡ filter (range_contains dated_cmp (Included (record { date = low; place = 0 })) (Excluded (record { date = end; place = 0 }))) keys → keys ≡ map dated (in_date_order docs) → part ≡ map dated (dated_in low high docs)
-dates_in low high end docs keys part w p k = p ∙ ap (λ z. filter (range_contains dated_cmp (Included (record { date = low; place = 0 })) (Excluded (record { date = end; place = 0 }))) z) k ∙ keys_in low high end (in_date_order docs) w
+dates_in : (low high end : ℤ) (docs : List Doc) (keys part : List Dated)
+    → ((x : ℤ) → (int_le low x && int_lt x end) ≡ (int_le low x && int_lt x high)) → part
+    ≡ filter (range_contains dated_cmp (Included (record { date = low; place = 0 })) (Excluded (record { date = end; place = 0 }))) keys
+    → keys ≡ map dated (in_date_order docs) → part ≡ map dated (dated_in low high docs)
+dates_in low high end docs keys part w p k = p ∙ ap
+    (λ z. filter (range_contains dated_cmp (Included (record { date = low; place = 0 })) (Excluded (record { date = end; place = 0 }))) z) k
+    ∙ keys_in low high end (in_date_order docs) w
 
 pub date_there : (d : Doc) (t : ℤ) → Some t ≡ (fields d).date → has_date d ≡ true
 date_there d t e = sym (ap (λ o. is_some o) e)
 
-pub key_is : (d : Doc) (t u : ℤ) (p : ℕ) (docs : List Doc) → Some t ≡ (fields d).date → u ≡ t → d.num.0 ≡ length docs + 1 → p ≡ length docs → record { date = u; place = p } ≡ dated d
+pub key_is : (d : Doc) (t u : ℤ) (p : ℕ) (docs : List Doc) → Some t ≡ (fields d).date → u ≡ t → d.num.0 ≡ length docs + 1 → p ≡ length docs
+    → record { date = u; place = p } ≡ dated d
 key_is d t u p docs e q n b =
     let x : u ≡ stored_date d = q ∙ ap (λ o. unwrap_or o (pos 0)) e in
     let y : p ≡ d.num.0 - 1 = omega (arith, n, b) in
     ap (λ z. record { date = z; place = p }) x ∙ ap (λ z. record { date = stored_date d; place = z }) y
 
-pub range_is : (low high end l e : ℤ) (docs : List Doc) (keys part : List Dated) → ((x : ℤ) → (int_le low x && int_lt x end) ≡ (int_le low x && int_lt x high)) → l ≡ low → e ≡ end → part ≡ filter (range_contains dated_cmp (Included (record { date = l; place = 0 })) (Excluded (record { date = e; place = 0 }))) keys → keys ≡ map dated (in_date_order docs) → part ≡ map dated (dated_in low high docs)
+pub range_is : (low high end l e : ℤ) (docs : List Doc) (keys part : List Dated)
+    → ((x : ℤ) → (int_le low x && int_lt x end) ≡ (int_le low x && int_lt x high)) → l ≡ low → e ≡ end
+    → part ≡ filter (range_contains dated_cmp (Included (record { date = l; place = 0 })) (Excluded (record { date = e; place = 0 }))) keys
+    → keys ≡ map dated (in_date_order docs) → part ≡ map dated (dated_in low high docs)
 range_is low high end l e docs keys part w p q r k =
-    dates_in low high end docs keys part w (r ∙ ap (λ z. filter (range_contains dated_cmp (Included (record { date = z; place = 0 })) (Excluded (record { date = e; place = 0 }))) keys) p ∙ ap (λ z. filter (range_contains dated_cmp (Included (record { date = low; place = 0 })) (Excluded (record { date = z; place = 0 }))) keys) q) k
+    dates_in low high end docs keys part w (r ∙ ap (λ z. filter (range_contains dated_cmp (Included (record { date = z; place = 0 }))
+              (Excluded (record { date = e; place = 0 }))) keys) p ∙ ap (λ z. filter
+            (range_contains dated_cmp (Included (record { date = low; place = 0 })) (Excluded (record { date = z; place = 0 }))) keys) q) k
 
 -- the documents of some dates
 
@@ -224,7 +259,11 @@ places_dated : (docs : List Doc) → map (λ (k : Dated). k.place) (map dated do
 places_dated [] = refl
 places_dated (doc ∷ docs) = ap (λ z. (doc.num.0 - 1) ∷ z) (places_dated docs)
 
-pub found_dated : (low high : ℤ) (docs : List Doc) (keys : List Dated) (left : List Doc) → Numbered doc_number 1 docs → left ≡ at_places docs (map (λ (k : Dated). k.place) keys) → keys ≡ map dated (dated_in low high docs) → left ≡ dated_in low high docs
+pub found_dated : (low high : ℤ) (docs : List Doc) (keys : List Dated) (left : List Doc) → Numbered doc_number 1 docs
+    → left ≡ at_places docs (map (λ (k : Dated). k.place) keys) → keys ≡ map dated (dated_in low high docs) → left ≡ dated_in low high docs
 found_dated low high docs keys left h l e =
     let own = all_own doc_number docs h in
-    l ∙ ap (λ z. at_places docs (map (λ (k : Dated). k.place) z)) e ∙ ap (λ z. at_places docs z) (places_dated (dated_in low high docs)) ∙ own_picked doc_number docs (dated_in low high docs) (each_kept (λ doc. slice_get docs (doc.num.0 - 1) ≡ Some doc) (λ x. int_le low (stored_date x) && int_lt (stored_date x) high) (in_date_order docs) (each_ordered (λ doc. slice_get docs (doc.num.0 - 1) ≡ Some doc) docs own))
+    l ∙ ap (λ z. at_places docs (map (λ (k : Dated). k.place) z)) e ∙ ap (λ z. at_places docs z) (places_dated (dated_in low high docs))
+        ∙ own_picked doc_number docs (dated_in low high docs)
+        (each_kept (λ doc. slice_get docs (doc.num.0 - 1) ≡ Some doc) (λ x. int_le low (stored_date x) && int_lt (stored_date x) high)
+          (in_date_order docs) (each_ordered (λ doc. slice_get docs (doc.num.0 - 1) ≡ Some doc) docs own))

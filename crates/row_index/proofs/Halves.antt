@@ -1,5 +1,6 @@
 -- Rows in order are cut in two by a test on their seconds or numbers.
-use Rattle.std.proofs.Common.{◌≡◌, ℕ, zero, suc, ◌-◌, ◌<◌, ◌≤◌, ℤ, pos, Bool, true, false, not, List, [], ◌∷◌, length, take, drop, filter, refl, sym, ap, ◌∙◌, subst, inl, inr, arith}
+use Rattle.std.proofs.Common.{◌≡◌, ℕ, zero, suc, ◌-◌, ◌<◌, ◌≤◌, ℤ, pos, Bool, true, false, not, List, [], ◌∷◌, length, take, drop, filter}
+use Rattle.std.proofs.Common.{refl, sym, ap, ◌∙◌, subst, inl, inr, arith}
 use Rattle.std.specs.Prelude.{int_le, int_lt, nat_le, nat_lt, slice_index_or}
 use Rattle.std.specs.List.{list_all}
 use Rattle.std.specs.List.Sorted.{IsPartitionPoint, IsPartitionedBy}
@@ -10,32 +11,38 @@ use Rattle.std.proofs.lemmas.Bool.{cases_Bool, and_parts}
 use Rattle.row_index.specs.Orders.{Rising, in_window}
 
 module _ {A : Type 0} where
-  none_pass : (p : A → Bool) (xs : List A) → ((k : ℕ) (d : A) → 0 ≤ k → k < length xs → p (slice_index_or xs k d) ≡ false) → filter p xs ≡ []
+  none_pass : (p : A → Bool) (xs : List A) → ((k : ℕ) (d : A) → 0 ≤ k → k < length xs → p (slice_index_or xs k d) ≡ false)
+      → filter p xs ≡ []
   none_pass p [] h = refl
   none_pass p (x ∷ xs) h =
       let e : p x ≡ false = h 0 x (omega arith) (omega arith) in
       rw e (none_pass p xs (λ k d a b. h (suc k) d (omega arith) (omega (arith, b))))
 
-  all_pass : (p : A → Bool) (xs : List A) → ((k : ℕ) (d : A) → 0 ≤ k → k < length xs → p (slice_index_or xs k d) ≡ false) → filter (λ x. not (p x)) xs ≡ xs
+  all_pass : (p : A → Bool) (xs : List A) → ((k : ℕ) (d : A) → 0 ≤ k → k < length xs → p (slice_index_or xs k d) ≡ false)
+      → filter (λ x. not (p x)) xs ≡ xs
   all_pass p [] h = refl
   all_pass p (x ∷ xs) h =
       let e : p x ≡ false = h 0 x (omega arith) (omega arith) in
       rw e (ap (λ z. x ∷ z) (all_pass p xs (λ k d a b. h (suc k) d (omega arith) (omega (arith, b)))))
 
-  pub front_passes : (p : A → Bool) (xs : List A) (i : ℕ) → i ≤ length xs → IsPartitionPoint (λ y. p y ≡ true) (λ y. p y ≡ false) xs i → take i xs ≡ filter p xs
+  pub front_passes : (p : A → Bool) (xs : List A) (i : ℕ) → i ≤ length xs → IsPartitionPoint (λ y. p y ≡ true) (λ y. p y ≡ false) xs i
+      → take i xs ≡ filter p xs
   front_passes p xs zero w h = sym (none_pass p xs h.1)
   front_passes p [] (suc i) w h = absurd (omega (arith, w))
   front_passes p (x ∷ xs) (suc i) w h =
       let e : p x ≡ true = h.0 0 x (omega arith) (omega arith) in
-      let r = front_passes p xs i (omega (arith, w)) ((λ k d a b. h.0 (suc k) d (omega arith) (omega (arith, b))), (λ k d a b. h.1 (suc k) d (omega (arith, a)) (omega (arith, b)))) in
+      let r = front_passes p xs i (omega (arith, w))
+          ((λ k d a b. h.0 (suc k) d (omega arith) (omega (arith, b))), (λ k d a b. h.1 (suc k) d (omega (arith, a)) (omega (arith, b)))) in
       rw e (ap (λ z. x ∷ z) r)
 
-  pub rest_fails : (p : A → Bool) (xs : List A) (i : ℕ) → i ≤ length xs → IsPartitionPoint (λ y. p y ≡ true) (λ y. p y ≡ false) xs i → drop i xs ≡ filter (λ x. not (p x)) xs
+  pub rest_fails : (p : A → Bool) (xs : List A) (i : ℕ) → i ≤ length xs → IsPartitionPoint (λ y. p y ≡ true) (λ y. p y ≡ false) xs i
+      → drop i xs ≡ filter (λ x. not (p x)) xs
   rest_fails p xs zero w h = sym (all_pass p xs h.1)
   rest_fails p [] (suc i) w h = absurd (omega (arith, w))
   rest_fails p (x ∷ xs) (suc i) w h =
       let e : p x ≡ true = h.0 0 x (omega arith) (omega arith) in
-      let r = rest_fails p xs i (omega (arith, w)) ((λ k d a b. h.0 (suc k) d (omega arith) (omega (arith, b))), (λ k d a b. h.1 (suc k) d (omega (arith, a)) (omega (arith, b)))) in
+      let r = rest_fails p xs i (omega (arith, w))
+          ((λ k d a b. h.0 (suc k) d (omega arith) (omega (arith, b))), (λ k d a b. h.1 (suc k) d (omega (arith, a)) (omega (arith, b)))) in
       rw e r
 
   take_rest : (xs : List A) (i : ℕ) → take (length xs - i) (drop i xs) ≡ drop i xs
@@ -43,7 +50,8 @@ module _ {A : Type 0} where
       let e : length (drop i xs) ≡ length xs - i = length-drop i xs in
       take_all (length xs - i) (drop i xs) (omega (arith, e))
 
-  pub rest_as_taken : (p : A → Bool) (xs : List A) (i : ℕ) → i ≤ length xs → IsPartitionPoint (λ y. p y ≡ true) (λ y. p y ≡ false) xs i → take (length xs - i) (drop i xs) ≡ filter (λ x. not (p x)) xs
+  pub rest_as_taken : (p : A → Bool) (xs : List A) (i : ℕ) → i ≤ length xs → IsPartitionPoint (λ y. p y ≡ true) (λ y. p y ≡ false) xs i
+      → take (length xs - i) (drop i xs) ≡ filter (λ x. not (p x)) xs
   rest_as_taken p xs i w h = take_rest xs i ∙ rest_fails p xs i w h
 
 module _ {A : Type 0} (f : A → ℤ) where
@@ -55,7 +63,8 @@ module _ {A : Type 0} (f : A → ℤ) where
   le_self : (x : ℤ) → int_le x x ≡ true
   le_self x = grind (arith, ints)
 
-  rising_at : (xs : List A) (i j : ℕ) (d : A) → Rising f xs → i ≤ j → j < length xs → int_le (f (slice_index_or xs i d)) (f (slice_index_or xs j d)) ≡ true
+  rising_at : (xs : List A) (i j : ℕ) (d : A) → Rising f xs → i ≤ j → j < length xs
+      → int_le (f (slice_index_or xs i d)) (f (slice_index_or xs j d)) ≡ true
   rising_at [] i j d r a w = absurd (omega (arith, w))
   rising_at (x ∷ xs) zero zero d r a w = le_self (f x)
   rising_at (x ∷ xs) zero (suc j) d r a w = all_at (λ y. int_le (f x) (f y)) xs j d r.0 (omega (arith, w))
@@ -102,7 +111,8 @@ module _ {A : Type 0} (f : A → ℤ) where
   rising_left high xs ys r e = subst (Rising f) (sym e) (rising_kept (λ x. int_lt (f x) high) xs r)
 
   -- those from low on of those before high
-  pub window_is : (low high : ℤ) (xs : List A) → filter (λ x. not (int_lt (f x) low)) (filter (λ x. int_lt (f x) high) xs) ≡ in_window f low high xs
+  pub window_is : (low high : ℤ) (xs : List A)
+      → filter (λ x. not (int_lt (f x) low)) (filter (λ x. int_lt (f x) high) xs) ≡ in_window f low high xs
   window_is low high [] = refl
   window_is low high (x ∷ xs) =
       let r = window_is low high xs in
@@ -120,7 +130,8 @@ module _ {A : Type 0} (f : A → ℤ) where
             ]
       ]
 
-  pub window_of : (low high : ℤ) (xs ys zs : List A) → ys ≡ filter (λ x. int_lt (f x) high) xs → zs ≡ filter (λ x. not (int_lt (f x) low)) ys → zs ≡ in_window f low high xs
+  pub window_of : (low high : ℤ) (xs ys zs : List A) → ys ≡ filter (λ x. int_lt (f x) high) xs
+      → zs ≡ filter (λ x. not (int_lt (f x) low)) ys → zs ≡ in_window f low high xs
   window_of low high xs ys zs e k = k ∙ rw e (window_is low high xs)
 
 module _ {A : Type 0} (number : A → ℕ) where

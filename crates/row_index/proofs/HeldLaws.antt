@@ -19,12 +19,15 @@ place_behind : (p n len : ℕ) → p ≡ n - 1 → n ≡ len + 1 → p ≡ len
 place_behind p n len a b = omega (arith, a, b)
 
 -- the next document at its place
-next_doc : (docs : List Doc) (doc : Doc) (p : ℕ) → InPlace doc_number doc_arrival docs → doc.num.0 ≡ length docs + 1 → p ≡ doc.num.0 - 1 → IsNext docs doc p
+next_doc : (docs : List Doc) (doc : Doc) (p : ℕ) → InPlace doc_number doc_arrival docs → doc.num.0 ≡ length docs + 1 → p ≡ doc.num.0 - 1
+    → IsNext docs doc p
 next_doc docs doc p h e q = record { numbered = h.numbered; number = e; behind = place_behind p doc.num.0 (length docs) q e }
 
 pub held_doc_more : (docs more : List Doc) (doc : Doc) (p : ℕ) (old new : DocPlaces) (notes : List Note) (on_doc : List (ℕ × List ℕ))
-    → IsIndexOf docs old notes on_doc → doc.num.0 ≡ length docs + 1 → doc.num.0 < 2 ^ 32 → IsMoment doc.arrival → Each (λ other. other.arrival ≤ℤ doc.arrival) docs
-    → p ≡ doc.num.0 - 1 → ((docs : List Doc) → IsNext docs doc p → DocPosts docs old → DocPosts (docs ++ doc ∷ []) new) → more ≡ docs ++ doc ∷ []
+    → IsIndexOf docs old notes on_doc → doc.num.0 ≡ length docs + 1 → doc.num.0 < 2 ^ 32 → IsMoment doc.arrival
+        → Each (λ other. other.arrival ≤ℤ doc.arrival) docs
+    → p ≡ doc.num.0 - 1 → ((docs : List Doc) → IsNext docs doc p → DocPosts docs old → DocPosts (docs ++ doc ∷ []) new)
+        → more ≡ docs ++ doc ∷ []
     → IsIndexOf more new notes on_doc
 held_doc_more docs more doc p old new notes on_doc h e w m a q f s = subst (λ z. IsIndexOf z new notes on_doc) (sym s) (record {
   docs_stand = in_place_more doc_number doc_arrival docs doc h.docs_stand e w m a;
@@ -44,7 +47,9 @@ held_doc_less docs all doc p old new notes on_doc h s q f =
     record {
       docs_stand = stand;
       notes_stand = h'.notes_stand;
-      docs_found = f docs (record { numbered = stand.numbered; number = number_of_last doc_number doc_arrival docs doc h'.docs_stand; behind = q }) h'.docs_found;
+      docs_found =
+          f docs (record { numbered = stand.numbered; number = number_of_last doc_number doc_arrival docs doc h'.docs_stand; behind = q })
+          h'.docs_found;
       notes_found = h'.notes_found;
       notes_on_docs = h'.notes_on_docs;
     }
@@ -58,7 +63,8 @@ on_docs_less [] note h = tt
 on_docs_less (n ∷ ns) note h = (h.0, on_docs_less ns note h.1)
 
 pub held_note_more : (docs : List Doc) (places : DocPlaces) (notes more : List Note) (note : Note) (p : ℕ) (old new : List (ℕ × List ℕ))
-    → IsIndexOf docs places notes old → note.num.0 ≡ length notes + 1 → note.num.0 < 2 ^ 32 → note.doc.0 < 2 ^ 32 → IsMoment note.arrival → Each (λ other. other.arrival ≤ℤ note.arrival) notes
+    → IsIndexOf docs places notes old → note.num.0 ≡ length notes + 1 → note.num.0 < 2 ^ 32 → note.doc.0 < 2 ^ 32 → IsMoment note.arrival
+        → Each (λ other. other.arrival ≤ℤ note.arrival) notes
     → p ≡ note.num.0 - 1 → new ≡ posted nat_eq note.doc.0 p old → more ≡ notes ++ note ∷ []
     → IsIndexOf docs places more new
 held_note_more docs places notes more note p old new h e w d m a q f s =
@@ -67,7 +73,8 @@ held_note_more docs places notes more note p old new h e w d m a q f s =
       docs_stand = h.docs_stand;
       notes_stand = in_place_more note_number note_arrival notes note h.notes_stand e w m a;
       docs_found = h.docs_found;
-      notes_found = posts_more nat_eq same_nat noted note_number notes note old new h.notes_stand.numbered e (f ∙ ap (λ k. posted nat_eq note.doc.0 k old) b) h.notes_found;
+      notes_found = posts_more nat_eq same_nat noted note_number notes note old new h.notes_stand.numbered e
+          (f ∙ ap (λ k. posted nat_eq note.doc.0 k old) b) h.notes_found;
       notes_on_docs = on_docs_more notes note h.notes_on_docs d;
     })
 
@@ -81,6 +88,8 @@ held_note_less docs places notes all note p old new h s q f =
       docs_stand = h'.docs_stand;
       notes_stand = stand;
       docs_found = h'.docs_found;
-      notes_found = posts_less nat_eq same_nat noted note_number notes note old new stand.numbered (number_of_last note_number note_arrival notes note h'.notes_stand) (f ∙ ap (λ k. unposted nat_eq note.doc.0 k old) q) h'.notes_found;
+      notes_found = posts_less nat_eq same_nat noted note_number notes note old new
+          stand.numbered (number_of_last note_number note_arrival notes note h'.notes_stand)
+          (f ∙ ap (λ k. unposted nat_eq note.doc.0 k old) q) h'.notes_found;
       notes_on_docs = on_docs_less notes note h'.notes_on_docs;
     }

@@ -1,5 +1,6 @@
 -- Rows in their places.
-use Rattle.std.proofs.Common.{◌≡◌, ℕ, zero, suc, ◌+◌, ◌-◌, ◌<◌, ◌^◌, ℤ, pos, ◌≤ℤ◌, Bool, true, false, List, [], ◌∷◌, ◌++◌, None, length, refl, sym, ◌∙◌, subst, arith, nat_eq, length-append}
+use Rattle.std.proofs.Common.{◌≡◌, ℕ, zero, suc, ◌+◌, ◌-◌, ◌<◌, ◌^◌, ℤ, pos, ◌≤ℤ◌, Bool, true, false, List, [], ◌∷◌, ◌++◌, None, length}
+use Rattle.std.proofs.Common.{refl, sym, ◌∙◌, subst, arith, nat_eq, length-append}
 use Rattle.std.specs.Prelude.{int_le, slice_get, ◌≤◌}
 use Rattle.std.specs.List.{find, list_all}
 use Rattle.std.proofs.lemmas.Int.{ints}
@@ -61,13 +62,17 @@ le_of : (a b : ℤ) → int_le a b ≡ true → a ≤ℤ b
 le_of a b h = grind (arith, ints)
 
 -- documents in their places arrived one after another
-arrived_from : (n : ℕ) (low : ℤ) (docs : List Doc) → Numbered doc_number n docs → Rising doc_arrival docs → Each (λ doc. low ≤ℤ doc.arrival) docs → Arrived n low docs
+arrived_from : (n : ℕ) (low : ℤ) (docs : List Doc) → Numbered doc_number n docs → Rising doc_arrival docs
+    → Each (λ doc. low ≤ℤ doc.arrival) docs → Arrived n low docs
 arrived_from n low [] h r e = tt
-arrived_from n low (doc ∷ docs) h r e = (e.0, h.0, subst (λ z. Arrived z doc.arrival docs) (omega arith) (arrived_from (n + 1) doc.arrival docs h.1 r.1 (all_from docs r.0)))
+arrived_from n low (doc ∷ docs) h r e =
+    (e.0, h.0, subst (λ z. Arrived z doc.arrival docs) (omega arith) (arrived_from (n + 1) doc.arrival docs h.1 r.1 (all_from docs r.0)))
   where
     all_from : (ds : List Doc) → list_all (λ d. int_le doc.arrival d.arrival) ds ≡ true → Each (λ d. doc.arrival ≤ℤ d.arrival) ds
     all_from [] a = tt
-    all_from (d ∷ ds) a = let p = and_parts (int_le doc.arrival d.arrival) (list_all (λ d. int_le doc.arrival d.arrival) ds) a in (le_of _ _ p.0, all_from ds p.1)
+    all_from (d ∷ ds) a =
+        let p = and_parts (int_le doc.arrival d.arrival) (list_all (λ d. int_le doc.arrival d.arrival) ds) a in
+        (le_of _ _ p.0, all_from ds p.1)
 
 early_each : (docs : List Doc) → Each (λ doc. IsMoment doc.arrival) docs → Each (λ doc. pos 0 ≤ℤ doc.arrival) docs
 early_each [] e = tt
@@ -98,7 +103,8 @@ module _ {A : Type 0} where
   all_front t [] x h = refl
   all_front t (y ∷ ys) x h = let a = and_parts (t y) (list_all t (ys ++ x ∷ [])) h in rw a.0 (all_front t ys x a.1)
 
-  numbered_onto : (number : A → ℕ) (n : ℕ) (xs : List A) (x : A) → Numbered number n xs → number x ≡ n + length xs → Numbered number n (xs ++ x ∷ [])
+  numbered_onto : (number : A → ℕ) (n : ℕ) (xs : List A) (x : A) → Numbered number n xs → number x ≡ n + length xs
+      → Numbered number n (xs ++ x ∷ [])
   numbered_onto number n [] x h e = (e ∙ omega arith, tt)
   numbered_onto number n (y ∷ ys) x h e = (h.0, numbered_onto number (n + 1) ys x h.1 (e ∙ omega arith))
 
@@ -122,7 +128,8 @@ module _ {A : Type 0} where
     one_longer : length (xs ++ x ∷ []) ≡ length xs + 1
     one_longer = length-append xs (x ∷ [])
 
-    pub in_place_more : InPlace number arrival xs → number x ≡ length xs + 1 → number x < 2 ^ 32 → IsMoment (arrival x) → Each (λ y. arrival y ≤ℤ arrival x) xs → InPlace number arrival (xs ++ x ∷ [])
+    pub in_place_more : InPlace number arrival xs → number x ≡ length xs + 1 → number x < 2 ^ 32 → IsMoment (arrival x)
+        → Each (λ y. arrival y ≤ℤ arrival x) xs → InPlace number arrival (xs ++ x ∷ [])
     in_place_more h e w m a = record {
       numbered = numbered_onto number 1 xs x h.numbered (e ∙ omega arith);
       rising = rising_onto arrival xs x h.rising a;

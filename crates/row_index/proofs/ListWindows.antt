@@ -1,5 +1,6 @@
 -- The part of a posting list that is within a window of arrivals or numbers.
-use Rattle.std.proofs.Common.{◌≡◌, ℕ, ◌+◌, ◌-◌, ◌<◌, ◌^◌, ℤ, true, List, [], ◌∷◌, Option, Some, None, Bool, false, filter, arith, length, map, refl, sym, ap, ◌∙◌, subst, inl, inr, suc, ◌&&◌}
+use Rattle.std.proofs.Common.{◌≡◌, ℕ, ◌+◌, ◌-◌, ◌<◌, ◌^◌, ℤ, true, List, [], ◌∷◌, Option, Some, None, Bool, false, filter, arith, length}
+use Rattle.std.proofs.Common.{map, refl, sym, ap, ◌∙◌, subst, inl, inr, suc, ◌&&◌}
 use Rattle.std.specs.Prelude.{int_le, int_lt, slice_get}
 use Rattle.std.specs.List.{list_all}
 use Rattle.std.specs.Str.{bytes_eq}
@@ -16,7 +17,8 @@ use Rattle.row_index.proofs.InPlaces.{numbers_rise}
 use Rattle.row_index.proofs.PlaceLists.{own_picked, each_kept, all_own, full_rest, number_at_place, row_at_place}
 
 module _ {A B : Type 0} (f : A → ℤ) (g : B → ℤ) (h : A → B) where
-  all_mapped : (low : ℤ) (xs : List A) → Each (λ x. g (h x) ≡ f x) xs → list_all (λ x. int_le low (f x)) xs ≡ true → list_all (λ y. int_le low (g y)) (map h xs) ≡ true
+  all_mapped : (low : ℤ) (xs : List A) → Each (λ x. g (h x) ≡ f x) xs → list_all (λ x. int_le low (f x)) xs ≡ true
+      → list_all (λ y. int_le low (g y)) (map h xs) ≡ true
   all_mapped low [] e k = refl
   all_mapped low (x ∷ xs) e k =
       let a = and_parts (int_le low (f x)) (list_all (λ y. int_le low (f y)) xs) k in
@@ -28,7 +30,8 @@ module _ {A B : Type 0} (f : A → ℤ) (g : B → ℤ) (h : A → B) where
   rising_mapped (x ∷ xs) e r = (rw e.0 (all_mapped (f x) xs e.1 r.0), rising_mapped xs e.1 r.1)
 
   -- and the window of it
-  pub window_mapped : (low high : ℤ) (xs : List A) → Each (λ x. g (h x) ≡ f x) xs → in_window g low high (map h xs) ≡ map h (in_window f low high xs)
+  pub window_mapped : (low high : ℤ) (xs : List A) → Each (λ x. g (h x) ≡ f x) xs
+      → in_window g low high (map h xs) ≡ map h (in_window f low high xs)
   window_mapped low high [] e = refl
   window_mapped low high (x ∷ xs) e =
       let r = window_mapped low high xs e.1 in
@@ -68,55 +71,67 @@ module _ (texts : Doc → List (List ℕ)) (text : List ℕ) (docs : List Doc) (
   -- the documents of a posting list never fall in arrival
   pub listed_rise : (places : List ℕ) → places ≡ places_of doc_number (with_text texts text docs) → Rising (place_arrival docs) places
   listed_rise places e =
-      subst (Rising (place_arrival docs)) (sym e) (rising_mapped doc_arrival (place_arrival docs) (λ doc. doc_number doc - 1) (with_text texts text docs) (own_arrivals docs (with_text texts text docs) own_listed) listed_arrive)
+      subst (Rising (place_arrival docs)) (sym e) (rising_mapped doc_arrival (place_arrival docs) (λ doc. doc_number doc - 1)
+          (with_text texts text docs) (own_arrivals docs (with_text texts text docs) own_listed) listed_arrive)
 
   -- the places of a posting list pick its documents
-  pub listed_picked : (places : List ℕ) → places ≡ places_of doc_number (with_text texts text docs) → at_places docs places ≡ with_text texts text docs
+  pub listed_picked : (places : List ℕ) → places ≡ places_of doc_number (with_text texts text docs)
+      → at_places docs places ≡ with_text texts text docs
   listed_picked places e = ap (λ z. at_places docs z) e ∙ own_picked doc_number docs (with_text texts text docs) own_listed
 
   -- and at each of its places there is one
   pub listed_has_rows : (places : List ℕ) → places ≡ places_of doc_number (with_text texts text docs) → HasRows docs places
-  listed_has_rows places e = ap length (listed_picked places e) ∙ sym (ap length e ∙ length_mapped doc_arrival (place_arrival docs) (λ doc. doc_number doc - 1) (with_text texts text docs))
+  listed_has_rows places e = ap length (listed_picked places e)
+      ∙ sym (ap length e ∙ length_mapped doc_arrival (place_arrival docs) (λ doc. doc_number doc - 1) (with_text texts text docs))
 
-  module _ (low high : ℤ) (places within : List ℕ) (all : places ≡ places_of doc_number (with_text texts text docs)) (cut : within ≡ in_window (place_arrival docs) low high places) where
+  module _ (low high : ℤ) (places within : List ℕ) (all : places ≡ places_of doc_number (with_text texts text docs))
+      (cut : within ≡ in_window (place_arrival docs) low high places) where
     abbrev rows : List Doc
     rows = in_window doc_arrival low high (with_text texts text docs)
 
     places_cut : within ≡ places_of doc_number rows
-    places_cut = cut ∙ ap (λ z. in_window (place_arrival docs) low high z) all ∙ window_mapped doc_arrival (place_arrival docs) (λ doc. doc_number doc - 1) low high (with_text texts text docs) (own_arrivals docs (with_text texts text docs) own_listed)
+    places_cut = cut ∙ ap (λ z. in_window (place_arrival docs) low high z) all ∙ window_mapped doc_arrival (place_arrival docs)
+        (λ doc. doc_number doc - 1) low high (with_text texts text docs) (own_arrivals docs (with_text texts text docs) own_listed)
 
     -- the part within the window is the documents of the window
     pub window_picked : at_places docs within ≡ rows
-    window_picked = ap (λ z. at_places docs z) places_cut ∙ own_picked doc_number docs rows (each_kept (IsOwn docs) (λ doc. int_le low (doc_arrival doc) && int_lt (doc_arrival doc) high) (with_text texts text docs) own_listed)
+    window_picked = ap (λ z. at_places docs z) places_cut ∙ own_picked doc_number docs rows (each_kept (IsOwn docs)
+          (λ doc. int_le low (doc_arrival doc) && int_lt (doc_arrival doc) high) (with_text texts text docs) own_listed)
 
     -- and at each of its places there is one
     pub window_has_rows : HasRows docs within
-    window_has_rows = ap length window_picked ∙ sym (ap length places_cut ∙ length_mapped doc_arrival (place_arrival docs) (λ doc. doc_number doc - 1) rows)
+    window_has_rows = ap length window_picked
+        ∙ sym (ap length places_cut ∙ length_mapped doc_arrival (place_arrival docs) (λ doc. doc_number doc - 1) rows)
 
 -- places at each of which there is a document
 module _ (docs : List Doc) where
   -- f of a document is g of what stands at its place
   module _ (f : Doc → ℤ) (g : Option Doc → ℤ) (is : (doc : Doc) → g (Some doc) ≡ f doc) where
-    all_first : (low : ℤ) (o : Option Doc) (rest : List Doc) (n : ℕ) (b : Bool) → length (put_before o rest) ≡ suc n → (list_all (λ doc. int_le low (f doc)) rest ≡ true → b ≡ true)
+    all_first : (low : ℤ) (o : Option Doc) (rest : List Doc) (n : ℕ) (b : Bool) → length (put_before o rest) ≡ suc n
+        → (list_all (λ doc. int_le low (f doc)) rest ≡ true → b ≡ true)
         → list_all (λ doc. int_le low (f doc)) (put_before o rest) ≡ true → (int_le low (g o) && b) ≡ true
     all_first low None rest n b h more k = absurd (omega (arith, h))
     all_first low (Some doc) rest n b h more k =
         let a = and_parts (int_le low (f doc)) (list_all (λ d. int_le low (f d)) rest) k in
         rw (is doc, a.0, more a.1) refl
 
-    all_placed : (low : ℤ) (places : List ℕ) → HasRows docs places → list_all (λ doc. int_le low (f doc)) (at_places docs places) ≡ true → list_all (λ place. int_le low (g (slice_get docs place))) places ≡ true
+    all_placed : (low : ℤ) (places : List ℕ) → HasRows docs places → list_all (λ doc. int_le low (f doc)) (at_places docs places) ≡ true
+        → list_all (λ place. int_le low (g (slice_get docs place))) places ≡ true
     all_placed low [] h k = refl
     all_placed low (p ∷ ps) h k =
         let w = full_rest (slice_get docs p) (at_places docs ps) (length ps) h in
-        all_first low (slice_get docs p) (at_places docs ps) (length ps) (list_all (λ place. int_le low (g (slice_get docs place))) ps) h (all_placed low ps w) k
+        all_first low (slice_get docs p) (at_places docs ps) (length ps) (list_all (λ place. int_le low (g (slice_get docs place))) ps) h
+          (all_placed low ps w) k
 
-    rising_first : (o : Option Doc) (ps : List ℕ) → HasRows docs ps → length (put_before o (at_places docs ps)) ≡ suc (length ps) → Rising f (put_before o (at_places docs ps))
+    rising_first : (o : Option Doc) (ps : List ℕ) → HasRows docs ps → length (put_before o (at_places docs ps)) ≡ suc (length ps)
+        → Rising f (put_before o (at_places docs ps))
         → (list_all (λ place. int_le (g o) (g (slice_get docs place))) ps ≡ true) × Rising f (at_places docs ps)
     rising_first None ps w h r = absurd (omega (arith, h))
     rising_first (Some doc) ps w h r = (rw (is doc) (all_placed (f doc) ps w r.0), r.1)
 
     -- they rise as the documents do
-    pub rising_placed : (places : List ℕ) → HasRows docs places → Rising f (at_places docs places) → Rising (λ place. g (slice_get docs place)) places
+    pub rising_placed : (places : List ℕ) → HasRows docs places → Rising f (at_places docs places)
+        → Rising (λ place. g (slice_get docs place)) places
     rising_placed [] h r = tt
     rising_placed (p ∷ ps) h r =
         let w = full_rest (slice_get docs p) (at_places docs ps) (length ps) h in
@@ -125,29 +140,35 @@ module _ (docs : List Doc) where
 
   -- a test of a document is one of what stands at its place
   module _ (t : Doc → Bool) (s : Option Doc → Bool) (is : (doc : Doc) → s (Some doc) ≡ t doc) where
-    kept_first : (o : Option Doc) (rest kept : List Doc) (n : ℕ) → length (put_before o rest) ≡ suc n → s o ≡ true → kept ≡ filter t rest → put_before o kept ≡ filter t (put_before o rest)
+    kept_first : (o : Option Doc) (rest kept : List Doc) (n : ℕ) → length (put_before o rest) ≡ suc n → s o ≡ true → kept ≡ filter t rest
+        → put_before o kept ≡ filter t (put_before o rest)
     kept_first None rest kept n h e k = absurd (omega (arith, h))
     kept_first (Some doc) rest kept n h e k = rw (sym (is doc) ∙ e) (ap (λ z. doc ∷ z) k)
 
-    left_first : (o : Option Doc) (rest kept : List Doc) (n : ℕ) → length (put_before o rest) ≡ suc n → s o ≡ false → kept ≡ filter t rest → kept ≡ filter t (put_before o rest)
+    left_first : (o : Option Doc) (rest kept : List Doc) (n : ℕ) → length (put_before o rest) ≡ suc n → s o ≡ false → kept ≡ filter t rest
+        → kept ≡ filter t (put_before o rest)
     left_first None rest kept n h e k = absurd (omega (arith, h))
     left_first (Some doc) rest kept n h e k = rw (sym (is doc) ∙ e) k
 
     -- places that the test keeps pick the documents that it keeps
-    pub kept_picked : (places : List ℕ) → HasRows docs places → at_places docs (filter (λ place. s (slice_get docs place)) places) ≡ filter t (at_places docs places)
+    pub kept_picked : (places : List ℕ) → HasRows docs places
+        → at_places docs (filter (λ place. s (slice_get docs place)) places) ≡ filter t (at_places docs places)
     kept_picked [] h = refl
     kept_picked (p ∷ ps) h =
         let r = kept_picked ps (full_rest (slice_get docs p) (at_places docs ps) (length ps) h) in
         elim (cases_Bool (s (slice_get docs p))) [
-          | inl e ↦ rw e (kept_first (slice_get docs p) (at_places docs ps) (at_places docs (filter (λ place. s (slice_get docs place)) ps)) (length ps) h e r)
-          | inr e ↦ rw e (left_first (slice_get docs p) (at_places docs ps) (at_places docs (filter (λ place. s (slice_get docs place)) ps)) (length ps) h e r)
+          | inl e ↦ rw e (kept_first (slice_get docs p) (at_places docs ps) (at_places docs (filter (λ place. s (slice_get docs place)) ps))
+              (length ps) h e r)
+          | inr e ↦ rw e (left_first (slice_get docs p) (at_places docs ps) (at_places docs (filter (λ place. s (slice_get docs place)) ps))
+              (length ps) h e r)
         ]
 
 abbrev numbered : ℕ → DocNum
 numbered n = record { 0 = n }
 
 -- a document's number is the one after its place
-pub number_here : (docs : List Doc) (places : List ℕ) (k p : ℕ) → ArePlaces docs places → slice_get places k ≡ Some p → (p + 1 < 2 ^ 32) × (Some (numbered (p + 1)) ≡ doc_num (slice_get docs p))
+pub number_here : (docs : List Doc) (places : List ℕ) (k p : ℕ) → ArePlaces docs places → slice_get places k ≡ Some p
+    → (p + 1 < 2 ^ 32) × (Some (numbered (p + 1)) ≡ doc_num (slice_get docs p))
 number_here docs places k p h e =
     let row = row_at_place docs places k p h.rows e in
     let at = number_at_place doc_number 1 p docs row.0 h.stand.numbered row.1 in

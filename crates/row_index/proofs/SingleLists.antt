@@ -1,5 +1,6 @@
 -- A document stands in at most one list of the texts of a single kind.
-use Rattle.std.proofs.Common.{◌≡◌, ℕ, ◌-◌, Bool, true, false, List, [], ◌∷◌, Option, Some, None, filter, refl, sym, ap, ◌∙◌, subst, inl, inr}
+use Rattle.std.proofs.Common.{◌≡◌, ℕ, ◌-◌, Bool, true, false, List, [], ◌∷◌, Option, Some, None, filter, refl, sym, ap, ◌∙◌, subst, inl}
+use Rattle.std.proofs.Common.{inr}
 use Rattle.std.specs.Prelude.{◌||◌, slice_get}
 use Rattle.std.specs.Option.{option_to_list}
 use Rattle.std.specs.Str.{bytes_eq}
@@ -21,7 +22,8 @@ or_false true = refl
 or_false false = refl
 
 -- who has one text at most has no other
-alone : (o : Option (List ℕ)) (t u : List ℕ) → is_one_of bytes_eq t (option_to_list o) ≡ true → is_one_of bytes_eq u (option_to_list o) ≡ true → t ≡ u
+alone : (o : Option (List ℕ)) (t u : List ℕ) → is_one_of bytes_eq t (option_to_list o) ≡ true
+    → is_one_of bytes_eq u (option_to_list o) ≡ true → t ≡ u
 alone None t u h k = absurd cc
 alone (Some x) t u h k = is t h ∙ sym (is u k)
   where
@@ -29,7 +31,8 @@ alone (Some x) t u h k = is t h ∙ sym (is u k)
     is y e = same_text y x (sym (or_false (bytes_eq y x)) ∙ e)
 
 -- a document has at most one text of a single kind
-one_text : (kind : TextKind) (doc : Doc) (t u : List ℕ) → is_single kind ≡ true → is_one_of bytes_eq t (texts_of kind doc) ≡ true → is_one_of bytes_eq u (texts_of kind doc) ≡ true → t ≡ u
+one_text : (kind : TextKind) (doc : Doc) (t u : List ℕ) → is_single kind ≡ true → is_one_of bytes_eq t (texts_of kind doc) ≡ true
+    → is_one_of bytes_eq u (texts_of kind doc) ≡ true → t ≡ u
 one_text MsgId doc t u s h k = alone (fields doc).msgid t u h k
 one_text Parent doc t u s h k = alone (fields doc).inreplyto t u h k
 one_text Sender doc t u s h k = alone (fields doc).from t u h k
@@ -47,12 +50,17 @@ all_pass test (row ∷ rows) =
     ]
 
 -- of two lists of one single kind that begin with one document both are the same
-pub lists_of_one_kind_are_apart : (kind : TextKind) (t u : List ℕ) (docs : List Doc) (d e : Doc) (ds es : List Doc) → is_single kind ≡ true → InPlace doc_number doc_arrival docs → with_text (texts_of kind) t docs ≡ d ∷ ds → with_text (texts_of kind) u docs ≡ e ∷ es → d.num.0 ≡ e.num.0 → with_text (texts_of kind) t docs ≡ with_text (texts_of kind) u docs
+pub lists_of_one_kind_are_apart : (kind : TextKind) (t u : List ℕ) (docs : List Doc) (d e : Doc) (ds es : List Doc) → is_single kind ≡ true
+    → InPlace doc_number doc_arrival docs → with_text (texts_of kind) t docs ≡ d ∷ ds → with_text (texts_of kind) u docs ≡ e ∷ es
+    → d.num.0 ≡ e.num.0 → with_text (texts_of kind) t docs ≡ with_text (texts_of kind) u docs
 lists_of_one_kind_are_apart kind t u docs d e ds es single stand p q n =
     let own_d = (subst (Each (IsOwn docs)) p (own_listed (texts_of kind) t docs stand)).0 in
     let own_e = (subst (Each (IsOwn docs)) q (own_listed (texts_of kind) u docs stand)).0 in
     let same : d ≡ e = same_Some d e (sym own_d ∙ ap (λ k. slice_get docs (k - 1)) n ∙ own_e) in
-    let of_d = (subst (Each (λ doc. is_one_of bytes_eq t (texts_of kind doc) ≡ true)) p (all_pass (λ doc. is_one_of bytes_eq t (texts_of kind doc)) docs)).0 in
-    let of_e = (subst (Each (λ doc. is_one_of bytes_eq u (texts_of kind doc) ≡ true)) q (all_pass (λ doc. is_one_of bytes_eq u (texts_of kind doc)) docs)).0 in
-    let also : is_one_of bytes_eq u (texts_of kind d) ≡ true = subst (λ doc. is_one_of bytes_eq u (texts_of kind doc) ≡ true) (sym same) of_e in
+    let of_d = (subst (Each (λ doc. is_one_of bytes_eq t (texts_of kind doc) ≡ true)) p
+          (all_pass (λ doc. is_one_of bytes_eq t (texts_of kind doc)) docs)).0 in
+    let of_e = (subst (Each (λ doc. is_one_of bytes_eq u (texts_of kind doc) ≡ true)) q
+          (all_pass (λ doc. is_one_of bytes_eq u (texts_of kind doc)) docs)).0 in
+    let also : is_one_of bytes_eq u (texts_of kind d) ≡ true =
+        subst (λ doc. is_one_of bytes_eq u (texts_of kind doc) ≡ true) (sym same) of_e in
     ap (λ z. with_text (texts_of kind) z docs) (one_text kind d t u single of_d also)

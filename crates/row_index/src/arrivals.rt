@@ -1,7 +1,8 @@
 //! The rows of some seconds, found by halving: arrivals never fall.
 
 ghost use Rattle.std.specs.Prelude.{◌≡◌, not, int_lt, filter};
-ghost use Rattle.row_index.specs.Orders.{Rising, doc_arrival, note_arrival, place_arrival, in_window, up_to};
+ghost use Rattle.row_index.specs.Orders.{Rising, doc_arrival, note_arrival, place_arrival};
+ghost use Rattle.row_index.specs.Orders.{in_window, up_to};
 
 use crate::from_end::partition_point_from_end;
 use tap_rows::{KeptDoc, Note};
@@ -83,7 +84,8 @@ fn arrival_at(docs: &[KeptDoc], place: u32) -> i64
 // Returns the places of documents that arrived before the moment.
 fn places_before<'a>(docs: &[KeptDoc], places: &'a [u32], moment: i64) -> &'a [u32]
     requires { Rising (place_arrival docs.now) places.now }
-    ensures { result.now ≡ filter (λ place. int_lt (place_arrival docs.now place) moment) places.now }
+    ensures { result.now
+        ≡ filter (λ place. int_lt (place_arrival docs.now place) moment) places.now }
 {
     &places[..partition_point_from_end(places, |place| arrival_at(docs, *place) < moment)]
 }
@@ -91,7 +93,8 @@ fn places_before<'a>(docs: &[KeptDoc], places: &'a [u32], moment: i64) -> &'a [u
 // Returns the places of documents that arrived at the moment or later.
 fn places_from<'a>(docs: &[KeptDoc], places: &'a [u32], moment: i64) -> &'a [u32]
     requires { Rising (place_arrival docs.now) places.now }
-    ensures { result.now ≡ filter (λ place. not (int_lt (place_arrival docs.now place) moment)) places.now }
+    ensures { result.now
+        ≡ filter (λ place. not (int_lt (place_arrival docs.now place) moment)) places.now }
 {
     &places[partition_point_from_end(places, |place| arrival_at(docs, *place) < moment)..]
 }

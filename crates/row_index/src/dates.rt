@@ -1,6 +1,7 @@
 //! The places of documents by their dates.
 
-ghost use Rattle.std.specs.Prelude.{◌≡◌, ℤ, ◌≤ℤ◌, ◌&&◌, int_le, int_lt, List, [], ◌∷◌, ◌++◌, map, OnOk, OnErr};
+ghost use Rattle.std.specs.Prelude.{◌≡◌, ℤ, ◌≤ℤ◌, ◌&&◌, int_le, int_lt, List, [], ◌∷◌, ◌++◌, map};
+ghost use Rattle.std.specs.Prelude.{OnOk, OnErr};
 ghost use Rattle.tap_rows.specs.declared.rows.Doc.{Doc};
 ghost use Rattle.row_index.specs.Texts.{IsNext};
 ghost use Rattle.row_index.specs.Dates.{DatePosts, dated, dated_in};
@@ -33,8 +34,8 @@ fn date_of(doc: &KeptDoc) -> Option<i64>
     fields_in(doc).date
 }
 
-// Returns an end that isn't below `low`, with the same seconds from `low` up to it as up to `high`: a range of a set must
-// not end before it begins.
+// Returns an end that isn't below `low`, with the same seconds from `low` up to it as up to `high`:
+// a range of a set must not end before it begins.
 fn end_from(low: i64, high: i64) -> i64
     ensures same { (x : ℤ) → (int_le low x && int_lt x result) ≡ (int_le low x && int_lt x high) }
     ensures above { low ≤ℤ result }
@@ -54,8 +55,10 @@ impl Dates {
 
     /// Adds the document's date, if it has one. `Memory` comes if memory runs out.
     pub(crate) fn add(&mut self, doc: &KeptDoc, place: u32) -> Result<(), Memory>
-        ensures ok { OnOk result ((docs : List Doc) → IsNext docs doc.now place → DatePosts docs self.old → DatePosts (docs ++ doc.now ∷ []) self.new) }
-        ensures err { OnErr result ((docs : List Doc) → DatePosts docs self.old → DatePosts docs self.new) }
+        ensures ok { OnOk result ((docs : List Doc) → IsNext docs doc.now place
+              → DatePosts docs self.old → DatePosts (docs ++ doc.now ∷ []) self.new) }
+        ensures err { OnErr result
+            ((docs : List Doc) → DatePosts docs self.old → DatePosts docs self.new) }
     {
         if let Some(date) = date_of(doc) {
             self.set.insert(Dated { date, place })?;
@@ -65,7 +68,8 @@ impl Dates {
 
     /// Removes the document's date, if it has one.
     pub(crate) fn forget(&mut self, doc: &KeptDoc, place: u32)
-        ensures { (docs : List Doc) → IsNext docs doc.now place → DatePosts (docs ++ doc.now ∷ []) self.old → DatePosts docs self.new }
+        ensures { (docs : List Doc) → IsNext docs doc.now place
+            → DatePosts (docs ++ doc.now ∷ []) self.old → DatePosts docs self.new }
     {
         if let Some(date) = date_of(doc) {
             self.set.remove(&Dated { date, place });
@@ -74,7 +78,8 @@ impl Dates {
 
     /// Returns the dates from `low` up to but not at `high`.
     pub(crate) fn within(&self, low: i64, high: i64) -> Range<'_, Dated>
-        ensures { (docs : List Doc) → DatePosts docs self.now → result ≡ map dated (dated_in low high docs) }
+        ensures { (docs : List Doc) → DatePosts docs self.now
+            → result ≡ map dated (dated_in low high docs) }
     {
         let end = end_from(low, high);
         self.set.range(

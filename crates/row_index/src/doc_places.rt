@@ -29,10 +29,13 @@ impl DocPlaces {
         }
     }
 
-    /// Adds the document at the place after those of `docs`. After an error they are found as before.
+    /// Adds the document at the place after those of `docs`. After an error they are found as
+    /// before.
     pub(crate) fn add(&mut self, doc: &KeptDoc, place: u32) -> Result<(), Memory>
-        ensures ok { OnOk result ((docs : List Doc) → IsNext docs doc.now place → DocPosts docs self.old → DocPosts (docs ++ doc.now ∷ []) self.new) }
-        ensures err { OnErr result ((docs : List Doc) → IsNext docs doc.now place → DocPosts docs self.old → DocPosts docs self.new) }
+        ensures ok { OnOk result ((docs : List Doc) → IsNext docs doc.now place
+              → DocPosts docs self.old → DocPosts (docs ++ doc.now ∷ []) self.new) }
+        ensures err { OnErr result ((docs : List Doc) → IsNext docs doc.now place
+              → DocPosts docs self.old → DocPosts docs self.new) }
     {
         self.texts.add(doc, place)?;
         let done = self.dates.add(doc, place);
@@ -44,7 +47,8 @@ impl DocPlaces {
 
     /// Removes the last document.
     pub(crate) fn forget(&mut self, doc: &KeptDoc, place: u32)
-        ensures { (docs : List Doc) → IsNext docs doc.now place → DocPosts (docs ++ doc.now ∷ []) self.old → DocPosts docs self.new }
+        ensures { (docs : List Doc) → IsNext docs doc.now place
+            → DocPosts (docs ++ doc.now ∷ []) self.old → DocPosts docs self.new }
     {
         self.texts.forget(doc, place);
         self.dates.forget(doc, place);

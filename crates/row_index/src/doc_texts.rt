@@ -4,7 +4,8 @@ ghost use Rattle.std.specs.Prelude.{◌≡◌, ◌+◌, List, [], ◌∷◌, ◌
 ghost use Rattle.tap_rows.specs.declared.rows.Doc.{Doc};
 ghost use Rattle.row_index.specs.Orders.{doc_number};
 ghost use Rattle.row_index.specs.Posts.{places_of};
-ghost use Rattle.row_index.specs.Texts.{IsNext, TextPosts, IsPosted, IsPartly, IsUnposted, with_text, texts_of};
+ghost use Rattle.row_index.specs.Texts.{IsNext, TextPosts, IsPosted, IsPartly, IsUnposted};
+ghost use Rattle.row_index.specs.Texts.{with_text, texts_of};
 ghost use Rattle.tap_rows.specs.Fields.{fields};
 
 use crate::postings::Postings;
@@ -13,8 +14,8 @@ use std::alloc::Global;
 use tap_base::{HashKey, Memory};
 use tap_rows::{Fields, KeptDoc};
 
-/// The places of documents by message id, by the message id that they reply to, by sender, by subject, by each of their
-/// references and by word.
+/// The places of documents by message id, by the message id that they reply to, by sender, by
+/// subject, by each of their references and by word.
 #[derive(Drop)]
 pub(crate) struct DocTexts {
     pub(crate) msgid: Postings,
@@ -50,7 +51,8 @@ impl DocTexts {
 
     /// Returns the places of the documents that have the text, by one look-up.
     pub(crate) fn under(&self, kind: TextKind, text: &[u8]) -> &[u32]
-        ensures { (docs : List Doc) → TextPosts docs self.now → result.now ≡ places_of doc_number (with_text (texts_of kind) text.now docs) }
+        ensures { (docs : List Doc) → TextPosts docs self.now
+            → result.now ≡ places_of doc_number (with_text (texts_of kind) text.now docs) }
     {
         match kind {
             TextKind::MsgId => self.msgid.under(text),
@@ -90,10 +92,13 @@ impl DocTexts {
         self.word.forget_packed(&fields.words, place);
     }
 
-    /// Adds the document under its texts, at the place after those of `docs`. After an error they are found as before.
+    /// Adds the document under its texts, at the place after those of `docs`. After an error they
+    /// are found as before.
     pub(crate) fn add(&mut self, doc: &KeptDoc, place: u32) -> Result<(), Memory>
-        ensures ok { OnOk result ((docs : List Doc) → IsNext docs doc.now place → TextPosts docs self.old → TextPosts (docs ++ doc.now ∷ []) self.new) }
-        ensures err { OnErr result ((docs : List Doc) → IsNext docs doc.now place → TextPosts docs self.old → TextPosts docs self.new) }
+        ensures ok { OnOk result ((docs : List Doc) → IsNext docs doc.now place
+              → TextPosts docs self.old → TextPosts (docs ++ doc.now ∷ []) self.new) }
+        ensures err { OnErr result ((docs : List Doc) → IsNext docs doc.now place
+              → TextPosts docs self.old → TextPosts docs self.new) }
     {
         let done = self.put(doc, place);
         if done.is_err() {
@@ -104,7 +109,8 @@ impl DocTexts {
 
     /// Removes the document from under its texts.
     pub(crate) fn forget(&mut self, doc: &KeptDoc, place: u32)
-        ensures { (docs : List Doc) → IsNext docs doc.now place → TextPosts (docs ++ doc.now ∷ []) self.old → TextPosts docs self.new }
+        ensures { (docs : List Doc) → IsNext docs doc.now place
+            → TextPosts (docs ++ doc.now ∷ []) self.old → TextPosts docs self.new }
     {
         self.take(doc, place);
     }

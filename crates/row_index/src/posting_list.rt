@@ -2,7 +2,8 @@
 
 ghost use Rattle.std.specs.Prelude.{◌≡◌, length, drop, slice_get};
 ghost use Rattle.row_index.specs.Walks.{ArePlaces, at_places};
-ghost use Rattle.row_index.specs.Orders.{Rising, doc_arrival, doc_rank, doc_num, up_to, above_number, below_number};
+ghost use Rattle.row_index.specs.Orders.{Rising, doc_arrival, doc_rank, doc_num, up_to};
+ghost use Rattle.row_index.specs.Orders.{above_number, below_number};
 
 use crate::arrivals::places_up_to;
 use crate::numbers::{places_above, places_below};
@@ -11,7 +12,8 @@ use std::marker::Model;
 use tap_base::DocNum;
 use tap_rows::KeptDoc;
 
-/// The documents of a posting list, or of a part of it, in order of number. The index lends them, and no row is copied.
+/// The documents of a posting list, or of a part of it, in order of number. The index lends them,
+/// and no row is copied.
 #[derive(Drop)]
 pub struct PostingList<'a> {
     docs: &'a [KeptDoc],
@@ -56,8 +58,8 @@ impl<'a> PostingList<'a> {
         self.places.len()
     }
 
-    /// Returns the number of the document at this place, from 0, without a step. `None` comes if and only if there is no such
-    /// place.
+    /// Returns the number of the document at this place, from 0, without a step. `None` comes if
+    /// and only if there is no such place.
     pub fn number(&self, place: usize) -> Option<DocNum>
         ensures { result ≡ doc_num (slice_get self.now place) }
     {

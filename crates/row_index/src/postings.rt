@@ -124,8 +124,10 @@ impl Postings {
 
     /// Puts the place under the text, if there is one.
     pub(crate) fn add_some(&mut self, key: &Option<Text>, place: u32) -> Result<(), Memory>
-        ensures ok { OnOk result (self.new ≡ posted_all bytes_eq (option_to_list key.now) place self.old) }
-        ensures err { OnErr result (IsPartlyPosted (option_to_list key.now) place self.old self.new) }
+        ensures ok { OnOk result
+            (self.new ≡ posted_all bytes_eq (option_to_list key.now) place self.old) }
+        ensures err { OnErr result
+            (IsPartlyPosted (option_to_list key.now) place self.old self.new) }
     {
         match key {
             Some(key) => self.add(key.as_slice(), place),

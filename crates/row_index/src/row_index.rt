@@ -1,7 +1,8 @@
 //! The rows of documents and notes, and their indexes.
 
 ghost use Rattle.std.specs.Prelude.{◌≡◌, ◌+◌, ◌<◌, ℤ, pos, ◌≤ℤ◌, []};
-ghost use Rattle.std.specs.Prelude.{◌∷◌, length, nat_eq, option_copied, option_to_list, slice_get, OnOk, OnErr};
+ghost use Rattle.std.specs.Prelude.{◌∷◌, length, nat_eq, option_copied, option_to_list, slice_get};
+ghost use Rattle.std.specs.Prelude.{OnOk, OnErr};
 ghost use Rattle.std.specs.List.{find};
 ghost use Rattle.tap_rows.specs.declared.rows.Doc.{Doc};
 ghost use Rattle.tap_rows.specs.declared.rows.Note.{Note};
@@ -10,8 +11,10 @@ ghost use Rattle.tap_rows.specs.declared.change.Change.TheVariants.{Docs, OneNot
 ghost use Rattle.tap_rows.specs.Arrivals.{Arrived};
 ghost use Rattle.tap_rows.specs.Kept.{Each};
 ghost use Rattle.tap_rows.specs.Tables.{no_rows, after};
-ghost use Rattle.row_index.specs.Orders.{InPlace, doc_number, doc_arrival, note_number, note_arrival, in_window, up_to};
-ghost use Rattle.row_index.specs.Texts.{with_text, texts_of, msgids, parents, senders, subjects, references_in, words_in};
+ghost use Rattle.row_index.specs.Orders.{InPlace, doc_number, doc_arrival, note_number};
+ghost use Rattle.row_index.specs.Orders.{note_arrival, in_window, up_to};
+ghost use Rattle.row_index.specs.Texts.{with_text, texts_of, msgids, parents, senders, subjects};
+ghost use Rattle.row_index.specs.Texts.{references_in, words_in};
 ghost use Rattle.row_index.specs.Dates.{dated_in};
 ghost use Rattle.row_index.specs.Held.{indexed_notes, AreOnDocs};
 ghost use Rattle.row_index.specs.Rows.{without_last_doc, without_last_note};
@@ -29,7 +32,8 @@ use std::sync::ledger::Ledger;
 use tap_base::{DocNum, HashKey, Memory, Steps};
 use tap_rows::{KeptDoc, Note};
 
-/// All documents and notes, with their indexes. Its value is the tables with these rows and no others.
+/// All documents and notes, with their indexes. Its value is the tables with these rows and no
+/// others.
 pub struct RowIndex {
     docs: Vec<KeptDoc>,
     places: DocPlaces,
@@ -47,11 +51,13 @@ impl Model for RowIndex {
 
     ghost view = { λ index. rows_alone index.docs.items index.notes.items };
 
-    ghost invariant = { λ index. IsIndexOf index.docs.items index.places index.notes.items index.on_doc };
+    ghost invariant = { λ index.
+        IsIndexOf index.docs.items index.places index.notes.items index.on_doc };
 }
 
 impl Drop for RowIndex {
-    // One call wherever an index is dropped: derived, it would show each caller all rows and indexes.
+    // One call wherever an index is dropped: derived, it would show each caller all rows and
+    // indexes.
     fn drop(self) {
         let RowIndex {
             docs: _,
@@ -89,7 +95,8 @@ impl RowIndex {
         self.key
     }
 
-    /// Returns how many documents there are. Their numbers are their places, from 1, and their arrivals never fall.
+    /// Returns how many documents there are. Their numbers are their places, from 1, and their
+    /// arrivals never fall.
     pub fn docs(&self) -> u32
         ensures count { result ≡ length self.now.docs }
         ensures places { InPlace doc_number doc_arrival self.now.docs }
@@ -98,8 +105,8 @@ impl RowIndex {
         self.docs.len() as u32
     }
 
-    /// Returns how many notes there are. Their numbers are their places, from 1, and their arrivals never fall. The numbers
-    /// of the documents that they are on have 32 bits.
+    /// Returns how many notes there are. Their numbers are their places, from 1, and their arrivals
+    /// never fall. The numbers of the documents that they are on have 32 bits.
     pub fn notes(&self) -> u32
         ensures count { result ≡ length self.now.notes }
         ensures documents { AreOnDocs self.now.notes }
@@ -108,7 +115,8 @@ impl RowIndex {
         self.notes.len() as u32
     }
 
-    /// Returns the documents that arrived from `low` up to but not at `high`, in seconds since 1970-01-01T00:00:00Z.
+    /// Returns the documents that arrived from `low` up to but not at `high`, in seconds since
+    /// 1970-01-01T00:00:00Z.
     pub fn docs_arrived(&self, low: i64, high: i64) -> DocWalk<'_>
         ensures { result ≡ in_window doc_arrival low high self.now.docs }
     {
@@ -122,7 +130,8 @@ impl RowIndex {
         Walk::over(docs_up_to(&self.docs, last))
     }
 
-    /// Returns the documents whose date is from `low` up to but not at `high`, in order of date, then of number.
+    /// Returns the documents whose date is from `low` up to but not at `high`, in order of date,
+    /// then of number.
     pub fn docs_dated(&self, low: i64, high: i64) -> DocWalk<'_>
         ensures { result ≡ dated_in low high self.now.docs }
     {
@@ -157,7 +166,8 @@ impl RowIndex {
         Walk::placed(&self.docs, self.places.texts.subject.under(text))
     }
 
-    /// Returns the documents that have the text among their References (RFC 5322 3.6.4), by one look-up.
+    /// Returns the documents that have the text among their References (RFC 5322 3.6.4), by one
+    /// look-up.
     pub fn by_reference(&self, text: &[u8]) -> DocWalk<'_>
         ensures { result ≡ with_text references_in text.now self.now.docs }
     {
@@ -178,8 +188,8 @@ impl RowIndex {
         PostingList::at(&self.docs, self.places.texts.under(kind, text))
     }
 
-    /// Returns the documents that have the text, of this kind, and that arrived from `low` up to but not at `high`: by one
-    /// look-up, and two halvings of its posting list.
+    /// Returns the documents that have the text, of this kind, and that arrived from `low` up to
+    /// but not at `high`: by one look-up, and two halvings of its posting list.
     pub fn by_text_arrived(
         &self,
         kind: TextKind,
@@ -187,7 +197,8 @@ impl RowIndex {
         low: i64,
         high: i64,
     ) -> PostingList<'_>
-        ensures { result ≡ in_window doc_arrival low high (with_text (texts_of kind) text.now self.now.docs) }
+        ensures { result
+            ≡ in_window doc_arrival low high (with_text (texts_of kind) text.now self.now.docs) }
     {
         let places = self.places.texts.under(kind, text);
         PostingList::at(&self.docs, places_within(&self.docs, places, low, high))
@@ -214,7 +225,8 @@ impl RowIndex {
         Walk::over(notes_up_to(&self.notes, last))
     }
 
-    /// Returns the document of this number, with one step. `None` comes if and only if there is none, and then no step.
+    /// Returns the document of this number, with one step. `None` comes if and only if there is
+    /// none, and then no step.
     pub fn doc<L: Ledger>(&self, num: DocNum, steps: &mut Steps<L>) -> Option<&KeptDoc>
         ensures doc { option_copied result ≡ find (λ doc. nat_eq doc.num.0 num.0) self.now.docs }
         ensures steps { steps.new ≡ steps.old + length (option_to_list (option_copied result)) }
@@ -244,7 +256,8 @@ impl RowIndex {
         &self.notes
     }
 
-    /// Takes room for that many more documents and notes at once. `Memory` comes if memory runs out.
+    /// Takes room for that many more documents and notes at once. `Memory` comes if memory runs
+    /// out.
     pub fn reserve(&mut self, docs: usize, notes: usize) -> Result<(), Memory>
         ensures { self.new ≡ self.old }
     {
@@ -289,7 +302,8 @@ impl RowIndex {
     pub fn forget_last_doc(&mut self)
         requires { 0 < length self.old.docs }
         ensures last { self.new ≡ without_last_doc self.old }
-        ensures undone { (before : Tables) (doc : Doc) → self.old ≡ after before (Docs (doc ∷ [])) → self.new ≡ before }
+        ensures undone { (before : Tables) (doc : Doc) → self.old ≡ after before (Docs (doc ∷ []))
+            → self.new ≡ before }
     {
         if let Some(doc) = self.docs.pop() {
             self.places.forget(&doc, self.docs.len() as u32);
@@ -300,7 +314,8 @@ impl RowIndex {
     pub fn forget_last_note(&mut self)
         requires { 0 < length self.old.notes }
         ensures last { self.new ≡ without_last_note self.old }
-        ensures undone { (before : Tables) (note : Note) → self.old ≡ after before (OneNote note) → self.new ≡ before }
+        ensures undone { (before : Tables) (note : Note) → self.old ≡ after before (OneNote note)
+            → self.new ≡ before }
     {
         if let Some(note) = self.notes.pop() {
             self.on_doc.forget(note.doc.0, self.notes.len() as u32);

@@ -1,7 +1,8 @@
 //! Walks over rows.
 
 ghost use Rattle.std.specs.Prelude.{◌≡◌, ◌+◌, List, [], ◌∷◌, ◌++◌, option_to_list};
-ghost use Rattle.std.specs.Prelude.{Option, Some, None, option_copied, IfSome, length, map, slice_get};
+ghost use Rattle.std.specs.Prelude.{Option, Some, None, option_copied, IfSome, length, map};
+ghost use Rattle.std.specs.Prelude.{slice_get};
 ghost use Rattle.row_index.specs.Walks.{left_in, at_places, places_in};
 
 use crate::dates::Dated;
@@ -134,8 +135,8 @@ impl<'a, T> Walk<'a, T> {
         }
     }
 
-    /// Removes and returns the next row, with one step. `None` comes if and only if no row is left, and then no step. It
-    /// takes no memory.
+    /// Removes and returns the next row, with one step. `None` comes if and only if no row is left,
+    /// and then no step. It takes no memory.
     pub fn next<L: Ledger>(&mut self, steps: &mut Steps<L>) -> Option<&'a T>
         ensures rows { self.old ≡ option_to_list (option_copied result) ++ self.new }
         ensures end { result ≡ None → self.old ≡ [] }

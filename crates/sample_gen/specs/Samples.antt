@@ -24,7 +24,8 @@ draw i = generator_after i / 65536
 -- the word of message i
 abbrev pub word_of : ℕ → List ℕ
 word_of drawn =
-    if drawn % 4 == 0 then codes "alpha" else if drawn % 4 == 1 then codes "beta" else if drawn % 4 == 2 then codes "gamma" else codes "delta"
+    if drawn % 4 == 0 then codes "alpha" else if drawn % 4 == 1 then codes "beta" else if drawn % 4 == 2 then codes "gamma"
+      else codes "delta"
 
 -- the identifier of message i
 unfoldable pub message_id : ℕ → List ℕ
@@ -49,7 +50,8 @@ parent_line i drawn = if is_answer i drawn then answer_line (parent_of i drawn) 
 -- the text of message i: its name, for about a third of them the earlier message that is answered, and one of four words
 unfoldable pub sample_message : ℕ → ℕ → List ℕ
 sample_message i drawn =
-    line (codes "From: user@parc") ++ line (codes "Message-ID: " ++ message_id i) ++ parent_line i drawn ++ line (codes "Subject: " ++ word_of drawn)
+    line (codes "From: user@parc") ++ line (codes "Message-ID: " ++ message_id i) ++ parent_line i drawn
+      ++ line (codes "Subject: " ++ word_of drawn)
     ++ line [] ++ line (codes "about " ++ word_of drawn)
 
 -- a run of each query

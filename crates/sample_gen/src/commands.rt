@@ -4,7 +4,9 @@ ghost use Rattle.std.specs.Fmt.{decimal};
 ghost use Rattle.std.specs.List.{list_all};
 ghost use Rattle.script_lang.specs.declared.command.Command.{Command};
 ghost use Rattle.script_lang.specs.Proper.{is_proper};
-ghost use Rattle.sample_gen.specs.Samples.{commands_of_message, commands_of_messages, first_commands, both_runs, note_after, runs_after, sample_of, IsSampleSize};
+ghost use Rattle.sample_gen.specs.Samples.{commands_of_message, commands_of_messages};
+ghost use Rattle.sample_gen.specs.Samples.{first_commands, both_runs, note_after, runs_after};
+ghost use Rattle.sample_gen.specs.Samples.{sample_of, IsSampleSize};
 
 use crate::generator::next_state;
 use crate::message::sample_message;
@@ -13,7 +15,8 @@ use script_lang::Command;
 use std::alloc::Global;
 use tap_base::{Memory, Rows, Text};
 
-/// The most messages of a sample: few enough that each second and each document number of a sample fits.
+/// The most messages of a sample: few enough that each second and each document number of a sample
+/// fits.
 pub const SAMPLE_LIMIT: u32 = 100_000;
 
 // Appends a command that sets the moment to a second.
@@ -88,8 +91,8 @@ fn push_message(
     push_runs_after(alloc, commands, i)
 }
 
-// Appends the commands of the first `n` messages. What is drawn for a message are the generator's upper bits, since the lower
-// ones of a linear congruential generator repeat soon.
+// Appends the commands of the first `n` messages. What is drawn for a message are the generator's
+// upper bits, since the lower ones of a linear congruential generator repeat soon.
 fn push_messages(alloc: Global, commands: &mut Rows<Command>, n: u32) -> Result<(), Memory>
     requires { n ≤ 100000 }
     ensures { OnOk result (commands.new ≡ commands.old ++ commands_of_messages n) }
@@ -121,8 +124,9 @@ fn open_sample(alloc: Global) -> Result<Rows<Command>, Memory>
     Ok(commands)
 }
 
-/// Returns the commands of a sample with `n` messages, some of which answer earlier ones, with notes, two queries and their
-/// runs. The same `n` gives the same commands. `Memory` means out of memory.
+/// Returns the commands of a sample with `n` messages, some of which answer earlier ones, with
+/// notes, two queries and their runs. The same `n` gives the same commands. `Memory` means out of
+/// memory.
 pub fn sample(alloc: Global, n: u32) -> Result<Rows<Command>, Memory>
     requires { IsSampleSize n }
     ensures value { IfOk result (λ commands. commands ≡ sample_of n) }

@@ -1,7 +1,8 @@
 //! The messages of a sample.
 ghost use Rattle.std.specs.Prelude.{◌≡◌, ◌<◌, ◌++◌, true, OnOk, IfOk};
 ghost use Rattle.script_lang.specs.Replies.{line};
-ghost use Rattle.sample_gen.specs.Samples.{word_of, message_id, is_answer, parent_line, sample_message};
+ghost use Rattle.sample_gen.specs.Samples.{word_of, message_id, is_answer, parent_line};
+ghost use Rattle.sample_gen.specs.Samples.{sample_message};
 
 use std::alloc::Global;
 use tap_base::{Memory, Text};

@@ -106,12 +106,17 @@ fn samples_have_their_counts(rt: HostRuntime) -> Result<(), Memory> {
 fn a_sample_has_its_commands(rt: HostRuntime) -> Result<(), Memory> {
     let script = sample_script(rt.alloc())?;
     let want: &[u8] = b"at 1000\nas alice\nquery q1\n  m.words HAS 'alpha'\n\
-          query q2\n  now >= m.ts + 60 SECONDS AND NOT EXISTS (r: DOC WHERE r.inreplyto = m.msgid)\nat 1010\nmail\n\
-          From: user@parc\nMessage-ID: <m1@parc>\nSubject: gamma\n\nabout gamma\n.\nat 1020\nmail\nFrom: user@parc\n\
+          query q2\n  now >= m.ts + 60 SECONDS AND NOT EXISTS (r: DOC WHERE r.inreplyto = \
+          m.msgid)\nat 1010\nmail\n\
+          From: user@parc\nMessage-ID: <m1@parc>\nSubject: gamma\n\nabout gamma\n.\nat 1020\n\
+          mail\nFrom: user@parc\n\
           Message-ID: <m2@parc>\nSubject: gamma\n\nabout gamma\n.\nat 1030\nmail\nFrom: user@parc\n\
-          Message-ID: <m3@parc>\nIn-Reply-To: <m2@parc>\nSubject: beta\n\nabout beta\n.\nat 1040\nmail\n\
-          From: user@parc\nMessage-ID: <m4@parc>\nSubject: delta\n\nabout delta\n.\nat 1050\nmail\nFrom: user@parc\n\
-          Message-ID: <m5@parc>\nSubject: delta\n\nabout delta\n.\nnote 5 score 1 good\nat 2050\nrun q1\nrun q2\n";
+          Message-ID: <m3@parc>\nIn-Reply-To: <m2@parc>\nSubject: beta\n\nabout beta\n.\nat 1040\n\
+          mail\n\
+          From: user@parc\nMessage-ID: <m4@parc>\nSubject: delta\n\nabout delta\n.\nat 1050\n\
+          mail\nFrom: user@parc\n\
+          Message-ID: <m5@parc>\nSubject: delta\n\nabout delta\n.\nnote 5 score 1 good\nat 2050\n\
+          run q1\nrun q2\n";
     assert_eq!(rt; script.as_slice(), want);
     drop(script);
     Ok(())

@@ -13,15 +13,20 @@ use Rattle.tql_lex.specs.declared.fault.LexFault.TheVariants.{BadByte, OpenStrin
 use Rattle.tql_parse.specs.declared.fault.ParseFault.{ParseFault}
 use Rattle.tql_parse.specs.declared.fault.ParseFault.TheVariants.{Unexpected, Ended, Deep, Memory as ParseMemory}
 use Rattle.tql_types.specs.declared.fault.TypeFault.{TypeFault}
-use Rattle.tql_types.specs.declared.fault.TypeFault.TheVariants.{NoVar, NoField, Clash, Shadow, BadTime, BigSpan, ManyVars, ManyNodes, Memory as TypeMemory}
+use Rattle.tql_types.specs.declared.fault.TypeFault.TheVariants.{NoVar, NoField, Clash, Shadow, BadTime, BigSpan, ManyVars, ManyNodes}
+use Rattle.tql_types.specs.declared.fault.TypeFault.TheVariants.{Memory as TypeMemory}
 use Rattle.script_lang.specs.declared.refusal.LimitName.{LimitName}
-use Rattle.script_lang.specs.declared.refusal.LimitName.TheVariants.{Line, Message, Block, Note, Documents, Notes, Queries, AllQueries, Users, Filters, Runs}
+use Rattle.script_lang.specs.declared.refusal.LimitName.TheVariants.{Line, Message, Block, Note, Documents, Notes, Queries, AllQueries}
+use Rattle.script_lang.specs.declared.refusal.LimitName.TheVariants.{Users, Filters, Runs}
 use Rattle.script_lang.specs.declared.refusal.LimitName.TheVariants.{Picks, Store}
 use Rattle.script_lang.specs.declared.refusal.Refusal.{Refusal}
-use Rattle.script_lang.specs.declared.refusal.Refusal.TheVariants.{Unknown, Form, Cut, BadMoment, Backwards, NoMoment, NoUser, BadName, Taken}
-use Rattle.script_lang.specs.declared.refusal.Refusal.TheVariants.{NoQuery, NoDoc, Lex, Parse, Types, NotOver, Limit, Rule, ManyRules, Memory, NoRun}
+use Rattle.script_lang.specs.declared.refusal.Refusal.TheVariants.{Unknown, Form, Cut, BadMoment, Backwards, NoMoment, NoUser, BadName}
+use Rattle.script_lang.specs.declared.refusal.Refusal.TheVariants.{Taken}
+use Rattle.script_lang.specs.declared.refusal.Refusal.TheVariants.{NoQuery, NoDoc, Lex, Parse, Types, NotOver, Limit, Rule, ManyRules}
+use Rattle.script_lang.specs.declared.refusal.Refusal.TheVariants.{Memory, NoRun}
 use Rattle.script_lang.specs.declared.reply.Reply.{Reply}
-use Rattle.script_lang.specs.declared.reply.Reply.TheVariants.{At, AsUser, OneDoc, Docs, OneNote, Defined, Ran, BoxOf, ListOf, Filter, Explain, Asked, Wake}
+use Rattle.script_lang.specs.declared.reply.Reply.TheVariants.{At, AsUser, OneDoc, Docs, OneNote, Defined, Ran, BoxOf, ListOf, Filter}
+use Rattle.script_lang.specs.declared.reply.Reply.TheVariants.{Explain, Asked, Wake}
 use Rattle.script_lang.specs.declared.reply.Reply.TheVariants.{ScoresOf, DigestOf, Found as FoundRows, No}
 use Rattle.script_lang.specs.declared.lookup.Found.{Found}
 use Rattle.script_lang.specs.declared.lookup.Found.TheVariants.{DocText, DocNotes, UserQueries, Counts}
@@ -40,7 +45,8 @@ hit_line hit = line (codes "doc " ++ decimal hit.doc.0 ++ codes " first " ++ sig
 
 -- a document of a box, with its first second and its run
 abbrev pub entry_text : Entry → List ℕ
-entry_text entry = codes "doc " ++ decimal entry.doc.0 ++ codes " first " ++ signed_decimal entry.first ++ codes " run " ++ decimal entry.run
+entry_text entry =
+    codes "doc " ++ decimal entry.doc.0 ++ codes " first " ++ signed_decimal entry.first ++ codes " run " ++ decimal entry.run
 
 -- the line of a document of a box
 abbrev pub entry_line : Entry → List ℕ
@@ -56,7 +62,8 @@ doc_line doc = line (codes "doc " ++ decimal doc.0)
 
 -- the line of the votes on a document
 abbrev pub score_line : Score → List ℕ
-score_line row = line (codes "doc " ++ decimal row.doc.0 ++ codes " voters " ++ decimal row.voters ++ codes " sum " ++ signed_decimal row.sum)
+score_line row =
+    line (codes "doc " ++ decimal row.doc.0 ++ codes " voters " ++ decimal row.voters ++ codes " sum " ++ signed_decimal row.sum)
 
 -- the words of a limit
 abbrev pub limit_words : LimitName → List ℕ
@@ -135,7 +142,8 @@ found_text n (DocText doc arrival) = head n (codes "show") ++ decimal doc ++ cod
 found_text n (DocNotes doc) = head n (codes "notes") ++ decimal doc
 found_text n UserQueries = codes "ok " ++ decimal n ++ codes " queries"
 found_text n (Counts docs notes moment) =
-    head n (codes "counts") ++ codes "documents " ++ decimal docs ++ codes " notes " ++ decimal notes ++ codes " moment " ++ signed_decimal moment
+    head n (codes "counts") ++ codes "documents " ++ decimal docs ++ codes " notes " ++ decimal notes ++ codes " moment "
+      ++ signed_decimal moment
 
 -- the text of a reply's first line
 abbrev pub first_text : Reply → List ℕ

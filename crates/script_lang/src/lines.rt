@@ -2,8 +2,11 @@
 ghost use Rattle.std.specs.Prelude.{◌≡◌, ◌≤◌, ◌+◌, ◌++◌, List, [], ◌∷◌, ℕ, Option, length, codes};
 ghost use Rattle.std.specs.Fmt.{decimal, signed_decimal};
 ghost use Rattle.arrayvec.specs.ArrayVec.{array_vec_len};
-ghost use Rattle.script_lang.specs.Replies.{head, line, hit_line, entry_text, entry_line, listed_line, doc_line, score_line, IsShort, lex_text, parse_text};
-ghost use Rattle.script_lang.specs.Replies.{type_text, refusal_text, limit_words, moment_text, first_text, found_text};
+ghost use Rattle.script_lang.specs.Replies.{head, line, hit_line, entry_text, entry_line};
+ghost use Rattle.script_lang.specs.Replies.{listed_line, doc_line, score_line, IsShort, lex_text};
+ghost use Rattle.script_lang.specs.Replies.{parse_text};
+ghost use Rattle.script_lang.specs.Replies.{type_text, refusal_text, limit_words, moment_text};
+ghost use Rattle.script_lang.specs.Replies.{first_text, found_text};
 ghost use Rattle.script_lang.specs.declared.reply.Reply.{Reply};
 
 use crate::buffer::{
@@ -215,7 +218,8 @@ pub fn refusal_line(refusal: Refusal) -> ArrayVec<u8, 512>
 
 /// Returns the first line of the reply to `mbox`.
 pub fn docs_head(count: u32, first: u64) -> ArrayVec<u8, 512>
-    ensures { result.items ≡ line (head 0 (codes "docs") ++ decimal count ++ codes " " ++ decimal first) }
+    ensures { result.items
+        ≡ line (head 0 (codes "docs") ++ decimal count ++ codes " " ++ decimal first) }
 {
     let mut buffer = head_line(0, b"docs");
     push_number(&mut buffer, count);
@@ -227,7 +231,8 @@ pub fn docs_head(count: u32, first: u64) -> ArrayVec<u8, 512>
 
 /// Returns the first line of the reply to `run`.
 pub fn run_head(n: usize, ordinal: u32, moment: i64) -> ArrayVec<u8, 512>
-    ensures { result.items ≡ line (head n (codes "run") ++ decimal ordinal ++ codes " before " ++ signed_decimal moment) }
+    ensures { result.items ≡ line
+        (head n (codes "run") ++ decimal ordinal ++ codes " before " ++ signed_decimal moment) }
 {
     let mut buffer = head_line(n, b"run");
     push_number(&mut buffer, ordinal);
@@ -240,7 +245,8 @@ pub fn run_head(n: usize, ordinal: u32, moment: i64) -> ArrayVec<u8, 512>
 /// Returns the first line of the reply to `wake`.
 pub fn wake_head(name: &[u8], moment: Option<i64>) -> ArrayVec<u8, 512>
     requires { IsShort name.now }
-    ensures { result.items ≡ line (head 0 (codes "wake") ++ name.now ++ codes " " ++ moment_text moment) }
+    ensures { result.items
+        ≡ line (head 0 (codes "wake") ++ name.now ++ codes " " ++ moment_text moment) }
 {
     let mut buffer = head_line(0, b"wake");
     push_bytes(&mut buffer, name);
@@ -256,7 +262,8 @@ pub fn wake_head(name: &[u8], moment: Option<i64>) -> ArrayVec<u8, 512>
 /// Returns the first line of the reply to `digest`.
 pub fn digest_head(n: usize, name: &[u8], ordinal: u32) -> ArrayVec<u8, 512>
     requires { IsShort name.now }
-    ensures { result.items ≡ line (head n (codes "digest") ++ name.now ++ codes " " ++ decimal ordinal) }
+    ensures { result.items
+        ≡ line (head n (codes "digest") ++ name.now ++ codes " " ++ decimal ordinal) }
 {
     let mut buffer = head_line(n, b"digest");
     push_bytes(&mut buffer, name);

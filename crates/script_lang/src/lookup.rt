@@ -13,8 +13,8 @@ pub enum Lookup {
     Count,
 }
 
-/// What a look-up found, but for the lines that follow the first line of its reply. Moments are seconds since
-/// 1970-01-01T00:00:00Z.
+/// What a look-up found, but for the lines that follow the first line of its reply. Moments are
+/// seconds since 1970-01-01T00:00:00Z.
 #[derive(Clone, Copy, Debug, PartialEq, Eq)]
 pub enum Found {
     /// The lines are those of the text of this document.

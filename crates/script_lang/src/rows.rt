@@ -9,8 +9,9 @@ use std::alloc::Global;
 use tap_base::{Memory, Text};
 use tap_rows::Note;
 
-/// What a line shows of a query beside its name and its text: its arrival, the first second that it covers, how many runs it had,
-/// the moment of the last one, and how many entries its box has. Moments are seconds since 1970-01-01T00:00:00Z.
+/// What a line shows of a query beside its name and its text: its arrival, the first second that it
+/// covers, how many runs it had, the moment of the last one, and how many entries its box has.
+/// Moments are seconds since 1970-01-01T00:00:00Z.
 #[derive(Clone, Copy, Debug, PartialEq, Eq)]
 pub struct QueryState {
     pub arrival: i64,
@@ -68,7 +69,8 @@ pub fn note_line(alloc: Global, note: &Note) -> Result<Text, Memory>
     Ok(line)
 }
 
-/// Returns the line, without its LF, that shows a query of this name and the text of its condition. `Memory` means out of memory.
+/// Returns the line, without its LF, that shows a query of this name and the text of its condition.
+/// `Memory` means out of memory.
 pub fn query_line(
     alloc: Global,
     name: &[u8],

@@ -469,12 +469,15 @@ fn commands_are_read_in_any_pieces(rt: HostRuntime) -> Result<(), Fail> {
     let alloc = rt.alloc();
     let rows: [(&[u8], &[u8]); 6] = [
         (
-            b"at 9\r\n\t as  ann \n# at 1\n \n#\nrun q\nbox q\nlist q\nexplain q\nwake q\nscores k\ndigest q 01\n",
+            b"at 9\r\n\t as  ann \n# at 1\n \n#\nrun q\nbox q\nlist q\nexplain q\nwake q\n\
+            scores k\ndigest q 01\n",
             b"at 9;as ann;run q;box q;list q;explain q;wake q;scores k;digest 1,q;",
         ),
         (
-            b"note 4294967295 k -9223372036854775808  a b \nnote 4294967296 k 1 t\nnote 1 k +1 t\nquery q\nquery q  a  b\nask 1\tx\r\r\nask",
-            b"note 4294967295,-9223372036854775808,k,a b ;bad form;bad form;query q,;query q,a  b;ask 1,x\r;bad form;",
+            b"note 4294967295 k -9223372036854775808  a b \nnote 4294967296 k 1 t\nnote 1 k +1 t\n\
+            query q\nquery q  a  b\nask 1\tx\r\r\nask",
+            b"note 4294967295,-9223372036854775808,k,a b ;bad form;bad form;query q,;query \
+            q,a  b;ask 1,x\r;bad form;",
         ),
         (
             b"mail\r\nSubject: x\r\n\r\n..\n.x\n\n.\r\nmbox\n.\nfilter\n# no\n.",
@@ -485,8 +488,10 @@ fn commands_are_read_in_any_pieces(rt: HostRuntime) -> Result<(), Fail> {
             b"bad form;bad word;bad form;bad form;bad cut;",
         ),
         (
-            b"show 1\n notes\t02 \nqueries\ncounts\r\nshow\nshow x\nshow 1 2\nnotes\nnotes 4294967296\nqueries all\ncounts 1\nshows 1\n",
-            b"show 1;notes 2;queries;counts;bad form;bad form;bad form;bad form;bad form;bad form;bad form;bad word;",
+            b"show 1\n notes\t02 \nqueries\ncounts\r\nshow\nshow x\nshow 1 2\nnotes\n\
+            notes 4294967296\nqueries all\ncounts 1\nshows 1\n",
+            b"show 1;notes 2;queries;counts;bad form;bad form;bad form;bad form;bad form;bad \
+            form;bad form;bad word;",
         ),
         (b"mbox y\nat 1", b"bad form;"),
     ];

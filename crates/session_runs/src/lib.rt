@@ -1,4 +1,5 @@
-//! What the tests of sessions share: runs over sources, sinks and keepers in memory. No program stands on it.
+//! What the tests of sessions share: runs over sources, sinks and keepers in memory. No program
+//! stands on it.
 #![tactic(auto)]
 
 mod runs;

@@ -73,8 +73,8 @@ fn source_of(
     Ok(MemSource::new(Text::from_slice(alloc, script)?, sizes, fails))
 }
 
-/// Returns a source of a script in pieces of `size` bytes, of which these reads fail, and a sink with so much room, of which
-/// these puts fail.
+/// Returns a source of a script in pieces of `size` bytes, of which these reads fail, and a sink
+/// with so much room, of which these puts fail.
 pub fn edges_of(
     alloc: Global,
     script: &[u8],
@@ -155,8 +155,8 @@ pub fn tables_after(alloc: Global, script: &[u8]) -> Result<Tables, Memory> {
     }
 }
 
-/// Runs a script over no rows, in pieces of `size` bytes and with so much room for what is written; the status, and what
-/// was written.
+/// Runs a script over no rows, in pieces of `size` bytes and with so much room for what is written;
+/// the status, and what was written.
 pub fn answers_within(
     alloc: Global,
     script: &[u8],
@@ -170,7 +170,8 @@ pub fn answers_within(
     ended
 }
 
-/// Runs a script over no rows with room for 4,096 bytes of replies; returns the status and what was written.
+/// Runs a script over no rows with room for 4,096 bytes of replies; returns the status and what was
+/// written.
 pub fn answers(alloc: Global, script: &[u8], size: usize) -> Result<(u8, Text), Memory> {
     answers_within(alloc, script, size, 4096)
 }

@@ -1,5 +1,6 @@
-//! Each limit of how much is stored, and one past it, over tables that are just below it. Those of documents, notes and
-//! deliveries take up to three seconds once they are proved, and more than a minute in the checked build.
+//! Each limit of how much is stored, and one past it, over tables that are just below it. Those of
+//! documents, notes and deliveries take up to three seconds once they are proved, and more than a
+//! minute in the checked build.
 
 ghost use Rattle.keeper_core.specs.States.{IsFreeInMemory};
 
@@ -210,7 +211,8 @@ fn there_are_at_most_1000000_documents(rt: HostRuntime) -> Result<(), Memory> {
           note 1000000 k 1 x\nnote 1000001 k 1 x\nquery q m.id = 1000000\nat 3\nrun q\n";
     let (status, written) = answers_over(rt.alloc(), &counts, script.as_slice())?;
     let want =
-        b"ok 0 as ann\nok 0 at 2\nno 16 documents\nok 0 doc 1000000\nno 16 documents\nno 16 documents\n\
+        b"ok 0 as ann\nok 0 at 2\nno 16 documents\nok 0 doc 1000000\nno 16 documents\n\
+        no 16 documents\n\
           ok 0 docs 0 1000001\nok 0 note 1\nno 11\nok 0 query q\nok 0 at 3\nok 1 run 1 before 3\n\
           doc 1000000 first 2\n";
     assert_eq!(rt; status, 1);
@@ -227,10 +229,12 @@ fn there_are_at_most_1000000_notes(rt: HostRuntime) -> Result<(), Memory> {
         ..EMPTY
     };
     let script =
-        b"as ann\nat 2\nnote 1 k 2 x\nnote 1 k 3 x\nscores k\nmail\n.\nquery q TRUE\nfilter\n.\nrun q\n";
+        b"as ann\nat 2\nnote 1 k 2 x\nnote 1 k 3 x\nscores k\nmail\n.\nquery q TRUE\nfilter\n.\n\
+        run q\n";
     let (status, written) = answers_over(rt.alloc(), &counts, script.as_slice())?;
     let want =
-        b"ok 0 as ann\nok 0 at 2\nok 0 note 1000000\nno 16 notes\nok 1 scores k\ndoc 1 voters 1 sum 2\n\
+        b"ok 0 as ann\nok 0 at 2\nok 0 note 1000000\nno 16 notes\nok 1 scores k\n\
+        doc 1 voters 1 sum 2\n\
           ok 0 doc 2\nok 0 query q\nok 0 filter 0\nok 1 run 1 before 2\ndoc 1 first 1\n";
     assert_eq!(rt; status, 1);
     assert_eq!(rt; written.as_slice(), want.as_slice());
@@ -245,10 +249,12 @@ fn there_are_at_most_4000_queries(rt: HostRuntime) -> Result<(), Memory> {
         ..EMPTY
     };
     let script =
-        b"as v\nat 2\nquery a TRUE\nquery b TRUE\nas w\nquery a TRUE\nfilter\n.\nmail\n.\nnote 1 k 1\nas v\nrun a\n";
+        b"as v\nat 2\nquery a TRUE\nquery b TRUE\nas w\nquery a TRUE\nfilter\n.\nmail\n.\n\
+        note 1 k 1\nas v\nrun a\n";
     let (status, written) = answers_over(rt.alloc(), &counts, script.as_slice())?;
     let want =
-        b"ok 0 as v\nok 0 at 2\nok 0 query a\nno 16 allqueries\nok 0 as w\nno 16 allqueries\nok 0 filter 0\n\
+        b"ok 0 as v\nok 0 at 2\nok 0 query a\nno 16 allqueries\nok 0 as w\nno 16 allqueries\n\
+        ok 0 filter 0\n\
           ok 0 doc 1\nok 0 note 1\nok 0 as v\nok 0 run 1 before 2\n";
     assert_eq!(rt; status, 1);
     assert_eq!(rt; written.as_slice(), want.as_slice());
@@ -268,8 +274,10 @@ fn there_are_at_most_1000_users(rt: HostRuntime) -> Result<(), Memory> {
           as u998\nfilter\n.\nquery a TRUE\nas w\nmail\n.\nnote 1 k 1\n";
     let (status, written) = answers_over(rt.alloc(), &counts, script.as_slice())?;
     let want =
-        b"ok 0 as v\nok 0 at 2\nok 0 query a\nok 0 as w\nno 16 users\nno 16 users\nok 0 as v\nok 0 filter 0\n\
-          ok 0 query b\nok 0 as u998\nok 0 filter 0\nok 0 query a\nok 0 as w\nok 0 doc 1\nok 0 note 1\n";
+        b"ok 0 as v\nok 0 at 2\nok 0 query a\nok 0 as w\nno 16 users\nno 16 users\nok 0 as v\n\
+        ok 0 filter 0\n\
+          ok 0 query b\nok 0 as u998\nok 0 filter 0\nok 0 query a\nok 0 as w\nok 0 doc 1\n\
+          ok 0 note 1\n";
     assert_eq!(rt; status, 1);
     assert_eq!(rt; written.as_slice(), want.as_slice());
     drop(written);
@@ -284,10 +292,12 @@ fn there_are_at_most_10000_filters(rt: HostRuntime) -> Result<(), Memory> {
     };
     // at the limit no fault of the text is looked for
     let script =
-        b"as u0\nat 2\nfilter\nWHEN\n.\nfilter\n.\nfilter\n.\nfilter\nWHEN\n.\nas v\nfilter\n.\nquery a TRUE\nmail\n.\nnote 1 k 1\nrun a\n";
+        b"as u0\nat 2\nfilter\nWHEN\n.\nfilter\n.\nfilter\n.\nfilter\nWHEN\n.\nas v\nfilter\n.\n\
+        query a TRUE\nmail\n.\nnote 1 k 1\nrun a\n";
     let (status, written) = answers_over(rt.alloc(), &counts, script.as_slice())?;
     let want =
-        b"ok 0 as u0\nok 0 at 2\nno 17 1 4\nok 0 filter 0\nno 16 filters\nno 16 filters\nok 0 as v\nno 16 filters\nok 0 query a\n\
+        b"ok 0 as u0\nok 0 at 2\nno 17 1 4\nok 0 filter 0\nno 16 filters\nno 16 filters\n\
+        ok 0 as v\nno 16 filters\nok 0 query a\n\
           ok 0 doc 1\nok 0 note 1\nok 0 run 1 before 2\n";
     assert_eq!(rt; status, 1);
     assert_eq!(rt; written.as_slice(), want.as_slice());
@@ -303,11 +313,13 @@ fn there_are_at_most_1000000_runs(rt: HostRuntime) -> Result<(), Memory> {
         ..EMPTY
     };
     let script =
-        b"as u0\nat 2\nrun q0\nrun q0\nrun q1\nbox q0\nwake q0\nmail\n.\nnote 1 k 1\nfilter\n.\nas v\nquery a TRUE\nrun a\n";
+        b"as u0\nat 2\nrun q0\nrun q0\nrun q1\nbox q0\nwake q0\nmail\n.\nnote 1 k 1\nfilter\n.\n\
+        as v\nquery a TRUE\nrun a\n";
     let (status, written) = answers_over(rt.alloc(), &counts, script.as_slice())?;
     let want =
         b"ok 0 as u0\nok 0 at 2\nok 0 run 502 before 2\nno 16 runs\nno 16 runs\nok 0 box q0\n\
-          ok 0 wake q0 never\nok 0 doc 1\nok 0 note 1\nok 0 filter 0\nok 0 as v\nok 0 query a\nno 16 runs\n";
+          ok 0 wake q0 never\nok 0 doc 1\nok 0 note 1\nok 0 filter 0\nok 0 as v\nok 0 query a\n\
+          no 16 runs\n";
     assert_eq!(rt; status, 1);
     assert_eq!(rt; written.as_slice(), want.as_slice());
     drop(written);
@@ -326,12 +338,16 @@ fn there_are_at_most_4000000_deliveries(rt: HostRuntime) -> Result<(), Memory> {
     // a run that would deliver two is refused as a whole; one that delivers nothing is accepted
     let script =
         b"as u0\nat 2\nrun q0\nmail\n.\nmail\n.\nat 3\nrun q0\nas v\nquery a m.id = 2003\nrun a\n\
-          query c m.id = 2002\nrun c\nrun a\nwake a\nas u0\nrun q1\nas v\nmail\n.\nnote 1 k 1\nquery b FALSE\nrun b\nfilter\n.\n";
+          query c m.id = 2002\nrun c\nrun a\nwake a\nas u0\nrun q1\nas v\nmail\n.\nnote 1 k 1\n\
+          query b FALSE\nrun b\nfilter\n.\n";
     let (status, written) = answers_over(rt.alloc(), &counts, script.as_slice())?;
     let want =
-        b"ok 0 as u0\nok 0 at 2\nok 0 run 2 before 2\nok 0 doc 2002\nok 0 doc 2003\nok 0 at 3\nno 16 picks\n\
-          ok 0 as v\nok 0 query a\nok 1 run 1 before 3\ndoc 2003 first 2\nok 0 query c\nno 16 picks\n\
-          ok 0 run 2 before 3\nok 0 wake a never\nok 0 as u0\nno 16 picks\nok 0 as v\nok 0 doc 2004\nok 0 note 1\nok 0 query b\n\
+        b"ok 0 as u0\nok 0 at 2\nok 0 run 2 before 2\nok 0 doc 2002\nok 0 doc 2003\nok 0 at 3\n\
+        no 16 picks\n\
+          ok 0 as v\nok 0 query a\nok 1 run 1 before 3\ndoc 2003 first 2\nok 0 query c\n\
+          no 16 picks\n\
+          ok 0 run 2 before 3\nok 0 wake a never\nok 0 as u0\nno 16 picks\nok 0 as v\n\
+          ok 0 doc 2004\nok 0 note 1\nok 0 query b\n\
           ok 0 run 1 before 3\nok 0 filter 0\n";
     assert_eq!(rt; status, 1);
     assert_eq!(rt; written.as_slice(), want.as_slice());
@@ -348,17 +364,21 @@ fn there_are_at_most_134217728_bytes_of_texts(rt: HostRuntime) -> Result<(), Mem
         note_bytes: 4064,
         ..EMPTY
     };
-    // each kind of text counts, a query's as `FROM NOW FALSE`; at the limit a text without bytes is accepted
+    // each kind of text counts, a query's as `FROM NOW FALSE`; at the limit a text without bytes is
+    // accepted
     let script =
-        b"as ann\nat 2\nquery q from   now   FALSE\nfilter\n#\n.\nmail\n\n.\nmbox\nFrom a\nabcdefghi\n.\n\
+        b"as ann\nat 2\nquery q from   now   FALSE\nfilter\n#\n.\nmail\n\n.\nmbox\nFrom a\n\
+        abcdefghi\n.\n\
           note 1 k 1 01234567890123456789012345678901234567\n\
           note 1 k 1 0123456789012345678901234567890123456\n\
           note 1 k 1 x\nquery r TRUE\nfilter\n#\n.\nmail\n\n.\nmbox\nFrom a\nx\n.\n\
           note 1 k 1\nfilter\n.\nmail\n.\nmbox\nFrom a\n.\nrun q\n";
     let (status, written) = answers_over(rt.alloc(), &counts, script.as_slice())?;
     let want =
-        b"ok 0 as ann\nok 0 at 2\nok 0 query q\nok 0 filter 0\nok 0 doc 2\nok 0 docs 1 3\nno 16 store\n\
-          ok 0 note 33027\nno 16 store\nno 16 store\nno 16 store\nno 16 store\nno 16 store\nok 0 note 33028\nok 0 filter 0\n\
+        b"ok 0 as ann\nok 0 at 2\nok 0 query q\nok 0 filter 0\nok 0 doc 2\nok 0 docs 1 3\n\
+        no 16 store\n\
+          ok 0 note 33027\nno 16 store\nno 16 store\nno 16 store\nno 16 store\nno 16 store\n\
+          ok 0 note 33028\nok 0 filter 0\n\
           ok 0 doc 4\nok 0 docs 1 5\nok 0 run 1 before 2\n";
     assert_eq!(rt; status, 1);
     assert_eq!(rt; written.as_slice(), want.as_slice());

@@ -42,8 +42,9 @@ fn push_first(
     firsts.push_slice(b"\n")
 }
 
-// What replies say of first seconds: the lines of the documents that the run gave, and lines of the same form for the first
-// second at which each was given when asked for, with the documents that were given so far.
+// What replies say of first seconds: the lines of the documents that the run gave, and lines of the
+// same form for the first second at which each was given when asked for, with the documents that
+// were given so far.
 #[derive(Drop)]
 struct Firsts {
     ran: Text,
@@ -99,7 +100,8 @@ pub fn are_firsts(alloc: Global, written: &str, want: &[u8]) -> Result<(bool, bo
     }
 }
 
-// Runs a query of this condition, and asks for it at each of some seconds; returns what was written.
+// Runs a query of this condition, and asks for it at each of some seconds; returns what was
+// written.
 fn written_for(
     alloc: Global,
     head: &[u8],
@@ -139,7 +141,8 @@ fn a_run_finds_the_first_seconds_that_asking_finds(rt: HostRuntime) -> Result<()
     let rows: [(&[u8], &[u8], u32, u32, &[u8]); 5] = [
         // a word
         (
-            b"as ann\nat 100\nmail\nSubject: hi\n\n.\nat 103\nmail\nSubject: yo\n\n.\nat 105\nmail\nSubject: hi\n\n.\nat 120\n",
+            b"as ann\nat 100\nmail\nSubject: hi\n\n.\nat 103\nmail\nSubject: yo\n\n.\nat 105\n\
+            mail\nSubject: hi\n\n.\nat 120\n",
             b"m.words HAS 'hi'",
             98,
             120,
@@ -147,7 +150,8 @@ fn a_run_finds_the_first_seconds_that_asking_finds(rt: HostRuntime) -> Result<()
         ),
         // no answer within ten days
         (
-            b"as ann\nat 100\nmail\nMessage-ID: <a@x>\n\n.\nat 105\nmail\nMessage-ID: <b@x>\nIn-Reply-To: <a@x>\n\n.\n\
+            b"as ann\nat 100\nmail\nMessage-ID: <a@x>\n\n.\nat 105\nmail\nMessage-ID: <b@x>\n\
+            In-Reply-To: <a@x>\n\n.\n\
               at 110\nmail\nMessage-ID: <c@x>\n\n.\nat 900000\n",
             b"now > m.ts + 10 DAYS AND NOT EXISTS (r: DOC WHERE r.inreplyto = m.msgid)",
             864095,
@@ -156,7 +160,8 @@ fn a_run_finds_the_first_seconds_that_asking_finds(rt: HostRuntime) -> Result<()
         ),
         // a note of some age
         (
-            b"as ann\nat 100\nmail\nSubject: hi\n\n.\nmail\nSubject: yo\n\n.\nat 102\nnote 2 score 9 x\nat 104\nnote 1 score 1 x\nnote 1 score 7 x\nat 120\n",
+            b"as ann\nat 100\nmail\nSubject: hi\n\n.\nmail\nSubject: yo\n\n.\nat 102\n\
+            note 2 score 9 x\nat 104\nnote 1 score 1 x\nnote 1 score 7 x\nat 120\n",
             b"EXISTS (a: NOTE WHERE a.doc = m.id AND a.value > 4 AND now >= a.ts + 3 SECONDS)",
             98,
             120,
@@ -164,7 +169,8 @@ fn a_run_finds_the_first_seconds_that_asking_finds(rt: HostRuntime) -> Result<()
         ),
         // a date that isn't there
         (
-            b"as ann\nat 100\nmail\nDate: Thu, 1 Jan 1970 00:01:50 +0000\n\n.\nmail\nSubject: hi\n\n.\nat 120\n",
+            b"as ann\nat 100\nmail\nDate: Thu, 1 Jan 1970 00:01:50 +0000\n\n.\nmail\n\
+            Subject: hi\n\n.\nat 120\n",
             b"NOT (now < m.date)",
             98,
             120,
@@ -172,7 +178,8 @@ fn a_run_finds_the_first_seconds_that_asking_finds(rt: HostRuntime) -> Result<()
         ),
         // the day after
         (
-            b"as ann\nat 86390\nmail\nSubject: hi\n\n.\nat 86400\nmail\nSubject: hi\n\n.\nat 86420\n",
+            b"as ann\nat 86390\nmail\nSubject: hi\n\n.\nat 86400\nmail\nSubject: hi\n\n.\n\
+            at 86420\n",
             b"today > m.ts",
             86388,
             86420,
@@ -187,7 +194,8 @@ fn a_run_finds_the_first_seconds_that_asking_finds(rt: HostRuntime) -> Result<()
     Ok(())
 }
 
-// Twelve documents of one subject and one sender, two a second: their posting lists are long enough to be walked in part.
+// Twelve documents of one subject and one sender, two a second: their posting lists are long enough
+// to be walked in part.
 const TWELVE: &[u8] =
     b"as ann\nat 100\nmail\nSubject: one\nFrom: a@x\n\n.\nmail\nSubject: one\nFrom: a@x\n\n.\n\
       at 101\nmail\nSubject: one\nFrom: a@x\n\n.\nmail\nSubject: one\nFrom: a@x\n\n.\n\
@@ -203,14 +211,18 @@ fn long_posting_lists_give_what_asking_gives(rt: HostRuntime) -> Result<(), Memo
         // a later one of its subject
         (
             b"EXISTS (r: DOC WHERE r.subject = m.subject AND r.id > m.id)",
-            b"doc 1 first 100\ndoc 2 first 101\ndoc 3 first 101\ndoc 4 first 102\ndoc 5 first 102\ndoc 6 first 103\n\
-              doc 7 first 103\ndoc 8 first 104\ndoc 9 first 104\ndoc 10 first 105\ndoc 11 first 105\n",
+            b"doc 1 first 100\ndoc 2 first 101\ndoc 3 first 101\ndoc 4 first 102\n\
+            doc 5 first 102\ndoc 6 first 103\n\
+              doc 7 first 103\ndoc 8 first 104\ndoc 9 first 104\ndoc 10 first 105\n\
+              doc 11 first 105\n",
         ),
         // an earlier one of its subject
         (
             b"EXISTS (r: DOC WHERE r.subject = m.subject AND m.id > r.id)",
-            b"doc 2 first 100\ndoc 3 first 101\ndoc 4 first 101\ndoc 5 first 102\ndoc 6 first 102\ndoc 7 first 103\n\
-              doc 8 first 103\ndoc 9 first 104\ndoc 10 first 104\ndoc 11 first 105\ndoc 12 first 105\n",
+            b"doc 2 first 100\ndoc 3 first 101\ndoc 4 first 101\ndoc 5 first 102\n\
+            doc 6 first 102\ndoc 7 first 103\n\
+              doc 8 first 103\ndoc 9 first 104\ndoc 10 first 104\ndoc 11 first 105\n\
+              doc 12 first 105\n",
         ),
         // one of its sender, more than a second later
         (
@@ -221,11 +233,13 @@ fn long_posting_lists_give_what_asking_gives(rt: HostRuntime) -> Result<(), Memo
         // the last of its subject, at some second
         (
             b"NOT EXISTS (r: DOC WHERE r.subject = m.subject AND r.id > m.id)",
-            b"doc 2 first 100\ndoc 4 first 101\ndoc 6 first 102\ndoc 8 first 103\ndoc 10 first 104\ndoc 12 first 105\n",
+            b"doc 2 first 100\ndoc 4 first 101\ndoc 6 first 102\ndoc 8 first 103\n\
+            doc 10 first 104\ndoc 12 first 105\n",
         ),
         // none of its sender in the two seconds before
         (
-            b"NOT EXISTS (r: DOC WHERE r.from = m.from AND r.ts >= m.ts - 2 SECONDS AND r.id < m.id)",
+            b"NOT EXISTS (r: DOC WHERE r.from = m.from AND r.ts >= m.ts - 2 SECONDS AND r.id < \
+            m.id)",
             b"doc 1 first 100\n",
         ),
     ];

@@ -79,7 +79,8 @@ fn a_message_has_at_most_1048576_bytes(rt: HostRuntime) -> Result<(), Memory> {
     ];
     let (status, written) = answers_to(rt.alloc(), &parts)?;
     let want =
-        b"ok 0 at 1\nok 0 doc 1\nno 16 message\nok 0 doc 2\nno 16 message\nok 0 docs 1 3\nno 16 message\nok 0 at 2\n\
+        b"ok 0 at 1\nok 0 doc 1\nno 16 message\nok 0 doc 2\nno 16 message\nok 0 docs 1 3\n\
+        no 16 message\nok 0 at 2\n\
           ok 3 ask 1\ndoc 1\ndoc 2\ndoc 3\nok 3 ask 1\ndoc 1\ndoc 2\ndoc 3\n";
     assert_eq!(rt; status, 1);
     assert_eq!(rt; written.as_slice(), want.as_slice());
@@ -87,7 +88,8 @@ fn a_message_has_at_most_1048576_bytes(rt: HostRuntime) -> Result<(), Memory> {
     Ok(())
 }
 
-// Appends a mailbox file: 15 lines of 1,048,576 bytes, one of that many blanks, and a last one that begins a message.
+// Appends a mailbox file: 15 lines of 1,048,576 bytes, one of that many blanks, and a last one that
+// begins a message.
 fn push_mbox(alloc: Global, script: &mut Text, blanks: usize) -> Result<(), Memory> {
     script.push_slice(b"mbox\n")?;
     for _ in 0..15 {
@@ -152,7 +154,8 @@ fn a_filter_has_at_most_65536_bytes_and_4096_a_rule(rt: HostRuntime) -> Result<(
     ];
     let (status, written) = answers_to(rt.alloc(), &parts)?;
     let want =
-        b"ok 0 as ann\nok 0 at 1\nok 0 filter 1\nno 16 block\nno 16 block\nok 0 filter 1\nno 17 2 4096\n";
+        b"ok 0 as ann\nok 0 at 1\nok 0 filter 1\nno 16 block\nno 16 block\nok 0 filter 1\n\
+        no 17 2 4096\n";
     assert_eq!(rt; status, 1);
     assert_eq!(rt; written.as_slice(), want.as_slice());
     drop(written);
@@ -202,9 +205,11 @@ fn a_name_has_at_most_32_letters(rt: HostRuntime) -> Result<(), Memory> {
     ];
     let (status, written) = answers_to(rt.alloc(), &parts)?;
     let want =
-        b"no 8\nok 0 as uuuuuuuuuuuuuuuuuuuuuuuuuuuuuuuu\nok 0 at 1\nok 0 doc 1\nno 8\nok 0 note 1\n\
+        b"no 8\nok 0 as uuuuuuuuuuuuuuuuuuuuuuuuuuuuuuuu\nok 0 at 1\nok 0 doc 1\nno 8\n\
+        ok 0 note 1\n\
           no 8\nok 0 query qqqqqqqqqqqqqqqqqqqqqqqqqqqqqqqq\nno 17 1 27\nok 0 filter 1\n\
-          no 8\nok 0 wake qqqqqqqqqqqqqqqqqqqqqqqqqqqqqqqq 2\nno 8\nok 0 at 2\nok 1 run 1 before 2\ndoc 1 first 1\n\
+          no 8\nok 0 wake qqqqqqqqqqqqqqqqqqqqqqqqqqqqqqqq 2\nno 8\nok 0 at 2\n\
+          ok 1 run 1 before 2\ndoc 1 first 1\n\
           no 8\nok 1 box qqqqqqqqqqqqqqqqqqqqqqqqqqqqqqqq\ndoc 1 first 1 run 1\n\
           no 8\nok 1 list qqqqqqqqqqqqqqqqqqqqqqqqqqqqqqqq\n\
           doc 1 first 1 run 1 priority 1 class cccccccccccccccccccccccccccccccc\n\
@@ -222,12 +227,15 @@ fn a_name_has_at_most_32_letters(rt: HostRuntime) -> Result<(), Memory> {
 fn the_last_moment_is_250000000000(rt: HostRuntime) -> Result<(), Memory> {
     let script =
         b"at 250000000001\nat 9892-03-08T12:26:41Z\nat 0250000000000\nask 250000000001 TRUE\n\
-          at 250000000000\nat 9892-03-08T12:26:40Z\nat 250000000001\nat 249999999999\nas ann\nmail\n.\nquery q TRUE\n\
+          at 250000000000\nat 9892-03-08T12:26:40Z\nat 250000000001\nat 249999999999\nas ann\n\
+          mail\n.\nquery q TRUE\n\
           run q\nwake q\nask 249999999999 TRUE\nask 250000000000 TRUE\nask 250000000001 TRUE\n";
     let (status, written) = answers(rt.alloc(), script.as_slice(), 64)?;
     let want =
-        b"no 4\nno 4\nno 4\nno 4\nok 0 at 250000000000\nok 0 at 250000000000\nno 4\nno 5 250000000000\n\
-          ok 0 as ann\nok 0 doc 1\nok 0 query q\nok 0 run 1 before 250000000000\nok 0 wake q never\n\
+        b"no 4\nno 4\nno 4\nno 4\nok 0 at 250000000000\nok 0 at 250000000000\nno 4\n\
+        no 5 250000000000\n\
+          ok 0 as ann\nok 0 doc 1\nok 0 query q\nok 0 run 1 before 250000000000\n\
+          ok 0 wake q never\n\
           ok 0 ask 249999999999\nno 15 250000000000\nno 4\n";
     assert_eq!(rt; status, 1);
     assert_eq!(rt; written.as_slice(), want.as_slice());
@@ -235,7 +243,8 @@ fn the_last_moment_is_250000000000(rt: HostRuntime) -> Result<(), Memory> {
     Ok(())
 }
 
-// Appends a script of 268,435,456 bytes: lines of 1,048,576 bytes without a command, and a command at its end.
+// Appends a script of 268,435,456 bytes: lines of 1,048,576 bytes without a command, and a command
+// at its end.
 fn push_script(alloc: Global, script: &mut Text) -> Result<(), Memory> {
     for _ in 0..255 {
         push_part(alloc, script, b"# ", b'x', 1048573, b"\n")?;

@@ -4,7 +4,8 @@ use session_runs::{answers_within, push_line, push_number};
 use std::alloc::Global;
 use tap_base::{Memory, Text};
 
-// How many messages and how many runs: so many that a run that reads all rows would not end in time.
+// How many messages and how many runs: so many that a run that reads all rows would not end in
+// time.
 const COUNT: u32 = 100000;
 
 // Appends a moment and a run.

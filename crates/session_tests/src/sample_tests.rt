@@ -9,7 +9,8 @@ use std::alloc::Global;
 use tap_base::{Memory, Text, Texts};
 use tap_rows::Tables;
 
-// Runs with words over an empty store, with a script of one command: the status, and what was written.
+// Runs with words over an empty store, with a script of one command: the status, and what was
+// written.
 fn ended_by(alloc: Global, words: &Texts) -> Result<(u8, Text), Memory>
     requires { All IsUtf8 words.now }
 {

@@ -5,8 +5,8 @@ use session_runs::{answers_within, push_number};
 use std::alloc::Global;
 use tap_base::{Memory, Text};
 
-// The seconds at which the conditions are asked begin here and end before the moment of the last run. A midnight lies
-// between.
+// The seconds at which the conditions are asked begin here and end before the moment of the last
+// run. A midnight lies between.
 const FROM: u32 = 259148;
 
 const LAST: u32 = 259240;
@@ -20,26 +20,31 @@ fn push_turn(script: &mut Text, moment: u32, rows: &[u8]) -> Result<(), Memory> 
     script.push_slice(b"run q\n")
 }
 
-// Appends nine documents and five notes, with a run after each second: among the documents a thread, a reference that is
-// named twice, one that comes before its document, one that never comes, and two documents of one message id.
+// Appends nine documents and five notes, with a run after each second: among the documents a
+// thread, a reference that is named twice, one that comes before its document, one that never
+// comes, and two documents of one message id.
 fn push_turns(script: &mut Text) -> Result<(), Memory> {
     let turns: [(u32, &[u8]); 16] = [
         (
             259150,
-            b"mail\nFrom: sender3@x\nMessage-ID: <1@x>\nSubject: one\nDate: Thu, 01 Jan 1970 00:00:10 +0000\n\nlunch word1\n.\n",
+            b"mail\nFrom: sender3@x\nMessage-ID: <1@x>\nSubject: one\n\
+            Date: Thu, 01 Jan 1970 00:00:10 +0000\n\nlunch word1\n.\n",
         ),
         (
             259152,
-            b"mail\nMessage-ID: <2@x>\nIn-Reply-To: <1@x>\nReferences: <1@x>\nSubject: two\n\nrare7\n.\n",
+            b"mail\nMessage-ID: <2@x>\nIn-Reply-To: <1@x>\nReferences: <1@x>\nSubject: two\n\n\
+            rare7\n.\n",
         ),
         (
             259155,
-            b"mail\nMessage-ID: <3@x>\nIn-Reply-To: <2@x>\nReferences: <2@x> <1@x> <2@x>\nSubject: one\n\nlunch word2\n.\nmail\n\n.\n",
+            b"mail\nMessage-ID: <3@x>\nIn-Reply-To: <2@x>\nReferences: <2@x> <1@x> <2@x>\n\
+            Subject: one\n\nlunch word2\n.\nmail\n\n.\n",
         ),
         (259158, b"note 2 score 3 fine\n"),
         (
             259160,
-            b"mail\nFrom: sender3@x\nMessage-ID: <5@x>\nSubject: two\nDate: Thu, 01 Jan 1970 00:00:00 +0000\n\nword3\n.\n",
+            b"mail\nFrom: sender3@x\nMessage-ID: <5@x>\nSubject: two\n\
+            Date: Thu, 01 Jan 1970 00:00:00 +0000\n\nword3\n.\n",
         ),
         (259165, b"note 1 tag 1 fine\nnote 3 score 2 fine\n"),
         (
@@ -71,7 +76,8 @@ fn push_turns(script: &mut Text) -> Result<(), Memory> {
     Ok(())
 }
 
-// Appends a query of this condition, the documents, notes and runs, and the questions of each second.
+// Appends a query of this condition, the documents, notes and runs, and the questions of each
+// second.
 fn push_sample(script: &mut Text, condition: &[u8]) -> Result<(), Memory> {
     script.push_slice(b"as ann\nat 259140\nquery q ")?;
     script.push_slice(condition)?;
@@ -125,7 +131,8 @@ fn runs_of_each_shape_deliver_what_asking_gives(rt: HostRuntime) -> Result<(), M
         // no reply within ten seconds
         (
             b"NOW >= m.ts + 10 SECONDS AND NOT EXISTS (r: DOC WHERE r.inreplyto = m.msgid)",
-            b"doc 3 first 259165\ndoc 4 first 259165\ndoc 5 first 259170\ndoc 6 first 259180\ndoc 9 first 259213\n",
+            b"doc 3 first 259165\ndoc 4 first 259165\ndoc 5 first 259170\ndoc 6 first 259180\n\
+            doc 9 first 259213\n",
         ),
         // a reply
         (
@@ -140,7 +147,8 @@ fn runs_of_each_shape_deliver_what_asking_gives(rt: HostRuntime) -> Result<(), M
         // no note yet
         (
             b"NOT EXISTS (a: NOTE WHERE a.doc = m.id)",
-            b"doc 1 first 259150\ndoc 2 first 259152\ndoc 3 first 259155\ndoc 4 first 259155\ndoc 5 first 259160\n\
+            b"doc 1 first 259150\ndoc 2 first 259152\ndoc 3 first 259155\ndoc 4 first 259155\n\
+            doc 5 first 259160\n\
               doc 6 first 259170\ndoc 7 first 259180\ndoc 8 first 259190\ndoc 9 first 259203\n",
         ),
         // a reply that has a note
@@ -151,7 +159,8 @@ fn runs_of_each_shape_deliver_what_asking_gives(rt: HostRuntime) -> Result<(), M
         // the day after
         (
             b"TODAY > m.ts",
-            b"doc 1 first 259200\ndoc 2 first 259200\ndoc 3 first 259200\ndoc 4 first 259200\ndoc 5 first 259200\n\
+            b"doc 1 first 259200\ndoc 2 first 259200\ndoc 3 first 259200\ndoc 4 first 259200\n\
+            doc 5 first 259200\n\
               doc 6 first 259200\ndoc 7 first 259200\ndoc 8 first 259200\n",
         ),
         // three days after the date
@@ -161,7 +170,8 @@ fn runs_of_each_shape_deliver_what_asking_gives(rt: HostRuntime) -> Result<(), M
         ),
         // one of four words
         (
-            b"m.words HAS 'word1' OR m.words HAS 'word2' OR m.words HAS 'word3' OR m.words HAS 'word4'",
+            b"m.words HAS 'word1' OR m.words HAS 'word2' OR m.words HAS 'word3' OR m.words HAS \
+            'word4'",
             b"doc 1 first 259150\ndoc 3 first 259155\ndoc 5 first 259160\ndoc 8 first 259190\n",
         ),
         // another of its subject
@@ -172,7 +182,8 @@ fn runs_of_each_shape_deliver_what_asking_gives(rt: HostRuntime) -> Result<(), M
         // a thread by references
         (
             b"EXISTS (r: DOC WHERE r.references HAS m.msgid)",
-            b"doc 1 first 259152\ndoc 2 first 259155\ndoc 7 first 259180\ndoc 8 first 259190\ndoc 5 first 259203\n",
+            b"doc 1 first 259152\ndoc 2 first 259155\ndoc 7 first 259180\ndoc 8 first 259190\n\
+            doc 5 first 259203\n",
         ),
         // a thread by either way
         (
@@ -201,17 +212,21 @@ fn runs_of_each_shape_deliver_what_asking_gives(rt: HostRuntime) -> Result<(), M
         // no reference that is there
         (
             b"NOT EXISTS (r: DOC WHERE m.references HAS r.msgid)",
-            b"doc 1 first 259150\ndoc 4 first 259155\ndoc 5 first 259160\ndoc 6 first 259170\ndoc 7 first 259180\ndoc 8 first 259190\n",
+            b"doc 1 first 259150\ndoc 4 first 259155\ndoc 5 first 259160\ndoc 6 first 259170\n\
+            doc 7 first 259180\ndoc 8 first 259190\n",
         ),
         // a document of its thread that has a note
         (
-            b"EXISTS (r: DOC WHERE r.references HAS m.msgid AND EXISTS (a: NOTE WHERE a.doc = r.id))",
-            b"doc 1 first 259158\ndoc 2 first 259165\ndoc 8 first 259190\ndoc 7 first 259195\ndoc 5 first 259215\n",
+            b"EXISTS (r: DOC WHERE r.references HAS m.msgid AND EXISTS (a: NOTE WHERE a.doc = \
+            r.id))",
+            b"doc 1 first 259158\ndoc 2 first 259165\ndoc 8 first 259190\ndoc 7 first 259195\n\
+            doc 5 first 259215\n",
         ),
         // a cross product
         (
             b"EXISTS (a: DOC WHERE EXISTS (b: DOC WHERE a.size = 1))",
-            b"doc 1 first 259155\ndoc 2 first 259155\ndoc 3 first 259155\ndoc 4 first 259155\ndoc 5 first 259160\n\
+            b"doc 1 first 259155\ndoc 2 first 259155\ndoc 3 first 259155\ndoc 4 first 259155\n\
+            doc 5 first 259160\n\
               doc 6 first 259170\ndoc 7 first 259180\ndoc 8 first 259190\ndoc 9 first 259203\n",
         ),
         // a cross product with marks that never come
@@ -222,7 +237,8 @@ fn runs_of_each_shape_deliver_what_asking_gives(rt: HostRuntime) -> Result<(), M
         // a cross product with marks
         (
             b"EXISTS (x: DOC WHERE EXISTS (g: DOC WHERE NOW = g.ts + 7 SECONDS) AND x.id > m.id)",
-            b"doc 1 first 259157\ndoc 2 first 259157\ndoc 3 first 259157\ndoc 4 first 259162\ndoc 5 first 259177\n\
+            b"doc 1 first 259157\ndoc 2 first 259157\ndoc 3 first 259157\ndoc 4 first 259162\n\
+            doc 5 first 259177\n\
               doc 6 first 259187\ndoc 7 first 259197\ndoc 8 first 259210\n",
         ),
     ];

@@ -19,8 +19,8 @@ const FROM: u32 = 101;
 
 const TO: u32 = 124;
 
-// Returns mails, each with its second: threads by parent and by references, a parent that comes late,
-// two mails of one message id, and two of one second.
+// Returns mails, each with its second: threads by parent and by references, a parent that comes
+// late, two mails of one message id, and two of one second.
 fn mails() -> [(u32, &'static [u8]); 9] {
     [
         (
@@ -306,19 +306,25 @@ fn count_threads(alloc: Global, docs: &[KeptDoc], notes: &[Note]) -> Result<u32,
         // a thread
         b"EXISTS (r: DOC WHERE r.inreplyto = m.msgid OR r.references HAS m.msgid)",
         // a silent thread
-        b"NOW >= m.ts + 3 SECONDS AND NOT EXISTS (r: DOC WHERE r.inreplyto = m.msgid OR r.references HAS m.msgid)",
+        b"NOW >= m.ts + 3 SECONDS AND NOT EXISTS (r: DOC WHERE r.inreplyto = m.msgid OR \
+        r.references HAS m.msgid)",
         // a thread, but not mine
-        b"m.from <> 'ann@x' AND EXISTS (r: DOC WHERE r.from = 'ann@x' AND (r.inreplyto = m.msgid OR r.references HAS m.msgid))",
+        b"m.from <> 'ann@x' AND EXISTS (r: DOC WHERE r.from = 'ann@x' AND (r.inreplyto = m.msgid \
+        OR r.references HAS m.msgid))",
         // an answer to an answer
-        b"EXISTS (r: DOC WHERE r.inreplyto = m.msgid AND EXISTS (s: DOC WHERE s.inreplyto = r.msgid))",
+        b"EXISTS (r: DOC WHERE r.inreplyto = m.msgid AND EXISTS (s: DOC WHERE s.inreplyto = \
+        r.msgid))",
         // the same by either way
-        b"EXISTS (r: DOC WHERE (r.inreplyto = m.msgid OR r.references HAS m.msgid) AND EXISTS (s: DOC WHERE s.inreplyto = r.msgid OR s.references HAS r.msgid))",
+        b"EXISTS (r: DOC WHERE (r.inreplyto = m.msgid OR r.references HAS m.msgid) AND EXISTS (s: \
+        DOC WHERE s.inreplyto = r.msgid OR s.references HAS r.msgid))",
         // a part that doesn't name the variable
-        b"EXISTS (r: DOC WHERE r.inreplyto = m.msgid AND m.from = 'ann@x' AND EXISTS (a: NOTE WHERE a.doc = m.id))",
+        b"EXISTS (r: DOC WHERE r.inreplyto = m.msgid AND m.from = 'ann@x' AND EXISTS (a: NOTE \
+        WHERE a.doc = m.id))",
         // an alternative that doesn't name it
         b"EXISTS (r: DOC WHERE r.inreplyto = m.msgid OR m.words HAS 'lunch')",
         // a mark in an alternative
-        b"EXISTS (r: DOC WHERE r.inreplyto = m.msgid AND NOW >= r.ts + 2 SECONDS OR r.references HAS m.msgid AND NOW < r.ts + 5 SECONDS)",
+        b"EXISTS (r: DOC WHERE r.inreplyto = m.msgid AND NOW >= r.ts + 2 SECONDS OR r.references \
+        HAS m.msgid AND NOW < r.ts + 5 SECONDS)",
     ];
     count_same(alloc, docs, notes, &rows)
 }

@@ -1,5 +1,6 @@
 //! Asks a condition at a second from scratch.
-ghost use Rattle.std.specs.Prelude.{◌≡◌, ◌+◌, ◌≤◌, Some, length, map, int_le, ◌++◌, ◌∷◌, [], IfOk, OnOk};
+ghost use Rattle.std.specs.Prelude.{◌≡◌, ◌+◌, ◌≤◌, Some, length, map, int_le, ◌++◌, ◌∷◌, [], IfOk};
+ghost use Rattle.std.specs.Prelude.{OnOk};
 ghost use Rattle.tap_base.specs.declared.numbers.Op.TheVariants.{Le, Gt};
 ghost use Rattle.tap_rows.specs.Results.{snapshot, is_given};
 ghost use Rattle.tql_core.specs.Condition.{condition};
@@ -47,8 +48,8 @@ fn has_note_come(note: &Note, s: i64) -> bool
     note.arrival <= s
 }
 
-/// Returns whether the condition holds at a second, over the rows that arrived by then. There must be room for its EXISTS
-/// variables in the environment, which has 16 places. It takes no memory.
+/// Returns whether the condition holds at a second, over the rows that arrived by then. There must
+/// be room for its EXISTS variables in the environment, which has 16 places. It takes no memory.
 pub fn holds_at<'a>(
     cond: &'a Cond,
     env: &Env<'a>,
@@ -93,8 +94,8 @@ pub fn holds_at<'a>(
     }
 }
 
-/// Returns whether the document is given at this second: it arrived by then, and the condition holds of it over the rows
-/// that arrived by then. It takes no memory.
+/// Returns whether the document is given at this second: it arrived by then, and the condition
+/// holds of it over the rows that arrived by then. It takes no memory.
 pub fn is_doc_given<'a>(
     cond: &'a Cond,
     doc: &'a KeptDoc,
@@ -103,7 +104,8 @@ pub fn is_doc_given<'a>(
     s: i64,
 ) -> bool
     requires { FitsEnv (condition cond.now) }
-    ensures { result ≡ is_given (truth_of (condition cond.now)) (seen docs.now notes.now) doc.now s }
+    ensures { result
+        ≡ is_given (truth_of (condition cond.now)) (seen docs.now notes.now) doc.now s }
 {
     if !has_doc_come(doc, s) {
         return false;
@@ -122,7 +124,8 @@ fn add_given<'a>(
     nums: &mut Rows<DocNum>,
 ) -> Result<(), Memory>
     requires { FitsEnv (condition cond.now) }
-    ensures { OnOk result (nums.new ≡ nums.old ++ given_nums (condition cond.now) (seen docs.now notes.now) s (doc.now ∷ [])) }
+    ensures { OnOk result (nums.new ≡ nums.old
+          ++ given_nums (condition cond.now) (seen docs.now notes.now) s (doc.now ∷ [])) }
 {
     if is_doc_given(cond, doc, docs, notes, s) {
         nums.push(doc.doc().num)?;
@@ -130,8 +133,9 @@ fn add_given<'a>(
     Ok(())
 }
 
-/// Returns the numbers of the documents that the condition gives at a second, in their order: each arrived by then, and
-/// the condition holds of it over the rows that arrived by then. `Memory` if out of memory.
+/// Returns the numbers of the documents that the condition gives at a second, in their order: each
+/// arrived by then, and the condition holds of it over the rows that arrived by then. `Memory` if
+/// out of memory.
 pub fn gives<'a>(
     alloc: Global,
     cond: &'a Cond,
@@ -140,7 +144,8 @@ pub fn gives<'a>(
     s: i64,
 ) -> Result<Rows<DocNum>, Memory>
     requires { FitsEnv (condition cond.now) }
-    ensures { IfOk result (λ nums. nums ≡ map (λ doc. doc.num) (snapshot (truth_of (condition cond.now)) (seen docs.now notes.now) s)) }
+    ensures { IfOk result (λ nums. nums ≡ map (λ doc. doc.num)
+        (snapshot (truth_of (condition cond.now)) (seen docs.now notes.now) s)) }
 {
     let mut nums = Rows::new(alloc);
     for doc in docs {

@@ -75,7 +75,8 @@ fn with_line_end(alloc: Global, before: &[&[u8]], part: &[u8]) -> Result<Text, M
     want
 }
 
-// Returns what the first commands, and then the first bytes of the next, should write: a message that ends inside gets
+// Returns what the first commands, and then the first bytes of the next, should write: a message
+// that ends inside gets
 // `no 3`, and any other last line is read as if it had its LF.
 fn wanted(
     alloc: Global,
@@ -103,7 +104,8 @@ fn cut_writes(alloc: Global, before: &[&[u8]], part: &[u8], want: &Text) -> Resu
     is_right
 }
 
-// Returns whether the first commands, and then the first bytes of the next, are answered as they should be.
+// Returns whether the first commands, and then the first bytes of the next, are answered as they
+// should be.
 fn is_cut_well(
     alloc: Global,
     prefixes: &Prefixes,

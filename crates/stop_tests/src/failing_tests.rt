@@ -1,4 +1,5 @@
-//! Each call of the source, the sink and the keeper fails once: which commands are then done, and what is left.
+//! Each call of the source, the sink and the keeper fails once: which commands are then done, and
+//! what is left.
 
 use crate::prefixes::Prefixes;
 use crate::scripts::{FIRST, SECOND, TWO_USERS, adds_rows, complete_in, text_of};
@@ -81,7 +82,8 @@ fn failure_at(calls: Calls, call: u64) -> Failure {
     }
 }
 
-// Returns how many commands stand before the one that makes this call of the keeper. The first call attaches.
+// Returns how many commands stand before the one that makes this call of the keeper. The first call
+// attaches.
 fn before_commit(commands: &[&[u8]], call: u64) -> usize {
     let mut commits = 0u64;
     for (n, command) in commands.iter().enumerate() {
@@ -96,15 +98,15 @@ fn before_commit(commands: &[&[u8]], call: u64) -> usize {
 }
 
 impl Case {
-    // Returns whether a run wrote the replies of the first `n` commands, its keeper tells their tables, and a crash leaves those
-    // of the first `then`.
+    // Returns whether a run wrote the replies of the first `n` commands, its keeper tells their
+    // tables, and a crash leaves those of the first `then`.
     fn is_after(&self, left: &Left, n: usize, then: usize) -> bool {
         self.prefixes.is_after(n, then, &left.written, &left.probe)
             && self.prefixes.shows(n, &left.told)
     }
 
-    // Returns whether a run wrote the replies of the first `n` commands and this many bytes of the next, and its keeper tells the
-    // tables of all these, which a crash leaves.
+    // Returns whether a run wrote the replies of the first `n` commands and this many bytes of the
+    // next, and its keeper tells the tables of all these, which a crash leaves.
     fn is_cut(&self, left: &Left, n: usize, out: usize) -> bool {
         let done = n.saturating_add(1);
         self.prefixes.is_cut(n, out, &left.written)
@@ -112,9 +114,10 @@ impl Case {
             && self.prefixes.shows(done, &left.probe)
     }
 
-    // Returns whether a run is right that one of these calls stopped. A read: the commands that are complete in the bytes of the
-    // reads before are done. A put, of which there is one a command: that command is done too. A call of the keeper: the
-    // commands before the one that made it are done, and a crash leaves its rows too if they were stored.
+    // Returns whether a run is right that one of these calls stopped. A read: the commands that are
+    // complete in the bytes of the reads before are done. A put, of which there is one a command:
+    // that command is done too. A call of the keeper: the commands before the one that made it are
+    // done, and a crash leaves its rows too if they were stored.
     fn is_right(&self, commands: &[&[u8]], left: &Left, calls: Calls, call: u64) -> bool {
         match calls {
             Calls::Reads => {
@@ -130,7 +133,8 @@ impl Case {
         }
     }
 
-    // Runs in pieces of seven bytes, where the call of this number fails; returns how the run ended.
+    // Runs in pieces of seven bytes, where the call of this number fails; returns how the run
+    // ended.
     fn ended(
         &self,
         alloc: Global,
@@ -151,7 +155,8 @@ impl Case {
         Ok(ended)
     }
 
-    // Returns the number of calls that failed, each rightly, until a run ended without a failure; 0 if something is wrong.
+    // Returns the number of calls that failed, each rightly, until a run ended without a failure; 0
+    // if something is wrong.
     fn right_ends(&self, alloc: Global, commands: &[&[u8]], calls: Calls) -> Result<u64, Memory> {
         for call in 0..100u64 {
             let got = self.ended(alloc, commands, calls, call)?;

@@ -9,7 +9,8 @@ use tap_base::{Memory, Text};
 use tap_edges::PutPlan;
 use tap_rows::Tables;
 
-// Runs a session over a keeper, with puts that fail as planned; returns its status and what was written.
+// Runs a session over a keeper, with puts that fail as planned; returns its status and what was
+// written.
 fn cut_session(
     alloc: Global,
     keeper: &mut MemKeeper,
@@ -30,12 +31,13 @@ fn session(alloc: Global, keeper: &mut MemKeeper, script: &[u8]) -> Result<(u8, 
 }
 
 const FIRST: &[u8] =
-    b"as ann\nat 100\nquery q m.words HAS 'hi'\nmail\nSubject: hi\n\n.\nat 101\nrun q\nat 110\nmail\nSubject: hi\n\n.\nat 111\nrun q\n";
+    b"as ann\nat 100\nquery q m.words HAS 'hi'\nmail\nSubject: hi\n\n.\nat 101\nrun q\nat 110\n\
+    mail\nSubject: hi\n\n.\nat 111\nrun q\n";
 
 const SECOND: &[u8] = b"as ann\nat 111\nat 120\nmail\nSubject: hi\n\n.\nat 121\nrun q\nbox q\n";
 
-// Runs a second session over what the first left in a store of this version: its status and what it wrote, and the version
-// then.
+// Runs a second session over what the first left in a store of this version: its status and what it
+// wrote, and the version then.
 fn second(alloc: Global, version: i64) -> Result<((u8, Text), i64), Memory> {
     let first = tables_after(alloc, FIRST)?;
     let mut keeper = MemKeeper::new(alloc, first, version, Vec::new(alloc));
@@ -53,8 +55,8 @@ fn over(alloc: Global, tables: Tables, script: &[u8]) -> Result<(u8, Text), Memo
     ended
 }
 
-// Runs a second session whose third call of the keeper fails, the commit of its run: its status and what it wrote, and what
-// a crash leaves.
+// Runs a second session whose third call of the keeper fails, the commit of its run: its status and
+// what it wrote, and what a crash leaves.
 fn second_cut(alloc: Global, kept: bool) -> Result<(Result<(u8, Text), Memory>, Tables), Memory> {
     let fails = vec![in alloc; KeepPlan { call: 2, kept }]?;
     let first = tables_after(alloc, FIRST)?;
@@ -63,7 +65,8 @@ fn second_cut(alloc: Global, kept: bool) -> Result<(Result<(u8, Text), Memory>, 
     Ok((ended, keeper.after_crash()))
 }
 
-// Runs that session, and shows a box of what a crash leaves; the status of each, and what each wrote.
+// Runs that session, and shows a box of what a crash leaves; the status of each, and what each
+// wrote.
 fn shown_after_cut(alloc: Global, kept: bool) -> Result<((u8, Text), (u8, Text)), Memory> {
     let (ended, left) = second_cut(alloc, kept)?;
     let boxed = over(alloc, left, b"as ann\nbox q\n");
@@ -96,7 +99,8 @@ fn sessions_go_on_over_a_store(rt: HostRuntime) -> Result<(), Memory> {
         assert_eq!(rt; status, 0);
         assert_eq!(rt;
             written.as_slice(),
-            b"ok 0 as ann\nok 0 at 111\nok 0 at 120\nok 0 doc 3\nok 0 at 121\nok 1 run 3 before 121\ndoc 3 first 120\n\
+            b"ok 0 as ann\nok 0 at 111\nok 0 at 120\nok 0 doc 3\nok 0 at 121\n\
+            ok 1 run 3 before 121\ndoc 3 first 120\n\
               ok 3 box q\ndoc 1 first 100 run 1\ndoc 2 first 110 run 2\ndoc 3 first 120 run 3\n"
                 .as_slice()
         );
@@ -116,7 +120,8 @@ fn a_crash_leaves_a_run_or_none_of_it(rt: HostRuntime) -> Result<(), Memory> {
         ),
         (
             true,
-            b"ok 0 as ann\nok 3 box q\ndoc 1 first 100 run 1\ndoc 2 first 110 run 2\ndoc 3 first 120 run 3\n",
+            b"ok 0 as ann\nok 3 box q\ndoc 1 first 100 run 1\ndoc 2 first 110 run 2\n\
+            doc 3 first 120 run 3\n",
         ),
     ];
     for (kept, boxed) in rows {
@@ -134,8 +139,8 @@ fn a_crash_leaves_a_run_or_none_of_it(rt: HostRuntime) -> Result<(), Memory> {
     Ok(())
 }
 
-// Runs a session over an empty store of version 7, with puts that fail as planned: its status and what it wrote, and the
-// version then.
+// Runs a session over an empty store of version 7, with puts that fail as planned: its status and
+// what it wrote, and the version then.
 fn over_alien(alloc: Global, puts: Vec<PutPlan>) -> Result<((u8, Text), i64), Memory> {
     let mut keeper = MemKeeper::new(alloc, Tables::empty(alloc), 7, Vec::new(alloc));
     let ended = cut_session(alloc, &mut keeper, b"at 200\n", puts);

@@ -1,4 +1,5 @@
-//! Tests of runs that something stops: each failing call, each place at which a script ends, each damage of a store.
+//! Tests of runs that something stops: each failing call, each place at which a script ends, each
+//! damage of a store.
 #![tactic(auto)]
 
 #[cfg(test)]

@@ -6,7 +6,8 @@ use std::alloc::Global;
 use tap_base::{Memory, Text, Texts};
 use tap_rows::Tables;
 
-/// What the first commands of a script write, and what a session after them shows: item `n` of each is of the first `n`.
+/// What the first commands of a script write, and what a session after them shows: item `n` of each
+/// is of the first `n`.
 #[derive(Drop)]
 pub struct Prefixes {
     pub written: Texts,
@@ -103,7 +104,8 @@ impl Prefixes {
         self.are_replies(n, written) && self.shows(then, probe)
     }
 
-    /// Returns whether a run wrote what the first `n` commands write, and of the next reply the first `out` bytes.
+    /// Returns whether a run wrote what the first `n` commands write, and of the next reply the
+    /// first `out` bytes.
     pub fn is_cut(&self, n: usize, out: usize, written: &Text) -> bool {
         let replies = self.written.as_slice();
         match (replies.get(n), replies.get(n.saturating_add(1))) {

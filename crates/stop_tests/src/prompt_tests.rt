@@ -70,8 +70,8 @@ fn watched(alloc: Global, size: usize) -> Result<(u8, WatchedSource), Memory>
     }
 }
 
-// Returns how often more was asked for while exactly the right replies were out, up to the first time
-// that they weren't.
+// Returns how often more was asked for while exactly the right replies were out, up to the first
+// time that they weren't.
 fn prompt_asks(prefixes: &Prefixes, seen: &[Seen]) -> usize {
     for (n, ask) in seen.iter().enumerate() {
         let complete = complete_in(&TWO_USERS, ask.at as u64);

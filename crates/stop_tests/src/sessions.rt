@@ -10,8 +10,8 @@ use tap_base::{Memory, Text};
 use tap_edges::PutPlan;
 use tap_rows::Tables;
 
-/// What a run ended with: its status, what it wrote, what a session over the keeper's tables shows, and what one over the
-/// tables that a crash leaves shows.
+/// What a run ended with: its status, what it wrote, what a session over the keeper's tables shows,
+/// and what one over the tables that a crash leaves shows.
 #[derive(Drop)]
 pub struct Left {
     pub status: u8,
@@ -55,7 +55,8 @@ fn keeps_of(alloc: Global, failure: Failure) -> Result<Vec<KeepPlan>, Memory> {
     }
 }
 
-// Runs a script in pieces of this many bytes over a keeper; returns the status and what was written.
+// Runs a script in pieces of this many bytes over a keeper; returns the status and what was
+// written.
 fn run_over(
     alloc: Global,
     keeper: &mut MemKeeper,

@@ -104,7 +104,8 @@ fn script_over(alloc: Global, statements: &str, script: &[u8]) -> Option<(Ran, O
 const DAMAGED: &str =
     "CREATE TABLE meta (id INTEGER PRIMARY KEY CHECK (id = 1), version INTEGER NOT NULL) STRICT;
     INSERT INTO meta (id, version) VALUES (1, 1);
-    CREATE TABLE docs (num INTEGER PRIMARY KEY, arrival INTEGER NOT NULL, body BLOB NOT NULL) STRICT;
+    CREATE TABLE docs (num INTEGER PRIMARY KEY, arrival INTEGER NOT NULL, body BLOB NOT NULL) \
+    STRICT;
     INSERT INTO docs (num, arrival, body) VALUES (4294967296, 100, x'0a')";
 
 #[test]
@@ -145,15 +146,19 @@ fn another_version_is_refused(rt: HostRuntime) -> Result<(), Fail> {
 const FIRST_VERSION: &str =
     "CREATE TABLE meta (id INTEGER PRIMARY KEY CHECK (id = 1), version INTEGER NOT NULL) STRICT;
     INSERT INTO meta (id, version) VALUES (1, 1);
-    CREATE TABLE docs (num INTEGER PRIMARY KEY, arrival INTEGER NOT NULL, body BLOB NOT NULL) STRICT;
+    CREATE TABLE docs (num INTEGER PRIMARY KEY, arrival INTEGER NOT NULL, body BLOB NOT NULL) \
+    STRICT;
     INSERT INTO docs (num, arrival, body) VALUES
         (1, 100, x'5375626a6563743a2068690a0a'), (2, 110, x'5375626a6563743a2068690a0a');
-    CREATE TABLE queries (num INTEGER PRIMARY KEY, owner BLOB NOT NULL, name BLOB NOT NULL, source BLOB NOT NULL, arrival INTEGER NOT NULL) STRICT;
+    CREATE TABLE queries (num INTEGER PRIMARY KEY, owner BLOB NOT NULL, name BLOB NOT NULL, \
+    source BLOB NOT NULL, arrival INTEGER NOT NULL) STRICT;
     INSERT INTO queries (num, owner, name, source, arrival) VALUES
         (1, x'616e6e', x'71', x'6d2e776f726473204841532027686927', 100);
-    CREATE TABLE runs (num INTEGER PRIMARY KEY, query INTEGER NOT NULL, moment INTEGER NOT NULL) STRICT;
+    CREATE TABLE runs (num INTEGER PRIMARY KEY, query INTEGER NOT NULL, moment INTEGER NOT NULL) \
+    STRICT;
     INSERT INTO runs (num, query, moment) VALUES (1, 1, 101), (2, 1, 111);
-    CREATE TABLE picks (num INTEGER PRIMARY KEY, query INTEGER NOT NULL, run INTEGER NOT NULL, doc INTEGER NOT NULL, second INTEGER NOT NULL) STRICT;
+    CREATE TABLE picks (num INTEGER PRIMARY KEY, query INTEGER NOT NULL, run INTEGER NOT NULL, \
+    doc INTEGER NOT NULL, second INTEGER NOT NULL) STRICT;
     INSERT INTO picks (num, query, run, doc, second) VALUES (1, 1, 1, 1, 100), (2, 1, 2, 2, 110)";
 
 #[test]

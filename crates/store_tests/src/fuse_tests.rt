@@ -1,5 +1,5 @@
-//! A session over a store whose machine stops at each call of a file in turn. The next session finds the rows of all commands
-//! whose replies were whole, or those of the next command too.
+//! A session over a store whose machine stops at each call of a file in turn. The next session
+//! finds the rows of all commands whose replies were whole, or those of the next command too.
 
 ghost use Rattle.std.specs.Prelude.{◌≡◌, false};
 ghost use Rattle.store_tests.specs.Usable.{AreBothUsable};
@@ -32,26 +32,30 @@ const PROBE: &[u8] = b"counts\nas ann\nnotes 1\nqueries\nlist q\nat 200\nrun q\n
 const WITHOUT_MAIL: &[u8] =
     b"ok 0 counts documents 2 notes 0 moment 111\nok 0 as ann\nok 0 notes 1\n\
       ok 1 queries\nquery q ts 100 from 0 runs 2 last 111 boxed 2 text m.words HAS 'hi'\n\
-      ok 2 list q\ndoc 1 first 100 run 1 priority 0 class other\ndoc 2 first 110 run 2 priority 0 class other\n\
+      ok 2 list q\ndoc 1 first 100 run 1 priority 0 class other\n\
+      doc 2 first 110 run 2 priority 0 class other\n\
       ok 0 at 200\nok 0 run 3 before 200\n";
 
 // with the mail of the second,
 const WITH_MAIL: &[u8] = b"ok 0 counts documents 3 notes 0 moment 120\nok 0 as ann\nok 0 notes 1\n\
       ok 1 queries\nquery q ts 100 from 0 runs 2 last 111 boxed 2 text m.words HAS 'hi'\n\
-      ok 2 list q\ndoc 1 first 100 run 1 priority 0 class other\ndoc 2 first 110 run 2 priority 0 class other\n\
+      ok 2 list q\ndoc 1 first 100 run 1 priority 0 class other\n\
+      doc 2 first 110 run 2 priority 0 class other\n\
       ok 0 at 200\nok 1 run 3 before 200\ndoc 3 first 120\n";
 
 // with its run too,
 const WITH_RUN: &[u8] = b"ok 0 counts documents 3 notes 0 moment 121\nok 0 as ann\nok 0 notes 1\n\
       ok 1 queries\nquery q ts 100 from 0 runs 3 last 121 boxed 3 text m.words HAS 'hi'\n\
-      ok 3 list q\ndoc 1 first 100 run 1 priority 0 class other\ndoc 2 first 110 run 2 priority 0 class other\n\
+      ok 3 list q\ndoc 1 first 100 run 1 priority 0 class other\n\
+      doc 2 first 110 run 2 priority 0 class other\n\
       doc 3 first 120 run 3 priority 0 class other\nok 0 at 200\nok 0 run 4 before 200\n";
 
 // with its note too,
 const WITH_NOTE: &[u8] = b"ok 0 counts documents 3 notes 1 moment 121\nok 0 as ann\n\
       ok 1 notes 1\nnote 1 ts 121 author ann kind score value -7 text x\n\
       ok 1 queries\nquery q ts 100 from 0 runs 3 last 121 boxed 3 text m.words HAS 'hi'\n\
-      ok 3 list q\ndoc 1 first 100 run 1 priority 0 class other\ndoc 2 first 110 run 2 priority 0 class other\n\
+      ok 3 list q\ndoc 1 first 100 run 1 priority 0 class other\n\
+      doc 2 first 110 run 2 priority 0 class other\n\
       doc 3 first 120 run 3 priority 0 class other\nok 0 at 200\nok 0 run 4 before 200\n";
 
 // with its query too,
@@ -59,7 +63,8 @@ const WITH_QUERY: &[u8] = b"ok 0 counts documents 3 notes 1 moment 121\nok 0 as 
       ok 1 notes 1\nnote 1 ts 121 author ann kind score value -7 text x\n\
       ok 2 queries\nquery q ts 100 from 0 runs 3 last 121 boxed 3 text m.words HAS 'hi'\n\
       query r ts 121 from 0 runs 0 last never boxed 0 text TRUE\n\
-      ok 3 list q\ndoc 1 first 100 run 1 priority 0 class other\ndoc 2 first 110 run 2 priority 0 class other\n\
+      ok 3 list q\ndoc 1 first 100 run 1 priority 0 class other\n\
+      doc 2 first 110 run 2 priority 0 class other\n\
       doc 3 first 120 run 3 priority 0 class other\nok 0 at 200\nok 0 run 4 before 200\n";
 
 // and with its filter too.
@@ -67,7 +72,8 @@ const WITH_FILTER: &[u8] = b"ok 0 counts documents 3 notes 1 moment 121\nok 0 as
       ok 1 notes 1\nnote 1 ts 121 author ann kind score value -7 text x\n\
       ok 2 queries\nquery q ts 100 from 0 runs 3 last 121 boxed 3 text m.words HAS 'hi'\n\
       query r ts 121 from 0 runs 0 last never boxed 0 text TRUE\n\
-      ok 3 list q\ndoc 1 first 100 run 1 priority 1 class a\ndoc 2 first 110 run 2 priority 1 class a\n\
+      ok 3 list q\ndoc 1 first 100 run 1 priority 1 class a\n\
+      doc 2 first 110 run 2 priority 1 class a\n\
       doc 3 first 120 run 3 priority 1 class a\nok 0 at 200\nok 0 run 4 before 200\n";
 
 // Returns what the probe writes after the first `n` commands of the second session.
@@ -105,7 +111,8 @@ fn fused<D: Disk>(files: Files<D>, log: u64, db: u64) -> Files<Fuse<D>> {
     }
 }
 
-// Runs the second session over an open store: what it ended with, whether its files were closed in order, and the files then.
+// Runs the second session over an open store: what it ended with, whether its files were closed in
+// order, and the files then.
 fn stopped_over<D: Disk + Drop>(
     alloc: Global,
     connection: Connection<FileStore<D>>,
@@ -131,7 +138,8 @@ fn stopped<D: Disk + Drop>(alloc: Global, files: Files<D>) -> Option<(Ran, bool,
     }
 }
 
-// Starts the machine again after a crash; returns what the probe then writes, if it ends with status 0.
+// Starts the machine again after a crash; returns what the probe then writes, if it ends with
+// status 0.
 fn found_again<D: Crash + Drop>(alloc: Global, mut files: Files<D>) -> Option<Text> {
     files.log.crash();
     files.db.crash();
@@ -152,8 +160,8 @@ fn first_files(alloc: Global) -> Option<Files<MemoryFile>> {
     Some(files)
 }
 
-// Stops the second session after this many calls of each file: what it ended with, whether its files were closed in order, and
-// what the probe then writes.
+// Stops the second session after this many calls of each file: what it ended with, whether its
+// files were closed in order, and what the probe then writes.
 fn stopped_at(alloc: Global, log: u64, db: u64) -> Option<(Ran, bool, Text)> {
     let files = first_files(alloc)?;
     let (ran, is_closed, files) = stopped(alloc, fused(files, log, db))?;
@@ -208,7 +216,8 @@ fn outcome(alloc: Global, log: u64, db: u64) -> Ended {
     ended
 }
 
-// Returns the number of calls at which the session was stopped, until it ended without a stop; 0 if something is wrong.
+// Returns the number of calls at which the session was stopped, until it ended without a stop; 0 if
+// something is wrong.
 fn right_stops(alloc: Global, in_log: bool) -> u64 {
     for calls in 0..1000u64 {
         let ended = if in_log {

@@ -1,5 +1,5 @@
-//! Tests of sessions over stores: over the same files, over a machine that stops at each call of a file, and over stores of another
-//! version or with damage.
+//! Tests of sessions over stores: over the same files, over a machine that stops at each call of a
+//! file, and over stores of another version or with damage.
 #![tactic(auto)]
 
 #[cfg(test)]

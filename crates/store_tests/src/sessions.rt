@@ -122,7 +122,8 @@ fn joined<D: Disk + Drop>(ran: Ran, files: Option<Files<D>>) -> Option<(u8, Text
     }
 }
 
-/// Runs a session over the files of a store: its status, what it wrote, and the files as it closed them.
+/// Runs a session over the files of a store: its status, what it wrote, and the files as it closed
+/// them.
 pub fn session<D: Disk + Drop>(
     alloc: Global,
     files: Files<D>,

@@ -28,13 +28,16 @@ total-behind [] len = omega arith
 total-behind (l ∷ lens) len = ap (λ n. l + n) (total-behind lens len) ∙ add-last l (total_length lens) len
 
 -- one more text at the end of the bytes is the last one
-pub pieces-behind : (lens bytes text : List ℕ) → total_length lens ≡ length bytes → pieces (lens ++ length text ∷ []) (bytes ++ text) ≡ pieces lens bytes ++ text ∷ []
+pub pieces-behind : (lens bytes text : List ℕ) → total_length lens ≡ length bytes
+    → pieces (lens ++ length text ∷ []) (bytes ++ text) ≡ pieces lens bytes ++ text ∷ []
 pieces-behind [] bytes text e = rw (none-long bytes e) (ap (λ t. t ∷ []) (take_all (length text) text (omega arith)))
 pieces-behind (l ∷ lens) bytes text e =
     let fits : l ≤ length bytes = first-fits l (total_length lens) (length bytes) e in
     let rest : total_length lens ≡ length (drop l bytes) = rest-fits l (total_length lens) (length bytes) e ∙ sym (length-drop l bytes) in
-    rw (take-append-le l bytes text fits, drop-append-le l bytes text fits) (ap (λ ts. take l bytes ∷ ts) (pieces-behind lens (drop l bytes) text rest))
+    rw (take-append-le l bytes text fits, drop-append-le l bytes text fits)
+      (ap (λ ts. take l bytes ∷ ts) (pieces-behind lens (drop l bytes) text rest))
 
 -- the lengths are those of the bytes, with one more text
-pub totals-behind : (lens bytes text : List ℕ) → total_length lens ≡ length bytes → total_length (lens ++ length text ∷ []) ≡ length (bytes ++ text)
+pub totals-behind : (lens bytes text : List ℕ) → total_length lens ≡ length bytes
+    → total_length (lens ++ length text ∷ []) ≡ length (bytes ++ text)
 totals-behind lens bytes text e = total-behind lens (length text) ∙ ap (λ n. n + length text) e ∙ sym (length-append bytes text)

@@ -1,5 +1,6 @@
 -- Words by their places are the runs of bytes that aren't blanks.
-use Rattle.std.proofs.Common.{◌≡◌, ◌∙◌, sym, ap, refl, subst, arith, ℕ, zero, suc, List, [], ◌∷◌, ◌+◌, ◌-◌, get_or, drop, length, Bool, true, false, if◌then◌else◌, ◌≤◌, ◌<◌, ◌⊎◌, inl, inr}
+use Rattle.std.proofs.Common.{◌≡◌, ◌∙◌, sym, ap, refl, subst, arith, ℕ, zero, suc, List, [], ◌∷◌, ◌+◌, ◌-◌, get_or, drop, length, Bool}
+use Rattle.std.proofs.Common.{true, false, if◌then◌else◌, ◌≤◌, ◌<◌, ◌⊎◌, inl, inr}
 use Rattle.std.specs.Prelude.{◌==◌, ◌&&◌, not, nat_lt, filter}
 use Rattle.std.specs.List.{slice_split, position_or_len, onto_first}
 use Rattle.std.proofs.lemmas.Bool.{cases_lt}
@@ -12,7 +13,8 @@ use Rattle.tap_base.specs.Laws.{words_of_line, text_at}
 
 -- a blank before a text makes no word
 blank-first : (b : ℕ) (xs : List ℕ) → is_blank b ≡ true → words_of_line (b ∷ xs) ≡ words_of_line xs
-blank-first b xs passes = ap (λ t. filter is_some (if t then [] ∷ slice_split is_blank xs else onto_first b (slice_split is_blank xs))) passes
+blank-first b xs passes =
+    ap (λ t. filter is_some (if t then [] ∷ slice_split is_blank xs else onto_first b (slice_split is_blank xs))) passes
 
 -- one blank at the front, and none
 skips : (x : ℕ) (xs : List ℕ) → is_blank x ≡ true → after_blanks (x ∷ xs) ≡ after_blanks xs
@@ -25,20 +27,26 @@ stays x xs other = grind (arith, other)
 after_blanks-words : (xs : List ℕ) → words_of_line (after_blanks xs) ≡ words_of_line xs
 after_blanks-words [] = refl
 after_blanks-words (x ∷ xs) = go (is_blank x) refl (after_blanks-words xs) where
-  go : (t : Bool) → is_blank x ≡ t → words_of_line (after_blanks xs) ≡ words_of_line xs → words_of_line (after_blanks (x ∷ xs)) ≡ words_of_line (x ∷ xs)
+  go : (t : Bool) → is_blank x ≡ t → words_of_line (after_blanks xs) ≡ words_of_line xs
+      → words_of_line (after_blanks (x ∷ xs)) ≡ words_of_line (x ∷ xs)
   go true passes rest = ap (λ ys. words_of_line ys) (skips x xs passes) ∙ rest ∙ sym (blank-first x xs passes)
   go false other rest = ap (λ ys. words_of_line ys) (stays x xs other)
 
 -- the words of a text are that at its front, if there is one, and those of what follows
-pub first-words : (xs : List ℕ) → words_of_line xs ≡ (if is_some (first_word xs) then first_word xs ∷ words_of_line (after_word xs) else words_of_line (after_word xs))
+pub first-words : (xs : List ℕ)
+    → words_of_line xs ≡ (if is_some (first_word xs) then first_word xs ∷ words_of_line (after_word xs) else words_of_line (after_word xs))
 first-words xs = go (cases_lt (position_or_len is_blank xs) (length xs)) where
-  go : (position_or_len is_blank xs < length xs) ⊎ (length xs ≤ position_or_len is_blank xs) → words_of_line xs ≡ (if is_some (first_word xs) then first_word xs ∷ words_of_line (after_word xs) else words_of_line (after_word xs))
+  go : (position_or_len is_blank xs < length xs) ⊎ (length xs ≤ position_or_len is_blank xs) → words_of_line xs
+      ≡ (if is_some (first_word xs) then first_word xs ∷ words_of_line (after_word xs) else words_of_line (after_word xs))
   go (inl lt) =
       ap (filter is_some) (first_part is_blank xs (position_or_len is_blank xs) refl lt)
-      ∙ ap (λ ws. if is_some (first_word xs) then first_word xs ∷ ws else ws) (sym (ap words_of_line (drop_more xs (position_or_len is_blank xs) 0 lt) ∙ blank-first (get_or xs (position_or_len is_blank xs) 0) (drop (position_or_len is_blank xs + 1) xs) (passes_at_first is_blank xs 0 lt)))
+      ∙ ap (λ ws. if is_some (first_word xs) then first_word xs ∷ ws else ws)
+          (sym (ap words_of_line (drop_more xs (position_or_len is_blank xs) 0 lt) ∙ blank-first (get_or xs (position_or_len is_blank xs) 0)
+              (drop (position_or_len is_blank xs + 1) xs) (passes_at_first is_blank xs 0 lt)))
   go (inr le) =
       ap (filter is_some) (whole_part is_blank xs (position_or_len is_blank xs) refl le).0
-      ∙ ap (λ ws. if is_some (first_word xs) then first_word xs ∷ ws else ws) (sym (ap words_of_line (drop_all (position_or_len is_blank xs) xs le)))
+      ∙ ap (λ ws. if is_some (first_word xs) then first_word xs ∷ ws else ws)
+          (sym (ap words_of_line (drop_all (position_or_len is_blank xs) xs le)))
 
 -- a text without blanks at its front and without a word there is empty
 no-word : (xs : List ℕ) → is_some (first_word (after_blanks xs)) ≡ false → after_blanks xs ≡ []
@@ -60,12 +68,16 @@ no-word-at (suc n) line none = no-word (after_word (after_words n line)) none
 -- what follows the first n words has the words that follow them
 pub rest-words : (n : ℕ) (line : List ℕ) → words_of_line (after_words n line) ≡ drop n (words_of_line line)
 rest-words zero line = after_blanks-words line
-rest-words (suc n) line = after_blanks-words (after_word (after_words n line)) ∙ go (is_some (first_word (after_words n line))) refl (rest-words n line) where
+rest-words (suc n) line = after_blanks-words (after_word (after_words n line))
+    ∙ go (is_some (first_word (after_words n line))) refl (rest-words n line) where
   next : (ws : List (List ℕ)) → drop 1 (drop n ws) ≡ drop (suc n) ws
   next ws = let e : n + 1 ≡ suc n = omega arith in drop-drop 1 n ws ∙ ap (λ k. drop k ws) e
 
-  go : (t : Bool) → is_some (first_word (after_words n line)) ≡ t → words_of_line (after_words n line) ≡ drop n (words_of_line line) → words_of_line (after_word (after_words n line)) ≡ drop (suc n) (words_of_line line)
-  go true passes before = sym (ap (drop 1) (first-words (after_words n line) ∙ ap (λ t. if t then first_word (after_words n line) ∷ words_of_line (after_word (after_words n line)) else words_of_line (after_word (after_words n line))) passes)) ∙ ap (drop 1) before ∙ next (words_of_line line)
+  go : (t : Bool) → is_some (first_word (after_words n line)) ≡ t → words_of_line (after_words n line) ≡ drop n (words_of_line line)
+      → words_of_line (after_word (after_words n line)) ≡ drop (suc n) (words_of_line line)
+  go true passes before = sym (ap (drop 1) (first-words (after_words n line) ∙ ap (λ t. if t then first_word (after_words n line)
+            ∷ words_of_line (after_word (after_words n line)) else words_of_line (after_word (after_words n line))) passes))
+      ∙ ap (drop 1) before ∙ next (words_of_line line)
   go false none before =
       let empty = no-word-at n line none in
       ap (λ u. words_of_line (after_word u)) empty ∙ ap (drop 1) (sym (ap words_of_line empty) ∙ before) ∙ next (words_of_line line)
@@ -77,16 +89,22 @@ text_at-drop (suc n) [] = refl
 text_at-drop (suc n) (w ∷ ws) = text_at-drop n ws
 
 pub word-is : (n : ℕ) (line : List ℕ) → word n line ≡ text_at n (words_of_line line)
-word-is n line = go (is_some (first_word (after_words n line))) refl ∙ ap (text_at zero) (rest-words n line) ∙ sym (text_at-drop n (words_of_line line)) where
-  go : (t : Bool) → is_some (first_word (after_words n line)) ≡ t → first_word (after_words n line) ≡ text_at zero (words_of_line (after_words n line))
-  go true passes = sym (ap (text_at zero) (first-words (after_words n line) ∙ ap (λ t. if t then first_word (after_words n line) ∷ words_of_line (after_word (after_words n line)) else words_of_line (after_word (after_words n line))) passes))
+word-is n line = go (is_some (first_word (after_words n line))) refl ∙ ap (text_at zero) (rest-words n line)
+    ∙ sym (text_at-drop n (words_of_line line)) where
+  go : (t : Bool) → is_some (first_word (after_words n line)) ≡ t
+      → first_word (after_words n line) ≡ text_at zero (words_of_line (after_words n line))
+  go true passes = sym (ap (text_at zero) (first-words (after_words n line) ∙ ap (λ t. if t then first_word (after_words n line)
+            ∷ words_of_line (after_word (after_words n line)) else words_of_line (after_word (after_words n line))) passes))
   go false none = let empty = no-word-at n line none in ap first_word empty ∙ sym (ap (λ u. text_at zero (words_of_line u)) empty)
 
 -- there is a word at each place below their number
 some-at : (parts : List (List ℕ)) (n : ℕ) → is_some (text_at n (filter is_some parts)) ≡ nat_lt n (length (filter is_some parts))
 some-at [] n = grind arith
 some-at (p ∷ parts) n = go (is_some p) refl n (some-at parts) where
-  go : (t : Bool) → is_some p ≡ t → (n : ℕ) → ((n : ℕ) → is_some (text_at n (filter is_some parts)) ≡ nat_lt n (length (filter is_some parts))) → is_some (text_at n (if t then p ∷ filter is_some parts else filter is_some parts)) ≡ nat_lt n (length (if t then p ∷ filter is_some parts else filter is_some parts))
+  go : (t : Bool) → is_some p ≡ t → (n : ℕ)
+      → ((n : ℕ) → is_some (text_at n (filter is_some parts)) ≡ nat_lt n (length (filter is_some parts)))
+      → is_some (text_at n (if t then p ∷ filter is_some parts else filter is_some parts))
+      ≡ nat_lt n (length (if t then p ∷ filter is_some parts else filter is_some parts))
   go true passes zero rest = passes ∙ first (length (filter is_some parts)) where
     first : (m : ℕ) → true ≡ nat_lt 0 (suc m)
     first m = grind arith

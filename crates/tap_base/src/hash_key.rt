@@ -3,8 +3,8 @@
 use std::hash::{BuildHasher, DefaultHasher, RandomState};
 use std::random::RandomSource;
 
-/// The key under which a map hashes its keys, by SipHash-1-3. Whoever doesn't know it can't choose texts whose hashes collide.
-/// A program draws one when it starts. No result depends on it.
+/// The key under which a map hashes its keys, by SipHash-1-3. Whoever doesn't know it can't choose
+/// texts whose hashes collide. A program draws one when it starts. No result depends on it.
 #[derive(Clone, Copy)]
 pub struct HashKey {
     // A hasher that has been given the key and nothing else.
@@ -12,7 +12,8 @@ pub struct HashKey {
 }
 
 impl HashKey {
-    /// Returns the key that is the same in every process: for tests, and for texts that nobody chooses to collide.
+    /// Returns the key that is the same in every process: for tests, and for texts that nobody
+    /// chooses to collide.
     pub fn fixed() -> HashKey {
         HashKey {
             start: DefaultHasher::new(),

@@ -2,7 +2,8 @@
 ghost use Rattle.std.specs.Prelude.{◌≡◌, ◌≤◌, ◌<◌, length, IsTrue};
 ghost use Rattle.std.specs.List.{position_or_len, prefix_len};
 ghost use Rattle.tap_base.specs.Bytes.{is_blank};
-ghost use Rattle.tap_base.specs.LineWords.{after_blanks, after_word, after_words, first_word, word, is_skipped, has_words, IsWordPlace};
+ghost use Rattle.tap_base.specs.LineWords.{after_blanks, after_word, after_words, first_word, word};
+ghost use Rattle.tap_base.specs.LineWords.{is_skipped, has_words, IsWordPlace};
 
 /// Returns whether the byte is a blank: a space or a tab.
 pub fn is_blank_byte(b: u8) -> bool
@@ -51,8 +52,9 @@ fn skip_word(text: &[u8]) -> &[u8]
     &text[blank_place(text)..]
 }
 
-/// Returns what follows the first `n` words of a line and the blanks after them. A line of the script language has fewer
-/// than 8 words that are read by their places, which bounds the recursion.
+/// Returns what follows the first `n` words of a line and the blanks after them. A line of the
+/// script language has fewer than 8 words that are read by their places, which bounds the
+/// recursion.
 pub fn skip_words(line: &[u8], n: usize) -> &[u8]
     requires { IsWordPlace n }
     ensures { result.now ≡ after_words n line.now }

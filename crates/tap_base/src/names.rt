@@ -27,8 +27,8 @@ fn begins_name(text: &[u8]) -> bool
     }
 }
 
-/// Returns whether this is a name of a user, a query, a kind or a class. A name has 1 to 32 bytes: first a lower-case
-/// letter, then lower-case letters, digits, `_`, `-` and `.`.
+/// Returns whether this is a name of a user, a query, a kind or a class. A name has 1 to 32 bytes:
+/// first a lower-case letter, then lower-case letters, digits, `_`, `-` and `.`.
 pub fn is_name(text: &[u8]) -> bool
     ensures { result ≡ is_name text.now }
 {

@@ -1,5 +1,6 @@
 //! A list of texts that takes little memory.
-ghost use Rattle.std.specs.Prelude.{◌≡◌, ◌++◌, ◌∷◌, [], IfOk, OnOk, OnErr, None, length, option_to_list, option_copied};
+ghost use Rattle.std.specs.Prelude.{◌≡◌, ◌++◌, ◌∷◌, [], IfOk, OnOk, OnErr, None, length};
+ghost use Rattle.std.specs.Prelude.{option_to_list, option_copied};
 ghost use Rattle.tap_base.specs.Packed.{pieces, total_length};
 
 use crate::Memory;
@@ -9,7 +10,8 @@ use std::marker::Model;
 // The longest text that fits a list.
 const LONGEST: usize = 4_294_967_295;
 
-/// A list of texts whose bytes lie one after the other: a text takes its bytes and four more, and no allocation of its own.
+/// A list of texts whose bytes lie one after the other: a text takes its bytes and four more, and
+/// no allocation of its own.
 #[derive(Drop)]
 pub struct PackedTexts {
     lens: Vec<u32>,
@@ -56,7 +58,8 @@ impl PackedTexts {
         }
     }
 
-    // Returns the empty list, with room for that many texts and for that many bytes. Fails with `Memory` when out of memory.
+    // Returns the empty list, with room for that many texts and for that many bytes. Fails with
+    // `Memory` when out of memory.
     pub(crate) fn with_room(alloc: Global, lens: usize, bytes: usize) -> Result<PackedTexts, Memory>
         ensures { IfOk result (λ packed. packed ≡ []) }
     {
@@ -65,7 +68,8 @@ impl PackedTexts {
         Ok(PackedTexts { lens, bytes })
     }
 
-    // Appends a text. The list is unchanged if this fails, which it does when out of memory, and for a text of 4 GiB or more.
+    // Appends a text. The list is unchanged if this fails, which it does when out of memory, and
+    // for a text of 4 GiB or more.
     pub(crate) fn push(&mut self, text: &[u8]) -> Result<(), Memory>
         ensures ok { OnOk result (self.new ≡ self.old ++ text.now ∷ []) }
         ensures err { OnErr result (self.new ≡ self.old) }

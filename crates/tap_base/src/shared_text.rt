@@ -6,7 +6,8 @@ use std::alloc::Global;
 use std::marker::Model;
 use std::rc::Rc;
 
-/// A text with several owners, which can't be changed. A copy is one more owner of the same bytes, and takes no memory.
+/// A text with several owners, which can't be changed. A copy is one more owner of the same bytes,
+/// and takes no memory.
 #[derive(Drop)]
 pub struct SharedText {
     text: Rc<Text, Global>,

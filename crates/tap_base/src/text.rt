@@ -1,5 +1,6 @@
 //! A text of bytes.
-ghost use Rattle.std.specs.Prelude.{◌≡◌, ◌++◌, ◌<◌, ◌^◌, List, [], ℕ, OnOk, OnErr, IfOk, length, take};
+ghost use Rattle.std.specs.Prelude.{◌≡◌, ◌++◌, ◌<◌, ◌^◌, List, [], ℕ, OnOk, OnErr, IfOk, length};
+ghost use Rattle.std.specs.Prelude.{take};
 ghost use Rattle.std.specs.Str.{str_to_ascii_lowercase};
 
 use crate::Memory;
@@ -25,7 +26,8 @@ impl Model for Text {
 }
 
 impl Drop for Text {
-    // One call wherever a text is dropped: derived, it would show each caller both places of the bytes.
+    // One call wherever a text is dropped: derived, it would show each caller both places of the
+    // bytes.
     fn drop(self) {
         let Text { store: _, alloc: _ } = self;
     }

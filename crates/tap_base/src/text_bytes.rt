@@ -7,7 +7,8 @@ use indexmap::Equivalent;
 use std::alloc::AllocError;
 use std::hash::{Hash, Hasher};
 
-/// The bytes of a text by which a map of texts is searched, without a copy. They hash as the text does.
+/// The bytes of a text by which a map of texts is searched, without a copy. They hash as the text
+/// does.
 pub struct TextBytes<'a>(pub &'a [u8]);
 
 impl<'a> Clone for TextBytes<'a> {

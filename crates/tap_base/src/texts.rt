@@ -1,5 +1,6 @@
 //! A list of texts.
-ghost use Rattle.std.specs.Prelude.{◌≡◌, ◌++◌, ◌∷◌, ◌<◌, ◌^◌, List, [], ℕ, OnOk, OnErr, IfOk, length, slice_get, take};
+ghost use Rattle.std.specs.Prelude.{◌≡◌, ◌++◌, ◌∷◌, ◌<◌, ◌^◌, List, [], ℕ, OnOk, OnErr, IfOk};
+ghost use Rattle.std.specs.Prelude.{length, slice_get, take};
 ghost use Rattle.tap_base.specs.Words.{has_text};
 ghost use Rattle.std.specs.Option.{option_copied};
 
@@ -91,7 +92,8 @@ impl Texts {
         self.items.truncate(len);
     }
 
-    /// Returns the texts, each with one owner so far. No byte is copied. Fails with `Memory` when out of memory.
+    /// Returns the texts, each with one owner so far. No byte is copied. Fails with `Memory` when
+    /// out of memory.
     pub fn into_shared(self, alloc: Global) -> Result<Rows<SharedText>, Memory>
         ensures { IfOk result (λ shared. shared ≡ self) }
     {

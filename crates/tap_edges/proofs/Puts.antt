@@ -1,5 +1,6 @@
 -- What a loop of puts has put so far.
-use Rattle.std.proofs.Common.{◌≡◌, ◌∙◌, sym, ap, refl, subst, arith, ℕ, List, [], ◌++◌, ◌+◌, ◌^◌, length, take, ◌≤◌, ◌<◌, Option, Some, None, Result, Ok, Err}
+use Rattle.std.proofs.Common.{◌≡◌, ◌∙◌, sym, ap, refl, subst, arith, ℕ, List, [], ◌++◌, ◌+◌, ◌^◌, length, take, ◌≤◌, ◌<◌, Option, Some}
+use Rattle.std.proofs.Common.{None, Result, Ok, Err}
 use Rattle.std.specs.Io.KnownBytes.{Appends}
 use Rattle.std.proofs.Math.Seq.{take-append-add}
 use Rattle.std.proofs.lemmas.List.{append_assoc, append-nil, length-append}
@@ -38,7 +39,8 @@ Puts-start all start out small = record { front = []; split = refl; count = coun
 longer : (start done done' : ℕ) (front bytes : List ℕ)
     → done ≡ counted (start + length front) → done' ≡ counted (done + length bytes) → done' ≡ counted (start + length (front ++ bytes))
 longer start done done' front bytes a b =
-    b ∙ ap (λ n. counted (n + length bytes)) a ∙ counted-more (start + length front) (length bytes) ∙ ap counted (sum (length front) (length bytes) ∙ ap (λ n. start + n) (sym (length-append front bytes))) where
+    b ∙ ap (λ n. counted (n + length bytes)) a ∙ counted-more (start + length front) (length bytes)
+      ∙ ap counted (sum (length front) (length bytes) ∙ ap (λ n. start + n) (sym (length-append front bytes))) where
       sum : (m n : ℕ) → start + m + n ≡ start + (m + n)
       sum m n = omega arith
 
@@ -61,8 +63,11 @@ pub Puts-cut : (all rest rest' bytes : List ℕ) (start done : ℕ) (old now new
 Puts-cut all rest rest' bytes start done old now new failed before next cut = record {
   n = length before.front + cut.n;
   within = fits before.front (before.split ∙ ap (λ xs. before.front ++ xs) next) cut.within;
-  count = cut.count ∙ ap (λ n. counted (n + cut.n)) before.count ∙ counted-more (start + length before.front) cut.n ∙ ap counted (sum (length before.front) cut.n);
-  written = subst (λ xs. Appends old new xs) (sym (front_is before.front cut.n cut.within (before.split ∙ ap (λ xs. before.front ++ xs) next))) (Appends-more old now new before.front (take cut.n bytes) before.written cut.written);
+  count = cut.count ∙ ap (λ n. counted (n + cut.n)) before.count ∙ counted-more (start + length before.front) cut.n
+      ∙ ap counted (sum (length before.front) cut.n);
+  written =
+      subst (λ xs. Appends old new xs) (sym (front_is before.front cut.n cut.within (before.split ∙ ap (λ xs. before.front ++ xs) next)))
+      (Appends-more old now new before.front (take cut.n bytes) before.written cut.written);
 } where
   sum : (m n : ℕ) → start + m + n ≡ start + (m + n)
   sum m n = omega arith
@@ -74,13 +79,16 @@ Puts-cut all rest rest' bytes start done old now new failed before next cut = re
       let l3 = ap length is in
       omega arith
 
-  front_is : (front : List ℕ) (n : ℕ) → n ≤ length bytes → all ≡ front ++ (bytes ++ rest') → take (length front + n) all ≡ front ++ take n bytes
-  front_is front n le is = ap (λ xs. take (length front + n) xs) is ∙ take-append-add front (bytes ++ rest') n ∙ ap (λ xs. front ++ xs) (within bytes rest' n le)
+  front_is : (front : List ℕ) (n : ℕ) → n ≤ length bytes → all ≡ front ++ (bytes ++ rest')
+      → take (length front + n) all ≡ front ++ take n bytes
+  front_is front n le is = ap (λ xs. take (length front + n) xs) is ∙ take-append-add front (bytes ++ rest') n
+      ∙ ap (λ xs. front ++ xs) (within bytes rest' n le)
 
 -- a put of more bytes was cut off among the first of them
 TookSome-first : (start : ℕ) (old new : Option (List ℕ)) (bytes more : List ℕ) (failed : PutFailed)
     → TookSome start old new bytes failed → TookSome start old new (bytes ++ more) failed
-TookSome-first start old new bytes more failed cut = record { n = cut.n; within = fits cut.n cut.within; count = cut.count; written = subst (λ xs. Appends old new xs) (sym (within bytes more cut.n cut.within)) cut.written } where
+TookSome-first start old new bytes more failed cut = record { n = cut.n; within = fits cut.n cut.within; count = cut.count;
+      written = subst (λ xs. Appends old new xs) (sym (within bytes more cut.n cut.within)) cut.written } where
   fits : (n : ℕ) → n ≤ length bytes → n ≤ length (bytes ++ more)
   fits n le = let l = length-append bytes more in omega arith
 
@@ -88,11 +96,13 @@ TookSome-first start old new bytes more failed cut = record { n = cut.n; within 
 TookSome-then : (start done : ℕ) (old mid new : Option (List ℕ)) (bytes more : List ℕ) (failed : PutFailed)
     → done ≡ counted (start + length bytes) → Appends old mid bytes → TookSome done mid new more failed
     → TookSome start old new (bytes ++ more) failed
-TookSome-then start done old mid new bytes more failed count one cut = Puts-cut (bytes ++ more) more [] more start done old mid new failed (record { front = bytes; split = refl; count = count; written = one }) (sym (append-nil more)) cut
+TookSome-then start done old mid new bytes more failed count one cut = Puts-cut (bytes ++ more) more [] more start done old mid new failed
+    (record { front = bytes; split = refl; count = count; written = one }) (sym (append-nil more)) cut
 
 pub first-cut-of : (start : ℕ) (old new : Option (List ℕ)) (whole bytes more : List ℕ) (failed : PutFailed)
     → whole ≡ bytes ++ more → TookSome start old new bytes failed → TookSome start old new whole failed
-first-cut-of start old new whole bytes more failed is cut = subst (λ xs. TookSome start old new xs failed) (sym is) (TookSome-first start old new bytes more failed cut)
+first-cut-of start old new whole bytes more failed is cut =
+    subst (λ xs. TookSome start old new xs failed) (sym is) (TookSome-first start old new bytes more failed cut)
 
 at-most : (a b c : ℕ) → a ≤ b → b ≤ c → a ≤ c
 at-most a b c one two = omega arith
@@ -117,17 +127,21 @@ Put-as g start bytes whole old new r is put = subst (λ xs. PutBehind g start xs
 
 -- two puts, one after another
 pub Put-then : {K : Type 0} (g : Ghosts K) (start done : ℕ) (whole bytes more : List ℕ) (old mid new : K) (r : Result ℕ PutFailed)
-    → whole ≡ bytes ++ more → PutBehind g start bytes old mid (Ok done) → PutBehind g done more mid new r → PutBehind g start whole old new r
+    → whole ≡ bytes ++ more → PutBehind g start bytes old mid (Ok done) → PutBehind g done more mid new r
+        → PutBehind g start whole old new r
 Put-then g start done whole bytes more old mid new (Ok end) is one two = record {
   count = longer start done end bytes more one.count two.count ∙ ap (λ xs. counted (start + length xs)) (sym is);
-  ok = subst (λ xs. Appends (g.out old) (g.out new) xs) (sym is) (Appends-more (g.out old) (g.out mid) (g.out new) bytes more one.ok two.ok);
+  ok =
+      subst (λ xs. Appends (g.out old) (g.out new) xs) (sym is) (Appends-more (g.out old) (g.out mid) (g.out new) bytes more one.ok two.ok);
   err = tt;
-  cause = record { later = at-most (g.faults old) (g.faults mid) (g.faults new) one.cause.later two.cause.later; failed = tt; fine = two.cause.fine ∙ one.cause.fine };
+  cause = record { later = at-most (g.faults old) (g.faults mid) (g.faults new) one.cause.later two.cause.later; failed = tt;
+        fine = two.cause.fine ∙ one.cause.fine };
 }
 Put-then g start done whole bytes more old mid new (Err failed) is one two = record {
   count = tt;
   ok = tt;
-  err = subst (λ xs. TookSome start (g.out old) (g.out new) xs failed) (sym is) (TookSome-then start done (g.out old) (g.out mid) (g.out new) bytes more failed one.count one.ok two.err);
+  err = subst (λ xs. TookSome start (g.out old) (g.out new) xs failed) (sym is)
+      (TookSome-then start done (g.out old) (g.out mid) (g.out new) bytes more failed one.count one.ok two.err);
   cause = record {
     later = at-most (g.faults old) (g.faults mid) (g.faults new) one.cause.later two.cause.later;
     failed = subst (λ n. Rose n (g.faults new)) one.cause.fine two.cause.failed;
@@ -168,7 +182,8 @@ Puts-failed g all rest rest' bytes start done old now new failed before same nex
 pub Puts-whole : {K : Type 0} (g : Ghosts K) (all rest : List ℕ) (start done : ℕ) (old now : K)
     → Puts all rest start done (g.out old) (g.out now) → g.faults now ≡ g.faults old → rest ≡ [] → PutBehind g start all old now (Ok done)
 Puts-whole g all rest start done old now before same none =
-    Put-as g start before.front all old now (Ok done) (sym (before.split ∙ ap (λ xs. before.front ++ xs) none ∙ append-nil before.front)) (record {
+    Put-as g start before.front all old now (Ok done) (sym (before.split ∙ ap (λ xs. before.front ++ xs) none ∙ append-nil before.front))
+      (record {
       count = before.count;
       ok = before.written;
       err = tt;

@@ -26,8 +26,11 @@ item-at (suc i) (y ∷ xs) x lt is =
     rw up (item-at i xs x (omega (arith, lt)) is)
 
 -- the documents of the messages that are left, once one more is added
-pub push-rows : (old now new : Tables) (m : ℤ) (texts : List (List ℕ)) (text : List ℕ) (i : ℕ) → i < length texts → text ≡ slice_index_or texts i text
-    → new ≡ after now (Docs (docs_from (length now.docs + 1) m (text ∷ []))) → old ≡ after now (Docs (docs_from (length now.docs + 1) m (drop i texts))) → old ≡ after new (Docs (docs_from (length new.docs + 1) m (drop (i + 1) texts)))
+pub push-rows : (old now new : Tables) (m : ℤ) (texts : List (List ℕ)) (text : List ℕ) (i : ℕ) → i < length texts
+    → text ≡ slice_index_or texts i text
+    → new ≡ after now (Docs (docs_from (length now.docs + 1) m (text ∷ [])))
+        → old ≡ after now (Docs (docs_from (length now.docs + 1) m (drop i texts)))
+        → old ≡ after new (Docs (docs_from (length new.docs + 1) m (drop (i + 1) texts)))
 push-rows old now new m texts text i lt is is-new rows =
     let n : ℕ = length now.docs + 1 in
     let doc : Doc = record { num = record { 0 = n }; arrival = m; text = text } in
@@ -43,20 +46,27 @@ take-more (suc n) [] ys le = absurd (omega (arith, le))
 take-more (suc n) (x ∷ xs) ys le = ap (λ l. x ∷ l) (take-more n xs ys (omega (arith, le)))
 
 -- those that were there before are unchanged
-pub push-back : (old now new : Tables) (docs : List Doc) (n : ℕ) → n ≤ length now.docs → new ≡ after now (Docs docs) → record now { docs = take n now.docs } ≡ old → record new { docs = take n new.docs } ≡ old
-push-back old now new docs n le is-new back = ap (λ (t : Tables). record t { docs = take n t.docs }) is-new ∙ ap (λ l. record now { docs = l }) (take-more n now.docs docs le) ∙ back
+pub push-back : (old now new : Tables) (docs : List Doc) (n : ℕ) → n ≤ length now.docs → new ≡ after now (Docs docs)
+    → record now { docs = take n now.docs } ≡ old → record new { docs = take n new.docs } ≡ old
+push-back old now new docs n le is-new back = ap (λ (t : Tables). record t { docs = take n t.docs }) is-new
+    ∙ ap (λ l. record now { docs = l }) (take-more n now.docs docs le) ∙ back
 
-pub push-count : (now new : Tables) (doc : Doc) (k i : ℕ) → new ≡ after now (Docs (doc ∷ [])) → length now.docs ≡ k + i → length new.docs ≡ k + (i + 1)
-push-count now new doc k i is-new count = ap (λ (t : Tables). length t.docs) is-new ∙ length-append now.docs (doc ∷ []) ∙ one (length now.docs) k i count where
+pub push-count : (now new : Tables) (doc : Doc) (k i : ℕ) → new ≡ after now (Docs (doc ∷ [])) → length now.docs ≡ k + i
+    → length new.docs ≡ k + (i + 1)
+push-count now new doc k i is-new count = ap (λ (t : Tables). length t.docs) is-new ∙ length-append now.docs (doc ∷ [])
+    ∙ one (length now.docs) k i count where
   one : (n k i : ℕ) → n ≡ k + i → n + 1 ≡ k + (i + 1)
   one n k i e = omega (arith, e)
 
-each-more : (m : ℤ) (docs : List Doc) (doc : Doc) → Each (λ other. other.arrival ≤ℤ m) docs → doc.arrival ≤ℤ m → Each (λ other. other.arrival ≤ℤ m) (docs ++ doc ∷ [])
+each-more : (m : ℤ) (docs : List Doc) (doc : Doc) → Each (λ other. other.arrival ≤ℤ m) docs → doc.arrival ≤ℤ m
+    → Each (λ other. other.arrival ≤ℤ m) (docs ++ doc ∷ [])
 each-more m [] doc each le = (le, tt)
 each-more m (x ∷ docs) doc each le = (each.0, each-more m docs doc each.1 le)
 
-pub push-by : (now new : Tables) (m : ℤ) (doc : Doc) → new ≡ after now (Docs (doc ∷ [])) → doc.arrival ≤ℤ m → Each (λ other. other.arrival ≤ℤ m) now.docs → Each (λ other. other.arrival ≤ℤ m) new.docs
-push-by now new m doc is-new le each = subst (λ (t : Tables). Each (λ other. other.arrival ≤ℤ m) t.docs) (sym is-new) (each-more m now.docs doc each le)
+pub push-by : (now new : Tables) (m : ℤ) (doc : Doc) → new ≡ after now (Docs (doc ∷ [])) → doc.arrival ≤ℤ m
+    → Each (λ other. other.arrival ≤ℤ m) now.docs → Each (λ other. other.arrival ≤ℤ m) new.docs
+push-by now new m doc is-new le each =
+    subst (λ (t : Tables). Each (λ other. other.arrival ≤ℤ m) t.docs) (sym is-new) (each-more m now.docs doc each le)
 
 both-true : (a b : Bool) → (a && b) ≡ true → (a ≡ true) × (b ≡ true)
 both-true true true e = (refl, refl)
@@ -67,9 +77,11 @@ nat-le : (a b : ℕ) → nat_le a b ≡ true → a ≤ b
 nat-le a b e = grind arith
 
 -- the next message is short, and so are those after it
-pub push-short : (texts : List (List ℕ)) (text : List ℕ) (i : ℕ) → i < length texts → text ≡ slice_index_or texts i text → are_short (drop i texts) ≡ true → (length text ≤ 1048576) × (are_short (drop (i + 1) texts) ≡ true)
+pub push-short : (texts : List (List ℕ)) (text : List ℕ) (i : ℕ) → i < length texts → text ≡ slice_index_or texts i text
+    → are_short (drop i texts) ≡ true → (length text ≤ 1048576) × (are_short (drop (i + 1) texts) ≡ true)
 push-short texts text i lt is short =
-    let both = both-true (nat_le (length text) 1048576) (are_short (drop (i + 1) texts)) (sym (ap are_short (item-at i texts text lt is)) ∙ short) in
+    let both = both-true (nat_le (length text) 1048576) (are_short (drop (i + 1) texts))
+        (sym (ap are_short (item-at i texts text lt is)) ∙ short) in
     (nat-le (length text) 1048576 both.0, both.1)
 
 docs-many : (num : ℕ) (m : ℤ) (texts : List (List ℕ)) → length (docs_from num m texts) ≡ length texts
@@ -77,7 +89,9 @@ docs-many num m [] = refl
 docs-many num m (text ∷ texts) = ap suc (docs-many (num + 1) m texts)
 
 -- how many documents there are with those of some messages
-pub docs-room : (now new : Tables) (num : ℕ) (m : ℤ) (texts : List (List ℕ)) (room : ℕ) → new ≡ after now (Docs (docs_from num m texts)) → length now.docs + length texts ≤ room → length new.docs ≤ room
+pub docs-room : (now new : Tables) (num : ℕ) (m : ℤ) (texts : List (List ℕ)) (room : ℕ) → new ≡ after now (Docs (docs_from num m texts))
+    → length now.docs + length texts ≤ room → length new.docs ≤ room
 docs-room now new num m texts room is le =
-    let many : length new.docs ≡ length now.docs + length texts = ap (λ (t : Tables). length t.docs) is ∙ length-append now.docs (docs_from num m texts) ∙ ap (λ n. length now.docs + n) (docs-many num m texts) in
+    let many : length new.docs ≡ length now.docs + length texts = ap (λ (t : Tables). length t.docs) is
+        ∙ length-append now.docs (docs_from num m texts) ∙ ap (λ n. length now.docs + n) (docs-many num m texts) in
     omega (arith, many, le)

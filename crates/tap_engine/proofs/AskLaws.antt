@@ -28,7 +28,8 @@ one : (x : Option Refusal) → first_refusal (x ∷ []) ≡ x
 one None = refl
 one (Some x) = refl
 
-module _ (s : Session) (moment source : List ℕ) (m now : ℤ) (is-m : moment_of moment ≡ Some m) (is-now : s.moment ≡ Some now) (t : Tables) where
+module _ (s : Session) (moment source : List ℕ) (m now : ℤ) (is-m : moment_of moment ≡ Some m) (is-now : s.moment ≡ Some now)
+    (t : Tables) where
   -- the checks that are left once there are both moments
   left : verdict (Ask moment source) s t ≡ first_refusal (text_fault source ∷ refuse_unless (int_lt m now) (NotOver now) ∷ [])
   left =
@@ -39,13 +40,16 @@ module _ (s : Session) (moment source : List ℕ) (m now : ℤ) (is-m : moment_o
   pub ask-text : (refusal : Refusal) → (text_fault source ≡ Some refusal) ⊎ (refusal ≡ Memory) → Refuses refusal (Ask moment source) s t
   ask-text refusal (inl e) = inl (left ∙ ap (λ o. first_refusal (o ∷ refuse_unless (int_lt m now) (NotOver now) ∷ [])) e)
   ask-text refusal (inr e) =
-      inr (e, ap (λ o. is_some (first_refusal (missing BadMoment o ∷ no_moment s ∷ []))) is-m ∙ ap (λ o. is_some (first_refusal (None ∷ missing NoMoment o ∷ []))) is-now)
+      inr (e, ap (λ o. is_some (first_refusal (missing BadMoment o ∷ no_moment s ∷ []))) is-m
+          ∙ ap (λ o. is_some (first_refusal (None ∷ missing NoMoment o ∷ []))) is-now)
 
   fine : (c : Condition) → condition_of source ≡ Ok c → verdict (Ask moment source) s t ≡ refuse_unless (int_lt m now) (NotOver now)
-  fine c e = left ∙ ap (λ o. first_refusal (o ∷ refuse_unless (int_lt m now) (NotOver now) ∷ [])) (read-fine source c e).1 ∙ one (refuse_unless (int_lt m now) (NotOver now))
+  fine c e = left ∙ ap (λ o. first_refusal (o ∷ refuse_unless (int_lt m now) (NotOver now) ∷ [])) (read-fine source c e).1
+      ∙ one (refuse_unless (int_lt m now) (NotOver now))
 
   -- the second isn't over
-  pub ask-open : (c : Condition) (refusal : Refusal) → condition_of source ≡ Ok c → Some refusal ≡ refuse_unless (int_lt m now) (NotOver now) → Refuses refusal (Ask moment source) s t
+  pub ask-open : (c : Condition) (refusal : Refusal) → condition_of source ≡ Ok c
+      → Some refusal ≡ refuse_unless (int_lt m now) (NotOver now) → Refuses refusal (Ask moment source) s t
   ask-open c refusal e is = inl (fine c e ∙ sym is)
 
   filter-same : (p q : Doc → Bool) (docs : List Doc) → ((doc : Doc) → p doc ≡ q doc) → filter p docs ≡ filter q docs

@@ -1,5 +1,6 @@
 -- What well formed tables say of their rows, as an engine needs it.
-use Rattle.std.proofs.Common.{not, ◌≡◌, refl, arith, ℕ, ◌+◌, ◌≤◌, ℤ, pos, Bool, true, false, Option, Some, None, List, [], ◌∷◌, ◌++◌, length}
+use Rattle.std.proofs.Common.{not, ◌≡◌, refl, arith, ℕ, ◌+◌, ◌≤◌, ℤ, pos, Bool, true, false, Option, Some, None, List, [], ◌∷◌, ◌++◌}
+use Rattle.std.proofs.Common.{length}
 use Rattle.std.specs.Prelude.{◌≤ℤ◌, int_le}
 use Rattle.std.proofs.lemmas.Bool.{and_parts, false≢true}
 use Rattle.std.proofs.lemmas.Int.{ints}
@@ -16,7 +17,8 @@ use Rattle.tap_model.proofs.FormedRows.{equal, at-most, follows, one-of, placed}
 use Rattle.tap_kept.specs.Starting.{IsRowNumber, AreInOrder, FollowInOrder, PicksAreDistinct}
 use Rattle.tap_base.specs.Numbers.{IsMoment}
 
-docs-standing : (place : ℕ) (low : ℤ) (docs : List Doc) → pos 0 ≤ℤ low → docs_stand place low docs ≡ true → AreInOrder doc_number doc_arrival place low docs × Each (λ doc. length doc.text ≤ 1048576) docs
+docs-standing : (place : ℕ) (low : ℤ) (docs : List Doc) → pos 0 ≤ℤ low → docs_stand place low docs ≡ true
+    → AreInOrder doc_number doc_arrival place low docs × Each (λ doc. length doc.text ≤ 1048576) docs
 docs-standing place low [] from e = (tt, tt)
 docs-standing place low (doc ∷ docs) from e =
     let both = and_parts (doc_stands place low doc) (docs_stand (place + 1) doc.arrival docs) e in
@@ -43,17 +45,20 @@ notes-standing docs place low (note ∷ notes) from e =
     let moment = follows low note.arrival here.1 in
     let above : pos 0 ≤ℤ note.arrival = omega (arith, ints, moment.0, from) in
     let rest = notes-standing docs (place + 1) note.arrival notes above both.1 in
-    ((equal note.num.0 place here.0, moment.0, (above, moment.1), rest.0), (within (one-of (λ doc. int_le doc.arrival note.arrival) note.doc.0 docs this.1), rest.1))
+    ((equal note.num.0 place here.0, moment.0, (above, moment.1), rest.0),
+      (within (one-of (λ doc. int_le doc.arrival note.arrival) note.doc.0 docs this.1), rest.1))
 
 -- no query picks a document twice
 not-true : (b : Bool) → not b ≡ true → b ≡ false
 not-true true e = absurd (false≢true e)
 not-true false e = refl
 
-picks-once : (runs : List RunRow) (docs : List Doc) (earlier : List Pick) (place : ℕ) (before : Option Pick) (picks : List Pick) → picks_stand runs docs earlier place before picks ≡ true → PicksAreDistinct earlier picks
+picks-once : (runs : List RunRow) (docs : List Doc) (earlier : List Pick) (place : ℕ) (before : Option Pick) (picks : List Pick)
+    → picks_stand runs docs earlier place before picks ≡ true → PicksAreDistinct earlier picks
 picks-once runs docs earlier place before [] e = tt
 picks-once runs docs earlier place before (pick ∷ picks) e =
-    let both = and_parts (pick_stands runs docs earlier place before pick) (picks_stand runs docs (earlier ++ pick ∷ []) (place + 1) (Some pick) picks) e in
+    let both = and_parts (pick_stands runs docs earlier place before pick)
+        (picks_stand runs docs (earlier ++ pick ∷ []) (place + 1) (Some pick) picks) e in
     let order = and_parts _ _ both.0 in
     let once = and_parts _ _ order.0 in
     (not-true _ once.1, picks-once runs docs (earlier ++ pick ∷ []) (place + 1) (Some pick) picks both.1)
@@ -92,7 +97,8 @@ formed tables holds =
       moments = rows.arrivals;
       runs = rows.runs;
       times = rows.times;
-      owned = each-map (λ run. (1 ≤ run.query.0) × (run.query.0 ≤ length tables.queries)) (λ run. IsRowNumber run.query.0 (length tables.queries)) tables.runs (λ run owned. within owned) rows.owned;
+      owned = each-map (λ run. (1 ≤ run.query.0) × (run.query.0 ≤ length tables.queries))
+          (λ run. IsRowNumber run.query.0 (length tables.queries)) tables.runs (λ run owned. within owned) rows.owned;
       picked = rows.picks;
       once = picks-once tables.runs tables.docs [] 1 None tables.picks p.1;
     }

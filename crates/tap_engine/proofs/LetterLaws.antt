@@ -23,17 +23,22 @@ use Rattle.tap_engine.specs.Lists.{if_names, listing_in, cached_of, rated_by}
 use Rattle.tap_engine.proofs.AddedRows.{docs-are}
 use Rattle.tap_engine.proofs.CheckLaws.{named-kept}
 
-cached-is : (e : Engine) (t : Tables) (user name : List ℕ) → Represents e t → cached_of user name e ≡ if_names user name (option_map (cached_query t) (query_named user name t))
-cached-is e t user name represents = ap (λ found. if_names user name found) (ap (named_in user name) represents.queries ∙ named-kept t user name t.queries)
+cached-is : (e : Engine) (t : Tables) (user name : List ℕ) → Represents e t
+    → cached_of user name e ≡ if_names user name (option_map (cached_query t) (query_named user name t))
+cached-is e t user name represents =
+    ap (λ found. if_names user name found) (ap (named_in user name) represents.queries ∙ named-kept t user name t.queries)
 
 -- the listing of a query that there is
-rated-is : (e : Engine) (t : Tables) (user : List ℕ) (q : QueryRow) → Represents e t → rated_by user e (cached_query t q) ≡ listing_of (rules_of_user user t) t.docs (delivered q.num.0 t)
+rated-is : (e : Engine) (t : Tables) (user : List ℕ) (q : QueryRow) → Represents e t
+    → rated_by user e (cached_query t q) ≡ listing_of (rules_of_user user t) t.docs (delivered q.num.0 t)
 rated-is e t user q represents =
     ap (λ fs. listing_of (filter_rules (last_filter user fs)) e.index.docs (delivered q.num.0 t)) represents.filters
     ∙ ap (λ docs. listing_of (rules_of_user user t) docs (delivered q.num.0 t)) (docs-are represents)
 
-mapped : (e : Engine) (t : Tables) (user name : List ℕ) → Represents e t → IsSound t e.session → (o : Option QueryRow) → query_named user name t ≡ o
-    → option_map (rated_by user e) (option_map (cached_query t) o) ≡ option_map (λ query. listing_of (rules_of_user user t) t.docs (box_of_query query t)) o
+mapped : (e : Engine) (t : Tables) (user name : List ℕ) → Represents e t → IsSound t e.session → (o : Option QueryRow)
+    → query_named user name t ≡ o
+    → option_map (rated_by user e) (option_map (cached_query t) o)
+        ≡ option_map (λ query. listing_of (rules_of_user user t) t.docs (box_of_query query t)) o
 mapped e t user name represents sound None is = refl
 mapped e t user name represents sound (Some q) is =
     let box = box-is query_truth start_of truth-of-second t q t.queries (find-in (is_query_of user name) t.queries q is) sound.kept.each in
@@ -44,7 +49,8 @@ map-if f true o = refl
 map-if f false o = refl
 
 -- what is listed is the listing of the user's box
-pub listed-is : (e : Engine) (user name : List ℕ) (found : Option CachedQuery) → found ≡ cached_of user name e → (t : Tables) → Represents e t → IsSound t e.session → option_map (rated_by user e) found ≡ listing_in user name t
+pub listed-is : (e : Engine) (user name : List ℕ) (found : Option CachedQuery) → found ≡ cached_of user name e → (t : Tables)
+    → Represents e t → IsSound t e.session → option_map (rated_by user e) found ≡ listing_in user name t
 listed-is e user name found is t represents sound =
     ap (option_map (rated_by user e)) (is ∙ cached-is e t user name represents)
     ∙ map-if (rated_by user e) (is_name user && is_name name) (option_map (cached_query t) (query_named user name t))

@@ -1,5 +1,6 @@
 -- Look-ups: what is in memory shows what the tables say.
-use Rattle.std.proofs.Common.{◌≡◌, ◌∙◌, sym, refl, ap, subst, arith, ℕ, zero, suc, ◌+◌, ◌≤◌, ℤ, List, [], ◌∷◌, ◌++◌, length, map, Bool, true, false, Option, Some, None, nat_eq, if◌then◌else◌}
+use Rattle.std.proofs.Common.{◌≡◌, ◌∙◌, sym, refl, ap, subst, arith, ℕ, zero, suc, ◌+◌, ◌≤◌, ℤ, List, [], ◌∷◌, ◌++◌, length, map, Bool}
+use Rattle.std.proofs.Common.{true, false, Option, Some, None, nat_eq, if◌then◌else◌}
 use Rattle.std.specs.Prelude.{◌||◌, ◌&&◌, ◌==◌, ◌-◌, filter, nat_le, slice_get, Result, Ok, Err, OnOk, IfOk, IfErr}
 use Rattle.std.specs.Option.{option_or}
 use Rattle.std.specs.Str.{bytes_eq}
@@ -83,17 +84,24 @@ one None = refl
 one (Some x) = refl
 
 -- a look-up is refused as its verdict says
-lookup-verdict : (lookup : Lookup) (e : Engine) (t : Tables) → Represents e t → Numbered doc_number 1 e.index.docs → lookup_refusal lookup e ≡ verdict (Find lookup) e.session t
+lookup-verdict : (lookup : Lookup) (e : Engine) (t : Tables) → Represents e t → Numbered doc_number 1 e.index.docs
+    → lookup_refusal lookup e ≡ verdict (Find lookup) e.session t
 lookup-verdict (ShowDoc num) e t represents numbered =
-    doc-missing num e.index.docs numbered ∙ ap (λ docs. no_doc num (length docs)) (docs-are represents) ∙ sym (one (no_doc num (length t.docs)))
-lookup-verdict (ListNotes num) e t represents numbered = ap (λ docs. no_doc num (length docs)) (docs-are represents) ∙ sym (one (no_doc num (length t.docs)))
+    doc-missing num e.index.docs numbered ∙ ap (λ docs. no_doc num (length docs)) (docs-are represents)
+      ∙ sym (one (no_doc num (length t.docs)))
+lookup-verdict (ListNotes num) e t represents numbered = ap (λ docs. no_doc num (length docs)) (docs-are represents)
+    ∙ sym (one (no_doc num (length t.docs)))
 lookup-verdict ListQueries e t represents numbered = sym (one (no_user e.session))
 lookup-verdict Count e t represents numbered = refl
 
-lookup-refuses : (lookup : Lookup) (e : Engine) (refusal : Refusal) → Numbered doc_number 1 e.index.docs → LookupRefuses lookup e refusal → (t : Tables) → Represents e t → Refuses refusal (Find lookup) e.session t
-lookup-refuses (ShowDoc num) e refusal numbered by t represents = refused-after _ _ refusal (subst (λ v. RefusedBy v refusal) (lookup-verdict (ShowDoc num) e t represents numbered) by)
-lookup-refuses (ListNotes num) e refusal numbered by t represents = refused-after _ _ refusal (subst (λ v. RefusedBy v refusal) (lookup-verdict (ListNotes num) e t represents numbered) by)
-lookup-refuses ListQueries e refusal numbered by t represents = refused-after _ _ refusal (subst (λ v. RefusedBy v refusal) (lookup-verdict ListQueries e t represents numbered) by)
+lookup-refuses : (lookup : Lookup) (e : Engine) (refusal : Refusal) → Numbered doc_number 1 e.index.docs → LookupRefuses lookup e refusal
+    → (t : Tables) → Represents e t → Refuses refusal (Find lookup) e.session t
+lookup-refuses (ShowDoc num) e refusal numbered
+    by t represents = refused-after _ _ refusal (subst (λ v. RefusedBy v refusal) (lookup-verdict (ShowDoc num) e t represents numbered) by)
+lookup-refuses (ListNotes num) e refusal numbered by t represents =
+    refused-after _ _ refusal (subst (λ v. RefusedBy v refusal) (lookup-verdict (ListNotes num) e t represents numbered) by)
+lookup-refuses ListQueries e refusal numbered
+    by t represents = refused-after _ _ refusal (subst (λ v. RefusedBy v refusal) (lookup-verdict ListQueries e t represents numbered) by)
 lookup-refuses Count e refusal numbered by t represents = absurd by
 
 -- the last of some moments is the second that they cover, if there is one
@@ -109,7 +117,8 @@ line-same t q kept =
     query_text q.name
     (record { arrival = q.arrival; start = start_of q; runs = length (run_moments q.num.0 t.runs); last = last; boxed = length entries })
     (condition_text q.source) in
-    ap (λ last. shows last (cached_query t q).entries) (last-same (start_of q) (run_moments q.num.0 t.runs)) ∙ ap (shows (last_of (run_moments q.num.0 t.runs))) kept.box
+    ap (λ last. shows last (cached_query t q).entries) (last-same (start_of q) (run_moments q.num.0 t.runs))
+      ∙ ap (shows (last_of (run_moments q.num.0 t.runs))) kept.box
 
 -- the lines of the user's queries, whose boxes are what they delivered
 lines-same : (user : List ℕ) (t : Tables) (qs : List QueryRow) → Each (IsKeptQuery query_truth start_of t) qs
@@ -125,24 +134,31 @@ lines-same user t (q ∷ qs) each = go (bytes_eq q.owner user) (lines-same user 
   go true rest = both _ _ _ _ (line-same t q each.0) rest
   go false rest = rest
 
-moment-same : (e : Engine) (t : Tables) → Represents e t → option_or e.session.moment e.greatest ≡ option_or e.session.moment (greatest_moment t)
+moment-same : (e : Engine) (t : Tables) → Represents e t
+    → option_or e.session.moment e.greatest ≡ option_or e.session.moment (greatest_moment t)
 moment-same e t represents = go e.session.moment refl where
   go : (o : Option ℤ) → e.session.moment ≡ o → option_or e.session.moment e.greatest ≡ option_or e.session.moment (greatest_moment t)
   go None is = ap (option_or e.session.moment) (represents.greatest is)
   go (Some m) is = ap (λ o. option_or o e.greatest) is ∙ sym (ap (λ o. option_or o (greatest_moment t)) is)
 
-found-same : (lookup : Lookup) (e : Engine) (t : Tables) → Represents e t → IsSoundFor (Find lookup) t e.session → cached_found lookup e ≡ lookup_reply lookup e.session t
+found-same : (lookup : Lookup) (e : Engine) (t : Tables) → Represents e t → IsSoundFor (Find lookup) t e.session
+    → cached_found lookup e ≡ lookup_reply lookup e.session t
 found-same (ShowDoc num) e t represents sound = ap (λ docs. shown_doc num (doc_numbered num docs)) (docs-are represents)
 found-same (ListNotes num) e t represents sound =
-    ap (λ notes. Found (DocNotes num) (map note_text notes)) (notes-same num e.index.notes) ∙ ap (λ notes. Found (DocNotes num) (map note_text (notes_on num notes))) (notes-are represents)
+    ap (λ notes. Found (DocNotes num) (map note_text notes)) (notes-same num e.index.notes)
+      ∙ ap (λ notes. Found (DocNotes num) (map note_text (notes_on num notes))) (notes-are represents)
 found-same ListQueries e t represents sound =
-    ap (λ queries. Found UserQueries (owned_lines (user_of e.session) queries)) represents.queries ∙ ap (Found UserQueries) (lines-same (user_of e.session) t t.queries (sound.kept refl).each)
+    ap (λ queries. Found UserQueries (owned_lines (user_of e.session) queries)) represents.queries
+      ∙ ap (Found UserQueries) (lines-same (user_of e.session) t t.queries (sound.kept refl).each)
 found-same Count e t represents sound =
-    ap (λ docs. Found (Counts (length docs) (length e.index.notes) (or_zero (option_or e.session.moment e.greatest))) []) (docs-are represents)
-    ∙ ap (λ notes. Found (Counts (length t.docs) (length notes) (or_zero (option_or e.session.moment e.greatest))) []) (notes-are represents)
+    ap (λ docs. Found (Counts (length docs) (length e.index.notes) (or_zero (option_or e.session.moment e.greatest))) [])
+      (docs-are represents)
+    ∙ ap (λ notes. Found (Counts (length t.docs) (length notes) (or_zero (option_or e.session.moment e.greatest))) [])
+        (notes-are represents)
     ∙ ap (λ moment. Found (Counts (length t.docs) (length t.notes) (or_zero moment)) []) (moment-same e t represents)
 
-answers-lookup : (lookup : Lookup) (e : Engine) (t : Tables) (reply : Reply) → Represents e t → IsSoundFor (Find lookup) t e.session → Numbered doc_number 1 e.index.docs → lookup_refusal lookup e ≡ None → reply ≡ cached_found lookup e
+answers-lookup : (lookup : Lookup) (e : Engine) (t : Tables) (reply : Reply) → Represents e t → IsSoundFor (Find lookup) t e.session
+    → Numbered doc_number 1 e.index.docs → lookup_refusal lookup e ≡ None → reply ≡ cached_found lookup e
     → Answers t e.session (Find lookup) reply None e.session
 answers-lookup lookup e t reply represents sound numbered none is =
     let accepted = answers-accepted t e.session (Find lookup) (sym (lookup-verdict lookup e t represents numbered) ∙ none) in
@@ -154,24 +170,29 @@ answers-lookup lookup e t reply represents sound numbered none is =
     }
 
 -- what isn't refused is answered, and what is refused is as the model says
-pub each-answer : (lookup : Lookup) (e : Engine) (r : Result Reply Refusal) → Numbered doc_number 1 e.index.docs → OnOk r (lookup_refusal lookup e ≡ None) → IfOk r (λ reply. reply ≡ cached_found lookup e)
+pub each-answer : (lookup : Lookup) (e : Engine) (r : Result Reply Refusal) → Numbered doc_number 1 e.index.docs
+    → OnOk r (lookup_refusal lookup e ≡ None) → IfOk r (λ reply. reply ≡ cached_found lookup e)
     → IfOk r (ReadsAsModel e (Find lookup))
 each-answer lookup e (Ok reply) numbered none is = λ t represents sound. answers-lookup lookup e t reply represents sound numbered none is
 each-answer lookup e (Err refusal) numbered none is = tt
 
-pub each-refusal : (lookup : Lookup) (e : Engine) (r : Result Reply Refusal) → Numbered doc_number 1 e.index.docs → IfErr r (LookupRefuses lookup e) → IfErr r (RefusesAsModel e (Find lookup))
+pub each-refusal : (lookup : Lookup) (e : Engine) (r : Result Reply Refusal) → Numbered doc_number 1 e.index.docs
+    → IfErr r (LookupRefuses lookup e) → IfErr r (RefusesAsModel e (Find lookup))
 each-refusal lookup e (Ok reply) numbered by = tt
 each-refusal lookup e (Err refusal) numbered by = λ t represents. lookup-refuses lookup e refusal numbered by t represents
 
 -- the reply to a look-up is prepared as it is
-pub prepared-as : (lookup : Lookup) (e : Engine) (c : Command) (reply : Reply) (made : Prepared) → c ≡ Find lookup → made ≡ record { reply = reply; change = None; undo = Nothing } → ReadsAsModel e (Find lookup) reply
+pub prepared-as : (lookup : Lookup) (e : Engine) (c : Command) (reply : Reply) (made : Prepared) → c ≡ Find lookup
+    → made ≡ record { reply = reply; change = None; undo = Nothing } → ReadsAsModel e (Find lookup) reply
     → (t : Tables) → Represents e t → IsSoundFor c t e.session → Answers t e.session c made.reply made.change e.session
 prepared-as lookup e c reply made is made-is reads t represents =
     subst (λ k. IsSoundFor k t e.session → Answers t e.session k made.reply made.change e.session) (sym is)
-    (subst (λ m. IsSoundFor (Find lookup) t e.session → Answers t e.session (Find lookup) m.reply m.change e.session) (sym made-is) (reads t represents))
+    (subst (λ m. IsSoundFor (Find lookup) t e.session → Answers t e.session (Find lookup) m.reply m.change e.session) (sym made-is)
+      (reads t represents))
 
 -- the steps that a look-up may take
-pub most-lookup : (lookup : Lookup) (e : Engine) (new old : ℕ) → new ≤ old + cached_lookup_work lookup e → (t : Tables) → Represents e t → new ≤ old + most_steps (Find lookup) e.session t
+pub most-lookup : (lookup : Lookup) (e : Engine) (new old : ℕ) → new ≤ old + cached_lookup_work lookup e → (t : Tables) → Represents e t
+    → new ≤ old + most_steps (Find lookup) e.session t
 most-lookup lookup e new old le t represents = subst (λ n. new ≤ old + n) (go lookup) le where
   go : (lookup : Lookup) → cached_lookup_work lookup e ≡ lookup_work lookup t
   go (ShowDoc num) = refl

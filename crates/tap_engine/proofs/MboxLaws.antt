@@ -1,5 +1,6 @@
 -- Mailbox files: why one is refused, and what the engine represents after one.
-use Rattle.std.proofs.Common.{◌≡◌, ◌∙◌, sym, refl, ap, subst, arith, ℕ, ℤ, List, [], ◌∷◌, ◌+◌, ◌*◌, ◌≤◌, suc, length, Bool, true, false, Option, Some, None, inr}
+use Rattle.std.proofs.Common.{◌≡◌, ◌∙◌, sym, refl, ap, subst, arith, ℕ, ℤ, List, [], ◌∷◌, ◌+◌, ◌*◌, ◌≤◌, suc, length, Bool, true, false}
+use Rattle.std.proofs.Common.{Option, Some, None, inr}
 use Rattle.std.specs.Prelude.{◌&&◌, ◌==◌, nat_le, sum_by}
 use Rattle.std.specs.Option.{option_or}
 use Rattle.std.proofs.lemmas.List.{append-nil}
@@ -20,7 +21,8 @@ use Rattle.tap_model.specs.Limits.{document_limit, store_limit}
 use Rattle.tap_model.specs.declared.session.Session.{Session}
 use Rattle.tap_model.specs.Sessions.{moment_or_zero}
 use Rattle.tap_model.specs.Limits.{limit_refusal}
-use Rattle.tap_model.specs.Verdicts.{first_refusal, verdict, missing, refuse_unless, no_moment, messages_of, are_short, long_message, long_block, bytes_of_all}
+use Rattle.tap_model.specs.Verdicts.{first_refusal, verdict, missing, refuse_unless, no_moment, messages_of, are_short, long_message}
+use Rattle.tap_model.specs.Verdicts.{long_block, bytes_of_all}
 use Rattle.tap_model.specs.Replies.{docs_from, next_docs, some_docs, tables_after}
 use Rattle.tap_model.specs.Stories.{Refuses}
 use Rattle.tap_model.proofs.AnswerLaws.{some-none}
@@ -39,20 +41,25 @@ first-or (Some x) rest = refl
 pub mbox-verdict : (e : Engine) (t : Tables) (block : Block) → Represents e t → mbox_refusal e block ≡ verdict (Mbox block) e.session t
 unfolding mbox_bounds
 mbox-verdict e t block represents =
-    first-or (no_moment e.session) (long_message (messages_of block) ∷ long_block block ∷ limit_refusal Documents document_limit (length e.index.docs) (length (messages_of block)) ∷ limit_refusal Store store_limit e.bytes (bytes_of_all (messages_of block)) ∷ [])
+    first-or (no_moment e.session)
+      (long_message (messages_of block) ∷ long_block block ∷ limit_refusal Documents document_limit (length e.index.docs)
+        (length (messages_of block)) ∷ limit_refusal Store store_limit e.bytes (bytes_of_all (messages_of block)) ∷ [])
     ∙ rw (docs-are represents, represents.bytes) refl
 
 alone : (x : Option Refusal) → x ≡ first_refusal (x ∷ [])
 alone None = refl
 alone (Some x) = refl
 
-pub mbox-refuses : (e : Engine) (block : Block) (refusal : Refusal) → RefusedAfter (no_moment e.session) (mbox_refusal e block) refusal → (t : Tables) → Represents e t → Refuses refusal (Mbox block) e.session t
+pub mbox-refuses : (e : Engine) (block : Block) (refusal : Refusal) → RefusedAfter (no_moment e.session) (mbox_refusal e block) refusal
+    → (t : Tables) → Represents e t → Refuses refusal (Mbox block) e.session t
 mbox-refuses e block refusal by t represents =
-    refused-after _ _ refusal (subst (λ x. RefusedAfter x (verdict (Mbox block) e.session t) refusal) (alone (no_moment e.session)) (subst (λ v. RefusedAfter (no_moment e.session) v refusal) (mbox-verdict e t block represents) by))
+    refused-after _ _ refusal (subst (λ x. RefusedAfter x (verdict (Mbox block) e.session t) refusal) (alone (no_moment e.session))
+        (subst (λ v. RefusedAfter (no_moment e.session) v refusal) (mbox-verdict e t block represents) by))
 
 -- none is added without a moment
 pub mbox-moment : (e : Engine) (block : Block) → mbox_refusal e block ≡ None → e.session.moment ≡ None → ⊥
-mbox-moment e block none no_m = some-none NoMoment (sym (ap (λ m. option_or (missing NoMoment m) (mbox_bounds e block (messages_of block))) no_m) ∙ none)
+mbox-moment e block none no_m =
+    some-none NoMoment (sym (ap (λ m. option_or (missing NoMoment m) (mbox_bounds e block (messages_of block))) no_m) ∙ none)
 
 both-true : (a b : Bool) → (a && b) ≡ true → (a ≡ true) × (b ≡ true)
 both-true true true e = (refl, refl)
@@ -65,7 +72,8 @@ few-bytes [] e = omega arith
 few-bytes (message ∷ messages) e =
     let both = both-true (nat_le (length message) 1048576) (are_short messages) e in
     let rest = few-bytes messages both.1 in
-    rw (sum_by-cons length message messages) (step (length message) (bytes_of_all messages) (length messages) (le (length message) both.0) rest)
+    rw (sum_by-cons length message messages)
+      (step (length message) (bytes_of_all messages) (length messages) (le (length message) both.0) rest)
   where
     le : (n : ℕ) → nat_le n 1048576 ≡ true → n ≤ 1048576
     le n h = grind arith
@@ -78,34 +86,46 @@ pub docs-change : (t : Tables) (docs : List Doc) → tables_after (some_docs doc
 docs-change t [] = ap (λ docs. record t { docs = docs }) (sym (append-nil t.docs))
 docs-change t (doc ∷ docs) = refl
 
-docs-bytes : (num : ℕ) (moment : ℤ) (texts : List (List ℕ)) → sum_by (λ doc. length doc.text) (docs_from num moment texts) ≡ bytes_of_all texts
+docs-bytes : (num : ℕ) (moment : ℤ) (texts : List (List ℕ))
+    → sum_by (λ doc. length doc.text) (docs_from num moment texts) ≡ bytes_of_all texts
 docs-bytes num moment [] = refl
 docs-bytes num moment (text ∷ texts) =
-    sum_by-cons (λ doc. length doc.text) (record { num = record { 0 = num }; arrival = moment; text = text }) (docs_from (num + 1) moment texts)
+    sum_by-cons (λ doc. length doc.text) (record { num = record { 0 = num }; arrival = moment; text = text })
+        (docs_from (num + 1) moment texts)
     ∙ ap (λ n. length text + n) (docs-bytes (num + 1) moment texts) ∙ sym (sum_by-cons length text texts)
 
 -- the messages are added
-pub answers-mbox : (t : Tables) (s : Session) (block : Block) (texts : List (List ℕ)) (count first : ℕ) (n : ℕ) (moment : ℤ) (change : Option Change) (s' : Session) → verdict (Mbox block) s t ≡ None → texts ≡ messages_of block → moment ≡ moment_or_zero s
-    → count ≡ length texts → n ≡ length t.docs → first ≡ n + 1 → change ≡ some_docs (docs_from (n + 1) moment texts) → s' ≡ s → Answers t s (Mbox block) (DocsAdded count first) change s'
+pub answers-mbox : (t : Tables) (s : Session) (block : Block) (texts : List (List ℕ)) (count first : ℕ) (n : ℕ) (moment : ℤ)
+    (change : Option Change) (s' : Session) → verdict (Mbox block) s t ≡ None → texts ≡ messages_of block → moment ≡ moment_or_zero s
+    → count ≡ length texts → n ≡ length t.docs → first ≡ n + 1 → change ≡ some_docs (docs_from (n + 1) moment texts) → s' ≡ s
+        → Answers t s (Mbox block) (DocsAdded count first) change s'
 answers-mbox t s block texts count first n moment change s' none is at is-count is-n is-first is-change is-s =
     let accepted = answers-accepted t s (Mbox block) none in
     record {
       fine = none;
-      reply_is = ap (λ n. DocsAdded n first) (is-count ∙ ap length is) ∙ ap (DocsAdded (length (messages_of block))) (is-first ∙ ap (λ n. n + 1) is-n) ∙ accepted.reply_is;
-      change_is = is-change ∙ ap (λ m. some_docs (docs_from (n + 1) m texts)) at ∙ ap (λ texts. some_docs (docs_from (n + 1) (moment_or_zero s) texts)) is ∙ ap (λ n. some_docs (docs_from (n + 1) (moment_or_zero s) (messages_of block))) is-n ∙ accepted.change_is;
+      reply_is = ap (λ n. DocsAdded n first) (is-count ∙ ap length is)
+          ∙ ap (DocsAdded (length (messages_of block))) (is-first ∙ ap (λ n. n + 1) is-n) ∙ accepted.reply_is;
+      change_is = is-change ∙ ap (λ m. some_docs (docs_from (n + 1) m texts)) at
+          ∙ ap (λ texts. some_docs (docs_from (n + 1) (moment_or_zero s) texts)) is
+          ∙ ap (λ n. some_docs (docs_from (n + 1) (moment_or_zero s) (messages_of block))) is-n ∙ accepted.change_is;
       session_is = is-s ∙ accepted.session_is;
     }
 
 -- the engine with more documents
-pub represents-docs : (e : Engine) (t : Tables) (h : HitsWithRoom) (moment : ℤ) (texts : List (List ℕ)) → Represents e t → (e.session.moment ≡ None → ⊥)
-    → Represents (record e { index = after e.index (Docs (next_docs t moment texts)); hits = h; bytes = e.bytes + bytes_of_all texts }) (tables_after (some_docs (next_docs t moment texts)) t)
+pub represents-docs : (e : Engine) (t : Tables) (h : HitsWithRoom) (moment : ℤ) (texts : List (List ℕ)) → Represents e t
+    → (e.session.moment ≡ None → ⊥)
+    → Represents (record e { index = after e.index (Docs (next_docs t moment texts)); hits = h; bytes = e.bytes + bytes_of_all texts })
+        (tables_after (some_docs (next_docs t moment texts)) t)
 represents-docs e t h moment texts represents there = rw (docs-change t (next_docs t moment texts)) (record {
   rows = ap (λ rows. after rows (Docs (next_docs t moment texts))) represents.rows;
   queries = represents.queries;
   run_count = represents.run_count;
   pick_count = represents.pick_count;
-  bytes = more (sum_by (λ doc. length doc.text) t.docs) (sum_by (λ note. length note.text) t.notes) (sum_by (λ query. length query.source) t.queries) (sum_by (λ filter. length filter.source) t.filters) _ _ (bytes_of_all texts) represents.bytes
-      (sum_by-append (λ doc. length doc.text) t.docs (next_docs t moment texts) ∙ ap (λ n. sum_by (λ doc. length doc.text) t.docs + n) (docs-bytes (length t.docs + 1) moment texts));
+  bytes = more (sum_by (λ doc. length doc.text) t.docs) (sum_by (λ note. length note.text) t.notes)
+      (sum_by (λ query. length query.source) t.queries) (sum_by (λ filter. length filter.source) t.filters) _ _ (bytes_of_all texts)
+      represents.bytes
+      (sum_by-append (λ doc. length doc.text) t.docs (next_docs t moment texts)
+        ∙ ap (λ n. sum_by (λ doc. length doc.text) t.docs + n) (docs-bytes (length t.docs + 1) moment texts));
   users = represents.users;
   owners = represents.owners;
   filters = represents.filters;
@@ -116,12 +136,17 @@ represents-docs e t h moment texts represents there = rw (docs-change t (next_do
   more a b c d a' n k is e = omega (arith, is, e)
 
 -- the engine with more documents, by how many there are
-pub represents-more : (e : Engine) (t : Tables) (h : HitsWithRoom) (moment : ℤ) (texts : List (List ℕ)) → Represents e t → (e.session.moment ≡ None → ⊥)
-    → Represents (record e { index = after e.index (Docs (docs_from (length e.index.docs + 1) moment texts)); hits = h; bytes = e.bytes + bytes_of_all texts }) (tables_after (some_docs (docs_from (length e.index.docs + 1) moment texts)) t)
+pub represents-more : (e : Engine) (t : Tables) (h : HitsWithRoom) (moment : ℤ) (texts : List (List ℕ)) → Represents e t
+    → (e.session.moment ≡ None → ⊥)
+    → Represents (record e { index = after e.index (Docs (docs_from (length e.index.docs + 1) moment texts)); hits = h;
+            bytes = e.bytes + bytes_of_all texts }) (tables_after (some_docs (docs_from (length e.index.docs + 1) moment texts)) t)
 represents-more e t h moment texts represents there =
-    subst (λ n. Represents (record e { index = after e.index (Docs (docs_from (n + 1) moment texts)); hits = h; bytes = e.bytes + bytes_of_all texts }) (tables_after (some_docs (docs_from (n + 1) moment texts)) t)) (sym (ap length (docs-are represents))) (represents-docs e t h moment texts represents there)
+    subst (λ n. Represents (record e { index = after e.index (Docs (docs_from (n + 1) moment texts)); hits = h;
+              bytes = e.bytes + bytes_of_all texts }) (tables_after (some_docs (docs_from (n + 1) moment texts)) t))
+        (sym (ap length (docs-are represents))) (represents-docs e t h moment texts represents there)
 
 -- documents that there are
-pub docs-there : (num : ℕ) (moment : ℤ) (texts : List (List ℕ)) → (length texts == 0) ≡ false → Some (Docs (docs_from num moment texts)) ≡ some_docs (docs_from num moment texts)
+pub docs-there : (num : ℕ) (moment : ℤ) (texts : List (List ℕ)) → (length texts == 0) ≡ false
+    → Some (Docs (docs_from num moment texts)) ≡ some_docs (docs_from num moment texts)
 docs-there num moment [] some = absurd cc
 docs-there num moment (text ∷ texts) some = refl

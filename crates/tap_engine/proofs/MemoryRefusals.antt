@@ -23,11 +23,17 @@ first-none (suc n) [] none = refl
 first-none (suc n) (None ∷ list) none = first-none n list none
 first-none (suc n) (Some refusal ∷ list) none = absurd (some-none refusal none)
 
-pub define-memory : (e : Engine) (name source : List ℕ) → define_refusal e name source ≡ None → (t : Tables) → Represents e t → Refuses Memory (Define name source) e.session t
-define-memory e name source none t represents = inr (refl, ap is_some (first-none 4 (checks (Define name source) e.session t) (sym (define-verdict e t name source represents) ∙ none)))
+pub define-memory : (e : Engine) (name source : List ℕ) → define_refusal e name source ≡ None → (t : Tables) → Represents e t
+    → Refuses Memory (Define name source) e.session t
+define-memory e name source none t represents =
+    inr (refl, ap is_some (first-none 4 (checks (Define name source) e.session t) (sym (define-verdict e t name source represents) ∙ none)))
 
-pub filter-memory : (e : Engine) (block : Block) → filter_refusal e block ≡ None → (t : Tables) → Represents e t → Refuses Memory (Filter block) e.session t
-filter-memory e block none t represents = inr (refl, ap is_some (first-none 6 (checks (Filter block) e.session t) (sym (filter-verdict e t block represents) ∙ none)))
+pub filter-memory : (e : Engine) (block : Block) → filter_refusal e block ≡ None → (t : Tables) → Represents e t
+    → Refuses Memory (Filter block) e.session t
+filter-memory e block none t represents =
+    inr (refl, ap is_some (first-none 6 (checks (Filter block) e.session t) (sym (filter-verdict e t block represents) ∙ none)))
 
-pub mbox-memory : (e : Engine) (block : Block) → mbox_refusal e block ≡ None → (t : Tables) → Represents e t → Refuses Memory (Mbox block) e.session t
-mbox-memory e block none t represents = inr (refl, ap is_some (first-none 1 (checks (Mbox block) e.session t) (sym (mbox-verdict e t block represents) ∙ none)))
+pub mbox-memory : (e : Engine) (block : Block) → mbox_refusal e block ≡ None → (t : Tables) → Represents e t
+    → Refuses Memory (Mbox block) e.session t
+mbox-memory e block none t represents =
+    inr (refl, ap is_some (first-none 1 (checks (Mbox block) e.session t) (sym (mbox-verdict e t block represents) ∙ none)))

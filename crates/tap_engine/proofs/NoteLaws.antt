@@ -29,33 +29,43 @@ use Rattle.tap_engine.proofs.UndoLaws.{answers-accepted, refused-after}
 use Rattle.vote_scores.proofs.TallyLaws.{tally-more}
 use Rattle.vote_scores.specs.Tally.{with_vote}
 
-four : (a b c : Option Refusal) (rest : List (Option Refusal)) → option_or a (option_or b (option_or c (first_refusal rest))) ≡ first_refusal (a ∷ b ∷ c ∷ rest)
+four : (a b c : Option Refusal) (rest : List (Option Refusal))
+    → option_or a (option_or b (option_or c (first_refusal rest))) ≡ first_refusal (a ∷ b ∷ c ∷ rest)
 four (Some x) b c rest = refl
 four None (Some x) c rest = refl
 four None None (Some x) rest = refl
 four None None None rest = refl
 
 -- a note is refused as its verdict says
-pub note-verdict : (e : Engine) (t : Tables) (doc : ℕ) (kind : List ℕ) (value : ℤ) (text : List ℕ) → Represents e t → note_refusal e doc kind text ≡ verdict (AddNote doc kind value text) e.session t
+pub note-verdict : (e : Engine) (t : Tables) (doc : ℕ) (kind : List ℕ) (value : ℤ) (text : List ℕ) → Represents e t
+    → note_refusal e doc kind text ≡ verdict (AddNote doc kind value text) e.session t
 unfolding note_bounds
 note-verdict e t doc kind value text represents =
-    four (no_moment e.session) (no_user e.session) (bad_name kind) (no_doc doc (length e.index.docs) ∷ long_note (length text) ∷ limit_refusal Notes note_limit (length e.index.notes) 1 ∷ limit_refusal Store store_limit e.bytes (length text) ∷ [])
+    four (no_moment e.session) (no_user e.session) (bad_name kind) (no_doc doc (length e.index.docs) ∷ long_note (length text)
+        ∷ limit_refusal Notes note_limit (length e.index.notes) 1 ∷ limit_refusal Store store_limit e.bytes (length text) ∷ [])
     ∙ rw (docs-are represents, notes-are represents, represents.bytes) refl
 
-pub note-refuses : (e : Engine) (doc : ℕ) (kind : List ℕ) (value : ℤ) (text : List ℕ) (refusal : Refusal) → RefusedBy (note_refusal e doc kind text) refusal → (t : Tables) → Represents e t → Refuses refusal (AddNote doc kind value text) e.session t
-note-refuses e doc kind value text refusal by t represents = refused-after _ _ refusal (subst (λ v. RefusedBy v refusal) (note-verdict e t doc kind value text represents) by)
+pub note-refuses : (e : Engine) (doc : ℕ) (kind : List ℕ) (value : ℤ) (text : List ℕ) (refusal : Refusal)
+    → RefusedBy (note_refusal e doc kind text) refusal → (t : Tables) → Represents e t
+    → Refuses refusal (AddNote doc kind value text) e.session t
+note-refuses e doc kind value text refusal
+    by t represents = refused-after _ _ refusal (subst (λ v. RefusedBy v refusal) (note-verdict e t doc kind value text represents) by)
 
 -- a note isn't added without a moment
 pub note-moment : (e : Engine) (doc : ℕ) (kind text : List ℕ) → note_refusal e doc kind text ≡ None → e.session.moment ≡ None → ⊥
-note-moment e doc kind text none no_m = some-none NoMoment (sym (ap (λ m. option_or (missing NoMoment m) (option_or (no_user e.session) (option_or (bad_name kind) (note_bounds e doc (length text))))) no_m) ∙ none)
+note-moment e doc kind text none no_m = some-none NoMoment (sym (ap (λ m. option_or (missing NoMoment m)
+          (option_or (no_user e.session) (option_or (bad_name kind) (note_bounds e doc (length text))))) no_m) ∙ none)
 
 -- a note is added
-pub answers-note : (t : Tables) (s : Session) (doc : ℕ) (kind : List ℕ) (value : ℤ) (text : List ℕ) (n : ℕ) (note : Note) (change : Change) (s' : Session) → verdict (AddNote doc kind value text) s t ≡ None → n ≡ length t.notes
-    → note ≡ record { num = record { 0 = n + 1 }; doc = record { 0 = doc }; author = user_of s; kind = kind; value = value; arrival = moment_or_zero s; text = text } → change ≡ OneNote note → s' ≡ s
+pub answers-note : (t : Tables) (s : Session) (doc : ℕ) (kind : List ℕ) (value : ℤ) (text : List ℕ) (n : ℕ) (note : Note) (change : Change)
+    (s' : Session) → verdict (AddNote doc kind value text) s t ≡ None → n ≡ length t.notes
+    → note ≡ record { num = record { 0 = n + 1 }; doc = record { 0 = doc }; author = user_of s; kind = kind; value = value;
+          arrival = moment_or_zero s; text = text } → change ≡ OneNote note → s' ≡ s
     → Answers t s (AddNote doc kind value text) (NoteAdded note.num) (Some change) s'
 answers-note t s doc kind value text n note change s' none count is-note is-change is-s =
     let accepted = answers-accepted t s (AddNote doc kind value text) none in
-    let same : note ≡ next_note t s doc kind value text = is-note ∙ ap (λ n. record { num = record { 0 = n + 1 }; doc = record { 0 = doc }; author = user_of s; kind = kind; value = value; arrival = moment_or_zero s; text = text }) count in
+    let same : note ≡ next_note t s doc kind value text = is-note ∙ ap (λ n. record { num = record { 0 = n + 1 }; doc = record { 0 = doc };
+            author = user_of s; kind = kind; value = value; arrival = moment_or_zero s; text = text }) count in
     record {
       fine = none;
       reply_is = ap (λ note. NoteAdded note.num) same ∙ accepted.reply_is;
@@ -64,13 +74,17 @@ answers-note t s doc kind value text n note change s' none count is-note is-chan
     }
 
 -- the engine with one more note
-pub represents-note : (e : Engine) (t : Tables) (note : Note) → Represents e t → (e.session.moment ≡ None → ⊥) → Represents (record e { index = after e.index (OneNote note); votes = with_vote note e.votes; bytes = e.bytes + length note.text }) (after t (OneNote note))
+pub represents-note : (e : Engine) (t : Tables) (note : Note) → Represents e t → (e.session.moment ≡ None → ⊥)
+    → Represents (record e { index = after e.index (OneNote note); votes = with_vote note e.votes; bytes = e.bytes + length note.text })
+    (after t (OneNote note))
 represents-note e t note represents there = record {
   rows = ap (λ rows. after rows (OneNote note)) represents.rows;
   queries = represents.queries;
   run_count = represents.run_count;
   pick_count = represents.pick_count;
-  bytes = more (sum_by (λ doc. length doc.text) t.docs) (sum_by (λ note. length note.text) t.notes) (sum_by (λ query. length query.source) t.queries) (sum_by (λ filter. length filter.source) t.filters) _ _ (length note.text) represents.bytes (sum_by-append (λ note. length note.text) t.notes (note ∷ []));
+  bytes = more (sum_by (λ doc. length doc.text) t.docs) (sum_by (λ note. length note.text) t.notes)
+      (sum_by (λ query. length query.source) t.queries) (sum_by (λ filter. length filter.source) t.filters) _ _ (length note.text)
+      represents.bytes (sum_by-append (λ note. length note.text) t.notes (note ∷ []));
   users = represents.users;
   owners = represents.owners;
   filters = represents.filters;

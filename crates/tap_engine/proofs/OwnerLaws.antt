@@ -21,7 +21,8 @@ or-middle false false c = refl
 -- one more text is one more that may be looked for
 pub holds-in : (a b : List (List ℕ)) (u v : List ℕ) → has_text (a ++ u ∷ b) v ≡ (bytes_eq v u || has_text (a ++ b) v)
 holds-in a b u v =
-    list_any-append (λ other. bytes_eq v other) a (u ∷ b) ∙ or-middle (has_text a v) (bytes_eq v u) (has_text b v) ∙ ap (λ x. bytes_eq v u || x) (sym (list_any-append (λ other. bytes_eq v other) a b))
+    list_any-append (λ other. bytes_eq v other) a (u ∷ b) ∙ or-middle (has_text a v) (bytes_eq v u) (has_text b v)
+      ∙ ap (λ x. bytes_eq v u || x) (sym (list_any-append (λ other. bytes_eq v other) a b))
 
 same-both : (x y : List ℕ) → bytes_eq x y ≡ bytes_eq y x
 same-both x y = go (bytes_eq x y) refl (bytes_eq y x) refl where
@@ -32,33 +33,45 @@ same-both x y = go (bytes_eq x y) refl (bytes_eq y x) refl where
   go false e true f = subst (λ z. bytes_eq z y ≡ bytes_eq y z) (same-text y x f) refl
 
 -- two texts that count or don't, in either order
-either-first : (x u : Bool) (d : ℕ) → (if x then (if u then d else d + 1) else (if u then d else d + 1) + 1) ≡ (if u then (if x then d else d + 1) else (if x then d else d + 1) + 1)
+either-first : (x u : Bool) (d : ℕ) → (if x then (if u then d else d + 1) else (if u then d else d + 1) + 1)
+    ≡ (if u then (if x then d else d + 1) else (if x then d else d + 1) + 1)
 either-first true true d = refl
 either-first true false d = refl
 either-first false true d = refl
 either-first false false d = refl
 
-different-step : (x u : List ℕ) (a b : List (List ℕ)) → different (a ++ u ∷ b) ≡ (if has_text (a ++ b) u then different (a ++ b) else different (a ++ b) + 1) → (s : Bool) → bytes_eq x u ≡ s
-    → (if bytes_eq x u || has_text (a ++ b) x then different (a ++ u ∷ b) else different (a ++ u ∷ b) + 1) ≡ (if bytes_eq u x || has_text (a ++ b) u then (if has_text (a ++ b) x then different (a ++ b) else different (a ++ b) + 1) else (if has_text (a ++ b) x then different (a ++ b) else different (a ++ b) + 1) + 1)
+different-step : (x u : List ℕ) (a b : List (List ℕ))
+    → different (a ++ u ∷ b) ≡ (if has_text (a ++ b) u then different (a ++ b) else different (a ++ b) + 1) → (s : Bool) → bytes_eq x u ≡ s
+    → (if bytes_eq x u || has_text (a ++ b) x then different (a ++ u ∷ b) else different (a ++ u ∷ b) + 1)
+        ≡ (if bytes_eq u x || has_text (a ++ b) u then (if has_text (a ++ b) x then different (a ++ b) else different (a ++ b) + 1)
+          else (if has_text (a ++ b) x then different (a ++ b) else different (a ++ b) + 1) + 1)
 different-step x u a b rest true e =
-    rw (e, same-both u x ∙ e, rest) (ap (λ z. if has_text (a ++ b) z then different (a ++ b) else different (a ++ b) + 1) (sym (same-text x u e)))
-different-step x u a b rest false e = rw (e, same-both u x ∙ e, rest) (either-first (has_text (a ++ b) x) (has_text (a ++ b) u) (different (a ++ b)))
+    rw (e, same-both u x ∙ e, rest)
+      (ap (λ z. if has_text (a ++ b) z then different (a ++ b) else different (a ++ b) + 1) (sym (same-text x u e)))
+different-step x u a b rest false e =
+    rw (e, same-both u x ∙ e, rest) (either-first (has_text (a ++ b) x) (has_text (a ++ b) u) (different (a ++ b)))
 
 -- one more text counts unless it is there
-pub different-in : (a b : List (List ℕ)) (u : List ℕ) → different (a ++ u ∷ b) ≡ (if has_text (a ++ b) u then different (a ++ b) else different (a ++ b) + 1)
+pub different-in : (a b : List (List ℕ)) (u : List ℕ)
+    → different (a ++ u ∷ b) ≡ (if has_text (a ++ b) u then different (a ++ b) else different (a ++ b) + 1)
 different-in [] b u = refl
-different-in (x ∷ a) b u = ap (λ h. if h then different (a ++ u ∷ b) else different (a ++ u ∷ b) + 1) (holds-in a b u x) ∙ different-step x u a b (different-in a b u) (bytes_eq x u) refl
+different-in (x ∷ a) b u = ap (λ h. if h then different (a ++ u ∷ b) else different (a ++ u ∷ b) + 1) (holds-in a b u x)
+    ∙ different-step x u a b (different-in a b u) (bytes_eq x u) refl
 
-length-with : (h : Bool) (owners : List (List ℕ)) (u : List ℕ) → length (if h then owners else owners ++ u ∷ []) ≡ (if h then length owners else length owners + 1)
+length-with : (h : Bool) (owners : List (List ℕ)) (u : List ℕ)
+    → length (if h then owners else owners ++ u ∷ []) ≡ (if h then length owners else length owners + 1)
 length-with true owners u = refl
 length-with false owners u = length-append owners (u ∷ [])
 
 -- the owners in memory are as many as the different ones of the rows
-pub users-more : (owners : List (List ℕ)) (a b : List (List ℕ)) (u : List ℕ) → length owners ≡ different (a ++ b) → has_text owners u ≡ has_text (a ++ b) u → length (with_owner owners u) ≡ different (a ++ u ∷ b)
+pub users-more : (owners : List (List ℕ)) (a b : List (List ℕ)) (u : List ℕ) → length owners ≡ different (a ++ b)
+    → has_text owners u ≡ has_text (a ++ b) u → length (with_owner owners u) ≡ different (a ++ u ∷ b)
 users-more owners a b u count has = length-with (has_text owners u) owners u ∙ rw (has, count) (sym (different-in a b u))
 
-holds-with : (owners : List (List ℕ)) (u v : List ℕ) (h : Bool) → has_text owners u ≡ h → has_text (if h then owners else owners ++ u ∷ []) v ≡ (bytes_eq v u || has_text owners v)
-holds-with owners u v false e = list_any-append (λ other. bytes_eq v other) owners (u ∷ []) ∙ swapped (has_text owners v) (bytes_eq v u) where
+holds-with : (owners : List (List ℕ)) (u v : List ℕ) (h : Bool) → has_text owners u ≡ h
+    → has_text (if h then owners else owners ++ u ∷ []) v ≡ (bytes_eq v u || has_text owners v)
+holds-with owners u v false e = list_any-append (λ other. bytes_eq v other) owners (u ∷ [])
+    ∙ swapped (has_text owners v) (bytes_eq v u) where
   swapped : (a b : Bool) → (a || (b || false)) ≡ (b || a)
   swapped true true = refl
   swapped true false = refl
@@ -70,5 +83,7 @@ holds-with owners u v true e = go (bytes_eq v u) refl where
   go false f = rw f refl
 
 -- a user owns a query or a filter by the owners in memory if and only if by the rows
-pub owners-more : (owners : List (List ℕ)) (a b : List (List ℕ)) (u v : List ℕ) → ((w : List ℕ) → has_text owners w ≡ has_text (a ++ b) w) → has_text (with_owner owners u) v ≡ has_text (a ++ u ∷ b) v
-owners-more owners a b u v same = holds-with owners u v (has_text owners u) refl ∙ ap (λ x. bytes_eq v u || x) (same v) ∙ sym (holds-in a b u v)
+pub owners-more : (owners : List (List ℕ)) (a b : List (List ℕ)) (u v : List ℕ) → ((w : List ℕ) → has_text owners w ≡ has_text (a ++ b) w)
+    → has_text (with_owner owners u) v ≡ has_text (a ++ u ∷ b) v
+owners-more owners a b u v same = holds-with owners u v (has_text owners u) refl ∙ ap (λ x. bytes_eq v u || x) (same v)
+    ∙ sym (holds-in a b u v)

@@ -1,5 +1,6 @@
 -- The engine stays ready for its next step.
-use Rattle.std.proofs.Common.{◌≡◌, ◌∙◌, sym, refl, ap, subst, arith, ℕ, zero, suc, ◌+◌, ◌≤◌, ◌<◌, ℤ, List, [], ◌∷◌, ◌++◌, length, Bool, true, false, Option, Some, None, if◌then◌else◌}
+use Rattle.std.proofs.Common.{◌≡◌, ◌∙◌, sym, refl, ap, subst, arith, ℕ, zero, suc, ◌+◌, ◌≤◌, ◌<◌, ℤ, List, [], ◌∷◌, ◌++◌, length, Bool}
+use Rattle.std.proofs.Common.{true, false, Option, Some, None, if◌then◌else◌}
 use Rattle.std.specs.Prelude.{◌≤ℤ◌, int_le, find, slice_index_or, slice_set}
 use Rattle.std.specs.Option.{option_or}
 use Rattle.std.proofs.lemmas.Int.{ints}
@@ -47,7 +48,8 @@ no-kept : (x : CachedQuery) → None ≡ Some x → ⊥
 no-kept x e = cc
 
 -- what is found is at the place of its number
-found-at : (p : CachedQuery → Bool) (num runs : ℕ) (queries : List CachedQuery) (kept : CachedQuery) → CachedFrom num runs queries → find p queries ≡ Some kept → KeptAt num runs queries kept
+found-at : (p : CachedQuery → Bool) (num runs : ℕ) (queries : List CachedQuery) (kept : CachedQuery) → CachedFrom num runs queries
+    → find p queries ≡ Some kept → KeptAt num runs queries kept
 found-at p num runs [] kept from e = absurd (no-kept kept e)
 found-at p num runs (x ∷ queries) kept from e = go (p x) refl (found-at p (suc num) runs queries kept from.3) where
   here : x ≡ kept → KeptAt num runs (x ∷ queries) kept
@@ -58,7 +60,8 @@ found-at p num runs (x ∷ queries) kept from e = go (p x) refl (found-at p (suc
         high = omega (arith, is);
         few = subst (λ k. k.runs ≤ runs) same from.1;
         covered = subst (λ k. IsMoment k.covered) same from.2;
-        at = λ i d at. elim i as (λ i. kept.row.num.0 ≡ num + i → slice_index_or (x ∷ queries) i d ≡ kept) [ zero ↦ λ at. same | suc i ↦ λ at. absurd (omega (arith, is, at)) ] at;
+        at = λ i d at. elim i as (λ i. kept.row.num.0 ≡ num + i
+              → slice_index_or (x ∷ queries) i d ≡ kept) [ zero ↦ λ at. same | suc i ↦ λ at. absurd (omega (arith, is, at)) ] at;
       }
 
   later : KeptAt (suc num) runs queries kept → KeptAt num runs (x ∷ queries) kept
@@ -67,14 +70,16 @@ found-at p num runs (x ∷ queries) kept from e = go (p x) refl (found-at p (suc
     high = omega (arith, rest.high);
     few = rest.few;
     covered = rest.covered;
-    at = λ i d at. elim i as (λ i. kept.row.num.0 ≡ num + i → slice_index_or (x ∷ queries) i d ≡ kept) [ zero ↦ λ at. absurd (omega (arith, rest.low, at)) | suc i ↦ λ at. rest.at i d (omega (arith, at)) ] at;
+    at = λ i d at. elim i as (λ i. kept.row.num.0 ≡ num + i → slice_index_or (x ∷ queries) i d ≡ kept) [ zero ↦ λ at.
+          absurd (omega (arith, rest.low, at)) | suc i ↦ λ at. rest.at i d (omega (arith, at)) ] at;
   }
 
   go : (b : Bool) → p x ≡ b → (find p queries ≡ Some kept → KeptAt (suc num) runs queries kept) → KeptAt num runs (x ∷ queries) kept
   go true y rest = here (some-kept x kept (sym (ap (λ b. if b then Some x else find p queries) y) ∙ e))
   go false n rest = later (rest (sym (ap (λ b. if b then Some x else find p queries) n) ∙ e))
 
-pub named-at : (owner name : List ℕ) (num runs : ℕ) (queries : List CachedQuery) (kept : CachedQuery) → CachedFrom num runs queries → named_in owner name queries ≡ Some kept → KeptAt num runs queries kept
+pub named-at : (owner name : List ℕ) (num runs : ℕ) (queries : List CachedQuery) (kept : CachedQuery) → CachedFrom num runs queries
+    → named_in owner name queries ≡ Some kept → KeptAt num runs queries kept
 unfolding named_in
 named-at owner name num runs queries kept from e = found-at (λ kept. is_query_of owner name kept.row) num runs queries kept from e
 
@@ -99,31 +104,42 @@ due-at e name due ready is = go (cached_named e name) refl where
     kept = kept;
     named = some;
     at = named-at _ name 1 e.run_count e.queries kept ready.queries some;
-    is = same-due due (record { query = kept.row.num; moment = moment_or_zero e.session; runs = kept.runs; hits = cached_hits e (Some kept) }) (is ∙ ap (due_of e) some);
+    is = same-due due
+        (record { query = kept.row.num; moment = moment_or_zero e.session; runs = kept.runs; hits = cached_hits e (Some kept) })
+        (is ∙ ap (due_of e) some);
   }
 
 -- more runs of all
 more-runs : (num runs runs' : ℕ) (queries : List CachedQuery) → runs ≤ runs' → CachedFrom num runs queries → CachedFrom num runs' queries
 more-runs num runs runs' [] le from = tt
-more-runs num runs runs' (kept ∷ queries) le from = (from.0, omega (arith, from.1, le), from.2, more-runs (suc num) runs runs' queries le from.3)
+more-runs num runs runs' (kept ∷ queries) le from =
+    (from.0, omega (arith, from.1, le), from.2, more-runs (suc num) runs runs' queries le from.3)
 
 -- one more query
-pub kept-more : (num runs : ℕ) (queries : List CachedQuery) (row : QueryRow) → CachedFrom num runs queries → row.num.0 ≡ num + length queries → IsMoment (start_of row) → CachedFrom num runs (queries ++ never_run row ∷ [])
+pub kept-more : (num runs : ℕ) (queries : List CachedQuery) (row : QueryRow) → CachedFrom num runs queries
+    → row.num.0 ≡ num + length queries → IsMoment (start_of row) → CachedFrom num runs (queries ++ never_run row ∷ [])
 kept-more num runs [] row from is start = (omega (arith, is), omega arith, start, tt)
-kept-more num runs (kept ∷ queries) row from is start = (from.0, from.1, from.2, kept-more (suc num) runs queries row from.3 (omega (arith, is)) start)
+kept-more num runs (kept ∷ queries) row from is start =
+    (from.0, from.1, from.2, kept-more (suc num) runs queries row from.3 (omega (arith, is)) start)
 
 -- one more run of the query at a place
-pub kept-run : (num runs i : ℕ) (queries : List CachedQuery) (m : ℤ) (entries : List Entry) (d : CachedQuery) → CachedFrom num runs queries → IsMoment m → CachedFrom num (runs + 1) (slice_set queries i (after_run m entries (slice_index_or queries i d)))
+pub kept-run : (num runs i : ℕ) (queries : List CachedQuery) (m : ℤ) (entries : List Entry) (d : CachedQuery) → CachedFrom num runs queries
+    → IsMoment m → CachedFrom num (runs + 1) (slice_set queries i (after_run m entries (slice_index_or queries i d)))
 kept-run num runs i [] m entries d from moment = tt
-kept-run num runs zero (kept ∷ queries) m entries d from moment = (from.0, omega (arith, from.1), moment, more-runs (suc num) runs (runs + 1) queries (omega arith) from.3)
-kept-run num runs (suc i) (kept ∷ queries) m entries d from moment = (from.0, omega (arith, from.1), from.2, kept-run (suc num) runs i queries m entries d from.3 moment)
+kept-run num runs zero (kept ∷ queries) m entries d from moment =
+    (from.0, omega (arith, from.1), moment, more-runs (suc num) runs (runs + 1) queries (omega arith) from.3)
+kept-run num runs (suc i) (kept ∷ queries) m entries d from moment =
+    (from.0, omega (arith, from.1), from.2, kept-run (suc num) runs i queries m entries d from.3 moment)
 
 -- a run that is undone
-same-query : (kept : CachedQuery) (m : ℤ) (entries : List Entry) → before_run kept.covered kept.runs (length kept.entries) (after_run m entries kept) ≡ kept
-same-query kept m entries = ap (λ l. record { row = kept.row; covered = kept.covered; runs = kept.runs; entries = l }) (take-append_seam kept.entries entries)
+same-query : (kept : CachedQuery) (m : ℤ) (entries : List Entry)
+    → before_run kept.covered kept.runs (length kept.entries) (after_run m entries kept) ≡ kept
+same-query kept m entries =
+    ap (λ l. record { row = kept.row; covered = kept.covered; runs = kept.runs; entries = l }) (take-append_seam kept.entries entries)
 
 pub run-back : (i : ℕ) (queries : List CachedQuery) (m : ℤ) (entries : List Entry) (d : CachedQuery)
-    → without_run i (slice_index_or queries i d).covered (slice_index_or queries i d).runs (length (slice_index_or queries i d).entries) (slice_set queries i (after_run m entries (slice_index_or queries i d))) ≡ queries
+    → without_run i (slice_index_or queries i d).covered (slice_index_or queries i d).runs (length (slice_index_or queries i d).entries)
+        (slice_set queries i (after_run m entries (slice_index_or queries i d))) ≡ queries
 run-back i [] m entries d = refl
 run-back zero (kept ∷ queries) m entries d = ap (λ k. k ∷ queries) (same-query kept m entries)
 run-back (suc i) (kept ∷ queries) m entries d = ap (λ l. kept ∷ l) (run-back i queries m entries d)
@@ -134,9 +150,12 @@ length-set zero (kept ∷ queries) x = refl
 length-set (suc i) (kept ∷ queries) x = ap suc (length-set i queries x)
 
 -- the engine before a run
-pub undo-run : (e e' : Engine) (h : HitsWithRoom) (i : ℕ) (m : ℤ) (entries : List Entry) (runs picks : ℕ) (d : CachedQuery) → i < length e.queries → e.hits.room ≤ h.room
-    → e' ≡ record e { hits = h; queries = slice_set e.queries i (after_run m entries (slice_index_or e.queries i d)); run_count = runs; pick_count = picks } → UndoRestores (undo_run e i (slice_index_or e.queries i d)) e' e
-undo-run e e' h i m entries runs picks d lt room is = subst (λ e'. UndoRestores (undo_run e i (slice_index_or e.queries i d)) e' e) (sym is) (record {
+pub undo-run : (e e' : Engine) (h : HitsWithRoom) (i : ℕ) (m : ℤ) (entries : List Entry) (runs picks : ℕ) (d : CachedQuery)
+    → i < length e.queries → e.hits.room ≤ h.room
+    → e' ≡ record e { hits = h; queries = slice_set e.queries i (after_run m entries (slice_index_or e.queries i d)); run_count = runs;
+          pick_count = picks } → UndoRestores (undo_run e i (slice_index_or e.queries i d)) e' e
+undo-run e e' h i m entries runs picks d lt room is =
+    subst (λ e'. UndoRestores (undo_run e i (slice_index_or e.queries i d)) e' e) (sym is) (record {
   there = subst (λ n. i < n) (sym (length-set i e.queries (after_run m entries (slice_index_or e.queries i d)))) lt;
   before_is = record { same = ap (λ l. record e { hits = h; queries = l }) (run-back i e.queries m entries d); room = room };
 })
@@ -151,23 +170,30 @@ each-both P [] ys left right = right
 each-both P (x ∷ xs) ys left right = (left.0, each-both P xs ys left.1 right)
 
 -- the rows arrived by the session's moment
-pub rows-by : {A : Type 0} (f : A → ℤ) (e : Engine) (rows : List A) → RowsBy f (option_or e.session.moment e.greatest) rows → (e.session.moment ≡ None → ⊥) → Each (λ row. f row ≤ℤ moment_or_zero e.session) rows
+pub rows-by : {A : Type 0} (f : A → ℤ) (e : Engine) (rows : List A) → RowsBy f (option_or e.session.moment e.greatest) rows
+    → (e.session.moment ≡ None → ⊥) → Each (λ row. f row ≤ℤ moment_or_zero e.session) rows
 rows-by f e rows by there = go e.session.moment refl where
   go : (o : Option ℤ) → e.session.moment ≡ o → Each (λ row. f row ≤ℤ moment_or_zero e.session) rows
   go None none = absurd (there none)
-  go (Some m) is = subst (λ z. Each (λ row. f row ≤ℤ z) rows) (sym (ap or_zero is)) (subst (λ o. RowsBy f (option_or o e.greatest) rows) is by)
+  go (Some m) is =
+      subst (λ z. Each (λ row. f row ≤ℤ z) rows) (sym (ap or_zero is)) (subst (λ o. RowsBy f (option_or o e.greatest) rows) is by)
 
-by-rows : {A : Type 0} (f : A → ℤ) (e : Engine) (rows : List A) → (e.session.moment ≡ None → ⊥) → Each (λ row. f row ≤ℤ moment_or_zero e.session) rows → RowsBy f (option_or e.session.moment e.greatest) rows
+by-rows : {A : Type 0} (f : A → ℤ) (e : Engine) (rows : List A) → (e.session.moment ≡ None → ⊥)
+    → Each (λ row. f row ≤ℤ moment_or_zero e.session) rows → RowsBy f (option_or e.session.moment e.greatest) rows
 by-rows f e rows there each = go e.session.moment refl where
   go : (o : Option ℤ) → e.session.moment ≡ o → RowsBy f (option_or e.session.moment e.greatest) rows
   go None none = absurd (there none)
-  go (Some m) is = subst (λ o. RowsBy f (option_or o e.greatest) rows) (sym is) (subst (λ z. Each (λ row. f row ≤ℤ z) rows) (ap or_zero is) each)
+  go (Some m) is =
+      subst (λ o. RowsBy f (option_or o e.greatest) rows) (sym is) (subst (λ z. Each (λ row. f row ≤ℤ z) rows) (ap or_zero is) each)
 
-pub ready-docs : (e : Engine) (h : HitsWithRoom) (texts : List (List ℕ)) (bytes : ℕ) → IsReady e → (e.session.moment ≡ None → ⊥) → length (e.index.docs ++ docs_from (length e.index.docs + 1) (moment_or_zero e.session) texts) ≤ h.room
-    → IsReady (record e { index = after e.index (Docs (docs_from (length e.index.docs + 1) (moment_or_zero e.session) texts)); hits = h; bytes = bytes })
+pub ready-docs : (e : Engine) (h : HitsWithRoom) (texts : List (List ℕ)) (bytes : ℕ) → IsReady e → (e.session.moment ≡ None → ⊥)
+    → length (e.index.docs ++ docs_from (length e.index.docs + 1) (moment_or_zero e.session) texts) ≤ h.room
+    → IsReady (record e
+          { index = after e.index (Docs (docs_from (length e.index.docs + 1) (moment_or_zero e.session) texts)); hits = h; bytes = bytes })
 ready-docs e h texts bytes ready there room = record {
   docs = by-rows doc_arrival e (e.index.docs ++ docs_from (length e.index.docs + 1) (moment_or_zero e.session) texts) there
-      (each-both (λ doc. doc.arrival ≤ℤ moment_or_zero e.session) e.index.docs _ (rows-by doc_arrival e e.index.docs ready.docs there) (each-from (length e.index.docs + 1) (moment_or_zero e.session) texts));
+      (each-both (λ doc. doc.arrival ≤ℤ moment_or_zero e.session) e.index.docs _ (rows-by doc_arrival e e.index.docs ready.docs there)
+        (each-from (length e.index.docs + 1) (moment_or_zero e.session) texts));
   notes = ready.notes;
   queries = ready.queries;
   moment = ready.moment;
@@ -175,11 +201,13 @@ ready-docs e h texts bytes ready there room = record {
 }
 
 -- the engine with one more note, which arrives then
-pub ready-note : (e : Engine) (note : Note) (votes : List Vote) (bytes : ℕ) → IsReady e → note.arrival ≡ moment_or_zero e.session → (e.session.moment ≡ None → ⊥)
+pub ready-note : (e : Engine) (note : Note) (votes : List Vote) (bytes : ℕ) → IsReady e → note.arrival ≡ moment_or_zero e.session
+    → (e.session.moment ≡ None → ⊥)
     → IsReady (record e { index = after e.index (OneNote note); votes = votes; bytes = bytes })
 ready-note e note votes bytes ready at there = record {
   docs = ready.docs;
-  notes = by-rows note_arrival e (e.index.notes ++ note ∷ []) there (each-both (λ note. note.arrival ≤ℤ moment_or_zero e.session) e.index.notes (note ∷ []) (rows-by note_arrival e e.index.notes ready.notes there) (omega (arith, ints, at), tt));
+  notes = by-rows note_arrival e (e.index.notes ++ note ∷ []) there (each-both (λ note. note.arrival ≤ℤ moment_or_zero e.session)
+        e.index.notes (note ∷ []) (rows-by note_arrival e e.index.notes ready.notes there) (omega (arith, ints, at), tt));
   queries = ready.queries;
   moment = ready.moment;
   room = ready.room;
@@ -196,12 +224,14 @@ each-later : {A : Type 0} (f : A → ℤ) (m n : ℤ) (rows : List A) → m ≤�
 each-later f m n [] le each = tt
 each-later f m n (row ∷ rows) le each = (omega (arith, ints, each.0, le), each-later f m n rows le each.1)
 
-by-second : {A : Type 0} (f : A → ℤ) (last : Option ℤ) (second : ℤ) (rows : List A) → RowsBy f last rows → is_back last (Some second) ≡ None → Each (λ row. f row ≤ℤ second) rows
+by-second : {A : Type 0} (f : A → ℤ) (last : Option ℤ) (second : ℤ) (rows : List A) → RowsBy f last rows → is_back last (Some second) ≡ None
+    → Each (λ row. f row ≤ℤ second) rows
 by-second f None second rows by none = subst (λ rows. Each (λ row. f row ≤ℤ second) rows) (sym by) tt
 by-second f (Some last) second rows by none = each-later f last second rows (not-back last second none) by
 
 -- a moment that is set
-pub ready-at : (e : Engine) (second : ℤ) → IsReady e → IsMoment second → is_back (option_or e.session.moment e.greatest) (Some second) ≡ None → IsReady (record e { session = record e.session { moment = Some second } })
+pub ready-at : (e : Engine) (second : ℤ) → IsReady e → IsMoment second → is_back (option_or e.session.moment e.greatest) (Some second)
+    ≡ None → IsReady (record e { session = record e.session { moment = Some second } })
 ready-at e second ready range none = record {
   docs = by-second doc_arrival (option_or e.session.moment e.greatest) second e.index.docs ready.docs none;
   notes = by-second note_arrival (option_or e.session.moment e.greatest) second e.index.notes ready.notes none;
@@ -226,7 +256,8 @@ index-moment e ready there = let moment = moment_or_zero-moment e ready there in
 
 -- an engine that is unchanged but for its hits stays ready
 pub ready-still : (e e' : Engine) → IsReady e → IsUnchangedButHits e' e → IsReady e'
-ready-still e e' ready still = subst IsReady (sym still.same) (record { docs = ready.docs; notes = ready.notes; queries = ready.queries; moment = ready.moment; room = omega (arith, ready.room, still.room) })
+ready-still e e' ready still = subst IsReady (sym still.same) (record { docs = ready.docs; notes = ready.notes; queries = ready.queries;
+        moment = ready.moment; room = omega (arith, ready.room, still.room) })
 
 pub some-moment : (moment : Option ℤ) (m : ℤ) → moment ≡ Some m → moment ≡ None → ⊥
 some-moment moment m is none = no-moment m (sym is ∙ none) where

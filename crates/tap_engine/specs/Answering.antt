@@ -26,7 +26,8 @@ use Rattle.tap_engine.specs.declared.undo.Undo.{Undo}
 use Rattle.tap_engine.specs.declared.undo.Undo.TheVariants.{Nothing, Docs, Note, Query, Filter, Run}
 
 -- the command isn't refused; its reply, the rows that it adds and the session after it are those of the model's answer
-pub record Answers (tables : Tables) (session : Session) (command : Command) (reply : Reply) (change : Option Change) (session' : Session) : Type 0 where
+pub record Answers (tables : Tables) (session : Session) (command : Command) (reply : Reply) (change : Option Change) (session' : Session) :
+    Type 0 where
   pub fine : verdict command session tables ≡ None
   pub reply_is : reply ≡ (answer_of command session tables).reply
   pub change_is : change ≡ (answer_of command session tables).change
@@ -62,9 +63,12 @@ pub record AddsRows (command : Command) (session : Session) (tables : Tables) : 
 abbrev pub undone : Undo → Engine → Engine
 undone Nothing engine = engine
 undone (Docs len bytes) engine = record engine { index = record engine.index { docs = take len engine.index.docs }; bytes = bytes }
-undone (Note bytes vote) engine = record engine { index = without_last_note engine.index; votes = Tally.without_vote vote engine.votes; bytes = bytes }
-undone (Query len owners bytes) engine = record engine { queries = take len engine.queries; owners = take owners engine.owners; bytes = bytes }
-undone (Filter len owners bytes) engine = record engine { filters = take len engine.filters; owners = take owners engine.owners; bytes = bytes }
+undone (Note bytes vote) engine =
+    record engine { index = without_last_note engine.index; votes = Tally.without_vote vote engine.votes; bytes = bytes }
+undone (Query len owners bytes) engine =
+    record engine { queries = take len engine.queries; owners = take owners engine.owners; bytes = bytes }
+undone (Filter len owners bytes) engine =
+    record engine { filters = take len engine.filters; owners = take owners engine.owners; bytes = bytes }
 undone (Run place covered runs entries run_count pick_count) engine =
     record engine { queries = without_run place covered runs entries engine.queries; run_count = run_count; pick_count = pick_count }
 

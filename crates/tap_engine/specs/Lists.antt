@@ -19,7 +19,8 @@ use Rattle.tap_kept.specs.Keeping.{named_in}
 -- what a query has delivered, rated by the user's last filter
 abbrev pub cached_rows : Engine → Option CachedQuery → Option (List Listed)
 cached_rows engine None = None
-cached_rows engine (Some kept) = Some (listing_of (filter_rules (last_filter (user_of engine.session) engine.filters)) engine.index.docs kept.entries)
+cached_rows engine (Some kept) =
+    Some (listing_of (filter_rules (last_filter (user_of engine.session) engine.filters)) engine.index.docs kept.entries)
 
 -- the lines that explain a query
 abbrev pub cached_lines : Option CachedQuery → Option (List (List ℕ))
@@ -29,7 +30,8 @@ cached_lines (Some kept) = Some (lines_of kept.row)
 -- the lines of the digest of one run of a query
 abbrev pub cached_digest : Engine → List ℕ → ℕ → Option CachedQuery → Option (List (List ℕ))
 cached_digest engine name ordinal None = None
-cached_digest engine name ordinal (Some kept) = Some (digest_lines name ordinal (digested engine.index.docs (entries_in_run ordinal kept.entries)))
+cached_digest engine name ordinal (Some kept) =
+    Some (digest_lines name ordinal (digested engine.index.docs (entries_in_run ordinal kept.entries)))
 
 -- this, if both are names
 abbrev pub if_names : {T : Type 0} → List ℕ → List ℕ → Option T → Option T

@@ -11,7 +11,8 @@ use Rattle.tap_base.specs.Numbers.{IsMoment}
 -- the seconds up to a moment
 abbrev pub CachedFrom : ℕ → ℕ → List CachedQuery → Type 0
 CachedFrom num runs [] = Unit {0}
-CachedFrom num runs (kept ∷ queries) = (kept.row.num.0 ≡ num) × (kept.runs ≤ runs) × IsMoment kept.covered × CachedFrom (suc num) runs queries
+CachedFrom num runs (kept ∷ queries) = (kept.row.num.0 ≡ num) × (kept.runs ≤ runs) × IsMoment kept.covered
+    × CachedFrom (suc num) runs queries
 
 -- no row arrived after this moment; without a moment there is no row
 abbrev pub RowsBy : {A : Type 0} → (A → ℤ) → Option ℤ → List A → Type 0

@@ -74,7 +74,8 @@ query_limits engine user len =
 
 -- why a new query is refused before its text is read
 abbrev pub early_define : Engine → List ℕ → Option Refusal
-early_define engine name = option_or (no_moment engine.session) (option_or (no_user engine.session) (name_refusal engine (user_of engine.session) name))
+early_define engine name =
+    option_or (no_moment engine.session) (option_or (no_user engine.session) (name_refusal engine (user_of engine.session) name))
 
 -- why a new query is refused
 abbrev pub define_refusal : Engine → List ℕ → List ℕ → Option Refusal

@@ -39,10 +39,12 @@ impl Engine {
         steps: &mut Steps<L>,
     ) -> Result<Reply, Refusal>
         ensures ok { IfOk result (ReadsAsModel self.now (Command.Ask moment.now source.now)) }
-        ensures refusal { IfErr result (RefusesAsModel self.now (Command.Ask moment.now source.now)) }
+        ensures refusal { IfErr result
+            (RefusesAsModel self.now (Command.Ask moment.now source.now)) }
         ensures short { IfOk result (λ reply. HasShortNames reply) }
         ensures accepted { IfOk result (λ reply. is_accepted reply ≡ true) }
-        ensures most { TakesAtMost self.now (Command.Ask moment.now source.now) steps.old steps.new }
+        ensures most { TakesAtMost self.now (Command.Ask moment.now source.now)
+            steps.old steps.new }
     {
         let Some(second) = second_of(moment) else {
             return Err(Refusal::BadMoment);

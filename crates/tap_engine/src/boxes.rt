@@ -14,13 +14,16 @@ use tap_rows::Entry;
 
 impl Engine {
     ghost use Rattle.tap_engine.specs.Answering.{ReadsAsModel, RefusesAsModel};
-    ghost use Rattle.tap_engine.specs.Standing.{look_refusal, cached_named, cached_entries, RefusedBy};
+    ghost use Rattle.tap_engine.specs.Standing.{look_refusal, cached_named, cached_entries};
+    ghost use Rattle.tap_engine.specs.Standing.{RefusedBy};
 
     // Copies what the user's query of this name has delivered.
     fn entries_named(&self, alloc: Global, name: &[u8]) -> Result<Rows<Entry>, Refusal>
         ensures look { OnOk result (look_refusal self.now name.now ≡ None) }
-        ensures entries { IfOk result (λ entries. Some entries ≡ cached_entries (cached_named self.now name.now)) }
-        ensures refusal { IfErr result (λ refusal. RefusedBy (look_refusal self.now name.now) refusal) }
+        ensures entries { IfOk result (λ entries.
+            Some entries ≡ cached_entries (cached_named self.now name.now)) }
+        ensures refusal { IfErr result (λ refusal.
+            RefusedBy (look_refusal self.now name.now) refusal) }
         ensures name { OnOk result (is_name name.now ≡ true) }
     {
         let kept = self.look(name)?;

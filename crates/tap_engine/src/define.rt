@@ -65,8 +65,10 @@ fn push_query(
 }
 
 impl Engine {
-    ghost use Rattle.tap_engine.specs.Answering.{AnswersAsModel, RepresentsNext, RefusesAsModel, IsUndoable};
-    ghost use Rattle.tap_engine.specs.Standing.{name_refusal, query_limits, early_define, define_refusal, RefusedAfter};
+    ghost use Rattle.tap_engine.specs.Answering.{AnswersAsModel, RepresentsNext, RefusesAsModel};
+    ghost use Rattle.tap_engine.specs.Answering.{IsUndoable};
+    ghost use Rattle.tap_engine.specs.Standing.{name_refusal, query_limits, early_define};
+    ghost use Rattle.tap_engine.specs.Standing.{define_refusal, RefusedAfter};
     ghost use Rattle.tap_engine.specs.Ready.{IsReady};
 
     // Adds a query that was never run, and gives its row as a change. At Err nothing has changed.
@@ -95,7 +97,8 @@ impl Engine {
 
     // Refuses a name that one of the user's queries has.
     fn refuse_taken(&self, user: &[u8], name: &[u8]) -> Result<(), Refusal>
-        ensures { result_err result ≡ refuse_unless (is_none (named_in user.now name.now self.now.queries)) Refusal.Taken }
+        ensures { result_err result
+            ≡ refuse_unless (is_none (named_in user.now name.now self.now.queries)) Refusal.Taken }
     {
         if self.queries.named(user, name).is_some() {
             Err(Refusal::Taken)
@@ -162,7 +165,8 @@ impl Engine {
         ensures cond { IfOk result (λ made. condition made.1 ≡ condition_by made.0) }
         ensures scoped { IfOk result (λ made. IsQuery (condition made.1)) }
         ensures bounded { IfOk result (λ made. are_bounded (condition made.1) ≡ true) }
-        ensures refusal { IfErr result (λ refusal. RefusedAfter (early_define self.now name) (define_refusal self.now name source) refusal) }
+        ensures refusal { IfErr result (λ refusal. RefusedAfter (early_define self.now name)
+            (define_refusal self.now name source) refusal) }
         ensures bytes { IfOk result (λ made. self.now.bytes + length made.0.source < 2 ^ 64) }
         ensures name { OnOk result (is_name name ≡ true) }
     {
@@ -185,7 +189,8 @@ impl Engine {
         Ok((row, cond))
     }
 
-    // Defines a query, which covers the seconds from 0 on, or from the session's moment on if its text is `FROM NOW`.
+    // Defines a query, which covers the seconds from 0 on, or from the session's moment on if its
+    // text is `FROM NOW`.
     pub(crate) fn define(
         &mut self,
         alloc: Global,
@@ -194,7 +199,8 @@ impl Engine {
     ) -> Result<Prepared, Refusal>
         requires ready { IsReady self.old }
         ensures ok { IfOk result (AnswersAsModel self.old (Command.Define name source) self.new) }
-        ensures represents { IfOk result (RepresentsNext self.old (Command.Define name source) self.new) }
+        ensures represents { IfOk result
+            (RepresentsNext self.old (Command.Define name source) self.new) }
         ensures refusal { IfErr result (RefusesAsModel self.old (Command.Define name source)) }
         ensures err { OnErr result (self.new ≡ self.old) }
         ensures undo { IfOk result (IsUndoable self.old self.new) }

@@ -29,12 +29,13 @@ fn refuse_run(ordinal: u32, runs: u32) -> Result<(), Refusal>
 
 impl Engine {
     ghost use Rattle.tap_engine.specs.Answering.{ReadsAsModel, RefusesAsModel};
-    ghost use Rattle.tap_engine.specs.Standing.{look_refusal, digest_refusal, cached_named, RefusedAfter};
+    ghost use Rattle.tap_engine.specs.Standing.{look_refusal, digest_refusal, cached_named};
+    ghost use Rattle.tap_engine.specs.Standing.{RefusedAfter};
     ghost use Rattle.tap_engine.specs.Lists.{cached_digest};
     ghost use Rattle.tap_engine.specs.Costs.{TakesAtMost, cached_digest_work};
 
-    // Makes the lines of the digest of one run of the user's query of this name. A query with more runs than a `u32` counts
-    // is refused as out of memory: no store has that many.
+    // Makes the lines of the digest of one run of the user's query of this name. A query with more
+    // runs than a `u32` counts is refused as out of memory: no store has that many.
     fn digest_named<L: Ledger>(
         &self,
         alloc: Global,
@@ -43,10 +44,13 @@ impl Engine {
         steps: &mut Steps<L>,
     ) -> Result<Texts, Refusal>
         ensures look { OnOk result (digest_refusal self.now name.now ordinal ≡ None) }
-        ensures lines { IfOk result (λ lines. Some lines ≡ cached_digest self.now name.now ordinal (cached_named self.now name.now)) }
-        ensures refusal { IfErr result (λ refusal. RefusedAfter (look_refusal self.now name.now) (digest_refusal self.now name.now ordinal) refusal) }
+        ensures lines { IfOk result (λ lines.
+            Some lines ≡ cached_digest self.now name.now ordinal (cached_named self.now name.now)) }
+        ensures refusal { IfErr result (λ refusal. RefusedAfter (look_refusal self.now name.now)
+            (digest_refusal self.now name.now ordinal) refusal) }
         ensures name { OnOk result (is_name name.now ≡ true) }
-        ensures steps { steps.new ≤ steps.old + cached_digest_work ordinal (cached_named self.now name.now) }
+        ensures steps { steps.new
+            ≤ steps.old + cached_digest_work ordinal (cached_named self.now name.now) }
     {
         let kept = self.look(name)?;
         if kept.runs > u32::MAX as usize {
@@ -58,7 +62,8 @@ impl Engine {
         Ok(lines)
     }
 
-    // Shows the documents that one run of the user's query of this name delivered, as the lines of one message.
+    // Shows the documents that one run of the user's query of this name delivered, as the lines of
+    // one message.
     pub(crate) fn show_digest<L: Ledger>(
         &self,
         alloc: Global,

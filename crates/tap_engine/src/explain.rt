@@ -18,8 +18,10 @@ impl Engine {
     // Makes the lines that explain the user's query of this name.
     fn lines_named(&self, alloc: Global, name: &[u8]) -> Result<Texts, Refusal>
         ensures look { OnOk result (look_refusal self.now name.now ≡ None) }
-        ensures lines { IfOk result (λ lines. Some lines ≡ cached_lines (cached_named self.now name.now)) }
-        ensures refusal { IfErr result (λ refusal. RefusedBy (look_refusal self.now name.now) refusal) }
+        ensures lines { IfOk result (λ lines.
+            Some lines ≡ cached_lines (cached_named self.now name.now)) }
+        ensures refusal { IfErr result (λ refusal.
+            RefusedBy (look_refusal self.now name.now) refusal) }
         ensures name { OnOk result (is_name name.now ≡ true) }
     {
         let kept = self.look(name)?;

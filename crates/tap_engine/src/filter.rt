@@ -11,7 +11,8 @@ ghost use Rattle.filter_rules.specs.Rules.{rules_in};
 ghost use Rattle.filter_rules.specs.RuleTexts.{IsWithin};
 ghost use Rattle.tap_model.specs.Filters.{rules_in_text};
 ghost use Rattle.tap_model.specs.Sessions.{moment_or_zero, user_of};
-ghost use Rattle.tap_model.specs.Verdicts.{first_refusal, rule_refusal, filter_fault, long_filter, block_text};
+ghost use Rattle.tap_model.specs.Verdicts.{first_refusal, rule_refusal, filter_fault, long_filter};
+ghost use Rattle.tap_model.specs.Verdicts.{block_text};
 ghost use Rattle.tap_kept.specs.Keeping.{with_owner};
 
 use crate::define::push_owner;
@@ -56,13 +57,20 @@ fn refusal_of(fault: RuleFault) -> Refusal
 }
 
 // Reads the rules of a filter's text, or refuses its first fault.
-#[tactic(auto, unfolding(tap_model::specs::Verdicts::filter_fault, tap_model::specs::Filters::rules_in_text))]
+#[tactic(
+    auto,
+    unfolding(
+        tap_model::specs::Verdicts::filter_fault,
+        tap_model::specs::Filters::rules_in_text
+    )
+)]
 fn read_fine_rules(alloc: Global, source: &[u8]) -> Result<Rules, Refusal>
     requires { length source.now ≤ FILTER_LIMIT }
     ensures fine { OnOk result (filter_fault source.now ≡ None) }
     ensures rules { IfOk result (λ rules. rules_in rules ≡ rules_in_text source.now) }
     ensures few { IfOk result (λ rules. length (rules_in rules) ≤ RULE_LIMIT) }
-    ensures refusal { IfErr result (λ refusal. (filter_fault source.now ≡ Some refusal) ⊎ (refusal ≡ Refusal.Memory)) }
+    ensures refusal { IfErr result (λ refusal. (filter_fault source.now ≡ Some refusal)
+        ⊎ (refusal ≡ Refusal.Memory)) }
 {
     match read_rules(alloc, source) {
         Ok(rules) => Ok(rules),
@@ -91,7 +99,8 @@ fn push_filter(
 }
 
 impl Engine {
-    ghost use Rattle.tap_engine.specs.Answering.{AnswersAsModel, RepresentsNext, RefusesAsModel, IsUndoable};
+    ghost use Rattle.tap_engine.specs.Answering.{AnswersAsModel, RepresentsNext, RefusesAsModel};
+    ghost use Rattle.tap_engine.specs.Answering.{IsUndoable};
     ghost use Rattle.tap_engine.specs.Standing.{RefusedAfter};
     ghost use Rattle.tap_engine.specs.Ready.{IsReady};
     ghost use Rattle.tap_engine.specs.FilterChecks.{filter_limits, early_filter, filter_refusal};
@@ -124,7 +133,8 @@ impl Engine {
         }) }
         ensures rules { IfOk result (λ made. rules_in made.1 ≡ rules_in_text (block_text block)) }
         ensures few { IfOk result (λ made. length (rules_in made.1) ≤ RULE_LIMIT) }
-        ensures refusal { IfErr result (λ refusal. RefusedAfter (early_filter self.now block) (filter_refusal self.now block) refusal) }
+        ensures refusal { IfErr result (λ refusal.
+            RefusedAfter (early_filter self.now block) (filter_refusal self.now block) refusal) }
         ensures bytes { OnOk result (self.now.bytes + length (block_text block) < 2 ^ 64) }
     {
         let Some(moment) = self.session.moment else {

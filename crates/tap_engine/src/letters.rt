@@ -42,9 +42,9 @@ impl Engine {
         Ok(rows)
     }
 
-    /// Lists the user's box of this name in the order of the ratings by the user's last filter, as the command `list` does
-    /// for the session's user. `None` comes if and only if one of the two is no name or the user has no query of this name.
-    /// Fails with `Memory` when out of memory.
+    /// Lists the user's box of this name in the order of the ratings by the user's last filter, as
+    /// the command `list` does for the session's user. `None` comes if and only if one of the two
+    /// is no name or the user has no query of this name. Fails with `Memory` when out of memory.
     pub fn listing<L: Ledger>(
         &self,
         alloc: Global,
@@ -52,7 +52,8 @@ impl Engine {
         name: &[u8],
         steps: &mut Steps<L>,
     ) -> Result<Option<Rows<Listed>>, Memory>
-        ensures { IfOk result (λ rows. OverSound self.now (λ t. rows ≡ listing_in user.now name.now t)) }
+        ensures { IfOk result (λ rows. OverSound self.now (λ t.
+            rows ≡ listing_in user.now name.now t)) }
     {
         match self.query_of_user(user, name) {
             Some(kept) => Ok(Some(self.rated(alloc, user, kept, steps)?)),
@@ -60,8 +61,8 @@ impl Engine {
         }
     }
 
-    /// Returns the text of the document of this number, at the cost of a step. `None` comes if and only if there is no such
-    /// document, and then no step. It takes no memory.
+    /// Returns the text of the document of this number, at the cost of a step. `None` comes if and
+    /// only if there is no such document, and then no step. It takes no memory.
     pub fn text_of<L: Ledger>(&self, doc: DocNum, steps: &mut Steps<L>) -> Option<&[u8]>
         ensures text { option_copied result ≡ text_in doc.0 self.now.index.docs }
         ensures tables { OverTables self.now (λ t. option_copied result ≡ text_in doc.0 t.docs) }

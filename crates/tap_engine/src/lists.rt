@@ -43,7 +43,8 @@ pub(crate) fn rate<'a, L: Ledger>(
     index: &'a RowIndex,
     steps: &mut Steps<L>,
 ) -> Result<Rows<Listed>, Memory>
-    ensures rows { IfOk result (λ rows. rows ≡ listing_of (filter_rules (option_copied filter.entry)) index.now.docs entries.now) }
+    ensures rows { IfOk result (λ rows.
+        rows ≡ listing_of (filter_rules (option_copied filter.entry)) index.now.docs entries.now) }
     ensures steps { steps.new ≤ steps.old + length entries.now }
 {
     match filter {
@@ -76,9 +77,11 @@ impl Engine {
         steps: &mut Steps<L>,
     ) -> Result<Rows<Listed>, Refusal>
         ensures look { OnOk result (look_refusal self.now name.now ≡ None) }
-        ensures rows { IfOk result (λ rows. Some rows ≡ cached_rows self.now (cached_named self.now name.now)) }
+        ensures rows { IfOk result (λ rows.
+            Some rows ≡ cached_rows self.now (cached_named self.now name.now)) }
         ensures short { IfOk result (λ rows. All (λ row. length row.class ≤ 32) rows) }
-        ensures refusal { IfErr result (λ refusal. RefusedBy (look_refusal self.now name.now) refusal) }
+        ensures refusal { IfErr result (λ refusal.
+            RefusedBy (look_refusal self.now name.now) refusal) }
         ensures name { OnOk result (is_name name.now ≡ true) }
         ensures steps { steps.new ≤ steps.old + cached_list_work (cached_named self.now name.now) }
     {

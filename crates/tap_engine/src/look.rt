@@ -20,7 +20,8 @@ pub(crate) fn query_of<'a>(
     name: &[u8],
 ) -> Result<&'a CachedQuery, Refusal>
     ensures err { result_err result ≡ query_refusal session.now queries.now name.now }
-    ensures ok { IfOk result (λ kept. named_in (user_of session.now) name.now queries.now ≡ Some kept.now) }
+    ensures ok { IfOk result (λ kept.
+        named_in (user_of session.now) name.now queries.now ≡ Some kept.now) }
     ensures name { OnOk result (is_name name.now ≡ true) }
 {
     let Some(user) = &session.user else {

@@ -19,7 +19,8 @@ use tap_kept::{note_lines, text_lines};
 impl Engine {
     ghost use Rattle.tap_engine.specs.Answering.{ReadsAsModel, RefusesAsModel};
     ghost use Rattle.tap_engine.specs.Costs.{TakesNoStep, TakesAtMost, IsQuietLookup};
-    ghost use Rattle.tap_engine.specs.Lookups.{lookup_refusal, cached_found, LookupRefuses, cached_lookup_work};
+    ghost use Rattle.tap_engine.specs.Lookups.{lookup_refusal, cached_found, LookupRefuses};
+    ghost use Rattle.tap_engine.specs.Lookups.{cached_lookup_work};
     ghost use Rattle.tap_engine.specs.Standing.{RefusedBy};
 
     // Shows the lines of the text of the document of this number.
@@ -31,7 +32,8 @@ impl Engine {
     ) -> Result<Reply, Refusal>
         ensures fine { OnOk result (lookup_refusal (Rows.ShowDoc num) self.now ≡ None) }
         ensures reply { IfOk result (λ reply. reply ≡ cached_found (Rows.ShowDoc num) self.now) }
-        ensures refusal { IfErr result (λ refusal. RefusedBy (lookup_refusal (Rows.ShowDoc num) self.now) refusal) }
+        ensures refusal { IfErr result (λ refusal.
+            RefusedBy (lookup_refusal (Rows.ShowDoc num) self.now) refusal) }
         ensures short { IfOk result (λ reply. HasShortNames reply) }
         ensures accepted { IfOk result (λ reply. is_accepted reply ≡ true) }
         ensures steps { steps.new ≤ steps.old + 1 }
@@ -59,7 +61,8 @@ impl Engine {
     ) -> Result<Reply, Refusal>
         ensures fine { OnOk result (lookup_refusal (Rows.ListNotes num) self.now ≡ None) }
         ensures reply { IfOk result (λ reply. reply ≡ cached_found (Rows.ListNotes num) self.now) }
-        ensures refusal { IfErr result (λ refusal. RefusedBy (lookup_refusal (Rows.ListNotes num) self.now) refusal) }
+        ensures refusal { IfErr result (λ refusal.
+            RefusedBy (lookup_refusal (Rows.ListNotes num) self.now) refusal) }
         ensures short { IfOk result (λ reply. HasShortNames reply) }
         ensures accepted { IfOk result (λ reply. is_accepted reply ≡ true) }
         ensures steps { steps.new ≤ steps.old + cached_lookup_work (Rows.ListNotes num) self.now }
@@ -76,7 +79,8 @@ impl Engine {
     fn list_queries(&self, alloc: Global) -> Result<Reply, Refusal>
         ensures fine { OnOk result (lookup_refusal Rows.ListQueries self.now ≡ None) }
         ensures reply { IfOk result (λ reply. reply ≡ cached_found Rows.ListQueries self.now) }
-        ensures refusal { IfErr result (λ refusal. RefusedBy (lookup_refusal Rows.ListQueries self.now) refusal) }
+        ensures refusal { IfErr result (λ refusal.
+            RefusedBy (lookup_refusal Rows.ListQueries self.now) refusal) }
         ensures short { IfOk result (λ reply. HasShortNames reply) }
         ensures accepted { IfOk result (λ reply. is_accepted reply ≡ true) }
     {

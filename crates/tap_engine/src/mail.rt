@@ -1,6 +1,7 @@
 //! The command that adds a message.
 
-ghost use Rattle.std.specs.Prelude.{◌≡◌, true, ◌≤◌, ◌<◌, ◌+◌, ◌^◌, [], ◌∷◌, length, Some, OnOk, OnErr, IfOk, IfErr};
+ghost use Rattle.std.specs.Prelude.{◌≡◌, true, ◌≤◌, ◌<◌, ◌+◌, ◌^◌, [], ◌∷◌, length, Some, OnOk};
+ghost use Rattle.std.specs.Prelude.{OnErr, IfOk, IfErr};
 ghost use Rattle.std.specs.Result.{result_err};
 ghost use Rattle.tap_rows.specs.declared.change.Change.{Change as RowChange};
 ghost use Rattle.tap_rows.specs.Tables.{after};
@@ -37,7 +38,8 @@ fn message_of(block: Block) -> Result<Text, Refusal>
 
 // Makes a list of one document.
 fn make_row(alloc: Global, num: DocNum, moment: i64, text: SharedText) -> Result<Rows<Doc>, Memory>
-    ensures { IfOk result (λ rows. rows ≡ record { num = num; arrival = moment; text = text } ∷ []) }
+    ensures { IfOk result (λ rows.
+        rows ≡ record { num = num; arrival = moment; text = text } ∷ []) }
 {
     let mut rows = Rows::new(alloc);
     rows.push(Doc {
@@ -50,10 +52,12 @@ fn make_row(alloc: Global, num: DocNum, moment: i64, text: SharedText) -> Result
 
 impl Engine {
     ghost use Rattle.tap_engine.specs.Ready.{IsReady};
-    ghost use Rattle.tap_engine.specs.Answering.{IsUnchangedButHits, AnswersAsModel, RepresentsNext, RefusesAsModel, IsUndoable};
+    ghost use Rattle.tap_engine.specs.Answering.{IsUnchangedButHits, AnswersAsModel};
+    ghost use Rattle.tap_engine.specs.Answering.{RepresentsNext, RefusesAsModel, IsUndoable};
 
-    // Adds a document that arrives at this moment, and gives its number and its row as a change. All memory is taken before
-    // the index grows, so that at Err nothing has changed but the room for hits.
+    // Adds a document that arrives at this moment, and gives its number and its row as a change.
+    // All memory is taken before the index grows, so that at Err nothing has changed but the room
+    // for hits.
     fn add_doc(
         &mut self,
         alloc: Global,
@@ -65,9 +69,11 @@ impl Engine {
         requires text { length text ≤ MESSAGE_LIMIT }
         requires bytes { self.old.bytes + length text < 2 ^ 64 }
         ensures num { IfOk result (λ made. made.0.0 ≡ length self.old.index.docs + 1) }
-        ensures change { IfOk result (λ made. made.1 ≡ RowChange.Docs (docs_from (length self.old.index.docs + 1) moment (text ∷ []))) }
+        ensures change { IfOk result (λ made. made.1
+            ≡ RowChange.Docs (docs_from (length self.old.index.docs + 1) moment (text ∷ []))) }
         ensures engine { OnOk result (self.new ≡ record self.old {
-          index = after self.old.index (RowChange.Docs (docs_from (length self.old.index.docs + 1) moment (text ∷ [])));
+          index = after self.old.index
+              (RowChange.Docs (docs_from (length self.old.index.docs + 1) moment (text ∷ [])));
           hits = self.new.hits;
           bytes = self.old.bytes + length text;
         }) }

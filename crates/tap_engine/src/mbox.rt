@@ -10,7 +10,8 @@ ghost use Rattle.tap_engine.specs.Arriving.{MayArrive, AreShortTexts};
 ghost use Rattle.script_lang.specs.declared.command.Command.{Command};
 ghost use Rattle.script_lang.specs.Replies.{HasShortNames, is_accepted};
 ghost use Rattle.tap_model.specs.Sessions.{moment_or_zero};
-ghost use Rattle.tap_model.specs.Verdicts.{no_moment, messages_of, are_short, long_message, long_block, bytes_of_all};
+ghost use Rattle.tap_model.specs.Verdicts.{no_moment, messages_of, are_short, long_message};
+ghost use Rattle.tap_model.specs.Verdicts.{long_block, bytes_of_all};
 ghost use Rattle.tap_model.specs.Replies.{docs_from, some_docs};
 
 use crate::engine::Engine;
@@ -27,7 +28,8 @@ use tap_base::{DocNum, Memory, Rows, SharedText, Texts};
 use tap_model::{DOCUMENT_LIMIT, STORE_LIMIT};
 use tap_rows::{Change, Doc};
 
-// Cuts a mailbox file into its messages. A file that is too long gives none: it is refused later, in the order of limits.
+// Cuts a mailbox file into its messages. A file that is too long gives none: it is refused later,
+// in the order of limits.
 fn cut_block(alloc: Global, block: &Block) -> Result<Texts, Memory>
     ensures { IfOk result (λ texts. texts ≡ messages_of block.now) }
 {
@@ -113,7 +115,8 @@ pub(crate) fn push_doc(
     requires few { length index.old.docs + 1 < 2 ^ 32 }
     requires arrives { MayArrive doc_arrival moment index.old.docs }
     requires short { length text.now ≤ MESSAGE_LIMIT }
-    ensures ok { OnOk result (index.new ≡ after index.old (RowChange.Docs (docs_from (length index.old.docs + 1) moment (text.now ∷ [])))) }
+    ensures ok { OnOk result (index.new ≡ after index.old
+          (RowChange.Docs (docs_from (length index.old.docs + 1) moment (text.now ∷ [])))) }
     ensures err { OnErr result (index.new ≡ index.old) }
 {
     let doc = Doc {
@@ -134,8 +137,10 @@ fn push_docs(
     requires few { length index.old.docs + length texts.now < 2 ^ 32 }
     requires arrives { MayArrive doc_arrival moment index.old.docs }
     requires short { AreShortTexts texts.now }
-    ensures ok { OnOk result (index.new ≡ after index.old (RowChange.Docs (docs_from (length index.old.docs + 1) moment texts.now))) }
-    ensures err { OnErr result (record index.new { docs = take (length index.old.docs) index.new.docs } ≡ index.old) }
+    ensures ok { OnOk result (index.new ≡ after index.old
+          (RowChange.Docs (docs_from (length index.old.docs + 1) moment texts.now))) }
+    ensures err { OnErr result
+        (record index.new { docs = take (length index.old.docs) index.new.docs } ≡ index.old) }
 {
     for text in texts {
         push_doc(alloc, index, moment, text)?;
@@ -143,7 +148,8 @@ fn push_docs(
     Ok(())
 }
 
-// Adds documents with these texts after the others, all or none: at Err those that were added are removed again.
+// Adds documents with these texts after the others, all or none: at Err those that were added are
+// removed again.
 fn add_all(
     alloc: Global,
     index: &mut RowIndex,
@@ -153,7 +159,8 @@ fn add_all(
     requires few { length index.old.docs + length texts.now < 2 ^ 32 }
     requires arrives { MayArrive doc_arrival moment index.old.docs }
     requires short { AreShortTexts texts.now }
-    ensures ok { OnOk result (index.new ≡ after index.old (RowChange.Docs (docs_from (length index.old.docs + 1) moment texts.now))) }
+    ensures ok { OnOk result (index.new ≡ after index.old
+          (RowChange.Docs (docs_from (length index.old.docs + 1) moment texts.now))) }
     ensures err { OnErr result (index.new ≡ index.old) }
 {
     let len = index.docs() as usize;
@@ -167,14 +174,16 @@ fn add_all(
 impl Engine {
     ghost use Rattle.tap_engine.specs.Standing.{mbox_bounds, mbox_refusal, RefusedAfter};
     ghost use Rattle.tap_engine.specs.Ready.{IsReady};
-    ghost use Rattle.tap_engine.specs.Answering.{IsUnchangedButHits, AnswersAsModel, RepresentsNext, RefusesAsModel, IsUndoable};
+    ghost use Rattle.tap_engine.specs.Answering.{IsUnchangedButHits, AnswersAsModel};
+    ghost use Rattle.tap_engine.specs.Answering.{RepresentsNext, RefusesAsModel, IsUndoable};
 
     // Refuses messages of a mailbox file that pass a limit.
     #[tactic(auto, unfolding(crate::specs::Standing::mbox_bounds))]
     fn refuse_messages(&self, block: &Block, texts: &[SharedText]) -> Result<(), Refusal>
         ensures value { result_err result ≡ mbox_bounds self.now block.now texts.now }
         ensures short { OnOk result (are_short texts.now ≡ true) }
-        ensures few { OnOk result (length self.now.index.docs + length texts.now ≤ max (length self.now.index.docs) DOCUMENT_LIMIT) }
+        ensures few { OnOk result (length self.now.index.docs + length texts.now
+              ≤ max (length self.now.index.docs) DOCUMENT_LIMIT) }
         ensures bytes { OnOk result (self.now.bytes + bytes_of_all texts.now < 2 ^ 64) }
     {
         refuse_long_message(texts)?;
@@ -188,14 +197,17 @@ impl Engine {
         refuse_more(LimitName::Store, STORE_LIMIT, self.bytes, total(texts))
     }
 
-    // Gives the messages of a mailbox file and the moment at which they arrive, or the first refusal.
+    // Gives the messages of a mailbox file and the moment at which they arrive, or the first
+    // refusal.
     fn new_messages(&self, alloc: Global, block: &Block) -> Result<(i64, Rows<SharedText>), Refusal>
         ensures checks { OnOk result (mbox_refusal self.now block.now ≡ None) }
         ensures moment { IfOk result (λ made. made.0 ≡ moment_or_zero self.now.session) }
         ensures texts { IfOk result (λ made. made.1 ≡ messages_of block.now) }
-        ensures refusal { IfErr result (λ refusal. RefusedAfter (no_moment self.now.session) (mbox_refusal self.now block.now) refusal) }
+        ensures refusal { IfErr result (λ refusal.
+            RefusedAfter (no_moment self.now.session) (mbox_refusal self.now block.now) refusal) }
         ensures short { IfOk result (λ made. are_short made.1 ≡ true) }
-        ensures few { IfOk result (λ made. length self.now.index.docs + length made.1 ≤ max (length self.now.index.docs) DOCUMENT_LIMIT) }
+        ensures few { IfOk result (λ made. length self.now.index.docs + length made.1
+            ≤ max (length self.now.index.docs) DOCUMENT_LIMIT) }
         ensures bytes { IfOk result (λ made. self.now.bytes + bytes_of_all made.1 < 2 ^ 64) }
     {
         let Some(moment) = self.session.moment else {
@@ -206,22 +218,26 @@ impl Engine {
         Ok((moment, texts))
     }
 
-    // Adds documents that arrive at this moment, and gives their rows as one change, or None for no documents. All memory is
-    // taken before the index grows, so that at Err nothing has changed but the room for hits.
+    // Adds documents that arrive at this moment, and gives their rows as one change, or None for no
+    // documents. All memory is taken before the index grows, so that at Err nothing has changed but
+    // the room for hits.
     fn add_docs(
         &mut self,
         alloc: Global,
         moment: i64,
         texts: &[SharedText],
     ) -> Result<Option<Change>, Memory>
-        requires few { length self.old.index.docs + length texts.now ≤ max (length self.old.index.docs) DOCUMENT_LIMIT }
+        requires few { length self.old.index.docs + length texts.now
+            ≤ max (length self.old.index.docs) DOCUMENT_LIMIT }
         requires short { AreShortTexts texts.now }
         requires bytes { self.old.bytes + bytes_of_all texts.now < 2 ^ 64 }
         requires arrives { MayArrive doc_arrival moment self.old.index.docs }
         requires room { length self.old.index.docs ≤ self.old.hits.room }
-        ensures change { IfOk result (λ change. change ≡ some_docs (docs_from (length self.old.index.docs + 1) moment texts.now)) }
+        ensures change { IfOk result (λ change.
+            change ≡ some_docs (docs_from (length self.old.index.docs + 1) moment texts.now)) }
         ensures engine { OnOk result (self.new ≡ record self.old {
-          index = after self.old.index (RowChange.Docs (docs_from (length self.old.index.docs + 1) moment texts.now));
+          index = after self.old.index
+              (RowChange.Docs (docs_from (length self.old.index.docs + 1) moment texts.now));
           hits = self.new.hits;
           bytes = self.old.bytes + bytes_of_all texts.now;
         }) }

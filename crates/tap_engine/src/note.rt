@@ -1,6 +1,7 @@
 //! The command that adds a note on a document.
 
-ghost use Rattle.std.specs.Prelude.{◌≡◌, ◌<◌, ◌+◌, ◌^◌, length, None, true, OnOk, OnErr, IfOk, IfErr};
+ghost use Rattle.std.specs.Prelude.{◌≡◌, ◌<◌, ◌+◌, ◌^◌, length, None, true, OnOk, OnErr, IfOk};
+ghost use Rattle.std.specs.Prelude.{IfErr};
 ghost use Rattle.std.specs.Result.{result_err};
 ghost use Rattle.tap_rows.specs.declared.change.Change.{Change as RowChange};
 ghost use Rattle.tap_rows.specs.Tables.{after};
@@ -49,7 +50,8 @@ fn refuse_long(len: usize) -> Result<(), Refusal>
 }
 
 impl Engine {
-    ghost use Rattle.tap_engine.specs.Answering.{AnswersAsModel, RepresentsNext, RefusesAsModel, IsUndoable};
+    ghost use Rattle.tap_engine.specs.Answering.{AnswersAsModel, RepresentsNext, RefusesAsModel};
+    ghost use Rattle.tap_engine.specs.Answering.{IsUndoable};
     ghost use Rattle.tap_engine.specs.Standing.{note_bounds, note_refusal, RefusedBy};
     ghost use Rattle.tap_engine.specs.Ready.{IsReady};
 
@@ -78,7 +80,8 @@ impl Engine {
           arrival = moment_or_zero self.now.session;
           text = text;
         }) }
-        ensures refusal { IfErr result (λ refusal. RefusedBy (note_refusal self.now doc kind text) refusal) }
+        ensures refusal { IfErr result (λ refusal.
+            RefusedBy (note_refusal self.now doc kind text) refusal) }
         ensures few { OnOk result (length self.now.index.notes < NOTE_LIMIT) }
         ensures bytes { OnOk result (self.now.bytes + length text < 2 ^ 64) }
     {
@@ -101,7 +104,8 @@ impl Engine {
         })
     }
 
-    // Adds a note with its vote, and gives its row as a change, and what undoes the vote. At Err nothing has changed.
+    // Adds a note with its vote, and gives its row as a change, and what undoes the vote. At Err
+    // nothing has changed.
     fn add_note(&mut self, note: Note) -> Result<(Change, VoteUndo), Memory>
         requires number { note.num.0 ≡ length self.old.index.notes + 1 }
         requires arrives { MayArrive note_arrival note.arrival self.old.index.notes }
@@ -112,7 +116,8 @@ impl Engine {
           votes = with_vote note self.old.votes;
           bytes = self.old.bytes + length note.text;
         }) }
-        ensures vote { IfOk result (λ made. CanUndoVote made.1 self.new.votes × (without_vote made.1 self.new.votes ≡ self.old.votes)) }
+        ensures vote { IfOk result (λ made. CanUndoVote made.1 self.new.votes
+            × (without_vote made.1 self.new.votes ≡ self.old.votes)) }
         ensures err { OnErr result (self.new ≡ self.old) }
     {
         let len = note.text.len();
@@ -135,9 +140,12 @@ impl Engine {
         text: Text,
     ) -> Result<Prepared, Refusal>
         requires ready { IsReady self.old }
-        ensures ok { IfOk result (AnswersAsModel self.old (Command.AddNote doc kind value text) self.new) }
-        ensures represents { IfOk result (RepresentsNext self.old (Command.AddNote doc kind value text) self.new) }
-        ensures refusal { IfErr result (RefusesAsModel self.old (Command.AddNote doc kind value text)) }
+        ensures ok { IfOk result
+            (AnswersAsModel self.old (Command.AddNote doc kind value text) self.new) }
+        ensures represents { IfOk result
+            (RepresentsNext self.old (Command.AddNote doc kind value text) self.new) }
+        ensures refusal { IfErr result
+            (RefusesAsModel self.old (Command.AddNote doc kind value text)) }
         ensures err { OnErr result (self.new ≡ self.old) }
         ensures undo { IfOk result (IsUndoable self.old self.new) }
         ensures ready { OnOk result (IsReady self.new) }

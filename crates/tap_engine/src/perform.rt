@@ -1,6 +1,7 @@
 //! One command, one step, one commit: what a command is answered, and what it changes.
 
-ghost use Rattle.std.specs.Prelude.{◌≡◌, ◌⊎◌, ◌↔◌, ◌≤◌, ℤ, None, true, false, codes, OnOk, OnErr, IsErr, IfOk, IfErr};
+ghost use Rattle.std.specs.Prelude.{◌≡◌, ◌⊎◌, ◌↔◌, ◌≤◌, ℤ, None, true, false, codes, OnOk, OnErr};
+ghost use Rattle.std.specs.Prelude.{IsErr, IfOk, IfErr};
 ghost use Rattle.tap_rows.specs.declared.tables.Tables.{Tables};
 ghost use Rattle.keeper_core.specs.Keeping.{IsDurable};
 ghost use Rattle.keeper_core.specs.States.{IsAttached};
@@ -23,11 +24,13 @@ use tap_base::Steps;
 impl Engine {
     ghost use Rattle.tap_engine.specs.Standing.{Represents, OverSoundFor};
     ghost use Rattle.tap_engine.specs.Ready.{IsReady};
-    ghost use Rattle.tap_engine.specs.Answering.{AnswersAsModel, RepresentsNext, RefusesSoundly, IsUndoable, AddsRows};
+    ghost use Rattle.tap_engine.specs.Answering.{AnswersAsModel, RepresentsNext, RefusesSoundly};
+    ghost use Rattle.tap_engine.specs.Answering.{IsUndoable, AddsRows};
     ghost use Rattle.tap_engine.specs.Answering.{IsUnchangedButHits, fault_answer, fault_engine};
     ghost use Rattle.tap_engine.specs.Costs.{TakesNoStep, TakesRowsDue, TakesAtMost};
 
-    // Takes all memory that a command needs, and adds its rows to the engine, unless the command is refused.
+    // Takes all memory that a command needs, and adds its rows to the engine, unless the command is
+    // refused.
     fn prepare<L: Ledger>(
         &mut self,
         alloc: Global,
@@ -81,7 +84,8 @@ impl Engine {
         }
     }
 
-    // Gives what is returned if the keeper didn't commit, and stops the engine if the keeper failed.
+    // Gives what is returned if the keeper didn't commit, and stops the engine if the keeper
+    // failed.
     fn not_committed(&mut self, fault: CommitFault) -> Result<Reply, EngineFault>
         ensures { (result ≡ fault_answer fault) × (self.new ≡ fault_engine fault self.old) }
     {
@@ -94,11 +98,13 @@ impl Engine {
         }
     }
 
-    /// Performs a command and returns the reply to it. It takes all memory first, then commits once if the command adds
-    /// rows, and takes no memory after that. If the command is refused or out of memory, the engine (but for its buffer of hits)
-    /// and the keeper's tables are unchanged. It is never out of memory for `at` and `counts`, nor for a command that is refused by a check before the text of a
-    /// query or a filter is read, a mailbox file is cut, or the runs of a digest are counted. It fails only if the keeper
-    /// fails, and the engine is stopped then. A step is a row that the index hands out.
+    /// Performs a command and returns the reply to it. It takes all memory first, then commits once
+    /// if the command adds rows, and takes no memory after that. If the command is refused or out
+    /// of memory, the engine (but for its buffer of hits) and the keeper's tables are unchanged. It
+    /// is never out of memory for `at` and `counts`, nor for a command that is refused by a check
+    /// before the text of a query or a filter is read, a mailbox file is cut, or the runs of a
+    /// digest are counted. It fails only if the keeper fails, and the engine is stopped then. A
+    /// step is a row that the index hands out.
     pub fn perform<P: Keeper, L: Ledger>(
         &mut self,
         alloc: Global,
@@ -110,21 +116,27 @@ impl Engine {
         requires ready { IsReady self.old }
         requires attached { IsAttached P.Keeper keeper.old }
 
-        // The reply and the step, over the tables that the engine represents. What was delivered matters only to a command
-        // that looks at it.
+        // The reply and the step, over the tables that the engine represents. What was delivered
+        // matters only to a command that looks at it.
         ensures step { OverSoundFor self.old command (λ t. IfOk result (λ reply.
-            StoryStep t self.old.session command reply (next_tables command reply self.old.session t) self.new.session)) }
+            StoryStep t self.old.session command reply
+                (next_tables command reply self.old.session t) self.new.session)) }
         ensures represents { OverSoundFor self.old command (λ t. IfOk result (λ reply.
             Represents self.new (next_tables command reply self.old.session t))) }
-        ensures memory { OverSoundFor self.old command (λ t. is_proper command ≡ true → IfOk result (λ reply. first_text reply ≡ codes "no 18" →
-            GivesUp t self.old.session command reply (next_tables command reply self.old.session t) self.new.session)) }
+        ensures memory { OverSoundFor self.old command (λ t. is_proper command ≡ true
+            → IfOk result (λ reply. first_text reply ≡ codes "no 18" →
+            GivesUp t self.old.session command reply (next_tables command reply self.old.session t)
+                self.new.session)) }
         ensures short { IfOk result (λ reply. HasShortNames reply) }
         ensures ready { OnOk result (IsReady self.new) }
 
-        // A command that is refused or out of memory changes nothing in the engine but its buffer of hits, and, if the keeper is
-        // honest, none of the tables that it tells, whatever these are.
-        ensures refused { IfOk result (λ reply. is_accepted reply ≡ false → IsUnchangedButHits self.new self.old) }
-        ensures untouched { IfOk result (λ reply. is_accepted reply ≡ false → P.honest keeper.new → (t : Tables) → P.tells keeper.old t →
+        // A command that is refused or out of memory changes nothing in the engine but its buffer
+        // of hits, and, if the keeper is honest, none of the tables that it tells, whatever these
+        // are.
+        ensures refused { IfOk result (λ reply. is_accepted reply ≡ false
+            → IsUnchangedButHits self.new self.old) }
+        ensures untouched { IfOk result (λ reply. is_accepted reply ≡ false → P.honest keeper.new
+            → (t : Tables) → P.tells keeper.old t →
             IsDurable (P.tells keeper.new) (P.may_leave keeper.new) t) }
 
         // The rows that it takes from the index, whatever the answer is.
@@ -132,20 +144,26 @@ impl Engine {
         ensures due { TakesRowsDue self.old command steps.old steps.new }
         ensures most { TakesAtMost self.old command steps.old steps.new }
 
-        // What the keeper's store has, what a crash leaves, and the store's version, if the keeper is honest.
-        ensures kept { OverSoundFor self.old command (λ t. P.honest keeper.new → IsDurable (P.tells keeper.old) (P.may_leave keeper.old) t →
+        // What the keeper's store has, what a crash leaves, and the store's version, if the keeper
+        // is honest.
+        ensures kept { OverSoundFor self.old command (λ t. P.honest keeper.new
+            → IsDurable (P.tells keeper.old) (P.may_leave keeper.old) t →
             IfOk result (λ reply.
-            IsDurable (P.tells keeper.new) (P.may_leave keeper.new) (next_tables command reply self.old.session t))) }
-        ensures crash { OverSoundFor self.old command (λ t. P.honest keeper.new → IsDurable (P.tells keeper.old) (P.may_leave keeper.old) t →
+            IsDurable (P.tells keeper.new) (P.may_leave keeper.new)
+                (next_tables command reply self.old.session t))) }
+        ensures crash { OverSoundFor self.old command (λ t. P.honest keeper.new
+            → IsDurable (P.tells keeper.old) (P.may_leave keeper.old) t →
             OnErr result ((verdict command self.old.session t ≡ None)
             × ((x : Tables) → P.may_leave keeper.new x →
             (x ≡ t) ⊎ (x ≡ tables_after (answer_of command self.old.session t).change t)))) }
 
-        ensures version { OverSoundFor self.old command (λ t. P.honest keeper.new → P.tells keeper.old t → P.stopped keeper.new ≡ false →
+        ensures version { OverSoundFor self.old command (λ t. P.honest keeper.new
+            → P.tells keeper.old t → P.stopped keeper.new ≡ false →
             (v : ℤ) → P.has_version keeper.old v → P.has_version keeper.new v) }
 
         // It fails only if the keeper fails, and only for a command that adds rows.
-        ensures adds { OverSoundFor self.old command (λ t. OnErr result (AddsRows command self.old.session t)) }
+        ensures adds { OverSoundFor self.old command (λ t.
+            OnErr result (AddsRows command self.old.session t)) }
         ensures cause { OnErr result (Rose (P.faults keeper.old) (P.faults keeper.new)) }
         ensures stopped { (P.stopped keeper.new ≡ true) ↔ IsErr result }
         ensures halted { self.new.stopped ≡ P.stopped keeper.new }

@@ -7,7 +7,8 @@ use crate::undo::Undo;
 use script_lang::Reply;
 use tap_rows::Change;
 
-/// A command whose memory is taken: its reply, the rows that are to be committed, and what undoes them if they aren't.
+/// A command whose memory is taken: its reply, the rows that are to be committed, and what undoes
+/// them if they aren't.
 #[derive(Drop)]
 pub struct Prepared {
     pub reply: Reply,

@@ -1,7 +1,8 @@
 //! The command that runs a query.
 
 ghost use Rattle.std.specs.Prelude.{◌≡◌, ◌≤◌, ◌<◌, ◌+◌, ◌-◌, ◌^◌};
-ghost use Rattle.std.specs.Prelude.{true, length, map, max, Some, None, slice_index_or, slice_set, OnOk, OnErr, IfOk, IfErr, IfSome};
+ghost use Rattle.std.specs.Prelude.{true, length, map, max, Some, None, slice_index_or, slice_set};
+ghost use Rattle.std.specs.Prelude.{OnOk, OnErr, IfOk, IfErr, IfSome};
 ghost use Rattle.tap_rows.specs.declared.change.Change.{Change as RowChange};
 ghost use Rattle.tap_rows.specs.Deliveries.{pick_rows};
 ghost use Rattle.tap_rows.specs.Results.{entry_at};
@@ -22,7 +23,8 @@ use tap_base::{Memory, QueryNum, Rows, Steps};
 use tap_model::{PICK_LIMIT, RUN_LIMIT};
 use tap_rows::{Change, Hit, Pick, RunRow};
 
-/// What a run is about to deliver: its query, its moment, how many runs the query had, and the hits.
+/// What a run is about to deliver: its query, its moment, how many runs the query had, and the
+/// hits.
 #[derive(Drop)]
 pub struct Due {
     pub query: QueryNum,
@@ -65,13 +67,16 @@ fn copy_hits(alloc: Global, hits: &[Hit]) -> Result<Rows<Hit>, Memory>
 }
 
 impl Engine {
-    ghost use Rattle.tap_engine.specs.Costs.{TakesNoStep, TakesRowsDue, TakesAtMost, cached_run_work};
+    ghost use Rattle.tap_engine.specs.Costs.{TakesNoStep, TakesRowsDue, TakesAtMost};
+    ghost use Rattle.tap_engine.specs.Costs.{cached_run_work};
     ghost use Rattle.tap_engine.specs.Standing.{run_refusal, cached_named, due_of, RefusedBy};
     ghost use Rattle.tap_engine.specs.Ready.{IsReady};
-    ghost use Rattle.tap_engine.specs.Answering.{IsUnchangedButHits, undo_run, AnswersAsModel, RepresentsNext, RefusesSoundly, IsUndoable};
+    ghost use Rattle.tap_engine.specs.Answering.{IsUnchangedButHits, undo_run, AnswersAsModel};
+    ghost use Rattle.tap_engine.specs.Answering.{RepresentsNext, RefusesSoundly, IsUndoable};
 
-    // Finds what a run of the user's query of this name delivers, or gives the first refusal. The limit of runs is checked
-    // before the search and the limit of picks after it, which is the order of the refusals.
+    // Finds what a run of the user's query of this name delivers, or gives the first refusal. The
+    // limit of runs is checked before the search and the limit of picks after it, which is the
+    // order of the refusals.
     #[tactic(auto, unfolding(crate::specs::Standing::look_refusal))]
     fn due_run<L: Ledger>(
         &mut self,
@@ -81,15 +86,20 @@ impl Engine {
     ) -> Result<Due, Refusal>
         requires ready { IsReady self.old }
         ensures verdict { OnOk result (run_refusal self.old name.now ≡ None) }
-        ensures due { IfOk result (λ due. Some due ≡ due_of self.old (cached_named self.old name.now)) }
-        ensures refusal { IfErr result (λ refusal. RefusedBy (run_refusal self.old name.now) refusal) }
-        ensures new { IfOk result (λ due. IfSome (cached_named self.old name.now) (λ kept. AreNew kept.entries due.hits)) }
+        ensures due { IfOk result (λ due.
+            Some due ≡ due_of self.old (cached_named self.old name.now)) }
+        ensures refusal { IfErr result (λ refusal.
+            RefusedBy (run_refusal self.old name.now) refusal) }
+        ensures new { IfOk result (λ due. IfSome (cached_named self.old name.now) (λ kept.
+            AreNew kept.entries due.hits)) }
         ensures few { OnOk result (self.old.run_count < RUN_LIMIT) }
-        ensures room { IfOk result (λ due. self.old.pick_count + length due.hits ≤ max self.old.pick_count PICK_LIMIT) }
+        ensures room { IfOk result (λ due.
+            self.old.pick_count + length due.hits ≤ max self.old.pick_count PICK_LIMIT) }
         ensures still { IsUnchangedButHits self.new self.old }
         ensures quiet { TakesNoStep self.old (Command.Run name.now) steps.old steps.new }
         ensures rows { TakesRowsDue self.old (Command.Run name.now) steps.old steps.new }
-        ensures most { steps.new ≤ steps.old + cached_run_work self.old (cached_named self.old name.now) }
+        ensures most { steps.new
+            ≤ steps.old + cached_run_work self.old (cached_named self.old name.now) }
     {
         let Some(moment) = self.session.moment else {
             return Err(Refusal::NoMoment);
@@ -110,7 +120,8 @@ impl Engine {
     // Makes what undoes the next run of the query at this place.
     fn undo_run(&self, place: usize) -> Undo
         requires { place < length self.now.queries }
-        ensures { (d : CachedQuery) → result ≡ undo_run self.now place (slice_index_or self.now.queries place d) }
+        ensures { (d : CachedQuery)
+            → result ≡ undo_run self.now place (slice_index_or self.now.queries place d) }
     {
         let kept = self.queries.at(place);
         Undo::Run {
@@ -123,7 +134,8 @@ impl Engine {
         }
     }
 
-    // Adds a run that delivers these hits, and gives its rows as a change. At Err nothing has changed.
+    // Adds a run that delivers these hits, and gives its rows as a change. At Err nothing has
+    // changed.
     fn deliver(
         &mut self,
         alloc: Global,
@@ -135,7 +147,8 @@ impl Engine {
         requires first { 0 < query.0 }
         requires place { query.0 ≤ length self.old.queries }
         requires runs { HoldsAt (query.0 - 1) (λ kept. kept.runs + 1 < 2 ^ 64) self.old.queries }
-        requires new { HoldsAt (query.0 - 1) (λ kept. AreNew kept.entries hits.now) self.old.queries }
+        requires new { HoldsAt (query.0 - 1) (λ kept. AreNew kept.entries hits.now)
+            self.old.queries }
         requires few { self.old.run_count < RUN_LIMIT }
         requires room { self.old.pick_count + length hits.now ≤ max self.old.pick_count PICK_LIMIT }
         ensures change { IfOk result (λ change. change ≡ RowChange.RunDone
@@ -143,7 +156,8 @@ impl Engine {
             (pick_rows (self.old.pick_count + 1) query (self.old.run_count + 1) hits.now)) }
         ensures engine { OnOk result ((d : CachedQuery) → self.new ≡ record self.old {
           queries = slice_set self.old.queries (query.0 - 1)
-              (after_run moment (map (entry_at ordinal) hits.now) (slice_index_or self.old.queries (query.0 - 1) d));
+              (after_run moment (map (entry_at ordinal) hits.now)
+                  (slice_index_or self.old.queries (query.0 - 1) d));
           run_count = self.old.run_count + 1;
           pick_count = self.old.pick_count + length hits.now;
         }) }

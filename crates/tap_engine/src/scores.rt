@@ -13,7 +13,8 @@ use tap_base::Text;
 impl Engine {
     ghost use Rattle.tap_engine.specs.Answering.{ReadsAsModel, RefusesAsModel};
 
-    // Adds up the votes of the notes of a kind, for each document that has one. No note is looked at: the tally is in memory.
+    // Adds up the votes of the notes of a kind, for each document that has one. No note is looked
+    // at: the tally is in memory.
     pub(crate) fn show_scores(&self, alloc: Global, kind: Text) -> Result<Reply, Refusal>
         ensures ok { IfOk result (ReadsAsModel self.now (Command.ScoresOf kind)) }
         ensures refusal { IfErr result (RefusesAsModel self.now (Command.ScoresOf kind)) }

@@ -44,10 +44,12 @@ pub(crate) fn refuse_name(name: &[u8]) -> Result<(), Refusal>
 }
 
 impl Engine {
-    ghost use Rattle.tap_engine.specs.Answering.{AnswersAsModel, RepresentsNext, RefusesAsModel, IsUndoable};
+    ghost use Rattle.tap_engine.specs.Answering.{AnswersAsModel, RepresentsNext, RefusesAsModel};
+    ghost use Rattle.tap_engine.specs.Answering.{IsUndoable};
     ghost use Rattle.tap_engine.specs.Ready.{IsReady};
 
-    // Sets the session's moment, which is never before the last one or, without one, before the greatest stored moment.
+    // Sets the session's moment, which is never before the last one or, without one, before the
+    // greatest stored moment.
     pub(crate) fn at(&mut self, text: &[u8]) -> Result<Prepared, Refusal>
         requires ready { IsReady self.old }
         ensures ok { IfOk result (AnswersAsModel self.old (Command.At text.now) self.new) }

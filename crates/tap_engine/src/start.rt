@@ -21,15 +21,16 @@ impl Engine {
     ghost use Rattle.tap_engine.specs.Standing.{Represents};
     ghost use Rattle.tap_engine.specs.Ready.{IsReady};
 
-    // Builds the engine from the parts of the tables. It looks at each row a fixed number of times, and hashes texts under this
-    // key.
+    // Builds the engine from the parts of the tables. It looks at each row a fixed number of times,
+    // and hashes texts under this key.
     fn build(alloc: Global, key: HashKey, sound: Sound) -> Result<Engine, StartFault>
         ensures represents { IfOk result (λ engine. Represents engine sound) }
         ensures session { IfOk result (λ engine. engine.session ≡ no_session) }
         ensures running { IfOk result (λ engine. engine.stopped ≡ false) }
         ensures ready { IfOk result (λ engine. IsReady engine) }
         ensures read { OnOk result (first_unread sound.filters ≡ None) }
-        ensures fault { IfErr result (λ fault. (fault ≡ Fault.Memory) ⊎ (option_map Fault.Rules (first_unread sound.filters) ≡ Some fault)) }
+        ensures fault { IfErr result (λ fault. (fault ≡ Fault.Memory)
+            ⊎ (option_map Fault.Rules (first_unread sound.filters) ≡ Some fault)) }
     {
         let (tables, conds) = sound.into_parts();
         let sums = Sums::of(&tables)?;
@@ -67,16 +68,18 @@ impl Engine {
         })
     }
 
-    /// Makes an engine with a new session that represents sound tables. It looks at each row a fixed number of times, and hashes
-    /// texts under this key. It reports `Rules` with the first filter whose text has a fault if there is one, which is never over
-    /// tables that a session left; otherwise it fails only if it is out of memory.
+    /// Makes an engine with a new session that represents sound tables. It looks at each row a
+    /// fixed number of times, and hashes texts under this key. It reports `Rules` with the first
+    /// filter whose text has a fault if there is one, which is never over tables that a session
+    /// left; otherwise it fails only if it is out of memory.
     pub fn start(alloc: Global, key: HashKey, sound: Sound) -> Result<Engine, StartFault>
         ensures represents { IfOk result (λ engine. Represents engine sound) }
         ensures session { IfOk result (λ engine. engine.session ≡ no_session) }
         ensures running { IfOk result (λ engine. engine.stopped ≡ false) }
         ensures ready { IfOk result (λ engine. IsReady engine) }
         ensures read { OnOk result (first_unread sound.filters ≡ None) }
-        ensures fault { IfErr result (λ fault. (fault ≡ Fault.Memory) ⊎ (option_map Fault.Rules (first_unread sound.filters) ≡ Some fault)) }
+        ensures fault { IfErr result (λ fault. (fault ≡ Fault.Memory)
+            ⊎ (option_map Fault.Rules (first_unread sound.filters) ≡ Some fault)) }
         ensures kept { IsStore sound → IfErr result (λ fault. fault ≡ Fault.Memory) }
     {
         Engine::build(alloc, key, sound)

@@ -1,7 +1,8 @@
 //! What undoes the rows of a command.
 use vote_scores::VoteUndo;
 
-/// What undoes the rows of a command that isn't committed: how many rows there were before it, and how many bytes.
+/// What undoes the rows of a command that isn't committed: how many rows there were before it, and
+/// how many bytes.
 #[derive(Drop)]
 pub enum Undo {
     /// There are no rows to undo.
@@ -28,7 +29,8 @@ pub enum Undo {
         owners: usize,
         bytes: usize,
     },
-    /// One run of the query at a place, which had covered the seconds up to `covered` and had that many runs and entries.
+    /// One run of the query at a place, which had covered the seconds up to `covered` and had that
+    /// many runs and entries.
     Run {
         place: usize,
         covered: i64,

@@ -17,8 +17,8 @@ impl Engine {
     ghost use Rattle.tap_engine.specs.Costs.{TakesAtMost, cached_wake_work};
     ghost use Rattle.tap_engine.specs.Standing.{wake_refusal, cached_named, cached_wake, RefusedBy};
 
-    // Finds the earliest moment from the session's on at which a run of the user's query of this name delivers, if there is
-    // one.
+    // Finds the earliest moment from the session's on at which a run of the user's query of this
+    // name delivers, if there is one.
     fn wake_named<L: Ledger>(
         &self,
         alloc: Global,
@@ -27,10 +27,13 @@ impl Engine {
     ) -> Result<Option<i64>, Refusal>
         requires ready { IsReady self.now }
         ensures look { OnOk result (wake_refusal self.now name.now ≡ None) }
-        ensures moment { IfOk result (λ moment. Some moment ≡ cached_wake self.now (cached_named self.now name.now)) }
-        ensures refusal { IfErr result (λ refusal. RefusedBy (wake_refusal self.now name.now) refusal) }
+        ensures moment { IfOk result (λ moment.
+            Some moment ≡ cached_wake self.now (cached_named self.now name.now)) }
+        ensures refusal { IfErr result (λ refusal.
+            RefusedBy (wake_refusal self.now name.now) refusal) }
         ensures name { OnOk result (is_name name.now ≡ true) }
-        ensures steps { steps.new ≤ steps.old + cached_wake_work self.now (cached_named self.now name.now) }
+        ensures steps { steps.new
+            ≤ steps.old + cached_wake_work self.now (cached_named self.now name.now) }
     {
         let Some(now) = self.session.moment else {
             return Err(Refusal::NoMoment);
@@ -40,7 +43,8 @@ impl Engine {
         Ok(moment)
     }
 
-    // Tells the earliest moment from the session's on at which a run of the user's query of this name delivers.
+    // Tells the earliest moment from the session's on at which a run of the user's query of this
+    // name delivers.
     pub(crate) fn show_wake<L: Ledger>(
         &self,
         alloc: Global,

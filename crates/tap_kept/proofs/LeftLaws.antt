@@ -20,19 +20,25 @@ each-one f [] x each = (omega (arith, ints), tt)
 each-one f (row ∷ rows) x each = (each.0, each-one f rows x each.1)
 
 -- none of the others arrived later
-pub left-after : {A : Type 0} (number : A → ℕ) (arrival : A → ℤ) (others : List A) (x : A) (rows : List A) → FollowInOrder number arrival others (x ∷ rows) → Each (λ other. arrival other ≤ℤ arrival x) others
+pub left-after : {A : Type 0} (number : A → ℕ) (arrival : A → ℤ) (others : List A) (x : A) (rows : List A)
+    → FollowInOrder number arrival others (x ∷ rows) → Each (λ other. arrival other ≤ℤ arrival x) others
 left-after number arrival others x rows left = each-up arrival left.low (arrival x) others left.stand.1 left.before
 
 -- the next row is one of the others
-pub left-next : {A : Type 0} (number : A → ℕ) (arrival : A → ℤ) (others : List A) (x : A) (rows : List A) → FollowInOrder number arrival others (x ∷ rows) → FollowInOrder number arrival (others ++ x ∷ []) rows
+pub left-next : {A : Type 0} (number : A → ℕ) (arrival : A → ℤ) (others : List A) (x : A) (rows : List A)
+    → FollowInOrder number arrival others (x ∷ rows) → FollowInOrder number arrival (others ++ x ∷ []) rows
 left-next number arrival others x rows left = record {
   low = arrival x;
   before = each-one arrival others x (left-after number arrival others x rows left);
   stand = subst (λ n. AreInOrder number arrival (n + 1) (arrival x) rows) (sym (length-append others (x ∷ []))) left.stand.3;
 }
 
-pub docs-next : (now new : Tables) (doc : Doc) (rest : List Doc) → new ≡ after now (Docs (doc ∷ [])) → after now (Docs (doc ∷ rest)) ≡ after new (Docs rest)
-docs-next now new doc rest is = ap (λ l. record now { docs = l }) (sym (append_assoc now.docs (doc ∷ []) rest)) ∙ ap (λ t. after t (Docs rest)) (sym is)
+pub docs-next : (now new : Tables) (doc : Doc) (rest : List Doc) → new ≡ after now (Docs (doc ∷ []))
+    → after now (Docs (doc ∷ rest)) ≡ after new (Docs rest)
+docs-next now new doc rest is = ap (λ l. record now { docs = l }) (sym (append_assoc now.docs (doc ∷ []) rest))
+    ∙ ap (λ t. after t (Docs rest)) (sym is)
 
-pub notes-next : (now new : Tables) (note : Note) (rest : List Note) → new ≡ after now (OneNote note) → with_notes now (note ∷ rest) ≡ with_notes new rest
-notes-next now new note rest is = ap (λ l. record now { notes = l }) (sym (append_assoc now.notes (note ∷ []) rest)) ∙ ap (λ t. with_notes t rest) (sym is)
+pub notes-next : (now new : Tables) (note : Note) (rest : List Note) → new ≡ after now (OneNote note)
+    → with_notes now (note ∷ rest) ≡ with_notes new rest
+notes-next now new note rest is = ap (λ l. record now { notes = l }) (sym (append_assoc now.notes (note ∷ []) rest))
+    ∙ ap (λ t. with_notes t rest) (sym is)

@@ -1,5 +1,6 @@
 -- A run delivers documents that weren't delivered before.
-use Rattle.std.proofs.Common.{◌≡◌, ◌∙◌, sym, refl, ap, subst, arith, ℕ, zero, suc, ◌+◌, ◌≤◌, ◌<◌, ℤ, pos, Bool, true, false, not, List, [], ◌∷◌, ◌++◌, map, take, length, Option, Some, None, inl, inr, nat_eq, append_assoc, if◌then◌else◌}
+use Rattle.std.proofs.Common.{◌≡◌, ◌∙◌, sym, refl, ap, subst, arith, ℕ, zero, suc, ◌+◌, ◌≤◌, ◌<◌, ℤ, pos, Bool, true, false, not, List, []}
+use Rattle.std.proofs.Common.{◌∷◌, ◌++◌, map, take, length, Option, Some, None, inl, inr, nat_eq, append_assoc, if◌then◌else◌}
 use Rattle.std.specs.Prelude.{drop, ◌⊎◌, ◌==◌, ◌||◌, slice_index_or, filter}
 use Rattle.std.specs.List.{list_any, filter_map}
 use Rattle.std.proofs.lemmas.Bool.{false≢true}
@@ -23,19 +24,24 @@ same-no : (m n : ℕ) → (m ≡ n → ⊥) → nat_eq m n ≡ false
 same-no m n no' = grind arith
 
 -- one entry more, of another document
-in-more : (doc : ℕ) (entries : List Entry) (entry : Entry) → is_in doc entries ≡ false → (doc ≡ entry.doc.0 → ⊥) → is_in doc (entries ++ entry ∷ []) ≡ false
+in-more : (doc : ℕ) (entries : List Entry) (entry : Entry) → is_in doc entries ≡ false → (doc ≡ entry.doc.0 → ⊥)
+    → is_in doc (entries ++ entry ∷ []) ≡ false
 in-more doc [] entry none other = rw (same-no doc entry.doc.0 other) refl
 in-more doc (e ∷ entries) entry none other = go (nat_eq doc e.doc.0) refl (λ rest. in-more doc entries entry rest other) where
-  go : (b : Bool) → nat_eq doc e.doc.0 ≡ b → (is_in doc entries ≡ false → is_in doc (entries ++ entry ∷ []) ≡ false) → is_in doc (e ∷ entries ++ entry ∷ []) ≡ false
+  go : (b : Bool) → nat_eq doc e.doc.0 ≡ b → (is_in doc entries ≡ false → is_in doc (entries ++ entry ∷ []) ≡ false)
+      → is_in doc (e ∷ entries ++ entry ∷ []) ≡ false
   go true is rest = absurd (false≢true (sym none ∙ ap (λ b. b || is_in doc entries) is))
   go false is rest = ap (λ b. b || is_in doc (entries ++ entry ∷ [])) is ∙ rest (sym (ap (λ b. b || is_in doc entries) is) ∙ none)
 
 -- the hits that are left are new beside the one that was added
-pub new-next : (entries : List Entry) (run : ℕ) (hit : Hit) (hits : List Hit) → AreNew entries (hit ∷ hits) → AreNew (entries ++ entry_at run hit ∷ []) hits
+pub new-next : (entries : List Entry) (run : ℕ) (hit : Hit) (hits : List Hit) → AreNew entries (hit ∷ hits)
+    → AreNew (entries ++ entry_at run hit ∷ []) hits
 new-next entries run hit hits new = go hits new.1 new.2 where
-  go : (hits : List Hit) → ((other : Hit) → In other hits → other.doc.0 ≡ hit.doc.0 → ⊥) → AreNew entries hits → AreNew (entries ++ entry_at run hit ∷ []) hits
+  go : (hits : List Hit) → ((other : Hit) → In other hits → other.doc.0 ≡ hit.doc.0 → ⊥) → AreNew entries hits
+      → AreNew (entries ++ entry_at run hit ∷ []) hits
   go [] apart new = tt
-  go (other ∷ hits) apart new = (in-more other.doc.0 entries (entry_at run hit) new.0 (apart other (inl refl)), new.1, go hits (λ h has. apart h (inr has)) new.2)
+  go (other ∷ hits) apart new =
+      (in-more other.doc.0 entries (entry_at run hit) new.0 (apart other (inl refl)), new.1, go hits (λ h has. apart h (inr has)) new.2)
 
 -- a hit that is put among others
 put-out : (a h : Hit) (hits : List Hit) → In h (put_in a hits) → (h ≡ a) ⊎ In h hits
@@ -48,9 +54,11 @@ put-out a h (b ∷ hits) has = go (is_before a b) refl (λ rest. put-out a h hit
     later (inl e) = inr (inl e)
     later (inr i) = elim (rest i) [ inl e ↦ inl e | inr j ↦ inr (inr j) ]
 
-put-new : (entries : List Entry) (a : Hit) (hits : List Hit) → is_in a.doc.0 entries ≡ false → ((other : Hit) → In other hits → other.doc.0 ≡ a.doc.0 → ⊥) → AreNew entries hits → AreNew entries (put_in a hits)
+put-new : (entries : List Entry) (a : Hit) (hits : List Hit) → is_in a.doc.0 entries ≡ false
+    → ((other : Hit) → In other hits → other.doc.0 ≡ a.doc.0 → ⊥) → AreNew entries hits → AreNew entries (put_in a hits)
 put-new entries a [] unseen apart new = (unseen, apart, tt)
-put-new entries a (b ∷ hits) unseen apart new = go (is_before a b) refl (put-new entries a hits unseen (λ h has. apart h (inr has)) new.2) where
+put-new entries a (b ∷ hits) unseen apart new =
+    go (is_before a b) refl (put-new entries a hits unseen (λ h has. apart h (inr has)) new.2) where
   away : (other : Hit) → (other ≡ a) ⊎ In other hits → other.doc.0 ≡ b.doc.0 → ⊥
   away other (inl e) same = apart b (inl refl) (sym same ∙ ap (λ (h : Hit). h.doc.0) e)
   away other (inr i) same = new.1 other i same
@@ -65,10 +73,12 @@ order-out h (x ∷ hits) has = elim (put-out x h (hits_in_order hits) has) [ inl
 
 order-new : (entries : List Entry) (hits : List Hit) → AreNew entries hits → AreNew entries (hits_in_order hits)
 order-new entries [] new = tt
-order-new entries (hit ∷ hits) new = put-new entries hit (hits_in_order hits) new.0 (λ other has. new.1 other (order-out other hits has)) (order-new entries hits new.2)
+order-new entries (hit ∷ hits) new =
+    put-new entries hit (hits_in_order hits) new.0 (λ other has. new.1 other (order-out other hits has)) (order-new entries hits new.2)
 
 -- the hits of unseen documents
-module _ (entries : List Entry) (seen : Doc → Bool) (unseen : (doc : Doc) → seen doc ≡ false → is_in doc.num.0 entries ≡ false) (second : Doc → Option ℤ) where
+module _ (entries : List Entry) (seen : Doc → Bool) (unseen : (doc : Doc) → seen doc ≡ false → is_in doc.num.0 entries ≡ false)
+    (second : Doc → Option ℤ) where
   abbrev hits-in : List Doc → List Hit
   hits-in docs = filter_map (λ doc. hit_of doc (second doc)) (filter (λ doc. not (seen doc)) docs)
 
@@ -81,9 +91,11 @@ module _ (entries : List Entry) (seen : Doc → Bool) (unseen : (doc : Doc) → 
   hits-from : (n : ℕ) (low : ℤ) (docs : List Doc) → Arrived n low docs → AreFrom n (hits-in docs)
   hits-from n low [] arrived = (tt, λ hit has. absurd has)
   hits-from n low (doc ∷ docs) arrived = go (seen doc) refl (second doc) refl (hits-from (suc n) doc.arrival docs arrived.2) where
-    first : (m : ℤ) → is_in doc.num.0 entries ≡ false → AreFrom (suc n) (hits-in docs) → AreFrom n (record { doc = doc.num; first = m } ∷ hits-in docs)
+    first : (m : ℤ) → is_in doc.num.0 entries ≡ false → AreFrom (suc n) (hits-in docs)
+        → AreFrom n (record { doc = doc.num; first = m } ∷ hits-in docs)
     first m new from =
-        ((new, (λ other has same. let le = from.1 other has in let at = arrived.1 in omega (arith, le, at, same)), from.0), λ hit has. number hit has) where
+        ((new, (λ other has same. let le = from.1 other has in let at = arrived.1 in omega (arith, le, at, same)), from.0),
+            λ hit has. number hit has) where
           number : (hit : Hit) → (hit ≡ record { doc = doc.num; first = m }) ⊎ In hit (hits-in docs) → n ≤ hit.doc.0
           number hit (inl e) = let is : hit.doc.0 ≡ doc.num.0 = ap (λ (h : Hit). h.doc.0) e in let at = arrived.1 in omega (arith, is, at)
           number hit (inr has) = let le = from.1 hit has in omega (arith, le)
@@ -94,28 +106,37 @@ module _ (entries : List Entry) (seen : Doc → Bool) (unseen : (doc : Doc) → 
     go false is (Some m) at from = let new = unseen doc is in rw (is, at) (first m new from)
 
 -- what a window query finds without the documents of a box is new beside the box
-pub found-new : (entries : List Entry) (second : Doc → Option ℤ) (docs : List Doc) → Arrived 1 (pos 0) docs → AreNew entries (hits_by second (filter (λ doc. not (was_seen entries doc)) docs))
-found-new entries second docs arrived = order-new entries _ (hits-from entries (was_seen entries) (λ doc is. is) second 1 (pos 0) docs arrived).0
+pub found-new : (entries : List Entry) (second : Doc → Option ℤ) (docs : List Doc) → Arrived 1 (pos 0) docs
+    → AreNew entries (hits_by second (filter (λ doc. not (was_seen entries doc)) docs))
+found-new entries second docs arrived =
+    order-new entries _ (hits-from entries (was_seen entries) (λ doc is. is) second 1 (pos 0) docs arrived).0
 
 -- a query that picks no document twice doesn't pick one again
-once-from : (earlier picks : List Pick) (i : ℕ) (d : Pick) → PicksAreDistinct earlier picks → i < length picks → list_any (picks_same (slice_index_or picks i d)) (earlier ++ take i picks) ≡ false
+once-from : (earlier picks : List Pick) (i : ℕ) (d : Pick) → PicksAreDistinct earlier picks → i < length picks
+    → list_any (picks_same (slice_index_or picks i d)) (earlier ++ take i picks) ≡ false
 once-from earlier [] i d once lt = absurd (omega (arith, lt))
 once-from earlier (pick ∷ picks) zero d once lt = subst (λ l. list_any (picks_same pick) l ≡ false) (sym (append-nil earlier)) once.0
 once-from earlier (pick ∷ picks) (suc i) d once lt =
-    subst (λ l. list_any (picks_same (slice_index_or picks i d)) l ≡ false) (append_assoc earlier (pick ∷ []) (take i picks)) (once-from (earlier ++ pick ∷ []) picks i d once.1 (omega (arith, lt)))
+    subst (λ l. list_any (picks_same (slice_index_or picks i d)) l ≡ false) (append_assoc earlier (pick ∷ []) (take i picks))
+      (once-from (earlier ++ pick ∷ []) picks i d once.1 (omega (arith, lt)))
 
-pub once-at : (picks : List Pick) (i : ℕ) (d : Pick) → PicksAreDistinct [] picks → i < length picks → list_any (picks_same (slice_index_or picks i d)) (take i picks) ≡ false
+pub once-at : (picks : List Pick) (i : ℕ) (d : Pick) → PicksAreDistinct [] picks → i < length picks
+    → list_any (picks_same (slice_index_or picks i d)) (take i picks) ≡ false
 once-at picks i d once lt = once-from [] picks i d once lt
 
 same-numbers : (m n : ℕ) → nat_eq m n ≡ (n == m)
 same-numbers m n = grind arith
 
 -- the documents that a query picked
-pub picked-in : (runs : List RunRow) (pick : Pick) (picks : List Pick) → is_in pick.doc.0 (map (picked runs) (picks_of pick.query.0 picks)) ≡ list_any (picks_same pick) picks
+pub picked-in : (runs : List RunRow) (pick : Pick) (picks : List Pick)
+    → is_in pick.doc.0 (map (picked runs) (picks_of pick.query.0 picks)) ≡ list_any (picks_same pick) picks
 picked-in runs pick [] = refl
 picked-in runs pick (other ∷ picks) = go (other.query.0 == pick.query.0) refl (picked-in runs pick picks) where
-  go : (b : Bool) → (other.query.0 == pick.query.0) ≡ b → is_in pick.doc.0 (map (picked runs) (picks_of pick.query.0 picks)) ≡ list_any (picks_same pick) picks → is_in pick.doc.0 (map (picked runs) (picks_of pick.query.0 (other ∷ picks))) ≡ list_any (picks_same pick) (other ∷ picks)
-  go true is rest = rw is (ap (λ b. b || is_in pick.doc.0 (map (picked runs) (picks_of pick.query.0 picks))) (same-numbers pick.doc.0 other.doc.0) ∙ ap (λ b. (other.doc.0 == pick.doc.0) || b) rest)
+  go : (b : Bool) → (other.query.0 == pick.query.0) ≡ b
+      → is_in pick.doc.0 (map (picked runs) (picks_of pick.query.0 picks)) ≡ list_any (picks_same pick) picks
+      → is_in pick.doc.0 (map (picked runs) (picks_of pick.query.0 (other ∷ picks))) ≡ list_any (picks_same pick) (other ∷ picks)
+  go true is rest = rw is (ap (λ b. b || is_in pick.doc.0 (map (picked runs) (picks_of pick.query.0 picks)))
+        (same-numbers pick.doc.0 other.doc.0) ∙ ap (λ b. (other.doc.0 == pick.doc.0) || b) rest)
   go false is rest = rw is rest
 
 -- the hit at a place, and those that are left
@@ -136,13 +157,17 @@ back-more zero xs ys le = refl
 back-more (suc n) [] ys le = absurd (omega (arith, le))
 back-more (suc n) (x ∷ xs) ys le = ap (λ l. x ∷ l) (back-more n xs ys (omega (arith, le)))
 
-pub one-added : (old now new : List Entry) (run i : ℕ) (hits : List Hit) (d : Hit) → i < length hits → new ≡ now ++ entry_at run (slice_index_or hits i d) ∷ []
-    → old ++ map (entry_at run) hits ≡ now ++ map (entry_at run) (drop i hits) → take (length old) now ≡ old → length old ≤ length now → AreNew now (drop i hits) → IsAdded old new run hits (drop (i + 1) hits)
+pub one-added : (old now new : List Entry) (run i : ℕ) (hits : List Hit) (d : Hit) → i < length hits
+    → new ≡ now ++ entry_at run (slice_index_or hits i d) ∷ []
+    → old ++ map (entry_at run) hits ≡ now ++ map (entry_at run) (drop i hits) → take (length old) now ≡ old → length old ≤ length now
+        → AreNew now (drop i hits) → IsAdded old new run hits (drop (i + 1) hits)
 one-added old now new run i hits d lt is all back more fresh =
     let hit = slice_index_or hits i d in
     let left = left-at i hits d lt in
     record {
-      all = all ∙ ap (λ l. now ++ map (entry_at run) l) left ∙ sym (append_assoc now (entry_at run hit ∷ []) (map (entry_at run) (drop (i + 1) hits))) ∙ ap (λ l. l ++ map (entry_at run) (drop (i + 1) hits)) (sym is);
+      all = all ∙ ap (λ l. now ++ map (entry_at run) l) left
+          ∙ sym (append_assoc now (entry_at run hit ∷ []) (map (entry_at run) (drop (i + 1) hits)))
+          ∙ ap (λ l. l ++ map (entry_at run) (drop (i + 1) hits)) (sym is);
       back = ap (λ l. take (length old) l) is ∙ back-more (length old) now (entry_at run hit ∷ []) more ∙ back;
       more = let len : length new ≡ length now + 1 = ap length is ∙ length-append now (entry_at run hit ∷ []) in omega (arith, len, more);
       new = subst (λ l. AreNew l (drop (i + 1) hits)) (sym is) (new-next now run hit (drop (i + 1) hits) (subst (AreNew now) left fresh));

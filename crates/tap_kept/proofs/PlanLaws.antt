@@ -1,5 +1,6 @@
 -- The probes of a plan are probes, and what a query has covered.
-use Rattle.std.proofs.Common.{◌≡◌, sym, refl, ap, arith, subst, ℕ, zero, suc, ◌+◌, ℤ, List, [], ◌∷◌, ◌++◌, take, map, true, false, if◌then◌else◌}
+use Rattle.std.proofs.Common.{◌≡◌, sym, refl, ap, arith, subst, ℕ, zero, suc, ◌+◌, ℤ, List, [], ◌∷◌, ◌++◌, take, map, true, false}
+use Rattle.std.proofs.Common.{if◌then◌else◌}
 use Rattle.std.specs.Prelude.{◌==◌, option_to_list, slice_get}
 use Rattle.tap_rows.specs.declared.rows.RunRow.{RunRow}
 use Rattle.tap_rows.specs.Kept.{Each, In}
@@ -13,7 +14,8 @@ use Rattle.time_marks.specs.Views.{probes_of, ranged_probes}
 use Rattle.time_marks.proofs.Repeats.{distinct_among}
 use Rattle.probe_eval.specs.Runs.{HasValidProbes}
 
-pub probes-kept : (x : WindowQuery) (r q : RangedQuery) → ((p : Probe) → In p (probes_of x) → IsProbe p) → ranged_probes r ≡ distinct_probes (probes_of x) → q ≡ r → HasValidProbes q
+pub probes-kept : (x : WindowQuery) (r q : RangedQuery) → ((p : Probe) → In p (probes_of x) → IsProbe p)
+    → ranged_probes r ≡ distinct_probes (probes_of x) → q ≡ r → HasValidProbes q
 probes-kept x r q s d e = subst HasValidProbes (sym e) (λ p i. s p (distinct_among (probes_of x) p (subst (In p) d i)))
 
 -- what holds of all moments of runs holds of the last of a query's
@@ -21,13 +23,15 @@ moments-each : (P : ℤ → Type 0) (query : ℕ) (runs : List RunRow) → Each 
 moments-each P query [] each = tt
 moments-each P query (run ∷ runs) each =
     let rest = moments-each P query runs each.1 in
-    elim (run.query.0 == query) as (λ b. Each P (map (λ run. run.moment) (if b then run ∷ runs_of query runs else runs_of query runs))) [ true ↦ (each.0, rest) | false ↦ rest ]
+    elim (run.query.0 == query) as (λ b. Each P (map (λ run. run.moment) (if b then run ∷ runs_of query runs else runs_of query runs))) [
+        true ↦ (each.0, rest) | false ↦ rest ]
 
 last-each : (P : ℤ → Type 0) (low : ℤ) (ms : List ℤ) → P low → Each P ms → P (last_or low ms)
 last-each P low [] is each = is
 last-each P low (m ∷ ms) is each = last-each P m ms each.0 each.1
 
-pub covered-each : (P : ℤ → Type 0) (start : ℤ) (query : ℕ) (runs : List RunRow) → P start → Each (λ run. P run.moment) runs → P (covered start query runs)
+pub covered-each : (P : ℤ → Type 0) (start : ℤ) (query : ℕ) (runs : List RunRow) → P start → Each (λ run. P run.moment) runs
+    → P (covered start query runs)
 covered-each P start query runs is each = last-each P start (run_moments query runs) is (moments-each P query runs each)
 
 -- one more of a list's first

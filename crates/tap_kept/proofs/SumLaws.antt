@@ -1,5 +1,6 @@
 -- The sums of rows, and the greatest of their moments.
-use Rattle.std.proofs.Common.{◌≡◌, ◌∙◌, sym, ap, refl, arith, ℕ, ◌+◌, ℤ, Option, Some, None, List, [], ◌∷◌, ◌++◌, length, map, if◌then◌else◌}
+use Rattle.std.proofs.Common.{◌≡◌, ◌∙◌, sym, ap, refl, arith, ℕ, ◌+◌, ℤ, Option, Some, None, List, [], ◌∷◌, ◌++◌, length, map}
+use Rattle.std.proofs.Common.{if◌then◌else◌}
 use Rattle.std.specs.Prelude.{int_le, sum_by}
 use Rattle.std.proofs.lemmas.Int.{ints}
 use Rattle.std.proofs.lemmas.List.Sums.{sum_by-append}
@@ -9,11 +10,13 @@ use Rattle.tap_model.specs.Sessions.{later_of, greatest_of, greatest_moment}
 use Rattle.tap_kept.specs.declared.sums.Sums.{Sums}
 use Rattle.tap_kept.specs.Starting.{added, summed, sums_of}
 
-bytes-are : {A : Type 0} (moment : A → ℤ) (bytes : A → ℕ) (sums : Sums) (rows : List A) → (summed moment bytes sums rows).bytes ≡ sums.bytes + sum_by bytes rows
+bytes-are : {A : Type 0} (moment : A → ℤ) (bytes : A → ℕ) (sums : Sums) (rows : List A)
+    → (summed moment bytes sums rows).bytes ≡ sums.bytes + sum_by bytes rows
 bytes-are moment bytes sums [] = none sums.bytes where
   none : (n : ℕ) → n ≡ n + 0
   none n = omega arith
-bytes-are moment bytes sums (row ∷ rows) = bytes-are moment bytes (added (moment row) (bytes row) sums) rows ∙ more sums.bytes (bytes row) (sum_by bytes rows) (sum_by bytes (row ∷ rows)) (sum_by-append bytes (row ∷ []) rows) where
+bytes-are moment bytes sums (row ∷ rows) = bytes-are moment bytes (added (moment row) (bytes row) sums) rows
+    ∙ more sums.bytes (bytes row) (sum_by bytes rows) (sum_by bytes (row ∷ rows)) (sum_by-append bytes (row ∷ []) rows) where
   more : (a b c d : ℕ) → d ≡ 0 + b + c → a + b + c ≡ a + d
   more a b c d e = omega (arith, e)
 
@@ -41,9 +44,11 @@ stepped m None rest = refl
 stepped m (Some n) None = ap Some (two m n)
 stepped m (Some n) (Some k) = ap Some (three m n k)
 
-greatest-is : {A : Type 0} (moment : A → ℤ) (bytes : A → ℕ) (sums : Sums) (rows : List A) → (summed moment bytes sums rows).greatest ≡ joined sums.greatest (greatest_of (map moment rows))
+greatest-is : {A : Type 0} (moment : A → ℤ) (bytes : A → ℕ) (sums : Sums) (rows : List A)
+    → (summed moment bytes sums rows).greatest ≡ joined sums.greatest (greatest_of (map moment rows))
 greatest-is moment bytes sums [] = sym (joined-none sums.greatest)
-greatest-is moment bytes sums (row ∷ rows) = greatest-is moment bytes (added (moment row) (bytes row) sums) rows ∙ stepped (moment row) sums.greatest (greatest_of (map moment rows))
+greatest-is moment bytes sums (row ∷ rows) = greatest-is moment bytes (added (moment row) (bytes row) sums) rows
+    ∙ stepped (moment row) sums.greatest (greatest_of (map moment rows))
 
 joined-assoc : (a b c : Option ℤ) → joined (joined a b) c ≡ joined a (joined b c)
 joined-assoc None b c = refl
@@ -55,7 +60,8 @@ joined-assoc (Some a) (Some b) (Some c) = ap Some (assoc a b c) where
 
 both-greatest : (xs ys : List ℤ) → greatest_of (xs ++ ys) ≡ joined (greatest_of xs) (greatest_of ys)
 both-greatest [] ys = refl
-both-greatest (x ∷ xs) ys = ap (λ o. Some (later_of x o)) (both-greatest xs ys) ∙ sym (joined-assoc (Some x) (greatest_of xs) (greatest_of ys))
+both-greatest (x ∷ xs) ys = ap (λ o. Some (later_of x o)) (both-greatest xs ys)
+    ∙ sym (joined-assoc (Some x) (greatest_of xs) (greatest_of ys))
 
 none-stored : {A : Type 0} (rows : List A) → sum_by (λ row. 0) rows ≡ 0
 none-stored [] = refl
@@ -92,9 +98,12 @@ greatest-in t =
     let f = map (λ filter. filter.arrival) t.filters in
     greatest-is (λ filter. filter.arrival) (λ filter. length filter.source) runs t.filters
     ∙ ap (λ o. joined o (greatest_of f)) (greatest-is (λ run. run.moment) (λ run. 0) queries t.runs)
-    ∙ ap (λ o. joined (joined o (greatest_of r)) (greatest_of f)) (greatest-is (λ query. query.arrival) (λ query. length query.source) notes t.queries)
-    ∙ ap (λ o. joined (joined (joined o (greatest_of q)) (greatest_of r)) (greatest_of f)) (greatest-is (λ note. note.arrival) (λ note. length note.text) docs t.notes)
-    ∙ ap (λ o. joined (joined (joined (joined o (greatest_of n)) (greatest_of q)) (greatest_of r)) (greatest_of f)) (greatest-is (λ doc. doc.arrival) (λ doc. length doc.text) start t.docs)
+    ∙ ap (λ o. joined (joined o (greatest_of r)) (greatest_of f))
+        (greatest-is (λ query. query.arrival) (λ query. length query.source) notes t.queries)
+    ∙ ap (λ o. joined (joined (joined o (greatest_of q)) (greatest_of r)) (greatest_of f))
+        (greatest-is (λ note. note.arrival) (λ note. length note.text) docs t.notes)
+    ∙ ap (λ o. joined (joined (joined (joined o (greatest_of n)) (greatest_of q)) (greatest_of r)) (greatest_of f))
+        (greatest-is (λ doc. doc.arrival) (λ doc. length doc.text) start t.docs)
     ∙ sym (both-greatest (d ++ n ++ q ++ r) f
     ∙ ap (λ o. joined o (greatest_of f)) (both-greatest (d ++ n ++ q) r
     ∙ ap (λ o. joined o (greatest_of r)) (both-greatest (d ++ n) q

@@ -19,7 +19,8 @@ none-some : (refusal : Refusal) → None ≡ Some refusal → ⊥
 none-some refusal e = cc
 
 -- the refusal of a text that can't be read
-pub fault-refused : (source : List ℕ) (fault : TextFault) (refusal : Refusal) → (condition_of source ≡ Err fault) ⊎ (fault ≡ T.Memory) → (fault_refusal fault ≡ Some refusal) ⊎ (refusal ≡ Memory) → (text_fault source ≡ Some refusal) ⊎ (refusal ≡ Memory)
+pub fault-refused : (source : List ℕ) (fault : TextFault) (refusal : Refusal) → (condition_of source ≡ Err fault) ⊎ (fault ≡ T.Memory)
+    → (fault_refusal fault ≡ Some refusal) ⊎ (refusal ≡ Memory) → (text_fault source ≡ Some refusal) ⊎ (refusal ≡ Memory)
 unfolding text_fault
 fault-refused source fault refusal (inl e) (inl f) = inl (ap reading_refusal e ∙ f)
 fault-refused source fault refusal (inr e) (inl f) = absurd (none-some refusal (sym (ap fault_refusal e) ∙ f))

@@ -29,7 +29,8 @@ use Rattle.tql_types.specs.declared.fault.TypeFault.{TypeFault}
 use Rattle.tql_types.specs.Scopes.{variable_named, first_scope, next_variable, variables_after}
 use Rattle.tql_types.specs.Sorts.{field_in, sort_of}
 use Rattle.tql_types.specs.Clocks.{clock_of, turned, half_line, times_core}
-use Rattle.tql_types.specs.Core.{binder_fault, inner_scope, first_fault, text_or_empty, lowered, has_field, has_core, compare_core, core, typed}
+use Rattle.tql_types.specs.Core.{binder_fault, inner_scope, first_fault, text_or_empty, lowered, has_field, has_core, compare_core, core}
+use Rattle.tql_types.specs.Core.{typed}
 use Rattle.tql_text.specs.Texts.{of_typing, of_tree, of_tokens, condition_of}
 use Rattle.snapshot_meaning.specs.Seen.{exists_in}
 
@@ -56,7 +57,8 @@ times-none op (K.Today a) (K.Today b) = constant-none _
 times-none op (K.Now a) (K.Today b) = refl
 times-none op (K.Today a) (K.Now b) = refl
 
-compare-none : (sort : Option Sort) (scope : List Variable) (left : Expr) (op : Op) (right : Expr) → exists_in (compare_core sort scope left op right) ≡ 0
+compare-none : (sort : Option Sort) (scope : List Variable) (left : Expr) (op : Op) (right : Expr)
+    → exists_in (compare_core sort scope left op right) ≡ 0
 compare-none (Some Number) scope left op right = refl
 compare-none (Some Text) scope left op right = refl
 compare-none (Some Time) scope left op right = times-none op (clock_of scope left) (clock_of scope right)
@@ -80,7 +82,8 @@ has-none scope (E.Str place bytes) text = refl
 has-none scope (E.Now place shift) text = refl
 has-none scope (E.Today place shift) text = refl
 has-none scope (E.Moment place moment shift) text = refl
-has-none scope (E.Field var var_place name place shift) text = field-none (variable_named var scope) (field_in (variable_named var scope) name) text
+has-none scope (E.Field var var_place name place shift) text =
+    field-none (variable_named var scope) (field_in (variable_named var scope) name) text
 
 up : (n : ℕ) → nat_lt n 6 ≡ true → next_variable n ≡ n + 1
 up n h = rw h refl
@@ -95,25 +98,31 @@ none-within : (a k : ℕ) → a ≡ 0 → a + k ≤ k
 none-within a k e = omega (arith, e)
 
 -- a condition without a fault binds no more variables than are counted in it
-within : (scope : List Variable) (count : ℕ) (s : Syntax) → count ≤ 6 → first_fault scope count s ≡ None → exists_in (core scope count s) + count ≤ variables_after count s
+within : (scope : List Variable) (count : ℕ) (s : Syntax) → count ≤ 6 → first_fault scope count s ≡ None
+    → exists_in (core scope count s) + count ≤ variables_after count s
 within scope count True high fine = none-within 0 count refl
 within scope count False high fine = none-within 0 count refl
 within scope count (Or l r) high fine =
     let parts = none-parts (first_fault scope count l) (first_fault scope (variables_after count l) r) fine in
-    both-within (exists_in (core scope count l)) (exists_in (core scope (variables_after count l) r)) count (variables_after count l) (variables_after (variables_after count l) r)
+    both-within (exists_in (core scope count l)) (exists_in (core scope (variables_after count l) r)) count (variables_after count l)
+      (variables_after (variables_after count l) r)
     (within scope count l high parts.0) (within scope (variables_after count l) r (after-grows count l high).1 parts.1)
 within scope count (And l r) high fine =
     let parts = none-parts (first_fault scope count l) (first_fault scope (variables_after count l) r) fine in
-    both-within (exists_in (core scope count l)) (exists_in (core scope (variables_after count l) r)) count (variables_after count l) (variables_after (variables_after count l) r)
+    both-within (exists_in (core scope count l)) (exists_in (core scope (variables_after count l) r)) count (variables_after count l)
+      (variables_after (variables_after count l) r)
     (within scope count l high parts.0) (within scope (variables_after count l) r (after-grows count l high).1 parts.1)
 within scope count (Not x) high fine = within scope count x high fine
 within scope count (Exists name place table body) high fine =
     let inner = inner_scope scope count name place table in
     let parts = none-parts (binder_fault scope count name place) (first_fault inner (next_variable count) body) fine in
-    one-within (exists_in (core inner (next_variable count) body)) count (next_variable count) (variables_after (next_variable count) body) (up count (binder-fine scope count name place parts.0))
+    one-within (exists_in (core inner (next_variable count) body)) count (next_variable count) (variables_after (next_variable count) body)
+      (up count (binder-fine scope count name place parts.0))
     (within inner (next_variable count) body (next-grows count high).1 parts.1)
-within scope count (Compare left op place right) high fine = none-within (exists_in (compare_core (sort_of scope left) scope left op right)) count (compare-none (sort_of scope left) scope left op right)
-within scope count (Has left place right) high fine = none-within (exists_in (has_core scope left (lowered (text_or_empty scope right)))) count (has-none scope left (lowered (text_or_empty scope right)))
+within scope count (Compare left op place right) high fine = none-within (exists_in (compare_core (sort_of scope left) scope left op right))
+    count (compare-none (sort_of scope left) scope left op right)
+within scope count (Has left place right) high fine = none-within (exists_in (has_core scope left (lowered (text_or_empty scope right))))
+    count (has-none scope left (lowered (text_or_empty scope right)))
 
 typed-few : (s : Syntax) (c : Condition) → typed s ≡ Ok c → exists_in c ≤ 5
 typed-few s c e =
@@ -138,7 +147,8 @@ tokens-few (Ok tokens) c e = tree-few (query_at 32 tokens) c e
 pub read-few : (text : List ℕ) (c : Condition) → condition_of text ≡ Ok c → exists_in c ≤ 15
 read-few text c e = omega (arith, tokens-few (lexed text) c e)
 
-typing-query : (typing : Result Condition TypeFault) (tree : Syntax) (c : Condition) → typed tree ≡ typing → of_typing typing ≡ Ok c → IsQuery c × (are_bounded c ≡ true)
+typing-query : (typing : Result Condition TypeFault) (tree : Syntax) (c : Condition) → typed tree ≡ typing → of_typing typing ≡ Ok c
+    → IsQuery c × (are_bounded c ≡ true)
 typing-query typing tree c is e = let ok = is ∙ typing-few typing c e in (typed-is-query tree c ok, typed-bounded tree c ok)
 
 tree-query : (tree : Result Syntax ParseFault) (c : Condition) → of_tree tree ≡ Ok c → IsQuery c × (are_bounded c ≡ true)

@@ -49,7 +49,8 @@ before_run second runs entries kept = record { row = kept.row; covered = second;
 
 -- what a run of a query at a moment delivers: what its window query finds since the last run, without what was delivered
 abbrev pub hits_since : CachedQuery → Tables → ℤ → List Hit
-hits_since kept rows moment = meaning_without (was_seen kept.entries) (probes_of_query kept.row) rows (record { low = kept.covered; high = moment })
+hits_since kept rows moment =
+    meaning_without (was_seen kept.entries) (probes_of_query kept.row) rows (record { low = kept.covered; high = moment })
 
 -- no hit is of a document among these entries, and no two are of one document
 abbrev pub AreNew : List Entry → List Hit → Type 0

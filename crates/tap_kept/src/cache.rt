@@ -1,6 +1,7 @@
 //! What an engine has in memory of stored queries, filters and their owners.
 
-ghost use Rattle.std.specs.Prelude.{◌≡◌, ◌⊎◌, ◌++◌, [], map, length, false, true, None, Some, Ok, OnOk, IfOk, IfErr};
+ghost use Rattle.std.specs.Prelude.{◌≡◌, ◌⊎◌, ◌++◌, [], map, length, false, true, None, Some, Ok};
+ghost use Rattle.std.specs.Prelude.{OnOk, IfOk, IfErr};
 ghost use Rattle.std.specs.Option.{option_map};
 ghost use Rattle.tap_base.specs.Words.{with_new};
 ghost use Rattle.tap_rows.specs.Kept.{Each, QueriesFrom};
@@ -83,7 +84,8 @@ pub fn cache_delivered(
     requires numbered { QueriesFrom 1 rows }
     requires owned { Each (λ run. IsRowNumber run.query.0 (length rows)) runs.now }
     requires deliveries { AreDeliveries runs.now picks.now }
-    ensures { IfOk result (λ queries. queries ≡ map (cached_query (runs_alone runs.now picks.now)) rows) }
+    ensures { IfOk result (λ queries.
+        queries ≡ map (cached_query (runs_alone runs.now picks.now)) rows) }
 {
     let mut queries = CachedQueries::new(alloc);
     match fill_queries(alloc, &mut queries, rows, conds, runs, picks) {
@@ -96,11 +98,18 @@ pub fn cache_delivered(
 }
 
 // Caches a filter with the rules of its text, or reports its number if the text has a fault.
-#[tactic(auto, unfolding(tap_model::specs::Verdicts::filter_fault, tap_model::specs::Filters::rules_in_text))]
+#[tactic(
+    auto,
+    unfolding(
+        tap_model::specs::Verdicts::filter_fault,
+        tap_model::specs::Filters::rules_in_text
+    )
+)]
 fn cache_filter(alloc: Global, row: FilterRow) -> Result<CachedFilter, StartFault>
     ensures read { OnOk result (is_unread row ≡ false) }
     ensures kept { IfOk result (λ kept. kept ≡ row) }
-    ensures fault { IfErr result (λ fault. (fault ≡ Fault.Memory) ⊎ ((is_unread row ≡ true) × (fault ≡ Fault.Rules row.num))) }
+    ensures fault { IfErr result (λ fault. (fault ≡ Fault.Memory)
+        ⊎ ((is_unread row ≡ true) × (fault ≡ Fault.Rules row.num))) }
 {
     match read_rules(alloc, row.source.as_slice()) {
         Ok(rules) => Ok(CachedFilter::new(row, rules)),
@@ -117,7 +126,8 @@ fn push_filters(
 ) -> Result<(), StartFault>
     ensures read { OnOk result (first_unread filters ≡ None) }
     ensures kept { OnOk result (kept.new ≡ kept.old ++ filters) }
-    ensures fault { IfErr result (λ fault. (fault ≡ Fault.Memory) ⊎ (option_map Fault.Rules (first_unread filters) ≡ Some fault)) }
+    ensures fault { IfErr result (λ fault. (fault ≡ Fault.Memory)
+        ⊎ (option_map Fault.Rules (first_unread filters) ≡ Some fault)) }
 {
     for row in filters.into_vec() {
         kept.push(cache_filter(alloc, row)?)?;
@@ -125,14 +135,16 @@ fn push_filters(
     Ok(())
 }
 
-/// Caches filters with the rules of their texts, or reports the number of the first whose text has a fault.
+/// Caches filters with the rules of their texts, or reports the number of the first whose text has
+/// a fault.
 pub fn cache_filters(
     alloc: Global,
     filters: Rows<FilterRow>,
 ) -> Result<Rows<CachedFilter>, StartFault>
     ensures read { OnOk result (first_unread filters ≡ None) }
     ensures kept { IfOk result (λ kept. kept ≡ filters) }
-    ensures fault { IfErr result (λ fault. (fault ≡ Fault.Memory) ⊎ (option_map Fault.Rules (first_unread filters) ≡ Some fault)) }
+    ensures fault { IfErr result (λ fault. (fault ≡ Fault.Memory)
+        ⊎ (option_map Fault.Rules (first_unread filters) ≡ Some fault)) }
 {
     let mut kept = Rows::new(alloc);
     match push_filters(alloc, &mut kept, filters) {
@@ -164,14 +176,16 @@ fn push_filter_owners(owners: &mut Texts, filters: &[FilterRow]) -> Result<(), M
     Ok(())
 }
 
-/// Lists the different owners of queries and filters, each once, looked up by their hashes under this key.
+/// Lists the different owners of queries and filters, each once, looked up by their hashes under
+/// this key.
 pub fn owners_of(
     alloc: Global,
     key: HashKey,
     queries: &[QueryRow],
     filters: &[FilterRow],
 ) -> Result<Texts, Memory>
-    ensures { IfOk result (λ owners. owners ≡ with_new [] (map (λ query. query.owner) queries.now ++ map (λ filter. filter.owner) filters.now)) }
+    ensures { IfOk result (λ owners. owners ≡ with_new []
+        (map (λ query. query.owner) queries.now ++ map (λ filter. filter.owner) filters.now)) }
 {
     let mut owners = Texts::new(alloc);
     push_query_owners(&mut owners, queries)?;

@@ -1,13 +1,15 @@
 //! The queries in memory.
 
-ghost use Rattle.std.specs.Prelude.{◌≡◌, ◌<◌, ◌+◌, ◌^◌, ◌++◌, [], ◌∷◌, List, false, length, map, take, slice_index_or, OnOk, OnErr, IfOk};
+ghost use Rattle.std.specs.Prelude.{◌≡◌, ◌<◌, ◌+◌, ◌^◌, ◌++◌, [], ◌∷◌, List, false, length, map};
+ghost use Rattle.std.specs.Prelude.{take, slice_index_or, OnOk, OnErr, IfOk};
 ghost use Rattle.std.specs.Option.{option_copied};
 ghost use Rattle.tap_base.specs.Bytes.{IsPlaceOf};
 ghost use Rattle.little_box.specs.Boxes.{is_in};
 ghost use Rattle.tap_rows.specs.Results.{entry_at};
 ghost use Rattle.tap_rows.specs.WellFormed.{is_query_of};
 ghost use Rattle.tap_kept.specs.declared.cached_query.CachedQuery.{CachedQuery};
-ghost use Rattle.tap_kept.specs.Keeping.{after_run, without_run, named_in, owned_in, AreNew, HoldsAt, ChangesAt};
+ghost use Rattle.tap_kept.specs.Keeping.{after_run, without_run, named_in, owned_in, AreNew};
+ghost use Rattle.tap_kept.specs.Keeping.{HoldsAt, ChangesAt};
 ghost use Rattle.tap_kept.specs.Starting.{with_entry};
 ghost use Rattle.tap_kept.specs.Lines.{owned_lines};
 
@@ -111,7 +113,8 @@ impl CachedQueries {
         self.items.truncate(len);
     }
 
-    /// Adds a run of the query at this place, which delivered these hits. At Err nothing has changed.
+    /// Adds a run of the query at this place, which delivered these hits. At Err nothing has
+    /// changed.
     pub fn add_run(
         &mut self,
         place: usize,
@@ -122,7 +125,8 @@ impl CachedQueries {
         requires place { IsPlaceOf self.old place }
         requires runs { HoldsAt place (λ query. query.runs + 1 < 2 ^ 64) self.old }
         requires new { HoldsAt place (λ query. AreNew query.entries hits.now) self.old }
-        ensures kept { OnOk result (ChangesAt place (after_run moment (map (entry_at ordinal) hits.now)) self.old self.new) }
+        ensures kept { OnOk result (ChangesAt place
+              (after_run moment (map (entry_at ordinal) hits.now)) self.old self.new) }
         ensures err { OnErr result (self.new ≡ self.old) }
     {
         self.items[place].add_run(moment, ordinal, hits)
@@ -139,7 +143,8 @@ impl CachedQueries {
     // Adds an entry, of a document that isn't in its box, to the box of the query at this place.
     pub(crate) fn add_entry(&mut self, place: usize, entry: Entry) -> Result<(), Memory>
         requires place { IsPlaceOf self.old place }
-        requires unseen { HoldsAt place (λ query. is_in entry.doc.0 query.entries ≡ false) self.old }
+        requires unseen { HoldsAt place (λ query. is_in entry.doc.0 query.entries ≡ false)
+            self.old }
         ensures kept { OnOk result (ChangesAt place (with_entry entry) self.old self.new) }
         ensures err { OnErr result (self.new ≡ self.old) }
     {

@@ -1,6 +1,7 @@
 //! A standing query in memory.
 
-ghost use Rattle.std.specs.Prelude.{◌≡◌, ◌<◌, ◌≤◌, ◌+◌, ◌^◌, pos, false, length, map, OnOk, OnErr, IfOk};
+ghost use Rattle.std.specs.Prelude.{◌≡◌, ◌<◌, ◌≤◌, ◌+◌, ◌^◌, pos, false, length, map, OnOk, OnErr};
+ghost use Rattle.std.specs.Prelude.{IfOk};
 ghost use Rattle.little_box.specs.Boxes.{is_in};
 ghost use Rattle.tap_rows.specs.Results.{entry_at};
 ghost use Rattle.tap_base.specs.declared.moments.TheConstants.{LAST_MOMENT};
@@ -20,8 +21,8 @@ use tap_rows::{Entry, Hit};
 use time_marks::Window;
 use wake_plan::wake;
 
-/// A standing query in memory: its row with its plan, the second that its runs have covered up to, how many runs it had, and
-/// what they delivered.
+/// A standing query in memory: its row with its plan, the second that its runs have covered up to,
+/// how many runs it had, and what they delivered.
 #[derive(Drop)]
 pub struct CachedQuery {
     pub row: PlannedQuery,
@@ -34,7 +35,8 @@ impl CachedQuery {
     ghost use Rattle.tap_kept.specs.Keeping.{never_run, after_run, before_run, hits_since, AreNew};
     ghost use Rattle.tap_kept.specs.Starting.{with_entry};
     ghost use Rattle.tap_kept.specs.Lines.{last_run, cached_state};
-    ghost use Rattle.tap_kept.specs.Costs.{NoProbeHasMark, AreAlone, ArePlain, query_rows_due, query_work, work_ahead, marks_ahead, window_since};
+    ghost use Rattle.tap_kept.specs.Costs.{NoProbeHasMark, AreAlone, ArePlain, query_rows_due};
+    ghost use Rattle.tap_kept.specs.Costs.{query_work, work_ahead, marks_ahead, window_since};
 
     /// Makes a query that was never run: it has covered the seconds up to its start.
     pub fn new(alloc: Global, row: PlannedQuery) -> CachedQuery
@@ -49,8 +51,8 @@ impl CachedQuery {
         }
     }
 
-    /// Puts what a run at this moment delivers into `hits`: what the window query finds since the last run, without what was
-    /// delivered. A step is a row that it looks at. It takes no memory.
+    /// Puts what a run at this moment delivers into `hits`: what the window query finds since the
+    /// last run, without what was delivered. A step is a row that it looks at. It takes no memory.
     pub fn find<L: Ledger>(
         &self,
         index: &RowIndex,
@@ -64,9 +66,12 @@ impl CachedQuery {
         ensures hits { hits.new.hits ≡ hits_since self.now index.now moment }
         ensures new { AreNew self.now.entries hits.new.hits }
         ensures room { hits.new.room ≡ hits.old.room }
-        ensures steps { steps.new ≤ steps.old + query_work index.now (window_since self.now moment) self.now.row }
-        ensures quiet { NoProbeHasMark index.now (window_since self.now moment) self.now.row → steps.new ≡ steps.old }
-        ensures due { AreAlone self.now.row → steps.new ≤ steps.old + query_rows_due index.now (window_since self.now moment) self.now.row }
+        ensures steps { steps.new
+            ≤ steps.old + query_work index.now (window_since self.now moment) self.now.row }
+        ensures quiet { NoProbeHasMark index.now (window_since self.now moment) self.now.row
+            → steps.new ≡ steps.old }
+        ensures due { AreAlone self.now.row → steps.new
+            ≤ steps.old + query_rows_due index.now (window_since self.now moment) self.now.row }
     {
         // This call only brings the order of the documents into scope, for the clause `new`.
         let _docs = index.docs();
@@ -77,10 +82,11 @@ impl CachedQuery {
         run_into(self.row.plan(), index, &self.entries, window, hits, steps);
     }
 
-    /// Returns the earliest moment from now on at which a run delivers, if no row is added: the second after the first that
-    /// the window query finds since the last run, without what was delivered, or now if that is later. `None` comes if and
-    /// only if it finds nothing. A step is a row that it looks at: they are at most those of a run up to the first second
-    /// that is found, and one for each probe.
+    /// Returns the earliest moment from now on at which a run delivers, if no row is added: the
+    /// second after the first that the window query finds since the last run, without what was
+    /// delivered, or now if that is later. `None` comes if and only if it finds nothing. A step is
+    /// a row that it looks at: they are at most those of a run up to the first second that is
+    /// found, and one for each probe.
     pub fn wake<L: Ledger>(
         &self,
         alloc: Global,
@@ -90,9 +96,11 @@ impl CachedQuery {
     ) -> Result<Option<i64>, Memory>
         requires covered { IsMoment self.now.covered }
         requires now { IsMoment now }
-        ensures moment { IfOk result (λ moment. moment ≡ next_wake now (hits_since self.now index.now (pos LAST_MOMENT))) }
+        ensures moment { IfOk result (λ moment.
+            moment ≡ next_wake now (hits_since self.now index.now (pos LAST_MOMENT))) }
         ensures steps { steps.new ≤ steps.old + work_ahead self.now index.now }
-        ensures plain { ArePlain self.now.row → steps.new ≤ steps.old + marks_ahead self.now index.now }
+        ensures plain { ArePlain self.now.row
+            → steps.new ≤ steps.old + marks_ahead self.now index.now }
     {
         wake(
             alloc,
@@ -129,11 +137,13 @@ impl CachedQuery {
         }
     }
 
-    // Adds a run at this moment, of this ordinal, which delivered these. At Err nothing has changed.
+    // Adds a run at this moment, of this ordinal, which delivered these. At Err nothing has
+    // changed.
     pub(crate) fn add_run(&mut self, moment: i64, ordinal: u32, hits: &[Hit]) -> Result<(), Memory>
         requires runs { self.old.runs + 1 < 2 ^ 64 }
         requires new { AreNew self.old.entries hits.now }
-        ensures kept { OnOk result (self.new ≡ after_run moment (map (entry_at ordinal) hits.now) self.old) }
+        ensures kept { OnOk result
+            (self.new ≡ after_run moment (map (entry_at ordinal) hits.now) self.old) }
         ensures err { OnErr result (self.new ≡ self.old) }
     {
         add_hits(&mut self.entries, ordinal, hits)?;

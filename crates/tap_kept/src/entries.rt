@@ -1,6 +1,7 @@
 //! The entries of a query's box.
 
-ghost use Rattle.std.specs.Prelude.{◌≡◌, ◌≤◌, ◌++◌, ◌∷◌, [], false, length, take, map, option_to_list, slice_get, OnOk, OnErr, IfOk};
+ghost use Rattle.std.specs.Prelude.{◌≡◌, ◌≤◌, ◌++◌, ◌∷◌, [], false, length, take, map};
+ghost use Rattle.std.specs.Prelude.{option_to_list, slice_get, OnOk, OnErr, IfOk};
 ghost use Rattle.little_box.specs.Boxes.{is_in};
 ghost use Rattle.tap_rows.specs.Results.{entry_at};
 ghost use Rattle.tap_model.specs.Replies.{entries_in_run};
@@ -39,7 +40,8 @@ fn push_of_run(
     place: u32,
     run: u32,
 ) -> Result<(), Memory>
-    ensures { OnOk result (copy.new ≡ copy.old ++ entries_in_run run (option_to_list (slice_get entries.now place))) }
+    ensures { OnOk result
+        (copy.new ≡ copy.old ++ entries_in_run run (option_to_list (slice_get entries.now place))) }
 {
     match entries.entry(place) {
         None => Ok(()),
@@ -64,8 +66,8 @@ pub fn copy_run(alloc: Global, entries: &LittleBox, run: u32) -> Result<Rows<Ent
     Ok(copy)
 }
 
-// Adds an entry whose document isn't in the box. A box has at most 4,294,967,295 entries, since its places are `u32`. At Err
-// nothing has changed.
+// Adds an entry whose document isn't in the box. A box has at most 4,294,967,295 entries, since its
+// places are `u32`. At Err nothing has changed.
 pub(crate) fn add_entry(entries: &mut LittleBox, entry: Entry) -> Result<(), Memory>
     requires { is_in entry.doc.0 entries.old ≡ false }
     ensures ok { OnOk result (entries.new ≡ entries.old ++ entry ∷ []) }

@@ -67,8 +67,8 @@ fn fill_index(
     Ok(hits)
 }
 
-/// Builds an index that owns these documents and notes and hashes texts under this key, and room for a hit of each document, so
-/// that no run asks for memory to search.
+/// Builds an index that owns these documents and notes and hashes texts under this key, and room
+/// for a hit of each document, so that no run asks for memory to search.
 pub fn index_rows(
     alloc: Global,
     key: HashKey,

@@ -1,5 +1,6 @@
-//! What an engine has in memory of the stored rows, so that a command costs what it looks at: queries with their plans and
-//! boxes, filters with their rules, the index of documents and notes, the votes of notes, and the sums of all rows.
+//! What an engine has in memory of the stored rows, so that a command costs what it looks at:
+//! queries with their plans and boxes, filters with their rules, the index of documents and notes,
+//! the votes of notes, and the sums of all rows.
 #![tactic(auto)]
 
 mod asked;

@@ -8,7 +8,8 @@ ghost use Rattle.time_marks.specs.Views.{ranged_probes};
 ghost use Rattle.monotone_rewrite.specs.Query.{CanRewriteFrom};
 ghost use Rattle.probe_eval.specs.Runs.{HasValidProbes};
 ghost use Rattle.tap_rows.specs.declared.rows.QueryRow.{QueryRow};
-ghost use Rattle.tap_model.specs.Queries.{condition_by, start_of, probes_from, probes_of_query, lines_of};
+ghost use Rattle.tap_model.specs.Queries.{condition_by, start_of, probes_from, probes_of_query};
+ghost use Rattle.tap_model.specs.Queries.{lines_of};
 ghost use Rattle.tap_base.specs.Numbers.{IsMoment};
 
 use access_plan::{Plan, plan};
@@ -38,7 +39,8 @@ impl Model for PlannedQuery {
     ghost view = { λ kept. kept.row };
 
     ghost invariant = { λ kept. (kept.start ≡ start_of kept.row)
-        × ((ranged_probes kept.plan.query ≡ probes_of_query kept.row) × HasValidProbes kept.plan.query)
+        × ((ranged_probes kept.plan.query ≡ probes_of_query kept.row)
+              × HasValidProbes kept.plan.query)
         × ((condition kept.cond ≡ condition_by kept.row)
         × CanRewriteFrom (condition kept.cond) kept.start) };
 }
@@ -61,7 +63,8 @@ pub(crate) fn make_plan(alloc: Global, cond: &Cond, start: i64) -> Result<Plan, 
     requires scoped { IsQuery (condition cond.now) }
     requires bounded { are_bounded (condition cond.now) ≡ true }
     requires start { IsMoment start }
-    ensures probes { IfOk result (λ made. ranged_probes made.query ≡ probes_from (condition cond.now) start) }
+    ensures probes { IfOk result (λ made.
+        ranged_probes made.query ≡ probes_from (condition cond.now) start) }
     ensures scopes { IfOk result (λ made. HasValidProbes made.query) }
     ensures written { CanRewriteFrom (condition cond.now) start }
 {
@@ -73,7 +76,8 @@ pub(crate) fn make_plan(alloc: Global, cond: &Cond, start: i64) -> Result<Plan, 
 }
 
 impl PlannedQuery {
-    /// Joins a row and the plan of its window query, which is made here once for all runs of the query.
+    /// Joins a row and the plan of its window query, which is made here once for all runs of the
+    /// query.
     pub fn new(alloc: Global, row: QueryRow, cond: Cond) -> Result<PlannedQuery, Memory>
         requires cond { condition cond ≡ condition_by row }
         requires scoped { IsQuery (condition cond) }

@@ -8,7 +8,8 @@ ghost use Rattle.tap_kept.specs.Starting.{added, summed, sums_of};
 use tap_base::Memory;
 use tap_rows::{Doc, FilterRow, Note, QueryRow, RunRow, Tables};
 
-/// How many bytes some rows store, and the greatest of their moments, in seconds since 1970-01-01T00:00:00Z.
+/// How many bytes some rows store, and the greatest of their moments, in seconds since
+/// 1970-01-01T00:00:00Z.
 #[derive(Clone, Copy, Debug)]
 pub struct Sums {
     pub bytes: usize,
@@ -36,7 +37,8 @@ impl Sums {
         }
     }
 
-    // Adds a row of this moment and that many bytes. More bytes than a `usize` counts fit no memory, so that is out of memory.
+    // Adds a row of this moment and that many bytes. More bytes than a `usize` counts fit no
+    // memory, so that is out of memory.
     fn add(self, moment: i64, bytes: usize) -> Result<Sums, Memory>
         ensures { IfOk result (λ sums. sums ≡ added moment bytes self) }
     {
@@ -51,7 +53,8 @@ impl Sums {
 
     // Adds documents.
     pub(crate) fn add_docs(self, docs: &[Doc]) -> Result<Sums, Memory>
-        ensures { IfOk result (λ sums. sums ≡ summed (λ doc. doc.arrival) (λ doc. length doc.text) self docs.now) }
+        ensures { IfOk result (λ sums.
+            sums ≡ summed (λ doc. doc.arrival) (λ doc. length doc.text) self docs.now) }
     {
         let mut sums = self;
         for doc in docs {
@@ -61,7 +64,8 @@ impl Sums {
     }
 
     pub(crate) fn add_notes(self, notes: &[Note]) -> Result<Sums, Memory>
-        ensures { IfOk result (λ sums. sums ≡ summed (λ note. note.arrival) (λ note. length note.text) self notes.now) }
+        ensures { IfOk result (λ sums.
+            sums ≡ summed (λ note. note.arrival) (λ note. length note.text) self notes.now) }
     {
         let mut sums = self;
         for note in notes {
@@ -71,7 +75,8 @@ impl Sums {
     }
 
     pub(crate) fn add_queries(self, queries: &[QueryRow]) -> Result<Sums, Memory>
-        ensures { IfOk result (λ sums. sums ≡ summed (λ query. query.arrival) (λ query. length query.source) self queries.now) }
+        ensures { IfOk result (λ sums. sums
+            ≡ summed (λ query. query.arrival) (λ query. length query.source) self queries.now) }
     {
         let mut sums = self;
         for query in queries {
@@ -92,7 +97,8 @@ impl Sums {
     }
 
     pub(crate) fn add_filters(self, filters: &[FilterRow]) -> Result<Sums, Memory>
-        ensures { IfOk result (λ sums. sums ≡ summed (λ filter. filter.arrival) (λ filter. length filter.source) self filters.now) }
+        ensures { IfOk result (λ sums. sums
+            ≡ summed (λ filter. filter.arrival) (λ filter. length filter.source) self filters.now) }
     {
         let mut sums = self;
         for filter in filters {

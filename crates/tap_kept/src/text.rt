@@ -1,6 +1,7 @@
 //! The texts of queries: their conditions, and the form in which they are stored.
 
-ghost use Rattle.std.specs.Prelude.{◌≡◌, ◌≤◌, ◌⊎◌, ◌++◌, drop, length, codes, None, Some, Ok, true, OnOk, IfOk, IfErr};
+ghost use Rattle.std.specs.Prelude.{◌≡◌, ◌≤◌, ◌⊎◌, ◌++◌, drop, length, codes, None, Some, Ok, true};
+ghost use Rattle.std.specs.Prelude.{OnOk, IfOk, IfErr};
 ghost use Rattle.script_lang.specs.declared.refusal.Refusal.{Refusal};
 ghost use Rattle.restart_core.specs.Starts.{condition_text, stored_source};
 ghost use Rattle.tql_core.specs.Bounds.{are_bounded};
@@ -36,7 +37,8 @@ pub fn read_text(alloc: Global, source: &[u8]) -> Result<Cond, Refusal>
     ensures vars { IfOk result (λ cond. exists_in (condition cond) ≤ 15) }
     ensures scoped { IfOk result (λ cond. IsQuery (condition cond)) }
     ensures bounded { IfOk result (λ cond. are_bounded (condition cond) ≡ true) }
-    ensures refusal { IfErr result (λ refusal. (text_fault source.now ≡ Some refusal) ⊎ (refusal ≡ Refusal.Memory)) }
+    ensures refusal { IfErr result (λ refusal. (text_fault source.now ≡ Some refusal)
+        ⊎ (refusal ≡ Refusal.Memory)) }
 {
     match read_condition(alloc, source) {
         Ok(cond) => Ok(cond),
@@ -50,7 +52,8 @@ fn read_fine_text(alloc: Global, source: &[u8]) -> Result<Cond, Refusal>
     ensures cond { IfOk result (λ cond. condition cond ≡ condition_in source.now) }
     ensures scoped { IfOk result (λ cond. IsQuery (condition cond)) }
     ensures bounded { IfOk result (λ cond. are_bounded (condition cond) ≡ true) }
-    ensures refusal { IfErr result (λ refusal. (text_fault source.now ≡ Some refusal) ⊎ (refusal ≡ Refusal.Memory)) }
+    ensures refusal { IfErr result (λ refusal. (text_fault source.now ≡ Some refusal)
+        ⊎ (refusal ≡ Refusal.Memory)) }
 {
     let cond = read_text(alloc, source)?;
     Ok(cond)
@@ -80,7 +83,8 @@ fn from_now(alloc: Global, text: &[u8]) -> Result<Text, Memory>
     Ok(source)
 }
 
-// Gives the form in which a source is stored: `FROM NOW` with one blank after it, and otherwise as it is.
+// Gives the form in which a source is stored: `FROM NOW` with one blank after it, and otherwise as
+// it is.
 #[tactic(auto, unfolding(restart_core::specs::Starts::stored_source))]
 fn to_store(alloc: Global, source: Text) -> Result<Text, Memory>
     ensures { IfOk result (λ stored. stored ≡ stored_source source) }
@@ -92,14 +96,16 @@ fn to_store(alloc: Global, source: Text) -> Result<Text, Memory>
     }
 }
 
-/// Gives the form in which a source is stored and the condition of its text, or refuses the text's first fault.
+/// Gives the form in which a source is stored and the condition of its text, or refuses the text's
+/// first fault.
 pub fn read_source(alloc: Global, source: Text) -> Result<(Text, Cond), Refusal>
     ensures fine { OnOk result (text_fault (condition_text source) ≡ None) }
     ensures stored { IfOk result (λ made. made.0 ≡ stored_source source) }
     ensures cond { IfOk result (λ made. condition made.1 ≡ condition_in (condition_text source)) }
     ensures scoped { IfOk result (λ made. IsQuery (condition made.1)) }
     ensures bounded { IfOk result (λ made. are_bounded (condition made.1) ≡ true) }
-    ensures refusal { IfErr result (λ refusal. (text_fault (condition_text source) ≡ Some refusal) ⊎ (refusal ≡ Refusal.Memory)) }
+    ensures refusal { IfErr result (λ refusal. (text_fault (condition_text source) ≡ Some refusal)
+        ⊎ (refusal ≡ Refusal.Memory)) }
 {
     let cond = read_fine_text(alloc, text_of(source.as_slice()))?;
     let stored = to_store(alloc, source)?;

@@ -8,10 +8,12 @@ use tap_base::{HashKey, Memory};
 use tap_rows::Note;
 use vote_scores::{Scores, VoteUndo};
 
-/// Adds the vote of a note. There are at most 4,294,967,295 votes, since their places are `u32`. At Err nothing has changed.
+/// Adds the vote of a note. There are at most 4,294,967,295 votes, since their places are `u32`. At
+/// Err nothing has changed.
 pub fn add_vote(votes: &mut Scores, note: &Note) -> Result<VoteUndo, Memory>
     ensures votes { OnOk result (votes.new ≡ with_vote note.now votes.old) }
-    ensures undo { IfOk result (λ undo. CanUndoVote undo votes.new × (without_vote undo votes.new ≡ votes.old)) }
+    ensures undo { IfOk result (λ undo. CanUndoVote undo votes.new
+        × (without_vote undo votes.new ≡ votes.old)) }
     ensures err { OnErr result (votes.new ≡ votes.old) }
 {
     if votes.len() == u32::MAX {

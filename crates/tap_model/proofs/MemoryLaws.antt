@@ -1,5 +1,6 @@
 -- No command of a script is answered by `no 18`.
-use Rattle.std.proofs.Common.{◌≡◌, ◌∙◌, sym, ap, refl, arith, ℕ, ◌+◌, ℤ, List, [], ◌∷◌, length, Bool, true, false, not, Option, Some, None, if◌then◌else◌, inl, inr}
+use Rattle.std.proofs.Common.{◌≡◌, ◌∙◌, sym, ap, refl, arith, ℕ, ◌+◌, ℤ, List, [], ◌∷◌, length, Bool, true, false, not, Option, Some, None}
+use Rattle.std.proofs.Common.{if◌then◌else◌, inl, inr}
 use Rattle.std.specs.Prelude.{◌||◌, ◌==◌, ◌&&◌, nat_le, int_le, int_lt, get_or, codes, Result, Ok, Err}
 use Rattle.std.specs.List.{list_all}
 use Rattle.std.proofs.lemmas.Bool.{false≢true}
@@ -34,13 +35,15 @@ use Rattle.filter_rules.specs.Rules.{Rule as FilterRule}
 use Rattle.filter_rules.specs.RuleTexts.{rules_of}
 use Rattle.restart_core.specs.Starts.{condition_text, stored_source}
 use Rattle.script_lang.specs.declared.command.Command.{Command}
-use Rattle.script_lang.specs.declared.command.Command.TheVariants.{At, AsUser, Mail, Mbox, AddNote, Define, Run, BoxOf, ListOf, Filter, Explain, Ask, Wake, ScoresOf, DigestOf, Find, Bad}
+use Rattle.script_lang.specs.declared.command.Command.TheVariants.{At, AsUser, Mail, Mbox, AddNote, Define, Run, BoxOf, ListOf, Filter}
+use Rattle.script_lang.specs.declared.command.Command.TheVariants.{Explain, Ask, Wake, ScoresOf, DigestOf, Find, Bad}
 use Rattle.script_lang.specs.declared.lookup.Lookup.{Lookup}
 use Rattle.script_lang.specs.declared.lookup.Lookup.TheVariants.{ShowDoc, ListNotes, ListQueries, Count}
 use Rattle.script_lang.specs.declared.lookup.Found.{Found}
 use Rattle.script_lang.specs.declared.lookup.Found.TheVariants as F
 use Rattle.script_lang.specs.declared.refusal.Refusal.{Refusal}
-use Rattle.script_lang.specs.declared.refusal.Refusal.TheVariants.{Unknown, Form, Cut, BadMoment, Backwards, NoMoment, NoUser, BadName, Taken, NoQuery, NoDoc}
+use Rattle.script_lang.specs.declared.refusal.Refusal.TheVariants.{Unknown, Form, Cut, BadMoment, Backwards, NoMoment, NoUser, BadName}
+use Rattle.script_lang.specs.declared.refusal.Refusal.TheVariants.{Taken, NoQuery, NoDoc}
 use Rattle.script_lang.specs.declared.refusal.Refusal.TheVariants.{Lex, Parse, Types, NotOver, Limit, Rule, ManyRules, Memory, NoRun}
 use Rattle.script_lang.specs.declared.refusal.LimitName.{LimitName}
 use Rattle.script_lang.specs.declared.refusal.LimitName.TheVariants as N
@@ -53,15 +56,19 @@ use Rattle.script_lang.specs.Proper.{is_of_text, is_proper}
 use Rattle.script_lang.specs.Replies.{limit_words, lex_text, parse_text, type_text, refusal_text, found_text, first_text, is_accepted}
 use Rattle.tap_model.specs.declared.session.Session.{Session}
 use Rattle.tap_model.specs.Limits.{limit_refusal, stored_bytes, owners_in, different, queries_of, new_users}
-use Rattle.tap_model.specs.Limits.{message_limit, filter_text_limit, note_text_limit, document_limit, note_limit, run_limit, pick_limit, user_query_limit, query_limit, filter_limit, user_limit, store_limit}
+use Rattle.tap_model.specs.Limits.{message_limit, filter_text_limit, note_text_limit, document_limit, note_limit, run_limit, pick_limit}
+use Rattle.tap_model.specs.Limits.{user_query_limit, query_limit, filter_limit, user_limit, store_limit}
 use Rattle.tap_model.specs.Sessions.{user_of, last_moment}
 use Rattle.tap_model.specs.Queries.{query_named}
-use Rattle.tap_model.specs.Verdicts.{first_refusal, missing, refuse_unless, no_moment, no_user, bad_name, reading_refusal, text_fault, is_back, not_over}
-use Rattle.tap_model.specs.Verdicts.{taken, no_query, runs_found, no_run, too_long, messages_of, long_block, bytes_of_all, no_doc, long_note}
+use Rattle.tap_model.specs.Verdicts.{first_refusal, missing, refuse_unless, no_moment, no_user, bad_name, reading_refusal, text_fault}
+use Rattle.tap_model.specs.Verdicts.{is_back, not_over}
+use Rattle.tap_model.specs.Verdicts.{taken, no_query, runs_found, no_run, too_long, messages_of, long_block, bytes_of_all, no_doc}
+use Rattle.tap_model.specs.Verdicts.{long_note}
 use Rattle.tap_model.specs.Verdicts.{rules_refusal, filter_fault, long_filter, block_text, delivers, lookup_checks, checks, verdict}
 use Rattle.tap_model.specs.Lookups.{doc_numbered, shown_doc, lookup_reply}
 use Rattle.tap_model.specs.Stories.{StoryStep, GivesUp}
-use Rattle.tap_model.specs.Replies.{answer_of, answer_by, accepted, set_moment, run_query, show_box, show_list, show_lines, show_wake, show_digest, ask_at}
+use Rattle.tap_model.specs.Replies.{answer_of, answer_by, accepted, set_moment, run_query, show_box, show_list, show_lines, show_wake}
+use Rattle.tap_model.specs.Replies.{show_digest, ask_at}
 use Rattle.tap_model.specs.Laws.{AnswersAreNotMemory}
 use Rattle.script_lang.proofs.Proper.{commands-proper, end-proper}
 use Rattle.tap_model.proofs.FaultLaws.{lexed-fine, typed-fine}
@@ -178,7 +185,8 @@ unless-fine true refusal f = refl
 unless-fine false refusal f = f
 
 limit-fine : (name : LimitName) (limit count more : ℕ) → fine (limit_refusal name limit count more) ≡ true
-limit-fine name limit count more = elim ((more == 0) || nat_le (count + more) limit) as (λ b. fine (if b then None else Some (Limit name)) ≡ true) [ true ↦ refl | false ↦ refl ]
+limit-fine name limit count more = elim ((more == 0) || nat_le (count + more) limit)
+    as (λ b. fine (if b then None else Some (Limit name)) ≡ true) [ true ↦ refl | false ↦ refl ]
 
 name-fine : (name : List ℕ) → fine (bad_name name) ≡ true
 unfolding bad_name
@@ -321,25 +329,36 @@ module _ (s : Session) (t : Tables) where
   checks-fine (Bad refusal) p = (proper-fine refusal p, tt)
   checks-fine (At text) p = (missing-fine BadMoment (moment_of text) refl, (back-fine (last_moment s t) (moment_of text), tt))
   checks-fine (AsUser name) p = (name-fine name, tt)
-  checks-fine (Mail block) p = (now-fine, (message-fine block, (limit-fine N.Documents document_limit (length t.docs) 1, (limit-fine N.Store store_limit (stored_bytes t) (length (block_text block)), tt))))
-  checks-fine (Define name source) p = (now-fine, (user-fine, (name-fine name, (taken-fine, (text-fine (condition_text source), (limit-fine N.Queries user_query_limit (queries_of (user_of s) t) 1, (limit-fine N.AllQueries query_limit (length t.queries) 1, (limit-fine N.Users user_limit (different (owners_in t)) (new_users (user_of s) t), (limit-fine N.Store store_limit (stored_bytes t) (length (stored_source source)), tt)))))))))
+  checks-fine (Mail block) p = (now-fine, (message-fine block, (limit-fine N.Documents document_limit (length t.docs) 1,
+            (limit-fine N.Store store_limit (stored_bytes t) (length (block_text block)), tt))))
+  checks-fine (Define name source) p = (now-fine, (user-fine, (name-fine name,
+            (taken-fine, (text-fine (condition_text source), (limit-fine N.Queries user_query_limit (queries_of (user_of s) t) 1,
+                (limit-fine N.AllQueries query_limit (length t.queries) 1, (limit-fine N.Users user_limit (different (owners_in t))
+                (new_users (user_of s) t), (limit-fine N.Store store_limit (stored_bytes t) (length (stored_source source)), tt)))))))))
     where
       taken-fine : fine (taken s name t) ≡ true
       taken-fine = unless-fine _ Taken refl
-  checks-fine (Run name) p = (now-fine, (user-fine, (name-fine name, (query-fine name, (limit-fine N.Runs run_limit (length t.runs) 1, (limit-fine N.Picks pick_limit (length t.picks) (delivers s name t), tt))))))
+  checks-fine (Run name) p = (now-fine, (user-fine, (name-fine name, (query-fine name,
+              (limit-fine N.Runs run_limit (length t.runs) 1, (limit-fine N.Picks pick_limit (length t.picks) (delivers s name t), tt))))))
   checks-fine (BoxOf name) p = (user-fine, (name-fine name, (query-fine name, tt)))
   checks-fine (Mbox block) p =
-      (now-fine, (unless-fine _ (Limit N.Message) refl, (block-fine block, (limit-fine N.Documents document_limit (length t.docs) (length (messages_of block)), (limit-fine N.Store store_limit (stored_bytes t) (bytes_of_all (messages_of block)), tt)))))
+      (now-fine, (unless-fine _ (Limit N.Message) refl, (block-fine block, (limit-fine N.Documents document_limit (length t.docs)
+              (length (messages_of block)), (limit-fine N.Store store_limit (stored_bytes t) (bytes_of_all (messages_of block)), tt)))))
   checks-fine (AddNote doc kind value text) p =
-      (now-fine, (user-fine, (name-fine kind, (doc-fine doc (length t.docs), (note-fine (length text), (limit-fine N.Notes note_limit (length t.notes) 1, (limit-fine N.Store store_limit (stored_bytes t) (length text), tt)))))))
+      (now-fine, (user-fine, (name-fine kind, (doc-fine doc (length t.docs), (note-fine (length text),
+                (limit-fine N.Notes note_limit (length t.notes) 1, (limit-fine N.Store store_limit (stored_bytes t) (length text), tt)))))))
   checks-fine (ListOf name) p = (user-fine, (name-fine name, (query-fine name, tt)))
-  checks-fine (Filter block) p = (now-fine, (user-fine, (filter-block-fine block, (limit-fine N.Users user_limit (different (owners_in t)) (new_users (user_of s) t), (limit-fine N.Filters filter_limit (length t.filters) 1, (limit-fine N.Store store_limit (stored_bytes t) (length (block_text block)), (rules-fine (block_text block), tt)))))))
+  checks-fine (Filter block) p = (now-fine, (user-fine, (filter-block-fine block, (limit-fine N.Users user_limit (different (owners_in t))
+              (new_users (user_of s) t), (limit-fine N.Filters filter_limit (length t.filters) 1,
+                (limit-fine N.Store store_limit (stored_bytes t) (length (block_text block)), (rules-fine (block_text block), tt)))))))
   checks-fine (Explain name) p = (user-fine, (name-fine name, (query-fine name, tt)))
-  checks-fine (Ask moment source) p = (missing-fine BadMoment (moment_of moment) refl, (now-fine, (text-fine source, (over-fine (moment_of moment) s.moment, tt))))
+  checks-fine (Ask moment source) p =
+      (missing-fine BadMoment (moment_of moment) refl, (now-fine, (text-fine source, (over-fine (moment_of moment) s.moment, tt))))
   checks-fine (Wake name) p = (now-fine, (user-fine, (name-fine name, (query-fine name, tt))))
   checks-fine (ScoresOf kind) p = (name-fine kind, tt)
   checks-fine (Find lookup) p = lookup-fine lookup
-  checks-fine (DigestOf name ordinal) p = (user-fine, (name-fine name, (query-fine name, (run-fine ordinal (runs_found (query_named (user_of s) name t) t), tt))))
+  checks-fine (DigestOf name ordinal) p =
+      (user-fine, (name-fine name, (query-fine name, (run-fine ordinal (runs_found (query_named (user_of s) name t) t), tt))))
 
   -- a command that isn't refused
   accepted-apart : (c : Command) → is_proper c ≡ true → first_text (accepted c s t).reply ≡ no_18 → ⊥
@@ -395,16 +414,20 @@ module _ (s : Session) (t : Tables) where
 lines-proper : (state : State) (lines : List Line) → list_all is_proper (commands_from state lines) ≡ true
 lines-proper state [] = refl
 lines-proper state (line ∷ lines) =
-    rw (list_all-append is_proper (commands_of_line state line) (commands_from (after_line state line) lines), commands-proper state line, lines-proper (after_line state line) lines) refl
+    rw (list_all-append is_proper (commands_of_line state line) (commands_from (after_line state line) lines), commands-proper state line,
+        lines-proper (after_line state line) lines) refl
 
 script-proper : (bytes : List ℕ) → list_all is_proper (script bytes) ≡ true
 script-proper bytes =
-    rw (list_all-append is_proper (commands_from Outside (lines bytes)) (at_end (state_after Outside (lines bytes))), lines-proper Outside (lines bytes), end-proper (state_after Outside (lines bytes))) refl
+    rw (list_all-append is_proper (commands_from Outside (lines bytes)) (at_end (state_after Outside (lines bytes))),
+        lines-proper Outside (lines bytes), end-proper (state_after Outside (lines bytes))) refl
 
 -- a step of which `no 18` is the reply is out of memory
-step-gives-up : (t : Tables) (s : Session) (c : Command) (reply : Reply) (t' : Tables) (s' : Session) → is_proper c ≡ true → StoryStep t s c reply t' s' → first_text reply ≡ no_18 → GivesUp t s c reply t' s'
+step-gives-up : (t : Tables) (s : Session) (c : Command) (reply : Reply) (t' : Tables) (s' : Session) → is_proper c ≡ true
+    → StoryStep t s c reply t' s' → first_text reply ≡ no_18 → GivesUp t s c reply t' s'
 step-gives-up t s c reply t' s' proper (inl follows) e = absurd (answer-apart s t c proper (sym (ap first_text follows.reply_is) ∙ e))
 step-gives-up t s c reply t' s' proper (inr gives) e = gives
 
 pub answers-apart : AnswersAreNotMemory
-answers-apart = record { proper = script-proper; apart = λ tables session command proper e. answer-apart session tables command proper e; step = step-gives-up }
+answers-apart = record { proper = script-proper; apart = λ tables session command proper e. answer-apart session tables command proper e;
+      step = step-gives-up }

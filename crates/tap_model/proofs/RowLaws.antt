@@ -1,5 +1,6 @@
 -- Rows at their places, and what holds of each of some rows.
-use Rattle.std.proofs.Common.{◌≡◌, ◌∙◌, sym, ap, refl, subst, arith, ℕ, zero, suc, ◌+◌, ◌-◌, ◌≤◌, ◌<◌, ℤ, pos, Bool, true, false, Option, Some, None, List, [], ◌∷◌, ◌++◌, length, map, inl, inr, if◌then◌else◌}
+use Rattle.std.proofs.Common.{◌≡◌, ◌∙◌, sym, ap, refl, subst, arith, ℕ, zero, suc, ◌+◌, ◌-◌, ◌≤◌, ◌<◌, ℤ, pos, Bool, true, false, Option}
+use Rattle.std.proofs.Common.{Some, None, List, [], ◌∷◌, ◌++◌, length, map, inl, inr, if◌then◌else◌}
 use Rattle.std.specs.Prelude.{◌==◌, ◌≤ℤ◌, slice_get, filter}
 use Rattle.std.specs.List.{list_any}
 use Rattle.tap_rows.specs.declared.rows.Doc.{Doc}
@@ -44,13 +45,15 @@ each-filter P test (x ∷ xs) each = elim (test x) as (λ b. Each P (if b then x
   | false ↦ each-filter P test xs each.1
 ]
 
-pub each-passed : {A : Type 0} (P : A → Type 0) (test : A → Bool) (xs : List A) → Each P (filter test xs) → Each (λ x. test x ≡ true → P x) xs
+pub each-passed : {A : Type 0} (P : A → Type 0) (test : A → Bool) (xs : List A) → Each P (filter test xs)
+    → Each (λ x. test x ≡ true → P x) xs
 each-passed P test [] each = tt
 each-passed {A = A} P test (x ∷ xs) each = go (test x) refl (each-passed P test xs) each where
   not-both : false ≡ true → ⊥
   not-both e = cc
 
-  go : (b : Bool) → test x ≡ b → (Each P (filter test xs) → Each (λ x. test x ≡ true → P x) xs) → Each P (if b then x ∷ filter test xs else filter test xs) → Each (λ x. test x ≡ true → P x) (x ∷ xs)
+  go : (b : Bool) → test x ≡ b → (Each P (filter test xs) → Each (λ x. test x ≡ true → P x) xs)
+      → Each P (if b then x ∷ filter test xs else filter test xs) → Each (λ x. test x ≡ true → P x) (x ∷ xs)
   go true e rest all = ((λ h. all.0), rest all.1)
   go false e rest all = ((λ h. absurd (not-both (sym e ∙ h))), rest all)
 
@@ -88,7 +91,8 @@ queries-placed k [] from = tt
 queries-placed k (query ∷ queries) from = (from.0, queries-placed (suc k) queries from.1)
 
 -- a row that is there stands at its number
-placed-get : {A : Type 0} (num : A → ℕ) (k : ℕ) (xs : List A) (x : A) → Placed num k xs → In x xs → (k ≤ num x) × (slice_get xs (num x - k) ≡ Some x)
+placed-get : {A : Type 0} (num : A → ℕ) (k : ℕ) (xs : List A) (x : A) → Placed num k xs → In x xs
+    → (k ≤ num x) × (slice_get xs (num x - k) ≡ Some x)
 placed-get num k [] x placed has = absurd has
 placed-get num k (y ∷ xs) x placed (inl e) =
     let is : num x ≡ k = ap num e ∙ placed.0 in
@@ -112,7 +116,8 @@ placed-row num xs x placed has =
 
 -- two rows that are there and have one number are one
 pub placed-same : {A : Type 0} (num : A → ℕ) (xs : List A) (x y : A) → Placed num 1 xs → In x xs → In y xs → num x ≡ num y → x ≡ y
-placed-same num xs x y placed has has' same = some-same x y (sym (placed-row num xs x placed has) ∙ ap (λ n. row_at n xs) same ∙ placed-row num xs y placed has')
+placed-same num xs x y placed has has' same =
+    some-same x y (sym (placed-row num xs x placed has) ∙ ap (λ n. row_at n xs) same ∙ placed-row num xs y placed has')
 
 pub placed-from : {A : Type 0} (num : A → ℕ) (k : ℕ) (xs : List A) → Placed num k xs → Each (λ x. k ≤ num x) xs
 placed-from num k [] placed = tt
@@ -122,7 +127,8 @@ placed-from {A = A} num k (x ∷ xs) placed = (omega (arith, placed.0), weaker k
   weaker k (x ∷ xs) each = (omega (arith, each.0), weaker k xs each.1)
 
 -- a number within the rows has a row, and what holds of all holds of it
-pub row-within : {A : Type 0} (test : A → Bool) (xs : List A) (num : ℕ) → 1 ≤ num → num ≤ length xs → Each (λ x. test x ≡ true) xs → is_row test (row_at num xs) ≡ true
+pub row-within : {A : Type 0} (test : A → Bool) (xs : List A) (num : ℕ) → 1 ≤ num → num ≤ length xs → Each (λ x. test x ≡ true) xs
+    → is_row test (row_at num xs) ≡ true
 row-within {A = A} test xs num from to each =
     let some : (num == 0) ≡ false = not-zero num from in
     rw some (get test xs (num - 1) (omega (arith, from, to)) each)

@@ -8,7 +8,8 @@ use Rattle.tap_rows.specs.declared.change.Change.TheVariants.{Docs}
 use Rattle.tap_rows.specs.declared.rows.Doc.{Doc}
 use Rattle.tap_rows.specs.declared.rows.QueryRow.{QueryRow}
 use Rattle.script_lang.specs.declared.command.Command.{Command}
-use Rattle.script_lang.specs.declared.command.Command.TheVariants.{At, AsUser, Mail, Mbox, AddNote, Define, Run, BoxOf, ListOf, Filter, Explain, Ask, Wake}
+use Rattle.script_lang.specs.declared.command.Command.TheVariants.{At, AsUser, Mail, Mbox, AddNote, Define, Run, BoxOf, ListOf, Filter}
+use Rattle.script_lang.specs.declared.command.Command.TheVariants.{Explain, Ask, Wake}
 use Rattle.script_lang.specs.declared.command.Command.TheVariants.{ScoresOf, DigestOf, Find, Bad}
 use Rattle.script_lang.specs.declared.refusal.Refusal.{Refusal}
 use Rattle.tap_model.specs.declared.session.Session.{Session}
@@ -45,7 +46,8 @@ list-rows : (query : Option QueryRow) (name : List ℕ) (session : Session) (tab
 list-rows None name session tables change e = no-change change e
 list-rows (Some query) name session tables change e = no-change change e
 
-lines-rows : (query : Option QueryRow) (name : List ℕ) (session : Session) (tables : Tables) → HasRows (show_lines query name session tables)
+lines-rows : (query : Option QueryRow) (name : List ℕ) (session : Session) (tables : Tables)
+    → HasRows (show_lines query name session tables)
 lines-rows None name session tables change e = no-change change e
 lines-rows (Some query) name session tables change e = no-change change e
 
@@ -53,7 +55,8 @@ wake-rows : (query : Option QueryRow) (name : List ℕ) (session : Session) (tab
 wake-rows None name session tables change e = no-change change e
 wake-rows (Some query) name session tables change e = no-change change e
 
-digest-rows : (query : Option QueryRow) (name : List ℕ) (ordinal : ℕ) (session : Session) (tables : Tables) → HasRows (show_digest query name ordinal session tables)
+digest-rows : (query : Option QueryRow) (name : List ℕ) (ordinal : ℕ) (session : Session) (tables : Tables)
+    → HasRows (show_digest query name ordinal session tables)
 digest-rows None name ordinal session tables change e = no-change change e
 digest-rows (Some query) name ordinal session tables change e = no-change change e
 
@@ -64,20 +67,27 @@ ask-rows (Some second) source session tables change e = no-change change e
 accepted-rows : (command : Command) (session : Session) (tables : Tables) → HasRows (accepted command session tables)
 accepted-rows (At text) session tables change e none = moment-rows (moment_of text) session change e none
 accepted-rows (AsUser name) session tables change e none = no-change change e none
-accepted-rows (Mail block) session tables change e none = docs-rows (next_docs tables (moment_or_zero session) (block_text block ∷ [])) change e none
-accepted-rows (Mbox block) session tables change e none = docs-rows (next_docs tables (moment_or_zero session) (messages_of block)) change e none
+accepted-rows (Mail block) session tables change e none =
+    docs-rows (next_docs tables (moment_or_zero session) (block_text block ∷ [])) change e none
+accepted-rows (Mbox block) session tables change e none =
+    docs-rows (next_docs tables (moment_or_zero session) (messages_of block)) change e none
 accepted-rows (AddNote doc kind value text) session tables change e none = cc
 accepted-rows (Define name source) session tables change e none = cc
 accepted-rows (Run name) session tables change e none = run-rows (query_named (user_of session) name tables) session tables change e none
-accepted-rows (BoxOf name) session tables change e none = box-rows (query_named (user_of session) name tables) name session tables change e none
-accepted-rows (ListOf name) session tables change e none = list-rows (query_named (user_of session) name tables) name session tables change e none
+accepted-rows (BoxOf name) session tables change e none =
+    box-rows (query_named (user_of session) name tables) name session tables change e none
+accepted-rows (ListOf name) session tables change e none =
+    list-rows (query_named (user_of session) name tables) name session tables change e none
 accepted-rows (Filter block) session tables change e none = cc
-accepted-rows (Explain name) session tables change e none = lines-rows (query_named (user_of session) name tables) name session tables change e none
+accepted-rows (Explain name) session tables change e none =
+    lines-rows (query_named (user_of session) name tables) name session tables change e none
 accepted-rows (Ask moment source) session tables change e none = ask-rows (moment_of moment) source session tables change e none
-accepted-rows (Wake name) session tables change e none = wake-rows (query_named (user_of session) name tables) name session tables change e none
+accepted-rows (Wake name) session tables change e none =
+    wake-rows (query_named (user_of session) name tables) name session tables change e none
 accepted-rows (ScoresOf kind) session tables change e none = no-change change e none
 accepted-rows (Find lookup) session tables change e none = no-change change e none
-accepted-rows (DigestOf name ordinal) session tables change e none = digest-rows (query_named (user_of session) name tables) name ordinal session tables change e none
+accepted-rows (DigestOf name ordinal) session tables change e none =
+    digest-rows (query_named (user_of session) name tables) name ordinal session tables change e none
 accepted-rows (Bad refusal) session tables change e none = no-change change e none
 
 -- the change of an answer has rows

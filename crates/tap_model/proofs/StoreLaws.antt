@@ -54,7 +54,8 @@ text-read text none = tokens-read (lexed text) none
 lines-read : (lines : List (ℕ × List ℕ)) → rules_refusal (rules_at lines) ≡ None → IsOk (rules_at lines)
 lines-read [] none = refl
 lines-read (line ∷ lines) none = go (rule_of line.1) (rules_at lines) (lines-read lines) none where
-  go : (rule : Result Rule ℕ) (others : Result (List Rule) RuleFault) → (rules_refusal others ≡ None → IsOk others) → rules_refusal (with_rule line.0 rule others) ≡ None → IsOk (with_rule line.0 rule others)
+  go : (rule : Result Rule ℕ) (others : Result (List Rule) RuleFault) → (rules_refusal others ≡ None → IsOk others)
+      → rules_refusal (with_rule line.0 rule others) ≡ None → IsOk (with_rule line.0 rule others)
   go (Err place) others rest none = absurd (some-none (refusal.Rule line.0 place) none)
   go (Ok rule) (Err fault) rest none = rest none
   go (Ok rule) (Ok rules) rest none = refl
@@ -63,15 +64,19 @@ lines-read (line ∷ lines) none = go (rule_of line.1) (rules_at lines) (lines-r
 pub rules-read : (source : List ℕ) → filter_fault source ≡ None → IsOk (rules_of source)
 unfolding filter_fault
 rules-read source none = go (nat_le (length (rule_lines source)) 64) none where
-  go : (b : Bool) → rules_refusal (if b then rules_at (rule_lines source) else Err ManyRules) ≡ None → IsOk (if b then rules_at (rule_lines source) else Err ManyRules)
+  go : (b : Bool) → rules_refusal (if b then rules_at (rule_lines source) else Err ManyRules) ≡ None
+      → IsOk (if b then rules_at (rule_lines source) else Err ManyRules)
   go true none = lines-read (rule_lines source) none
   go false none = absurd (some-none refusal.ManyRules none)
 
 pub sources-read : (tables : Tables) → IsStore tables → Each (λ query. IsOk (condition_of (condition_text query.source))) tables.queries
-sources-read tables store = each-map (λ query. text_fault (condition_text query.source) ≡ None) (λ query. IsOk (condition_of (condition_text query.source))) tables.queries (λ query none. text-read (condition_text query.source) none) store.sources
+sources-read tables store =
+    each-map (λ query. text_fault (condition_text query.source) ≡ None) (λ query. IsOk (condition_of (condition_text query.source)))
+    tables.queries (λ query none. text-read (condition_text query.source) none) store.sources
 
 pub filters-read : (tables : Tables) → IsStore tables → Each (λ filter. IsOk (rules_of filter.source)) tables.filters
-filters-read tables store = each-map (λ filter. filter_fault filter.source ≡ None) (λ filter. IsOk (rules_of filter.source)) tables.filters (λ filter none. rules-read filter.source none) store.rules
+filters-read tables store = each-map (λ filter. filter_fault filter.source ≡ None) (λ filter. IsOk (rules_of filter.source))
+    tables.filters (λ filter none. rules-read filter.source none) store.rules
 
 -- a text that has a condition has no fault
 text-none : (text : List ℕ) → IsOk (condition_of text) → text_fault text ≡ None
@@ -93,17 +98,21 @@ store-boxed tables store = record {
   rows = store.formed;
   queries = sources-read tables store;
   filters = filters-read tables store;
-  boxes = each-map (IsKeptQuery query_truth start_of tables) (λ query. delivered query.num.0 tables ≡ box_of_query query tables) tables.queries (λ query kept. kept.box) store.kept.each;
+  boxes = each-map (IsKeptQuery query_truth start_of tables) (λ query. delivered query.num.0 tables ≡ box_of_query query tables)
+      tables.queries (λ query kept. kept.box) store.kept.each;
 }
 
 -- a query's start isn't after its arrival
 start-by : (query : QueryRow) → pos 0 ≤ℤ query.arrival → start_of query ≤ℤ query.arrival
 unfolding start_of
-start-by query from = elim (is_from_now query.source) as (λ b. (if b then query.arrival else pos 0) ≤ℤ query.arrival) [ true ↦ omega (arith, ints) | false ↦ from ]
+start-by query from = elim (is_from_now query.source)
+    as (λ b. (if b then query.arrival else pos 0) ≤ℤ query.arrival) [ true ↦ omega (arith, ints) | false ↦ from ]
 
 module _ (tables : Tables) (rows : Placed tables) where
-  kept-each : (queries : List QueryRow) → ((query : QueryRow) → In query queries → In query tables.queries) → Each (λ query. IsMoment query.arrival) queries
-      → Each (λ query. delivered query.num.0 tables ≡ box_of_query query tables) queries → Each (IsKeptQuery query_truth start_of tables) queries
+  kept-each : (queries : List QueryRow) → ((query : QueryRow) → In query queries → In query tables.queries)
+      → Each (λ query. IsMoment query.arrival) queries
+      → Each (λ query. delivered query.num.0 tables ≡ box_of_query query tables) queries
+          → Each (IsKeptQuery query_truth start_of tables) queries
   kept-each [] has moments boxes = tt
   kept-each (query ∷ queries) has moments boxes = (
     record { rising = rows.rising query (start_of query) (has query (inl refl)) (start-by query moments.0.0); box = boxes.0 },
@@ -118,13 +127,17 @@ boxed-store tables are =
         docs = rows.docs;
         queries = rows.queries;
         runs = rows.runs;
-        owned = each-map (λ run. (1 ≤ run.query.0) × (run.query.0 ≤ length tables.queries)) (λ run. run.query.0 ≤ length tables.queries) tables.runs (λ run owned. owned.1) rows.owned;
+        owned = each-map (λ run. (1 ≤ run.query.0) × (run.query.0 ≤ length tables.queries)) (λ run. run.query.0 ≤ length tables.queries)
+            tables.runs (λ run owned. owned.1) rows.owned;
         picks = rows.picks;
         each = kept-each tables rows tables.queries (λ query has. has) rows.arrivals are.boxes;
       };
       now = tt;
       formed = are.rows;
-      sources = each-map (λ query. IsOk (condition_of (condition_text query.source))) (λ query. text_fault (condition_text query.source) ≡ None) tables.queries (λ query ok. text-none (condition_text query.source) ok) are.queries;
-      rules = each-map (λ filter. IsOk (rules_of filter.source)) (λ filter. filter_fault filter.source ≡ None) tables.filters (λ filter ok. rules-none filter.source ok) are.filters;
+      sources =
+          each-map (λ query. IsOk (condition_of (condition_text query.source))) (λ query. text_fault (condition_text query.source) ≡ None)
+          tables.queries (λ query ok. text-none (condition_text query.source) ok) are.queries;
+      rules = each-map (λ filter. IsOk (rules_of filter.source)) (λ filter. filter_fault filter.source ≡ None)
+          tables.filters (λ filter ok. rules-none filter.source ok) are.filters;
       user = tt;
     }

@@ -1,5 +1,6 @@
 -- What a user sees, without what was delivered: it decides the deliveries, the hits of a run, and the boxes.
-use Rattle.std.proofs.Common.{◌≡◌, ◌∙◌, sym, ap, refl, arith, ℕ, ℤ, List, [], ◌∷◌, length, map, Bool, true, false, Option, Some, if◌then◌else◌}
+use Rattle.std.proofs.Common.{◌≡◌, ◌∙◌, sym, ap, refl, arith, ℕ, ℤ, List, [], ◌∷◌, length, map, Bool, true, false, Option, Some}
+use Rattle.std.proofs.Common.{if◌then◌else◌}
 use Rattle.std.specs.Prelude.{◌&&◌, filter, find}
 use Rattle.std.specs.Option.{option_map}
 use Rattle.std.specs.Str.{bytes_eq}
@@ -66,13 +67,16 @@ abbrev seen_core : QueryView → Core
 seen_core query = record { name = query.name; source = query.source; arrival = query.arrival; runs = query.runs }
 
 abbrev seen_brief : View → Brief
-seen_brief view = record { docs = view.docs; notes = view.notes; queries = map seen_core view.queries; filter = view.filter; moment = view.moment }
+seen_brief view =
+    record { docs = view.docs; notes = view.notes; queries = map seen_core view.queries; filter = view.filter; moment = view.moment }
 
 brief-is : (user : List ℕ) (s : Session) (t : Tables) → seen_brief (view_of user s t) ≡ brief_of user s t
-brief-is user s t = ap (λ qs. record { docs = t.docs; notes = t.notes; queries = qs; filter = source_in t user; moment = s.moment }) (map-twice seen_core (query_view t) (owned_queries user t))
+brief-is user s t = ap (λ qs. record { docs = t.docs; notes = t.notes; queries = qs; filter = source_in t user; moment = s.moment })
+    (map-twice seen_core (query_view t) (owned_queries user t))
 
 -- equal views are equal without deliveries
-pub brief-same : (user : List ℕ) (s s' : Session) (t t' : Tables) → view_of user s t ≡ view_of user s' t' → brief_of user s t ≡ brief_of user s' t'
+pub brief-same : (user : List ℕ) (s s' : Session) (t t' : Tables) → view_of user s t ≡ view_of user s' t'
+    → brief_of user s t ≡ brief_of user s' t'
 brief-same user s s' t t' same = sym (brief-is user s t) ∙ ap seen_brief same ∙ brief-is user s' t'
 
 -- a row and tables that stand for a core, and for documents and notes
@@ -83,16 +87,20 @@ abbrev bare : List Doc → List Note → Tables
 bare docs notes = record { docs = docs; notes = notes; queries = []; runs = []; picks = []; filters = [] }
 
 abbrev pub core_hits : List Doc → List Note → Core → ℤ → List Hit
-core_hits docs notes core moment = fresh_in (query_truth (row_of core)) (bare docs notes) (start_of (row_of core)) (last_or (start_of (row_of core)) core.runs) moment
+core_hits docs notes core moment =
+    fresh_in (query_truth (row_of core)) (bare docs notes) (start_of (row_of core)) (last_or (start_of (row_of core)) core.runs) moment
 
 abbrev pub core_entries : List Doc → List Note → Core → List Entry
-core_entries docs notes core = entries_from core.runs (union_until (query_truth (row_of core)) (bare docs notes) (start_of (row_of core)) (last_or (start_of (row_of core)) core.runs)) 1 core.runs
+core_entries docs notes core = entries_from core.runs (union_until (query_truth (row_of core)) (bare docs notes) (start_of (row_of core))
+      (last_or (start_of (row_of core)) core.runs)) 1 core.runs
 
 abbrev pub core_lines : Core → List (List ℕ)
 core_lines core = lines_of (row_of core)
 
-fresh-bare : (q : QueryRow) (t : Tables) (start tau until : ℤ) → fresh_in (query_truth q) t start tau until ≡ fresh_in (query_truth q) (bare t.docs t.notes) start tau until
-fresh-bare q t start tau until = fresh-later (query_truth q) until (bare t.docs t.notes) t start tau until (truth-of-second q) (grown-same until (bare t.docs t.notes) t refl refl) (omega (arith, ints))
+fresh-bare : (q : QueryRow) (t : Tables) (start tau until : ℤ)
+    → fresh_in (query_truth q) t start tau until ≡ fresh_in (query_truth q) (bare t.docs t.notes) start tau until
+fresh-bare q t start tau until = fresh-later (query_truth q) until (bare t.docs t.notes) t start tau until (truth-of-second q)
+    (grown-same until (bare t.docs t.notes) t refl refl) (omega (arith, ints))
 
 -- what a run delivers, and a box, are of the documents, the notes and the core alone
 pub hits-core : (q : QueryRow) (t : Tables) (moment : ℤ) → hits_of q t moment ≡ core_hits t.docs t.notes (core_of t.runs q) moment
@@ -102,7 +110,8 @@ hits-core q t moment = fresh-bare q t (start_of q) (covered (start_of q) q.num.0
 pub box-core : (q : QueryRow) (t : Tables) → box_of_query q t ≡ core_entries t.docs t.notes (core_of t.runs q)
 unfolding start_of
 box-core q t =
-    ap (λ hits. entries_from (run_moments q.num.0 t.runs) hits 1 (run_moments q.num.0 t.runs)) (fresh-bare q t (start_of q) (start_of q) (covered (start_of q) q.num.0 t.runs))
+    ap (λ hits. entries_from (run_moments q.num.0 t.runs) hits 1 (run_moments q.num.0 t.runs))
+      (fresh-bare q t (start_of q) (start_of q) (covered (start_of q) q.num.0 t.runs))
 
 -- the lines that explain a query are of its core alone
 pub lines-core : (q : QueryRow) (runs : List RunRow) → lines_of q ≡ core_lines (core_of runs q)
@@ -144,38 +153,53 @@ each-line-core t (q ∷ qs) = both _ _ _ _ (line-core q t) (each-line-core t qs)
   both x y xs ys e f = rw (e, f) refl
 
 abbrev full_query : List Doc → List Note → Core → QueryView
-full_query docs notes core = record { name = core.name; source = core.source; arrival = core.arrival; runs = core.runs; entries = core_entries docs notes core }
+full_query docs notes core =
+    record { name = core.name; source = core.source; arrival = core.arrival; runs = core.runs; entries = core_entries docs notes core }
 
 abbrev full_view : Brief → View
-full_view brief = record { docs = brief.docs; notes = brief.notes; queries = map (full_query brief.docs brief.notes) brief.queries; filter = brief.filter; moment = brief.moment }
+full_view brief = record { docs = brief.docs; notes = brief.notes; queries = map (full_query brief.docs brief.notes) brief.queries;
+      filter = brief.filter; moment = brief.moment }
 
-full-one : (q : QueryRow) (t : Tables) → IsKeptQuery query_truth start_of t q → query_view t q ≡ full_query t.docs t.notes (core_of t.runs q)
-full-one q t kept = ap (λ entries. record { name = q.name; source = q.source; arrival = q.arrival; runs = run_moments q.num.0 t.runs; entries = entries }) (kept.box ∙ box-core q t)
+full-one : (q : QueryRow) (t : Tables) → IsKeptQuery query_truth start_of t q
+    → query_view t q ≡ full_query t.docs t.notes (core_of t.runs q)
+full-one q t kept =
+    ap (λ entries. record { name = q.name; source = q.source; arrival = q.arrival; runs = run_moments q.num.0 t.runs; entries = entries })
+    (kept.box ∙ box-core q t)
 
-full-queries : (user : List ℕ) (t : Tables) (qs : List QueryRow) → Each (IsKeptQuery query_truth start_of t) qs → map (query_view t) (filter (λ query. bytes_eq query.owner user) qs) ≡ map (full_query t.docs t.notes) (cores user t.runs qs)
+full-queries : (user : List ℕ) (t : Tables) (qs : List QueryRow) → Each (IsKeptQuery query_truth start_of t) qs
+    → map (query_view t) (filter (λ query. bytes_eq query.owner user) qs) ≡ map (full_query t.docs t.notes) (cores user t.runs qs)
 full-queries user t [] each = refl
 full-queries user t (q ∷ qs) each = go (bytes_eq q.owner user) (full-queries user t qs each.1) where
   both : (x y : QueryView) (xs ys : List QueryView) → x ≡ y → xs ≡ ys → x ∷ xs ≡ y ∷ ys
   both x y xs ys e f = rw (e, f) refl
 
-  go : (b : Bool) → map (query_view t) (filter (λ query. bytes_eq query.owner user) qs) ≡ map (full_query t.docs t.notes) (cores user t.runs qs)
-      → map (query_view t) (if b then q ∷ filter (λ query. bytes_eq query.owner user) qs else filter (λ query. bytes_eq query.owner user) qs) ≡ map (full_query t.docs t.notes) (map (core_of t.runs) (if b then q ∷ filter (λ query. bytes_eq query.owner user) qs else filter (λ query. bytes_eq query.owner user) qs))
+  go : (b : Bool)
+      → map (query_view t) (filter (λ query. bytes_eq query.owner user) qs) ≡ map (full_query t.docs t.notes) (cores user t.runs qs)
+      → map (query_view t) (if b then q ∷ filter (λ query. bytes_eq query.owner user) qs
+            else filter (λ query. bytes_eq query.owner user) qs) ≡ map (full_query t.docs t.notes) (map (core_of t.runs)
+            (if b then q ∷ filter (λ query. bytes_eq query.owner user) qs else filter (λ query. bytes_eq query.owner user) qs))
   go true rest = both _ _ _ _ (full-one q t each.0) rest
   go false rest = rest
 
 view-is : (user : List ℕ) (s : Session) (t : Tables) → IsSound t s → view_of user s t ≡ full_view (brief_of user s t)
-view-is user s t sound = ap (λ qs. record { docs = t.docs; notes = t.notes; queries = qs; filter = source_in t user; moment = s.moment }) (full-queries user t t.queries sound.kept.each)
+view-is user s t sound = ap (λ qs. record { docs = t.docs; notes = t.notes; queries = qs; filter = source_in t user; moment = s.moment })
+    (full-queries user t t.queries sound.kept.each)
 
 -- at sound points what is equal without deliveries is equal with them
-pub view-same : (user : List ℕ) (s s' : Session) (t t' : Tables) → IsSound t s → IsSound t' s' → brief_of user s t ≡ brief_of user s' t' → view_of user s t ≡ view_of user s' t'
+pub view-same : (user : List ℕ) (s s' : Session) (t t' : Tables) → IsSound t s → IsSound t' s' → brief_of user s t ≡ brief_of user s' t'
+    → view_of user s t ≡ view_of user s' t'
 view-same user s s' t t' sound sound' same = view-is user s t sound ∙ ap full_view same ∙ sym (view-is user s' t' sound')
 
 -- the user's query of a name is the first core of that name
-pub named-core : (user name : List ℕ) (runs : List RunRow) (qs : List QueryRow) → option_map (core_of runs) (find (is_query_of user name) qs) ≡ find (λ core. bytes_eq core.name name) (cores user runs qs)
+pub named-core : (user name : List ℕ) (runs : List RunRow) (qs : List QueryRow)
+    → option_map (core_of runs) (find (is_query_of user name) qs) ≡ find (λ core. bytes_eq core.name name) (cores user runs qs)
 named-core user name runs [] = refl
 named-core user name runs (q ∷ qs) = go (bytes_eq q.owner user) (bytes_eq q.name name) refl (named-core user name runs qs) where
-  go : (a b : Bool) → bytes_eq q.name name ≡ b → option_map (core_of runs) (find (is_query_of user name) qs) ≡ find (λ core. bytes_eq core.name name) (cores user runs qs)
-      → option_map (core_of runs) (if a && b then Some q else find (is_query_of user name) qs) ≡ find (λ core. bytes_eq core.name name) (map (core_of runs) (if a then q ∷ filter (λ query. bytes_eq query.owner user) qs else filter (λ query. bytes_eq query.owner user) qs))
+  go : (a b : Bool) → bytes_eq q.name name ≡ b
+      → option_map (core_of runs) (find (is_query_of user name) qs) ≡ find (λ core. bytes_eq core.name name) (cores user runs qs)
+      → option_map (core_of runs) (if a && b then Some q else find (is_query_of user name) qs)
+          ≡ find (λ core. bytes_eq core.name name) (map (core_of runs)
+            (if a then q ∷ filter (λ query. bytes_eq query.owner user) qs else filter (λ query. bytes_eq query.owner user) qs))
   go true true e rest = rw e refl
   go true false e rest = rw e rest
   go false true e rest = rest

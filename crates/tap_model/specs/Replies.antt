@@ -14,14 +14,17 @@ use Rattle.tap_rows.specs.Results.{run_moments, snapshot}
 use Rattle.tap_rows.specs.Deliveries.{run_change}
 use Rattle.tql_core.specs.Holds as Holds
 use Rattle.script_lang.specs.declared.command.Command.{Command}
-use Rattle.script_lang.specs.declared.command.Command.TheVariants.{At, AsUser, Mail, Mbox, AddNote, Define, Run, BoxOf, ListOf, Filter, Explain, Ask, Wake}
+use Rattle.script_lang.specs.declared.command.Command.TheVariants.{At, AsUser, Mail, Mbox, AddNote, Define, Run, BoxOf, ListOf, Filter}
+use Rattle.script_lang.specs.declared.command.Command.TheVariants.{Explain, Ask, Wake}
 use Rattle.script_lang.specs.declared.command.Command.TheVariants.{ScoresOf, DigestOf, Find, Bad}
 use Rattle.script_lang.specs.declared.lookup.Lookup.{Lookup}
 use Rattle.script_lang.specs.declared.refusal.Refusal.{Refusal}
 use Rattle.script_lang.specs.declared.refusal.Refusal.TheVariants.{BadMoment, NoQuery}
 use Rattle.script_lang.specs.declared.reply.Reply.{Reply}
-use Rattle.script_lang.specs.declared.reply.Reply.TheVariants.{At as SetAt, AsUser as SetUser, OneDoc, OneNote as NoteAdded, Defined, Ran, BoxOf as Boxed}
-use Rattle.script_lang.specs.declared.reply.Reply.TheVariants.{ListOf as Listing, Filter as FilterAdded, Explain as Explained, Asked, No, Docs as DocsAdded}
+use Rattle.script_lang.specs.declared.reply.Reply.TheVariants.{At as SetAt, AsUser as SetUser, OneDoc, OneNote as NoteAdded, Defined, Ran}
+use Rattle.script_lang.specs.declared.reply.Reply.TheVariants.{BoxOf as Boxed}
+use Rattle.script_lang.specs.declared.reply.Reply.TheVariants.{ListOf as Listing, Filter as FilterAdded, Explain as Explained, Asked, No}
+use Rattle.script_lang.specs.declared.reply.Reply.TheVariants.{Docs as DocsAdded}
 use Rattle.script_lang.specs.declared.reply.Reply.TheVariants.{Wake as Woken, ScoresOf as Scored, DigestOf as Digest}
 use Rattle.tap_model.specs.declared.session.Session.{Session}
 use Rattle.tap_model.specs.Sessions.{moment_or_zero, user_of}
@@ -91,7 +94,8 @@ add_mbox texts session tables = record {
 -- the next query
 abbrev pub next_query : Tables → Session → List ℕ → List ℕ → QueryRow
 next_query tables session name source =
-    record { num = record { 0 = length tables.queries + 1 }; owner = user_of session; name = name; source = source; arrival = moment_or_zero session }
+    record { num = record { 0 = length tables.queries + 1 }; owner = user_of session; name = name; source = source;
+        arrival = moment_or_zero session }
 
 -- `query`: a query of the user
 abbrev pub add_query : List ℕ → List ℕ → Session → Tables → Answer

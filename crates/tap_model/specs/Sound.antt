@@ -6,7 +6,8 @@ use Rattle.tap_rows.specs.Kept.{Each, IsKept, IsBy}
 use Rattle.tap_rows.specs.WellFormed.{is_well_formed}
 use Rattle.restart_core.specs.Starts.{condition_text}
 use Rattle.script_lang.specs.declared.command.Command.{Command}
-use Rattle.script_lang.specs.declared.command.Command.TheVariants.{At, AsUser, Mail, Mbox, AddNote, Define, Run, BoxOf, ListOf, Filter, Explain, Ask, Wake}
+use Rattle.script_lang.specs.declared.command.Command.TheVariants.{At, AsUser, Mail, Mbox, AddNote, Define, Run, BoxOf, ListOf, Filter}
+use Rattle.script_lang.specs.declared.command.Command.TheVariants.{Explain, Ask, Wake}
 use Rattle.script_lang.specs.declared.command.Command.TheVariants.{ScoresOf, DigestOf, Find, Bad}
 use Rattle.script_lang.specs.declared.lookup.Lookup.TheVariants.{ShowDoc, ListNotes, ListQueries, Count}
 use Rattle.tap_model.specs.declared.session.Session.{Session}

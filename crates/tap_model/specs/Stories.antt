@@ -12,13 +12,15 @@ use Rattle.tap_model.specs.Verdicts.{verdict, is_spared}
 use Rattle.tap_model.specs.Replies.{answer_of, tables_after}
 
 -- the reply, and the tables and the session after it, are those of the command's answer
-pub record Follows (tables : Tables) (session : Session) (command : Command) (reply : Reply) (tables' : Tables) (session' : Session) : Type 0 where
+pub record Follows (tables : Tables) (session : Session) (command : Command) (reply : Reply) (tables' : Tables) (session' : Session) :
+    Type 0 where
   pub reply_is : reply ≡ (answer_of command session tables).reply
   pub tables_are : tables' ≡ tables_after (answer_of command session tables).change tables
   pub session_is : session' ≡ (answer_of command session tables).session
 
 -- the reply is out of memory, and nothing changes; the command is none of those that need no memory
-pub record GivesUp (tables : Tables) (session : Session) (command : Command) (reply : Reply) (tables' : Tables) (session' : Session) : Type 0 where
+pub record GivesUp (tables : Tables) (session : Session) (command : Command) (reply : Reply) (tables' : Tables) (session' : Session) :
+    Type 0 where
   pub reply_is : reply ≡ No Memory
   pub tables_are : tables' ≡ tables
   pub session_is : session' ≡ session
@@ -26,7 +28,8 @@ pub record GivesUp (tables : Tables) (session : Session) (command : Command) (re
 
 -- the tables after a command with this reply: those with its rows if it was accepted, else the same tables
 abbrev pub next_tables : Command → Reply → Session → Tables → Tables
-next_tables command reply session tables = if is_accepted reply then tables_after (answer_of command session tables).change tables else tables
+next_tables command reply session tables = if is_accepted reply then tables_after (answer_of command session tables).change tables
+    else tables
 
 -- one step of a story: the command is answered, or the program is out of memory
 abbrev pub StoryStep : Tables → Session → Command → Reply → Tables → Session → Type 0

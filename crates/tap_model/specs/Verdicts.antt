@@ -11,14 +11,17 @@ use Rattle.tap_rows.specs.Results.{run_moments}
 use Rattle.mail_lines.specs.declared.block.Block.{Block}
 use Rattle.mail_lines.specs.declared.block.Block.TheVariants.{Whole, Long}
 use Rattle.script_lang.specs.declared.command.Command.{Command}
-use Rattle.script_lang.specs.declared.command.Command.TheVariants.{At, AsUser, Mail, Mbox, AddNote, Define, Run, BoxOf, ListOf, Filter, Explain, Ask, Wake}
+use Rattle.script_lang.specs.declared.command.Command.TheVariants.{At, AsUser, Mail, Mbox, AddNote, Define, Run, BoxOf, ListOf, Filter}
+use Rattle.script_lang.specs.declared.command.Command.TheVariants.{Explain, Ask, Wake}
 use Rattle.script_lang.specs.declared.command.Command.TheVariants.{ScoresOf, DigestOf, Find, Bad}
 use Rattle.script_lang.specs.declared.lookup.Lookup.{Lookup}
 use Rattle.script_lang.specs.declared.lookup.Lookup.TheVariants.{ShowDoc, ListNotes, ListQueries, Count}
 use Rattle.script_lang.specs.declared.refusal.Refusal.{Refusal}
-use Rattle.script_lang.specs.declared.refusal.Refusal.TheVariants.{BadMoment, Backwards, NoMoment, NoUser, BadName, Taken, NoQuery, NoDoc, Lex}
+use Rattle.script_lang.specs.declared.refusal.Refusal.TheVariants.{BadMoment, Backwards, NoMoment, NoUser, BadName, Taken, NoQuery, NoDoc}
+use Rattle.script_lang.specs.declared.refusal.Refusal.TheVariants.{Lex}
 use Rattle.script_lang.specs.declared.refusal.Refusal.TheVariants.{Parse, Types, NotOver, Limit, Rule, ManyRules, NoRun}
-use Rattle.script_lang.specs.declared.refusal.LimitName.TheVariants.{Message, Block as BlockLimit, Note, Documents, Notes, Queries, AllQueries, Users}
+use Rattle.script_lang.specs.declared.refusal.LimitName.TheVariants.{Message, Block as BlockLimit, Note, Documents, Notes, Queries}
+use Rattle.script_lang.specs.declared.refusal.LimitName.TheVariants.{AllQueries, Users}
 use Rattle.script_lang.specs.declared.refusal.LimitName.TheVariants.{Filters, Runs, Picks, Store}
 use Rattle.mail_lines.specs.Mbox.{mbox_messages}
 use Rattle.tql_core.specs.Condition.{Condition}
@@ -31,7 +34,8 @@ use Rattle.filter_rules.specs.Rules.{Rule as FilterRule}
 use Rattle.filter_rules.specs.RuleTexts.{rules_of}
 use Rattle.restart_core.specs.Starts.{condition_text, stored_source}
 use Rattle.tap_model.specs.declared.session.Session.{Session}
-use Rattle.tap_model.specs.Limits.{message_limit, filter_text_limit, note_text_limit, document_limit, note_limit, user_query_limit, query_limit}
+use Rattle.tap_model.specs.Limits.{message_limit, filter_text_limit, note_text_limit, document_limit, note_limit, user_query_limit}
+use Rattle.tap_model.specs.Limits.{query_limit}
 use Rattle.tap_model.specs.Limits.{user_limit, filter_limit, run_limit, pick_limit, store_limit}
 use Rattle.tap_model.specs.Sessions.{moment_or_zero, user_of, last_moment}
 use Rattle.tap_model.specs.Queries.{query_named, hits_of}

@@ -1,5 +1,5 @@
-//! Defines what a command does: its checks, its reply, the rows that it adds; stories of commands, and what holds at each
-//! point of one. The code here is the session and the limits.
+//! Defines what a command does: its checks, its reply, the rows that it adds; stories of commands,
+//! and what holds at each point of one. The code here is the session and the limits.
 #![tactic(auto)]
 
 pub mod laws;

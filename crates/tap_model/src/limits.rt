@@ -1,4 +1,5 @@
-//! The limits of a store, and of the texts in it. Definitions repeat these numbers, so that no change here goes unseen.
+//! The limits of a store, and of the texts in it. Definitions repeat these numbers, so that no
+//! change here goes unseen.
 
 /// The most documents.
 pub const DOCUMENT_LIMIT: usize = 1000000;

@@ -3,7 +3,8 @@ ghost use Rattle.std.specs.Prelude.{◌≡◌};
 
 use tap_base::Text;
 
-/// The moment at which commands are performed, in seconds since 1970-01-01T00:00:00Z, and the user who gives them.
+/// The moment at which commands are performed, in seconds since 1970-01-01T00:00:00Z, and the user
+/// who gives them.
 #[derive(Drop)]
 pub struct Session {
     pub moment: Option<i64>,

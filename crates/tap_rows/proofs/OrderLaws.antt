@@ -41,7 +41,8 @@ put_in-front hit (other ∷ hits) all = rw all.0 refl
 after-all : (hit other : Hit) (hits : List Hit) → is_before hit other ≡ true → NoneBefore other hits → AllAfter hit hits
 unfolding before
 after-all hit other [] lt none = tt
-after-all hit other (x ∷ hits) lt none = (before-trans hit.first hit.doc.0 other.first other.doc.0 x.first x.doc.0 lt none.0, after-all hit other hits lt none.1)
+after-all hit other (x ∷ hits) lt none =
+    (before-trans hit.first hit.doc.0 other.first other.doc.0 x.first x.doc.0 lt none.0, after-all hit other hits lt none.1)
 
 AllAfter-filter : (test : Hit → Bool) (hit : Hit) (hits : List Hit) → AllAfter hit hits → AllAfter hit (filter test hits)
 AllAfter-filter test hit [] all = tt
@@ -54,25 +55,31 @@ AllAfter-filter test hit (x ∷ hits) all = elim (test x) as (λ b. AllAfter hit
 put_in-fails : (test : Hit → Bool) (hit : Hit) (hits : List Hit) → test hit ≡ false → filter test (put_in hit hits) ≡ filter test hits
 put_in-fails test hit [] fails = rw fails refl
 put_in-fails test hit (other ∷ hits) fails =
-    elim (is_before hit other) as (λ b. filter test (if b then hit ∷ other ∷ hits else other ∷ put_in hit hits) ≡ filter test (other ∷ hits)) [
+    elim (is_before hit other)
+      as (λ b. filter test (if b then hit ∷ other ∷ hits else other ∷ put_in hit hits) ≡ filter test (other ∷ hits)) [
       | true ↦ rw fails refl
       | false ↦ rw (put_in-fails test hit hits fails) refl
     ]
 
 -- a hit that passes is put in among those that pass
-put_in-passes : (test : Hit → Bool) (hit : Hit) (hits : List Hit) → test hit ≡ true → InOrder hits → filter test (put_in hit hits) ≡ put_in hit (filter test hits)
+put_in-passes : (test : Hit → Bool) (hit : Hit) (hits : List Hit) → test hit ≡ true → InOrder hits
+    → filter test (put_in hit hits) ≡ put_in hit (filter test hits)
 put_in-passes test hit [] passes order = rw passes refl
 put_in-passes test hit (other ∷ hits) passes order = go (is_before hit other) refl (put_in-passes test hit hits passes order.1) where
-  go : (b : Bool) → is_before hit other ≡ b → filter test (put_in hit hits) ≡ put_in hit (filter test hits) → filter test (put_in hit (other ∷ hits)) ≡ put_in hit (filter test (other ∷ hits))
-  go true e rest = rw (e, passes) (sym (put_in-front hit (filter test (other ∷ hits)) (AllAfter-filter test hit (other ∷ hits) (e, after-all hit other hits e order.0))))
-  go false e rest = rw e (elim (test other) as (λ b. (if b then other ∷ filter test (put_in hit hits) else filter test (put_in hit hits)) ≡ put_in hit (if b then other ∷ filter test hits else filter test hits)) [
+  go : (b : Bool) → is_before hit other ≡ b → filter test (put_in hit hits) ≡ put_in hit (filter test hits)
+      → filter test (put_in hit (other ∷ hits)) ≡ put_in hit (filter test (other ∷ hits))
+  go true e rest = rw (e, passes) (sym
+        (put_in-front hit (filter test (other ∷ hits)) (AllAfter-filter test hit (other ∷ hits) (e, after-all hit other hits e order.0))))
+  go false e rest = rw e (elim (test other) as (λ b. (if b then other ∷ filter test (put_in hit hits) else filter test (put_in hit hits))
+          ≡ put_in hit (if b then other ∷ filter test hits else filter test hits)) [
     | true ↦ rw (e, rest) refl
     | false ↦ rest
   ])
 
 NoneBefore-put_in : (x hit : Hit) (hits : List Hit) → is_before hit x ≡ false → NoneBefore x hits → NoneBefore x (put_in hit hits)
 NoneBefore-put_in x hit [] no_before none = (no_before, tt)
-NoneBefore-put_in x hit (other ∷ hits) no_before none = elim (is_before hit other) as (λ b. NoneBefore x (if b then hit ∷ other ∷ hits else other ∷ put_in hit hits)) [
+NoneBefore-put_in x hit (other ∷ hits) no_before none =
+    elim (is_before hit other) as (λ b. NoneBefore x (if b then hit ∷ other ∷ hits else other ∷ put_in hit hits)) [
   | true ↦ (no_before, (none.0, none.1))
   | false ↦ (none.0, NoneBefore-put_in x hit hits no_before none.1)
 ]
@@ -97,6 +104,7 @@ in_order-InOrder (hit ∷ hits) = InOrder-put_in hit (hits_in_order hits) (in_or
 pub in_order-filter : (test : Hit → Bool) (hits : List Hit) → filter test (hits_in_order hits) ≡ hits_in_order (filter test hits)
 in_order-filter test [] = refl
 in_order-filter test (hit ∷ hits) = go (test hit) refl (in_order-filter test hits) where
-  go : (b : Bool) → test hit ≡ b → filter test (hits_in_order hits) ≡ hits_in_order (filter test hits) → filter test (put_in hit (hits_in_order hits)) ≡ hits_in_order (filter test (hit ∷ hits))
+  go : (b : Bool) → test hit ≡ b → filter test (hits_in_order hits) ≡ hits_in_order (filter test hits)
+      → filter test (put_in hit (hits_in_order hits)) ≡ hits_in_order (filter test (hit ∷ hits))
   go true e rest = rw (put_in-passes test hit (hits_in_order hits) e (in_order-InOrder hits), rest, e) refl
   go false e rest = rw (put_in-fails test hit (hits_in_order hits) e, rest, e) refl

@@ -43,24 +43,30 @@ first_from-within p (suc n) a f h =
 pub first_from-never : (p : ℤ → Bool) (n : ℕ) (a : ℤ) → ((x : ℤ) → a ≤ℤ x → x <ℤ (a +ℤ pos n) → p x ≡ false) → first_from p n a ≡ None
 first_from-never p zero a h = refl
 first_from-never p (suc n) a h =
-    rw (h a (omega (arith, ints)) (omega (arith, ints))) (first_from-never p n (a +ℤ pos 1) (λ x lo hi. h x (omega (arith, ints)) (omega (arith, ints))))
+    rw (h a (omega (arith, ints)) (omega (arith, ints)))
+      (first_from-never p n (a +ℤ pos 1) (λ x lo hi. h x (omega (arith, ints)) (omega (arith, ints))))
 
 -- the least second at which it holds is found
-pub first_from-is : (p : ℤ → Bool) (n : ℕ) (a s : ℤ) → a ≤ℤ s → s <ℤ (a +ℤ pos n) → p s ≡ true → ((x : ℤ) → a ≤ℤ x → x <ℤ s → p x ≡ false) → first_from p n a ≡ Some s
+pub first_from-is : (p : ℤ → Bool) (n : ℕ) (a s : ℤ) → a ≤ℤ s → s <ℤ (a +ℤ pos n) → p s ≡ true → ((x : ℤ) → a ≤ℤ x → x <ℤ s → p x ≡ false)
+    → first_from p n a ≡ Some s
 first_from-is p zero a s lo hi here before = absurd (omega (arith, ints))
 first_from-is p (suc n) a s lo hi here before =
     by_lt_z a s
-    (λ w. rw (before a (omega (arith, ints)) w) (first_from-is p n (a +ℤ pos 1) s (omega (arith, ints)) (omega (arith, ints)) here (λ x l h. before x (omega (arith, ints)) h)))
+    (λ w. rw (before a (omega (arith, ints)) w)
+      (first_from-is p n (a +ℤ pos 1) s (omega (arith, ints)) (omega (arith, ints)) here (λ x l h. before x (omega (arith, ints)) h)))
     (λ w. let e : a ≡ s = omega (arith, ints) in let y : p a ≡ true = ap p e ∙ here in rw y (ap Some e))
 
 -- tests that agree on the seconds tried
-pub first_from-same : (p q : ℤ → Bool) (n : ℕ) (a : ℤ) → ((x : ℤ) → a ≤ℤ x → x <ℤ (a +ℤ pos n) → p x ≡ q x) → first_from p n a ≡ first_from q n a
+pub first_from-same : (p q : ℤ → Bool) (n : ℕ) (a : ℤ) → ((x : ℤ) → a ≤ℤ x → x <ℤ (a +ℤ pos n) → p x ≡ q x)
+    → first_from p n a ≡ first_from q n a
 first_from-same p q zero a h = refl
 first_from-same p q (suc n) a h =
-    rw (h a (omega (arith, ints)) (omega (arith, ints)), first_from-same p q n (a +ℤ pos 1) (λ x lo hi. h x (omega (arith, ints)) (omega (arith, ints))))
+    rw (h a (omega (arith, ints)) (omega (arith, ints)),
+        first_from-same p q n (a +ℤ pos 1) (λ x lo hi. h x (omega (arith, ints)) (omega (arith, ints))))
 
 -- more seconds: what was found first, or else what is found among the others
-pub first_from-more : (p : ℤ → Bool) (n k : ℕ) (a b : ℤ) → b ≡ a +ℤ pos n → first_from p (n + k) a ≡ option_or (first_from p n a) (first_from p k b)
+pub first_from-more : (p : ℤ → Bool) (n k : ℕ) (a b : ℤ) → b ≡ a +ℤ pos n
+    → first_from p (n + k) a ≡ option_or (first_from p n a) (first_from p k b)
 first_from-more p zero k a b e =
     let e' : b ≡ a = omega (arith, ints) in
     let k' : 0 + k ≡ k = omega arith in
@@ -109,11 +115,13 @@ least_second-within p a t f h = let w = first_from-within p (int_gap a t) a f h 
 pub least_second-never : (p : ℤ → Bool) (a t : ℤ) → ((x : ℤ) → a ≤ℤ x → x <ℤ t → p x ≡ false) → least_second p a t ≡ None
 least_second-never p a t h = first_from-never p (int_gap a t) a (λ x lo hi. h x lo (gap-end a t x lo hi))
 
-pub least_second-is : (p : ℤ → Bool) (a t s : ℤ) → a ≤ℤ s → s <ℤ t → p s ≡ true → ((x : ℤ) → a ≤ℤ x → x <ℤ s → p x ≡ false) → least_second p a t ≡ Some s
+pub least_second-is : (p : ℤ → Bool) (a t s : ℤ) → a ≤ℤ s → s <ℤ t → p s ≡ true → ((x : ℤ) → a ≤ℤ x → x <ℤ s → p x ≡ false)
+    → least_second p a t ≡ Some s
 least_second-is p a t s lo hi here before = first_from-is p (int_gap a t) a s lo (gap-within a t s lo hi) here before
 
 pub least_second-same : (p q : ℤ → Bool) (a t : ℤ) → ((x : ℤ) → a ≤ℤ x → x <ℤ t → p x ≡ q x) → least_second p a t ≡ least_second q a t
 least_second-same p q a t h = first_from-same p q (int_gap a t) a (λ x lo hi. h x lo (gap-end a t x lo hi))
 
-pub least_second-more : (p : ℤ → Bool) (a b t : ℤ) → a ≤ℤ b → b ≤ℤ t → least_second p a t ≡ option_or (least_second p a b) (least_second p b t)
+pub least_second-more : (p : ℤ → Bool) (a b t : ℤ) → a ≤ℤ b → b ≤ℤ t
+    → least_second p a t ≡ option_or (least_second p a b) (least_second p b t)
 least_second-more p a b t h k = rw (gap-more a b t h k) (first_from-more p (int_gap a b) (int_gap b t) a b (gap-is a b h))

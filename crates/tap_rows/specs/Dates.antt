@@ -134,7 +134,8 @@ second_of_parts None month year time offset = None
 
 -- the second of the parts from the day on
 abbrev pub date_from : List (List ℕ) → Option ℤ
-date_from (day ∷ month ∷ year ∷ time ∷ more) = second_of_parts (digits_within 1 2 day) (month_of month) (year_of year) (time_of time) (first_zone more)
+date_from (day ∷ month ∷ year ∷ time ∷ more) =
+    second_of_parts (digits_within 1 2 day) (month_of month) (year_of year) (time_of time) (first_zone more)
 date_from [] = None
 date_from (day ∷ []) = None
 date_from (day ∷ month ∷ []) = None

@@ -34,7 +34,8 @@ run_hits truth start tables query moment = fresh_in truth tables start (covered 
 -- one pick for each hit, from this number on
 abbrev pub pick_rows : ℕ → QueryNum → ℕ → List Hit → List Pick
 pick_rows num query run [] = []
-pick_rows num query run (hit ∷ hits) = record { num = num; query = query; run = run; doc = hit.doc; first = hit.first } ∷ pick_rows (num + 1) query run hits
+pick_rows num query run (hit ∷ hits) =
+    record { num = num; query = query; run = run; doc = hit.doc; first = hit.first } ∷ pick_rows (num + 1) query run hits
 
 -- the next run
 abbrev pub next_run : Tables → QueryNum → ℤ → RunRow
@@ -44,4 +45,5 @@ next_run tables query moment = record { num = length tables.runs + 1; query = qu
 -- was none
 abbrev pub run_change : Truth → ℤ → Tables → QueryNum → ℤ → Change
 run_change truth start tables query moment =
-    RunDone (next_run tables query moment) (pick_rows (length tables.picks + 1) query (length tables.runs + 1) (run_hits truth start tables query.0 moment))
+    RunDone (next_run tables query moment)
+      (pick_rows (length tables.picks + 1) query (length tables.runs + 1) (run_hits truth start tables query.0 moment))

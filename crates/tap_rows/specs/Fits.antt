@@ -22,7 +22,8 @@ low_of moment rows = moment_or_start moment (last_row rows)
 abbrev pub fits : Tables → Change → Bool
 fits tables (Docs docs) = docs_stand (length tables.docs + 1) (low_of (λ doc. doc.arrival) tables.docs) docs
 fits tables (OneNote note) = note_stands tables.docs (length tables.notes + 1) (low_of (λ note. note.arrival) tables.notes) note
-fits tables (OneQuery query) = query_stands tables.queries (length tables.queries + 1) (low_of (λ query. query.arrival) tables.queries) query
+fits tables (OneQuery query) =
+    query_stands tables.queries (length tables.queries + 1) (low_of (λ query. query.arrival) tables.queries) query
 fits tables (RunDone run picks) =
     run_stands tables.queries (length tables.runs + 1) (low_of (λ run. run.moment) tables.runs) run
     && picks_stand (tables.runs ++ run ∷ []) tables.docs tables.picks (length tables.picks + 1) (last_row tables.picks) picks

@@ -108,4 +108,5 @@ entries_from moments hits run (m ∷ ms) = entries_of moments hits run ++ entrie
 -- the box of a query: for each of its runs, the documents whose first second is before its moment and before that of no earlier run
 abbrev pub box_of : Truth → Tables → ℤ → ℕ → List Entry
 box_of truth tables start query =
-    entries_from (run_moments query tables.runs) (union_until truth tables start (covered start query tables.runs)) 1 (run_moments query tables.runs)
+    entries_from (run_moments query tables.runs) (union_until truth tables start (covered start query tables.runs)) 1
+      (run_moments query tables.runs)

@@ -3,8 +3,10 @@ ghost use Rattle.std.specs.Prelude.{◌≡◌, ◌≤◌, ◌<◌, ◌+◌, ◌^
 ghost use Rattle.std.specs.Prelude.{int_lt, int_le, nat_lt, take, [], List, ℕ, length, Option};
 ghost use Rattle.std.specs.List.{list_any};
 ghost use Rattle.std.specs.Option.{option_copied};
-ghost use Rattle.tap_rows.specs.WellFormed.{row_at, may_follow, doc_stands, docs_stand, has_arrived, note_stands, is_query_of};
-ghost use Rattle.tap_rows.specs.WellFormed.{query_stands, was_defined, run_stands, is_picked, comes_after, pick_stands, picks_stand};
+ghost use Rattle.tap_rows.specs.WellFormed.{row_at, may_follow, doc_stands, docs_stand};
+ghost use Rattle.tap_rows.specs.WellFormed.{has_arrived, note_stands, is_query_of};
+ghost use Rattle.tap_rows.specs.WellFormed.{query_stands, was_defined, run_stands, is_picked};
+ghost use Rattle.tap_rows.specs.WellFormed.{comes_after, pick_stands, picks_stand};
 ghost use Rattle.tap_rows.specs.WellFormed.{filter_stands, is_well_formed, picks_same};
 ghost use Rattle.tap_rows.specs.Tables.{after};
 ghost use Rattle.tap_rows.specs.Fits.{low_of, last_row, fits};
@@ -159,7 +161,8 @@ fn is_repeated(pick: &Pick, earlier: &[Pick]) -> bool
 
 // Returns whether the pick comes after the one before, by first second and document.
 fn is_later(before: &Pick, pick: &Pick) -> bool
-    ensures { result ≡ (int_lt before.now.first pick.now.first || (int_le before.now.first pick.now.first && nat_lt before.now.doc.0 pick.now.doc.0)) }
+    ensures { result ≡ (int_lt before.now.first pick.now.first
+          || (int_le before.now.first pick.now.first && nat_lt before.now.doc.0 pick.now.doc.0)) }
 {
     before.first < pick.first || (before.first <= pick.first && before.doc.0 < pick.doc.0)
 }
@@ -176,7 +179,8 @@ fn is_after(before: Option<&Pick>, pick: &Pick) -> bool
     }
 }
 
-// Returns whether the pick may stand behind all earlier ones, which come in two parts: those stored and those of its run.
+// Returns whether the pick may stand behind all earlier ones, which come in two parts: those stored
+// and those of its run.
 fn pick_fits(
     runs: &[RunRow],
     run: &RunRow,
@@ -187,7 +191,8 @@ fn pick_fits(
     before: Option<&Pick>,
     pick: &Pick,
 ) -> bool
-    ensures { result ≡ pick_stands (runs.now ++ run.now ∷ []) docs.now (stored.now ++ picks.now) place (option_copied before.entry) pick.now }
+    ensures { result ≡ pick_stands (runs.now ++ run.now ∷ []) docs.now (stored.now ++ picks.now)
+        place (option_copied before.entry) pick.now }
 {
     pick.num as usize == place
         && is_pick_of(
@@ -202,7 +207,8 @@ fn pick_fits(
 
 // Returns whether the picks may stand behind those stored. Each is compared with all before it.
 fn picks_fit(runs: &[RunRow], run: &RunRow, docs: &[Doc], stored: &[Pick], picks: &[Pick]) -> bool
-    ensures { result ≡ picks_stand (runs.now ++ run.now ∷ []) docs.now stored.now (length stored.now + 1) (last_row stored.now) picks.now }
+    ensures { result ≡ picks_stand (runs.now ++ run.now ∷ [])
+        docs.now stored.now (length stored.now + 1) (last_row stored.now) picks.now }
 {
     let mut before = row(stored, stored.len());
     for (i, pick) in picks.iter().enumerate() {
@@ -324,10 +330,12 @@ impl Tables {
     /// - its moment is from 0 to 250,000,000,000 and not below that of the row before;
     /// - its names are names, and its references are to rows that are there.
     ///
-    /// The texts of queries and filters are not looked at. Each pick of a run is compared with all picks before it.
+    /// The texts of queries and filters are not looked at. Each pick of a run is compared with all
+    /// picks before it.
     pub fn fits(&self, change: &Change) -> bool
         ensures rows { result ≡ fits self.now change.now }
-        ensures order { is_well_formed self.now ≡ true → result ≡ is_well_formed (after self.now change.now) }
+        ensures order { is_well_formed self.now ≡ true
+            → result ≡ is_well_formed (after self.now change.now) }
     {
         self.rows_fit(change)
     }

@@ -8,7 +8,8 @@ pub struct Hit {
     pub first: i64,
 }
 
-/// A document in a box: the first second at which the query gives it, and the ordinal, from 1, of the run that delivered it.
+/// A document in a box: the first second at which the query gives it, and the ordinal, from 1, of
+/// the run that delivered it.
 #[derive(Clone, Copy, Debug, PartialEq, Eq)]
 pub struct Entry {
     pub doc: DocNum,

@@ -1,8 +1,8 @@
 //! The rows of the tables.
 use tap_base::{DocNum, NoteNum, QueryNum, SharedText, Text};
 
-/// A stored document. A number is a row's place in its table, from 1; an arrival is in seconds since 1970-01-01T00:00:00Z, as
-/// every moment of a row. Copies of a row share its text.
+/// A stored document. A number is a row's place in its table, from 1; an arrival is in seconds
+/// since 1970-01-01T00:00:00Z, as every moment of a row. Copies of a row share its text.
 #[derive(Drop)]
 pub struct Doc {
     pub num: DocNum,

@@ -44,11 +44,26 @@ OnlyAdds-then t t1 t2 one two = record {
 }
 
 after-adds : (t : Tables) (change : Change) → OnlyAdds t (after t change)
-after-adds t (Docs docs) = let none = OnlyAdds-none t in record { docs = more-rows t.docs docs; notes = none.notes; queries = none.queries; runs = none.runs; picks = none.picks; filters = none.filters }
-after-adds t (OneNote note) = let none = OnlyAdds-none t in record { docs = none.docs; notes = more-rows t.notes (note ∷ []); queries = none.queries; runs = none.runs; picks = none.picks; filters = none.filters }
-after-adds t (OneQuery query) = let none = OnlyAdds-none t in record { docs = none.docs; notes = none.notes; queries = more-rows t.queries (query ∷ []); runs = none.runs; picks = none.picks; filters = none.filters }
-after-adds t (RunDone run picks) = let none = OnlyAdds-none t in record { docs = none.docs; notes = none.notes; queries = none.queries; runs = more-rows t.runs (run ∷ []); picks = more-rows t.picks picks; filters = none.filters }
-after-adds t (OneFilter filter) = let none = OnlyAdds-none t in record { docs = none.docs; notes = none.notes; queries = none.queries; runs = none.runs; picks = none.picks; filters = more-rows t.filters (filter ∷ []) }
+after-adds t (Docs docs) =
+    let none = OnlyAdds-none t in
+    record { docs = more-rows t.docs docs; notes = none.notes; queries = none.queries; runs = none.runs; picks = none.picks;
+          filters = none.filters }
+after-adds t (OneNote note) =
+    let none = OnlyAdds-none t in
+    record { docs = none.docs; notes = more-rows t.notes (note ∷ []); queries = none.queries; runs = none.runs; picks = none.picks;
+          filters = none.filters }
+after-adds t (OneQuery query) =
+    let none = OnlyAdds-none t in
+    record { docs = none.docs; notes = none.notes; queries = more-rows t.queries (query ∷ []); runs = none.runs; picks = none.picks;
+          filters = none.filters }
+after-adds t (RunDone run picks) =
+    let none = OnlyAdds-none t in
+    record { docs = none.docs; notes = none.notes; queries = none.queries; runs = more-rows t.runs (run ∷ []);
+          picks = more-rows t.picks picks; filters = none.filters }
+after-adds t (OneFilter filter) =
+    let none = OnlyAdds-none t in
+    record { docs = none.docs; notes = none.notes; queries = none.queries; runs = none.runs; picks = none.picks;
+          filters = more-rows t.filters (filter ∷ []) }
 
 answer-adds : (t : Tables) (change : Option Change) → OnlyAdds t (tables_after change t)
 answer-adds t None = OnlyAdds-none t
@@ -58,7 +73,8 @@ step-adds : (t : Tables) (s : Session) (c : Command) (r : Reply) (t' : Tables) (
 step-adds t s c r t' s' (inl follows) = subst (OnlyAdds t) (sym follows.tables_are) (answer-adds t (answer_of c s t).change)
 step-adds t s c r t' s' (inr gives) = subst (OnlyAdds t) (sym gives.tables_are) (OnlyAdds-none t)
 
-story-adds : (t : Tables) (s : Session) (cs : List Command) (rs : List Reply) (t' : Tables) (s' : Session) → Story t s cs rs t' s' → OnlyAdds t t'
+story-adds : (t : Tables) (s : Session) (cs : List Command) (rs : List Reply) (t' : Tables) (s' : Session) → Story t s cs rs t' s'
+    → OnlyAdds t t'
 story-adds t s [] [] t' s' story = subst (OnlyAdds t) (sym story.0) (OnlyAdds-none t)
 story-adds t s (c ∷ cs) (r ∷ rs) t' s' story =
     OnlyAdds-then t story.0 t' (step-adds t s c r story.0 story.1 story.2) (story-adds story.0 story.1 cs rs t' s' story.3)
@@ -76,5 +92,6 @@ pub chain-adds : (t last : Tables) (sessions : List PastSession) → IsChain t s
 chain-adds t last [] chain = subst (OnlyAdds t) (sym chain) (OnlyAdds-none t)
 chain-adds t last (session ∷ sessions) chain =
     let front = chain.1 in
-    OnlyAdds-then t chain.0 last (story-adds t _ (take front.k session.commands) (take front.k session.replies) chain.0 front.session front.story)
+    OnlyAdds-then t chain.0 last
+      (story-adds t _ (take front.k session.commands) (take front.k session.replies) chain.0 front.session front.story)
     (chain-adds chain.0 last sessions chain.2)

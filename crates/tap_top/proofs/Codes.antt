@@ -40,7 +40,8 @@ not-done n more status is low = more (le (code_of status) n is low) where
   le a b e low = omega arith
 
 -- the numbers of how a run ends
-pub run-code : (status : Status) → IsOfRun status → (code_of status ≤ 1 ⊎ (code_of status ≡ 3 ⊎ (code_of status ≡ 4 ⊎ (code_of status ≡ 5 ⊎ (code_of status ≡ 7 ⊎ code_of status ≡ 8)))))
+pub run-code : (status : Status) → IsOfRun status
+    → (code_of status ≤ 1 ⊎ (code_of status ≡ 3 ⊎ (code_of status ≡ 4 ⊎ (code_of status ≡ 5 ⊎ (code_of status ≡ 7 ⊎ code_of status ≡ 8)))))
 run-code status (inl low) = inl low
 run-code status (inr (inl is)) = inr (inl (ap code_of is))
 run-code status (inr (inr (inl is))) = inr (inr (inl (ap code_of is)))
@@ -48,7 +49,8 @@ run-code status (inr (inr (inr (inl is)))) = inr (inr (inr (inl (ap code_of is))
 run-code status (inr (inr (inr (inr (inl is))))) = inr (inr (inr (inr (inl (ap code_of is)))))
 run-code status (inr (inr (inr (inr (inr is))))) = inr (inr (inr (inr (inr (ap code_of is)))))
 
-pub close-code : (status : Status) → IsOfClose status → (code_of status ≤ 1 ⊎ (code_of status ≡ 4 ⊎ (code_of status ≡ 5 ⊎ code_of status ≡ 7)))
+pub close-code : (status : Status) → IsOfClose status
+    → (code_of status ≤ 1 ⊎ (code_of status ≡ 4 ⊎ (code_of status ≡ 5 ⊎ code_of status ≡ 7)))
 close-code status (inl low) = inl low
 close-code status (inr (inl is)) = inr (inl (ap code_of is))
 close-code status (inr (inr (inl is))) = inr (inr (inl (ap code_of is)))

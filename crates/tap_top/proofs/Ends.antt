@@ -20,7 +20,8 @@ use Rattle.tap_top.proofs.Samples.{FirstPerformed-none}
 use Rattle.tap_top.proofs.SampleCrashes.{exact-leaves, sample-leaves}
 
 -- a read failed
-pub read-ends : (t : Tables) (left left' out out' : Option (List ℕ)) (tells leaves : Tables → Type 0) → ReadCut t left left' out out' (IsDurable tells leaves) → EngineScriptEnds s.ReadFailed t left left' out out' tells leaves
+pub read-ends : (t : Tables) (left left' out out' : Option (List ℕ)) (tells leaves : Tables → Type 0)
+    → ReadCut t left left' out out' (IsDurable tells leaves) → EngineScriptEnds s.ReadFailed t left left' out out' tells leaves
 read-ends t left left' out out' tells leaves run = record {
   whole = λ low. absurd (omega (arith, low));
   read = λ _. run;
@@ -31,7 +32,8 @@ read-ends t left left' out out' tells leaves run = record {
 }
 
 -- a put failed
-pub put-ends : (t : Tables) (left left' out out' : Option (List ℕ)) (tells leaves : Tables → Type 0) → PutCut t left left' out out' (IsDurable tells leaves) → EngineScriptEnds s.PutFailed t left left' out out' tells leaves
+pub put-ends : (t : Tables) (left left' out out' : Option (List ℕ)) (tells leaves : Tables → Type 0)
+    → PutCut t left left' out out' (IsDurable tells leaves) → EngineScriptEnds s.PutFailed t left left' out out' tells leaves
 put-ends t left left' out out' tells leaves run = record {
   whole = λ low. absurd (omega (arith, low));
   read = λ is. absurd cc;
@@ -42,7 +44,8 @@ put-ends t left left' out out' tells leaves run = record {
 }
 
 -- a commit failed
-pub uncommitted-ends : (t : Tables) (left left' out out' : Option (List ℕ)) (tells leaves : Tables → Type 0) → KeeperCut t left left' out out' leaves → EngineScriptEnds s.KeeperFailed t left left' out out' tells leaves
+pub uncommitted-ends : (t : Tables) (left left' out out' : Option (List ℕ)) (tells leaves : Tables → Type 0)
+    → KeeperCut t left left' out out' leaves → EngineScriptEnds s.KeeperFailed t left left' out out' tells leaves
 uncommitted-ends t left left' out out' tells leaves run = record {
   whole = λ low. absurd (omega (arith, low));
   read = λ is. absurd cc;
@@ -53,7 +56,8 @@ uncommitted-ends t left left' out out' tells leaves run = record {
 }
 
 -- a reader was out of memory
-pub memory-ends : (t : Tables) (left left' out out' : Option (List ℕ)) (tells leaves : Tables → Type 0) → OutOfMemory t left left' out out' (IsDurable tells leaves) → EngineScriptEnds s.OutOfMemory t left left' out out' tells leaves
+pub memory-ends : (t : Tables) (left left' out out' : Option (List ℕ)) (tells leaves : Tables → Type 0)
+    → OutOfMemory t left left' out out' (IsDurable tells leaves) → EngineScriptEnds s.OutOfMemory t left left' out out' tells leaves
 memory-ends t left left' out out' tells leaves run = record {
   whole = λ low. absurd (omega (arith, low));
   read = λ is. absurd cc;
@@ -64,7 +68,8 @@ memory-ends t left left' out out' tells leaves run = record {
 }
 
 -- the script was too long
-pub long-ends : (t : Tables) (left left' out out' : Option (List ℕ)) (tells leaves : Tables → Type 0) → TooLong t left left' out out' (IsDurable tells leaves) → EngineScriptEnds s.ScriptTooLong t left left' out out' tells leaves
+pub long-ends : (t : Tables) (left left' out out' : Option (List ℕ)) (tells leaves : Tables → Type 0)
+    → TooLong t left left' out out' (IsDurable tells leaves) → EngineScriptEnds s.ScriptTooLong t left left' out out' tells leaves
 long-ends t left left' out out' tells leaves run = record {
   whole = λ low. absurd (omega (arith, low));
   read = λ is. absurd cc;
@@ -87,7 +92,12 @@ not-long status (inr (inr (inl five))) is = cc
 not-long status (inr (inr (inr seven))) is = cc
 
 -- the input was read to its end
-pub closed-ends : (t : Tables) (left left' out out' : Option (List ℕ)) (tells leaves : Tables → Type 0) (status : Status) → IsOfClose status → (PerformedAll status → Whole t left left' out out' (IsDurable tells leaves) (is_all_ok status)) → (status ≡ s.PutFailed → PutCut t left left' out out' (IsDurable tells leaves)) → (status ≡ s.KeeperFailed → KeeperCut t left left' out out' leaves) → (status ≡ s.OutOfMemory → OutOfMemory t left left' out out' (IsDurable tells leaves)) → EngineScriptEnds status t left left' out out' tells leaves
+pub closed-ends : (t : Tables) (left left' out out' : Option (List ℕ)) (tells leaves : Tables → Type 0) (status : Status) → IsOfClose status
+    → (PerformedAll status → Whole t left left' out out' (IsDurable tells leaves) (is_all_ok status))
+    → (status ≡ s.PutFailed → PutCut t left left' out out' (IsDurable tells leaves))
+    → (status ≡ s.KeeperFailed → KeeperCut t left left' out out' leaves)
+    → (status ≡ s.OutOfMemory → OutOfMemory t left left' out out' (IsDurable tells leaves))
+    → EngineScriptEnds status t left left' out out' tells leaves
 closed-ends t left left' out out' tells leaves status one whole put uncommitted memory = record {
   whole = whole;
   read = λ is. absurd (not-read status one is);
@@ -98,7 +108,9 @@ closed-ends t left left' out out' tells leaves status one whole put uncommitted 
 }
 
 -- an engine was started over a store, and performed a script
-pub script-ends : (t : Tables) (left left' out out' : Option (List ℕ)) (versions : ℤ → Type 0) (tells leaves : Tables → Type 0) (status : Status) → IsOfRun status → EngineScriptEnds status t left left' out out' tells leaves → ScriptEnds (code_of status) t left left' out out' versions tells leaves
+pub script-ends : (t : Tables) (left left' out out' : Option (List ℕ)) (versions : ℤ → Type 0) (tells leaves : Tables → Type 0)
+    (status : Status) → IsOfRun status → EngineScriptEnds status t left left' out out' tells leaves
+    → ScriptEnds (code_of status) t left left' out out' versions tells leaves
 script-ends t left left' out out' versions tells leaves status one run = record {
   whole = run.whole;
   read = read;
@@ -106,7 +118,8 @@ script-ends t left left' out out' versions tells leaves status one run = record 
   keeper = λ is. inr (uncommitted is);
   memory = memory;
   long = long;
-  crash = run-leaves t left left' out out' versions tells leaves (is_all_ok status) (code_of status) (run-code status one) run.whole read put uncommitted memory long;
+  crash = run-leaves t left left' out out' versions tells leaves (is_all_ok status) (code_of status) (run-code status one) run.whole read
+      put uncommitted memory long;
 } where
   read : code_of status ≡ 3 → ReadCut t left left' out out' (IsDurable tells leaves)
   read is = run.read (same-code status s.ReadFailed is)
@@ -132,7 +145,9 @@ not-other status n (inl six) is from-six from-four = from-six (omega arith)
 not-other status n (inr four) is from-six from-four = from-four (omega arith)
 
 -- a store was refused
-pub refused-ends : (t : Tables) (left left' out out' : Option (List ℕ)) (versions : ℤ → Type 0) (tells leaves : Tables → Type 0) (status : ℕ) (written : List ℕ) → (status ≡ 6 ⊎ status ≡ 4) → IfKnown versions ⊥ → left' ≡ left → Appends out out' written → LeavesOnly t leaves → ScriptEnds status t left left' out out' versions tells leaves
+pub refused-ends : (t : Tables) (left left' out out' : Option (List ℕ)) (versions : ℤ → Type 0) (tells leaves : Tables → Type 0)
+    (status : ℕ) (written : List ℕ) → (status ≡ 6 ⊎ status ≡ 4) → IfKnown versions ⊥ → left' ≡ left → Appends out out' written
+    → LeavesOnly t leaves → ScriptEnds status t left left' out out' versions tells leaves
 refused-ends t left left' out out' versions tells leaves status written one never unread put exact = record {
   whole = λ low. absurd (low-not status one low);
   read = λ is. absurd (not-other status 3 one is (λ e. omega (arith, e)) (λ e. omega (arith, e)));
@@ -144,7 +159,8 @@ refused-ends t left left' out out' versions tells leaves status written one neve
 }
 
 -- a store could not be attached
-pub failed-ends : (t : Tables) (left left' out out' : Option (List ℕ)) (versions : ℤ → Type 0) (tells leaves : Tables → Type 0) → left' ≡ left → out' ≡ out → LeavesOnly t leaves → ScriptEnds 5 t left left' out out' versions tells leaves
+pub failed-ends : (t : Tables) (left left' out out' : Option (List ℕ)) (versions : ℤ → Type 0) (tells leaves : Tables → Type 0)
+    → left' ≡ left → out' ≡ out → LeavesOnly t leaves → ScriptEnds 5 t left left' out out' versions tells leaves
 failed-ends t left left' out out' versions tells leaves unread unwritten exact = record {
   whole = λ low. absurd (omega (arith, low));
   read = λ is. absurd (omega (arith, is));
@@ -156,7 +172,8 @@ failed-ends t left left' out out' versions tells leaves unread unwritten exact =
 }
 
 -- there was no memory to open a store
-pub unopened-ends : (t : Tables) (left left' out out' : Option (List ℕ)) (versions : ℤ → Type 0) (tells leaves : Tables → Type 0) → left' ≡ left → out' ≡ out → IsStore t → IsDurable tells leaves t → ScriptEnds 7 t left left' out out' versions tells leaves
+pub unopened-ends : (t : Tables) (left left' out out' : Option (List ℕ)) (versions : ℤ → Type 0) (tells leaves : Tables → Type 0)
+    → left' ≡ left → out' ≡ out → IsStore t → IsDurable tells leaves t → ScriptEnds 7 t left left' out out' versions tells leaves
 unopened-ends t left left' out out' versions tells leaves unread unwritten store holds = record {
   whole = λ low. absurd (omega (arith, low));
   read = λ is. absurd (omega (arith, is));
@@ -168,7 +185,8 @@ unopened-ends t left left' out out' versions tells leaves unread unwritten store
 }
 
 -- the words were refused
-pub worded-ends : (t : Tables) (left left' out out' : Option (List ℕ)) (versions : ℤ → Type 0) (tells leaves : Tables → Type 0) → left' ≡ left → out' ≡ out → LeavesOnly t leaves → ScriptEnds 2 t left left' out out' versions tells leaves
+pub worded-ends : (t : Tables) (left left' out out' : Option (List ℕ)) (versions : ℤ → Type 0) (tells leaves : Tables → Type 0)
+    → left' ≡ left → out' ≡ out → LeavesOnly t leaves → ScriptEnds 2 t left left' out out' versions tells leaves
 worded-ends t left left' out out' versions tells leaves unread unwritten exact = record {
   whole = λ low. absurd (omega (arith, low));
   read = λ is. absurd (omega (arith, is));
@@ -180,7 +198,8 @@ worded-ends t left left' out out' versions tells leaves unread unwritten exact =
 }
 
 -- a sample for which there was no memory
-pub memory-run : (t : Tables) (n : ℕ) (out out' : Option (List ℕ)) (tells leaves : Tables → Type 0) → FirstPerformed t no_session (sample_of n) (IsDurable tells leaves) → EngineSampleEnds s.OutOfMemory t n out out' tells leaves
+pub memory-run : (t : Tables) (n : ℕ) (out out' : Option (List ℕ)) (tells leaves : Tables → Type 0)
+    → FirstPerformed t no_session (sample_of n) (IsDurable tells leaves) → EngineSampleEnds s.OutOfMemory t n out out' tells leaves
 memory-run t n out out' tells leaves run = record {
   whole = λ low. absurd (omega (arith, low));
   put = λ is. absurd cc;
@@ -189,7 +208,8 @@ memory-run t n out out' tells leaves run = record {
 }
 
 -- a sample of which a commit failed
-pub uncommitted-run : (t : Tables) (n : ℕ) (out out' : Option (List ℕ)) (tells leaves : Tables → Type 0) → NextUncommitted t no_session (sample_of n) leaves → EngineSampleEnds s.KeeperFailed t n out out' tells leaves
+pub uncommitted-run : (t : Tables) (n : ℕ) (out out' : Option (List ℕ)) (tells leaves : Tables → Type 0)
+    → NextUncommitted t no_session (sample_of n) leaves → EngineSampleEnds s.KeeperFailed t n out out' tells leaves
 uncommitted-run t n out out' tells leaves run = record {
   whole = λ low. absurd (omega (arith, low));
   put = λ is. absurd cc;
@@ -206,7 +226,10 @@ not-seven status (inl low) is = not-done 7 (λ e. omega (arith, e)) status (ap c
 not-seven status (inr four) is = cc
 
 -- a sample whose summary was put, or a part of it
-pub summed-run : (t : Tables) (n : ℕ) (out out' : Option (List ℕ)) (tells leaves : Tables → Type 0) (status : Status) → (PerformedAll status ⊎ status ≡ s.PutFailed) → (PerformedAll status → Sampled t n out out' (IsDurable tells leaves) (is_all_ok status)) → (status ≡ s.PutFailed → SampledCut t n out out' (IsDurable tells leaves)) → EngineSampleEnds status t n out out' tells leaves
+pub summed-run : (t : Tables) (n : ℕ) (out out' : Option (List ℕ)) (tells leaves : Tables → Type 0) (status : Status)
+    → (PerformedAll status ⊎ status ≡ s.PutFailed)
+    → (PerformedAll status → Sampled t n out out' (IsDurable tells leaves) (is_all_ok status))
+    → (status ≡ s.PutFailed → SampledCut t n out out' (IsDurable tells leaves)) → EngineSampleEnds status t n out out' tells leaves
 summed-run t n out out' tells leaves status one whole put = record {
   whole = whole;
   put = put;
@@ -215,13 +238,16 @@ summed-run t n out out' tells leaves status one whole put = record {
 }
 
 -- an engine was started over a store, and performed a sample
-pub sample-ends : (t : Tables) (n : ℕ) (out out' : Option (List ℕ)) (versions : ℤ → Type 0) (tells leaves : Tables → Type 0) (status : Status) → IsOfClose status → EngineSampleEnds status t n out out' tells leaves → SampleEnds (code_of status) t n out out' versions tells leaves
+pub sample-ends :
+    (t : Tables) (n : ℕ) (out out' : Option (List ℕ)) (versions : ℤ → Type 0) (tells leaves : Tables → Type 0) (status : Status)
+    → IsOfClose status → EngineSampleEnds status t n out out' tells leaves → SampleEnds (code_of status) t n out out' versions tells leaves
 sample-ends t n out out' versions tells leaves status one run = record {
   whole = run.whole;
   put = λ is v has known. put is;
   keeper = λ is. inr (uncommitted is);
   memory = memory;
-  crash = sample-leaves t n out out' tells leaves (is_all_ok status) (code_of status) (close-code status one) run.whole put uncommitted memory;
+  crash =
+      sample-leaves t n out out' tells leaves (is_all_ok status) (code_of status) (close-code status one) run.whole put uncommitted memory;
 } where
   put : code_of status ≡ 4 → SampledCut t n out out' (IsDurable tells leaves)
   put is = run.put (same-code status s.PutFailed is)
@@ -233,7 +259,8 @@ sample-ends t n out out' versions tells leaves status one run = record {
   memory is = run.memory (same-code status s.OutOfMemory is)
 
 -- a store was refused
-pub refused-sample : (t : Tables) (n : ℕ) (out out' : Option (List ℕ)) (versions : ℤ → Type 0) (tells leaves : Tables → Type 0) (status : ℕ) → (status ≡ 6 ⊎ status ≡ 4) → IfKnown versions ⊥ → LeavesOnly t leaves → SampleEnds status t n out out' versions tells leaves
+pub refused-sample : (t : Tables) (n : ℕ) (out out' : Option (List ℕ)) (versions : ℤ → Type 0) (tells leaves : Tables → Type 0) (status : ℕ)
+    → (status ≡ 6 ⊎ status ≡ 4) → IfKnown versions ⊥ → LeavesOnly t leaves → SampleEnds status t n out out' versions tells leaves
 refused-sample t n out out' versions tells leaves status one never exact = record {
   whole = λ low. absurd (low-not status one low);
   put = λ _ v has known. absurd (never v has known);
@@ -243,7 +270,8 @@ refused-sample t n out out' versions tells leaves status one never exact = recor
 }
 
 -- a store could not be attached
-pub failed-sample : (t : Tables) (n : ℕ) (out out' : Option (List ℕ)) (versions : ℤ → Type 0) (tells leaves : Tables → Type 0) → LeavesOnly t leaves → SampleEnds 5 t n out out' versions tells leaves
+pub failed-sample : (t : Tables) (n : ℕ) (out out' : Option (List ℕ)) (versions : ℤ → Type 0) (tells leaves : Tables → Type 0)
+    → LeavesOnly t leaves → SampleEnds 5 t n out out' versions tells leaves
 failed-sample t n out out' versions tells leaves exact = record {
   whole = λ low. absurd (omega (arith, low));
   put = λ is. absurd (omega (arith, is));
@@ -253,7 +281,8 @@ failed-sample t n out out' versions tells leaves exact = record {
 }
 
 -- there was no memory to open a store
-pub unopened-sample : (t : Tables) (n : ℕ) (out out' : Option (List ℕ)) (versions : ℤ → Type 0) (tells leaves : Tables → Type 0) → IsStore t → IsDurable tells leaves t → SampleEnds 7 t n out out' versions tells leaves
+pub unopened-sample : (t : Tables) (n : ℕ) (out out' : Option (List ℕ)) (versions : ℤ → Type 0) (tells leaves : Tables → Type 0) → IsStore t
+    → IsDurable tells leaves t → SampleEnds 7 t n out out' versions tells leaves
 unopened-sample t n out out' versions tells leaves store holds = record {
   whole = λ low. absurd (omega (arith, low));
   put = λ is. absurd (omega (arith, is));
@@ -263,7 +292,8 @@ unopened-sample t n out out' versions tells leaves store holds = record {
 }
 
 -- the words were refused
-pub worded-sample : (t : Tables) (n : ℕ) (out out' : Option (List ℕ)) (versions : ℤ → Type 0) (tells leaves : Tables → Type 0) → LeavesOnly t leaves → SampleEnds 2 t n out out' versions tells leaves
+pub worded-sample : (t : Tables) (n : ℕ) (out out' : Option (List ℕ)) (versions : ℤ → Type 0) (tells leaves : Tables → Type 0)
+    → LeavesOnly t leaves → SampleEnds 2 t n out out' versions tells leaves
 worded-sample t n out out' versions tells leaves exact = record {
   whole = λ low. absurd (omega (arith, low));
   put = λ is. absurd (omega (arith, is));

@@ -1,5 +1,6 @@
 -- An engine that was started over the tables that a keeper gave.
-use Rattle.std.proofs.Common.{◌≤◌, length, ◌≡◌, ◌∙◌, sym, ap, subst, refl, inl, inr, ℤ, pos, true, Some, None, Result, Ok, Err, if◌then◌else◌}
+use Rattle.std.proofs.Common.{◌≤◌, length, ◌≡◌, ◌∙◌, sym, ap, subst, refl, inl, inr, ℤ, pos, true, Some, None, Result, Ok, Err}
+use Rattle.std.proofs.Common.{if◌then◌else◌}
 use Rattle.std.specs.Prelude.{◌⊎◌, IfOk, OnOk}
 use Rattle.keeper_core.specs.Stored.{is_attachable}
 use Rattle.tap_rows.specs.declared.tables.Tables.{Tables}

@@ -1,5 +1,6 @@
 -- When a store is refused, and the line that is put then.
-use Rattle.std.proofs.Common.{◌≡◌, ◌≢◌, ◌∙◌, sym, ap, refl, subst, ℕ, ℤ, pos, List, [], ◌∷◌, length, Bool, true, false, Option, Some, None, Err, inl, inr, if◌then◌else◌}
+use Rattle.std.proofs.Common.{◌≡◌, ◌≢◌, ◌∙◌, sym, ap, refl, subst, ℕ, ℤ, pos, List, [], ◌∷◌, length, Bool, true, false, Option, Some, None}
+use Rattle.std.proofs.Common.{Err, inl, inr, if◌then◌else◌}
 use Rattle.std.specs.Prelude.{◌⊎◌, is_some, Result, Ok, IsOk}
 use Rattle.std.specs.Io.KnownBytes.{Appends}
 use Rattle.std.proofs.Math.Seq.{take-length}
@@ -34,13 +35,16 @@ is-condition : (reading : Result Condition TextFault) → IsOk reading → is_co
 is-condition (Ok condition) ok = refl
 is-condition (Err fault) ok = ok
 
-each-readable : (queries : List QueryRow) → Each (λ query. text_fault (condition_text query.source) ≡ None) queries → Each (λ query. is_readable query ≡ true) queries
+each-readable : (queries : List QueryRow) → Each (λ query. text_fault (condition_text query.source) ≡ None) queries
+    → Each (λ query. is_readable query ≡ true) queries
 each-readable [] each = tt
-each-readable (query ∷ queries) each = (is-condition (condition_of (condition_text query.source)) (text-read (condition_text query.source) each.0), each-readable queries each.1)
+each-readable (query ∷ queries) each = (is-condition (condition_of (condition_text query.source))
+      (text-read (condition_text query.source) each.0), each-readable queries each.1)
 
 all-read : (filters : List FilterRow) → Each (λ filter. filter_fault filter.source ≡ None) filters → first_unread filters ≡ None
 all-read [] each = refl
-all-read (filter ∷ filters) each = ap (λ fault. if is_some fault then Some filter.num else first_unread filters) each.0 ∙ all-read filters each.1
+all-read (filter ∷ filters) each = ap (λ fault. if is_some fault then Some filter.num else first_unread filters) each.0
+    ∙ all-read filters each.1
 
 -- the tables that a session left have none
 store-fault : (t : Tables) → IsStore t → row_fault t ≡ None
@@ -54,10 +58,13 @@ some-or-none found fault some none = cc
 
 -- a line that was put whole
 pub CutLine-whole : (status : ℕ) (text : List ℕ) (out out' : Option (List ℕ)) → Appends out out' text → CutLine status text out out'
-CutLine-whole status text out out' put = record { n = length text; written = subst (λ xs. Appends out out' xs) (sym (take-length text)) put; whole = λ _. take-length text }
+CutLine-whole status text out out' put =
+    record { n = length text; written = subst (λ xs. Appends out out' xs) (sym (take-length text)) put; whole = λ _. take-length text }
 
 -- a store that wasn't refused: nothing was put
-pub Refused-none : (status : ℕ) (fault : StoreFault) (left left' out out' : Option (List ℕ)) (tells leaves : Tables → Type 0) (t : Tables) → status ≡ 2 ⊎ (status ≡ 4 ⊎ (status ≡ 5 ⊎ (status ≡ 6 ⊎ status ≡ 7))) → (status ≡ 6 → ⊥) → left' ≡ left → out' ≡ out → (status ≢ 5 → tells t) → ((x : Tables) → leaves x → x ≡ t) → Refused status fault left left' out out' tells leaves t
+pub Refused-none : (status : ℕ) (fault : StoreFault) (left left' out out' : Option (List ℕ)) (tells leaves : Tables → Type 0) (t : Tables)
+    → status ≡ 2 ⊎ (status ≡ 4 ⊎ (status ≡ 5 ⊎ (status ≡ 6 ⊎ status ≡ 7))) → (status ≡ 6 → ⊥) → left' ≡ left → out' ≡ out
+    → (status ≢ 5 → tells t) → ((x : Tables) → leaves x → x ≡ t) → Refused status fault left left' out out' tells leaves t
 Refused-none status fault left left' out out' tells leaves t is six unread unwritten told exact = record {
   statuses = is;
   unread = unread;
@@ -73,5 +80,6 @@ not-stopped true stops never = absurd (never (stops refl))
 not-stopped false stops never = refl
 
 -- what holds of the fault of a refused store
-pub refused-for : (P : StoreFault → Type 0) (end : OpenFault) (fault : StoreFault) → IfRefused {T = Engine} (Err end) P → end ≡ RefusedStore fault → P fault
+pub refused-for : (P : StoreFault → Type 0) (end : OpenFault) (fault : StoreFault) → IfRefused {T = Engine} (Err end) P
+    → end ≡ RefusedStore fault → P fault
 refused-for P end fault holds is = subst (λ x. IfRefused {T = Engine} (Err x) P) is holds

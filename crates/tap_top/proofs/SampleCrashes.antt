@@ -21,7 +21,8 @@ no-less : (n : ℕ) → 0 ≤ n
 no-less n = omega arith
 
 -- the end of these commands alone
-performed-leaves : (t : Tables) (cs done : List Command) (Ends : List Reply → Tables → Type 0) (s' : Session) (leaves : Tables → Type 0) → IsPrefix done cs → (one : Performed t no_session done Ends s') → LeavesOnly one.tables' leaves → LeavesFirst t cs leaves
+performed-leaves : (t : Tables) (cs done : List Command) (Ends : List Reply → Tables → Type 0) (s' : Session) (leaves : Tables → Type 0)
+    → IsPrefix done cs → (one : Performed t no_session done Ends s') → LeavesOnly one.tables' leaves → LeavesFirst t cs leaves
 performed-leaves t cs done Ends s' leaves first one exact = record {
   done = done;
   first = first;
@@ -51,8 +52,11 @@ next-leaves t cs leaves run =
     let one = run.performed in
     let s1 = run.session' in
     let answer = answer_of run.next s1 one.tables' in
-    let story : Story t no_session (run.done ++ run.next ∷ []) (one.replies ++ answer.reply ∷ []) (tables_after answer.change one.tables') answer.session =
-    Story-then t no_session run.done one.replies one.tables' s1 (run.next ∷ []) (answer.reply ∷ []) (tables_after answer.change one.tables') answer.session one.story (tables_after answer.change one.tables', answer.session, inl (record { reply_is = refl; tables_are = refl; session_is = refl }), (refl, refl)) in record {
+    let story : Story t no_session (run.done ++ run.next ∷ []) (one.replies ++ answer.reply ∷ []) (tables_after answer.change one.tables')
+        answer.session =
+    Story-then t no_session run.done one.replies one.tables' s1 (run.next ∷ []) (answer.reply ∷ []) (tables_after answer.change one.tables')
+        answer.session one.story (tables_after answer.change one.tables', answer.session,
+          inl (record { reply_is = refl; tables_are = refl; session_is = refl }), (refl, refl)) in record {
       done = run.done ++ run.next ∷ [];
       first = run.first;
       replies = one.replies ++ answer.reply ∷ [];
@@ -60,18 +64,30 @@ next-leaves t cs leaves run =
       session' = answer.session;
       story = story;
       each = λ x may. elim (one.ends.1.either x may) [
-        | inl before ↦ front-prefix t run.done run.next one.replies answer.reply one.tables' s1 0 x one.story (no-less (length one.replies)) before
-        | inr after ↦ whole-prefix t (run.done ++ run.next ∷ []) (one.replies ++ answer.reply ∷ []) (tables_after answer.change one.tables') answer.session 0 x story (no-less (length (one.replies ++ answer.reply ∷ []))) after
+        | inl before ↦
+          front-prefix t run.done run.next one.replies answer.reply one.tables' s1 0 x one.story (no-less (length one.replies)) before
+        | inr after ↦ whole-prefix t (run.done ++ run.next ∷ []) (one.replies ++ answer.reply ∷ []) (tables_after answer.change one.tables')
+          answer.session 0 x story (no-less (length (one.replies ++ answer.reply ∷ []))) after
       ];
     }
 
 -- each end of a sample
-pub sample-leaves : (t : Tables) (n : ℕ) (out out' : Option (List ℕ)) (tells leaves : Tables → Type 0) (ok : Bool) (status : ℕ) → (status ≤ 1 ⊎ (status ≡ 4 ⊎ (status ≡ 5 ⊎ status ≡ 7))) → (status ≤ 1 → Sampled t n out out' (IsDurable tells leaves) ok) → (status ≡ 4 → SampledCut t n out out' (IsDurable tells leaves)) → (status ≡ 5 → NextUncommitted t no_session (sample_of n) leaves) → (status ≡ 7 → FirstPerformed t no_session (sample_of n) (IsDurable tells leaves)) → LeavesFirst t (sample_of n) leaves
-sample-leaves t n out out' tells leaves ok status (inl low) whole cut next short = let run = whole low in performed-leaves t (sample_of n) (sample_of n) _ run.session' leaves (all-front (sample_of n)) run.performed run.performed.ends.1.exact
-sample-leaves t n out out' tells leaves ok status (inr (inl is)) whole cut next short = let run = cut is in performed-leaves t (sample_of n) (sample_of n) _ run.session' leaves (all-front (sample_of n)) run.performed run.performed.ends.1.exact
+pub sample-leaves : (t : Tables) (n : ℕ) (out out' : Option (List ℕ)) (tells leaves : Tables → Type 0) (ok : Bool) (status : ℕ)
+    → (status ≤ 1 ⊎ (status ≡ 4 ⊎ (status ≡ 5 ⊎ status ≡ 7))) → (status ≤ 1 → Sampled t n out out' (IsDurable tells leaves) ok)
+    → (status ≡ 4 → SampledCut t n out out' (IsDurable tells leaves)) → (status ≡ 5 → NextUncommitted t no_session (sample_of n) leaves)
+    → (status ≡ 7 → FirstPerformed t no_session (sample_of n) (IsDurable tells leaves)) → LeavesFirst t (sample_of n) leaves
+sample-leaves t n out out' tells leaves ok status (inl low) whole cut next short =
+    let run = whole low in
+    performed-leaves t (sample_of n) (sample_of n) _ run.session' leaves (all-front (sample_of n)) run.performed run.performed.ends.1.exact
+sample-leaves t n out out' tells leaves ok status (inr (inl is)) whole cut next short =
+    let run = cut is in
+    performed-leaves t (sample_of n) (sample_of n) _ run.session' leaves (all-front (sample_of n)) run.performed run.performed.ends.1.exact
 sample-leaves t n out out' tells leaves ok status (inr (inr (inl is))) whole cut next short = next-leaves t (sample_of n) leaves (next is)
-sample-leaves t n out out' tells leaves ok status (inr (inr (inr is))) whole cut next short = let run = short is in performed-leaves t (sample_of n) run.done _ run.session' leaves run.first run.performed run.performed.ends.1.exact
+sample-leaves t n out out' tells leaves ok status (inr (inr (inr is))) whole cut next short =
+    let run = short is in
+    performed-leaves t (sample_of n) run.done _ run.session' leaves run.first run.performed run.performed.ends.1.exact
 
 -- what a crash leaves is a store
-pub first-stores : (t : Tables) (cs : List Command) (leaves : Tables → Type 0) → IsStore t → LeavesFirst t cs leaves → (x : Tables) → leaves x → IsStore x
+pub first-stores : (t : Tables) (cs : List Command) (leaves : Tables → Type 0) → IsStore t → LeavesFirst t cs leaves → (x : Tables)
+    → leaves x → IsStore x
 first-stores t cs leaves store crash x may = let one = crash.each x may in story-store t _ _ x one.session one.story store

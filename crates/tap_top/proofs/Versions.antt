@@ -26,8 +26,10 @@ alien-for : (P : ℤ → Type 0) (end : AttachFault) (version : ℤ) → IfAlien
 alien-for P end version holds is = subst (λ x. IfAlien {T = Tables} (Err x) P) is holds
 
 -- a store of another version was refused
-pub alien-migrated : (end : AttachFault) (version w : ℤ) (versions' : ℤ → Type 0) (honest : Type 0) (versions : ℤ → Type 0) → end ≡ Alien version → IfAlien {T = Tables} (Err end) (λ v. (v ≢ pos 1) × (v ≢ pos 2))
-    → IfAlien {T = Tables} (Err end) (λ v. honest → (u : ℤ) → versions u → (u ≡ v) × versions' u) → honest → versions w → IsMigrated w versions'
+pub alien-migrated : (end : AttachFault) (version w : ℤ) (versions' : ℤ → Type 0) (honest : Type 0) (versions : ℤ → Type 0)
+    → end ≡ Alien version → IfAlien {T = Tables} (Err end) (λ v. (v ≢ pos 1) × (v ≢ pos 2))
+    → IfAlien {T = Tables} (Err end) (λ v. honest → (u : ℤ) → versions u → (u ≡ v) × versions' u) → honest → versions w
+        → IsMigrated w versions'
 alien-migrated end version w versions' honest versions is alien same now has =
     let other = alien-for (λ v. (v ≢ pos 1) × (v ≢ pos 2)) end version alien is in
     let here = alien-for (λ v. honest → (u : ℤ) → versions u → (u ≡ v) × versions' u) end version same is now w has in
@@ -53,7 +55,8 @@ pub sample-not-two : (status : Status) → IsOfClose status → code_of status �
 sample-not-two status one is = sample-not (code_of status) (close-code status one) is
 
 -- the store was opened, and has version 2
-pub exit-opened : (status : ℕ) (versions versions' : ℤ → Type 0) → (status ≡ 2 → ⊥) → versions' (pos 2) → ((v : ℤ) → versions v → (v ≡ pos 1) ⊎ (v ≡ pos 2)) → VersionAtExit status versions versions'
+pub exit-opened : (status : ℕ) (versions versions' : ℤ → Type 0) → (status ≡ 2 → ⊥) → versions' (pos 2)
+    → ((v : ℤ) → versions v → (v ≡ pos 1) ⊎ (v ≡ pos 2)) → VersionAtExit status versions versions'
 exit-opened status versions versions' no-words two known = record {
   opened = λ _. two;
   unattached = λ is. absurd (no-words is);
@@ -79,12 +82,14 @@ exit-failed status versions versions' five = record {
   not-seven is = omega arith
 
 -- an engine ran over the store
-pub exit-run : (status : ℕ) (halted : Bool) (versions versions' : ℤ → Type 0) → (status ≡ 2 → ⊥) → (halted ≡ true → status ≡ 5) → (halted ≡ false → versions' (pos 2)) → ((v : ℤ) → versions v → (v ≡ pos 1) ⊎ (v ≡ pos 2)) → VersionAtExit status versions versions'
+pub exit-run : (status : ℕ) (halted : Bool) (versions versions' : ℤ → Type 0) → (status ≡ 2 → ⊥) → (halted ≡ true → status ≡ 5)
+    → (halted ≡ false → versions' (pos 2)) → ((v : ℤ) → versions v → (v ≡ pos 1) ⊎ (v ≡ pos 2)) → VersionAtExit status versions versions'
 exit-run status true versions versions' no-words stopped two known = exit-failed status versions versions' (stopped refl)
 exit-run status false versions versions' no-words stopped two known = exit-opened status versions versions' no-words (two refl) known
 
 -- a store was refused
-pub exit-refused : (status : ℕ) (versions versions' : ℤ → Type 0) → (status ≡ 6 ⊎ status ≡ 4) → ((v : ℤ) → versions v → IsMigrated v versions') → VersionAtExit status versions versions'
+pub exit-refused : (status : ℕ) (versions versions' : ℤ → Type 0) → (status ≡ 6 ⊎ status ≡ 4)
+    → ((v : ℤ) → versions v → IsMigrated v versions') → VersionAtExit status versions versions'
 exit-refused status versions versions' one migrated = record {
   opened = λ no. absurd (no (may one));
   unattached = λ is. absurd (not-two is);
@@ -102,7 +107,8 @@ exit-refused status versions versions' one migrated = record {
   not-seven is = grind (arith, one, is)
 
 -- there was no memory to open a store
-pub exit-memory : (versions versions' : ℤ → Type 0) → ((v : ℤ) → versions v → MayBeMigrated v versions') → VersionAtExit 7 versions versions'
+pub exit-memory : (versions versions' : ℤ → Type 0) → ((v : ℤ) → versions v → MayBeMigrated v versions')
+    → VersionAtExit 7 versions versions'
 exit-memory versions versions' may = record {
   opened = λ no. absurd (no (inr (inr (inr (inr refl)))));
   unattached = λ is. absurd (omega (arith, is));

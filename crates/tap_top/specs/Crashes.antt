@@ -48,4 +48,5 @@ pub record LeavesPrefix (tables : Tables) (left left' out out' : Option (List �
   pub written : List ℕ
   pub put : Appends out out' written
   pub said : IfKnown versions (AreWrittenReplies replies written)
-  pub each : (n : ℕ) → n ≤ length replies → AreFullyWritten n replies written → (x : Tables) → leaves x → IsPrefixOfStory tables commands replies n x
+  pub each : (n : ℕ) → n ≤ length replies → AreFullyWritten n replies written → (x : Tables) → leaves x
+      → IsPrefixOfStory tables commands replies n x

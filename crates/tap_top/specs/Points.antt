@@ -15,7 +15,8 @@ use Rattle.tap_engine.specs.Standing.{Represents}
 use Rattle.tap_engine.specs.Ready.{IsReady}
 
 -- the tables and the session are sound at each point of a story: before each command, and at the end
-abbrev pub SoundAlong : (tables : Tables) (session : Session) (commands : List Command) (replies : List Reply) (tables' : Tables) (session' : Session)
+abbrev pub SoundAlong :
+    (tables : Tables) (session : Session) (commands : List Command) (replies : List Reply) (tables' : Tables) (session' : Session)
     → Story tables session commands replies tables' session' → Type 0
 SoundAlong tables session [] [] tables' session' story = IsSound tables' session'
 SoundAlong tables session (command ∷ commands) (reply ∷ replies) tables' session' story =

@@ -42,7 +42,8 @@ why_word Order = codes "order"
 -- the line that is put for a refused store
 abbrev pub stop_line : StoreFault → List ℕ
 stop_line (Version version) = line (codes "stop 6 version " ++ signed_decimal version)
-stop_line (Damaged table num why) = line (codes "stop 6 damaged " ++ table_word table ++ codes " " ++ decimal num ++ codes " " ++ why_word why)
+stop_line (Damaged table num why) =
+    line (codes "stop 6 damaged " ++ table_word table ++ codes " " ++ decimal num ++ codes " " ++ why_word why)
 
 -- the fault of a damaged row
 abbrev pub damaged_by : Option RestartFault → Option StoreFault

@@ -85,7 +85,8 @@ pub record NextUncommitted (tables : Tables) (session : Session) (commands : Lis
   pub next : Command
   pub first : IsPrefix (done ++ next ∷ []) commands
   pub session' : Session
-  pub performed : Performed tables session done (λ replies tables'. NeverOutOfMemory replies × MayHaveCommitted leaves next session' tables') session'
+  pub performed :
+      Performed tables session done (λ replies tables'. NeverOutOfMemory replies × MayHaveCommitted leaves next session' tables') session'
 
 -- the summary of a sample with n messages: of these replies, and of the tables at the end
 abbrev pub summary_of : ℕ → List Reply → Tables → Summary

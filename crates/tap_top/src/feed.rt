@@ -1,5 +1,7 @@
-//! Commands one by one: each is performed when its last line is read, and its reply is put before the next one.
-ghost use Rattle.std.specs.Prelude.{◌≡◌, ◌≤◌, ◌<◌, ◌↔◌, [], ◌∷◌, Some, None, true, length, take, drop, OnOk, IfOk, IsErrOf};
+//! Commands one by one: each is performed when its last line is read, and its reply is put before
+//! the next one.
+ghost use Rattle.std.specs.Prelude.{◌≡◌, ◌≤◌, ◌<◌, ◌↔◌, [], ◌∷◌, Some, None, true, length, take};
+ghost use Rattle.std.specs.Prelude.{drop, OnOk, IfOk, IsErrOf};
 ghost use Rattle.tap_base.specs.Counts.{Rose};
 ghost use Rattle.script_lang.specs.Replies.{is_accepted};
 ghost use Rattle.script_lang.specs.Script.{script_from, complete_from};
@@ -39,8 +41,8 @@ fn is_ok(reply: &Reply) -> bool
     }
 }
 
-/// Performs a command and puts its reply; returns whether the reply begins `ok`. Fails if the keeper fails, and then nothing is
-/// put, or if the put fails.
+/// Performs a command and puts its reply; returns whether the reply begins `ok`. Fails if the
+/// keeper fails, and then nothing is put, or if the put fails.
 pub fn answer<K: Sink, P: Keeper, L: Ledger>(
     alloc: Global,
     engine: &mut Engine,
@@ -53,15 +55,20 @@ pub fn answer<K: Sink, P: Keeper, L: Ledger>(
     ensures ok { IfOk result (λ ok. FromEngine P.Keeper engine.old keeper.old keeper.new (λ t.
         Answered t engine.old.session (command ∷ []) (K.out sink.old) (K.out sink.new)
         (AgreeOn P.Keeper engine.new keeper.new) engine.new.session ok)) }
-    ensures put { IsErrOf result Stop.Put → FromEngine P.Keeper engine.old keeper.old keeper.new (λ t.
-        CutOff t engine.old.session [] command (K.out sink.old) (K.out sink.new) (IsDurableIn P.Keeper keeper.new)) }
-    ensures uncommitted { IsErrOf result Stop.Keeper → FromEngine P.Keeper engine.old keeper.old keeper.new (λ t.
-        Uncommitted t engine.old.session [] command (K.out sink.old) (K.out sink.new) (P.may_leave keeper.new)) }
+    ensures put { IsErrOf result Stop.Put
+        → FromEngine P.Keeper engine.old keeper.old keeper.new (λ t.
+        CutOff t engine.old.session [] command (K.out sink.old) (K.out sink.new)
+            (IsDurableIn P.Keeper keeper.new)) }
+    ensures uncommitted { IsErrOf result Stop.Keeper
+        → FromEngine P.Keeper engine.old keeper.old keeper.new (λ t.
+        Uncommitted t engine.old.session [] command (K.out sink.old) (K.out sink.new)
+            (P.may_leave keeper.new)) }
     ensures able { IsErrOf result Stop.Memory → ⊥ }
     ensures can { OnOk result (CanPerform P.Keeper engine.new keeper.new) }
     ensures stopped { (P.stopped keeper.new ≡ true) ↔ IsErrOf result Stop.Keeper }
     ensures cause { IsErrOf result Stop.Put → Rose (K.faults sink.old) (K.faults sink.new) }
-    ensures kept_cause { IsErrOf result Stop.Keeper → Rose (P.faults keeper.old) (P.faults keeper.new) }
+    ensures kept_cause { IsErrOf result Stop.Keeper
+        → Rose (P.faults keeper.old) (P.faults keeper.new) }
     ensures calm { (IsErrOf result Stop.Put → ⊥) → K.faults sink.new ≡ K.faults sink.old }
     ensures frame { CommandFrame P.Keeper engine.old keeper.old keeper.new }
 {
@@ -105,19 +112,26 @@ fn take_one<K: Sink, P: Keeper, L: Ledger>(
     ensures within { IfOk result (λ step. (0 < step.used) × (step.used ≤ length piece.now)) }
     ensures open { OnOk result (complete_from reader.new [] ≡ []) }
     ensures ok { IfOk result (λ step. FromEngine P.Keeper engine.old keeper.old keeper.new (λ t.
-        PieceAnswered (take step.used piece.now) reader.old reader.new t engine.old.session (K.out sink.old) (K.out sink.new)
+        PieceAnswered (take step.used piece.now) reader.old reader.new t
+            engine.old.session (K.out sink.old) (K.out sink.new)
         (AgreeOn P.Keeper engine.new keeper.new) engine.new.session step.ok)) }
-    ensures put { IsErrOf result Stop.Put → FromEngine P.Keeper engine.old keeper.old keeper.new (λ t.
+    ensures put { IsErrOf result Stop.Put
+        → FromEngine P.Keeper engine.old keeper.old keeper.new (λ t.
         PieceCut piece.now reader.old (λ done last.
-        CutOff t engine.old.session done last (K.out sink.old) (K.out sink.new) (IsDurableIn P.Keeper keeper.new))) }
-    ensures uncommitted { IsErrOf result Stop.Keeper → FromEngine P.Keeper engine.old keeper.old keeper.new (λ t.
+        CutOff t engine.old.session done last (K.out sink.old) (K.out sink.new)
+            (IsDurableIn P.Keeper keeper.new))) }
+    ensures uncommitted { IsErrOf result Stop.Keeper
+        → FromEngine P.Keeper engine.old keeper.old keeper.new (λ t.
         PieceCut piece.now reader.old (λ done next.
-        Uncommitted t engine.old.session done next (K.out sink.old) (K.out sink.new) (P.may_leave keeper.new))) }
-    ensures memory { IsErrOf result Stop.Memory → (keeper.new ≡ keeper.old) × ((engine.new ≡ engine.old) × (K.out sink.new ≡ K.out sink.old)) }
+        Uncommitted t engine.old.session done next (K.out sink.old) (K.out sink.new)
+            (P.may_leave keeper.new))) }
+    ensures memory { IsErrOf result Stop.Memory → (keeper.new ≡ keeper.old)
+        × ((engine.new ≡ engine.old) × (K.out sink.new ≡ K.out sink.old)) }
     ensures can { OnOk result (CanPerform P.Keeper engine.new keeper.new) }
     ensures stopped { (P.stopped keeper.new ≡ true) ↔ IsErrOf result Stop.Keeper }
     ensures cause { IsErrOf result Stop.Put → Rose (K.faults sink.old) (K.faults sink.new) }
-    ensures kept_cause { IsErrOf result Stop.Keeper → Rose (P.faults keeper.old) (P.faults keeper.new) }
+    ensures kept_cause { IsErrOf result Stop.Keeper
+        → Rose (P.faults keeper.old) (P.faults keeper.new) }
     ensures calm { (IsErrOf result Stop.Put → ⊥) → K.faults sink.new ≡ K.faults sink.old }
     ensures frame { CommandFrame P.Keeper engine.old keeper.old keeper.new }
 {
@@ -135,8 +149,8 @@ fn take_one<K: Sink, P: Keeper, L: Ledger>(
     }
 }
 
-/// Performs the commands that a piece completes, and puts each reply before the next command; returns whether all replies
-/// begin `ok`.
+/// Performs the commands that a piece completes, and puts each reply before the next command;
+/// returns whether all replies begin `ok`.
 pub fn feed<K: Sink, P: Keeper, L: Ledger>(
     alloc: Global,
     reader: &mut ScriptReader,
@@ -150,20 +164,28 @@ pub fn feed<K: Sink, P: Keeper, L: Ledger>(
     requires can { CanPerform P.Keeper engine.old keeper.old }
     ensures open { OnOk result (complete_from reader.new [] ≡ []) }
     ensures ok { IfOk result (λ ok. FromEngine P.Keeper engine.old keeper.old keeper.new (λ t.
-        PieceAnswered piece.now reader.old reader.new t engine.old.session (K.out sink.old) (K.out sink.new)
+        PieceAnswered piece.now reader.old reader.new t engine.old.session (K.out sink.old)
+            (K.out sink.new)
         (AgreeOn P.Keeper engine.new keeper.new) engine.new.session ok)) }
-    ensures put { IsErrOf result Stop.Put → FromEngine P.Keeper engine.old keeper.old keeper.new (λ t.
+    ensures put { IsErrOf result Stop.Put
+        → FromEngine P.Keeper engine.old keeper.old keeper.new (λ t.
         PieceCut piece.now reader.old (λ done last.
-        CutOff t engine.old.session done last (K.out sink.old) (K.out sink.new) (IsDurableIn P.Keeper keeper.new))) }
-    ensures uncommitted { IsErrOf result Stop.Keeper → FromEngine P.Keeper engine.old keeper.old keeper.new (λ t.
+        CutOff t engine.old.session done last (K.out sink.old) (K.out sink.new)
+            (IsDurableIn P.Keeper keeper.new))) }
+    ensures uncommitted { IsErrOf result Stop.Keeper
+        → FromEngine P.Keeper engine.old keeper.old keeper.new (λ t.
         PieceCut piece.now reader.old (λ done next.
-        Uncommitted t engine.old.session done next (K.out sink.old) (K.out sink.new) (P.may_leave keeper.new))) }
-    ensures memory { IsErrOf result Stop.Memory → FromEngine P.Keeper engine.old keeper.old keeper.new (λ t.
-        PieceOutOfMemory piece.now reader.old t engine.old.session (K.out sink.old) (K.out sink.new) (IsDurableIn P.Keeper keeper.new)) }
+        Uncommitted t engine.old.session done next (K.out sink.old) (K.out sink.new)
+            (P.may_leave keeper.new))) }
+    ensures memory { IsErrOf result Stop.Memory
+        → FromEngine P.Keeper engine.old keeper.old keeper.new (λ t.
+        PieceOutOfMemory piece.now reader.old t engine.old.session (K.out sink.old) (K.out sink.new)
+            (IsDurableIn P.Keeper keeper.new)) }
     ensures can { OnOk result (CanPerform P.Keeper engine.new keeper.new) }
     ensures stopped { (P.stopped keeper.new ≡ true) ↔ IsErrOf result Stop.Keeper }
     ensures cause { IsErrOf result Stop.Put → Rose (K.faults sink.old) (K.faults sink.new) }
-    ensures kept_cause { IsErrOf result Stop.Keeper → Rose (P.faults keeper.old) (P.faults keeper.new) }
+    ensures kept_cause { IsErrOf result Stop.Keeper
+        → Rose (P.faults keeper.old) (P.faults keeper.new) }
     ensures calm { (IsErrOf result Stop.Put → ⊥) → K.faults sink.new ≡ K.faults sink.old }
     ensures frame { CommandFrame P.Keeper engine.old keeper.old keeper.new }
 {
@@ -183,7 +205,8 @@ pub fn feed<K: Sink, P: Keeper, L: Ledger>(
     Ok(all_ok)
 }
 
-/// Performs the command that the end of input completes or cuts off, if there is one; returns whether its reply begins `ok`.
+/// Performs the command that the end of input completes or cuts off, if there is one; returns
+/// whether its reply begins `ok`.
 pub fn finish<K: Sink, P: Keeper, L: Ledger>(
     alloc: Global,
     reader: &mut ScriptReader,
@@ -196,16 +219,22 @@ pub fn finish<K: Sink, P: Keeper, L: Ledger>(
     ensures ok { IfOk result (λ ok. FromEngine P.Keeper engine.old keeper.old keeper.new (λ t.
         Answered t engine.old.session (script_from reader.old []) (K.out sink.old) (K.out sink.new)
         (AgreeOn P.Keeper engine.new keeper.new) engine.new.session ok)) }
-    ensures put { IsErrOf result Stop.Put → FromEngine P.Keeper engine.old keeper.old keeper.new (λ t.
+    ensures put { IsErrOf result Stop.Put
+        → FromEngine P.Keeper engine.old keeper.old keeper.new (λ t.
         ClosedCut (script_from reader.old []) (λ done last.
-        CutOff t engine.old.session done last (K.out sink.old) (K.out sink.new) (IsDurableIn P.Keeper keeper.new))) }
-    ensures uncommitted { IsErrOf result Stop.Keeper → FromEngine P.Keeper engine.old keeper.old keeper.new (λ t.
+        CutOff t engine.old.session done last (K.out sink.old) (K.out sink.new)
+            (IsDurableIn P.Keeper keeper.new))) }
+    ensures uncommitted { IsErrOf result Stop.Keeper
+        → FromEngine P.Keeper engine.old keeper.old keeper.new (λ t.
         ClosedCut (script_from reader.old []) (λ done next.
-        Uncommitted t engine.old.session done next (K.out sink.old) (K.out sink.new) (P.may_leave keeper.new))) }
-    ensures memory { IsErrOf result Stop.Memory → (keeper.new ≡ keeper.old) × ((engine.new ≡ engine.old) × (K.out sink.new ≡ K.out sink.old)) }
+        Uncommitted t engine.old.session done next (K.out sink.old) (K.out sink.new)
+            (P.may_leave keeper.new))) }
+    ensures memory { IsErrOf result Stop.Memory → (keeper.new ≡ keeper.old)
+        × ((engine.new ≡ engine.old) × (K.out sink.new ≡ K.out sink.old)) }
     ensures stopped { (P.stopped keeper.new ≡ true) ↔ IsErrOf result Stop.Keeper }
     ensures cause { IsErrOf result Stop.Put → Rose (K.faults sink.old) (K.faults sink.new) }
-    ensures kept_cause { IsErrOf result Stop.Keeper → Rose (P.faults keeper.old) (P.faults keeper.new) }
+    ensures kept_cause { IsErrOf result Stop.Keeper
+        → Rose (P.faults keeper.old) (P.faults keeper.new) }
     ensures calm { (IsErrOf result Stop.Put → ⊥) → K.faults sink.new ≡ K.faults sink.old }
     ensures frame { CommandFrame P.Keeper engine.old keeper.old keeper.new }
 {

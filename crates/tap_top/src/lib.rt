@@ -1,4 +1,5 @@
-//! The mail filter's top call: commands are performed over a keeper as they come, each reply before the next command.
+//! The mail filter's top call: commands are performed over a keeper as they come, each reply before
+//! the next command.
 #![tactic(auto)]
 
 mod feed;

@@ -1,5 +1,6 @@
 //! Opens a store: attaches the keeper, checks the tables, and starts an engine over them.
-ghost use Rattle.std.specs.Prelude.{◌≡◌, ◌⊎◌, ◌↔◌, ◌≤◌, ℤ, pos, true, false, Some, None, IfOk, OnOk, IsErrOf};
+ghost use Rattle.std.specs.Prelude.{◌≡◌, ◌⊎◌, ◌↔◌, ◌≤◌, ℤ, pos, true, false, Some, None, IfOk};
+ghost use Rattle.std.specs.Prelude.{OnOk, IsErrOf};
 ghost use Rattle.std.specs.Str.{IsUtf8};
 ghost use Rattle.tap_base.specs.Counts.{Rose};
 ghost use Rattle.keeper_core.specs.States.{IsPlacedUnless};
@@ -70,8 +71,8 @@ fn start(alloc: Global, key: HashKey, tables: Tables) -> Result<Engine, OpenFaul
     }
 }
 
-/// Attaches the store at a path, checks its tables, and starts an engine over them, which hashes texts under this key. No
-/// text of its documents is longer than a message may be.
+/// Attaches the store at a path, checks its tables, and starts an engine over them, which hashes
+/// texts under this key. No text of its documents is longer than a message may be.
 pub fn open_store<P: Keeper>(
     alloc: Global,
     key: HashKey,
@@ -82,23 +83,29 @@ pub fn open_store<P: Keeper>(
     ensures can { IfOk result (λ engine. CanPerform P.Keeper engine keeper.new) }
     ensures session { IfOk result (λ engine. engine.session ≡ no_session) }
     ensures short { IfOk result HasShortTexts }
-    ensures represents { IfOk result (λ engine. IfTold P.Keeper keeper.old keeper.new (λ t. Represents engine t)) }
+    ensures represents { IfOk result (λ engine. IfTold P.Keeper keeper.old keeper.new (λ t.
+        Represents engine t)) }
     ensures kept { IfTold P.Keeper keeper.old keeper.new (λ t.
         P.stopped keeper.new ≡ false → IsDurableIn P.Keeper keeper.new t) }
-    ensures crash { IfTold P.Keeper keeper.old keeper.new (λ t. (x : TableRows) → P.may_leave keeper.new x → x ≡ t) }
+    ensures crash { IfTold P.Keeper keeper.old keeper.new (λ t. (x : TableRows)
+        → P.may_leave keeper.new x → x ≡ t) }
     ensures sure { OnOk result (IfTold P.Keeper keeper.old keeper.new (λ t.
         (v : ℤ) → P.has_version keeper.old v → fault_of v t ≡ None)) }
     ensures refused { IfRefused result (λ fault. IfTold P.Keeper keeper.old keeper.new (λ t.
         (v : ℤ) → P.has_version keeper.old v → fault_of v t ≡ Some fault)) }
-    ensures version { OnOk result (IfTold P.Keeper keeper.old keeper.new (λ t. P.has_version keeper.new (pos 2))) }
-    ensures known { OnOk result (P.honest keeper.new → (v : ℤ) → P.has_version keeper.old v → (v ≡ pos 1) ⊎ (v ≡ pos 2)) }
+    ensures version { OnOk result
+        (IfTold P.Keeper keeper.old keeper.new (λ t. P.has_version keeper.new (pos 2))) }
+    ensures known { OnOk result
+        (P.honest keeper.new → (v : ℤ) → P.has_version keeper.old v → (v ≡ pos 1) ⊎ (v ≡ pos 2)) }
     ensures migrated { IfRefused result (λ fault. IfTold P.Keeper keeper.old keeper.new (λ t.
         (v : ℤ) → P.has_version keeper.old v → IsMigrated v (P.has_version keeper.new))) }
     ensures memory { IsErrOf result OpenFault.Memory → IfTold P.Keeper keeper.old keeper.new (λ t.
         (v : ℤ) → P.has_version keeper.old v → MayBeMigrated v (P.has_version keeper.new)) }
     ensures stopped { (P.stopped keeper.new ≡ true) ↔ IsErrOf result OpenFault.Keeper }
-    ensures cause { IsErrOf result OpenFault.Keeper → Rose (P.faults keeper.old) (P.faults keeper.new) }
-    ensures placed { IsPlacedUnless (IsErrOf result OpenFault.Memory) (P.path keeper.old) (P.path keeper.new) path.now }
+    ensures cause { IsErrOf result OpenFault.Keeper
+        → Rose (P.faults keeper.old) (P.faults keeper.new) }
+    ensures placed { IsPlacedUnless (IsErrOf result OpenFault.Memory) (P.path keeper.old)
+        (P.path keeper.new) path.now }
     ensures later { P.faults keeper.old ≤ P.faults keeper.new }
     ensures calm { P.stopped keeper.new ≡ false → P.faults keeper.new ≡ P.faults keeper.old }
     ensures honest { P.honest keeper.new → P.honest keeper.old }

@@ -1,5 +1,7 @@
-//! A sample: its commands are performed without replies, and the lines of its summary are put at the end.
-ghost use Rattle.std.specs.Prelude.{◌≡◌, ◌≢◌, ◌+◌, ◌⊎◌, ◌↔◌, ◌==◌, ℕ, List, [], ◌∷◌, Option, Some, None};
+//! A sample: its commands are performed without replies, and the lines of its summary are put at
+//! the end.
+ghost use Rattle.std.specs.Prelude.{◌≡◌, ◌≢◌, ◌+◌, ◌⊎◌, ◌↔◌, ◌==◌, ℕ, List, [], ◌∷◌, Option, Some};
+ghost use Rattle.std.specs.Prelude.{None};
 ghost use Rattle.std.specs.Prelude.{true, false, length, OnOk, IfOk, IfSome, IsErrOf};
 ghost use Rattle.std.specs.Io.KnownBytes.{Appends};
 ghost use Rattle.sample_gen.specs.Samples.{IsSampleSize};
@@ -17,7 +19,8 @@ ghost use Rattle.tap_top.specs.Frames.{CommandFrame};
 ghost use Rattle.tap_top.specs.Premises.{IsDurableIn, AgreeOn, FromEngine, FromStore};
 ghost use Rattle.tap_top.specs.Versions.{VersionAtExit};
 ghost use Rattle.tap_top.specs.Ends.{EngineSampleEnds, SampleEnds};
-ghost use Rattle.tap_top.specs.Samples.{refusals_in, hits_in, PassesEnd, Performed, Counted, Adds, FirstPerformed, NextUncommitted, FrontPut};
+ghost use Rattle.tap_top.specs.Samples.{refusals_in, hits_in, PassesEnd, Performed, Counted, Adds};
+ghost use Rattle.tap_top.specs.Samples.{FirstPerformed, NextUncommitted, FrontPut};
 
 use crate::opening::{OpenFault, open_store};
 use crate::refusing::refuse;
@@ -41,12 +44,16 @@ pub enum Cut {
     Memory,
 }
 
-// Counts a reply; returns `None` if it says that there was no memory, or if a count would pass the end of its type.
+// Counts a reply; returns `None` if it says that there was no memory, or if a count would pass the
+// end of its type.
 fn count(tally: Tally, reply: &Reply) -> Option<Tally>
-    ensures refused { IfSome result (λ counted. counted.refused ≡ tally.refused + refusals_in reply.now) }
-    ensures delivered { IfSome result (λ counted. counted.delivered ≡ tally.delivered + hits_in reply.now) }
+    ensures refused { IfSome result (λ counted.
+        counted.refused ≡ tally.refused + refusals_in reply.now) }
+    ensures delivered { IfSome result (λ counted.
+        counted.delivered ≡ tally.delivered + hits_in reply.now) }
     ensures able { IfSome result (λ counted. reply.now ≢ ReplyOf.No RefusalOf.Memory) }
-    ensures none { result ≡ None → (reply.now ≡ ReplyOf.No RefusalOf.Memory) ⊎ PassesEnd tally reply.now }
+    ensures none { result ≡ None
+        → (reply.now ≡ ReplyOf.No RefusalOf.Memory) ⊎ PassesEnd tally reply.now }
 {
     match reply {
         Reply::No(Refusal::Memory) => None,
@@ -54,7 +61,8 @@ fn count(tally: Tally, reply: &Reply) -> Option<Tally>
     }
 }
 
-// Performs a command and counts its reply. Fails if the keeper fails, or if the command is out of memory.
+// Performs a command and counts its reply. Fails if the keeper fails, or if the command is out of
+// memory.
 fn perform_one<P: Keeper, L: Ledger>(
     alloc: Global,
     engine: &mut Engine,
@@ -66,14 +74,18 @@ fn perform_one<P: Keeper, L: Ledger>(
     requires can { CanPerform P.Keeper engine.old keeper.old }
     ensures ok { IfOk result (λ counted. FromEngine P.Keeper engine.old keeper.old keeper.new (λ t.
         Performed t engine.old.session (command ∷ [])
-        (λ replies x. AgreeOn P.Keeper engine.new keeper.new x × Adds tally counted replies) engine.new.session)) }
-    ensures memory { IsErrOf result Cut.Memory → FromEngine P.Keeper engine.old keeper.old keeper.new (λ t.
+        (λ replies x. AgreeOn P.Keeper engine.new keeper.new x × Adds tally counted replies)
+            engine.new.session)) }
+    ensures memory { IsErrOf result Cut.Memory
+        → FromEngine P.Keeper engine.old keeper.old keeper.new (λ t.
         FirstPerformed t engine.old.session (command ∷ []) (IsDurableIn P.Keeper keeper.new)) }
-    ensures keeper { IsErrOf result Cut.Keeper → FromEngine P.Keeper engine.old keeper.old keeper.new (λ t.
+    ensures keeper { IsErrOf result Cut.Keeper
+        → FromEngine P.Keeper engine.old keeper.old keeper.new (λ t.
         NextUncommitted t engine.old.session (command ∷ []) (P.may_leave keeper.new)) }
     ensures can { OnOk result (CanPerform P.Keeper engine.new keeper.new) }
     ensures stopped { (P.stopped keeper.new ≡ true) ↔ IsErrOf result Cut.Keeper }
-    ensures kept_cause { IsErrOf result Cut.Keeper → Rose (P.faults keeper.old) (P.faults keeper.new) }
+    ensures kept_cause { IsErrOf result Cut.Keeper
+        → Rose (P.faults keeper.old) (P.faults keeper.new) }
     ensures frame { CommandFrame P.Keeper engine.old keeper.old keeper.new }
 {
     let reply = match engine.perform(alloc, keeper, command, steps) {
@@ -86,7 +98,8 @@ fn perform_one<P: Keeper, L: Ledger>(
     }
 }
 
-// Performs the commands; returns the counts of their replies. Stops at the first command that is out of memory.
+// Performs the commands; returns the counts of their replies. Stops at the first command that is
+// out of memory.
 fn perform_all<P: Keeper, L: Ledger>(
     alloc: Global,
     engine: &mut Engine,
@@ -97,14 +110,18 @@ fn perform_all<P: Keeper, L: Ledger>(
     requires can { CanPerform P.Keeper engine.old keeper.old }
     ensures ok { IfOk result (λ tally. FromEngine P.Keeper engine.old keeper.old keeper.new (λ t.
         Performed t engine.old.session commands
-        (λ replies x. AgreeOn P.Keeper engine.new keeper.new x × Counted tally replies) engine.new.session)) }
-    ensures memory { IsErrOf result Cut.Memory → FromEngine P.Keeper engine.old keeper.old keeper.new (λ t.
+        (λ replies x. AgreeOn P.Keeper engine.new keeper.new x × Counted tally replies)
+            engine.new.session)) }
+    ensures memory { IsErrOf result Cut.Memory
+        → FromEngine P.Keeper engine.old keeper.old keeper.new (λ t.
         FirstPerformed t engine.old.session commands (IsDurableIn P.Keeper keeper.new)) }
-    ensures keeper { IsErrOf result Cut.Keeper → FromEngine P.Keeper engine.old keeper.old keeper.new (λ t.
+    ensures keeper { IsErrOf result Cut.Keeper
+        → FromEngine P.Keeper engine.old keeper.old keeper.new (λ t.
         NextUncommitted t engine.old.session commands (P.may_leave keeper.new)) }
     ensures can { OnOk result (CanPerform P.Keeper engine.new keeper.new) }
     ensures stopped { (P.stopped keeper.new ≡ true) ↔ IsErrOf result Cut.Keeper }
-    ensures kept_cause { IsErrOf result Cut.Keeper → Rose (P.faults keeper.old) (P.faults keeper.new) }
+    ensures kept_cause { IsErrOf result Cut.Keeper
+        → Rose (P.faults keeper.old) (P.faults keeper.new) }
     ensures frame { CommandFrame P.Keeper engine.old keeper.old keeper.new }
 {
     let mut tally = Tally::new();
@@ -143,8 +160,10 @@ fn sum_up(n: u32, commands: usize, tally: Tally, engine: &Engine) -> Summary
 fn put_summary<K: Sink>(summary: Summary, sink: &mut K) -> Status
     ensures statuses { PerformedAll result ⊎ result ≡ Status.PutFailed }
     ensures ok { PerformedAll result → is_all_ok result ≡ (summary.refused == 0) }
-    ensures whole { PerformedAll result → Appends (K.out sink.old) (K.out sink.new) (summary_lines summary) }
-    ensures cut { result ≡ Status.PutFailed → FrontPut (summary_lines summary) (K.out sink.old) (K.out sink.new) }
+    ensures whole { PerformedAll result
+        → Appends (K.out sink.old) (K.out sink.new) (summary_lines summary) }
+    ensures cut { result ≡ Status.PutFailed
+        → FrontPut (summary_lines summary) (K.out sink.old) (K.out sink.new) }
     ensures cause { result ≡ Status.PutFailed → Rose (K.faults sink.old) (K.faults sink.new) }
     ensures calm { result ≢ Status.PutFailed → K.faults sink.new ≡ K.faults sink.old }
 {
@@ -168,13 +187,16 @@ fn run_sample<K: Sink, P: Keeper, L: Ledger>(
     requires can { CanPerform P.Keeper engine.old keeper.old }
     requires session { engine.old.session ≡ no_session }
     ensures ends { FromEngine P.Keeper engine.old keeper.old keeper.new (λ t.
-        EngineSampleEnds result t n (K.out sink.old) (K.out sink.new) (P.tells keeper.new) (P.may_leave keeper.new)) }
-    ensures silent { (result ≡ Status.KeeperFailed) ⊎ (result ≡ Status.OutOfMemory) → K.out sink.new ≡ K.out sink.old }
+        EngineSampleEnds result t n (K.out sink.old) (K.out sink.new) (P.tells keeper.new)
+            (P.may_leave keeper.new)) }
+    ensures silent { (result ≡ Status.KeeperFailed) ⊎ (result ≡ Status.OutOfMemory)
+        → K.out sink.new ≡ K.out sink.old }
     ensures statuses { IsOfClose result }
     ensures stopped { (P.stopped keeper.new ≡ true) ↔ (result ≡ Status.KeeperFailed) }
     ensures cause { result ≡ Status.PutFailed → Rose (K.faults sink.old) (K.faults sink.new) }
     ensures calm { result ≢ Status.PutFailed → K.faults sink.new ≡ K.faults sink.old }
-    ensures kept_cause { result ≡ Status.KeeperFailed → Rose (P.faults keeper.old) (P.faults keeper.new) }
+    ensures kept_cause { result ≡ Status.KeeperFailed
+        → Rose (P.faults keeper.old) (P.faults keeper.new) }
     ensures frame { CommandFrame P.Keeper engine.old keeper.old keeper.new }
 {
     let Ok(commands) = sample(alloc, n) else {
@@ -190,8 +212,8 @@ fn run_sample<K: Sink, P: Keeper, L: Ledger>(
     put_summary(summary, sink)
 }
 
-/// Attaches the keeper at a path, checks its tables, performs the commands of a sample with `n` messages, and puts its
-/// summary; returns the status of the run. No replies are put.
+/// Attaches the keeper at a path, checks its tables, performs the commands of a sample with `n`
+/// messages, and puts its summary; returns the status of the run. No replies are put.
 pub fn sample_store<K: Sink, P: Keeper, L: Ledger>(
     alloc: Global,
     key: HashKey,
@@ -208,22 +230,26 @@ pub fn sample_store<K: Sink, P: Keeper, L: Ledger>(
     ensures sample { FromStore P.Keeper keeper.old keeper.new (λ t.
         SampleEnds (code_of result) t n (K.out sink.old) (K.out sink.new)
         (P.has_version keeper.old) (P.tells keeper.new) (P.may_leave keeper.new)) }
-    ensures silent { (result ≡ Status.KeeperFailed) ⊎ (result ≡ Status.OutOfMemory) → K.out sink.new ≡ K.out sink.old }
+    ensures silent { (result ≡ Status.KeeperFailed) ⊎ (result ≡ Status.OutOfMemory)
+        → K.out sink.new ≡ K.out sink.old }
     ensures version { FromStore P.Keeper keeper.old keeper.new (λ t.
         VersionAtExit (code_of result) (P.has_version keeper.old) (P.has_version keeper.new)) }
 
     // A store is refused if and only if its version isn't known or one of its rows is damaged.
-    ensures refusals { (left : Option (List ℕ)) → Refusals P.Keeper keeper.old keeper.new (code_of result)
+    ensures refusals { (left : Option (List ℕ))
+        → Refusals P.Keeper keeper.old keeper.new (code_of result)
         left left (K.out sink.old) (K.out sink.new) }
 
     // When each status comes.
     ensures cause { result ≡ Status.PutFailed → Rose (K.faults sink.old) (K.faults sink.new) }
     ensures calm { result ≢ Status.PutFailed → K.faults sink.new ≡ K.faults sink.old }
     ensures stopped { (P.stopped keeper.new ≡ true) ↔ (result ≡ Status.KeeperFailed) }
-    ensures kept_cause { result ≡ Status.KeeperFailed → Rose (P.faults keeper.old) (P.faults keeper.new) }
+    ensures kept_cause { result ≡ Status.KeeperFailed
+        → Rose (P.faults keeper.old) (P.faults keeper.new) }
     ensures kept_calm { P.stopped keeper.new ≡ false → P.faults keeper.new ≡ P.faults keeper.old }
     ensures statuses { IsOfClose result ⊎ (result ≡ Status.StoreRefused) }
-    ensures path { IsPlacedUnless (result ≡ Status.OutOfMemory) (P.path keeper.old) (P.path keeper.new) path.now }
+    ensures path { IsPlacedUnless (result ≡ Status.OutOfMemory) (P.path keeper.old)
+        (P.path keeper.new) path.now }
 {
     match open_store(alloc, key, path, keeper) {
         Ok(mut engine) => {

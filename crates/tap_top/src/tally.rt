@@ -25,8 +25,10 @@ impl Tally {
 
     /// Adds a reply; returns `None` if and only if a count would pass the end of its type.
     pub fn with(self, reply: &Reply) -> Option<Tally>
-        ensures refused { IfSome result (λ tally. tally.refused ≡ self.refused + refusals_in reply.now) }
-        ensures delivered { IfSome result (λ tally. tally.delivered ≡ self.delivered + hits_in reply.now) }
+        ensures refused { IfSome result (λ tally.
+            tally.refused ≡ self.refused + refusals_in reply.now) }
+        ensures delivered { IfSome result (λ tally.
+            tally.delivered ≡ self.delivered + hits_in reply.now) }
         ensures none { result ≡ None → PassesEnd self reply.now }
     {
         match reply {

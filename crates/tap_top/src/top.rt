@@ -16,7 +16,8 @@ ghost use Rattle.tap_model.specs.Sessions.{no_session};
 ghost use Rattle.tap_model.specs.Sound.{IsStore};
 ghost use Rattle.tap_top.specs.Points.{CanOpen, CanPerform};
 ghost use Rattle.tap_top.specs.Frames.{CommandFrame};
-ghost use Rattle.tap_top.specs.Premises.{IsDurableIn, FromEngine, FromStore, IsCalm, IfCalm, IsUndisturbed};
+ghost use Rattle.tap_top.specs.Premises.{IsDurableIn, FromEngine, FromStore, IsCalm, IfCalm};
+ghost use Rattle.tap_top.specs.Premises.{IsUndisturbed};
 ghost use Rattle.tap_top.specs.Versions.{VersionAtExit};
 ghost use Rattle.tap_top.specs.Answers.{CutOff, Uncommitted, Closed, ClosedCut};
 ghost use Rattle.tap_top.specs.Statuses.{PassedScriptLimit, HoldsScript};
@@ -46,7 +47,8 @@ use tap_engine::Engine;
 /// The most bytes that a script may have: 256 MiB.
 pub const SCRIPT_LIMIT: usize = 268435456;
 
-/// The bytes that one read asks for at most: a run that is cut off at a command took fewer bytes than these after it.
+/// The bytes that one read asks for at most: a run that is cut off at a command took fewer bytes
+/// than these after it.
 pub const PIECE: usize = 65536;
 
 // Returns the smaller number.
@@ -82,17 +84,23 @@ fn close<K: Sink, P: Keeper, L: Ledger>(
     ensures whole { PerformedAll result → FromEngine P.Keeper engine.old keeper.old keeper.new (λ t.
         Closed t engine.old.session (script_from reader.old []) (K.out sink.old) (K.out sink.new)
         (IsDurableIn P.Keeper keeper.new) all_ok (is_all_ok result)) }
-    ensures put { result ≡ Status.PutFailed → FromEngine P.Keeper engine.old keeper.old keeper.new (λ t.
+    ensures put { result ≡ Status.PutFailed
+        → FromEngine P.Keeper engine.old keeper.old keeper.new (λ t.
         ClosedCut (script_from reader.old []) (λ done last.
-        CutOff t engine.old.session done last (K.out sink.old) (K.out sink.new) (IsDurableIn P.Keeper keeper.new))) }
-    ensures uncommitted { result ≡ Status.KeeperFailed → FromEngine P.Keeper engine.old keeper.old keeper.new (λ t.
+        CutOff t engine.old.session done last (K.out sink.old) (K.out sink.new)
+            (IsDurableIn P.Keeper keeper.new))) }
+    ensures uncommitted { result ≡ Status.KeeperFailed
+        → FromEngine P.Keeper engine.old keeper.old keeper.new (λ t.
         ClosedCut (script_from reader.old []) (λ done next.
-        Uncommitted t engine.old.session done next (K.out sink.old) (K.out sink.new) (P.may_leave keeper.new))) }
-    ensures memory { result ≡ Status.OutOfMemory → (keeper.new ≡ keeper.old) × ((engine.new ≡ engine.old) × (K.out sink.new ≡ K.out sink.old)) }
+        Uncommitted t engine.old.session done next (K.out sink.old) (K.out sink.new)
+            (P.may_leave keeper.new))) }
+    ensures memory { result ≡ Status.OutOfMemory → (keeper.new ≡ keeper.old)
+        × ((engine.new ≡ engine.old) × (K.out sink.new ≡ K.out sink.old)) }
     ensures statuses { IsOfClose result }
     ensures stopped { (P.stopped keeper.new ≡ true) ↔ (result ≡ Status.KeeperFailed) }
     ensures cause { result ≡ Status.PutFailed → Rose (K.faults sink.old) (K.faults sink.new) }
-    ensures kept_cause { result ≡ Status.KeeperFailed → Rose (P.faults keeper.old) (P.faults keeper.new) }
+    ensures kept_cause { result ≡ Status.KeeperFailed
+        → Rose (P.faults keeper.old) (P.faults keeper.new) }
     ensures calm { result ≢ Status.PutFailed → K.faults sink.new ≡ K.faults sink.old }
     ensures frame { CommandFrame P.Keeper engine.old keeper.old keeper.new }
 {
@@ -116,19 +124,24 @@ fn run<S: Peer<K>, K: Sink, P: Keeper, L: Ledger>(
     requires can { CanPerform P.Keeper engine.old keeper.old }
     requires session { engine.old.session ≡ no_session }
     ensures ends { FromEngine P.Keeper engine.old keeper.old keeper.new (λ t.
-        EngineScriptEnds result t (S.left source.old) (S.left source.new) (K.out sink.old) (K.out sink.new)
+        EngineScriptEnds result t (S.left source.old) (S.left source.new) (K.out sink.old)
+            (K.out sink.new)
         (P.tells keeper.new) (P.may_leave keeper.new)) }
     ensures prompt { FromEngine P.Keeper engine.old keeper.old keeper.new (λ t.
-        AskedOnlyWhen (λ l o. IsUpToDate t (S.left source.old) l (K.out sink.old) o) (S.was_asked source.old) (S.was_asked source.new)) }
-    ensures many { result ≡ Status.ScriptTooLong → PassedScriptLimit (S.left source.old) (S.left source.new) }
+        AskedOnlyWhen (λ l o. IsUpToDate t (S.left source.old) l (K.out sink.old) o)
+            (S.was_asked source.old) (S.was_asked source.new)) }
+    ensures many { result ≡ Status.ScriptTooLong
+        → PassedScriptLimit (S.left source.old) (S.left source.new) }
     ensures statuses { IsOfRun result }
     ensures stopped { (P.stopped keeper.new ≡ true) ↔ (result ≡ Status.KeeperFailed) }
-    ensures read_cause { result ≡ Status.ReadFailed → Rose (S.faults source.old) (S.faults source.new) }
+    ensures read_cause { result ≡ Status.ReadFailed
+        → Rose (S.faults source.old) (S.faults source.new) }
     ensures read_calm { result ≢ Status.ReadFailed → S.faults source.new ≡ S.faults source.old }
     ensures put_cause { result ≡ Status.PutFailed → Rose (K.faults sink.old) (K.faults sink.new) }
     ensures put_calm { result ≢ Status.PutFailed → K.faults sink.new ≡ K.faults sink.old }
     ensures ended { PerformedAll result → IsAtEnd (S.left source.new) }
-    ensures kept_cause { result ≡ Status.KeeperFailed → Rose (P.faults keeper.old) (P.faults keeper.new) }
+    ensures kept_cause { result ≡ Status.KeeperFailed
+        → Rose (P.faults keeper.old) (P.faults keeper.new) }
     ensures frame { CommandFrame P.Keeper engine.old keeper.old keeper.new }
 {
     let mut reader = ScriptReader::new(alloc);
@@ -163,7 +176,8 @@ fn run<S: Peer<K>, K: Sink, P: Keeper, L: Ledger>(
     Status::ScriptTooLong
 }
 
-// Attaches the keeper at a path, checks its tables, and performs the commands of the source; returns the status of the run.
+// Attaches the keeper at a path, checks its tables, and performs the commands of the source;
+// returns the status of the run.
 fn run_store<S: Peer<K>, K: Sink, P: Keeper, L: Ledger>(
     alloc: Global,
     key: HashKey,
@@ -177,10 +191,12 @@ fn run_store<S: Peer<K>, K: Sink, P: Keeper, L: Ledger>(
 
     // How the script ended over a store that a session left.
     ensures script { FromStore P.Keeper keeper.old keeper.new (λ t.
-        ScriptEnds (code_of result) t (S.left source.old) (S.left source.new) (K.out sink.old) (K.out sink.new)
+        ScriptEnds (code_of result) t (S.left source.old) (S.left source.new) (K.out sink.old)
+            (K.out sink.new)
         (P.has_version keeper.old) (P.tells keeper.new) (P.may_leave keeper.new)) }
     ensures prompt { FromStore P.Keeper keeper.old keeper.new (λ t.
-        AskedOnlyWhen (λ l o. IsUpToDate t (S.left source.old) l (K.out sink.old) o) (S.was_asked source.old) (S.was_asked source.new)) }
+        AskedOnlyWhen (λ l o. IsUpToDate t (S.left source.old) l (K.out sink.old) o)
+            (S.was_asked source.old) (S.was_asked source.new)) }
     ensures kept { FromStore P.Keeper keeper.old keeper.new (λ t.
         (x : Tables) → P.may_leave keeper.new x → IsStore x) }
     ensures version { FromStore P.Keeper keeper.old keeper.new (λ t.
@@ -191,15 +207,18 @@ fn run_store<S: Peer<K>, K: Sink, P: Keeper, L: Ledger>(
         (S.left source.old) (S.left source.new) (K.out sink.old) (K.out sink.new) }
 
     // When each status comes.
-    ensures causes { Causes (code_of result) (S.faults source.old) (S.faults source.new) (K.faults sink.old) (K.faults sink.new)
+    ensures causes { Causes (code_of result) (S.faults source.old) (S.faults source.new)
+        (K.faults sink.old) (K.faults sink.new)
         (P.faults keeper.old) (P.faults keeper.new) (P.stopped keeper.new) }
-    ensures many { result ≡ Status.ScriptTooLong → PassedScriptLimit (S.left source.old) (S.left source.new) }
+    ensures many { result ≡ Status.ScriptTooLong
+        → PassedScriptLimit (S.left source.old) (S.left source.new) }
     ensures ended { PerformedAll result → IsAtEnd (S.left source.new) }
     ensures complete { HoldsScript (S.left source.old) →
         IfCalm (S.faults source.old) (S.faults source.new) (K.faults sink.old) (K.faults sink.new)
         (P.faults keeper.old) (P.faults keeper.new) (IsUndisturbed (code_of result)) }
     ensures statuses { (code_of result ≤ 8) × (result ≢ Status.WordsRefused) }
-    ensures path { IsPlacedUnless (result ≡ Status.OutOfMemory) (P.path keeper.old) (P.path keeper.new) path.now }
+    ensures path { IsPlacedUnless (result ≡ Status.OutOfMemory) (P.path keeper.old)
+        (P.path keeper.new) path.now }
 {
     match open_store(alloc, key, path, keeper) {
         Ok(mut engine) => {
@@ -213,11 +232,12 @@ fn run_store<S: Peer<K>, K: Sink, P: Keeper, L: Ledger>(
     }
 }
 
-/// Runs the mail filter: reads the words of the command line, attaches the keeper at the path that they name, checks its
-/// tables, and performs the commands of the source. It reads pieces of at most 65,536 bytes, performs each command when its
-/// last line is read, and puts its reply before the next command. If the words ask for a sample, its commands are performed
-/// in place of the source's, no reply is put, and the lines of its summary are put at the end. No reply depends on the key,
-/// under which texts are hashed.
+/// Runs the mail filter: reads the words of the command line, attaches the keeper at the path that
+/// they name, checks its tables, and performs the commands of the source. It reads pieces of at
+/// most 65,536 bytes, performs each command when its last line is read, and puts its reply before
+/// the next command. If the words ask for a sample, its commands are performed in place of the
+/// source's, no reply is put, and the lines of its summary are put at the end. No reply depends on
+/// the key, under which texts are hashed.
 ///
 /// Returns the status:
 /// - 0: all commands were performed, and every reply begins `ok`;
@@ -244,26 +264,34 @@ pub fn tapestry<S: Peer<K>, K: Sink, P: Keeper, L: Ledger>(
     // The words of the command line.
     ensures words { result ≡ 2 → takes app words.now ≡ false }
     ensures exact { result ≡ 2 → faults_of app words.now ≢ [] }
-    ensures worded { (path : Option (List ℕ)) (number : Option ℕ) → IsWellWorded words.now path number → result ≢ 2 }
+    ensures worded { (path : Option (List ℕ)) (number : Option ℕ)
+        → IsWellWorded words.now path number → result ≢ 2 }
     ensures faulty { (result ≡ 2) ⊎ ((result ≡ 7) ⊎ (faults_of app words.now ≡ [])) }
     ensures nothing { result ≡ 2 →
-        (keeper.new ≡ keeper.old) × ((K.out sink.new ≡ K.out sink.old) × (S.left source.new ≡ S.left source.old)) }
+        (keeper.new ≡ keeper.old)
+            × ((K.out sink.new ≡ K.out sink.old) × (S.left source.new ≡ S.left source.old)) }
     ensures path { IsPlacedBy result (P.path keeper.old) (P.path keeper.new) (path_in words.now) }
-    ensures named { (path : Option (List ℕ)) (number : Option ℕ) → IsWellWorded words.now path number →
+    ensures named { (path : Option (List ℕ)) (number : Option ℕ)
+        → IsWellWorded words.now path number →
         (path_in words.now ≡ path_or_default path) × (sample_in words.now ≡ number) }
 
-    // A script over a store that a session left: how it ended, by the status, and what a crash leaves.
+    // A script over a store that a session left: how it ended, by the status, and what a crash
+    // leaves.
     ensures script { sample_in words.now ≡ None → FromStore P.Keeper keeper.old keeper.new (λ t.
-        ScriptEnds result t (S.left source.old) (S.left source.new) (K.out sink.old) (K.out sink.new)
+        ScriptEnds result t (S.left source.old) (S.left source.new) (K.out sink.old)
+            (K.out sink.new)
         (P.has_version keeper.old) (P.tells keeper.new) (P.may_leave keeper.new)) }
 
-    // Over such a store, whenever the source was asked for more, the reply to each command that was complete in the bytes taken
-    // so far was out, whole, and nothing else.
+    // Over such a store, whenever the source was asked for more, the reply to each command that was
+    // complete in the bytes taken so far was out, whole, and nothing else.
     ensures prompt { FromStore P.Keeper keeper.old keeper.new (λ t.
-        AskedOnlyWhen (λ l o. IsUpToDate t (S.left source.old) l (K.out sink.old) o) (S.was_asked source.old) (S.was_asked source.new)) }
+        AskedOnlyWhen (λ l o. IsUpToDate t (S.left source.old) l (K.out sink.old) o)
+            (S.was_asked source.old) (S.was_asked source.new)) }
 
-    // A sample over such a store: how it ended, by the status, and what a crash leaves; nothing is read.
-    ensures sample { (n : ℕ) → sample_in words.now ≡ Some n → FromStore P.Keeper keeper.old keeper.new (λ t.
+    // A sample over such a store: how it ended, by the status, and what a crash leaves; nothing is
+    // read.
+    ensures sample { (n : ℕ) → sample_in words.now ≡ Some n
+        → FromStore P.Keeper keeper.old keeper.new (λ t.
         SampleEnds result t n (K.out sink.old) (K.out sink.new)
         (P.has_version keeper.old) (P.tells keeper.new) (P.may_leave keeper.new)) }
     ensures sample_silent { (n : ℕ) → sample_in words.now ≡ Some n → (result ≡ 5) ⊎ (result ≡ 7) →
@@ -286,14 +314,17 @@ pub fn tapestry<S: Peer<K>, K: Sink, P: Keeper, L: Ledger>(
         (S.left source.old) (S.left source.new) (K.out sink.old) (K.out sink.new) }
 
     // When each status comes.
-    ensures causes { Causes result (S.faults source.old) (S.faults source.new) (K.faults sink.old) (K.faults sink.new)
+    ensures causes { Causes result (S.faults source.old) (S.faults source.new) (K.faults sink.old)
+        (K.faults sink.new)
         (P.faults keeper.old) (P.faults keeper.new) (P.stopped keeper.new) }
     ensures many { result ≡ 8 → PassedScriptLimit (S.left source.old) (S.left source.new) }
     ensures ended { sample_in words.now ≡ None → result ≤ 1 → IsAtEnd (S.left source.new) }
-    ensures complete { (path : Option (List ℕ)) → IsWellWorded words.now path None → HoldsScript (S.left source.old) →
+    ensures complete { (path : Option (List ℕ)) → IsWellWorded words.now path None
+        → HoldsScript (S.left source.old) →
         IfCalm (S.faults source.old) (S.faults source.new) (K.faults sink.old) (K.faults sink.new)
         (P.faults keeper.old) (P.faults keeper.new) (IsUndisturbed result) }
-    ensures sample_complete { (path : Option (List ℕ)) (n : ℕ) → IsWellWorded words.now path (Some n) →
+    ensures sample_complete { (path : Option (List ℕ)) (n : ℕ)
+        → IsWellWorded words.now path (Some n) →
         IsCalm (K.faults sink.old) (K.faults sink.new) →
         IsCalm (P.faults keeper.old) (P.faults keeper.new) →
         IsUndisturbed result }

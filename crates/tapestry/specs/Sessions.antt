@@ -36,8 +36,8 @@ pub record Ends (words : List (List ℕ)) (status : ℕ) (left left' out out' : 
   pub ended : sample_in words ≡ None → status ≤ 1 → IsAtEnd left'
   pub statuses : status ≤ 8
 
--- over a store with these tables: how the script or the sample ended; what was out whenever the source was asked for more; that whatever a crash leaves, and what the store tells,
--- is a store again, and with which version; and when the store is refused
+-- over a store with these tables: how the script or the sample ended; what was out whenever the source was asked for more; that whatever a
+-- crash leaves, and what the store tells, is a store again, and with which version; and when the store is refused
 pub record EndsOver (words : List (List ℕ)) (status : ℕ) (left left' out out' : Option (List ℕ))
     (asked asked' : Option (List ℕ) → Option (List ℕ) → Type 0)
     (tables : Tables) (versions versions' : ℤ → Type 0) (tells leaves : Tables → Type 0) : Type 0 where

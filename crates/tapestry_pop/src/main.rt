@@ -1,5 +1,5 @@
-//! One session of the post office protocol, version 3 (RFC 1939), over a box of a store: standard input has the client's
-//! bytes, and standard output takes the replies, as under a superserver.
+//! One session of the post office protocol, version 3 (RFC 1939), over a box of a store: standard
+//! input has the client's bytes, and standard output takes the replies, as under a superserver.
 #![tactic(auto)]
 
 mod pop_server;

@@ -15,10 +15,13 @@ impl StoreProgram for PopServer {
     ghost use Rattle.tapestry_pop.specs.Sessions.{PopEnds, PopEndsOver};
     ghost use Rattle.command_words.specs.PopWords.{pop_path_in};
 
-    ghost ends = { λ words status left left' out out' reads reads' puts puts'. PopEnds words status left left' out out' reads reads' puts puts' };
+    ghost ends = { λ words status left left' out out' reads reads' puts puts'.
+        PopEnds words status left left' out out' reads reads' puts puts' };
 
-    ghost ends_over = { λ words status left left' out out' asked asked' tables versions versions' tells leaves.
-        PopEndsOver words status left left' out out' asked asked' tables versions versions' tells leaves };
+    ghost ends_over = { λ words status left left' out out' asked asked' tables versions versions'
+        tells leaves.
+        PopEndsOver words status left left' out out' asked asked' tables versions versions' tells
+            leaves };
 
     ghost path = { λ words. pop_path_in words };
 

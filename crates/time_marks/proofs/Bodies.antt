@@ -26,10 +26,12 @@ before_turned None b = refl
 before_turned (Some x) b = refl
 
 pub arrival_value : (v : Var) (r : Row) (env : Env) → value (arrival_term v) (bind v r env) ≡ Some (arrival r)
-arrival_value v r env = ap (λ o. plus_to (on_row o (λ row. Some (arrival row))) (pos 0)) (bind_same v r env) ∙ ap Some (plus_none (arrival r))
+arrival_value v r env = ap (λ o. plus_to (on_row o (λ row. Some (arrival row))) (pos 0)) (bind_same v r env)
+    ∙ ap Some (plus_none (arrival r))
 
 module _ (T : Tables) (n b : ℤ) (e : Term) where
-  pub body_truth : (c : Condition) (scope : List ℕ) (env final : Env) → Scoped scope c → Same scope env final → value (copy_term e) final ≡ Some b → truth T n (body c (copy_term e)) final ≡ truth (visible T b) b c env
+  pub body_truth : (c : Condition) (scope : List ℕ) (env final : Env) → Scoped scope c → Same scope env final
+      → value (copy_term e) final ≡ Some b → truth T n (body c (copy_term e)) final ≡ truth (visible T b) b c env
   body_truth Always scope env final sc h v = refl
   body_truth Never scope env final sc h v = refl
   body_truth (Plain a) scope env final sc h v = atom_same scope env final h a sc
@@ -41,5 +43,6 @@ module _ (T : Tables) (n b : ℤ) (e : Term) where
   body_truth (Exists w t x) scope env final sc h v =
       any_same _ (λ r. int_le (arrival r) b && truth (visible T b) b x (bind w r env)) (rows_of t T) (λ r.
       let s = copy_stays e w r final sc.0 sc.1 ∙ v in
-      rw (arrival_value w r final, s) (ap (λ y. int_le (arrival r) b && y) (body_truth x (w.0 ∷ scope) (bind w r env) (bind w r final) sc.3 (same_bind scope env final w r h) s)))
+      rw (arrival_value w r final, s) (ap (λ y. int_le (arrival r) b && y)
+          (body_truth x (w.0 ∷ scope) (bind w r env) (bind w r final) sc.3 (same_bind scope env final w r h) s)))
       ∙ sym (any_visible t T b (λ r. truth (visible T b) b x (bind w r env)))

@@ -16,7 +16,8 @@ use Rattle.tql_core.specs.declared.atom.TextExpr.TheVariants as X
 use Rattle.tql_core.specs.Condition.{Condition, Plain, All}
 use Rattle.tql_core.specs.Row.{Row, arrival, date}
 use Rattle.tap_rows.specs.declared.tables.Tables.{Tables}
-use Rattle.tql_core.specs.Values.{Env, bind, lookup, on_row, round_up_to_day, day_of, base_value, plus_to, value, field, number, text_field, text, true_atom}
+use Rattle.tql_core.specs.Values.{Env, bind, lookup, on_row, round_up_to_day, day_of, base_value, plus_to, value, field, number, text_field}
+use Rattle.tql_core.specs.Values.{text, true_atom}
 use Rattle.tql_core.specs.Holds.{truth}
 use Rattle.tql_core.specs.Scope.{BaseIn, NumIn, TextIn, AtomIn, Scoped}
 use Rattle.tap_rows.specs.Kept.{In}
@@ -44,19 +45,23 @@ pub copied_pos : (v : ℕ) → 1 ≤ v → copied v ≡ 0 → ⊥
 copied_pos zero a e = omega arith
 copied_pos (suc v) a e = omega arith
 
-pub keeps_bind : (scope : List ℕ) (env penv : Env) (v : Var) (r : Row) → (In v.0 scope → ⊥) → Keeps scope env penv → Keeps (v.0 ∷ scope) (bind v r env) (bind (copy v) r penv)
+pub keeps_bind : (scope : List ℕ) (env penv : Env) (v : Var) (r : Row) → (In v.0 scope → ⊥) → Keeps scope env penv
+    → Keeps (v.0 ∷ scope) (bind v r env) (bind (copy v) r penv)
 keeps_bind scope env penv v r new h k (inl e) =
-    subst (λ j. lookup (copied j) (bind (copy v) r penv) ≡ lookup j (bind v r env)) (sym e) (bind_same (copy v) r penv ∙ sym (bind_same v r env))
+    subst (λ j. lookup (copied j) (bind (copy v) r penv) ≡ lookup j (bind v r env)) (sym e)
+      (bind_same (copy v) r penv ∙ sym (bind_same v r env))
 keeps_bind scope env penv v r new h k (inr i) =
     let apart : k ≡ v.0 → ⊥ = λ e. new (subst (λ j. In j scope) e i) in
     bind_other (copied k) (copy v) r penv (λ e. apart (copied_back k v.0 e)) ∙ h k i ∙ sym (bind_other k v r env apart)
 
-pub keeps_unbind : (scope : List ℕ) (env final : Env) (v : Var) (r : Row) → (In v.0 scope → ⊥) → Keeps (v.0 ∷ scope) (bind v r env) final → Keeps scope env final
+pub keeps_unbind : (scope : List ℕ) (env final : Env) (v : Var) (r : Row) → (In v.0 scope → ⊥) → Keeps (v.0 ∷ scope) (bind v r env) final
+    → Keeps scope env final
 keeps_unbind scope env final v r new h k i =
     let apart : k ≡ v.0 → ⊥ = λ e. new (subst (λ j. In j scope) e i) in
     h k (inr i) ∙ bind_other k v r env apart
 
-pub same_bind : (scope : List ℕ) (env final : Env) (v : Var) (r : Row) → Same scope env final → Same (v.0 ∷ scope) (bind v r env) (bind v r final)
+pub same_bind : (scope : List ℕ) (env final : Env) (v : Var) (r : Row) → Same scope env final
+    → Same (v.0 ∷ scope) (bind v r env) (bind v r final)
 same_bind scope env final v r h k (inl e) =
     subst (λ j. lookup j (bind v r final) ≡ lookup j (bind v r env)) (sym e) (bind_same v r final ∙ sym (bind_same v r env))
 same_bind scope env final v r h k (inr i) =
@@ -91,11 +96,13 @@ module _ (scope : List ℕ) (env final : Env) (h : Keeps scope env final) where
   atom_copy (Times x op y) i = rw (value_copy x i.0, value_copy y i.1)
 
   -- a true condition's guards are true
-  pub guards_hold : (T : Tables) (s : ℤ) (c : Condition) → Scoped scope c → truth T s c env ≡ true → list_all (λ a. true_atom a final) (map copy_atom (guards_of c)) ≡ true
+  pub guards_hold : (T : Tables) (s : ℤ) (c : Condition) → Scoped scope c → truth T s c env ≡ true
+      → list_all (λ a. true_atom a final) (map copy_atom (guards_of c)) ≡ true
   guards_hold T s (Plain a) i y = rw (atom_copy a i, y)
   guards_hold T s (All l r) i y =
       let p = and_parts (truth T s l env) (truth T s r env) y in
-      rw (map_append copy_atom (guards_of l) (guards_of r)) (all_append (λ a. true_atom a final) (map copy_atom (guards_of l)) (map copy_atom (guards_of r)) (guards_hold T s l i.0 p.0) (guards_hold T s r i.1 p.1))
+      rw (map_append copy_atom (guards_of l) (guards_of r)) (all_append (λ a. true_atom a final) (map copy_atom (guards_of l))
+          (map copy_atom (guards_of r)) (guards_hold T s l i.0 p.0) (guards_hold T s r i.1 p.1))
     where
       map_append : (f : Atom → Atom) (xs ys : List Atom) → map f (xs ++ ys) ≡ map f xs ++ map f ys
       map_append f [] ys = refl
@@ -128,12 +135,16 @@ module _ (scope : List ℕ) (env final : Env) (h : Same scope env final) where
   atom_same (Times x op y) i = rw (value_same x i.0, value_same y i.1)
 
 -- a copy's value doesn't depend on the variables of EXISTS
-pub base_stays : (b : Base) (v : Var) (r : Row) (env : Env) → 1 ≤ v.0 → v.0 ≤ 5 → base_value (copy_base b) (bind v r env) ≡ base_value (copy_base b) env
+pub base_stays : (b : Base) (v : Var) (r : Row) (env : Env) → 1 ≤ v.0 → v.0 ≤ 5
+    → base_value (copy_base b) (bind v r env) ≡ base_value (copy_base b) env
 base_stays (Arrival w) v r env a b = ap (λ o. on_row o (λ r. Some (arrival r))) (bind_other (copied w.0) v r env (copied_apart w.0 v.0 a b))
 base_stays (Date w) v r env a b = ap (λ o. on_row o date) (bind_other (copied w.0) v r env (copied_apart w.0 v.0 a b))
 base_stays Fixed v r env a b = refl
-base_stays (ArrivalDay w n) v r env a b = ap (λ o. on_row o (λ r. Some (round_up_to_day (arrival r +ℤ n)))) (bind_other (copied w.0) v r env (copied_apart w.0 v.0 a b))
-base_stays (DateDay w n) v r env a b = ap (λ o. on_row o (λ r. day_of n (date r))) (bind_other (copied w.0) v r env (copied_apart w.0 v.0 a b))
+base_stays (ArrivalDay w n) v r env a b =
+    ap (λ o. on_row o (λ r. Some (round_up_to_day (arrival r +ℤ n)))) (bind_other (copied w.0) v r env (copied_apart w.0 v.0 a b))
+base_stays (DateDay w n) v r env a b =
+    ap (λ o. on_row o (λ r. day_of n (date r))) (bind_other (copied w.0) v r env (copied_apart w.0 v.0 a b))
 
-pub copy_stays : (e : Term) (v : Var) (r : Row) (env : Env) → 1 ≤ v.0 → v.0 ≤ 5 → value (copy_term e) (bind v r env) ≡ value (copy_term e) env
+pub copy_stays : (e : Term) (v : Var) (r : Row) (env : Env) → 1 ≤ v.0 → v.0 ≤ 5
+    → value (copy_term e) (bind v r env) ≡ value (copy_term e) env
 copy_stays e v r env a b = ap (λ o. plus_to o e.plus) (base_stays e.base v r env a b)

@@ -89,19 +89,24 @@ any_map p f [] = refl
 any_map p f (x ∷ xs) = ap (λ b. p (f x) || b) (any_map p f xs)
 
 -- a test over the visible rows of a table
-pub any_visible : (t : Table) (T : Tables) (s : ℤ) (p : Row → Bool) → list_any p (rows_of t (visible T s)) ≡ list_any (λ r. int_le (arrival r) s && p r) (rows_of t T)
-any_visible Docs T s p = any_map p OfDoc (filter (λ d. int_le d.arrival s) T.docs) ∙ any_filter (λ d. p (OfDoc d)) (λ d. int_le d.arrival s) T.docs ∙ sym (any_map (λ r. int_le (arrival r) s && p r) OfDoc T.docs)
-any_visible Notes T s p = any_map p OfNote (filter (λ d. int_le d.arrival s) T.notes) ∙ any_filter (λ d. p (OfNote d)) (λ d. int_le d.arrival s) T.notes ∙ sym (any_map (λ r. int_le (arrival r) s && p r) OfNote T.notes)
+pub any_visible : (t : Table) (T : Tables) (s : ℤ) (p : Row → Bool)
+    → list_any p (rows_of t (visible T s)) ≡ list_any (λ r. int_le (arrival r) s && p r) (rows_of t T)
+any_visible Docs T s p = any_map p OfDoc (filter (λ d. int_le d.arrival s) T.docs)
+    ∙ any_filter (λ d. p (OfDoc d)) (λ d. int_le d.arrival s) T.docs ∙ sym (any_map (λ r. int_le (arrival r) s && p r) OfDoc T.docs)
+any_visible Notes T s p = any_map p OfNote (filter (λ d. int_le d.arrival s) T.notes)
+    ∙ any_filter (λ d. p (OfNote d)) (λ d. int_le d.arrival s) T.notes ∙ sym (any_map (λ r. int_le (arrival r) s && p r) OfNote T.notes)
 
 -- a visible row that passes
-pub visible_in : (t : Table) (T : Tables) (s : ℤ) (p : Row → Bool) → list_any p (rows_of t (visible T s)) ≡ true → (r : Row) × In r (rows_of t T) × (int_le (arrival r) s ≡ true) × (p r ≡ true)
+pub visible_in : (t : Table) (T : Tables) (s : ℤ) (p : Row → Bool) → list_any p (rows_of t (visible T s)) ≡ true
+    → (r : Row) × In r (rows_of t T) × (int_le (arrival r) s ≡ true) × (p r ≡ true)
 visible_in t T s p h =
     let a = any_in (λ r. int_le (arrival r) s && p r) (rows_of t T) (sym (any_visible t T s p) ∙ h) in
     let b = and_parts (int_le (arrival a.0) s) (p a.0) a.2 in
     (a.0, a.1, b.0, b.1)
 
 -- if none passes, each visible row fails
-pub visible_none : (t : Table) (T : Tables) (s : ℤ) (p : Row → Bool) → list_any p (rows_of t (visible T s)) ≡ false → (r : Row) → In r (rows_of t T) → int_le (arrival r) s ≡ true → p r ≡ false
+pub visible_none : (t : Table) (T : Tables) (s : ℤ) (p : Row → Bool) → list_any p (rows_of t (visible T s)) ≡ false → (r : Row)
+    → In r (rows_of t T) → int_le (arrival r) s ≡ true → p r ≡ false
 visible_none t T s p h r i e =
     let n = none_in (λ r. int_le (arrival r) s && p r) (rows_of t T) r (sym (any_visible t T s p) ∙ h) i in
     rw e at n

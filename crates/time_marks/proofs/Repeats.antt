@@ -18,7 +18,8 @@ use Rattle.time_marks.specs.declared.mark.Step.{Step}
 use Rattle.time_marks.specs.contracts.mark.StepPartialEq.TheImpl as step
 use Rattle.time_marks.specs.contracts.mark.StepEq.TheImpl.Laws as step_laws
 use Rattle.time_marks.specs.Probes.{Probe, finds, found}
-use Rattle.time_marks.specs.Distinct.{kept_with, distinct_onto, same_probe, SameProbeIsEqual, distinct_probes, RepeatsFindNothingNew, DistinctAreAmong}
+use Rattle.time_marks.specs.Distinct.{kept_with, distinct_onto, same_probe, SameProbeIsEqual, distinct_probes, RepeatsFindNothingNew}
+use Rattle.time_marks.specs.Distinct.{DistinctAreAmong}
 use Rattle.time_marks.proofs.Lists.{any_in, in_any, append_in}
 
 list_is : {A : Type 0} (eq : A → A → Bool) → ((x y : A) → eq x y ≡ true → x ≡ y) → (xs ys : List A) → pointwise eq xs ys ≡ true → xs ≡ ys
@@ -34,7 +35,8 @@ step_is a b h =
     let x = var_is a.var b.var p.0 in
     let y = table_is a.table b.table q.0 in
     let z = list_is atom.ghosts.eq atom_is a.guards b.guards q.1 in
-    ap (λ k. record { var = k; table = a.table; guards = a.guards }) x ∙ ap (λ k. record { var = b.var; table = k; guards = a.guards }) y ∙ ap (λ k. record { var = b.var; table = b.table; guards = k }) z
+    ap (λ k. record { var = k; table = a.table; guards = a.guards }) x ∙ ap (λ k. record { var = b.var; table = k; guards = a.guards }) y
+        ∙ ap (λ k. record { var = b.var; table = b.table; guards = k }) z
 
 pub probe_is : (p q : Probe) → same_probe p q ≡ true → p ≡ q
 probe_is a b h =
@@ -43,7 +45,8 @@ probe_is a b h =
     let x = list_is step.ghosts.eq step_is a.path b.path p.0 in
     let y = term_is a.at b.at q.0 in
     let z = condition_is a.body b.body q.1 in
-    ap (λ k. record { path = k; at = a.at; body = a.body }) x ∙ ap (λ k. record { path = b.path; at = k; body = a.body }) y ∙ ap (λ k. record { path = b.path; at = b.at; body = k }) z
+    ap (λ k. record { path = k; at = a.at; body = a.body }) x ∙ ap (λ k. record { path = b.path; at = k; body = a.body }) y
+        ∙ ap (λ k. record { path = b.path; at = b.at; body = k }) z
 
 probe_itself : (p : Probe) → same_probe p p ≡ true
 probe_itself p = and_from _ _ ((lists_equiv step_laws.laws-law).refl p.path) (and_from _ _ (term_laws.laws-law.refl p.at) (itself p.body))
@@ -64,7 +67,8 @@ module _ (same : Probe → Probe → Bool) (sound : (p q : Probe) → same p q �
   distinct_found kept (p ∷ ps) =
       elim (cases_Bool (list_any (same p) kept)) [
         | inl y ↦ rw y (distinct_found kept ps ∙ dropped (list_any test kept) (test p) (list_any test ps) (seen_found p kept y))
-        | inr n ↦ rw n (distinct_found (kept ++ p ∷ []) ps ∙ ap (λ z. z || list_any test ps) (list_any-append test kept (p ∷ [])) ∙ grouped (list_any test kept) (test p) (list_any test ps))
+        | inr n ↦ rw n (distinct_found (kept ++ p ∷ []) ps ∙ ap (λ z. z || list_any test ps) (list_any-append test kept (p ∷ []))
+            ∙ grouped (list_any test kept) (test p) (list_any test ps))
       ]
     where
       dropped : (s t x : Bool) → (t ≡ true → s ≡ true) → (s || x) ≡ (s || (t || x))

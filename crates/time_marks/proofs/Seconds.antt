@@ -23,7 +23,8 @@ pub le_self : (s x : ℤ) → x ≡ s → int_le x s ≡ true
 le_self s x e = grind (arith, ints)
 
 -- two tests have one first number, if what passes the second passes the first, and the first begins or turns true only with the second
-pub first_same : (p q : ℤ → Bool) (n : ℕ) (a : ℤ) → (p a ≡ true → q a ≡ true) → ((x : ℤ) → q x ≡ true → p x ≡ true) → ((u x : ℤ) → x ≡ u +ℤ pos 1 → p u ≡ false → p x ≡ true → q x ≡ true) → first_from p n a ≡ first_from q n a
+pub first_same : (p q : ℤ → Bool) (n : ℕ) (a : ℤ) → (p a ≡ true → q a ≡ true) → ((x : ℤ) → q x ≡ true → p x ≡ true)
+    → ((u x : ℤ) → x ≡ u +ℤ pos 1 → p u ≡ false → p x ≡ true → q x ≡ true) → first_from p n a ≡ first_from q n a
 first_same p q zero a st back up = refl
 first_same p q (suc n) a st back up =
     elim (cases_Bool (p a)) [

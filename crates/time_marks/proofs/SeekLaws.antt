@@ -32,8 +32,10 @@ pub seek_within : (s : Seek) (w : Window) (x : ℤ) → is_within (seek_window w
 seek_within (Arrived v n) w x = moved-within w (neg_ℤ n) x ∙ ap (is_within w) (back x n)
 seek_within (Dated v n) w x = moved-within w (neg_ℤ n) x ∙ ap (is_within w) (back x n)
 seek_within (Fixed moment) w x = refl
-seek_within (ArrivedDay v n) w x = moved-within (days_window w) (neg_ℤ n) x ∙ ap (is_within (days_window w)) (back x n) ∙ days-within w (x +ℤ n)
-seek_within (DatedDay v n) w x = moved-within (days_window w) (neg_ℤ n) x ∙ ap (is_within (days_window w)) (back x n) ∙ days-within w (x +ℤ n)
+seek_within (ArrivedDay v n) w x = moved-within (days_window w) (neg_ℤ n) x ∙ ap (is_within (days_window w)) (back x n)
+    ∙ days-within w (x +ℤ n)
+seek_within (DatedDay v n) w x = moved-within (days_window w) (neg_ℤ n) x ∙ ap (is_within (days_window w)) (back x n)
+    ∙ days-within w (x +ℤ n)
 
 none_plus : (x : ℤ) → x +ℤ pos 0 ≡ x
 none_plus x = omega (arith, ints)
@@ -61,16 +63,19 @@ day_same : (var : Var) (n : ℤ) (o : Option ℤ) → plus_to (day_of n o) (pos 
 day_same var n None = refl
 day_same var n (Some x) = ap Some (none_plus (round_up_to_day (x +ℤ n)))
 
-arrival_same : (var : Var) (n : ℤ) (o : Option Row) → plus_to (on_row o (λ r. Some (round_up_to_day (arrival r +ℤ n)))) (pos 0) ≡ mark_of (ArrivedDay var n) (on_row o (λ r. Some (arrival r)))
+arrival_same : (var : Var) (n : ℤ) (o : Option Row) → plus_to (on_row o (λ r. Some (round_up_to_day (arrival r +ℤ n)))) (pos 0)
+    ≡ mark_of (ArrivedDay var n) (on_row o (λ r. Some (arrival r)))
 arrival_same var n None = refl
 arrival_same var n (Some r) = ap Some (none_plus (round_up_to_day (arrival r +ℤ n)))
 
-date_same : (var : Var) (n : ℤ) (o : Option Row) → plus_to (on_row o (λ r. day_of n (date r))) (pos 0) ≡ mark_of (DatedDay var n) (on_row o date)
+date_same : (var : Var) (n : ℤ) (o : Option Row)
+    → plus_to (on_row o (λ r. day_of n (date r))) (pos 0) ≡ mark_of (DatedDay var n) (on_row o date)
 date_same var n None = refl
 date_same var n (Some r) = day_same var n (date r)
 
 -- a mark is that of the stored second
-value_same : (base : Base) (plus : ℤ) (env : Env) → is_bounded_base base plus ≡ true → plus_to (base_value base env) plus ≡ mark_of (seek_from base plus) (driving_second (seek_from base plus) env)
+value_same : (base : Base) (plus : ℤ) (env : Env) → is_bounded_base base plus ≡ true
+    → plus_to (base_value base env) plus ≡ mark_of (seek_from base plus) (driving_second (seek_from base plus) env)
 value_same (B.Arrival v) plus env h = plus_same v plus (on_row (lookup v.0 env) (λ r. Some (arrival r)))
 value_same (B.Date v) plus env h = plus_same v plus (on_row (lookup v.0 env) date)
 value_same B.Fixed plus env h = ap Some (plus_none plus)
@@ -82,4 +87,5 @@ value_same (B.DateDay v n) plus env h =
     ap (λ z. plus_to (base_value (B.DateDay v n) env) z) e ∙ date_same v n (lookup v.0 env)
 
 pub solved : SeeksSolveMarks
-solved e w env h = ap (lies_in w) (value_same e.base e.plus env (and_parts _ _ h).1) ∙ lies_same w (seek_of e) (driving_second (seek_of e) env)
+solved e w env h = ap (lies_in w) (value_same e.base e.plus env (and_parts _ _ h).1)
+    ∙ lies_same w (seek_of e) (driving_second (seek_of e) env)

@@ -12,7 +12,8 @@ four true false true d = refl
 four true false false d = refl
 four true true c d = refl
 
-pub met : (a b : Window) (low high x : ℤ) → int_le low x ≡ (int_le a.low x && int_le b.low x) → int_lt x high ≡ (int_lt x a.high && int_lt x b.high) → (int_le low x && int_lt x high) ≡ (is_within a x && is_within b x)
+pub met : (a b : Window) (low high x : ℤ) → int_le low x ≡ (int_le a.low x && int_le b.low x)
+    → int_lt x high ≡ (int_lt x a.high && int_lt x b.high) → (int_le low x && int_lt x high) ≡ (is_within a x && is_within b x)
 met a b low high x l h = rw (l, h) (four (int_le a.low x) (int_le b.low x) (int_lt x a.high) (int_lt x b.high))
 
 moved-low : (low by x : ℤ) → int_le (low +ℤ by) x ≡ int_le low (x -ℤ by)
@@ -68,7 +69,10 @@ not-below a b = grind (arith, ints)
 
 pub days-within : (w : Window) (x : ℤ) → is_within (days_window w) x ≡ is_within w (round_up_to_day x)
 days-within w x =
-    let low : int_le (round_up_to_day w.low -ℤ pos 86399) x ≡ int_le w.low (round_up_to_day x) = day-low w.low x (round_up_to_day w.low) (round_up_to_day x) (round_up_to_day-day w.low) (round_up_to_day-day x) in
-    let below : int_le (round_up_to_day w.high -ℤ pos 86399) x ≡ int_le w.high (round_up_to_day x) = day-low w.high x (round_up_to_day w.high) (round_up_to_day x) (round_up_to_day-day w.high) (round_up_to_day-day x) in
-    let high : int_lt x (round_up_to_day w.high -ℤ pos 86399) ≡ int_lt (round_up_to_day x) w.high = not-below x (round_up_to_day w.high -ℤ pos 86399) ∙ ap not below ∙ sym (not-below (round_up_to_day x) w.high) in
+    let low : int_le (round_up_to_day w.low -ℤ pos 86399) x ≡ int_le w.low (round_up_to_day x) =
+        day-low w.low x (round_up_to_day w.low) (round_up_to_day x) (round_up_to_day-day w.low) (round_up_to_day-day x) in
+    let below : int_le (round_up_to_day w.high -ℤ pos 86399) x ≡ int_le w.high (round_up_to_day x) =
+        day-low w.high x (round_up_to_day w.high) (round_up_to_day x) (round_up_to_day-day w.high) (round_up_to_day-day x) in
+    let high : int_lt x (round_up_to_day w.high -ℤ pos 86399) ≡ int_lt (round_up_to_day x) w.high =
+        not-below x (round_up_to_day w.high -ℤ pos 86399) ∙ ap not below ∙ sym (not-below (round_up_to_day x) w.high) in
     rw (low, high) refl

@@ -25,7 +25,8 @@ Same scope env final = (k : ℕ) → In k scope → lookup k final ≡ lookup k 
 -- the second environment has one more row for each step: a row of the step's table that arrived by s
 abbrev pub Along : Tables → ℤ → List Step → Env → Env → Type 0
 Along T s [] env final = final ≡ env
-Along T s (step ∷ path) env final = (r : Row) × In r (rows_of step.table T) × (int_le (arrival r) s ≡ true) × Along T s path (bind step.var r env) final
+Along T s (step ∷ path) env final = (r : Row) × In r (rows_of step.table T) × (int_le (arrival r) s ≡ true)
+    × Along T s path (bind step.var r env) final
 
 -- one of the marks has the second s, for some rows of its path that arrived by s and make its guards true
 pub record Crossed (T : Tables) (s : ℤ) (scope : List ℕ) (env penv : Env) (ms : List Mark) : Type 0 where

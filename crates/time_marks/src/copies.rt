@@ -1,6 +1,7 @@
 //! Copies of terms and atoms for a path.
 ghost use Rattle.std.specs.Prelude.{◌≡◌, ◌≤◌, IfOk};
-ghost use Rattle.time_marks.specs.Marks.{copy, copy_base, copy_term, copy_number, copy_text, copy_atom, arrival_term};
+ghost use Rattle.time_marks.specs.Marks.{copy, copy_base, copy_term, copy_number, copy_text};
+ghost use Rattle.time_marks.specs.Marks.{copy_atom, arrival_term};
 ghost use Rattle.tql_core.specs.Scope.{BaseFits, NumFits, TextFits, AtomFits};
 
 use tap_base::Memory;

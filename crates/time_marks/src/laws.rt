@@ -1,6 +1,7 @@
 //! Laws of marks, bodies and probes.
 ghost use Rattle.time_marks.specs.Laws.{ChangesAtMarks, BodiesHoldAtMarks};
-ghost use Rattle.time_marks.specs.Distinct.{SameProbeIsEqual, RepeatsFindNothingNew, DistinctAreAmong};
+ghost use Rattle.time_marks.specs.Distinct.{SameProbeIsEqual, RepeatsFindNothingNew};
+ghost use Rattle.time_marks.specs.Distinct.{DistinctAreAmong};
 ghost use Rattle.time_marks.specs.Found.{FoundInAnyOrder};
 ghost use Rattle.time_marks.specs.Seeks.{SeeksSolveMarks};
 
@@ -14,12 +15,14 @@ pub fn bodies_hold_at_marks()
     ensures { BodiesHoldAtMarks }
 {}
 
-/// States that a probe finds a document if and only if each step has a row, in whatever order they are looked for.
+/// States that a probe finds a document if and only if each step has a row, in whatever order they
+/// are looked for.
 pub fn found_in_any_order()
     ensures { FoundInAnyOrder }
 {}
 
-/// States that a mark lies in a window if and only if the stored second lies in the seek's window, for every row.
+/// States that a mark lies in a window if and only if the stored second lies in the seek's window,
+/// for every row.
 pub fn seeks_solve_marks()
     ensures { SeeksSolveMarks }
 {}
@@ -34,7 +37,8 @@ pub fn repeats_find_nothing_new()
     ensures { RepeatsFindNothingNew }
 {}
 
-/// States that each distinct probe is one of the probes, so that what holds of all of them holds of the distinct ones.
+/// States that each distinct probe is one of the probes, so that what holds of all of them holds of
+/// the distinct ones.
 pub fn distinct_probes_are_among()
     ensures { DistinctAreAmong }
 {}

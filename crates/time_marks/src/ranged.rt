@@ -5,7 +5,8 @@ ghost use Rattle.std.specs.Coded.{Coded-set};
 
 use crate::{Probe, Seek};
 
-/// Holds a probe, and where the stored seconds of its driving rows are looked for: the seek of the probe's mark.
+/// Holds a probe, and where the stored seconds of its driving rows are looked for: the seek of the
+/// probe's mark.
 #[derive(Drop)]
 pub struct Ranged {
     pub probe: Probe,

@@ -1,7 +1,8 @@
 //! The marks at which a document can begin to be given.
 ghost use Rattle.std.specs.Prelude.{◌≡◌, ◌≤◌, [], ◌∷◌, ◌++◌, pos, map, IfOk, OnOk};
 ghost use Rattle.tql_core.specs.Condition.{condition};
-ghost use Rattle.time_marks.specs.Marks.{copy, copy_atom, guards_of, arrival_term, step_of, mark_if, marks, rising, rising_from, below};
+ghost use Rattle.time_marks.specs.Marks.{copy, copy_atom, guards_of, arrival_term, step_of};
+ghost use Rattle.time_marks.specs.Marks.{mark_if, marks, rising, rising_from, below};
 ghost use Rattle.tql_core.specs.Scope.{CondFits, IsQuery};
 
 use crate::copies::{arrival_term, copy, copy_atom, copy_term};
@@ -14,7 +15,8 @@ use tql_tree::Table;
 // Appends the guards of the condition, with the copies of their variables.
 fn add_guards(cond: &Cond, guards: &mut Rows<Atom>) -> Result<(), Memory>
     requires { CondFits (condition cond.now) }
-    ensures { OnOk result (guards.new ≡ guards.old ++ map copy_atom (guards_of (condition cond.now))) }
+    ensures { OnOk result
+        (guards.new ≡ guards.old ++ map copy_atom (guards_of (condition cond.now))) }
 {
     match cond {
         Cond::Plain(atom) => {
@@ -38,7 +40,8 @@ fn longer(
     cond: &Cond,
 ) -> Result<Rows<Step>, Memory>
     requires { (var.0 ≤ 5) × CondFits (condition cond.now) }
-    ensures { IfOk result (λ steps. steps ≡ path.now ++ step_of var table (condition cond.now) ∷ []) }
+    ensures { IfOk result (λ steps.
+        steps ≡ path.now ++ step_of var table (condition cond.now) ∷ []) }
 {
     let mut steps = path.copy()?;
     let mut guards = Rows::new(alloc);
@@ -71,7 +74,8 @@ fn add_marks(
     out: &mut Rows<Mark>,
 ) -> Result<(), Memory>
     requires { CondFits (condition cond.now) }
-    ensures { OnOk result (out.new ≡ out.old ++ map (below path.now) (marks (condition cond.now) up)) }
+    ensures { OnOk result
+        (out.new ≡ out.old ++ map (below path.now) (marks (condition cond.now) up)) }
 {
     match cond {
         Cond::True => Ok(()),
@@ -128,10 +132,10 @@ fn marks_from(alloc: Global, cond: &Cond, start: i64) -> Result<Rows<Mark>, Memo
     Ok(found)
 }
 
-/// Returns the marks at which a document can begin to be given from the start on, each with the path of its rows: the
-/// document's arrival first, then the marks of the condition in their order, and the start if it is above 0. `start` is
-/// in seconds since 1970-01-01T00:00:00Z. `Memory` if out of memory. The condition names no variable but `m` and those
-/// that its EXISTS bind.
+/// Returns the marks at which a document can begin to be given from the start on, each with the
+/// path of its rows: the document's arrival first, then the marks of the condition in their order,
+/// and the start if it is above 0. `start` is in seconds since 1970-01-01T00:00:00Z. `Memory` if
+/// out of memory. The condition names no variable but `m` and those that its EXISTS bind.
 pub fn rising_from(alloc: Global, cond: &Cond, start: i64) -> Result<Rows<Mark>, Memory>
     requires { IsQuery (condition cond.now) }
     ensures { IfOk result (λ found. found ≡ rising_from (condition cond.now) start) }
@@ -140,7 +144,8 @@ pub fn rising_from(alloc: Global, cond: &Cond, start: i64) -> Result<Rows<Mark>,
     Ok(found)
 }
 
-/// Returns the rising marks of a condition that is asked for all seconds from 0. `Memory` if out of memory.
+/// Returns the rising marks of a condition that is asked for all seconds from 0. `Memory` if out of
+/// memory.
 pub fn rising(alloc: Global, cond: &Cond) -> Result<Rows<Mark>, Memory>
     requires { IsQuery (condition cond.now) }
     ensures { IfOk result (λ found. found ≡ rising_from (condition cond.now) (pos 0)) }

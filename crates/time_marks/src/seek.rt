@@ -8,9 +8,9 @@ ghost use Rattle.time_marks.specs.Seeks.{seek_of, seek_window, marked_at, CanSee
 use crate::Window;
 use tql_core::{Base, Term, Var};
 
-/// Says where the stored seconds of a driving row are looked for. A mark is the stored second, which is the arrival or the
-/// date of the variable's row, plus `plus` seconds, or the start of the first UTC day that is not before that. A fixed
-/// mark has no driving row.
+/// Says where the stored seconds of a driving row are looked for. A mark is the stored second,
+/// which is the arrival or the date of the variable's row, plus `plus` seconds, or the start of the
+/// first UTC day that is not before that. A fixed mark has no driving row.
 #[derive(Clone, Copy, Debug, PartialEq, Eq)]
 pub enum Seek {
     Arrived { var: Var, plus: i64 },
@@ -68,8 +68,8 @@ impl Seek {
         }
     }
 
-    /// Returns the window of the stored seconds whose marks lie in the window: the window, or for days that of the days,
-    /// moved back by `plus`. Of a fixed mark it is the window itself.
+    /// Returns the window of the stored seconds whose marks lie in the window: the window, or for
+    /// days that of the days, moved back by `plus`. Of a fixed mark it is the window itself.
     #[tactic(auto, using(crate::proofs::SeekLaws::seek_found))]
     pub fn window(self, w: Window) -> Window
         requires window { CanSeek self w }

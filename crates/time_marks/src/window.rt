@@ -48,7 +48,8 @@ fn moved_end(end: i64, by: i64) -> i64
     end + by
 }
 
-// Returns the end of the window of days: the first second whose next start of a day is not before this end.
+// Returns the end of the window of days: the first second whose next start of a day is not before
+// this end.
 fn day_end(end: i64) -> i64
     requires { IsWithin 900000000000 end }
     ensures { result ≡ round_up_to_day end -ℤ pos 86399 }
@@ -57,7 +58,8 @@ fn day_end(end: i64) -> i64
 }
 
 impl Window {
-    /// Returns whether the second is in the window. It takes no memory, and neither do the other calls.
+    /// Returns whether the second is in the window. It takes no memory, and neither do the other
+    /// calls.
     pub fn contains(&self, x: i64) -> bool
         ensures { result ≡ is_within self.now x }
     {
@@ -88,8 +90,8 @@ impl Window {
         }
     }
 
-    /// Returns the window that has a second if and only if this one has the start of the first UTC day that is not before
-    /// it.
+    /// Returns the window that has a second if and only if this one has the start of the first UTC
+    /// day that is not before it.
     pub fn to_days(self) -> Window
         requires low { IsWithin 900000000000 self.low }
         requires high { IsWithin 900000000000 self.high }

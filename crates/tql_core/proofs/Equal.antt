@@ -18,7 +18,13 @@ condition_is (NowBefore a) (NowBefore b) h = ap NowBefore (term_is a b h)
 condition_is (All l r) (All l' r') h = let p = and_parts _ _ h in let e = condition_is l l' p.0 in let f = condition_is r r' p.1 in cc
 condition_is (Either l r) (Either l' r') h = let p = and_parts _ _ h in let e = condition_is l l' p.0 in let f = condition_is r r' p.1 in cc
 condition_is (Not x) (Not y) h = ap Not (condition_is x y h)
-condition_is (Exists v t x) (Exists w u y) h = let p = and_parts _ _ h in let q = and_parts _ _ p.1 in let e = var_is v w p.0 in let f = table_is t u q.0 in let g = condition_is x y q.1 in cc
+condition_is (Exists v t x) (Exists w u y) h =
+    let p = and_parts _ _ h in
+    let q = and_parts _ _ p.1 in
+    let e = var_is v w p.0 in
+    let f = table_is t u q.0 in
+    let g = condition_is x y q.1 in
+    cc
 condition_is _ _ h = absurd (false≢true h)
 
 pub itself : (x : Condition) → same_condition x x ≡ true

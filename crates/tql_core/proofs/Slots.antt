@@ -45,5 +45,6 @@ module _ (slots : List Slot) (start : ℕ) (slot : Slot) (v : Var) (r : RowRef) 
   )
 
 -- the slots in use are those from the start on
-pub used-bounds : (slots : List Slot) (start : ℕ) → length slots ≡ 16 → bounds_of (take (16 - start) (drop start slots)) ≡ bounds_of (drop start slots)
+pub used-bounds : (slots : List Slot) (start : ℕ) → length slots ≡ 16
+    → bounds_of (take (16 - start) (drop start slots)) ≡ bounds_of (drop start slots)
 used-bounds slots start sixteen = ap bounds_of (take_all (16 - start) (drop start slots) (omega (arith, length-drop start slots, sixteen)))

@@ -3,8 +3,8 @@
 use crate::{Term, Var};
 use tap_base::{Copied, Memory, Op, Text};
 
-/// Names a field that is a number: a row's number, a document's size in bytes, the number of the document that a note is
-/// on, a note's value.
+/// Names a field that is a number: a row's number, a document's size in bytes, the number of the
+/// document that a note is on, a note's value.
 #[derive(Clone, Copy, Debug, PartialEq, Eq, Hash)]
 pub enum NumField {
     Id,
@@ -49,8 +49,8 @@ pub enum TextExpr {
     Field(Var, TextField),
 }
 
-/// Holds a condition on rows that doesn't speak of now: a comparison of two numbers, texts or times, or that a list
-/// has a text.
+/// Holds a condition on rows that doesn't speak of now: a comparison of two numbers, texts or
+/// times, or that a list has a text.
 #[derive(PartialEq, Eq, Hash, Drop)]
 pub enum Atom {
     Numbers(NumExpr, Op, NumExpr),

@@ -3,7 +3,8 @@ ghost use Rattle.std.specs.Prelude.{◌≡◌, Option, Some, option_copied};
 ghost use Rattle.std.specs.List.{list_any};
 ghost use Rattle.std.specs.declared.cmp.Ordering.{Ordering};
 ghost use Rattle.std.specs.Ordering.{is_eq};
-ghost use Rattle.tql_core.specs.Values.{lookup, on_row, field, number, text_field, text, list_field, compare, both};
+ghost use Rattle.tql_core.specs.Values.{lookup, on_row, field, number, text_field, text};
+ghost use Rattle.tql_core.specs.Values.{list_field, compare, both};
 ghost use Rattle.tql_core.specs.Values.{answers, text_cmp, both_texts, has, true_atom};
 ghost use Rattle.tql_core.specs.Bindings.{row_of};
 
@@ -51,8 +52,8 @@ fn field(which: NumField, row: RowRef) -> Option<i128>
     }
 }
 
-/// Returns the number that the expression has, or `None` if and only if its variable is unbound or its row has no such
-/// field.
+/// Returns the number that the expression has, or `None` if and only if its variable is unbound or
+/// its row has no such field.
 pub fn number(of: NumExpr, env: &Env) -> Option<i128>
     ensures { result ≡ number of env.now }
 {
@@ -96,7 +97,8 @@ fn text_field(field: TextField, row: RowRef<'_>) -> Option<&[u8]>
     }
 }
 
-/// Returns the text that the expression has, or `None` if and only if its variable is unbound or the field is absent.
+/// Returns the text that the expression has, or `None` if and only if its variable is unbound or
+/// the field is absent.
 pub fn text<'a>(of: &'a TextExpr, env: &Env<'a>) -> Option<&'a [u8]>
     ensures { option_copied result ≡ text of.now env.now }
 {
@@ -130,7 +132,8 @@ fn is_same(x: &[u8], y: &[u8]) -> bool
     x == y
 }
 
-// Returns whether the comparison of two texts by bytes holds. Equal texts are found without an order.
+// Returns whether the comparison of two texts by bytes holds. Equal texts are found without an
+// order.
 fn compares_texts(op: Op, x: &[u8], y: &[u8]) -> bool
     ensures { result ≡ answers op (text_cmp x.now y.now) }
 {

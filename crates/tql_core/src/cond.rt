@@ -2,8 +2,8 @@
 use crate::{Atom, Term, Var};
 use tql_tree::Table;
 
-/// Holds a condition, which may speak of now: now is at a term's second or later (`NowAtLeast`), or before it
-/// (`NowBefore`). `All` and `Either` join two conditions.
+/// Holds a condition, which may speak of now: now is at a term's second or later (`NowAtLeast`), or
+/// before it (`NowBefore`). `All` and `Either` join two conditions.
 #[derive(Drop)]
 pub enum Cond {
     True,

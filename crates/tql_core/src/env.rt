@@ -44,7 +44,8 @@ fn row_in<'a>(slots: &[Slot<'a>], var: u8) -> Option<RowRef<'a>>
 
 // Returns whether the slot's row, if it has one, arrived by this second.
 fn has_come_in(slot: Slot, second: i64) -> bool
-    ensures { result ≡ list_all (λ bound. int_le (arrival bound.row) second) (bounds_of (slot.entry ∷ [])) }
+    ensures { result
+        ≡ list_all (λ bound. int_le (arrival bound.row) second) (bounds_of (slot.entry ∷ [])) }
 {
     match slot {
         Slot::Free => true,
@@ -65,7 +66,8 @@ fn have_come(slots: &[Slot], second: i64) -> bool
     true
 }
 
-/// Holds the bound variables, at most 16, each with its row. It is seen as the list of them, the last one first.
+/// Holds the bound variables, at most 16, each with its row. It is seen as the list of them, the
+/// last one first.
 #[derive(Drop)]
 pub struct Env<'a> {
     // The slots from `start` on are in use, the last bound one first.
@@ -82,7 +84,8 @@ impl<'a> Model for Env<'a> {
 
     ghost view = { λ e. bounds_of (drop e.start e.slots) };
 
-    ghost invariant = { λ e. (length e.slots ≡ 16) × (e.start + length (bounds_of (drop e.start e.slots)) ≡ 16) };
+    ghost invariant = { λ e. (length e.slots ≡ 16)
+        × (e.start + length (bounds_of (drop e.start e.slots)) ≡ 16) };
 }
 
 impl<'a> Env<'a> {

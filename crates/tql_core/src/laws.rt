@@ -5,7 +5,8 @@ ghost use Rattle.tql_core.specs.Holds.{truth_of};
 ghost use Rattle.tql_core.specs.Same.{SameIsEqual};
 ghost use Rattle.tql_core.specs.Trees.{NodesSayTheirParts, TreesStay, EqualTreesHaveOneNumber};
 
-/// States that the truth of a condition at a second depends only on the documents and notes that arrived by then.
+/// States that the truth of a condition at a second depends only on the documents and notes that
+/// arrived by then.
 pub fn a_condition_is_of_its_second()
     ensures { (c : Condition) → IsOfTheSecond (truth_of c) }
 {}

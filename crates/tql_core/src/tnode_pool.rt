@@ -24,8 +24,8 @@ impl PoolNode for TNode {
     ghost exact = { node_is };
 }
 
-/// Returns the node of this number. Its condition is that of the number, and its parts have lower numbers. It takes no
-/// memory.
+/// Returns the node of this number. Its condition is that of the number, and its parts have lower
+/// numbers. It takes no memory.
 pub fn node_at(pool: &Pool<TNode>, id: NodeId) -> &TNode
     requires { IsPlaceOf pool.now id.0 }
     ensures says { tree_at pool.now id.0 ≡ node_tree (Some result.now) (tree_at pool.now) }

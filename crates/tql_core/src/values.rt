@@ -77,8 +77,9 @@ fn base_value(base: Base, env: &Env) -> Option<i128>
     }
 }
 
-/// Returns the second of a time, since 1970-01-01T00:00:00Z, or `None` if and only if its base is absent. A sum of any
-/// two numbers of 64 bits fits, so nothing is required of the row or of the term.
+/// Returns the second of a time, since 1970-01-01T00:00:00Z, or `None` if and only if its base is
+/// absent. A sum of any two numbers of 64 bits fits, so nothing is required of the row or of the
+/// term.
 pub fn value(term: Term, env: &Env) -> Option<i128>
     ensures { result ≡ value term env.now }
 {

@@ -4,7 +4,8 @@ ghost use Rattle.std.specs.Prelude.{◌≡◌, IfOk};
 use crate::Sign;
 use tap_base::{Memory, Text};
 
-/// Says what a token is: a word with A to Z lowered, a number, a text with each doubled quote as one, or a sign.
+/// Says what a token is: a word with A to Z lowered, a number, a text with each doubled quote as
+/// one, or a sign.
 #[derive(Drop)]
 pub enum Kind {
     Word(Text),

@@ -4,7 +4,8 @@ ghost use Rattle.std.specs.Prelude.{◌≡◌, IfOk};
 use crate::Kind;
 use tap_base::Memory;
 
-/// Holds a token, the place of its first byte, and the place after its last one. Places count bytes from 0.
+/// Holds a token, the place of its first byte, and the place after its last one. Places count bytes
+/// from 0.
 #[derive(Drop)]
 pub struct Token {
     pub kind: Kind,

@@ -24,7 +24,8 @@ begins_before n front rest b =
     record { more = rest ++ b.more; tree = b.tree; is_query = subst P (append_assoc front rest b.more) b.is_query }
 
 -- tokens that begin a query begin one up to each token
-begins_up_to : (n : ℕ) (ts before : List Token) (at : Token) (behind : List Token) → ts ≡ before ++ at ∷ behind → Begins n ts → Begins n (before ++ at ∷ [])
+begins_up_to : (n : ℕ) (ts before : List Token) (at : Token) (behind : List Token) → ts ≡ before ++ at ∷ behind → Begins n ts
+    → Begins n (before ++ at ∷ [])
 begins_up_to n ts before at behind e b =
     let P : List Token → Type 0 = Begins n in
     begins_before n (before ++ at ∷ []) behind (subst P (e ∙ sym (append_assoc before (at ∷ []) behind)) b)
@@ -36,7 +37,8 @@ whole_begins n ts x h =
     record { more = []; tree = x; is_query = subst P (sym (append-nil ts)) (found n ts x h) }
 
 -- there is one token up to which P holds no more
-one_stop : (P : List Token → Type 0) → ((u v : List Token) → P (u ++ v) → P u) → (b c : List Token) (s t : Token) (r q : List Token) → b ++ s ∷ r ≡ c ++ t ∷ q → P b → P c → (P (b ++ s ∷ []) → ⊥) → (P (c ++ t ∷ []) → ⊥) → (b ≡ c) × (s ≡ t)
+one_stop : (P : List Token → Type 0) → ((u v : List Token) → P (u ++ v) → P u) → (b c : List Token) (s t : Token) (r q : List Token)
+    → b ++ s ∷ r ≡ c ++ t ∷ q → P b → P c → (P (b ++ s ∷ []) → ⊥) → (P (c ++ t ∷ []) → ⊥) → (b ≡ c) × (s ≡ t)
 one_stop P down [] [] s t r q e x y m w = (refl, cc)
 one_stop P down [] (k ∷ c) s t r q e x y m w =
     let f : k ≡ s = cc in
@@ -55,7 +57,8 @@ one_stop P down (k ∷ b) (l ∷ c) s t r q e x y m w =
     let h : b ≡ c = z.0 in
     (cc, z.1)
 
-stop_of : (n : ℕ) (ts b c : List Token) (s t : Token) (r q : List Token) → ts ≡ b ++ s ∷ r → ts ≡ c ++ t ∷ q → Begins n b → Begins n c → (Begins n (b ++ s ∷ []) → ⊥) → (Begins n (c ++ t ∷ []) → ⊥) → (b ≡ c) × (s ≡ t)
+stop_of : (n : ℕ) (ts b c : List Token) (s t : Token) (r q : List Token) → ts ≡ b ++ s ∷ r → ts ≡ c ++ t ∷ q → Begins n b → Begins n c
+    → (Begins n (b ++ s ∷ []) → ⊥) → (Begins n (c ++ t ∷ []) → ⊥) → (b ≡ c) × (s ≡ t)
 stop_of n ts b c s t r q e f x y m w = one_stop (Begins n) (begins_before n) b c s t r q (sym e ∙ f) x y m w
 
 -- a token with which no query begins isn't one that only opens too many levels
@@ -79,7 +82,8 @@ deep_same n ts p q u d =
 no_memory : (n : ℕ) (ts : List Token) → query_at n ts ≡ Err Memory → ⊥
 no_memory n ts h = (first_stop n ts Memory h tt).place
 
-unexpected_is : (n : ℕ) (ts : List Token) (p : ℕ) → UnexpectedAt n ts p → (r : Result Syntax ParseFault) → query_at n ts ≡ r → r ≡ Err (Unexpected p)
+unexpected_is : (n : ℕ) (ts : List Token) (p : ℕ) → UnexpectedAt n ts p → (r : Result Syntax ParseFault) → query_at n ts ≡ r
+    → r ≡ Err (Unexpected p)
 unexpected_is n ts p u (Ok x) h = absurd (u.stops n (begins_up_to n ts u.before u.at u.behind u.tokens (whole_begins n ts x h)))
 unexpected_is n ts p u (Err (Unexpected q)) h = ap (λ (k : ℕ). Err (Unexpected k)) (unexpected_same n ts q p (first_unexpected n ts q h) u)
 unexpected_is n ts p u (Err (Deep q)) h = absurd (not_both n ts p q u (first_deep n ts q h))
@@ -95,8 +99,12 @@ deep_is n ts p d (Err Memory) h = absurd (no_memory n ts h)
 
 ended_is : (n : ℕ) (ts : List Token) → EndsEarly n ts → (r : Result Syntax ParseFault) → query_at n ts ≡ r → r ≡ Err Ended
 ended_is n ts e (Ok x) h = absurd (e.is_none x (found n ts x h))
-ended_is n ts e (Err (Unexpected q)) h = let u = first_unexpected n ts q h in absurd (u.stops n (begins_up_to n ts u.before u.at u.behind u.tokens e.begins))
-ended_is n ts e (Err (Deep q)) h = let d = first_deep n ts q h in absurd (d.stops (begins_up_to n ts d.before d.at d.behind d.tokens e.begins))
+ended_is n ts e (Err (Unexpected q)) h =
+    let u = first_unexpected n ts q h in
+    absurd (u.stops n (begins_up_to n ts u.before u.at u.behind u.tokens e.begins))
+ended_is n ts e (Err (Deep q)) h =
+    let d = first_deep n ts q h in
+    absurd (d.stops (begins_up_to n ts d.before d.at d.behind d.tokens e.begins))
 ended_is n ts e (Err Ended) h = refl
 ended_is n ts e (Err Memory) h = absurd (no_memory n ts h)
 

@@ -4,7 +4,9 @@ use Rattle.tql_lex.specs.declared.token.Token.{Token}
 use Rattle.tql_tree.specs.declared.shift.Shift.{Shift}
 use Rattle.tql_tree.specs.declared.expr.Expr.{Expr}
 use Rattle.tql_tree.specs.Syntax.{Syntax}
-use Rattle.tql_parse.specs.Grammar.{IsShift, forward, back, MayShift, none, some, IsExpr, number_is, negative, text_is, now, today, moment, field, IsCompare, compare, has, GrammarPart, Cond, Conj, One, Reads, conj_alone, or_conj, unit_alone, and_unit, not_unit, group, true_is, false_is, exists_is, compare_is}
+use Rattle.tql_parse.specs.Grammar.{IsShift, forward, back, MayShift, none, some, IsExpr, number_is, negative, text_is, now, today, moment}
+use Rattle.tql_parse.specs.Grammar.{field, IsCompare, compare, has, GrammarPart, Cond, Conj, One, Reads, conj_alone, or_conj, unit_alone}
+use Rattle.tql_parse.specs.Grammar.{and_unit, not_unit, group, true_is, false_is, exists_is, compare_is}
 use Rattle.tql_parse.specs.Reading.{conj_with, unit_at}
 use Rattle.tql_parse.proofs.Steps.{on_ok}
 use Rattle.tql_parse.proofs.Soundness.{on_unit_at, on_conj}
@@ -28,8 +30,14 @@ expr_less ts e rest (moment t x us s r k w h) = let l = may_less us s r h in ome
 expr_less ts e rest (field v d f us s r k a b h) = let l = may_less us s r h in omega arith
 
 compare_less : (ts : List Token) (x : Syntax) (rest : List Token) → IsCompare ts x rest → length rest < length ts
-compare_less ts x rest (compare us l o op mid r after a b c) = let p = expr_less us l (o ∷ mid) a in let q = expr_less mid r after c in omega arith
-compare_less ts x rest (has us l o mid r after a p b c) = let p = expr_less us l (o ∷ mid) a in let q = expr_less mid r after c in omega arith
+compare_less ts x rest (compare us l o op mid r after a b c) =
+    let p = expr_less us l (o ∷ mid) a in
+    let q = expr_less mid r after c in
+    omega arith
+compare_less ts x rest (has us l o mid r after a p b c) =
+    let p = expr_less us l (o ∷ mid) a in
+    let q = expr_less mid r after c in
+    omega arith
 
 pub less : (p : GrammarPart) (n : ℕ) (ts : List Token) (x : Syntax) (rest : List Token) → Reads p n ts x rest → length rest < length ts
 less p n ts x rest (conj_alone m us y r h) = less Conj m us y r h
@@ -47,4 +55,5 @@ pub unit_shrinks : (n : ℕ) → Shrinks (unit_at n)
 unit_shrinks n ts x e = less One n ts x.0 x.1 (on_ok (Reads One n ts) (unit_at n ts) x (on_unit_at n ts) e)
 
 pub conj_shrinks : (n : ℕ) → Shrinks (conj_with (unit_at n))
-conj_shrinks n ts x e = less Conj n ts x.0 x.1 (on_ok (Reads Conj n ts) (conj_with (unit_at n) ts) x (on_conj n (unit_at n) (on_unit_at n) ts) e)
+conj_shrinks n ts x e =
+    less Conj n ts x.0 x.1 (on_ok (Reads Conj n ts) (conj_with (unit_at n) ts) x (on_conj n (unit_at n) (on_unit_at n) ts) e)

@@ -1,5 +1,6 @@
 -- Reading looks at one token after another: what stands behind the first token at which it stops doesn't matter.
-use Rattle.std.proofs.Common.{◌≡◌, sym, refl, subst, arith, ℕ, zero, suc, ◌+◌, List, [], ◌∷◌, length, Bool, true, false, Ok, Err, Option, None}
+use Rattle.std.proofs.Common.{◌≡◌, sym, refl, subst, arith, ℕ, zero, suc, ◌+◌, List, [], ◌∷◌, length, Bool, true, false, Ok, Err, Option}
+use Rattle.std.proofs.Common.{None}
 use Rattle.tql_lex.specs.declared.sign.Sign.TheVariants as S
 use Rattle.tql_lex.specs.declared.kind.Kind.{Kind}
 use Rattle.tql_lex.specs.declared.token.Token.{Token}
@@ -16,9 +17,12 @@ use Rattle.tql_parse.specs.declared.key.Opening.{Opening}
 use Rattle.tql_parse.specs.declared.key.Opening.TheVariants as O
 use Rattle.tql_parse.specs.declared.fault.ParseFault.{ParseFault}
 use Rattle.tql_parse.specs.declared.fault.ParseFault.TheVariants.{Unexpected, Ended, Deep, Memory}
-use Rattle.tql_parse.specs.Keys.{key, number_of_kind, bytes, is_word, is_number, is_text, is_name_key, is_and, is_or, is_where, is_open, is_close, is_dot, is_colon, opening}
+use Rattle.tql_parse.specs.Keys.{key, number_of_kind, bytes, is_word, is_number, is_text, is_name_key, is_and, is_or, is_where, is_open}
+use Rattle.tql_parse.specs.Keys.{is_close, is_dot, is_colon, opening}
 use Rattle.tql_tree.specs.Proper.{is_plain}
-use Rattle.tql_parse.specs.Reading.{Read, ◌>>=◌, one, unit_name, table_at, shift_after, shift_at, negative_at, now_at, today_at, moment_at, field_at, expr_at, right_at, compare_at, chain, chained, conj_with, cond_with, group_with, head_at, exists_with, not_with, unit_at, cond_at}
+use Rattle.tql_parse.specs.Reading.{Read, ◌>>=◌, one, unit_name, table_at, shift_after, shift_at, negative_at, now_at, today_at, moment_at}
+use Rattle.tql_parse.specs.Reading.{field_at, expr_at, right_at, compare_at, chain, chained, conj_with, cond_with, group_with, head_at}
+use Rattle.tql_parse.specs.Reading.{exists_with, not_with, unit_at, cond_at}
 use Rattle.tql_parse.proofs.Chains.{Shrinks, same}
 use Rattle.tql_parse.proofs.Lengths.{unit_shrinks, conj_shrinks}
 use Rattle.tql_parse.proofs.Units.{at_zero, at_suc, unit_end}
@@ -61,7 +65,9 @@ pub spent_bind : (A B : Type 0) (y : Read A) (h : A × List Token → Read B) �
 spent_bind A B (Ok x) h q k = subst (λ (rest : List Token). Spent (h (x.0, rest))) (sym q) (k x.0)
 spent_bind A B (Err e) h q k = q
 
-out_bind : (A B : Type 0) (t : Token) (h : A × List Token → Read B) (x y z : Read A) → Out A t x y z → ((a : A) (b r s : List Token) → Sim t b r s → Out B t (h (a, b)) (h (a, r)) (h (a, s))) → ((a : A) → Spent (h (a, []))) → Out B t (x >>= h) (y >>= h) (z >>= h)
+out_bind : (A B : Type 0) (t : Token) (h : A × List Token → Read B) (x y z : Read A) → Out A t x y z
+    → ((a : A) (b r s : List Token) → Sim t b r s → Out B t (h (a, b)) (h (a, r)) (h (a, s))) → ((a : A) → Spent (h (a, [])))
+    → Out B t (x >>= h) (y >>= h) (z >>= h)
 out_bind A B t h x y z (go a b r s m) f k = f a b r s m
 out_bind A B t h x y z (spent u v w q) f k = spent (u >>= h) (v >>= h) (w >>= h) (spent_bind A B v h q k)
 out_bind A B t h x y z (early e n) f k = early e n
@@ -75,8 +81,10 @@ pub record Lookahead (A : Type 0) (f : List Token → Read A) : Type 0 where
 pub tame_ok : (A : Type 0) (a : A) → Lookahead A (λ ts. Ok (a, ts))
 tame_ok A a = record { spent = refl; out = λ t b r s m. go a b r s m }
 
-pub tame_bind : (A B : Type 0) (g : List Token → Read A) (h : A × List Token → Read B) → Lookahead A g → ((a : A) → Lookahead B (λ ts. h (a, ts))) → Lookahead B (λ ts. g ts >>= h)
-tame_bind A B g h tg k = record { spent = spent_bind A B (g []) h tg.spent (λ a. (k a).spent); out = λ t b r s m. out_bind A B t h (g b) (g r) (g s) (tg.out t b r s m) (λ a b' r' s' n. (k a).out t b' r' s' n) (λ a. (k a).spent) }
+pub tame_bind : (A B : Type 0) (g : List Token → Read A) (h : A × List Token → Read B) → Lookahead A g
+    → ((a : A) → Lookahead B (λ ts. h (a, ts))) → Lookahead B (λ ts. g ts >>= h)
+tame_bind A B g h tg k = record { spent = spent_bind A B (g []) h tg.spent (λ a. (k a).spent);
+      out = λ t b r s m. out_bind A B t h (g b) (g r) (g s) (tg.out t b r s m) (λ a b' r' s' n. (k a).out t b' r' s' n) (λ a. (k a).spent) }
 
 -- what is done at a token: it is taken, refused, or left to another reading
 data Choice (A : Type 0) (f : List Token → Read A) (t : Token) : Type 0 where
@@ -128,7 +136,8 @@ tame_table : Lookahead Table table_at
 tame_table = tame_choice Table table_at refl (λ t. table_choice (key t.kind) t refl)
 
 tame_shift_after : (place : ℕ) (back : Bool) → Lookahead (Option Shift) (shift_after place back)
-tame_shift_after place back = tame_bind Token (Option Shift) (one (λ k. is_number (key k))) _ (tame_one (λ k. is_number (key k))) (λ count. tame_bind TimeUnit (Option Shift) unit_name _ tame_unit_name (λ u. tame_ok (Option Shift) _))
+tame_shift_after place back = tame_bind Token (Option Shift) (one (λ k. is_number (key k))) _ (tame_one (λ k. is_number (key k))) (λ count.
+    tame_bind TimeUnit (Option Shift) unit_name _ tame_unit_name (λ u. tame_ok (Option Shift) _))
 
 shift_choice : (k : Key) (t : Token) → key t.kind ≡ k → Choice (Option Shift) shift_at t
 shift_choice (K.Mark S.Plus) t e = taken (shift_after t.place false) (tame_shift_after t.place false) (λ rest. rw e refl)
@@ -148,10 +157,12 @@ tame_today : (place : ℕ) → Lookahead Expr (today_at place)
 tame_today place = tame_bind (Option Shift) Expr shift_at _ tame_shift (λ s. tame_ok Expr _)
 
 tame_moment : Lookahead Expr moment_at
-tame_moment = tame_bind Token Expr (one (λ k. is_text (key k))) _ (tame_one (λ k. is_text (key k))) (λ x. tame_bind (Option Shift) Expr shift_at _ tame_shift (λ s. tame_ok Expr _))
+tame_moment = tame_bind Token Expr (one (λ k. is_text (key k))) _ (tame_one (λ k. is_text (key k))) (λ x.
+    tame_bind (Option Shift) Expr shift_at _ tame_shift (λ s. tame_ok Expr _))
 
 tame_field : (var : Token) → Lookahead Expr (field_at var)
-tame_field var = tame_bind Token Expr (one (λ k. is_dot (key k))) _ (tame_one (λ k. is_dot (key k))) (λ d. tame_bind Token Expr (one is_word) _ (tame_one is_word) (λ n. tame_bind (Option Shift) Expr shift_at _ tame_shift (λ s. tame_ok Expr _)))
+tame_field var = tame_bind Token Expr (one (λ k. is_dot (key k))) _ (tame_one (λ k. is_dot (key k))) (λ d. tame_bind Token Expr
+    (one is_word) _ (tame_one is_word) (λ n. tame_bind (Option Shift) Expr shift_at _ tame_shift (λ s. tame_ok Expr _)))
 
 expr_choice : (k : Key) (t : Token) → key t.kind ≡ k → Choice Expr expr_at t
 expr_choice K.Number t e = taken (λ rest. Ok (E.Number t.place (number_of_kind t.kind), rest)) (tame_ok Expr _) (λ rest. rw e refl)
@@ -167,11 +178,13 @@ tame_expr : Lookahead Expr expr_at
 tame_expr = tame_choice Expr expr_at refl (λ t. expr_choice (key t.kind) t refl)
 
 has_choice : (b : Bool) (left : Expr) (t : Token) → is_plain left ≡ b → key t.kind ≡ K.Has → Choice Syntax (right_at left) t
-has_choice true left t p e = taken (λ rest. expr_at rest >>= λ right. Ok (Has left t.place right.0, right.1)) (tame_bind Expr Syntax expr_at _ tame_expr (λ right. tame_ok Syntax _)) (λ rest. rw (e, p) refl)
+has_choice true left t p e = taken (λ rest. expr_at rest >>= λ right. Ok (Has left t.place right.0, right.1))
+    (tame_bind Expr Syntax expr_at _ tame_expr (λ right. tame_ok Syntax _)) (λ rest. rw (e, p) refl)
 has_choice false left t p e = refused (Unexpected t.place) refl (λ rest. rw (e, p) refl)
 
 right_choice : (k : Key) (left : Expr) (t : Token) → key t.kind ≡ k → Choice Syntax (right_at left) t
-right_choice (K.Mark (S.Compare op)) left t e = taken (λ rest. expr_at rest >>= λ right. Ok (Compare left op t.place right.0, right.1)) (tame_bind Expr Syntax expr_at _ tame_expr (λ right. tame_ok Syntax _)) (λ rest. rw e refl)
+right_choice (K.Mark (S.Compare op)) left t e = taken (λ rest. expr_at rest >>= λ right. Ok (Compare left op t.place right.0, right.1))
+    (tame_bind Expr Syntax expr_at _ tame_expr (λ right. tame_ok Syntax _)) (λ rest. rw e refl)
 right_choice K.Has left t e = has_choice (is_plain left) left t refl e
 right_choice _ left t e = refused (Unexpected t.place) refl (λ rest. rw e refl)
 
@@ -186,7 +199,8 @@ module _ (sep : Key → Bool) (join : Syntax → Syntax → Syntax) (part : List
   tame_chain zero x = tame_ok Syntax x
   tame_chain (suc k) x = tame_choice Syntax (chain sep join part (suc k) x) refl (λ t.
       elim (sep (key t.kind)) as (λ b. sep (key t.kind) ≡ b → Choice Syntax (chain sep join part (suc k) x) t) [
-        | true ↦ λ e. taken (λ rest. part rest >>= λ r. chain sep join part k (join x r.0) r.1) (tame_bind Syntax Syntax part _ tame_part (λ a. tame_chain k (join x a))) (λ rest. rw e refl)
+        | true ↦ λ e. taken (λ rest. part rest >>= λ r. chain sep join part k (join x r.0) r.1)
+          (tame_bind Syntax Syntax part _ tame_part (λ a. tame_chain k (join x a))) (λ rest. rw e refl)
         | false ↦ λ e. kept (λ ts. Ok (x, ts)) (tame_ok Syntax x) refl (λ rest. rw e refl)
       ] refl)
 
@@ -195,7 +209,10 @@ module _ (sep : Key → Bool) (join : Syntax → Syntax → Syntax) (part : List
     spent = refl;
     out = λ t b r s m.
         let k = length b + length r + length s in
-        three Syntax part t _ _ _ (chain sep join part k x b) (chain sep join part k x r) (chain sep join part k x s) (same sep join part sh (length b) k x b (omega arith) (omega arith)) (same sep join part sh (length r) k x r (omega arith) (omega arith)) (same sep join part sh (length s) k x s (omega arith) (omega arith)) ((tame_chain k x).out t b r s m);
+        three Syntax part t _ _ _ (chain sep join part k x b) (chain sep join part k x r) (chain sep join part k x s)
+          (same sep join part sh (length b) k x b (omega arith) (omega arith))
+          (same sep join part sh (length r) k x r (omega arith) (omega arith))
+          (same sep join part sh (length s) k x s (omega arith) (omega arith)) ((tame_chain k x).out t b r s m);
   }
 
 module _ (n : ℕ) (tame_unit : Lookahead Syntax (unit_at n)) where
@@ -203,16 +220,23 @@ module _ (n : ℕ) (tame_unit : Lookahead Syntax (unit_at n)) where
   tame_conj = tame_bind Syntax Syntax (unit_at n) _ tame_unit (λ x. tame_chained is_and And (unit_at n) tame_unit (unit_shrinks n) x)
 
   tame_cond : Lookahead Syntax (cond_with (unit_at n))
-  tame_cond = tame_bind Syntax Syntax (conj_with (unit_at n)) _ tame_conj (λ x. tame_chained is_or Or (conj_with (unit_at n)) tame_conj (conj_shrinks n) x)
+  tame_cond = tame_bind Syntax Syntax (conj_with (unit_at n)) _ tame_conj (λ x.
+      tame_chained is_or Or (conj_with (unit_at n)) tame_conj (conj_shrinks n) x)
 
   tame_group : Lookahead Syntax (group_with (unit_at n))
-  tame_group = tame_bind Syntax Syntax (cond_with (unit_at n)) _ tame_cond (λ x. tame_bind Token Syntax (one (λ k. is_close (key k))) _ (tame_one (λ k. is_close (key k))) (λ c. tame_ok Syntax x))
+  tame_group = tame_bind Syntax Syntax (cond_with (unit_at n)) _ tame_cond (λ x.
+      tame_bind Token Syntax (one (λ k. is_close (key k))) _ (tame_one (λ k. is_close (key k))) (λ c. tame_ok Syntax x))
 
   pub tame_head : Lookahead (Token × Table) head_at
-  tame_head = tame_bind Token (Token × Table) (one (λ k. is_open (key k))) _ (tame_one (λ k. is_open (key k))) (λ o. tame_bind Token (Token × Table) (one (λ k. is_name_key (key k))) _ (tame_one (λ k. is_name_key (key k))) (λ v. tame_bind Token (Token × Table) (one (λ k. is_colon (key k))) _ (tame_one (λ k. is_colon (key k))) (λ c. tame_bind Table (Token × Table) table_at _ tame_table (λ w. tame_bind Token (Token × Table) (one (λ k. is_where (key k))) _ (tame_one (λ k. is_where (key k))) (λ z. tame_ok (Token × Table) _)))))
+  tame_head = tame_bind Token (Token × Table) (one (λ k. is_open (key k))) _ (tame_one (λ k. is_open (key k))) (λ o.
+      tame_bind Token (Token × Table) (one (λ k. is_name_key (key k))) _ (tame_one (λ k. is_name_key (key k))) (λ v.
+      tame_bind Token (Token × Table) (one (λ k. is_colon (key k))) _ (tame_one (λ k. is_colon (key k))) (λ c.
+      tame_bind Table (Token × Table) table_at _ tame_table (λ w. tame_bind Token (Token × Table) (one (λ k. is_where (key k))) _
+      (tame_one (λ k. is_where (key k))) (λ z. tame_ok (Token × Table) _)))))
 
   tame_exists : Lookahead Syntax (exists_with (unit_at n))
-  tame_exists = tame_bind (Token × Table) Syntax head_at _ tame_head (λ h. tame_bind Syntax Syntax (group_with (unit_at n)) _ tame_group (λ x. tame_ok Syntax _))
+  tame_exists = tame_bind (Token × Table) Syntax head_at _ tame_head (λ h.
+      tame_bind Syntax Syntax (group_with (unit_at n)) _ tame_group (λ x. tame_ok Syntax _))
 
   tame_not : Lookahead Syntax (not_with (unit_at n))
   tame_not = tame_bind Syntax Syntax (unit_at n) _ tame_unit (λ x. tame_ok Syntax _)
@@ -240,7 +264,8 @@ unit_spent n = let e : unit_at n [] ≡ Err Ended = unit_end n [] refl in subst 
 
 pub tame_unit_at : (n : ℕ) → Lookahead Syntax (unit_at n)
 tame_unit_at zero = tame_choice Syntax (unit_at 0) (unit_spent 0) (λ t. zero_choice (opening (key t.kind)) t refl)
-tame_unit_at (suc n) = tame_choice Syntax (unit_at (suc n)) (unit_spent (suc n)) (λ t. suc_choice n (tame_unit_at n) (opening (key t.kind)) t refl)
+tame_unit_at (suc n) =
+    tame_choice Syntax (unit_at (suc n)) (unit_spent (suc n)) (λ t. suc_choice n (tame_unit_at n) (opening (key t.kind)) t refl)
 
 pub tame_cond_at : (n : ℕ) → Lookahead Syntax (cond_at n)
 tame_cond_at n = tame_cond n (tame_unit_at n)

@@ -12,7 +12,9 @@ use Rattle.tql_tree.specs.Proper.{IsCounted, IsProperExpr, IsProper}
 use Rattle.tql_parse.specs.declared.fault.ParseFault.{ParseFault}
 use Rattle.tql_parse.specs.declared.key.Key.TheVariants as K
 use Rattle.tql_parse.specs.Keys.{key, number_of_kind, is_number}
-use Rattle.tql_parse.specs.Grammar.{IsShift, forward, back, MayShift, none, some, IsExpr, number_is, negative, text_is, now, today, moment, field, IsCompare, compare, has, GrammarPart, Cond, Conj, One, Reads, conj_alone, or_conj, unit_alone, and_unit, not_unit, group, true_is, false_is, exists_is, compare_is, AreQueryTokens}
+use Rattle.tql_parse.specs.Grammar.{IsShift, forward, back, MayShift, none, some, IsExpr, number_is, negative, text_is, now, today, moment}
+use Rattle.tql_parse.specs.Grammar.{field, IsCompare, compare, has, GrammarPart, Cond, Conj, One, Reads, conj_alone, or_conj, unit_alone}
+use Rattle.tql_parse.specs.Grammar.{and_unit, not_unit, group, true_is, false_is, exists_is, compare_is, AreQueryTokens}
 
 count_at_least : (k : Kind) → is_number (key k) ≡ true → pos 0 ≤ℤ number_of_kind k
 count_at_least (W.Word w) e = omega (arith, ints)
@@ -57,6 +59,7 @@ reads_proper p n ts x rest (false_is m t r k) = tt
 reads_proper p n ts x rest (exists_is m t o v co ta wh which us y close r a b c d e f g h) = reads_proper Cond m us y (close ∷ r) g
 reads_proper p n ts x rest (compare_is m us y r h) = compare_proper us y r h
 
-pub found_proper : {X : Type 0} (n : ℕ) (ts : List Token) (view : X → Syntax) (r : Result X ParseFault) → IfOk r (λ x. AreQueryTokens n ts (view x)) → IfOk r (λ x. IsProper (view x))
+pub found_proper : {X : Type 0} (n : ℕ) (ts : List Token) (view : X → Syntax) (r : Result X ParseFault)
+    → IfOk r (λ x. AreQueryTokens n ts (view x)) → IfOk r (λ x. IsProper (view x))
 found_proper n ts view (Ok x) h = reads_proper Cond n ts (view x) [] h
 found_proper n ts view (Err f) h = tt

@@ -14,7 +14,9 @@ use Rattle.tql_parse.specs.declared.fault.ParseFault.{ParseFault}
 use Rattle.tql_parse.specs.declared.fault.ParseFault.TheVariants.{Unexpected, Deep}
 use Rattle.tql_parse.specs.Keys.{key, is_word, is_number, is_text, is_name_key, is_where, is_open, is_dot, is_colon}
 use Rattle.tql_tree.specs.Proper.{is_plain}
-use Rattle.tql_parse.specs.Reading.{Read, ◌>>=◌, one, unit_by, unit_name, table_by, table_at, shift_after, shift_by, shift_at, negative_at, now_at, today_at, moment_at, field_at, expr_by, expr_at, has_at, right_by, right_at, compare_at, head_at}
+use Rattle.tql_parse.specs.Reading.{Read, ◌>>=◌, one, unit_by, unit_name, table_by, table_at, shift_after, shift_by, shift_at, negative_at}
+use Rattle.tql_parse.specs.Reading.{now_at, today_at, moment_at, field_at, expr_by, expr_at, has_at, right_by, right_at, compare_at}
+use Rattle.tql_parse.specs.Reading.{head_at}
 
 -- no level is missed
 abbrev pub Shallow : (A : Type 0) → (List Token → Read A) → Type 0
@@ -23,7 +25,8 @@ Shallow A f = (ts : List Token) (p : ℕ) → f ts ≡ Err (Deep p) → ⊥
 pub shallow_ok : (A : Type 0) (a : A) → Shallow A (λ ts. Ok (a, ts))
 shallow_ok A a ts p e = cc
 
-module _ (A B : Type 0) (g : List Token → Read A) (h : A × List Token → Read B) (sg : Shallow A g) (sh : (a : A) → Shallow B (λ ts. h (a, ts))) where
+module _ (A B : Type 0) (g : List Token → Read A) (h : A × List Token → Read B) (sg : Shallow A g)
+    (sh : (a : A) → Shallow B (λ ts. h (a, ts))) where
   bind_by : (ts : List Token) (p : ℕ) (r : Read A) → g ts ≡ r → (r >>= h) ≡ Err (Deep p) → ⊥
   bind_by ts p (Ok x) e k = sh x.0 x.1 p k
   bind_by ts p (Err d) e k = let q : d ≡ Deep p = cc in sg ts p (e ∙ ap (λ (d : ParseFault). Err d) q)
@@ -57,7 +60,8 @@ shallow_table [] p e = cc
 shallow_table (t ∷ rest) p e = table_key (key t.kind) t rest p e
 
 shallow_shift_after : (place : ℕ) (back : Bool) → Shallow (Option Shift) (shift_after place back)
-shallow_shift_after place back = shallow_bind Token (Option Shift) (one (λ k. is_number (key k))) _ (shallow_one (λ k. is_number (key k))) (λ count. shallow_bind TimeUnit (Option Shift) unit_name _ shallow_unit (λ u. shallow_ok (Option Shift) _))
+shallow_shift_after place back = shallow_bind Token (Option Shift) (one (λ k. is_number (key k))) _ (shallow_one (λ k. is_number (key k)))
+    (λ count. shallow_bind TimeUnit (Option Shift) unit_name _ shallow_unit (λ u. shallow_ok (Option Shift) _))
 
 shift_key : (k : Key) (t : Token) (rest : List Token) (p : ℕ) → shift_by k t rest ≡ Err (Deep p) → ⊥
 shift_key (K.Mark S.Plus) t rest p e = shallow_shift_after t.place false rest p e
@@ -69,7 +73,8 @@ shallow_shift [] p e = cc
 shallow_shift (t ∷ rest) p e = shift_key (key t.kind) t rest p e
 
 shallow_negative : (place : ℕ) → Shallow Expr (negative_at place)
-shallow_negative place = shallow_bind Token Expr (one (λ k. is_number (key k))) _ (shallow_one (λ k. is_number (key k))) (λ n. shallow_ok Expr _)
+shallow_negative place =
+    shallow_bind Token Expr (one (λ k. is_number (key k))) _ (shallow_one (λ k. is_number (key k))) (λ n. shallow_ok Expr _)
 
 shallow_now : (place : ℕ) → Shallow Expr (now_at place)
 shallow_now place = shallow_bind (Option Shift) Expr shift_at _ shallow_shift (λ s. shallow_ok Expr _)
@@ -78,10 +83,12 @@ shallow_today : (place : ℕ) → Shallow Expr (today_at place)
 shallow_today place = shallow_bind (Option Shift) Expr shift_at _ shallow_shift (λ s. shallow_ok Expr _)
 
 shallow_moment : Shallow Expr moment_at
-shallow_moment = shallow_bind Token Expr (one (λ k. is_text (key k))) _ (shallow_one (λ k. is_text (key k))) (λ x. shallow_bind (Option Shift) Expr shift_at _ shallow_shift (λ s. shallow_ok Expr _))
+shallow_moment = shallow_bind Token Expr (one (λ k. is_text (key k))) _ (shallow_one (λ k. is_text (key k))) (λ x.
+    shallow_bind (Option Shift) Expr shift_at _ shallow_shift (λ s. shallow_ok Expr _))
 
 shallow_field : (var : Token) → Shallow Expr (field_at var)
-shallow_field var = shallow_bind Token Expr (one (λ k. is_dot (key k))) _ (shallow_one (λ k. is_dot (key k))) (λ d. shallow_bind Token Expr (one is_word) _ (shallow_one is_word) (λ n. shallow_bind (Option Shift) Expr shift_at _ shallow_shift (λ s. shallow_ok Expr _)))
+shallow_field var = shallow_bind Token Expr (one (λ k. is_dot (key k))) _ (shallow_one (λ k. is_dot (key k))) (λ d. shallow_bind Token Expr
+    (one is_word) _ (shallow_one is_word) (λ n. shallow_bind (Option Shift) Expr shift_at _ shallow_shift (λ s. shallow_ok Expr _)))
 
 expr_key : (k : Key) (t : Token) (rest : List Token) (p : ℕ) → expr_by k t rest ≡ Err (Deep p) → ⊥
 expr_key K.Number t rest p e = cc
@@ -114,4 +121,8 @@ pub shallow_compare : Shallow Syntax compare_at
 shallow_compare = shallow_bind Expr Syntax expr_at _ shallow_expr (λ left. shallow_right left)
 
 pub shallow_head : Shallow (Token × Table) head_at
-shallow_head = shallow_bind Token (Token × Table) (one (λ k. is_open (key k))) _ (shallow_one (λ k. is_open (key k))) (λ o. shallow_bind Token (Token × Table) (one (λ k. is_name_key (key k))) _ (shallow_one (λ k. is_name_key (key k))) (λ v. shallow_bind Token (Token × Table) (one (λ k. is_colon (key k))) _ (shallow_one (λ k. is_colon (key k))) (λ c. shallow_bind Table (Token × Table) table_at _ shallow_table (λ w. shallow_bind Token (Token × Table) (one (λ k. is_where (key k))) _ (shallow_one (λ k. is_where (key k))) (λ z. shallow_ok (Token × Table) _)))))
+shallow_head = shallow_bind Token (Token × Table) (one (λ k. is_open (key k))) _ (shallow_one (λ k. is_open (key k))) (λ o.
+    shallow_bind Token (Token × Table) (one (λ k. is_name_key (key k))) _ (shallow_one (λ k. is_name_key (key k))) (λ v.
+    shallow_bind Token (Token × Table) (one (λ k. is_colon (key k))) _ (shallow_one (λ k. is_colon (key k))) (λ c.
+    shallow_bind Table (Token × Table) table_at _ shallow_table (λ w. shallow_bind Token (Token × Table) (one (λ k. is_where (key k))) _
+    (shallow_one (λ k. is_where (key k))) (λ z. shallow_ok (Token × Table) _)))))

@@ -10,11 +10,13 @@ abbrev pub On : {A : Type 0} → (A → List Token → Type 0) → Read A → Ty
 On P (Ok x) = P x.0 x.1
 On P (Err e) = Unit {0}
 
-pub on_bind : {A B : Type 0} (Q : A → List Token → Type 0) (P : B → List Token → Type 0) (r : Read A) (f : A × List Token → Read B) → On Q r → ((x : A × List Token) → Q x.0 x.1 → On P (f x)) → On P (r >>= f)
+pub on_bind : {A B : Type 0} (Q : A → List Token → Type 0) (P : B → List Token → Type 0) (r : Read A) (f : A × List Token → Read B) → On Q r
+    → ((x : A × List Token) → Q x.0 x.1 → On P (f x)) → On P (r >>= f)
 on_bind Q P (Ok x) f q h = h x q
 on_bind Q P (Err e) f q h = tt
 
-pub on_map : {A : Type 0} (Q P : A → List Token → Type 0) (r : Read A) → On Q r → ((a : A) (rest : List Token) → Q a rest → P a rest) → On P r
+pub on_map : {A : Type 0} (Q P : A → List Token → Type 0) (r : Read A) → On Q r → ((a : A) (rest : List Token) → Q a rest → P a rest)
+    → On P r
 on_map Q P (Ok x) q h = h x.0 x.1 q
 on_map Q P (Err e) q h = tt
 

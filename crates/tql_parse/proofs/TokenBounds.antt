@@ -1,5 +1,6 @@
 -- What a tree holds whose tokens are those of a text.
-use Rattle.std.proofs.Common.{◌≡◌, ap, refl, subst, arith, ℕ, zero, suc, ℤ, pos, negsuc, List, [], ◌∷◌, ◌+◌, ◌≤◌, ◌-ℤ◌, Bool, true, false, Option, Some, None, if◌then◌else◌}
+use Rattle.std.proofs.Common.{◌≡◌, ap, refl, subst, arith, ℕ, zero, suc, ℤ, pos, negsuc, List, [], ◌∷◌, ◌+◌, ◌≤◌, ◌-ℤ◌, Bool, true, false}
+use Rattle.std.proofs.Common.{Option, Some, None, if◌then◌else◌}
 use Rattle.std.specs.Prelude.{int_lt}
 use Rattle.std.specs.List.{list_all}
 use Rattle.std.specs.Str.{str_to_ascii_lowercase}
@@ -21,7 +22,10 @@ use Rattle.tql_parse.specs.declared.key.Key.{Key}
 use Rattle.tql_parse.specs.declared.key.Key.TheVariants as K
 use Rattle.tql_parse.specs.Keys.{key, word_key, number_of_kind, bytes, is_word, is_name_key}
 use Rattle.tql_tree.specs.Proper.{is_plain}
-use Rattle.tql_parse.specs.Grammar.{IsShift, forward, back, MayShift, none, some, IsExpr, number_is as the_number, negative, text_is as the_text, now, today, moment, field, IsCompare, compare, has, GrammarPart, Cond, Conj, One, Reads, conj_alone, or_conj, unit_alone, and_unit, not_unit, group, true_is, false_is, exists_is, compare_is}
+use Rattle.tql_parse.specs.Grammar.{IsShift, forward, back, MayShift, none, some, IsExpr, number_is as the_number, negative}
+use Rattle.tql_parse.specs.Grammar.{text_is as the_text, now, today, moment, field, IsCompare, compare, has, GrammarPart, Cond, Conj, One}
+use Rattle.tql_parse.specs.Grammar.{Reads, conj_alone, or_conj, unit_alone, and_unit, not_unit, group, true_is, false_is, exists_is}
+use Rattle.tql_parse.specs.Grammar.{compare_is}
 
 -- a word that is lowered
 abbrev pub IsWord : List ℕ → Type 0
@@ -172,7 +176,8 @@ compare_good ts x rest (has us l o mid r after a p b c) all = go (expr_good us l
 behind_one : (X : Type 0) (t : Token) (ts : List Token) → X × AllOfText (t ∷ ts) → X × AllOfText ts
 behind_one X t ts (x, cons u us h more) = (x, more)
 
-pub reads_good : (p : GrammarPart) (n : ℕ) (ts : List Token) (x : Syntax) (rest : List Token) → Reads p n ts x rest → AllOfText ts → TokenBounds x × AllOfText rest
+pub reads_good : (p : GrammarPart) (n : ℕ) (ts : List Token) (x : Syntax) (rest : List Token) → Reads p n ts x rest → AllOfText ts
+    → TokenBounds x × AllOfText rest
 reads_good p n ts x rest (conj_alone m us y r h) all = reads_good Conj m us y r h all
 reads_good p n ts x rest (or_conj m us l o mid y r a b c) all =
     let i = behind_one (TokenBounds l) o mid (reads_good Cond m us l (o ∷ mid) a all) in
@@ -184,10 +189,12 @@ reads_good p n ts x rest (and_unit m us l o mid y r a b c) all =
     let j = reads_good One m mid y r c i.1 in
     ((i.0, j.0), j.1)
 reads_good p n ts x rest (not_unit m t us y r k h) (cons u vs i more) = reads_good One m us y r h more
-reads_good p n ts x rest (group m t us y close r k h c) (cons u vs i more) = behind_one (TokenBounds y) close r (reads_good Cond m us y (close ∷ r) h more)
+reads_good p n ts x rest (group m t us y close r k h c) (cons u vs i more) =
+    behind_one (TokenBounds y) close r (reads_good Cond m us y (close ∷ r) h more)
 reads_good p n ts x rest (true_is m t r k) (cons u vs i more) = (tt, more)
 reads_good p n ts x rest (false_is m t r k) (cons u vs i more) = (tt, more)
-reads_good p n ts x rest (exists_is m t o v co ta wh which us y close r a b c d e f g h) (cons t1 u1 h1 (cons t2 u2 h2 (cons t3 u3 h3 (cons t4 u4 h4 (cons t5 u5 h5 (cons t6 u6 h6 more)))))) =
+reads_good p n ts x rest (exists_is m t o v co ta wh which us y close r a b c d e f g h)
+    (cons t1 u1 h1 (cons t2 u2 h2 (cons t3 u3 h3 (cons t4 u4 h4 (cons t5 u5 h5 (cons t6 u6 h6 more)))))) =
     let i = behind_one (TokenBounds y) close r (reads_good Cond m us y (close ∷ r) g more) in
     ((name_of_text v.kind h3 (plain_name (key v.kind) c), i.0), i.1)
 reads_good p n ts x rest (compare_is m us y r h) all = compare_good us y r h all

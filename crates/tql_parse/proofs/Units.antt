@@ -23,7 +23,8 @@ by_opening unit O.Group t rest = group_with unit rest
 by_opening unit O.Quantifier t rest = exists_with unit rest
 by_opening unit O.Comparison t rest = compare_at (t ∷ rest)
 
-deeper_is : (unit : List Token → Read Syntax) (k : Key) (t : Token) (rest : List Token) → deeper unit k t rest ≡ by_opening unit (opening k) t rest
+deeper_is : (unit : List Token → Read Syntax) (k : Key) (t : Token) (rest : List Token)
+    → deeper unit k t rest ≡ by_opening unit (opening k) t rest
 deeper_is unit K.Not t rest = refl
 deeper_is unit (K.Mark S.Open) t rest = refl
 deeper_is unit K.Exists t rest = refl
@@ -52,7 +53,8 @@ pub at_zero : (t : Token) (rest : List Token) (o : Opening) → opening_of (t �
 unfolding unit_at
 at_zero t rest o e = flat_is (key t.kind) t rest ∙ ap (λ p. flat_opening p t rest) e
 
-pub at_suc : (n : ℕ) (t : Token) (rest : List Token) (o : Opening) → opening_of (t ∷ rest) ≡ o → unit_at (suc n) (t ∷ rest) ≡ by_opening (unit_at n) o t rest
+pub at_suc : (n : ℕ) (t : Token) (rest : List Token) (o : Opening) → opening_of (t ∷ rest) ≡ o
+    → unit_at (suc n) (t ∷ rest) ≡ by_opening (unit_at n) o t rest
 unfolding unit_at
 at_suc n t rest o e = deeper_is (unit_at n) (key t.kind) t rest ∙ ap (λ p. by_opening (unit_at n) p t rest) e
 
@@ -97,7 +99,8 @@ unit_group n [] e lt = absurd (cc)
 unit_group zero (t ∷ rest) e lt = absurd (omega arith)
 unit_group (suc n) (t ∷ rest) e lt = rw (one_less n) (at_suc n t rest O.Group e)
 
-pub unit_exists : (n : ℕ) (ts : List Token) → opening_of ts ≡ O.Quantifier → 0 < n → unit_at n ts ≡ exists_with (unit_at (n - 1)) (drop 1 ts)
+pub unit_exists : (n : ℕ) (ts : List Token) → opening_of ts ≡ O.Quantifier → 0 < n
+    → unit_at n ts ≡ exists_with (unit_at (n - 1)) (drop 1 ts)
 unit_exists n [] e lt = absurd (cc)
 unit_exists zero (t ∷ rest) e lt = absurd (omega arith)
 unit_exists (suc n) (t ∷ rest) e lt = rw (one_less n) (at_suc n t rest O.Quantifier e)

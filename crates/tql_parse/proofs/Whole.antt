@@ -41,8 +41,10 @@ whole_ok A a = record {
   ends = λ ts e. absurd (cc);
 }
 
-module _ (A B : Type 0) (g : List Token → Read A) (h : A × List Token → Read B) (wg : Whole A g) (wh : (a : A) → Whole B (λ ts. h (a, ts))) (sp : (a : A) → Spent (h (a, []))) where
-  bind_steady : (ts mid w : List Token) (b : B) → Calm w → (r : Read A) → g ts ≡ r → (r >>= h) ≡ Ok (b, mid) → (g (ts ++ w) >>= h) ≡ Ok (b, mid ++ w)
+module _ (A B : Type 0) (g : List Token → Read A) (h : A × List Token → Read B) (wg : Whole A g) (wh : (a : A) → Whole B (λ ts. h (a, ts)))
+    (sp : (a : A) → Spent (h (a, []))) where
+  bind_steady : (ts mid w : List Token) (b : B) → Calm w → (r : Read A) → g ts ≡ r → (r >>= h) ≡ Ok (b, mid)
+      → (g (ts ++ w) >>= h) ≡ Ok (b, mid ++ w)
   bind_steady ts mid w b c (Ok x) e k = ap (λ (r : Read A). r >>= h) (wg.steady ts x.1 w x.0 c e) ∙ (wh x.0).steady x.1 mid w b c k
   bind_steady ts mid w b c (Err d) e k = absurd (cc)
 
@@ -60,7 +62,8 @@ module _ (A B : Type 0) (g : List Token → Read A) (h : A × List Token → Rea
         more = f.more ++ k.more;
         value = k.value;
         calm = calm_append f.more k.more f.calm k.calm;
-        read = λ tail c. rw (append_assoc f.more k.more tail) (ap (λ (r : Read A). r >>= h) (f.read (k.more ++ tail) (calm_append k.more tail k.calm c)) ∙ k.read tail c);
+        read = λ tail c. rw (append_assoc f.more k.more tail)
+            (ap (λ (r : Read A). r >>= h) (f.read (k.more ++ tail) (calm_append k.more tail k.calm c)) ∙ k.read tail c);
       }
 
   bind_ends : (ts : List Token) (r : Read A) → g ts ≡ r → (r >>= h) ≡ Err Ended → Finish B (λ ts. g ts >>= h) ts
@@ -70,7 +73,8 @@ module _ (A B : Type 0) (g : List Token → Read A) (h : A × List Token → Rea
         more = f.more;
         value = f.value;
         calm = f.calm;
-        read = λ tail c. ap (λ (r : Read A). r >>= h) (wg.steady ts x.1 (f.more ++ tail) x.0 (calm_append f.more tail f.calm c) e) ∙ f.read tail c;
+        read = λ tail c. ap (λ (r : Read A). r >>= h) (wg.steady ts x.1 (f.more ++ tail) x.0 (calm_append f.more tail f.calm c) e)
+            ∙ f.read tail c;
       }
   bind_ends ts (Err d) e k =
       let q : d ≡ Ended = cc in
@@ -96,17 +100,23 @@ at_no_end t Ended i q = i
 at_no_end t Memory i q = i
 
 module _ (A : Type 0) (f : List Token → Read A) where
-  choice_steady : (t : Token) (ts mid w : List Token) (a : A) → Calm w → Choice A f t → f (t ∷ ts) ≡ Ok (a, mid) → f (t ∷ (ts ++ w)) ≡ Ok (a, mid ++ w)
+  choice_steady : (t : Token) (ts mid w : List Token) (a : A) → Calm w → Choice A f t → f (t ∷ ts) ≡ Ok (a, mid)
+      → f (t ∷ (ts ++ w)) ≡ Ok (a, mid ++ w)
   choice_steady t ts mid w a c (taken g wg q) e = q (ts ++ w) ∙ wg.steady ts mid w a c (sym (q ts) ∙ e)
   choice_steady t ts mid w a c (refused d i q) e = let k : ◌≡◌ {A = Read A} (Err d) (Ok (a, mid)) = sym (q ts) ∙ e in absurd (cc)
   choice_steady t ts mid w a c (kept h wh q) e = q (ts ++ w) ∙ wh.steady (t ∷ ts) mid w a c (sym (q ts) ∙ e)
 
   choice_ends : (t : Token) (ts : List Token) → Choice A f t → f (t ∷ ts) ≡ Err Ended → Finish A f (t ∷ ts)
-  choice_ends t ts (taken g wg q) e = let k = wg.ends ts (sym (q ts) ∙ e) in record { more = k.more; value = k.value; calm = k.calm; read = λ tail c. q (ts ++ (k.more ++ tail)) ∙ k.read tail c }
+  choice_ends t ts (taken g wg q) e =
+      let k = wg.ends ts (sym (q ts) ∙ e) in
+      record { more = k.more; value = k.value; calm = k.calm; read = λ tail c. q (ts ++ (k.more ++ tail)) ∙ k.read tail c }
   choice_ends t ts (refused d i q) e = let k : ◌≡◌ {A = Read A} (Err d) (Err Ended) = sym (q ts) ∙ e in absurd (at_no_end t d i (cc))
-  choice_ends t ts (kept h wh q) e = let k = wh.ends (t ∷ ts) (sym (q ts) ∙ e) in record { more = k.more; value = k.value; calm = k.calm; read = λ tail c. q (ts ++ (k.more ++ tail)) ∙ k.read tail c }
+  choice_ends t ts (kept h wh q) e =
+      let k = wh.ends (t ∷ ts) (sym (q ts) ∙ e) in
+      record { more = k.more; value = k.value; calm = k.calm; read = λ tail c. q (ts ++ (k.more ++ tail)) ∙ k.read tail c }
 
-  module _ (start : f [] ≡ Err Ended → Finish A f []) (empty : (mid w : List Token) (a : A) → Calm w → f [] ≡ Ok (a, mid) → f w ≡ Ok (a, mid ++ w)) (choice : (t : Token) → Choice A f t) where
+  module _ (start : f [] ≡ Err Ended → Finish A f []) (empty : (mid w : List Token) (a : A) → Calm w → f [] ≡ Ok (a, mid)
+        → f w ≡ Ok (a, mid ++ w)) (choice : (t : Token) → Choice A f t) where
     choose_steady : (ts mid w : List Token) (a : A) → Calm w → f ts ≡ Ok (a, mid) → f (ts ++ w) ≡ Ok (a, mid ++ w)
     choose_steady [] mid w a c e = empty mid w a c e
     choose_steady (t ∷ ts) mid w a c e = choice_steady t ts mid w a c (choice t) e
@@ -124,7 +134,9 @@ token_of kind = record { kind = kind; place = 0; end = 0 }
 
 -- the next token passes the test, and this one does
 pub whole_one : (test : Kind → Bool) (kind : Kind) → test kind ≡ true → joins (key kind) ≡ false → Whole Token (one test)
-whole_one test kind passes calm = whole_choice Token (one test) (λ e. record { more = token_of kind ∷ []; value = token_of kind; calm = calm; read = λ tail c. rw passes refl }) (λ mid w x c e. absurd (cc)) (λ t.
+whole_one test kind passes calm = whole_choice Token (one test)
+    (λ e. record { more = token_of kind ∷ []; value = token_of kind; calm = calm; read = λ tail c. rw passes refl })
+    (λ mid w x c e. absurd (cc)) (λ t.
     elim (test t.kind) as (λ b. test t.kind ≡ b → Choice Token (one test) t) [
       | true ↦ λ e. taken (λ rest. Ok (t, rest)) (whole_ok Token t) (λ rest. rw e refl)
       | false ↦ λ e. refused (Unexpected t.place) refl (λ rest. rw e refl)

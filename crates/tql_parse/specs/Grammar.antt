@@ -12,7 +12,8 @@ use Rattle.tql_tree.specs.declared.expr.Expr.TheVariants as E
 use Rattle.tql_tree.specs.Syntax.{Syntax, True, False, Or, And, Not, Exists, Compare, Has}
 use Rattle.tql_parse.specs.declared.key.Key.{Key}
 use Rattle.tql_parse.specs.declared.key.Key.TheVariants as K
-use Rattle.tql_parse.specs.Keys.{key, number_of_kind, bytes, is_word, is_number, is_text, is_name_key, is_and, is_or, is_where, is_open, is_close, is_dot, is_colon}
+use Rattle.tql_parse.specs.Keys.{key, number_of_kind, bytes, is_word, is_number, is_text, is_name_key, is_and, is_or, is_where, is_open}
+use Rattle.tql_parse.specs.Keys.{is_close, is_dot, is_colon}
 use Rattle.tql_tree.specs.Proper.{is_plain}
 
 -- the token's key passes the test
@@ -43,7 +44,8 @@ pub data MayShift : List Token → Option Shift → List Token → Type 0 where
 pub data IsExpr : List Token → Expr → List Token → Type 0 where
   number_is : (t : Token) (rest : List Token) → key t.kind ≡ K.Number → IsExpr (t ∷ rest) (E.Number t.place (number_of_kind t.kind)) rest
   negative : (minus t : Token) (rest : List Token)
-      → key minus.kind ≡ K.Mark S.Minus → is is_number t → IsExpr (minus ∷ t ∷ rest) (E.Number minus.place (pos 0 -ℤ number_of_kind t.kind)) rest
+      → key minus.kind ≡ K.Mark S.Minus → is is_number t
+          → IsExpr (minus ∷ t ∷ rest) (E.Number minus.place (pos 0 -ℤ number_of_kind t.kind)) rest
   text_is : (t : Token) (rest : List Token) → key t.kind ≡ K.Str → IsExpr (t ∷ rest) (E.Str t.place (bytes t.kind)) rest
   now : (t : Token) (ts : List Token) (s : Option Shift) (rest : List Token)
       → key t.kind ≡ K.Now → MayShift ts s rest → IsExpr (t ∷ ts) (E.Now t.place s) rest
@@ -96,7 +98,8 @@ pub data Reads : GrammarPart → ℕ → List Token → Syntax → List Token �
       → Reads One (suc n) (t ∷ ts) x rest
   true_is : (n : ℕ) (t : Token) (rest : List Token) → key t.kind ≡ K.True → Reads One n (t ∷ rest) True rest
   false_is : (n : ℕ) (t : Token) (rest : List Token) → key t.kind ≡ K.False → Reads One n (t ∷ rest) False rest
-  exists_is : (n : ℕ) (t opening var colon table where_is : Token) (which : Table) (ts : List Token) (x : Syntax) (close : Token) (rest : List Token)
+  exists_is : (n : ℕ) (t opening var colon table where_is : Token) (which : Table) (ts : List Token) (x : Syntax) (close : Token)
+      (rest : List Token)
       → key t.kind ≡ K.Exists → is is_open opening → is is_name_key var → is is_colon colon
       → IsTable table which → is is_where where_is
       → Reads Cond n ts x (close ∷ rest) → is is_close close

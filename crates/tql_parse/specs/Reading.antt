@@ -15,7 +15,8 @@ use Rattle.tql_parse.specs.declared.key.Key.{Key}
 use Rattle.tql_parse.specs.declared.key.Key.TheVariants as K
 use Rattle.tql_parse.specs.declared.fault.ParseFault.{ParseFault}
 use Rattle.tql_parse.specs.declared.fault.ParseFault.TheVariants.{Unexpected, Ended, Deep, Memory}
-use Rattle.tql_parse.specs.Keys.{key, number_of_kind, bytes, is_word, is_number, is_text, is_name_key, is_and, is_or, is_where, is_open, is_close, is_dot, is_colon}
+use Rattle.tql_parse.specs.Keys.{key, number_of_kind, bytes, is_word, is_number, is_text, is_name_key, is_and, is_or, is_where, is_open}
+use Rattle.tql_parse.specs.Keys.{is_close, is_dot, is_colon}
 use Rattle.tql_tree.specs.Proper.{is_plain}
 
 -- what was read and the tokens behind it, or the first fault
@@ -71,7 +72,8 @@ abbrev pub shift_after : ℕ → Bool → List Token → Read (Option Shift)
 shift_after place back ts =
     one (λ k. is_number (key k)) ts >>= λ count.
     unit_name count.1 >>= λ unit.
-    Ok (Some (record { place = place; back = back; count_place = count.0.place; count = number_of_kind count.0.kind; unit = unit.0 }), unit.1)
+    Ok (Some (record { place = place; back = back; count_place = count.0.place; count = number_of_kind count.0.kind; unit = unit.0 }),
+          unit.1)
 
 -- the shift that begins with this key, if one does
 abbrev pub shift_by : Key → Token → List Token → Read (Option Shift)

@@ -1,8 +1,10 @@
 //! Reads comparisons and what else opens no level.
 ghost use Rattle.std.specs.Prelude.{IfOk, ◌≤ℤ◌, pos};
 ghost use Rattle.tql_parse.specs.Keys.{key, number_of_kind, bytes, is_word, is_number, is_key};
-ghost use Rattle.tql_parse.specs.Reading.{ParseGives, one, unit_name, table_at, shift_after, shift_at, negative_at, now_at};
-ghost use Rattle.tql_parse.specs.Reading.{today_at, moment_at, field_at, expr_at, head_at, right_at, compare_at};
+ghost use Rattle.tql_parse.specs.Reading.{ParseGives, one, unit_name, table_at, shift_after};
+ghost use Rattle.tql_parse.specs.Reading.{shift_at, negative_at, now_at};
+ghost use Rattle.tql_parse.specs.Reading.{today_at, moment_at, field_at, expr_at, head_at};
+ghost use Rattle.tql_parse.specs.Reading.{right_at, compare_at};
 ghost use Rattle.tql_tree.specs.Syntax.{syntax};
 
 use crate::key::{bytes_of, is_any_word, is_plain_field, key_of, number_of};
@@ -11,10 +13,11 @@ use std::alloc::Global;
 use tql_lex::{Sign, Token};
 use tql_tree::{Expr, Shift, Table, Tree, Unit};
 
-/// Returns the next token, if it is this one, and the tokens behind it. `Unexpected` is at another token, and `Ended`
-/// comes if there is none.
+/// Returns the next token, if it is this one, and the tokens behind it. `Unexpected` is at another
+/// token, and `Ended` comes if there is none.
 pub fn expect(wanted: Key, tokens: &[Token]) -> Result<(&Token, &[Token]), ParseFault>
-    ensures { ParseGives (λ x. (x.0.now, x.1.now)) result (one (λ k. is_key wanted (key k)) tokens.now) }
+    ensures { ParseGives (λ x. (x.0.now, x.1.now)) result
+        (one (λ k. is_key wanted (key k)) tokens.now) }
 {
     match tokens {
         [] => Err(ParseFault::Ended),
@@ -30,7 +33,8 @@ pub fn expect(wanted: Key, tokens: &[Token]) -> Result<(&Token, &[Token]), Parse
 
 // Returns the number at the front, which is at least 0.
 fn number(tokens: &[Token]) -> Result<(&Token, &[Token]), ParseFault>
-    ensures value { ParseGives (λ x. (x.0.now, x.1.now)) result (one (λ k. is_number (key k)) tokens.now) }
+    ensures value { ParseGives (λ x. (x.0.now, x.1.now)) result
+        (one (λ k. is_number (key k)) tokens.now) }
     ensures least { IfOk result (λ x. pos 0 ≤ℤ number_of_kind x.0.now.kind) }
 {
     match tokens {
@@ -253,7 +257,8 @@ pub fn compare(alloc: Global, tokens: &[Token]) -> Result<(Tree, &[Token]), Pars
     right(alloc, left, rest)
 }
 
-/// Returns the variable and the table of an EXISTS, from its `(` to its WHERE, and the tokens behind that.
+/// Returns the variable and the table of an EXISTS, from its `(` to its WHERE, and the tokens
+/// behind that.
 pub fn head(tokens: &[Token]) -> Result<((&Token, Table), &[Token]), ParseFault>
     ensures { ParseGives (λ x. ((x.0.0.now, x.0.1), x.1.now)) result (head_at tokens.now) }
 {

@@ -1,6 +1,7 @@
 //! What a token is to the grammar.
 ghost use Rattle.std.specs.Prelude.{◌≡◌, IfOk};
-ghost use Rattle.tql_parse.specs.Keys.{condition_word, value_word, unit_word, word_key, key, number_of_kind, bytes, is_word, opening_of};
+ghost use Rattle.tql_parse.specs.Keys.{condition_word, value_word, unit_word, word_key, key};
+ghost use Rattle.tql_parse.specs.Keys.{number_of_kind, bytes, is_word, opening_of};
 ghost use Rattle.tql_tree.specs.Proper.{is_plain};
 
 use std::alloc::Global;

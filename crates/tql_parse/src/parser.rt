@@ -4,7 +4,8 @@ ghost use Rattle.tql_tree.specs.Syntax.{Syntax, syntax};
 ghost use Rattle.tql_tree.specs.Proper.{IsProper};
 ghost use Rattle.tql_parse.specs.declared.fault.ParseFault.{ParseFault};
 ghost use Rattle.tql_parse.specs.Grammar.{AreQueryTokens, Begins, DeepAt, UnexpectedAt};
-ghost use Rattle.tql_parse.specs.Reading.{ParseGives, unit_at, conj_at, cond_at, group_with, exists_with, not_with, query_at, next_is, deep_at};
+ghost use Rattle.tql_parse.specs.Reading.{ParseGives, unit_at, conj_at, cond_at, group_with};
+ghost use Rattle.tql_parse.specs.Reading.{exists_with, not_with, query_at, next_is, deep_at};
 ghost use Rattle.tql_parse.specs.Keys.{is_and, is_or};
 
 use crate::comparisons::{compare, expect, head};
@@ -60,7 +61,8 @@ fn deep(tokens: &[Token]) -> ParseFault
 // Returns the NOT of the unit at the front, and the tokens behind it.
 #[cycle(parser)]
 fn negated(alloc: Global, levels: u32, tokens: &[Token]) -> Result<(Tree, &[Token]), ParseFault>
-    ensures { ParseGives (λ x. (syntax x.0, x.1.now)) result (not_with (unit_at levels) tokens.now) }
+    ensures { ParseGives (λ x. (syntax x.0, x.1.now)) result
+        (not_with (unit_at levels) tokens.now) }
 {
     let (tree, rest) = unit(alloc, levels, tokens)?;
     Ok((Tree::Not(Box::new(alloc, tree)?), rest))
@@ -69,7 +71,8 @@ fn negated(alloc: Global, levels: u32, tokens: &[Token]) -> Result<(Tree, &[Toke
 // Returns the condition behind the `(` of a group, and the tokens behind its `)`.
 #[cycle(parser)]
 fn group(alloc: Global, levels: u32, tokens: &[Token]) -> Result<(Tree, &[Token]), ParseFault>
-    ensures { ParseGives (λ x. (syntax x.0, x.1.now)) result (group_with (unit_at levels) tokens.now) }
+    ensures { ParseGives (λ x. (syntax x.0, x.1.now)) result
+        (group_with (unit_at levels) tokens.now) }
 {
     let (tree, rest) = cond(alloc, levels, tokens)?;
     let (_, rest) = expect(Key::Mark(Sign::Close), rest)?;
@@ -79,7 +82,8 @@ fn group(alloc: Global, levels: u32, tokens: &[Token]) -> Result<(Tree, &[Token]
 // Returns the EXISTS whose `(` is at the front, and the tokens behind its `)`.
 #[cycle(parser)]
 fn exists(alloc: Global, levels: u32, tokens: &[Token]) -> Result<(Tree, &[Token]), ParseFault>
-    ensures { ParseGives (λ x. (syntax x.0, x.1.now)) result (exists_with (unit_at levels) tokens.now) }
+    ensures { ParseGives (λ x. (syntax x.0, x.1.now)) result
+        (exists_with (unit_at levels) tokens.now) }
 {
     let ((var, table), rest) = head(tokens)?;
     let (tree, rest) = group(alloc, levels, rest)?;
@@ -162,13 +166,15 @@ fn query(alloc: Global, tokens: &[Token]) -> Result<Tree, ParseFault>
     }
 }
 
-/// Returns the tree of the query that all tokens are. NOT, the `(` of a group and EXISTS each open a level, and at most
-/// 32 are open at a place. Chains of AND and OR are nested on the left and open none: they are read by loops, so that
-/// only the levels make calls deeper. Tokens with a number below 0, which `tql_lex::lex` never gives, are no query.
+/// Returns the tree of the query that all tokens are. NOT, the `(` of a group and EXISTS each open
+/// a level, and at most 32 are open at a place. Chains of AND and OR are nested on the left and
+/// open none: they are read by loops, so that only the levels make calls deeper. Tokens with a
+/// number below 0, which `tql_lex::lex` never gives, are no query.
 ///
-/// Faults: take the first token with which the tokens so far begin no query of at most 32 levels. It is `Deep` if they
-/// begin one of more levels, and `Unexpected` if they begin none. If there is no such token and the tokens are no
-/// query, they have `Ended` too early. `Memory` comes if out of memory.
+/// Faults: take the first token with which the tokens so far begin no query of at most 32 levels.
+/// It is `Deep` if they begin one of more levels, and `Unexpected` if they begin none. If there is
+/// no such token and the tokens are no query, they have `Ended` too early. `Memory` comes if out of
+/// memory.
 pub fn parse(alloc: Global, tokens: &[Token]) -> Result<Tree, ParseFault>
     // What is given is in the grammar.
     ensures found { IfOk result (λ tree. AreQueryTokens 32 tokens.now (syntax tree)) }
@@ -177,11 +183,14 @@ pub fn parse(alloc: Global, tokens: &[Token]) -> Result<Tree, ParseFault>
     // What is in the grammar is given, unless memory runs out.
     ensures only { (x : Syntax) → AreQueryTokens 32 tokens.now x → ParseGives syntax result (Ok x) }
     // A fault is at the first token with which the tokens begin no query of at most 32 levels.
-    // At an unexpected one they begin none of more levels either, and at one that is too deep they do.
-    ensures unexpected { (p : ℕ) → result ≡ Err (ParseFault.Unexpected p) → UnexpectedAt 32 tokens.now p }
+    // At an unexpected one they begin none of more levels either, and at one that is too deep they
+    // do.
+    ensures unexpected { (p : ℕ) → result ≡ Err (ParseFault.Unexpected p)
+        → UnexpectedAt 32 tokens.now p }
     ensures deep { (p : ℕ) → result ≡ Err (ParseFault.Deep p) → DeepAt 32 tokens.now p }
     // The tokens have ended too early if all of them begin a query but aren't one.
-    ensures ended { result ≡ Err ParseFault.Ended → Begins 32 tokens.now × ((x : Syntax) → AreQueryTokens 32 tokens.now x → ⊥) }
+    ensures ended { result ≡ Err ParseFault.Ended
+        → Begins 32 tokens.now × ((x : Syntax) → AreQueryTokens 32 tokens.now x → ⊥) }
     // Which fault it is.
     ensures exact { ParseGives syntax result (query_at 32 tokens.now) }
 {

@@ -24,8 +24,8 @@ fn check_tree(alloc: Global, tree: &Tree) -> Result<Cond, TextFault>
     }
 }
 
-/// Returns the condition of some tokens, or the first fault of their syntax, else of their types. `Memory` if out of
-/// memory.
+/// Returns the condition of some tokens, or the first fault of their syntax, else of their types.
+/// `Memory` if out of memory.
 pub fn read_tokens(alloc: Global, tokens: &[Token]) -> Result<Cond, TextFault>
     ensures { AgreesWithText (of_tree (query_at 32 tokens.now)) result }
 {
@@ -36,8 +36,9 @@ pub fn read_tokens(alloc: Global, tokens: &[Token]) -> Result<Cond, TextFault>
     }
 }
 
-/// Returns the condition of a query's text, or its first fault: that of its tokens before that of its syntax, and that
-/// before that of its types. Places count the bytes of the text from 0. `Memory` if out of memory.
+/// Returns the condition of a query's text, or its first fault: that of its tokens before that of
+/// its syntax, and that before that of its types. Places count the bytes of the text from 0.
+/// `Memory` if out of memory.
 pub fn read_condition(alloc: Global, text: &[u8]) -> Result<Cond, TextFault>
     ensures { AgreesWithText (condition_of text.now) result }
 {

@@ -74,8 +74,10 @@ abbrev pub canonical : Syntax → List ℕ
 canonical True = codes "TRUE"
 canonical False = codes "FALSE"
 canonical (Or l r) = canonical l ++ codes " OR " ++ parenthesized (nat_lt (strength r) 1) (canonical r)
-canonical (And l r) = parenthesized (nat_lt (strength l) 1) (canonical l) ++ codes " AND " ++ parenthesized (nat_lt (strength r) 2) (canonical r)
+canonical (And l r) =
+    parenthesized (nat_lt (strength l) 1) (canonical l) ++ codes " AND " ++ parenthesized (nat_lt (strength r) 2) (canonical r)
 canonical (Not x) = codes "NOT " ++ parenthesized (nat_lt (strength x) 2) (canonical x)
-canonical (Exists var place table body) = codes "EXISTS (" ++ var ++ codes ": " ++ text_of_table table ++ codes " WHERE " ++ canonical body ++ codes ")"
+canonical (Exists var place table body) =
+    codes "EXISTS (" ++ var ++ codes ": " ++ text_of_table table ++ codes " WHERE " ++ canonical body ++ codes ")"
 canonical (Compare left op place right) = text_of_expr left ++ codes " " ++ text_of_op op ++ codes " " ++ text_of_expr right
 canonical (Has left place right) = text_of_expr left ++ codes " HAS " ++ text_of_expr right

@@ -4,8 +4,8 @@ ghost use Rattle.std.specs.Prelude.{◌≡◌, IfOk};
 use crate::Shift;
 use tap_base::{Memory, Text};
 
-/// Holds a side of a comparison. The place of a moment is that of its text, and the place of a number below 0 is that
-/// of its `-`. Places count the bytes of the query's text from 0.
+/// Holds a side of a comparison. The place of a moment is that of its text, and the place of a
+/// number below 0 is that of its `-`. Places count the bytes of the query's text from 0.
 #[derive(Drop)]
 pub enum Expr {
     Number {

@@ -1,4 +1,5 @@
-//! The pieces of a printed text: names, signs, texts in quotes, and parts that depend on a condition.
+//! The pieces of a printed text: names, signs, texts in quotes, and parts that depend on a
+//! condition.
 ghost use Rattle.std.specs.Prelude.{◌≡◌, ◌++◌, [], OnOk, if◌then◌else◌};
 ghost use Rattle.std.specs.List.{flat_map};
 ghost use Rattle.tql_tree.specs.Canonical.{text_of_bytes, text_of_table, text_of_op};

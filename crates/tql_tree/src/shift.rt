@@ -9,8 +9,8 @@ pub enum Unit {
     Days,
 }
 
-/// Says how far a time is moved: `count` units, which is at least 0, and backwards if `back`. `place` is that of the
-/// sign, and `count_place` that of the count.
+/// Says how far a time is moved: `count` units, which is at least 0, and backwards if `back`.
+/// `place` is that of the sign, and `count_place` that of the count.
 #[derive(Clone, Copy, Debug, PartialEq, Eq)]
 pub struct Shift {
     pub place: u32,

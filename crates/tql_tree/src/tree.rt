@@ -8,8 +8,8 @@ use tap_base::{Memory, Op, Text};
 
 /// Holds a query. The left side of a `Has` is a field without a shift.
 ///
-/// A chain of ORs or ANDs is nested on the left. `print`, `copy` and dropping a tree recurse once for each part of a
-/// chain: a query's text of 4,096 bytes has fewer than 700 of them.
+/// A chain of ORs or ANDs is nested on the left. `print`, `copy` and dropping a tree recurse once
+/// for each part of a chain: a query's text of 4,096 bytes has fewer than 700 of them.
 #[derive(Drop)]
 pub enum Tree {
     True,

@@ -1,5 +1,6 @@
 -- Each time of a condition that typing gives adds no more than that many seconds, and nothing to a day.
-use Rattle.std.proofs.Common.{◌≡◌, ◌∙◌, sym, ap, refl, arith, ℕ, zero, suc, ℤ, pos, negsuc, Bool, true, false, Option, Some, None, List, if◌then◌else◌, inl, inr}
+use Rattle.std.proofs.Common.{◌≡◌, ◌∙◌, sym, ap, refl, arith, ℕ, zero, suc, ℤ, pos, negsuc, Bool, true, false, Option, Some, None, List}
+use Rattle.std.proofs.Common.{if◌then◌else◌, inl, inr}
 use Rattle.std.specs.Prelude.{Ok, ◌&&◌, ◌≤ℤ◌, ◌+ℤ◌, neg_ℤ, int_le}
 use Rattle.std.proofs.lemmas.Bool.{cases_Bool, and_parts, and_from}
 use Rattle.std.proofs.lemmas.Int.{ints}
@@ -28,7 +29,8 @@ use Rattle.tql_types.specs.declared.clock.Clock.TheVariants.{At, Now, Today}
 use Rattle.tql_types.specs.Scopes.{variable_named, first_scope, next_variable, variables_after}
 use Rattle.tql_types.specs.Sorts.{field_in, sort_of}
 use Rattle.tql_types.specs.Spans.{span_of, kept_span, amount_of}
-use Rattle.tql_types.specs.Clocks.{base_of, base_in, clock_of, later, day, day_of_term, turned, half_line, now_core, today_core, compared_numbers, times_core}
+use Rattle.tql_types.specs.Clocks.{base_of, base_in, clock_of, later, day, day_of_term, turned, half_line, now_core, today_core}
+use Rattle.tql_types.specs.Clocks.{compared_numbers, times_core}
 use Rattle.tql_types.specs.Core.{inner_scope, first_fault, text_or_empty, lowered, has_field, has_core, compare_core, core, typed}
 use Rattle.tql_types.proofs.Ranges.{moment-range, kept-range}
 use Rattle.tql_types.proofs.ScopeLaws.{typed-parts}
@@ -61,7 +63,8 @@ IsSpan n = (negsuc 99999999999 ≤ℤ n) × (n ≤ℤ pos 100000000000)
 kept : (n : ℤ) → (pos 0 ≤ℤ kept_span n) × (kept_span n ≤ℤ pos 100000000000)
 kept n =
     elim (cases_Bool (int_le (pos 0) n && int_le n (pos 100000000000))) [
-      | inl y ↦ rw y (within n (and_parts (int_le (pos 0) n) (int_le n (pos 100000000000)) y).0 (and_parts (int_le (pos 0) n) (int_le n (pos 100000000000)) y).1)
+      | inl y ↦ rw y (within n
+          (and_parts (int_le (pos 0) n) (int_le n (pos 100000000000)) y).0 (and_parts (int_le (pos 0) n) (int_le n (pos 100000000000)) y).1)
       | inr f ↦ rw f (omega (arith, ints), omega (arith, ints))
     ]
   where
@@ -103,10 +106,16 @@ round_up_to_day-high (pos zero) = omega (arith, ints)
 round_up_to_day-high (pos (suc n)) = omega (arith, ints)
 round_up_to_day-high (negsuc n) = omega (arith, ints)
 
-day-bounded : (b : Base) (n : ℤ) → Free b → negsuc 450000000000 ≤ℤ n → n ≤ℤ pos 450000000001 → is_bounded (day_of_term (record { base = b; plus = n }) b) ≡ true
-day-bounded (Arrival v) n free l h = let e = near n (omega (arith, ints, l)) (omega (arith, ints, h)) in and_from _ _ refl (and_from _ _ e refl)
-day-bounded (Date v) n free l h = let e = near n (omega (arith, ints, l)) (omega (arith, ints, h)) in and_from _ _ refl (and_from _ _ e refl)
-day-bounded Fixed n free l h = and_from _ _ (near (round_up_to_day n) (omega (arith, ints, l, round_up_to_day-low n)) (omega (arith, ints, h, round_up_to_day-high n))) refl
+day-bounded : (b : Base) (n : ℤ) → Free b → negsuc 450000000000 ≤ℤ n → n ≤ℤ pos 450000000001
+    → is_bounded (day_of_term (record { base = b; plus = n }) b) ≡ true
+day-bounded (Arrival v) n free l h =
+    let e = near n (omega (arith, ints, l)) (omega (arith, ints, h)) in
+    and_from _ _ refl (and_from _ _ e refl)
+day-bounded (Date v) n free l h =
+    let e = near n (omega (arith, ints, l)) (omega (arith, ints, h)) in
+    and_from _ _ refl (and_from _ _ e refl)
+day-bounded Fixed n free l h = and_from _ _
+    (near (round_up_to_day n) (omega (arith, ints, l, round_up_to_day-low n)) (omega (arith, ints, h, round_up_to_day-high n))) refl
 day-bounded (ArrivalDay v k) n free l h = bounded (ArrivalDay v k) n free (omega (arith, ints, l)) (omega (arith, ints, h))
 day-bounded (DateDay v k) n free l h = bounded (DateDay v k) n free (omega (arith, ints, l)) (omega (arith, ints, h))
 
@@ -147,7 +156,8 @@ times-bounded op (Today x) (Today y) a b = constant-bounded op x y
 times-bounded op (Now x) (Today y) a b = refl
 times-bounded op (Today x) (Now y) a b = refl
 
-compare-bounded : (sort : Option Sort) (scope : List Variable) (left : Expr) (op : Op) (right : Expr) → are_bounded (compare_core sort scope left op right) ≡ true
+compare-bounded : (sort : Option Sort) (scope : List Variable) (left : Expr) (op : Op) (right : Expr)
+    → are_bounded (compare_core sort scope left op right) ≡ true
 compare-bounded (Some Number) scope left op right = refl
 compare-bounded (Some Text) scope left op right = refl
 compare-bounded _ scope left op right = times-bounded op (clock_of scope left) (clock_of scope right) (clock scope left) (clock scope right)
@@ -157,7 +167,8 @@ field-bounded (Some variable) (Some (F.List field)) text = refl
 field-bounded _ _ text = refl
 
 has-bounded : (scope : List Variable) (left : Expr) (text : TextExpr) → are_bounded (has_core scope left text) ≡ true
-has-bounded scope (E.Field var var_place field field_place shift) text = field-bounded (variable_named var scope) (field_in (variable_named var scope) field) text
+has-bounded scope (E.Field var var_place field field_place shift) text =
+    field-bounded (variable_named var scope) (field_in (variable_named var scope) field) text
 has-bounded scope _ text = refl
 
 core-bounded : (scope : List Variable) (count : ℕ) (tree : Syntax) → are_bounded (core scope count tree) ≡ true

@@ -17,7 +17,8 @@ InRange (Some s) = IsMoment s
 at-range : (s : ℤ) → InRange (checked_moment s)
 at-range s =
     elim (cases_Bool (int_le (pos 0) s && int_le s (pos LAST_MOMENT))) [
-      | inl y ↦ rw y (within s (and_parts (int_le (pos 0) s) (int_le s (pos LAST_MOMENT)) y).0 (and_parts (int_le (pos 0) s) (int_le s (pos LAST_MOMENT)) y).1)
+      | inl y ↦ rw y (within s
+          (and_parts (int_le (pos 0) s) (int_le s (pos LAST_MOMENT)) y).0 (and_parts (int_le (pos 0) s) (int_le s (pos LAST_MOMENT)) y).1)
       | inr n ↦ rw n tt
     ]
   where
@@ -47,7 +48,8 @@ number-range text =
 
 pub moment-range : (text : List ℕ) → InRange (moment_of text)
 moment-range text =
-    elim (all_ascii_digits text) as (λ b. InRange (if b then positive (number_of 12 LAST_MOMENT text) else (if is_date_form text then moment_read (parse_timestamp text) else None))) [
+    elim (all_ascii_digits text) as (λ b. InRange (if b then positive (number_of 12 LAST_MOMENT text)
+          else (if is_date_form text then moment_read (parse_timestamp text) else None))) [
       | true ↦ number-range text
       | false ↦ elim (is_date_form text) as (λ b. InRange (if b then moment_read (parse_timestamp text) else None)) [
         | true ↦ read-range (parse_timestamp text)

@@ -37,7 +37,8 @@ abbrev pub clock_of : List Variable → Expr → Clock
 clock_of scope (E.Now place shift) = Now (amount_of shift)
 clock_of scope (E.Today place shift) = Today (amount_of shift)
 clock_of scope (E.Moment place text shift) = At (record { base = Fixed; plus = unwrap_or (moment_of text) (pos 0) +ℤ amount_of shift })
-clock_of scope (E.Field var var_place field field_place shift) = At (record { base = base_in (variable_named var scope) field; plus = amount_of shift })
+clock_of scope (E.Field var var_place field field_place shift) =
+    At (record { base = base_in (variable_named var scope) field; plus = amount_of shift })
 clock_of scope (E.Number place value) = At (record { base = Fixed; plus = pos 0 })
 clock_of scope (E.Str place bytes) = At (record { base = Fixed; plus = pos 0 })
 

@@ -57,7 +57,8 @@ num_field variable field = N.Literal (pos 0)
 -- a side that is a number, or 0
 abbrev pub num_of : List Variable → Expr → NumExpr
 num_of scope (E.Number place value) = N.Literal value
-num_of scope (E.Field var var_place field field_place shift) = num_field (variable_named var scope) (field_in (variable_named var scope) field)
+num_of scope (E.Field var var_place field field_place shift) =
+    num_field (variable_named var scope) (field_in (variable_named var scope) field)
 num_of scope expr = N.Literal (pos 0)
 
 -- a text field of a variable, or an empty text
@@ -68,7 +69,8 @@ text_field_or_empty variable field = X.Literal []
 -- a side that is a text, or an empty text
 abbrev pub text_or_empty : List Variable → Expr → TextExpr
 text_or_empty scope (E.Str place bytes) = X.Literal bytes
-text_or_empty scope (E.Field var var_place field field_place shift) = text_field_or_empty (variable_named var scope) (field_in (variable_named var scope) field)
+text_or_empty scope (E.Field var var_place field field_place shift) =
+    text_field_or_empty (variable_named var scope) (field_in (variable_named var scope) field)
 text_or_empty scope expr = X.Literal []
 
 -- a text that a list may have: A to Z of a literal are lowered
@@ -83,7 +85,8 @@ has_field variable field text = Never
 
 -- does a list have a text?
 abbrev pub has_core : List Variable → Expr → TextExpr → Condition
-has_core scope (E.Field var var_place field field_place shift) text = has_field (variable_named var scope) (field_in (variable_named var scope) field) text
+has_core scope (E.Field var var_place field field_place shift) text =
+    has_field (variable_named var scope) (field_in (variable_named var scope) field) text
 has_core scope expr text = Never
 
 -- a comparison, by what its left side is

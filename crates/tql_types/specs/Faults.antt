@@ -1,7 +1,8 @@
 -- The places of faults, and which of two comes first.
 use Rattle.std.specs.Prelude.{ℕ, Option, Some, None, nat_le, if◌then◌else◌}
 use Rattle.tql_types.specs.declared.fault.TypeFault.{TypeFault}
-use Rattle.tql_types.specs.declared.fault.TypeFault.TheVariants.{NoVar, NoField, Clash, Shadow, BadTime, BigSpan, ManyVars, ManyNodes, Memory}
+use Rattle.tql_types.specs.declared.fault.TypeFault.TheVariants.{NoVar, NoField, Clash, Shadow, BadTime, BigSpan, ManyVars, ManyNodes}
+use Rattle.tql_types.specs.declared.fault.TypeFault.TheVariants.{Memory}
 
 -- the place of a fault, or 0 if it has none
 abbrev pub type_fault_place : TypeFault → ℕ

@@ -96,9 +96,10 @@ fn is_too_large(cond: &Cond) -> bool
     count_nodes(cond) > NODE_LIMIT
 }
 
-/// Returns the condition that a query's tree is, or the first fault of its types: the one at the least place, and at one
-/// place a shadowed variable before a seventh. `ManyNodes` comes if there is no other fault and the condition has more
-/// than 128 nodes. `Memory` may come at any tree, if out of memory.
+/// Returns the condition that a query's tree is, or the first fault of its types: the one at the
+/// least place, and at one place a shadowed variable before a seventh. `ManyNodes` comes if there
+/// is no other fault and the condition has more than 128 nodes. `Memory` may come at any tree, if
+/// out of memory.
 pub fn check(alloc: Global, tree: &Tree) -> Result<Cond, TypeFault>
     ensures { AgreesWithTyping (typed (syntax tree.now)) result }
 {

@@ -227,7 +227,8 @@ fn constant_condition(op: Op, a: i64, b: i64) -> Cond
     }
 }
 
-/// Returns the condition that compares two times. Now with today is false. `Memory` if out of memory.
+/// Returns the condition that compares two times. Now with today is false. `Memory` if out of
+/// memory.
 pub fn compare_times(alloc: Global, op: Op, left: Clock, right: Clock) -> Result<Cond, Memory>
     requires left { IsNearClock left }
     requires right { IsNearClock right }

@@ -4,7 +4,9 @@ ghost use Rattle.std.specs.Option.{option_copied};
 ghost use Rattle.tql_tree.specs.Syntax.{syntax};
 ghost use Rattle.tql_core.specs.Condition.{condition};
 ghost use Rattle.tql_types.specs.Scopes.{variables_after};
-ghost use Rattle.tql_types.specs.Core.{binder_fault, inner_scope, num_field, num_of, text_field_or_empty, text_or_empty, lowered, has_field, has_core, compare_core, core};
+ghost use Rattle.tql_types.specs.Core.{binder_fault, inner_scope, num_field, num_of};
+ghost use Rattle.tql_types.specs.Core.{text_field_or_empty, text_or_empty, lowered, has_field};
+ghost use Rattle.tql_types.specs.Core.{has_core, compare_core, core};
 
 use crate::TypeFault;
 use crate::clock::{compare_times, read_clock};
@@ -29,7 +31,8 @@ pub fn fault_of_binder(scope: &[Variable], count: u8, name: &[u8], place: u32) -
     }
 }
 
-/// Returns the scope of the condition of an EXISTS; a variable at fault isn't in it. `Memory` if out of memory.
+/// Returns the scope of the condition of an EXISTS; a variable at fault isn't in it. `Memory` if
+/// out of memory.
 pub fn scope_within(
     scope: &Rows<Variable>,
     count: u8,
@@ -142,7 +145,8 @@ fn comparison(
     op: Op,
     right: &Expr,
 ) -> Result<Cond, Memory>
-    ensures { IfOk result (λ cond. condition cond ≡ compare_core sort scope.now left.now op right.now) }
+    ensures { IfOk result (λ cond.
+        condition cond ≡ compare_core sort scope.now left.now op right.now) }
 {
     match sort {
         Some(Sort::Number) => Ok(Cond::Plain(Atom::Numbers(
@@ -159,15 +163,16 @@ fn comparison(
     }
 }
 
-/// Returns the condition of a query without a fault, and how many variables there are after it. `Memory` if out of
-/// memory.
+/// Returns the condition of a query without a fault, and how many variables there are after it.
+/// `Memory` if out of memory.
 pub fn build(
     alloc: Global,
     scope: &Rows<Variable>,
     count: u8,
     tree: &Tree,
 ) -> Result<(Cond, u8), Memory>
-    ensures cond { IfOk result (λ built. condition built.0 ≡ core scope.now count (syntax tree.now)) }
+    ensures cond { IfOk result (λ built.
+        condition built.0 ≡ core scope.now count (syntax tree.now)) }
     ensures count { IfOk result (λ built. built.1 ≡ variables_after count (syntax tree.now)) }
 {
     match tree {

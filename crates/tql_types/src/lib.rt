@@ -1,4 +1,5 @@
-//! Which trees are conditions: the core condition of a query's tree, or the first fault of its types.
+//! Which trees are conditions: the core condition of a query's tree, or the first fault of its
+//! types.
 #![tactic(auto)]
 
 mod checker;

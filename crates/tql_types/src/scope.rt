@@ -1,7 +1,8 @@
 //! The variables in scope.
 ghost use Rattle.std.specs.Prelude.{◌≡◌, ◌==◌, ◌<◌, IfOk};
 ghost use Rattle.std.specs.Option.{option_copied};
-ghost use Rattle.tql_types.specs.Scopes.{is_variable_named, variable_named, entered, first_scope, next_variable};
+ghost use Rattle.tql_types.specs.Scopes.{is_variable_named, variable_named, entered, first_scope};
+ghost use Rattle.tql_types.specs.Scopes.{next_variable};
 
 use std::alloc::Global;
 use tap_base::{Copied, Memory, Rows, Text};

@@ -2,8 +2,10 @@
 ghost use Rattle.std.specs.Prelude.{◌≡◌, is_some};
 ghost use Rattle.std.specs.Option.{option_copied};
 ghost use Rattle.tql_types.specs.Faults.{sooner};
-ghost use Rattle.tql_types.specs.Sorts.{field_in, named_fault, field_fault, moment_fault, expr_fault};
-ghost use Rattle.tql_types.specs.Sorts.{sort_of_field, sort_in, sort_of, go_together, comparable, holdable, clash};
+ghost use Rattle.tql_types.specs.Sorts.{field_in, named_fault, field_fault, moment_fault};
+ghost use Rattle.tql_types.specs.Sorts.{expr_fault};
+ghost use Rattle.tql_types.specs.Sorts.{sort_of_field, sort_in, sort_of, go_together, comparable};
+ghost use Rattle.tql_types.specs.Sorts.{holdable, clash};
 
 use crate::TypeFault;
 use crate::field::{Field, find_field, is_time_field};

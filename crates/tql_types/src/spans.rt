@@ -1,6 +1,7 @@
 //! Durations.
 ghost use Rattle.std.specs.Prelude.{◌≡◌, ◌≤ℤ◌, ℤ, pos, negsuc};
-ghost use Rattle.tql_types.specs.Spans.{seconds_of, span_of, span_fault, shift_fault, kept_span, amount_of};
+ghost use Rattle.tql_types.specs.Spans.{seconds_of, span_of, span_fault, shift_fault, kept_span};
+ghost use Rattle.tql_types.specs.Spans.{amount_of};
 
 use crate::TypeFault;
 use tql_tree::{Shift, Unit};
@@ -62,7 +63,8 @@ fn keep_span(n: i128) -> i64
     }
 }
 
-/// Returns how far a shift moves a time, in seconds: backwards below 0. A duration that is too long moves nothing.
+/// Returns how far a shift moves a time, in seconds: backwards below 0. A duration that is too long
+/// moves nothing.
 pub fn shift_amount(shift: Option<Shift>) -> i64
     ensures value { result ≡ amount_of shift }
     ensures low { negsuc 99999999999 ≤ℤ result }

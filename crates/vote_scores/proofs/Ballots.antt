@@ -1,5 +1,6 @@
 -- Ballots: an author and a value. The ballots in order of the authors' first ones weigh what each author's last one does.
-use Rattle.std.proofs.Common.{◌≡◌, ◌∙◌, refl, sym, ap, arith, ℕ, Bool, true, false, ℤ, pos, ◌+ℤ◌, List, [], ◌∷◌, length, fold, if◌then◌else◌}
+use Rattle.std.proofs.Common.{◌≡◌, ◌∙◌, refl, sym, ap, arith, ℕ, Bool, true, false, ℤ, pos, ◌+ℤ◌, List, [], ◌∷◌, length, fold}
+use Rattle.std.proofs.Common.{if◌then◌else◌}
 use Rattle.std.specs.Prelude.{◌||◌}
 use Rattle.std.specs.List.{list_any}
 use Rattle.std.specs.Str.{bytes_eq}
@@ -61,7 +62,8 @@ or_second false b e = e
 
 -- no author has two after one more
 
-has_put : (author : List ℕ) (new : Ballot) (bs : List Ballot) → bytes_eq author new.0 ≡ false → has author bs ≡ false → has author (put new bs) ≡ false
+has_put : (author : List ℕ) (new : Ballot) (bs : List Ballot) → bytes_eq author new.0 ≡ false → has author bs ≡ false
+    → has author (put new bs) ≡ false
 has_put author new [] other none = or_no _ false other
 has_put author new (b ∷ bs) other none = go (bytes_eq new.0 b.0) (has_put author new bs other (or_second _ _ none)) where
   go : (t : Bool) → has author (put new bs) ≡ false → has author (if t then (b.0, new.1) ∷ bs else b ∷ put new bs) ≡ false
@@ -103,7 +105,8 @@ module _ (weight : ℤ → ℤ) where
   unseen : (new : Ballot) (later bs : List Ballot) → has new.0 bs ≡ false → rest (new ∷ later) bs ≡ rest later bs
   unseen new later [] none = refl
   unseen new later (b ∷ bs) none =
-      ap (λ t. if t then rest (new ∷ later) bs else weight b.1 +ℤ rest (new ∷ later) bs) (or_no _ _ (bytes_flip b.0 new.0 ∙ or_first _ _ none))
+      ap (λ t. if t then rest (new ∷ later) bs else weight b.1 +ℤ rest (new ∷ later) bs)
+        (or_no _ _ (bytes_flip b.0 new.0 ∙ or_first _ _ none))
       ∙ ap (λ r. if has b.0 later then r else weight b.1 +ℤ r) (unseen new later bs (or_second _ _ none))
 
   -- one more ballot
@@ -114,26 +117,35 @@ module _ (weight : ℤ → ℤ) where
     go false = refl
   put_rest new later (b ∷ bs) u = go (bytes_eq new.0 b.0) refl (put_rest new later bs u.1) where
     same : bytes_eq new.0 b.0 ≡ true → rest later ((b.0, new.1) ∷ bs) ≡ own new later +ℤ rest (new ∷ later) (b ∷ bs)
-    same e = by (has b.0 later) (ap (λ a. has a later) (bytes_same new.0 b.0 e)) (unseen new later bs (ap (λ a. has a bs) (bytes_same new.0 b.0 e) ∙ u.0)) where
+    same e = by (has b.0 later) (ap (λ a. has a later) (bytes_same new.0 b.0 e))
+        (unseen new later bs (ap (λ a. has a bs) (bytes_same new.0 b.0 e) ∙ u.0)) where
       seen : rest (new ∷ later) (b ∷ bs) ≡ rest (new ∷ later) bs
       seen = ap (λ t. if t then rest (new ∷ later) bs else weight b.1 +ℤ rest (new ∷ later) bs) (or_yes _ _ (bytes_flip b.0 new.0 ∙ e))
 
-      by : (t : Bool) → has new.0 later ≡ t → rest (new ∷ later) bs ≡ rest later bs → (if t then rest later bs else weight new.1 +ℤ rest later bs) ≡ own new later +ℤ rest (new ∷ later) (b ∷ bs)
-      by true h i = sym (ap (λ r. own new later +ℤ r) (seen ∙ i) ∙ ap (λ t. (if t then pos 0 else weight new.1) +ℤ rest later bs) h ∙ nil_sum (rest later bs))
+      by : (t : Bool) → has new.0 later ≡ t → rest (new ∷ later) bs ≡ rest later bs
+          → (if t then rest later bs else weight new.1 +ℤ rest later bs) ≡ own new later +ℤ rest (new ∷ later) (b ∷ bs)
+      by true h i = sym (ap (λ r. own new later +ℤ r) (seen ∙ i) ∙ ap (λ t. (if t then pos 0 else weight new.1) +ℤ rest later bs) h
+            ∙ nil_sum (rest later bs))
       by false h i = sym (ap (λ r. own new later +ℤ r) (seen ∙ i) ∙ ap (λ t. (if t then pos 0 else weight new.1) +ℤ rest later bs) h)
 
-    other : bytes_eq new.0 b.0 ≡ false → rest later (put new bs) ≡ own new later +ℤ rest (new ∷ later) bs → rest later (b ∷ put new bs) ≡ own new later +ℤ rest (new ∷ later) (b ∷ bs)
+    other : bytes_eq new.0 b.0 ≡ false → rest later (put new bs) ≡ own new later +ℤ rest (new ∷ later) bs
+        → rest later (b ∷ put new bs) ≡ own new later +ℤ rest (new ∷ later) (b ∷ bs)
     other e i = by (has b.0 later) refl where
       unlike : rest (new ∷ later) (b ∷ bs) ≡ (if has b.0 later then rest (new ∷ later) bs else weight b.1 +ℤ rest (new ∷ later) bs)
       unlike = ap (λ t. if t then rest (new ∷ later) bs else weight b.1 +ℤ rest (new ∷ later) bs) (or_no _ _ (bytes_flip b.0 new.0 ∙ e))
 
-      by : (t : Bool) → has b.0 later ≡ t → (if has b.0 later then rest later (put new bs) else weight b.1 +ℤ rest later (put new bs)) ≡ own new later +ℤ rest (new ∷ later) (b ∷ bs)
-      by true h = ap (λ t. if t then rest later (put new bs) else weight b.1 +ℤ rest later (put new bs)) h ∙ i ∙ sym (ap (λ r. own new later +ℤ r) (unlike ∙ ap (λ t. if t then rest (new ∷ later) bs else weight b.1 +ℤ rest (new ∷ later) bs) h))
+      by : (t : Bool) → has b.0 later ≡ t → (if has b.0 later then rest later (put new bs) else weight b.1 +ℤ rest later (put new bs))
+          ≡ own new later +ℤ rest (new ∷ later) (b ∷ bs)
+      by true h = ap (λ t. if t then rest later (put new bs) else weight b.1 +ℤ rest later (put new bs)) h ∙ i ∙ sym
+          (ap (λ r. own new later +ℤ r) (unlike ∙ ap (λ t. if t then rest (new ∷ later) bs else weight b.1 +ℤ rest (new ∷ later) bs) h))
       by false h =
-          ap (λ t. if t then rest later (put new bs) else weight b.1 +ℤ rest later (put new bs)) h ∙ ap (λ r. weight b.1 +ℤ r) i ∙ swapped (weight b.1) (own new later) (rest (new ∷ later) bs)
-          ∙ sym (ap (λ r. own new later +ℤ r) (unlike ∙ ap (λ t. if t then rest (new ∷ later) bs else weight b.1 +ℤ rest (new ∷ later) bs) h))
+          ap (λ t. if t then rest later (put new bs) else weight b.1 +ℤ rest later (put new bs)) h ∙ ap (λ r. weight b.1 +ℤ r) i
+            ∙ swapped (weight b.1) (own new later) (rest (new ∷ later) bs)
+          ∙ sym
+              (ap (λ r. own new later +ℤ r) (unlike ∙ ap (λ t. if t then rest (new ∷ later) bs else weight b.1 +ℤ rest (new ∷ later) bs) h))
 
-    go : (t : Bool) → bytes_eq new.0 b.0 ≡ t → rest later (put new bs) ≡ own new later +ℤ rest (new ∷ later) bs → rest later (if t then (b.0, new.1) ∷ bs else b ∷ put new bs) ≡ own new later +ℤ rest (new ∷ later) (b ∷ bs)
+    go : (t : Bool) → bytes_eq new.0 b.0 ≡ t → rest later (put new bs) ≡ own new later +ℤ rest (new ∷ later) bs
+        → rest later (if t then (b.0, new.1) ∷ bs else b ∷ put new bs) ≡ own new later +ℤ rest (new ∷ later) (b ∷ bs)
     go true e i = same e
     go false e i = other e i
 
@@ -143,7 +155,8 @@ module _ (weight : ℤ → ℤ) where
   all_from : (new bs : List Ballot) → Unique bs → rest [] (fold (λ done b. put b done) bs new) ≡ rest new bs +ℤ weigh (lasts new)
   all_from [] bs u = sym (sum_nil (rest [] bs))
   all_from (b ∷ new) bs u =
-      all_from new (put b bs) (put_unique b bs u) ∙ ap (λ r. r +ℤ weigh (lasts new)) (put_rest b new bs u) ∙ moved (own b new) (rest (b ∷ new) bs) (weigh (lasts new)) ∙ ap (λ r. rest (b ∷ new) bs +ℤ r) (by (has b.0 new))
+      all_from new (put b bs) (put_unique b bs u) ∙ ap (λ r. r +ℤ weigh (lasts new)) (put_rest b new bs u)
+        ∙ moved (own b new) (rest (b ∷ new) bs) (weigh (lasts new)) ∙ ap (λ r. rest (b ∷ new) bs +ℤ r) (by (has b.0 new))
     where
       by : (t : Bool) → (if t then pos 0 else weight b.1) +ℤ weigh (lasts new) ≡ weigh (if t then lasts new else b ∷ lasts new)
       by true = nil_sum (weigh (lasts new))

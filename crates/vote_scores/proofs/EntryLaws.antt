@@ -11,7 +11,8 @@ use Rattle.vote_scores.specs.Entries.{vote_at}
 
 -- a value that is written
 
-pub written : (entries : List (VoteKey × ℤ)) (place : ℕ) (value : ℤ) → map vote_at (set_value_at entries place value) ≡ with_value place value (map vote_at entries)
+pub written : (entries : List (VoteKey × ℤ)) (place : ℕ) (value : ℤ)
+    → map vote_at (set_value_at entries place value) ≡ with_value place value (map vote_at entries)
 written [] place value = refl
 written (entry ∷ entries) zero value = refl
 written (entry ∷ entries) (suc place) value = ap (λ votes. vote_at entry ∷ votes) (written entries place value)
@@ -30,7 +31,8 @@ cut (suc n) (entry ∷ entries) = ap (λ votes. vote_at entry ∷ votes) (cut n 
 
 -- what an undo gives, by its old value
 
-pub undone-old : (undo : VoteUndo) (old : Option ℤ) (votes : List Vote) → undo.old ≡ old → without_vote undo votes ≡ restored undo.at old votes
+pub undone-old : (undo : VoteUndo) (old : Option ℤ) (votes : List Vote) → undo.old ≡ old
+    → without_vote undo votes ≡ restored undo.at old votes
 undone-old undo old votes e = ap (λ o. restored undo.at o votes) e
 
 -- distinct keys
@@ -38,7 +40,8 @@ undone-old undo old votes e = ap (λ o. restored undo.at o votes) e
 same_key : (k l : VoteKey) (v w : ℤ) → is_same (vote_at (k, v)) (vote_at (l, w)) ≡ key.ghosts.eq k l
 same_key k l v w = refl
 
-none_same : (k : VoteKey) (v : ℤ) (entries : List (VoteKey × ℤ)) → AllByRecursion (λ l. key.ghosts.eq k l ≡ false) (keys_of entries) → list_any (is_same (vote_at (k, v))) (map vote_at entries) ≡ false
+none_same : (k : VoteKey) (v : ℤ) (entries : List (VoteKey × ℤ)) → AllByRecursion (λ l. key.ghosts.eq k l ≡ false) (keys_of entries)
+    → list_any (is_same (vote_at (k, v))) (map vote_at entries) ≡ false
 none_same k v [] all = refl
 none_same k v (entry ∷ entries) all = rw (same_key k entry.0 v entry.1 ∙ all.0) (none_same k v entries all.1)
 

@@ -1,5 +1,6 @@
 -- The counted scores of a kind are those of its documents.
-use Rattle.std.proofs.Common.{◌≡◌, ◌∙◌, refl, sym, ap, subst, arith, ℕ, suc, ◌+◌, ◌<◌, ◌≤◌, Bool, true, false, ℤ, pos, List, [], ◌∷◌, length, filter, Option, Some, None, inl, inr, if◌then◌else◌}
+use Rattle.std.proofs.Common.{◌≡◌, ◌∙◌, refl, sym, ap, subst, arith, ℕ, suc, ◌+◌, ◌<◌, ◌≤◌, Bool, true, false, ℤ, pos, List, [], ◌∷◌}
+use Rattle.std.proofs.Common.{length, filter, Option, Some, None, inl, inr, if◌then◌else◌}
 use Rattle.std.specs.Prelude.{◌⊎◌, ◌&&◌, ◌==◌}
 use Rattle.std.specs.List.{cons_option, filter_map}
 use Rattle.std.specs.Str.{bytes_eq}
@@ -31,7 +32,8 @@ module _ (f : Doc → Option Score) where
     deeper : (d : Doc) × In d docs × (f d ≡ Some score) → (d : Doc) × In d (doc ∷ docs) × (f d ≡ Some score)
     deeper q = (q.0, inr q.1, q.2)
 
-    go : (o : Option Score) → f doc ≡ o → In score (cons_option o (filter_map f docs)) → (In score (filter_map f docs) → (d : Doc) × In d docs × (f d ≡ Some score)) → (d : Doc) × In d (doc ∷ docs) × (f d ≡ Some score)
+    go : (o : Option Score) → f doc ≡ o → In score (cons_option o (filter_map f docs))
+        → (In score (filter_map f docs) → (d : Doc) × In d docs × (f d ≡ Some score)) → (d : Doc) × In d (doc ∷ docs) × (f d ≡ Some score)
     go None e i rest = deeper (rest i)
     go (Some x) e (inl is) rest = (doc, inl refl, e ∙ ap Some (sym is))
     go (Some x) e (inr j) rest = deeper (rest j)
@@ -54,7 +56,8 @@ above num low [] doc a i = absurd i
 above num low (other ∷ docs) doc a (inl e) = let n : doc.num.0 ≡ num = ap (λ (d : Doc). d.num.0) e ∙ a.1 in omega (arith, n)
 above num low (other ∷ docs) doc a (inr i) = let r = above (suc num) other.arrival docs doc a.2 i in omega (arith, r)
 
-numbered : (num : ℕ) (low : ℤ) (docs : List Doc) (n : ℕ) → Arrived num low docs → num ≤ n → n < num + length docs → (doc : Doc) × In doc docs × (doc.num.0 ≡ n)
+numbered : (num : ℕ) (low : ℤ) (docs : List Doc) (n : ℕ) → Arrived num low docs → num ≤ n → n < num + length docs
+    → (doc : Doc) × In doc docs × (doc.num.0 ≡ n)
 numbered num low [] n a from to = absurd (omega (arith, from, to))
 numbered num low (doc ∷ docs) n a from to = go (num == n) refl (λ f. numbered (suc num) doc.arrival docs n a.2 f (omega (arith, to))) where
   next : (num == n) ≡ false → suc num ≤ n
@@ -80,18 +83,21 @@ module _ (kind : List ℕ) (notes : List Note) where
   scores_apart : (num : ℕ) (low : ℤ) (docs : List Doc) → Arrived num low docs → ScoresAreApart (filter_map (score_of kind notes) docs)
   scores_apart num low [] a = tt
   scores_apart num low (doc ∷ docs) a = go (score_of kind notes doc) refl (scores_apart (suc num) doc.arrival docs a.2) where
-    other : (score : Score) → score_of kind notes doc ≡ Some score → (y : Score) → (d : Doc) × In d docs × (score_of kind notes d ≡ Some y) → y.doc.0 ≡ score.doc.0 → ⊥
+    other : (score : Score) → score_of kind notes doc ≡ Some score → (y : Score) → (d : Doc) × In d docs × (score_of kind notes d ≡ Some y)
+        → y.doc.0 ≡ score.doc.0 → ⊥
     other score e y q same =
         let high = above (suc num) doc.arrival docs q.0 a.2 q.1 in
         let mine : score.doc.0 ≡ num = ap (λ (n : DocNum). n.0) (of_doc doc.num (votes_on kind doc.num.0 notes) score e) ∙ a.1 in
         let its : y.doc.0 ≡ q.0.num.0 = ap (λ (n : DocNum). n.0) (of_doc q.0.num (votes_on kind q.0.num.0 notes) y q.2) in
         absurd (omega (arith, high, mine, its, same))
 
-    go : (o : Option Score) → score_of kind notes doc ≡ o → ScoresAreApart (filter_map (score_of kind notes) docs) → ScoresAreApart (cons_option o (filter_map (score_of kind notes) docs))
+    go : (o : Option Score) → score_of kind notes doc ≡ o → ScoresAreApart (filter_map (score_of kind notes) docs)
+        → ScoresAreApart (cons_option o (filter_map (score_of kind notes) docs))
     go None e rest = rest
     go (Some score) e rest = ((λ y i. other score e y (in_map (score_of kind notes) docs y i)), rest)
 
-some_vote : (kind : List ℕ) (doc : ℕ) (notes : List Note) → (filter (is_vote kind doc) notes ≡ []) ⊎ ((note : Note) × In note notes × (note.doc.0 ≡ doc))
+some_vote : (kind : List ℕ) (doc : ℕ) (notes : List Note)
+    → (filter (is_vote kind doc) notes ≡ []) ⊎ ((note : Note) × In note notes × (note.doc.0 ≡ doc))
 some_vote kind doc [] = inl refl
 some_vote kind doc (note ∷ notes) = go (is_vote kind doc note) refl (some_vote kind doc notes) where
   second : (a b : Bool) → (a && b) ≡ true → b ≡ true
@@ -101,7 +107,9 @@ some_vote kind doc (note ∷ notes) = go (is_vote kind doc note) refl (some_vote
   same : (m n : ℕ) → (m == n) ≡ true → m ≡ n
   same m n e = grind (arith, e)
 
-  go : (b : Bool) → is_vote kind doc note ≡ b → (filter (is_vote kind doc) notes ≡ []) ⊎ ((n : Note) × In n notes × (n.doc.0 ≡ doc)) → ((if b then note ∷ filter (is_vote kind doc) notes else filter (is_vote kind doc) notes) ≡ []) ⊎ ((n : Note) × In n (note ∷ notes) × (n.doc.0 ≡ doc))
+  go : (b : Bool) → is_vote kind doc note ≡ b → (filter (is_vote kind doc) notes ≡ []) ⊎ ((n : Note) × In n notes × (n.doc.0 ≡ doc))
+      → ((if b then note ∷ filter (is_vote kind doc) notes else filter (is_vote kind doc) notes) ≡ [])
+      ⊎ ((n : Note) × In n (note ∷ notes) × (n.doc.0 ≡ doc))
   go true e rest = inr (note, inl refl, same note.doc.0 doc (second (bytes_eq note.kind kind) (note.doc.0 == doc) e))
   go false e (inl none) = inl none
   go false e (inr q) = inr (q.0, inr q.1, q.2)
@@ -127,12 +135,15 @@ module _ (kind : List ℕ) (tables : Tables) (sound : AreNumbered tables) where
     on : (note : Note) × In note tables.notes × (note.doc.0 ≡ score.doc.0) → (doc : Doc) × In doc tables.docs × (doc.num.0 ≡ score.doc.0)
     on q =
         let within = each_in (λ (note : Note). (1 ≤ note.doc.0) × (note.doc.0 ≤ length tables.docs)) tables.notes q.0 sound.notes q.1 in
-        numbered 1 (pos 0) tables.docs score.doc.0 sound.docs (let w = within.0 in let n = q.2 in omega (arith, w, n)) (let w = within.1 in let n = q.2 in omega (arith, w, n))
+        numbered 1 (pos 0) tables.docs score.doc.0 sound.docs (let w = within.0 in let n = q.2 in omega (arith, w, n))
+            (let w = within.1 in let n = q.2 in omega (arith, w, n))
 
     listed : (doc : Doc) × In doc tables.docs × (doc.num.0 ≡ score.doc.0) → In score theirs
-    listed q = map_in (score_of kind tables.notes) tables.docs q.0 score q.1 (ap (λ n. score_by (record { 0 = n }) (votes_on kind n tables.notes)) q.2 ∙ is)
+    listed q = map_in (score_of kind tables.notes) tables.docs q.0 score
+        q.1 (ap (λ n. score_by (record { 0 = n }) (votes_on kind n tables.notes)) q.2 ∙ is)
 
-    by : (filter (is_vote kind score.doc.0) tables.notes ≡ []) ⊎ ((note : Note) × In note tables.notes × (note.doc.0 ≡ score.doc.0)) → In score theirs
+    by : (filter (is_vote kind score.doc.0) tables.notes ≡ []) ⊎ ((note : Note) × In note tables.notes × (note.doc.0 ≡ score.doc.0))
+        → In score theirs
     by (inl none) = absurd (nothing (ap (λ ns. score_by score.doc (last_notes ns)) (sym none) ∙ is))
     by (inr q) = listed (on q)
 

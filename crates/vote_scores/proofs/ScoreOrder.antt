@@ -25,7 +25,8 @@ onward x y z h k = grind (arith, ints)
 otherwise : (a b : Score) → score_is_before a b ≡ false → (b.doc.0 ≡ a.doc.0 → ⊥) → score_is_before b a ≡ true
 otherwise a b h n = grind (arith, ints)
 
-pub same_rising : (xs ys : List Score) → InOrder xs → InOrder ys → ((h : Score) → In h xs → In h ys) → ((h : Score) → In h ys → In h xs) → xs ≡ ys
+pub same_rising : (xs ys : List Score) → InOrder xs → InOrder ys → ((h : Score) → In h xs → In h ys) → ((h : Score) → In h ys → In h xs)
+    → xs ≡ ys
 same_rising [] [] r s to back = refl
 same_rising [] (y ∷ ys) r s to back = absurd (back y (inl refl))
 same_rising (x ∷ xs) [] r s to back = absurd (to x (inl refl))
@@ -106,6 +107,8 @@ rising_order [] a = tt
 rising_order (x ∷ xs) a = rising_put x (scores_in_order xs) (rising_order xs a.1) (λ y i. a.0 y (ordered_in y xs i))
 
 -- two lists with the same scores of distinct documents are one in order
-pub same_order : (xs ys : List Score) → ScoresAreApart xs → ScoresAreApart ys → ((s : Score) → In s xs → In s ys) → ((s : Score) → In s ys → In s xs) → scores_in_order xs ≡ scores_in_order ys
+pub same_order : (xs ys : List Score) → ScoresAreApart xs → ScoresAreApart ys → ((s : Score) → In s xs → In s ys)
+    → ((s : Score) → In s ys → In s xs) → scores_in_order xs ≡ scores_in_order ys
 same_order xs ys a b to back =
-    same_rising (scores_in_order xs) (scores_in_order ys) (rising_order xs a) (rising_order ys b) (λ s i. in_ordered s ys (to s (ordered_in s xs i))) (λ s i. in_ordered s xs (back s (ordered_in s ys i)))
+    same_rising (scores_in_order xs) (scores_in_order ys) (rising_order xs a) (rising_order ys b)
+      (λ s i. in_ordered s ys (to s (ordered_in s xs i))) (λ s i. in_ordered s xs (back s (ordered_in s ys i)))

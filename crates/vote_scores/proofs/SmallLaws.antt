@@ -23,19 +23,23 @@ small_up n m (score ∷ scores) le small =
 value_within : (value : ℤ) → FitsSigned w64 value → (neg_ℤ (pos 9223372036854775808) ≤ℤ value) × (value ≤ℤ pos 9223372036854775808)
 value_within value fits = (omega (arith, ints, fits.sfits), omega (arith, ints, fits.sfits))
 
-grown : (n : ℕ) (sum value : ℤ) → low n ≤ℤ sum → sum ≤ℤ high n → neg_ℤ (pos 9223372036854775808) ≤ℤ value → value ≤ℤ pos 9223372036854775808 → (low (n + 1) ≤ℤ (sum +ℤ value)) × ((sum +ℤ value) ≤ℤ high (n + 1))
+grown : (n : ℕ) (sum value : ℤ) → low n ≤ℤ sum → sum ≤ℤ high n → neg_ℤ (pos 9223372036854775808) ≤ℤ value → value ≤ℤ pos 9223372036854775808
+    → (low (n + 1) ≤ℤ (sum +ℤ value)) × ((sum +ℤ value) ≤ℤ high (n + 1))
 grown n sum value down up below above = (omega (arith, ints), omega (arith, ints))
 
-begun : (n : ℕ) (value : ℤ) → neg_ℤ (pos 9223372036854775808) ≤ℤ value → value ≤ℤ pos 9223372036854775808 → (low (n + 1) ≤ℤ value) × (value ≤ℤ high (n + 1))
+begun : (n : ℕ) (value : ℤ) → neg_ℤ (pos 9223372036854775808) ≤ℤ value → value ≤ℤ pos 9223372036854775808
+    → (low (n + 1) ≤ℤ value) × (value ≤ℤ high (n + 1))
 begun n value below above = (omega (arith, ints), omega (arith, ints))
 
-pub small_more : (n doc : ℕ) (value : ℤ) (scores : List Score) → FitsSigned w64 value → AreSmall n scores → AreSmall (n + 1) (with_vote_counted doc value scores)
+pub small_more : (n doc : ℕ) (value : ℤ) (scores : List Score) → FitsSigned w64 value → AreSmall n scores
+    → AreSmall (n + 1) (with_vote_counted doc value scores)
 small_more n doc value [] fits small =
     let v = value_within value fits in
     let b = begun n value v.0 v.1 in
     ((omega arith, b.0, b.1), tt)
 small_more n doc value (score ∷ scores) fits small = go (doc == score.doc.0) (small_more n doc value scores fits small.1) where
-  go : (b : Bool) → AreSmall (n + 1) (with_vote_counted doc value scores) → AreSmall (n + 1) (if b then record score { voters = score.voters + 1; sum = score.sum +ℤ value } ∷ scores else score ∷ with_vote_counted doc value scores)
+  go : (b : Bool) → AreSmall (n + 1) (with_vote_counted doc value scores) → AreSmall (n + 1) (if b
+        then record score { voters = score.voters + 1; sum = score.sum +ℤ value } ∷ scores else score ∷ with_vote_counted doc value scores)
   go true rest =
       let v = value_within value fits in
       let g = grown n score.sum value small.0.1 small.0.2 v.0 v.1 in

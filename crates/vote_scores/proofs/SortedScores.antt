@@ -1,5 +1,6 @@
 -- Scores that were sorted.
-use Rattle.std.proofs.Common.{◌≡◌, ℕ, suc, ◌+◌, ◌≤◌, ◌<◌, Bool, true, false, List, [], ◌∷◌, length, refl, sym, ap, ◌∙◌, subst, inl, inr, arith, nat_eq}
+use Rattle.std.proofs.Common.{◌≡◌, ℕ, suc, ◌+◌, ◌≤◌, ◌<◌, Bool, true, false, List, [], ◌∷◌, length, refl, sym, ap, ◌∙◌, subst, inl, inr}
+use Rattle.std.proofs.Common.{arith, nat_eq}
 use Rattle.std.specs.Prelude.{◌&&◌, slice_index_or}
 use Rattle.std.specs.List.{list_any, IsDistinct, AllByRecursion}
 use Rattle.std.specs.List.Sorted.{IsPermutation, IsSortedBy}
@@ -40,7 +41,8 @@ same_parts x y h = (grind (arith, ints), grind (arith, ints), grind (arith, ints
 same_is : (x y : Score) → same_score x y ≡ true → x ≡ y
 same_is x y h =
     let p = same_parts x y h in
-    ap (λ n. record { doc = record { 0 = n }; voters = x.voters; sum = x.sum }) p.0 ∙ ap (λ n. record { doc = y.doc; voters = n; sum = x.sum }) p.1 ∙ ap (λ n. record { doc = y.doc; voters = y.voters; sum = n }) p.2
+    ap (λ n. record { doc = record { 0 = n }; voters = x.voters; sum = x.sum }) p.0
+        ∙ ap (λ n. record { doc = y.doc; voters = n; sum = x.sum }) p.1 ∙ ap (λ n. record { doc = y.doc; voters = y.voters; sum = n }) p.2
 
 in_any : (p : Score → Bool) (xs : List Score) (x : Score) → In x xs → p x ≡ true → list_any p xs ≡ true
 in_any p [] x i h = absurd i
@@ -106,7 +108,9 @@ strictly a b h n = grind (arith, ints)
 onward : (x y z : Score) → score_is_before x y ≡ true → score_is_before y z ≡ true → score_is_before x z ≡ true
 onward x y z h k = grind (arith, ints)
 
-in_order_all : (xs : List Score) → ScoresAreApart xs → ((k : ℕ) (d : Score) → 0 ≤ k → k + 1 < length xs → score_is_before (slice_index_or xs (k + 1) d) (slice_index_or xs k d) ≡ false) → InOrder xs
+in_order_all : (xs : List Score) → ScoresAreApart xs
+    → ((k : ℕ) (d : Score) → 0 ≤ k → k + 1 < length xs → score_is_before (slice_index_or xs (k + 1) d) (slice_index_or xs k d) ≡ false)
+    → InOrder xs
 in_order_all [] a s = tt
 in_order_all (x ∷ []) a s = ((λ y i. absurd i), tt)
 in_order_all (x ∷ y ∷ zs) a s =
@@ -114,7 +118,8 @@ in_order_all (x ∷ y ∷ zs) a s =
     let e : score_is_before x y ≡ true = strictly x y (s 0 x (omega arith) (omega arith)) (a.0 y (inl refl)) in
     (first e r, r)
   where
-    shift : (k : ℕ) (d : Score) → score_is_before (slice_index_or (x ∷ y ∷ zs) (suc k + 1) d) (slice_index_or (x ∷ y ∷ zs) (suc k) d) ≡ false → score_is_before (slice_index_or (y ∷ zs) (k + 1) d) (slice_index_or (y ∷ zs) k d) ≡ false
+    shift : (k : ℕ) (d : Score) → score_is_before (slice_index_or (x ∷ y ∷ zs) (suc k + 1) d) (slice_index_or (x ∷ y ∷ zs) (suc k) d)
+        ≡ false → score_is_before (slice_index_or (y ∷ zs) (k + 1) d) (slice_index_or (y ∷ zs) k d) ≡ false
     shift k d h =
         let e : suc k + 1 ≡ suc (k + 1) = omega arith in
         subst (λ n. score_is_before (slice_index_or (x ∷ y ∷ zs) n d) (slice_index_or (y ∷ zs) k d) ≡ false) e h
@@ -128,4 +133,5 @@ pub sorted_is : (xs ys : List Score) → IsPermutation xs ys → ScoresAreApart 
 sorted_is xs ys p a s =
     let same = λ (score : Score). list_any-IsPermutation (same_score score) xs ys p in
     same_rising ys (scores_in_order xs) (in_order_all ys (apart_moved xs ys p a) s) (rising_order xs a)
-    (λ score i. in_ordered score xs (moved ys xs score (sym (same score)) i)) (λ score i. moved xs ys score (same score) (ordered_in score xs i))
+    (λ score i. in_ordered score xs (moved ys xs score (sym (same score)) i)) (λ score i.
+      moved xs ys score (same score) (ordered_in score xs i))

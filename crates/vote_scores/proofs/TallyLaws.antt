@@ -9,7 +9,8 @@ use Rattle.vote_scores.proofs.AddLaws.{one_more}
 pub tally-more : (notes : List Note) (note : Note) → tally (notes ++ note ∷ []) ≡ with_vote note (tally notes)
 tally-more notes note = fold-append (λ votes note. with_vote note votes) [] notes (note ∷ [])
 
-few_from : (notes : List Note) (votes : List Vote) → length (fold (λ votes note. with_vote note votes) votes notes) ≤ length votes + length notes
+few_from : (notes : List Note) (votes : List Vote)
+    → length (fold (λ votes note. with_vote note votes) votes notes) ≤ length votes + length notes
 few_from [] votes = omega arith
 few_from (note ∷ notes) votes = let h = one_more note votes in let r = few_from notes (with_vote note votes) in omega (arith, h, r)
 

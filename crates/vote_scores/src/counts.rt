@@ -11,7 +11,8 @@ use std::marker::Model;
 use tap_base::{DocNum, Memory, Rows};
 use tap_rows::Score;
 
-/// The scores of the documents that have votes, in order of their first votes. A score is looked up by its document.
+/// The scores of the documents that have votes, in order of their first votes. A score is looked up
+/// by its document.
 #[derive(Drop)]
 pub(crate) struct Counts {
     scores: IndexMap<u32, Score>,

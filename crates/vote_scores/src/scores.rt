@@ -4,7 +4,8 @@ ghost use Rattle.tap_rows.specs.declared.tables.Tables.{Tables};
 ghost use Rattle.vote_scores.specs.Counts.{counted_from, counted_if, AreSmall};
 ghost use Rattle.vote_scores.specs.Entries.{key_of, vote_at};
 ghost use Rattle.tap_rows.specs.Votes.{scores_of, AreNumbered};
-ghost use Rattle.vote_scores.specs.Tally.{tally, vote_place, vote_value, with_vote, without_vote, CanUndoVote, VotesAreDistinct};
+ghost use Rattle.vote_scores.specs.Tally.{tally, vote_place, vote_value, with_vote, without_vote};
+ghost use Rattle.vote_scores.specs.Tally.{CanUndoVote, VotesAreDistinct};
 
 use crate::counts::Counts;
 use crate::undo::VoteUndo;
@@ -15,7 +16,8 @@ use std::marker::Model;
 use tap_base::{HashKey, Memory, Rows};
 use tap_rows::{Note, Score};
 
-/// The vote of each author on each document, kind by kind, in order of the first such note. A vote is looked up by its hash.
+/// The vote of each author on each document, kind by kind, in order of the first such note. A vote
+/// is looked up by its hash.
 #[derive(Drop)]
 pub struct Scores {
     votes: IndexMap<VoteKey, i64, HashKey>,
@@ -82,14 +84,16 @@ impl Scores {
         self.votes.len() as u32
     }
 
-    /// Sets the value of the vote of the note's kind, document and author, or appends that vote, by one look-up. Fails with
+    /// Sets the value of the vote of the note's kind, document and author, or appends that vote, by
+    /// one look-up. Fails with
     /// `Memory` when out of memory, and nothing has changed then.
     pub fn add(&mut self, note: &Note) -> Result<VoteUndo, Memory>
         requires room { length self.old < 4294967295 }
         ensures ok { OnOk result (self.new ≡ with_vote note.now self.old) }
         ensures place { IfOk result (λ undo. undo.at ≡ vote_place note.now self.old) }
         ensures old { IfOk result (λ undo. undo.old ≡ vote_value note.now self.old) }
-        ensures undo { IfOk result (λ undo. CanUndoVote undo self.new × (without_vote undo self.new ≡ self.old)) }
+        ensures undo { IfOk result (λ undo. CanUndoVote undo self.new
+            × (without_vote undo self.new ≡ self.old)) }
         ensures err { OnErr result (self.new ≡ self.old) }
     {
         let key = key_of(note)?;
@@ -97,7 +101,8 @@ impl Scores {
         Ok(VoteUndo { at: at as u32, old })
     }
 
-    /// Restores the value that the vote had, or removes the vote that was appended. It takes no memory.
+    /// Restores the value that the vote had, or removes the vote that was appended. It takes no
+    /// memory.
     pub fn undo(&mut self, undo: VoteUndo)
         requires { CanUndoVote undo self.old }
         ensures { self.new ≡ without_vote undo self.old }
@@ -123,10 +128,11 @@ impl Scores {
         Ok(counts)
     }
 
-    /// Returns the scores of a kind by the votes, from the greatest sum, then in order of documents. Fails with `Memory` when
-    /// out of memory.
+    /// Returns the scores of a kind by the votes, from the greatest sum, then in order of
+    /// documents. Fails with `Memory` when out of memory.
     pub fn of_kind(&self, alloc: Global, kind: &[u8]) -> Result<Rows<Score>, Memory>
-        ensures { IfOk result (λ rows. (tables : Tables) → AreNumbered tables → self.now ≡ tally tables.notes → rows ≡ scores_of kind.now tables) }
+        ensures { IfOk result (λ rows. (tables : Tables) → AreNumbered tables
+            → self.now ≡ tally tables.notes → rows ≡ scores_of kind.now tables) }
     {
         let counts = self.counts(alloc, kind)?;
         counts.into_rows(alloc)

@@ -14,5 +14,6 @@ some_first (x ∷ xs) ys e = refl
 
 module _ {A : Type 0} where
   -- the row that was handed out has no hit
-  pub next_row : (f : A → List Hit) (whole : Bool) (rows left : List A) (r : A) (now : Bool) → whole ≡ has_hit (flat_map f rows) → rows ≡ r ∷ left → now ≡ has_hit (f r) → now ≡ false → whole ≡ has_hit (flat_map f left)
+  pub next_row : (f : A → List Hit) (whole : Bool) (rows left : List A) (r : A) (now : Bool) → whole ≡ has_hit (flat_map f rows)
+      → rows ≡ r ∷ left → now ≡ has_hit (f r) → now ≡ false → whole ≡ has_hit (flat_map f left)
   next_row f whole rows left r now h e g q = h ∙ ap (λ z. has_hit (flat_map f z)) e ∙ none_first (f r) (flat_map f left) (sym g ∙ q)

@@ -49,13 +49,18 @@ module _ (turns : List Turn) (i : ℕ) (t : Turn) (at : slice_get turns i ≡ So
   pub next_place : (first now : Option FirstPlace) → now ≡ nearer first i (due_mark t.next) → IsPlace turns first → IsPlace turns now
   next_place first now e h = subst (IsPlace turns) (sym e) (still_place first (due_mark t.next) refl h)
 
-  pub next_least : (first now : Option FirstPlace) → now ≡ nearer first i (due_mark t.next) → ((x : Turn) → In x turns → IsBehind first (due_mark x.next) ⊎ In x (drop i turns)) → (x : Turn) → In x turns → IsBehind now (due_mark x.next) ⊎ In x (drop (i + 1) turns)
+  pub next_least : (first now : Option FirstPlace) → now ≡ nearer first i (due_mark t.next)
+      → ((x : Turn) → In x turns → IsBehind first (due_mark x.next) ⊎ In x (drop i turns)) → (x : Turn) → In x turns
+      → IsBehind now (due_mark x.next) ⊎ In x (drop (i + 1) turns)
   next_least first now e h x j = subst (λ z. IsBehind z (due_mark x.next) ⊎ In x (drop (i + 1) turns)) (sym e) (go (h x j))
     where
-      split : (x ≡ t) ⊎ In x (drop (i + 1) turns) → IsBehind (nearer first i (due_mark t.next)) (due_mark x.next) ⊎ In x (drop (i + 1) turns)
-      split (inl q) = inl (subst (λ (z : Turn). IsBehind (nearer first i (due_mark t.next)) (due_mark z.next)) (sym q) (now_behind first i (due_mark t.next)))
+      split : (x ≡ t) ⊎ In x (drop (i + 1) turns)
+          → IsBehind (nearer first i (due_mark t.next)) (due_mark x.next) ⊎ In x (drop (i + 1) turns)
+      split (inl q) = inl (subst (λ (z : Turn). IsBehind (nearer first i (due_mark t.next)) (due_mark z.next)) (sym q)
+            (now_behind first i (due_mark t.next)))
       split (inr k) = inr k
 
-      go : IsBehind first (due_mark x.next) ⊎ In x (drop i turns) → IsBehind (nearer first i (due_mark t.next)) (due_mark x.next) ⊎ In x (drop (i + 1) turns)
+      go : IsBehind first (due_mark x.next) ⊎ In x (drop i turns)
+          → IsBehind (nearer first i (due_mark t.next)) (due_mark x.next) ⊎ In x (drop (i + 1) turns)
       go (inl k) = inl (still_behind first i (due_mark t.next) (due_mark x.next) k)
       go (inr k) = split (subst (λ z. In x z) (rest_at turns i t at) k)

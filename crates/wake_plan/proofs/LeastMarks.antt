@@ -51,7 +51,8 @@ no_mark (x ∷ xs) e = absurd (never (least_mark xs) e)
     never (Some b) e = cc
 
 -- some hit has the least mark, and none a lesser one
-pub mark_least : (hs : List Hit) (b : ℤ) → least_mark hs ≡ Some b → ((h : Hit) × In h hs × (h.first ≡ b)) × ((h : Hit) → In h hs → b ≤ℤ h.first)
+pub mark_least : (hs : List Hit) (b : ℤ) → least_mark hs ≡ Some b
+    → ((h : Hit) × In h hs × (h.first ≡ b)) × ((h : Hit) → In h hs → b ≤ℤ h.first)
 mark_least [] b e = absurd (none e)
   where
     none : None ≡ Some b → ⊥
@@ -63,14 +64,18 @@ mark_least (x ∷ xs) b e = go (least_mark xs) refl e (λ c n. mark_least xs c n
     alone n q h (inr i) = absurd (subst (λ z. In h z) n i)
 
     later : (c : ℤ) → lesser x.first c ≡ b → ((h : Hit) → In h xs → c ≤ℤ h.first) → (h : Hit) → (h ≡ x) ⊎ In h xs → b ≤ℤ h.first
-    later c q r h (inl i) = onward b x.first h.first (subst (λ z. z ≤ℤ x.first) q (lesser_left x.first c)) (reflexive x.first h.first (sym (ap (λ (z : Hit). z.first) i)))
+    later c q r h (inl i) = onward b x.first h.first (subst (λ z. z ≤ℤ x.first) q (lesser_left x.first c))
+        (reflexive x.first h.first (sym (ap (λ (z : Hit). z.first) i)))
     later c q r h (inr i) = onward b c h.first (subst (λ z. z ≤ℤ c) q (lesser_right x.first c)) (r h i)
 
-    there : (c : ℤ) → lesser x.first c ≡ b → (h : Hit) × In h xs × (h.first ≡ c) → (lesser x.first c ≡ x.first) ⊎ (lesser x.first c ≡ c) → (h : Hit) × In h (x ∷ xs) × (h.first ≡ b)
+    there : (c : ℤ) → lesser x.first c ≡ b → (h : Hit) × In h xs × (h.first ≡ c) → (lesser x.first c ≡ x.first) ⊎ (lesser x.first c ≡ c)
+        → (h : Hit) × In h (x ∷ xs) × (h.first ≡ b)
     there c q r (inl i) = (x, inl refl, sym i ∙ q)
     there c q r (inr i) = (r.0, inr r.1, r.2 ∙ sym i ∙ q)
 
-    go : (o : Option ℤ) → least_mark xs ≡ o → lesser_or x.first (least_mark xs) ≡ Some b → ((c : ℤ) → least_mark xs ≡ Some c → ((h : Hit) × In h xs × (h.first ≡ c)) × ((h : Hit) → In h xs → c ≤ℤ h.first)) → ((h : Hit) × In h (x ∷ xs) × (h.first ≡ b)) × ((h : Hit) → In h (x ∷ xs) → b ≤ℤ h.first)
+    go : (o : Option ℤ) → least_mark xs ≡ o → lesser_or x.first (least_mark xs) ≡ Some b
+        → ((c : ℤ) → least_mark xs ≡ Some c → ((h : Hit) × In h xs × (h.first ≡ c)) × ((h : Hit) → In h xs → c ≤ℤ h.first))
+        → ((h : Hit) × In h (x ∷ xs) × (h.first ≡ b)) × ((h : Hit) → In h (x ∷ xs) → b ≤ℤ h.first)
     go None n e f =
         let q : x.first ≡ b = some_same (sym (ap (lesser_or x.first) n) ∙ e) in
         ((x, inl refl, q), alone (no_mark xs n) q)
@@ -92,7 +97,8 @@ mark_is hs b h i q low = go (least_mark hs) refl
         e ∙ ap Some (antisym c b down up)
 
 -- lists of which each has no hit before all of the other have the same least mark
-pub same_mark : (xs ys : List Hit) → ((h : Hit) → In h xs → (k : Hit) × In k ys × (k.first ≤ℤ h.first)) → ((h : Hit) → In h ys → (k : Hit) × In k xs × (k.first ≤ℤ h.first)) → least_mark xs ≡ least_mark ys
+pub same_mark : (xs ys : List Hit) → ((h : Hit) → In h xs → (k : Hit) × In k ys × (k.first ≤ℤ h.first))
+    → ((h : Hit) → In h ys → (k : Hit) × In k xs × (k.first ≤ℤ h.first)) → least_mark xs ≡ least_mark ys
 same_mark xs ys to back = go (least_mark ys) refl
   where
     empty : (zs : List Hit) → ((h : Hit) → In h zs → ⊥) → least_mark zs ≡ None
@@ -109,7 +115,8 @@ same_mark xs ys to back = go (least_mark ys) refl
         mark_is xs b k.0 k.1 q low ∙ sym e
 
 -- what is found has the least mark of the meaning
-pub least_meant : (seen : Doc → Bool) (X : List Probe) (T : Tables) (w : Window) (hits : List Hit) → AreFound seen X T w hits → least_mark hits ≡ least_mark (meaning_without seen X T w)
+pub least_meant : (seen : Doc → Bool) (X : List Probe) (T : Tables) (w : Window) (hits : List Hit) → AreFound seen X T w hits
+    → least_mark hits ≡ least_mark (meaning_without seen X T w)
 least_meant seen X T w hits all = same_mark hits (meaning_without seen X T w) to back
   where
     to : (h : Hit) → In h hits → (k : Hit) × In k (meaning_without seen X T w) × (k.first ≤ℤ h.first)

@@ -1,5 +1,6 @@
 -- Lists of which one item is replaced.
-use Rattle.std.proofs.Common.{◌≡◌, ℕ, zero, suc, ◌+◌, ◌≤◌, List, [], ◌∷◌, ◌++◌, Some, sym, ap, ◌∙◌, subst, inl, inr, arith, slice_set, slice_index_or}
+use Rattle.std.proofs.Common.{◌≡◌, ℕ, zero, suc, ◌+◌, ◌≤◌, List, [], ◌∷◌, ◌++◌, Some, sym, ap, ◌∙◌, subst, inl, inr, arith, slice_set}
+use Rattle.std.proofs.Common.{slice_index_or}
 use Rattle.std.specs.Prelude.{slice_get}
 use Rattle.std.specs.List.{flat_map}
 use Rattle.tap_rows.specs.Kept.{Each, In}
@@ -31,12 +32,14 @@ module _ {A : Type 0} where
   each_set P (z ∷ zs) zero y h p = (p, h.1)
   each_set P (z ∷ zs) (suc i) y h p = (h.0, each_set P zs i y h.1 p)
 
-  pub flat_set : {B : Type 0} (f : A → List B) (xs : List A) (i : ℕ) (x y : A) → slice_get xs i ≡ Some x → f x ≡ f y → flat_map f (slice_set xs i y) ≡ flat_map f xs
+  pub flat_set : {B : Type 0} (f : A → List B) (xs : List A) (i : ℕ) (x y : A) → slice_get xs i ≡ Some x → f x ≡ f y
+      → flat_map f (slice_set xs i y) ≡ flat_map f xs
   flat_set f [] i x y e q = absurd cc
   flat_set f (z ∷ zs) zero x y e q = ap (λ l. l ++ flat_map f zs) (sym q ∙ ap f (sym (some_same e)))
   flat_set f (z ∷ zs) (suc i) x y e q = ap (λ l. f z ++ l) (flat_set f zs i x y e q)
 
-  pub total_set : (f : A → ℕ) (xs : List A) (i : ℕ) (x y : A) → slice_get xs i ≡ Some x → total f (slice_set xs i y) + f x ≡ total f xs + f y
+  pub total_set : (f : A → ℕ) (xs : List A) (i : ℕ) (x y : A) → slice_get xs i ≡ Some x
+      → total f (slice_set xs i y) + f x ≡ total f xs + f y
   total_set f [] i x y e = absurd cc
   total_set f (z ∷ zs) zero x y e =
       let q : f z ≡ f x = ap f (some_same e) in

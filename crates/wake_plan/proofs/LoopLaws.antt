@@ -1,5 +1,6 @@
 -- One turn of the loop over turns.
-use Rattle.std.proofs.Common.{◌≡◌, ℕ, suc, ◌+◌, ◌≤◌, ℤ, pos, true, false, List, [], ◌∷◌, ◌++◌, Option, Some, None, length, refl, sym, ap, ◌∙◌, subst, inl, inr, arith, slice_set}
+use Rattle.std.proofs.Common.{◌≡◌, ℕ, suc, ◌+◌, ◌≤◌, ℤ, pos, true, false, List, [], ◌∷◌, ◌++◌, Option, Some, None, length, refl, sym, ap}
+use Rattle.std.proofs.Common.{◌∙◌, subst, inl, inr, arith, slice_set}
 use Rattle.std.specs.Prelude.{◌≤ℤ◌, ◌<ℤ◌, neg_ℤ, int_le, int_lt, IfSome}
 use Rattle.jiff_core.specs.Calendar.{IsWithin}
 use Rattle.std.specs.List.{flat_map}
@@ -33,7 +34,8 @@ le_same : (b c d : ℤ) → b ≤ℤ c → c ≡ d → b ≤ℤ d
 le_same b c d h e = omega (arith, ints)
 
 -- a mark that is no greater than those of all hits lies in the window up to the least of them
-pub in_wake : (w : Window) (hits : List Hit) (b : ℤ) → w.high ≡ pos 250000000000 → lies_in w (Some b) ≡ true → ((k : Hit) → In k hits → b ≤ℤ k.first) → lies_in (wake_window w.low hits) (Some b) ≡ true
+pub in_wake : (w : Window) (hits : List Hit) (b : ℤ) → w.high ≡ pos 250000000000 → lies_in w (Some b) ≡ true
+    → ((k : Hit) → In k hits → b ≤ℤ k.first) → lies_in (wake_window w.low hits) (Some b) ≡ true
 in_wake w hits b e l f =
     let p = and_parts (int_le w.low b) (int_lt b w.high) l in
     and_from (int_le w.low b) (int_lt b (end_after (least_mark hits))) p.0 (go (least_mark hits) refl p.1)
@@ -50,7 +52,8 @@ from_low l b h k = grind (arith, ints)
 to_high : (h b : ℤ) → int_lt b h ≡ true → h ≡ pos 250000000000 → b ≤ℤ pos 250000000000
 to_high h b k e = grind (arith, ints)
 
-in_bounds : (w : Window) (b : ℤ) → IsWithin 250000000000 w.low → w.high ≡ pos 250000000000 → lies_in w (Some b) ≡ true → IsWithin 250000000000 b
+in_bounds : (w : Window) (b : ℤ) → IsWithin 250000000000 w.low → w.high ≡ pos 250000000000 → lies_in w (Some b) ≡ true
+    → IsWithin 250000000000 b
 in_bounds w b low end l = let p = and_parts (int_le w.low b) (int_lt b w.high) l in (from_low w.low b low.0 p.0, to_high w.high b p.1 end)
 
 none_left : {A : Type 0} (o : Option A) → is_some o ≡ false → o ≡ None
@@ -62,11 +65,14 @@ some_left None e = absurd (false≢true e)
 some_left (Some x) e = (x, refl)
 
 -- no row is left in any turn
-pub all_over : (w : Window) (turns : List Turn) → Each (IsTurn w) turns → ((t : Turn) → In t turns → due_mark t.next ≡ None) → flat_map (hits_left w) turns ≡ []
+pub all_over : (w : Window) (turns : List Turn) → Each (IsTurn w) turns → ((t : Turn) → In t turns → due_mark t.next ≡ None)
+    → flat_map (hits_left w) turns ≡ []
 all_over w [] h n = refl
-all_over w (t ∷ turns) h n = ap (λ z. z ++ flat_map (hits_left w) turns) (turn_over w t h.0 (n t (inl refl))) ∙ all_over w turns h.1 (λ x i. n x (inr i))
+all_over w (t ∷ turns) h n = ap (λ z. z ++ flat_map (hits_left w) turns) (turn_over w t h.0 (n t (inl refl)))
+    ∙ all_over w turns h.1 (λ x i. n x (inr i))
 
-module _ (w : Window) (turns : List Turn) (x : FirstPlace) (each : Each (IsTurn w) turns) (st : StandsAt turns x) (least : (t : Turn) → In t turns → IsBehind (Some x) (due_mark t.next)) where
+module _ (w : Window) (turns : List Turn) (x : FirstPlace) (each : Each (IsTurn w) turns) (st : StandsAt turns x)
+    (least : (t : Turn) → In t turns → IsBehind (Some x) (due_mark t.next)) where
   here : IsTurn w st.turn
   here = each_item (IsTurn w) turns x.index st.turn each st.at
 
@@ -91,7 +97,8 @@ module _ (w : Window) (turns : List Turn) (x : FirstPlace) (each : Each (IsTurn 
         let b = some_left found s in
         let k = due_hit w st.turn here due.0 due.1 b.0 (sym found_is ∙ b.1) in
         let q : b.0 ≡ x.mark = k.3 ∙ due.2 in
-        b.1 ∙ sym (mark_is (flat_map (hits_left w) turns) b.0 k.0 (to_flat (hits_left w) turns st.turn k.0 (get_in turns x.index st.turn st.at) k.1) k.2 (λ j i. subst (λ z. z ≤ℤ j.first) (sym q) (all_later j i)))
+        b.1 ∙ sym (mark_is (flat_map (hits_left w) turns) b.0 k.0 (to_flat (hits_left w) turns
+              st.turn k.0 (get_in turns x.index st.turn st.at) k.1) k.2 (λ j i. subst (λ z. z ≤ℤ j.first) (sym q) (all_later j i)))
 
     pub found_within : is_some found ≡ true → (b : ℤ) × (found ≡ Some b) × (lies_in w (Some b) ≡ true)
     found_within s =
@@ -102,7 +109,8 @@ module _ (w : Window) (turns : List Turn) (x : FirstPlace) (each : Each (IsTurn 
     pub found_bound : IsWithin 250000000000 w.low → w.high ≡ pos 250000000000 → is_some found ≡ true → IfSome found (IsWithin 250000000000)
     found_bound low end s = let f = found_within s in subst (λ o. IfSome o (IsWithin 250000000000)) (sym f.1) (in_bounds w f.0 low end f.2)
 
-    module _ (first : List Turn) (end : w.high ≡ pos 250000000000) (same : flat_map (hits_left w) turns ≡ flat_map (hits_left w) first) where
+    module _ (first : List Turn) (end : w.high ≡ pos 250000000000)
+        (same : flat_map (hits_left w) turns ≡ flat_map (hits_left w) first) where
       abbrev until : Window
       until = wake_window w.low (flat_map (hits_left w) first)
 
@@ -112,10 +120,12 @@ module _ (w : Window) (turns : List Turn) (x : FirstPlace) (each : Each (IsTurn 
           ∙ in_wake w (flat_map (hits_left w) first) x.mark end mark_within (λ k i. all_later k (subst (λ z. In k z) (sym same) i))
 
       cost_is : cost_left until st.turn ≡ (1 + due_cost now now.next) + cost_left until (passed w st.turn)
-      cost_is = gone_cost w st.turn here due.0 due.1 until until_has ∙ ap (λ (z : Turn). (1 + due_cost z z.next) + cost_left until (passed w st.turn)) (sym e)
+      cost_is = gone_cost w st.turn here due.0 due.1 until until_has
+          ∙ ap (λ (z : Turn). (1 + due_cost z z.next) + cost_left until (passed w st.turn)) (sym e)
 
       -- the steps of a turn that finds a document
-      pub found_steps : (s taken bound : ℕ) → s + total (cost_left until) turns ≤ bound → taken ≤ s + (1 + due_cost now now.next) → taken ≤ bound
+      pub found_steps : (s taken bound : ℕ) → s + total (cost_left until) turns ≤ bound → taken ≤ s + (1 + due_cost now now.next)
+          → taken ≤ bound
       found_steps s taken bound h k =
           let c = cost_is in
           let i = total_item (cost_left until) turns x.index st.turn st.at in
@@ -132,7 +142,8 @@ module _ (w : Window) (turns : List Turn) (x : FirstPlace) (each : Each (IsTurn 
       next_each = each_set (IsTurn w) turns x.index after each (subst (IsTurn w) (sym after_is) (gone_turn w st.turn here due.0 due.1))
 
       pub next_hits : flat_map (hits_left w) (slice_set turns x.index after) ≡ flat_map (hits_left w) turns
-      next_hits = flat_set (hits_left w) turns x.index st.turn after st.at (gone_hits w st.turn here due.0 due.1 nothing ∙ ap (hits_left w) (sym after_is))
+      next_hits = flat_set (hits_left w) turns x.index st.turn after
+          st.at (gone_hits w st.turn here due.0 due.1 nothing ∙ ap (hits_left w) (sym after_is))
 
       pub next_smaller : suc (total (λ t. length (left t)) (slice_set turns x.index after)) ≤ total (λ t. length (left t)) turns
       next_smaller =
@@ -141,7 +152,8 @@ module _ (w : Window) (turns : List Turn) (x : FirstPlace) (each : Each (IsTurn 
           let m = ap (λ (z : Turn). length (left z)) after_is in
           omega (arith, k, l, m)
 
-      pub next_steps : (first : List Turn) → w.high ≡ pos 250000000000 → flat_map (hits_left w) turns ≡ flat_map (hits_left w) first → (s taken bound : ℕ)
+      pub next_steps : (first : List Turn) → w.high ≡ pos 250000000000 → flat_map (hits_left w) turns ≡ flat_map (hits_left w) first
+          → (s taken bound : ℕ)
           → s + total (cost_left (wake_window w.low (flat_map (hits_left w) first))) turns ≤ bound → taken ≤ s + (1 + due_cost now now.next)
           → taken + total (cost_left (wake_window w.low (flat_map (hits_left w) first))) (slice_set turns x.index after) ≤ bound
       next_steps first end same s taken bound h k =

@@ -1,5 +1,6 @@
 -- What is due costs no more than the marked rows, if nothing else is looked at.
-use Rattle.std.proofs.Common.{◌≡◌, ◌∙◌, ℕ, suc, ◌+◌, ◌≤◌, Bool, true, false, List, [], ◌∷◌, map, Option, Some, None, length, refl, sym, ap, subst, inl, inr, arith}
+use Rattle.std.proofs.Common.{◌≡◌, ◌∙◌, ℕ, suc, ◌+◌, ◌≤◌, Bool, true, false, List, [], ◌∷◌, map, Option, Some, None, length, refl, sym, ap}
+use Rattle.std.proofs.Common.{subst, inl, inr, arith}
 use Rattle.std.specs.Prelude.{◌⊎◌, filter, option_to_list, if◌then◌else◌}
 use Rattle.std.proofs.lemmas.Bool.{cases_Bool}
 use Rattle.tap_rows.specs.declared.tables.Tables.{Tables}
@@ -82,7 +83,8 @@ fixed_value at env e = go at.base e
     none : {v : Var} → Some v ≡ None → ⊥
     none e = cc
 
-    go : (base : Base) → seek_var (seek_of (record { base = base; plus = at.plus })) ≡ None → value (record { base = base; plus = at.plus }) env ≡ value (record { base = base; plus = at.plus }) []
+    go : (base : Base) → seek_var (seek_of (record { base = base; plus = at.plus })) ≡ None
+        → value (record { base = base; plus = at.plus }) env ≡ value (record { base = base; plus = at.plus }) []
     go (B.Arrival v) e = absurd (none e)
     go (B.Date v) e = absurd (none e)
     go B.Fixed e = refl
@@ -91,7 +93,8 @@ fixed_value at env e = go at.base e
 
 module _ (T : Tables) (u : Window) (p : Probe) (k : IsProbe p) (plain : IsPlain p) where
   due_length : rows_due T u p ≡ length (filter (λ d. lies_in u (value p.at (asked_of d))) T.docs)
-  due_length = total_ones (λ d. work T p.body (asked_of d)) (filter (λ d. lies_in u (value p.at (asked_of d))) T.docs) (λ d. no_work T p.body (asked_of d) plain.1)
+  due_length = total_ones (λ d. work T p.body (asked_of d)) (filter (λ d. lies_in u (value p.at (asked_of d))) T.docs) (λ d.
+      no_work T p.body (asked_of d) plain.1)
 
   only_var : (j : ℕ) → In j (vars_of p.path) → j ≡ plain.0.0.var.0
   only_var j i = only (subst (λ z. In j (vars_of z)) plain.0.1 i)
@@ -105,13 +108,16 @@ module _ (T : Tables) (u : Window) (p : Probe) (k : IsProbe p) (plain : IsPlain 
 
   v_is : (v : Var) → seek_var (seek_of p.at) ≡ Some v → v ≡ document_var
   v_is v e =
-      let i : In v.0 (numbers_of (driven p.at.base)) = subst (λ vs. In v.0 (numbers_of vs)) (sym (driven_is p.at ∙ ap option_to_list e)) (inl refl) in
+      let i : In v.0 (numbers_of (driven p.at.base)) =
+          subst (λ vs. In v.0 (numbers_of vs)) (sym (driven_is p.at ∙ ap option_to_list e)) (inl refl) in
       let q : v.0 ≡ 0 = only_var v.0 (driven_in p.at.base (vars_of p.path) k.at v.0 i) ∙ sym (only_var 0 zero_var) in
       ap (λ n. record { 0 = n }) q
 
-  marked_is : (o : Option Var) → seek_var (seek_of p.at) ≡ o → length (filter (λ d. lies_in u (value p.at (asked_of d))) T.docs) ≡ marked_by T u p o
+  marked_is : (o : Option Var) → seek_var (seek_of p.at) ≡ o
+      → length (filter (λ d. lies_in u (value p.at (asked_of d))) T.docs) ≡ marked_by T u p o
   marked_is None e =
-      filter_length (λ d. lies_in u (value p.at (asked_of d))) (λ d. lies_in u (value p.at [])) T.docs (λ d. ap (lies_in u) (fixed_value p.at (asked_of d) e))
+      filter_length (λ d. lies_in u (value p.at (asked_of d))) (λ d. lies_in u (value p.at [])) T.docs (λ d.
+        ap (lies_in u) (fixed_value p.at (asked_of d) e))
       ∙ filter_each (lies_in u (value p.at [])) T.docs
   marked_is (Some v) e =
       sym (ap (λ (z : Var). length (filter (λ row. lies_in u (value p.at (bind z row []))) (rows_of (table_in p.path z.0) T))) (v_is v e)
@@ -137,7 +143,8 @@ module _ {A : Type 0} where
       go n a b s t p q = omega (arith, p, q)
 
 -- what a planner over such probes costs
-pub plain_cost : (q : RangedQuery) → HasValidProbes q → (T : Tables) (u : Window) → ((p : Probe) → In p (ranged_probes q) → IsPlain p) → length q.parts + query_cost T u q ≤ marked_ahead T u (ranged_probes q)
+pub plain_cost : (q : RangedQuery) → HasValidProbes q → (T : Tables) (u : Window) → ((p : Probe) → In p (ranged_probes q) → IsPlain p)
+    → length q.parts + query_cost T u q ≤ marked_ahead T u (ranged_probes q)
 plain_cost q ps T u plain =
     let a = query_due q ps T u (λ p i. (plain p i).0) in
     let b = total_more (rows_due T u) (marked T u) (ranged_probes q) (λ p i. due_marked T u p (ps p i) (plain p i)) in

@@ -66,13 +66,15 @@ module _ (seen : Doc → Bool) (X : List Probe) (T : Tables) (last : ℤ) where
       found_least seen X T (record { low = last; high = s }) h m.0 m.1 m.2 m.3 m.4
 
   -- what is found in a window is delivered, with this mark or a lesser one
-  found_out : (s : ℤ) (h : Hit) → IsFound seen X T (record { low = last; high = s }) h → (k : Hit) × In k (delivered_at seen X T last s) × (k.first ≤ℤ h.first)
+  found_out : (s : ℤ) (h : Hit) → IsFound seen X T (record { low = last; high = s }) h
+      → (k : Hit) × In k (delivered_at seen X T last s) × (k.first ≤ℤ h.first)
   found_out s h f =
       let m = least_is seen X T (record { low = last; high = s }) f.doc h.first f.at f.low f.high in
       let k : Hit = record { doc = f.doc.num; first = m.0 } in
       (k, in_meaning seen X T (record { low = last; high = s }) k f.doc f.is_row f.unseen refl m.1, m.2)
 
-  in_other : (s t : ℤ) (h : Hit) → IsFound seen X T (record { low = last; high = s }) h → h.first <ℤ t → IsFound seen X T (record { low = last; high = t }) h
+  in_other : (s t : ℤ) (h : Hit) → IsFound seen X T (record { low = last; high = s }) h → h.first <ℤ t
+      → IsFound seen X T (record { low = last; high = t }) h
   in_other s t h f l = record { doc = f.doc; is_row = f.is_row; unseen = f.unseen; num = f.num; at = f.at; low = f.low; high = l }
 
   -- a run delivers nothing up to the least mark
@@ -103,11 +105,14 @@ module _ (seen : Doc → Bool) (X : List Probe) (T : Tables) (last : ℤ) where
       less s t u h k = omega (arith, ints)
 
 pub wakes_are_next : WakesAreNext
-wakes_are_next seen X T last now l = (go (least_mark (all seen X T last)) refl, λ e s h. none_to seen X T last s h (λ k i c. subst (λ z. In k z) (no_mark (all seen X T last) (never (least_mark (all seen X T last)) e)) i))
+wakes_are_next seen X T last now l = (go (least_mark (all seen X T last)) refl, λ e s h. none_to seen X T last s h (λ k i c.
+      subst (λ z. In k z) (no_mark (all seen X T last) (never (least_mark (all seen X T last)) e)) i))
   where
-    go : (o : Option ℤ) → least_mark (all seen X T last) ≡ o → IfSome (option_map (λ b. greater now (after_mark b)) (least_mark (all seen X T last))) (IsNextWake seen X T last now)
+    go : (o : Option ℤ) → least_mark (all seen X T last) ≡ o
+        → IfSome (option_map (λ b. greater now (after_mark b)) (least_mark (all seen X T last))) (IsNextWake seen X T last now)
     go None e = subst (λ o. IfSome (option_map (λ b. greater now (after_mark b)) o) (IsNextWake seen X T last now)) (sym e) tt
-    go (Some b) e = subst (λ o. IfSome (option_map (λ b. greater now (after_mark b)) o) (IsNextWake seen X T last now)) (sym e) (next_is seen X T last now b l e)
+    go (Some b) e = subst (λ o. IfSome (option_map (λ b. greater now (after_mark b)) o) (IsNextWake seen X T last now)) (sym e)
+        (next_is seen X T last now b l e)
 
     never : (o : Option ℤ) → option_map (λ b. greater now (after_mark b)) o ≡ None → o ≡ None
     never None e = refl

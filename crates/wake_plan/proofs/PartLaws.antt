@@ -38,7 +38,8 @@ total_append f [] ys = omega arith
 total_append f (x ∷ xs) ys = let k = total_append f xs ys in omega (arith, k)
 
 module _ {A B C : Type 0} (f : A → List C) (g : B → List C) where
-  pub pushed_hits : (xs now : List A) (x : A) (ys left : List B) (y : B) (all : List C) → flat_map f xs ++ flat_map g ys ≡ all → ys ≡ y ∷ left → f x ≡ g y → now ≡ xs ++ x ∷ [] → flat_map f now ++ flat_map g left ≡ all
+  pub pushed_hits : (xs now : List A) (x : A) (ys left : List B) (y : B) (all : List C) → flat_map f xs ++ flat_map g ys ≡ all
+      → ys ≡ y ∷ left → f x ≡ g y → now ≡ xs ++ x ∷ [] → flat_map f now ++ flat_map g left ≡ all
   pushed_hits xs now x ys left y all h e q n =
       ap (λ z. flat_map f z ++ flat_map g left) n
       ∙ ap (λ z. z ++ flat_map g left) (flat_append f xs (x ∷ []) ∙ ap (λ z. flat_map f xs ++ z) (append_none (f x) ∙ q))
@@ -46,10 +47,12 @@ module _ {A B C : Type 0} (f : A → List C) (g : B → List C) where
       ∙ ap (λ z. flat_map f xs ++ flat_map g z) (sym e)
       ∙ h
 
-  pub all_pushed : (xs : List A) (ys : List B) (i : ℕ) (all : List C) → flat_map f xs ++ flat_map g (drop i ys) ≡ all → length ys ≤ i → flat_map f xs ≡ all
+  pub all_pushed : (xs : List A) (ys : List B) (i : ℕ) (all : List C) → flat_map f xs ++ flat_map g (drop i ys) ≡ all → length ys ≤ i
+      → flat_map f xs ≡ all
   all_pushed xs ys i all h l = sym (append_none (flat_map f xs)) ∙ ap (λ z. flat_map f xs ++ flat_map g z) (sym (drop_all ys i l)) ∙ h
 
-pub pushed_cost : {A B : Type 0} (f : A → ℕ) (g : B → ℕ) (xs now : List A) (x : A) (ys left : List B) (y : B) (s taken bound : ℕ) → s + total f xs + (length ys + total g ys) ≤ bound → ys ≡ y ∷ left → taken + f x ≤ s + (1 + g y) → now ≡ xs ++ x ∷ []
+pub pushed_cost : {A B : Type 0} (f : A → ℕ) (g : B → ℕ) (xs now : List A) (x : A) (ys left : List B) (y : B) (s taken bound : ℕ)
+    → s + total f xs + (length ys + total g ys) ≤ bound → ys ≡ y ∷ left → taken + f x ≤ s + (1 + g y) → now ≡ xs ++ x ∷ []
     → taken + total f now + (length left + total g left) ≤ bound
 pushed_cost f g xs now x ys left y s taken bound h e q n =
     let k = ap (total f) n ∙ total_append f xs (x ∷ []) in
@@ -57,10 +60,12 @@ pushed_cost f g xs now x ys left y s taken bound h e q n =
     let m = ap (total g) e in
     go (total f now) (total f xs) (f x) (length ys) (length left) (total g ys) (g y) (total g left) k l m h q
   where
-    go : (tn tx fx ly ll ty gy tl : ℕ) → tn ≡ tx + (fx + 0) → ly ≡ suc ll → ty ≡ gy + tl → s + tx + (ly + ty) ≤ bound → taken + fx ≤ s + (1 + gy) → taken + tn + (ll + tl) ≤ bound
+    go : (tn tx fx ly ll ty gy tl : ℕ) → tn ≡ tx + (fx + 0) → ly ≡ suc ll → ty ≡ gy + tl → s + tx + (ly + ty) ≤ bound
+        → taken + fx ≤ s + (1 + gy) → taken + tn + (ll + tl) ≤ bound
     go tn tx fx ly ll ty gy tl k l m h q = omega (arith, k, l, m, h, q)
 
-pub pushed_room : {A B : Type 0} (xs now : List A) (x : A) (ys left : List B) (y : B) (room more : ℕ) → length xs + length ys ≤ room → ys ≡ y ∷ left → now ≡ xs ++ x ∷ [] → room ≤ more → length now + length left ≤ more
+pub pushed_room : {A B : Type 0} (xs now : List A) (x : A) (ys left : List B) (y : B) (room more : ℕ) → length xs + length ys ≤ room
+    → ys ≡ y ∷ left → now ≡ xs ++ x ∷ [] → room ≤ more → length now + length left ≤ more
 pushed_room {A = A} xs now x ys left y room more h e n r =
     let k = ap length n ∙ one xs in
     let l = ap length e in

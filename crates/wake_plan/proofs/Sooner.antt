@@ -1,5 +1,6 @@
 -- Driving rows stand in order of their marks.
-use Rattle.std.proofs.Common.{◌≡◌, ◌∙◌, ℕ, ℤ, pos, Bool, true, false, List, [], ◌∷◌, map, Option, Some, None, refl, sym, ap, subst, inl, inr, arith}
+use Rattle.std.proofs.Common.{◌≡◌, ◌∙◌, ℕ, ℤ, pos, Bool, true, false, List, [], ◌∷◌, map, Option, Some, None, refl, sym, ap, subst, inl}
+use Rattle.std.proofs.Common.{inr, arith}
 use Rattle.std.specs.Prelude.{◌⊎◌, ◌&&◌, ◌||◌, not, ◌+ℤ◌, ◌≤ℤ◌, ◌<ℤ◌, filter, fold, int_le, int_lt, nat_lt}
 use Rattle.std.specs.Option.{unwrap_or}
 use Rattle.std.proofs.lemmas.Int.{ints, by_lt_z}
@@ -92,7 +93,8 @@ module _ (v : Var) where
   in_days : (x y n b c : ℤ) → x ≤ℤ y → round_up_to_day (x +ℤ n) ≡ b → round_up_to_day (y +ℤ n) ≡ c → b ≤ℤ c
   in_days x y n b c h e f =
       subst (λ z. z ≤ℤ c) e (subst (λ z. round_up_to_day (x +ℤ n) ≤ℤ z) f
-      (day_rises (x +ℤ n) (y +ℤ n) (round_up_to_day (x +ℤ n)) (round_up_to_day (y +ℤ n)) (round_up_to_day-day (x +ℤ n)) (round_up_to_day-day (y +ℤ n)) (plus_rises x y n h)))
+      (day_rises (x +ℤ n) (y +ℤ n) (round_up_to_day (x +ℤ n)) (round_up_to_day (y +ℤ n)) (round_up_to_day-day (x +ℤ n))
+        (round_up_to_day-day (y +ℤ n)) (plus_rises x y n h)))
 
   -- a row whose stored second is no greater has no greater mark
   mark_rises : (base : Base) (plus : ℤ) → seek_var (seek_from base plus) ≡ Some v → (r s : Row) → IsSooner base r s → (b c : ℤ)
@@ -114,8 +116,10 @@ module _ (v : Var) where
   mark_rises (B.ArrivalDay u n) plus e r s h b c eb ec =
       let x = plus_some _ plus b eb in
       let y = plus_some _ plus c ec in
-      let p : round_up_to_day (arrival r +ℤ n) ≡ x.0 = some_same (sym (bound_row u r (λ r. Some (round_up_to_day (arrival r +ℤ n))) e) ∙ x.1) in
-      let q : round_up_to_day (arrival s +ℤ n) ≡ y.0 = some_same (sym (bound_row u s (λ r. Some (round_up_to_day (arrival r +ℤ n))) e) ∙ y.1) in
+      let p : round_up_to_day (arrival r +ℤ n) ≡ x.0 =
+          some_same (sym (bound_row u r (λ r. Some (round_up_to_day (arrival r +ℤ n))) e) ∙ x.1) in
+      let q : round_up_to_day (arrival s +ℤ n) ≡ y.0 =
+          some_same (sym (bound_row u s (λ r. Some (round_up_to_day (arrival r +ℤ n))) e) ∙ y.1) in
       moved x.0 y.0 plus b c (in_days (arrival r) (arrival s) n x.0 y.0 h p q) x.2 y.2
   mark_rises (B.DateDay u n) plus e r s h b c eb ec =
       let x = plus_some _ plus b eb in
@@ -125,7 +129,9 @@ module _ (v : Var) where
       moved x.0 y.0 plus b c (in_days p.0 q.0 n x.0 y.0 (h p.0 q.0 p.1 q.1) p.2 q.2) x.2 y.2
 
   -- rows in order, each with a mark in the window
-  pub rows_rise : (w : Window) (p : Probe) → seek_var (seek_of p.at) ≡ Some v → (rows : List Row) → ((row : Row) → In row rows → lies_in w (value p.at (bind v row [])) ≡ true) → AreSooner p.at.base rows → AreRising w p (bound_alone v rows)
+  pub rows_rise : (w : Window) (p : Probe) → seek_var (seek_of p.at) ≡ Some v → (rows : List Row)
+      → ((row : Row) → In row rows → lies_in w (value p.at (bind v row [])) ≡ true) → AreSooner p.at.base rows
+      → AreRising w p (bound_alone v rows)
   rows_rise w p e [] l h = tt
   rows_rise w p e (r ∷ rows) l h = (l r (inl refl), later, rows_rise w p e rows (λ row i. l row (inr i)) h.1)
     where
@@ -155,9 +161,11 @@ module _ {A : Type 0} (f : A → ℤ) where
         | inr e ↦ rw e (ordered_filter p xs h.1)
       ]
 
-  ordered_sooner : (base : Base) (of : A → Row) → ((x y : A) → f x ≤ℤ f y → IsSooner base (of x) (of y)) → (xs : List A) → Ordered xs → AreSooner base (map of xs)
+  ordered_sooner : (base : Base) (of : A → Row) → ((x y : A) → f x ≤ℤ f y → IsSooner base (of x) (of y)) → (xs : List A) → Ordered xs
+      → AreSooner base (map of xs)
   ordered_sooner base of g [] h = tt
-  ordered_sooner base of g (x ∷ xs) h = ((λ s i. let y = map_in of xs s i in subst (IsSooner base (of x)) (sym y.2) (g x y.0 (h.0 y.0 y.1))), ordered_sooner base of g xs h.1)
+  ordered_sooner base of g (x ∷ xs) h =
+      ((λ s i. let y = map_in of xs s i in subst (IsSooner base (of x)) (sym y.2) (g x y.0 (h.0 y.0 y.1))), ordered_sooner base of g xs h.1)
 
 -- documents in order of date
 in_put : (x d : Doc) (ds : List Doc) → In x (put_dated d ds) → (x ≡ d) ⊎ In x ds
@@ -183,7 +191,8 @@ put_ordered d [] h = ((λ y i. absurd i), tt)
 put_ordered d (o ∷ ds) h =
     elim (cases_Bool (is_earlier d o)) [
       | inl e ↦ rw e ((λ y i. first (lesser_date (stored_date d) (stored_date o) d.num.0 o.num.0 e) y i), h)
-      | inr e ↦ rw e ((λ y i. later (greater_date (stored_date d) (stored_date o) d.num.0 o.num.0 e) y (in_put y d ds i)), put_ordered d ds h.1)
+      | inr e ↦
+        rw e ((λ y i. later (greater_date (stored_date d) (stored_date o) d.num.0 o.num.0 e) y (in_put y d ds i)), put_ordered d ds h.1)
     ]
   where
     first : stored_date d ≤ℤ stored_date o → (y : Doc) → (y ≡ o) ⊎ In y ds → stored_date d ≤ℤ stored_date y
@@ -203,12 +212,17 @@ unfolding fields texts.fields
 sooner_date x y h a b ea eb = subst (λ z. a ≤ℤ unwrap_or z (pos 0)) eb (subst (λ z. unwrap_or z (pos 0) ≤ℤ stored_date y) ea h)
 
 module _ (T : Tables) (W : Window) (docs : Rising doc_arrival T.docs) (notes : Rising note_arrival T.notes) where
-  by_arrival : (base : Base) → ((r s : Row) → arrival r ≤ℤ arrival s → IsSooner base r s) → (t : Table) → AreSooner base (arrived_rows t W T)
-  by_arrival base f Docs = ordered_sooner doc_arrival base OfDoc (λ x y h. f (OfDoc x) (OfDoc y) h) (in_window doc_arrival W.low W.high T.docs) (ordered_filter doc_arrival _ T.docs (rising_ordered doc_arrival T.docs docs))
-  by_arrival base f Notes = ordered_sooner note_arrival base OfNote (λ x y h. f (OfNote x) (OfNote y) h) (in_window note_arrival W.low W.high T.notes) (ordered_filter note_arrival _ T.notes (rising_ordered note_arrival T.notes notes))
+  by_arrival : (base : Base) → ((r s : Row) → arrival r ≤ℤ arrival s → IsSooner base r s) → (t : Table)
+      → AreSooner base (arrived_rows t W T)
+  by_arrival base f Docs = ordered_sooner doc_arrival base OfDoc (λ x y h. f (OfDoc x) (OfDoc y) h)
+      (in_window doc_arrival W.low W.high T.docs) (ordered_filter doc_arrival _ T.docs (rising_ordered doc_arrival T.docs docs))
+  by_arrival base f Notes = ordered_sooner note_arrival base OfNote (λ x y h. f (OfNote x) (OfNote y) h)
+      (in_window note_arrival W.low W.high T.notes) (ordered_filter note_arrival _ T.notes (rising_ordered note_arrival T.notes notes))
 
-  by_date : (base : Base) → ((r s : Row) → IsSoonerDate (date r) (date s) → IsSooner base r s) → (t : Table) → AreSooner base (dated_rows t W T)
-  by_date base f Docs = ordered_sooner stored_date base OfDoc (λ x y h. f (OfDoc x) (OfDoc y) (sooner_date x y h)) (dated_in W.low W.high T.docs) (ordered_filter stored_date _ (in_date_order T.docs) (fold_ordered [] (filter has_date T.docs) tt))
+  by_date : (base : Base) → ((r s : Row) → IsSoonerDate (date r) (date s) → IsSooner base r s) → (t : Table)
+      → AreSooner base (dated_rows t W T)
+  by_date base f Docs = ordered_sooner stored_date base OfDoc (λ x y h. f (OfDoc x) (OfDoc y) (sooner_date x y h))
+      (dated_in W.low W.high T.docs) (ordered_filter stored_date _ (in_date_order T.docs) (fold_ordered [] (filter has_date T.docs) tt))
   by_date base f Notes = tt
 
   -- the rows whose stored second lies in a window stand in order of it
@@ -229,7 +243,8 @@ sooner_filter base q (r ∷ rows) h =
     ]
 
 -- so do the driving rows that are walked
-pub walked_sooner : (base : Base) (T : Tables) (w : Window) (p : Probe) (seek : Seek) (v : Var) → AreSooner base (driving T w p seek v) → AreSooner base (walked T w p seek v)
+pub walked_sooner : (base : Base) (T : Tables) (w : Window) (p : Probe) (seek : Seek) (v : Var) → AreSooner base (driving T w p seek v)
+    → AreSooner base (walked T w p seek v)
 walked_sooner base T w p seek v h = go (chosen T v p.path seek (table_in p.path v.0))
   where
     go : (o : Option Atom) → AreSooner base (rows_where v o (driving T w p seek v))

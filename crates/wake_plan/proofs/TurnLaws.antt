@@ -1,5 +1,6 @@
 -- What a turn finds, and what it costs to go on.
-use Rattle.std.proofs.Common.{◌≡◌, ℕ, suc, ◌+◌, ℤ, Bool, true, false, length, List, [], ◌∷◌, ◌++◌, drop, Option, Some, None, refl, sym, ap, ◌∙◌, subst, inl, inr, arith}
+use Rattle.std.proofs.Common.{◌≡◌, ℕ, suc, ◌+◌, ℤ, Bool, true, false, length, List, [], ◌∷◌, ◌++◌, drop, Option, Some, None, refl, sym, ap}
+use Rattle.std.proofs.Common.{◌∙◌, subst, inl, inr, arith}
 use Rattle.std.specs.Prelude.{◌⊎◌, ◌≤ℤ◌, filter, option_to_list}
 use Rattle.std.specs.List.{flat_map}
 use Rattle.std.proofs.lemmas.Int.{ints}
@@ -27,7 +28,8 @@ use Rattle.probe_eval.proofs.Members.{from_flat}
 use Rattle.wake_plan.specs.declared.due.DrivingRow.{DrivingRow}
 use Rattle.wake_plan.specs.declared.turn.Turn.{Turn}
 use Rattle.wake_plan.specs.Firsts.{IsNoLater}
-use Rattle.wake_plan.specs.Turns.{has_hit, with_mark, due_at, bound_alone, first_due, due_envs, due_mark, left, due_hits, due_cost, hits_left, cost_left, AreRising, IsAhead, IsTurn, passed}
+use Rattle.wake_plan.specs.Turns.{has_hit, with_mark, due_at, bound_alone, first_due, due_envs, due_mark, left, due_hits, due_cost}
+use Rattle.wake_plan.specs.Turns.{hits_left, cost_left, AreRising, IsAhead, IsTurn, passed}
 use Rattle.time_marks.specs.NextWake.{least_mark}
 use Rattle.wake_plan.proofs.LeastMarks.{no_mark, mark_is, mark_least}
 
@@ -48,12 +50,14 @@ hit_first true b (Some num) h (inr i) = absurd i
 hit_first false b (Some num) h i = absurd i
 
 module _ (entries : List Entry) (T : Tables) (p : Probe) (b : ℤ) where
-  asked_first : (order : List Reach) (env : Env) (o : Option Row) (others : List Hit) (h : Hit) → ((k : Hit) → In k others → k.first ≡ b) → In h (asked_or entries T p b order env o others) → h.first ≡ b
+  asked_first : (order : List Reach) (env : Env) (o : Option Row) (others : List Hit) (h : Hit) → ((k : Hit) → In k others → k.first ≡ b)
+      → In h (asked_or entries T p b order env o others) → h.first ≡ b
   asked_first order env None others h f i = f h i
   asked_first order env (Some (OfDoc d)) others h f i = hit_first (holds_here T p b order env) b (new_doc entries d) h i
   asked_first order env (Some (OfNote n)) others h f i = absurd i
 
-  over_first : (env : Env) (o : Option Reach) (f : Reach → Row → List Hit) (h : Hit) → ((r : Reach) (row : Row) (k : Hit) → In k (f r row) → k.first ≡ b) → In h (over_rows T b env o f) → h.first ≡ b
+  over_first : (env : Env) (o : Option Reach) (f : Reach → Row → List Hit) (h : Hit)
+      → ((r : Reach) (row : Row) (k : Hit) → In k (f r row) → k.first ≡ b) → In h (over_rows T b env o f) → h.first ≡ b
   over_first env None f h g i = absurd i
   over_first env (Some r) f h g i = let x = from_flat (f r) (rows_by b r.access env T) h i in g r x.0 h x.2
 
@@ -61,7 +65,8 @@ module _ (entries : List Entry) (T : Tables) (p : Probe) (b : ℤ) where
   hits_first [] env h i = asked_first [] env (lookup 0 env) [] h (λ k j. absurd j) i
   hits_first (x ∷ rs) env h i =
       asked_first (x ∷ rs) env (lookup 0 env) _ h
-      (λ k j. over_first env (further p.path b env) (λ r row. hits_over entries T p b rs (bind r.var row env)) k (λ r row m n. hits_first rs (bind r.var row env) m n) j) i
+      (λ k j. over_first env (further p.path b env) (λ r row. hits_over entries T p b rs (bind r.var row env)) k
+          (λ r row m n. hits_first rs (bind r.var row env) m n) j) i
 
 -- a mark in the window
 in_mark : (w : Window) (o : Option ℤ) (b : ℤ) → o ≡ Some b → lies_in w o ≡ true → mark_in w o ≡ Some b
@@ -90,11 +95,13 @@ module _ (entries : List Entry) (T : Tables) (w : Window) (p : Probe) (order : L
       go None e i = absurd i
       go (Some b) e i = out_mark w (value p.at env) b e ∙ ap Some (sym (hits_first entries T p b order env h i))
 
-  at_mark : (env : Env) (b : ℤ) → value p.at env ≡ Some b → lies_in w (value p.at env) ≡ true → hits_at entries T w p order env ≡ hits_over entries T p b order env
+  at_mark : (env : Env) (b : ℤ) → value p.at env ≡ Some b → lies_in w (value p.at env) ≡ true
+      → hits_at entries T w p order env ≡ hits_over entries T p b order env
   at_mark env b e l = ap (marked_hits entries T w p order env) (in_mark w (value p.at env) b e l)
 
   -- no hit is found with a lesser mark than the first row's
-  rising_least : (env : Env) (envs : List Env) (b : ℤ) → AreRising w p (env ∷ envs) → value p.at env ≡ Some b → (h : Hit) → In h (flat_map (hits_at entries T w p order) (env ∷ envs)) → b ≤ℤ h.first
+  rising_least : (env : Env) (envs : List Env) (b : ℤ) → AreRising w p (env ∷ envs) → value p.at env ≡ Some b → (h : Hit)
+      → In h (flat_map (hits_at entries T w p order) (env ∷ envs)) → b ≤ℤ h.first
   rising_least env envs b r e h i =
       let x = from_flat (hits_at entries T w p order) (env ∷ envs) h i in
       go x.0 x.1 (at_first x.0 h x.2)
@@ -103,7 +110,9 @@ module _ (entries : List Entry) (T : Tables) (w : Window) (p : Probe) (order : L
       go y (inl q) v = reflexive b h.first (some_same (sym e ∙ ap (value p.at) (sym q) ∙ v))
       go y (inr j) v = r.1 b h.first y e j v
 
-  pub behind : (o : Option DrivingRow) (v : Var) (rows : List Row) (b : ℤ) → IsAhead p o rows → AreRising w p (due_envs o ++ bound_alone v rows) → IsNoLater b (due_mark o) → (h : Hit) → In h (flat_map (hits_at entries T w p order) (due_envs o ++ bound_alone v rows)) → b ≤ℤ h.first
+  pub behind : (o : Option DrivingRow) (v : Var) (rows : List Row) (b : ℤ) → IsAhead p o rows
+      → AreRising w p (due_envs o ++ bound_alone v rows) → IsNoLater b (due_mark o) → (h : Hit)
+      → In h (flat_map (hits_at entries T w p order) (due_envs o ++ bound_alone v rows)) → b ≤ℤ h.first
   behind None v rows b a r n h i = absurd (subst (λ z. In h (flat_map (hits_at entries T w p order) (bound_alone v z))) a i)
   behind (Some due) v rows b a r n h i = onward b due.mark h.first n (rising_least due.env (bound_alone v rows) due.mark r a h i)
     where
@@ -111,17 +120,21 @@ module _ (entries : List Entry) (T : Tables) (w : Window) (p : Probe) (order : L
       onward x y z h k = omega (arith, ints)
 
   -- the hits beside the row that was read ahead come first
-  pub hits_part : (due : DrivingRow) (envs : List Env) → value p.at due.env ≡ Some due.mark → AreRising w p (due.env ∷ envs) → flat_map (hits_at entries T w p order) (due.env ∷ envs) ≡ hits_over entries T p due.mark order due.env ++ flat_map (hits_at entries T w p order) envs
+  pub hits_part : (due : DrivingRow) (envs : List Env) → value p.at due.env ≡ Some due.mark → AreRising w p (due.env ∷ envs)
+      → flat_map (hits_at entries T w p order) (due.env ∷ envs)
+      ≡ hits_over entries T p due.mark order due.env ++ flat_map (hits_at entries T w p order) envs
   hits_part due envs e r = ap (λ z. z ++ flat_map (hits_at entries T w p order) envs) (at_mark due.env due.mark e r.0)
 
 -- the next row is read ahead
 module _ (w : Window) (p : Probe) (v : Var) where
-  due_is : (env : Env) → lies_in w (value p.at env) ≡ true → (b : ℤ) × (value p.at env ≡ Some b) × (due_at w p env ≡ Some (record { env = env; mark = b }))
+  due_is : (env : Env) → lies_in w (value p.at env) ≡ true
+      → (b : ℤ) × (value p.at env ≡ Some b) × (due_at w p env ≡ Some (record { env = env; mark = b }))
   due_is env l =
       let k = some_mark w (value p.at env) l in
       (k.0, k.1, ap (with_mark env) (in_mark w (value p.at env) k.0 k.1 l))
 
-  pub next_left : (rows : List Row) → AreRising w p (bound_alone v rows) → due_envs (first_due w p v rows) ++ bound_alone v (drop 1 rows) ≡ bound_alone v rows
+  pub next_left : (rows : List Row) → AreRising w p (bound_alone v rows)
+      → due_envs (first_due w p v rows) ++ bound_alone v (drop 1 rows) ≡ bound_alone v rows
   next_left [] r = refl
   next_left (row ∷ rows) r = let k = due_is (bind v row []) r.0 in ap (λ o. due_envs o ++ bound_alone v rows) k.2
 
@@ -133,15 +146,19 @@ module _ (w : Window) (p : Probe) (v : Var) where
 module _ (T : Tables) (u : Window) (p : Probe) (order : List Reach) where
   pub cost_part : (due : DrivingRow) (envs : List Env) → value p.at due.env ≡ Some due.mark → lies_in u (Some due.mark) ≡ true
       → total (λ env. 1 + cost_at T u p order env) (filter (λ env. lies_in u (value p.at env)) (due.env ∷ envs))
-      ≡ (1 + work_over T p due.mark false order due.env) + total (λ env. 1 + cost_at T u p order env) (filter (λ env. lies_in u (value p.at env)) envs)
+      ≡ (1 + work_over T p due.mark false order due.env)
+        + total (λ env. 1 + cost_at T u p order env) (filter (λ env. lies_in u (value p.at env)) envs)
   cost_part due envs e l =
       let k : lies_in u (value p.at due.env) ≡ true = ap (lies_in u) e ∙ l in
-      let c : cost_at T u p order due.env ≡ work_over T p due.mark false order due.env = ap (marked_cost T u p order due.env) (in_mark u (value p.at due.env) due.mark e k) in
+      let c : cost_at T u p order due.env ≡ work_over T p due.mark false order due.env =
+          ap (marked_cost T u p order due.env) (in_mark u (value p.at due.env) due.mark e k) in
       rw (k, c) refl
 
 -- the least mark of what is found beside the row that was read ahead
-pub found_mark : (t : Turn) (due : DrivingRow) → t.next ≡ Some due → has_hit (due_hits t (Some due)) ≡ true → Some due.mark ≡ least_mark (due_hits t t.next)
-found_mark t due e h = sym (ap (λ o. least_mark (due_hits t o)) e ∙ go (due_hits t (Some due)) h (λ k i. hits_first t.search.seen.now t.search.index.now (searched t.search) due.mark t.order.now due.env k i))
+pub found_mark : (t : Turn) (due : DrivingRow) → t.next ≡ Some due → has_hit (due_hits t (Some due)) ≡ true
+    → Some due.mark ≡ least_mark (due_hits t t.next)
+found_mark t due e h = sym (ap (λ o. least_mark (due_hits t o)) e ∙ go (due_hits t (Some due)) h (λ k i.
+      hits_first t.search.seen.now t.search.index.now (searched t.search) due.mark t.order.now due.env k i))
   where
     go : (hs : List Hit) → has_hit hs ≡ true → ((k : Hit) → In k hs → k.first ≡ due.mark) → least_mark hs ≡ Some due.mark
     go [] h f = absurd (false≢true h)
@@ -177,7 +194,8 @@ module _ (w : Window) (t : Turn) (h : IsTurn w t) (due : DrivingRow) (e : t.next
       ap (flat_map (hits_at t.search.seen.now t.search.index.now w (searched t.search) t.order.now)) left_is
       ∙ hits_part t.search.seen.now t.search.index.now w (searched t.search) t.order.now due others ahead_is rising_is
       ∙ ap (λ o. due_hits t o ++ flat_map (hits_at t.search.seen.now t.search.index.now w (searched t.search) t.order.now) others) (sym e)
-      ∙ ap (λ z. due_hits t t.next ++ flat_map (hits_at t.search.seen.now t.search.index.now w (searched t.search) t.order.now) z) (sym gone_left)
+      ∙ ap (λ z. due_hits t t.next ++ flat_map (hits_at t.search.seen.now t.search.index.now w (searched t.search) t.order.now) z)
+          (sym gone_left)
 
   pub gone_hits : least_mark (due_hits t t.next) ≡ None → hits_left w t ≡ hits_left w (passed w t)
   gone_hits n = hits_split ∙ ap (λ z. z ++ hits_left w (passed w t)) (no_mark (due_hits t t.next) n)
@@ -192,10 +210,13 @@ module _ (w : Window) (t : Turn) (h : IsTurn w t) (due : DrivingRow) (e : t.next
 
   pub gone_cost : (u : Window) → lies_in u (Some due.mark) ≡ true → cost_left u t ≡ (1 + due_cost t t.next) + cost_left u (passed w t)
   gone_cost u l =
-      ap (λ z. total (λ env. 1 + cost_at t.search.index.now u (searched t.search) t.order.now env) (filter (λ env. lies_in u (value t.search.probe.now.at env)) z)) left_is
+      ap (λ z. total (λ env. 1 + cost_at t.search.index.now u (searched t.search) t.order.now env)
+          (filter (λ env. lies_in u (value t.search.probe.now.at env)) z)) left_is
       ∙ cost_part t.search.index.now u (searched t.search) t.order.now due others ahead_is l
-      ∙ ap (λ o. (1 + due_cost t o) + total (λ env. 1 + cost_at t.search.index.now u (searched t.search) t.order.now env) (filter (λ env. lies_in u (value t.search.probe.now.at env)) others)) (sym e)
-      ∙ ap (λ z. (1 + due_cost t t.next) + total (λ env. 1 + cost_at t.search.index.now u (searched t.search) t.order.now env) (filter (λ env. lies_in u (value t.search.probe.now.at env)) z)) (sym gone_left)
+      ∙ ap (λ o. (1 + due_cost t o) + total (λ env. 1 + cost_at t.search.index.now u (searched t.search) t.order.now env)
+            (filter (λ env. lies_in u (value t.search.probe.now.at env)) others)) (sym e)
+      ∙ ap (λ z. (1 + due_cost t t.next) + total (λ env. 1 + cost_at t.search.index.now u (searched t.search) t.order.now env)
+            (filter (λ env. lies_in u (value t.search.probe.now.at env)) z)) (sym gone_left)
 
   pub gone_length : length (left t) ≡ 1 + length (left (passed w t))
   gone_length = ap length left_is ∙ one (length others) (length (left (passed w t))) (ap length (sym gone_left))
@@ -208,12 +229,15 @@ module _ (w : Window) (t : Turn) (h : IsTurn w t) (due : DrivingRow) (e : t.next
   due_hit b n =
       let m = mark_least (due_hits t t.next) b n in
       let k = m.0 in
-      let f : k.0.first ≡ due.mark = hits_first t.search.seen.now t.search.index.now (searched t.search) due.mark t.order.now due.env k.0 (subst (λ o. In k.0 (due_hits t o)) e k.1) in
+      let f : k.0.first ≡ due.mark = hits_first t.search.seen.now t.search.index.now (searched t.search)
+          due.mark t.order.now due.env k.0 (subst (λ o. In k.0 (due_hits t o)) e k.1) in
       (k.0, subst (λ z. In k.0 z) (sym hits_split) (in_left (due_hits t t.next) (hits_left w (passed w t)) k.0 k.1), k.2, sym k.2 ∙ f)
 
 -- no hit has a lesser mark than the turn's row ahead
-pub turn_behind : (w : Window) (t : Turn) (b : ℤ) → IsTurn w t → IsNoLater b (due_mark t.next) → (k : Hit) → In k (hits_left w t) → b ≤ℤ k.first
-turn_behind w t b h n k i = behind t.search.seen.now t.search.index.now w (searched t.search) t.order.now t.next t.var t.rows b h.ahead h.rising n k i
+pub turn_behind : (w : Window) (t : Turn) (b : ℤ) → IsTurn w t → IsNoLater b (due_mark t.next) → (k : Hit) → In k (hits_left w t)
+    → b ≤ℤ k.first
+turn_behind w t b h n k i =
+    behind t.search.seen.now t.search.index.now w (searched t.search) t.order.now t.next t.var t.rows b h.ahead h.rising n k i
 
 -- a turn that has read no row ahead has none left
 pub turn_over : (w : Window) (t : Turn) → IsTurn w t → due_mark t.next ≡ None → hits_left w t ≡ []
@@ -223,5 +247,6 @@ turn_over w t h e = go t.next refl e
     go (Some due) q e = absurd (none_some (sym e))
     go None q e =
         let r : t.rows ≡ [] = subst (λ o. IsAhead (searched t.search) o t.rows) q h.ahead in
-        ap (λ o. flat_map (hits_at t.search.seen.now t.search.index.now w (searched t.search) t.order.now) (due_envs o ++ bound_alone t.var t.rows)) q
+        ap (λ o. flat_map (hits_at t.search.seen.now t.search.index.now w (searched t.search) t.order.now)
+            (due_envs o ++ bound_alone t.var t.rows)) q
         ∙ ap (λ z. flat_map (hits_at t.search.seen.now t.search.index.now w (searched t.search) t.order.now) (bound_alone t.var z)) r

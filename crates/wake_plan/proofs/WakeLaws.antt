@@ -50,19 +50,23 @@ module _ (q : RangedQuery) (ps : HasValidProbes q) (entries : List Entry) (T : T
 
   module _ (turns : List Turn) (hits : flat_map (hits_left whole) turns ≡ query_hits entries T whole q) where
     -- the moment after the least mark that the turns find
-    pub wake_moment : (now : ℤ) (found : Option ℤ) → found ≡ least_mark (flat_map (hits_left whole) turns) → option_map (λ b. greater now (after_mark b)) found ≡ next_wake now (hits_ahead entries q T last)
+    pub wake_moment : (now : ℤ) (found : Option ℤ) → found ≡ least_mark (flat_map (hits_left whole) turns)
+        → option_map (λ b. greater now (after_mark b)) found ≡ next_wake now (hits_ahead entries q T last)
     wake_moment now found e = ap (option_map (λ b. greater now (after_mark b))) (e ∙ ap least_mark hits ∙ least_same)
 
-    pub wake_steps : (s mid taken : ℕ) → ((u : Window) → IsUpTo whole u → mid + total (cost_left u) turns ≤ s + (length q.parts + query_cost T u q))
+    pub wake_steps : (s mid taken : ℕ)
+        → ((u : Window) → IsUpTo whole u → mid + total (cost_left u) turns ≤ s + (length q.parts + query_cost T u q))
         → taken ≤ mid + total (cost_left (wake_window last (flat_map (hits_left whole) turns))) turns
         → taken ≤ s + (length q.parts + query_cost T (wake_window last (hits_ahead entries q T last)) q)
     wake_steps s mid taken starts goes =
         subst (λ u. taken ≤ s + (length q.parts + query_cost T u q)) window_same
-        (onward (starts (wake_window last (query_hits entries T whole q)) up_to) (subst (λ z. taken ≤ mid + total (cost_left (wake_window last z)) turns) hits goes))
+        (onward (starts (wake_window last (query_hits entries T whole q)) up_to)
+          (subst (λ z. taken ≤ mid + total (cost_left (wake_window last z)) turns) hits goes))
       where
         onward : {a b c : ℕ} → b ≤ c → a ≤ b → a ≤ c
         onward h k = omega (arith, h, k)
 
-  pub wake_plain : (s taken : ℕ) → taken ≤ s + (length q.parts + query_cost T (wake_window last (hits_ahead entries q T last)) q) → ((p : Probe) → In p (ranged_probes q) → IsPlain p)
+  pub wake_plain : (s taken : ℕ) → taken ≤ s + (length q.parts + query_cost T (wake_window last (hits_ahead entries q T last)) q)
+      → ((p : Probe) → In p (ranged_probes q) → IsPlain p)
       → taken ≤ s + marked_ahead T (wake_window last (hits_ahead entries q T last)) (ranged_probes q)
   wake_plain s taken h plain = let k = plain_cost q ps T (wake_window last (hits_ahead entries q T last)) plain in omega (arith, h, k)

@@ -3,7 +3,8 @@
 ghost use Rattle.std.specs.Prelude.{◌≡◌, ◌+◌, ◌≤◌, length, option_to_list};
 ghost use Rattle.probe_eval.specs.Searches.{searched, CanSearch};
 ghost use Rattle.probe_eval.specs.Levels.{IsSure};
-ghost use Rattle.probe_eval.specs.Nested.{new_doc, hit_if, holds_here, cost_here, hits_over, work_over};
+ghost use Rattle.probe_eval.specs.Nested.{new_doc, hit_if, holds_here, cost_here, hits_over};
+ghost use Rattle.probe_eval.specs.Nested.{work_over};
 ghost use Rattle.wake_plan.specs.Turns.{has_hit};
 
 use access_plan::Reach;
@@ -24,10 +25,13 @@ fn delivers_pair<'a, L: Ledger>(
     steps: &mut Steps<L>,
 ) -> bool
     requires search { CanSearch search.now (length env.now + length order.now) }
-    requires sure { IsSure search.now.index.now search.now.probe.now.path mark order.now env.now sure }
-    ensures hits { result ≡ has_hit (option_to_list (hit_if (holds_here search.now.index.now (searched search.now) mark order.now env.now) mark
+    requires sure { IsSure search.now.index.now search.now.probe.now.path mark
+        order.now env.now sure }
+    ensures hits { result ≡ has_hit (option_to_list (hit_if
+            (holds_here search.now.index.now (searched search.now) mark order.now env.now) mark
         (new_doc search.now.seen.now doc.now))) }
-    ensures steps { steps.new ≤ steps.old + cost_here search.now.index.now (searched search.now) mark sure order.now env.now }
+    ensures steps { steps.new ≤ steps.old
+        + cost_here search.now.index.now (searched search.now) mark sure order.now env.now }
     ensures more { steps.old ≤ steps.new }
 {
     match new_doc(search.seen, doc) {
@@ -36,9 +40,10 @@ fn delivers_pair<'a, L: Ledger>(
     }
 }
 
-/// Returns whether a document that isn't in the box is found with the mark beside the rows of `env`. It binds the nearest
-/// step's rows next, until the document that the query is about has a row, and stops at the first that is found. At most
-/// as many steps are left as `order` has. If the rest is sure to exist beside rows that may go on, it isn't looked for.
+/// Returns whether a document that isn't in the box is found with the mark beside the rows of
+/// `env`. It binds the nearest step's rows next, until the document that the query is about has a
+/// row, and stops at the first that is found. At most as many steps are left as `order` has. If the
+/// rest is sure to exist beside rows that may go on, it isn't looked for.
 pub(crate) fn delivers<'a, L: Ledger>(
     search: &Search<'a>,
     order: &'a [Reach],
@@ -48,9 +53,12 @@ pub(crate) fn delivers<'a, L: Ledger>(
     steps: &mut Steps<L>,
 ) -> bool
     requires search { CanSearch search.now (length env.now + length order.now) }
-    requires sure { IsSure search.now.index.now search.now.probe.now.path mark order.now env.now sure }
-    ensures hits { result ≡ has_hit (hits_over search.now.seen.now search.now.index.now (searched search.now) mark order.now env.now) }
-    ensures steps { steps.new ≤ steps.old + work_over search.now.index.now (searched search.now) mark sure order.now env.now }
+    requires sure { IsSure search.now.index.now search.now.probe.now.path mark
+        order.now env.now sure }
+    ensures hits { result ≡ has_hit (hits_over search.now.seen.now search.now.index.now
+          (searched search.now) mark order.now env.now) }
+    ensures steps { steps.new ≤ steps.old
+        + work_over search.now.index.now (searched search.now) mark sure order.now env.now }
     ensures more { steps.old ≤ steps.new }
 {
     match env.get(Var(0)) {

@@ -27,7 +27,8 @@ pub(crate) fn mark_at<'a>(search: &Search<'a>, w: Window, env: &Env<'a>) -> Opti
     mark_in(w, value(search.probe.at, env))
 }
 
-// Returns a driving row bound alone, with its mark. `None` comes if and only if it has none in the window.
+// Returns a driving row bound alone, with its mark. `None` comes if and only if it has none in the
+// window.
 fn due_at<'a>(search: &Search<'a>, w: Window, var: Var, row: RowRef<'a>) -> Option<DrivingRow<'a>>
     ensures { result ≡ due_at w (searched search.now) (bind var (row_of row.entry) []) }
 {

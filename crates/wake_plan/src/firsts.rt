@@ -29,7 +29,8 @@ fn nearer(first: Option<FirstPlace>, index: usize, mark: Option<i64>) -> Option<
     }
 }
 
-/// Returns the place of the turn with the least mark, of several the first. `None` comes if and only if no turn has a row.
+/// Returns the place of the turn with the least mark, of several the first. `None` comes if and
+/// only if no turn has a row.
 pub(crate) fn first_place(turns: &[Turn]) -> Option<FirstPlace>
     ensures { IsFirst turns.now result }
 {

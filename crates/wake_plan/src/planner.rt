@@ -40,7 +40,8 @@ fn first_delivery<'a, L: Ledger>(
     requires end { w.high ≡ pos 250000000000 }
     ensures mark { result ≡ least_mark (flat_map (hits_left w) turns.old.items) }
     ensures within { IfSome result (λ b. IsWithin 250000000000 b) }
-    ensures steps { steps.new ≤ steps.old + total (cost_left (wake_window w.low (flat_map (hits_left w) turns.old.items))) turns.old.items }
+    ensures steps { steps.new ≤ steps.old + total
+        (cost_left (wake_window w.low (flat_map (hits_left w) turns.old.items))) turns.old.items }
     ensures more { steps.old ≤ steps.new }
 {
     while let Some(place) = first_place(turns.as_slice()) {
@@ -61,14 +62,16 @@ fn moment_after(now: i64, mark: i64) -> i64
     if now <= next { next } else { now }
 }
 
-/// Returns the moment from now on at which a run is next worthwhile: the greater of now and the second after the least
-/// mark, from `last` on, with which a document is found that isn't in the box. `None` comes if and only if there is no
-/// such mark. Moments are seconds since 1970-01-01T00:00:00Z. `Memory` comes if memory runs out.
+/// Returns the moment from now on at which a run is next worthwhile: the greater of now and the
+/// second after the least mark, from `last` on, with which a document is found that isn't in the
+/// box. `None` comes if and only if there is no such mark. Moments are seconds since
+/// 1970-01-01T00:00:00Z. `Memory` comes if memory runs out.
 ///
-/// The driving rows of the probes are read side by side in order of their marks, one ahead in each probe, and nothing is
-/// read after the first beside which a document is found. So the steps are at most those of a run up to the least mark,
-/// and one for each probe. For probes whose path is the document alone and whose body has no EXISTS these are at most the
-/// rows marked there, and one for each probe.
+/// The driving rows of the probes are read side by side in order of their marks, one ahead in each
+/// probe, and nothing is read after the first beside which a document is found. So the steps are at
+/// most those of a run up to the least mark, and one for each probe. For probes whose path is the
+/// document alone and whose body has no EXISTS these are at most the rows marked there, and one for
+/// each probe.
 pub fn wake<L: Ledger>(
     alloc: Global,
     plan: &Plan,
@@ -82,11 +85,15 @@ pub fn wake<L: Ledger>(
     requires now { IsMoment now }
     requires probes { HasValidProbes plan.now.query }
     ensures moment { IfOk result (λ moment. moment ≡ next_wake now
-        (meaning_without (was_seen seen.now) (ranged_probes plan.now.query) index.now (record { low = last; high = pos 250000000000 }))) }
+        (meaning_without (was_seen seen.now) (ranged_probes plan.now.query)
+            index.now (record { low = last; high = pos 250000000000 }))) }
     ensures steps { steps.new ≤ steps.old + (length plan.now.query.parts
-        + query_cost index.now (wake_window last (hits_ahead seen.now plan.now.query index.now last)) plan.now.query) }
-    ensures plain { ((p : Probe) → In p (ranged_probes plan.now.query) → IsPlain p) → steps.new ≤ steps.old
-        + marked_ahead index.now (wake_window last (hits_ahead seen.now plan.now.query index.now last)) (ranged_probes plan.now.query) }
+        + query_cost index.now
+            (wake_window last (hits_ahead seen.now plan.now.query index.now last)) plan.now.query) }
+    ensures plain { ((p : Probe) → In p (ranged_probes plan.now.query) → IsPlain p)
+        → steps.new ≤ steps.old
+        + marked_ahead index.now (wake_window last
+              (hits_ahead seen.now plan.now.query index.now last)) (ranged_probes plan.now.query) }
 {
     let w = Window {
         low: last,

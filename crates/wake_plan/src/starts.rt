@@ -1,6 +1,7 @@
 //! The turns of a plan's probes before a row has been looked at.
 
-ghost use Rattle.std.specs.Prelude.{◌≡◌, ◌+◌, ◌≤◌, length, Some, None, true, option_to_list, IfOk, OnErr};
+ghost use Rattle.std.specs.Prelude.{◌≡◌, ◌+◌, ◌≤◌, length, Some, None, true, option_to_list, IfOk};
+ghost use Rattle.std.specs.Prelude.{OnErr};
 ghost use Rattle.std.specs.List.{flat_map};
 ghost use Rattle.tap_rows.specs.Kept.{Each};
 ghost use Rattle.tql_core.specs.Bounds.{is_bounded};
@@ -30,9 +31,11 @@ fn fixed<'a>(search: Search<'a>, order: &'a [Reach], w: Window) -> Turn<'a>
     requires search { CanSearch search (length order.now) }
     ensures turn { IsTurn w result }
     ensures hits { hits_left w result
-        ≡ seek_hits search.entry.seen.now search.entry.index.now w (searched search.entry) order.now (seek_of search.entry.probe.now.at) None }
+        ≡ seek_hits search.entry.seen.now search.entry.index.now w (searched search.entry)
+            order.now (seek_of search.entry.probe.now.at) None }
     ensures cost { (u : Window) → IsUpTo w u → cost_left u result
-        ≤ 1 + seek_cost search.entry.index.now u (searched search.entry) order.now (seek_of search.entry.probe.now.at) None }
+        ≤ 1 + seek_cost search.entry.index.now u (searched search.entry)
+            order.now (seek_of search.entry.probe.now.at) None }
 {
     let env = Env::new();
     let next = match mark_at(&search, w, &env) {
@@ -63,9 +66,11 @@ fn driven<'a, L: Ledger>(
     requires window { CanSeek seek w }
     requires var { seek_var seek ≡ Some var }
     ensures turn { IsTurn w result }
-    ensures hits { hits_left w result ≡ seek_hits search.entry.seen.now search.entry.index.now w (searched search.entry) order.now seek (Some var) }
+    ensures hits { hits_left w result ≡ seek_hits search.entry.seen.now search.entry.index.now w
+        (searched search.entry) order.now seek (Some var) }
     ensures cost { (u : Window) → IsUpTo w u → steps.new + cost_left u result
-        ≤ steps.old + (1 + seek_cost search.entry.index.now u (searched search.entry) order.now seek (Some var)) }
+        ≤ steps.old + (1 + seek_cost search.entry.index.now u (searched search.entry) order.now seek
+              (Some var)) }
     ensures more { steps.old ≤ steps.new }
 {
     // Brings into scope that arrivals never fall.
@@ -90,14 +95,17 @@ fn start<'a, L: Ledger>(
     w: Window,
     steps: &mut Steps<L>,
 ) -> Turn<'a>
-    requires search { CanSearch search (length (option_to_list (seek_var seek)) + length order.now) }
+    requires search { CanSearch search
+        (length (option_to_list (seek_var seek)) + length order.now) }
     requires bounded { is_bounded search.probe.now.at ≡ true }
     requires seek { seek ≡ seek_of search.probe.now.at }
     requires window { CanSeek seek w }
     ensures turn { IsTurn w result }
-    ensures hits { hits_left w result ≡ seek_hits search.entry.seen.now search.entry.index.now w (searched search.entry) order.now seek (seek_var seek) }
+    ensures hits { hits_left w result ≡ seek_hits search.entry.seen.now search.entry.index.now w
+        (searched search.entry) order.now seek (seek_var seek) }
     ensures cost { (u : Window) → IsUpTo w u → steps.new + cost_left u result
-        ≤ steps.old + (1 + seek_cost search.entry.index.now u (searched search.entry) order.now seek (seek_var seek)) }
+        ≤ steps.old + (1 + seek_cost search.entry.index.now u (searched search.entry) order.now seek
+              (seek_var seek)) }
     ensures more { steps.old ≤ steps.new }
 {
     match seek_var(seek) {
@@ -106,7 +114,8 @@ fn start<'a, L: Ledger>(
     }
 }
 
-/// Returns the turns of all probes of a plan. `Memory` comes if memory runs out, and then no step was taken.
+/// Returns the turns of all probes of a plan. `Memory` comes if memory runs out, and then no step
+/// was taken.
 pub(crate) fn starts<'a, L: Ledger>(
     alloc: Global,
     plan: &'a Plan,
@@ -117,8 +126,10 @@ pub(crate) fn starts<'a, L: Ledger>(
 ) -> Result<Vec<Turn<'a>>, Memory>
     requires { CanRun plan.now.query w }
     ensures turns { IfOk result (λ turns. Each (IsTurn w) turns.items) }
-    ensures hits { IfOk result (λ turns. flat_map (hits_left w) turns.items ≡ query_hits seen.now index.now w plan.now.query) }
-    ensures cost { (u : Window) → IsUpTo w u → IfOk result (λ turns. steps.new + total (cost_left u) turns.items
+    ensures hits { IfOk result (λ turns.
+        flat_map (hits_left w) turns.items ≡ query_hits seen.now index.now w plan.now.query) }
+    ensures cost { (u : Window) → IsUpTo w u
+        → IfOk result (λ turns. steps.new + total (cost_left u) turns.items
         ≤ steps.old + (length plan.now.query.parts + query_cost index.now u plan.now.query)) }
     ensures err { OnErr result (steps.new ≡ steps.old) }
     ensures more { steps.old ≤ steps.new }

@@ -62,8 +62,8 @@ impl<'a> Turn<'a> {
         self.next = read_ahead(&self.search, w, self.var, &mut self.rows, steps);
     }
 
-    /// Returns the mark of the row that was read ahead, if an unseen document is found beside it. Else the next row is read
-    /// ahead.
+    /// Returns the mark of the row that was read ahead, if an unseen document is found beside it.
+    /// Else the next row is read ahead.
     pub(crate) fn advance<L: Ledger>(&mut self, w: Window, steps: &mut Steps<L>) -> Option<i64>
         requires { IsTurn w self.old }
         ensures mark { result ≡ least_mark (due_hits self.old self.old.next) }

@@ -6,4 +6,5 @@ pub returns-in_default-clause-value : goal.returns-in_default-clause-value
 returns-in_default-clause-value c = sym (no_number c.args.text.now c.in_default.ensures.value.0)
 
 pub returns-then-n-le-COUNT_LIMIT-clause-value : goal.returns-then-n-le-COUNT_LIMIT-clause-value
-returns-then-n-le-COUNT_LIMIT-clause-value c = sym (a_number c.args.text.now c.in-Ok.n c.in-Ok.ensures.value.0.0.0 c.in-Ok.ensures.value.0.1 (omega arith) (omega arith))
+returns-then-n-le-COUNT_LIMIT-clause-value c =
+    sym (a_number c.args.text.now c.in-Ok.n c.in-Ok.ensures.value.0.0.0 c.in-Ok.ensures.value.0.1 (omega arith) (omega arith))

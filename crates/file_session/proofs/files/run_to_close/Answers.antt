@@ -3,7 +3,8 @@ use Rattle.std.specs.Prelude.{is_some}
 use Rattle.keeper_file.specs.Cases.{has_files}
 use Rattle.keeper_file.specs.PathFiles.{path_files}
 use Rattle.file_session.specs.Closes.{IsClosedAs}
-use Rattle.file_session.proofs.CloseLaws.{closed-so, is_closed, had_file, differ, at_some, from_both, is_there, other_one, never_closed, either_of, not_two}
+use Rattle.file_session.proofs.CloseLaws.{closed-so, is_closed, had_file, differ, at_some, from_both, is_there, other_one, never_closed}
+use Rattle.file_session.proofs.CloseLaws.{either_of, not_two}
 use Rattle.file_session.proofs.files.run_to_close.Goals as goal
 
 -- ---- the keeper has files open
@@ -27,7 +28,8 @@ returns-in-Some-clause-end g c =
       ends = λ honest t told. end.ends honest t told;
       stopped = end.stopped;
       close = subst (λ i. IsClosedAs (path_files g.S.Start) i (Some c.close.result)) (at_some _ _ _ c.in-Some.is end.left.0)
-          (closed-so _ _ c.close.result c.close.ensures.none c.close.ensures.honest c.close.ensures.honest_left c.close.ensures.whole c.close.ensures.exact c.close.ensures.fails);
+          (closed-so _ _ c.close.result c.close.ensures.none c.close.ensures.honest c.close.ensures.honest_left c.close.ensures.whole
+            c.close.ensures.exact c.close.ensures.fails);
       back = end.left.1;
     }
 
@@ -67,10 +69,12 @@ returns-else-status-eq6-clause-no_file g c =
 pub returns-else-status-eq6-clause-end : goal.returns-else-status-eq6-clause-end
 returns-else-status-eq6-clause-end g c =
     let end = c.run_apart-status.ensures.end in
-    let there = other_one _ _ _ false c.in-None.is refl (c.run_apart-status.ensures.one c.if-status-eq6.false.0 c.if-status-eq6.false.1) in record {
+    let there = other_one _ _ _ false c.in-None.is refl (c.run_apart-status.ensures.one c.if-status-eq6.false.0 c.if-status-eq6.false.1) in
+        record {
       inner = end.inner;
       ends = λ honest t told. end.ends honest t told;
       stopped = end.stopped;
-      close = from_both _ _ _ _ there c.run_apart-status.ensures.unopened end.left.1 (λ keeper none same. subst (λ i. has_files i ≡ false) same none);
+      close = from_both _ _ _ _ there c.run_apart-status.ensures.unopened end.left.1 (λ keeper none same.
+          subst (λ i. has_files i ≡ false) same none);
       back = end.left.1;
     }

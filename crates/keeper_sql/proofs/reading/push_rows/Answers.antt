@@ -16,8 +16,10 @@ loop-row-preserved g c =
     let items : into_iter_items c.loop-row.row-iterator ≡ c.in-Some.row ∷ rest = search rules in
     record {
       len = search rules;
-      all = read_one g.T.TableRow.shown c.args.rows.now c.loop-row.rows c.push_row.new.rows c.in-Some.row c.args.shown.items (into_iter_items c.loop-row.row-iterator) rest c.loop-row.invariant.all items c.in_ok-push_row.ensures.ok;
-      one = one_later c.in-Some.row rest c.args.shown.items (subst (λ l. (r : Row) → IsOneOf l r → IsOneOf c.args.shown.items r) items c.loop-row.invariant.one);
+      all = read_one g.T.TableRow.shown c.args.rows.now c.loop-row.rows c.push_row.new.rows c.in-Some.row c.args.shown.items
+          (into_iter_items c.loop-row.row-iterator) rest c.loop-row.invariant.all items c.in_ok-push_row.ensures.ok;
+      one = one_later c.in-Some.row rest
+          c.args.shown.items (subst (λ l. (r : Row) → IsOneOf l r → IsOneOf c.args.shown.items r) items c.loop-row.invariant.one);
     }
 
 pub returns-in_err-push_row-clause-fails : goal.returns-in_err-push_row-clause-fails
@@ -25,6 +27,8 @@ returns-in_err-push_row-clause-fails g c =
     let all : List Row = c.args.shown.items in
     let rest : List Row = into_iter_items c.next.new.self in
     let items : into_iter_items c.loop-row.row-iterator ≡ c.in-Some.row ∷ rest = search rules in
-    let one : IsOneOf all c.in-Some.row = one_here c.in-Some.row rest all (subst (λ l. (r : Row) → IsOneOf l r → IsOneOf all r) items c.loop-row.invariant.one) in
-    let by : FailsToTakeRows g.T.TableRow.kinds all c.in_err-push_row.field-0.0 = taken_rows g.T.TableRow.kinds c.in-Some.row all c.in_err-push_row.field-0.0 one c.in_err-push_row.ensures.fails in
+    let one : IsOneOf all c.in-Some.row =
+        one_here c.in-Some.row rest all (subst (λ l. (r : Row) → IsOneOf l r → IsOneOf all r) items c.loop-row.invariant.one) in
+    let by : FailsToTakeRows g.T.TableRow.kinds all c.in_err-push_row.field-0.0 =
+        taken_rows g.T.TableRow.kinds c.in-Some.row all c.in_err-push_row.field-0.0 one c.in_err-push_row.ensures.fails in
     search (rules, by)

@@ -9,7 +9,8 @@ use Rattle.monotone_rewrite.proofs.window_query.window_query.Given as goal
 -- the probes are those so far and those of the marks that are left
 abbrev pub invariant-loop-mark : goal.invariant-loop-mark
 invariant-loop-mark l = record {
-  probes : probes_for (condition l.cond) l.mark-items ≡ probes_in l.pool l.probes ++ probes_for (condition l.cond) (drop l.mark-index l.mark-items);
+  probes : probes_for (condition l.cond) l.mark-items
+      ≡ probes_in l.pool l.probes ++ probes_for (condition l.cond) (drop l.mark-index l.mark-items);
   kept : are_kept l.pool l.probes ≡ true;
   bounded : bounded_marks (drop l.mark-index l.mark-items) ≡ true;
 }

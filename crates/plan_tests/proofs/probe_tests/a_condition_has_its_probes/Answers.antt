@@ -5,6 +5,7 @@ use Rattle.plan_tests.proofs.probe_tests.a_condition_has_its_probes.Goals as goa
 
 pub rewritten-requires : goal.rewritten-requires
 rewritten-requires g c = record {
-  scoped = subst IsQuery (sym c.in_ok-cond.ensures) (omega arith, omega arith, (λ i. elim i [ inl e ↦ absurd (omega arith) | inr n ↦ absurd n ]), inl refl);
+  scoped = subst IsQuery (sym c.in_ok-cond.ensures)
+      (omega arith, omega arith, (λ i. elim i [ inl e ↦ absurd (omega arith) | inr n ↦ absurd n ]), inl refl);
   bounded = subst (λ x. are_bounded x ≡ true) (sym c.in_ok-cond.ensures) refl;
 }

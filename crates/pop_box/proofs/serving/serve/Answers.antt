@@ -33,13 +33,15 @@ returns-in-Err-Refused-clause-unchanged g c = λ t honest holds. record { exact 
 
 pub returns-in-Err-Refused-clause-refusals : goal.returns-in-Err-Refused-clause-refusals
 returns-in-Err-Refused-clause-refusals g c = record {
-  refused = λ t honest holds v version fault is. Refused-none 2 fault _ _ _ _ _ _ t (inl refl) (λ e. cc) refl refl (λ _. holds.told) holds.exact;
+  refused =
+      λ t honest holds v version fault is. Refused-none 2 fault _ _ _ _ _ _ t (inl refl) (λ e. cc) refl refl (λ _. holds.told) holds.exact;
   fine = search rules;
   known = search rules;
 }
 
 pub returns-in-Err-Refused-clause-complete : goal.returns-in-Err-Refused-clause-complete
-returns-in-Err-Refused-clause-complete g c = λ path user name secret worded reads puts keeps. absurd (not-both c.in-Err-Refused.field-0 c.in-Err-Refused.field-0-is (c.in-Err-Refused.ensures.fine path user name secret worded))
+returns-in-Err-Refused-clause-complete g c = λ path user name secret worded reads puts keeps.
+    absurd (not-both c.in-Err-Refused.field-0 c.in-Err-Refused.field-0-is (c.in-Err-Refused.ensures.fine path user name secret worded))
 
 pub returns-in-Err-Memory-clause-named : goal.returns-in-Err-Memory-clause-named
 returns-in-Err-Memory-clause-named g c = λ path user name secret worded.
@@ -53,26 +55,31 @@ returns-in-Err-Memory-clause-unchanged g c = λ t honest holds. record { exact =
 
 pub returns-in-Err-Memory-clause-refusals : goal.returns-in-Err-Memory-clause-refusals
 returns-in-Err-Memory-clause-refusals g c = record {
-  refused = λ t honest holds v version fault is. Refused-none 7 fault _ _ _ _ _ _ t (inr (inr (inr (inr refl)))) (λ e. cc) refl refl (λ _. holds.told) holds.exact;
+  refused = λ t honest holds v version fault is.
+      Refused-none 7 fault _ _ _ _ _ _ t (inr (inr (inr (inr refl)))) (λ e. cc) refl refl (λ _. holds.told) holds.exact;
   fine = search rules;
   known = search rules;
 }
 
 pub returns-clause-session : goal.returns-clause-session
 returns-clause-session g c = λ t honest holds store.
-    served-words c.serve_box.result t _ _ _ _ _ _ _ _ _ _ _ c.in-Ok.ensures.user c.in-Ok.ensures.name c.in-Ok.ensures.secret (c.serve_box.ensures.session t honest holds store)
+    served-words c.serve_box.result t _ _ _ _ _ _ _ _ _ _ _
+      c.in-Ok.ensures.user c.in-Ok.ensures.name c.in-Ok.ensures.secret (c.serve_box.ensures.session t honest holds store)
 
 pub returns-clause-quit : goal.returns-clause-quit
-returns-clause-quit g c = took-quit-words c.serve_box.result _ _ _ _ _ _ c.in-Ok.ensures.user c.in-Ok.ensures.secret c.serve_box.ensures.quit
+returns-clause-quit g c =
+    took-quit-words c.serve_box.result _ _ _ _ _ _ c.in-Ok.ensures.user c.in-Ok.ensures.secret c.serve_box.ensures.quit
 
 pub returns-clause-complete : goal.returns-clause-complete
 returns-clause-complete g c = λ path user name secret worded reads puts keeps. c.serve_box.ensures.complete reads puts keeps
 
 pub returns-in-Err-Refused-clause-words : goal.returns-in-Err-Refused-clause-words
-returns-in-Err-Refused-clause-words g c = λ _. not-stopped (takes pop_app c.args.words.now) c.in-Err-Refused.ensures.taken (not-both c.in-Err-Refused.field-0 c.in-Err-Refused.field-0-is)
+returns-in-Err-Refused-clause-words g c = λ _. not-stopped (takes pop_app c.args.words.now)
+    c.in-Err-Refused.ensures.taken (not-both c.in-Err-Refused.field-0 c.in-Err-Refused.field-0-is)
 
 pub returns-in-Err-Refused-clause-worded : goal.returns-in-Err-Refused-clause-worded
-returns-in-Err-Refused-clause-worded g c = λ path user name secret worded _. not-both c.in-Err-Refused.field-0 c.in-Err-Refused.field-0-is (c.in-Err-Refused.ensures.fine path user name secret worded)
+returns-in-Err-Refused-clause-worded g c = λ path user name secret worded _.
+    not-both c.in-Err-Refused.field-0 c.in-Err-Refused.field-0-is (c.in-Err-Refused.ensures.fine path user name secret worded)
 
 pub returns-in-Err-Refused-clause-named : goal.returns-in-Err-Refused-clause-named
 returns-in-Err-Refused-clause-named g c = λ path user name secret worded.
@@ -96,4 +103,5 @@ returns-in-Err-Memory-clause-prompt g c = λ t honest holds store. unasked _ _
 
 pub returns-clause-prompt : goal.returns-clause-prompt
 returns-clause-prompt g c = λ t honest holds store.
-    asked-words t _ _ _ _ _ _ _ _ _ _ c.in-Ok.ensures.user c.in-Ok.ensures.name c.in-Ok.ensures.secret (c.serve_box.ensures.prompt t honest holds store)
+    asked-words t _ _ _ _ _ _ _ _ _ _
+      c.in-Ok.ensures.user c.in-Ok.ensures.name c.in-Ok.ensures.secret (c.serve_box.ensures.prompt t honest holds store)

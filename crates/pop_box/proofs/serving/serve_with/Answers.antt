@@ -11,7 +11,8 @@ returns-in-Ok-Some-clause-session g c = λ t represents sound.
     (found ∙ c.in-Ok-Some.ensures.letters t represents sound) c.hold_session.ensures.statuses c.hold_session.ensures.ends
 
 pub returns-in-Ok-Some-clause-quit : goal.returns-in-Ok-Some-clause-quit
-returns-in-Ok-Some-clause-quit g c = took-quit c.hold_session.result _ _ _ _ _ _ _ _ _ c.as_slice-user.ensures c.as_slice-in-Ok-Some.ensures c.hold_session.ensures.ends
+returns-in-Ok-Some-clause-quit g c =
+    took-quit c.hold_session.result _ _ _ _ _ _ _ _ _ c.as_slice-user.ensures c.as_slice-in-Ok-Some.ensures c.hold_session.ensures.ends
 
 pub returns-in-Ok-Some-clause-ended : goal.returns-in-Ok-Some-clause-ended
 returns-in-Ok-Some-clause-ended g c = at-end c.hold_session.result _ _ _ _ _ _ _ c.hold_session.ensures.ends

@@ -5,7 +5,8 @@ use Rattle.probe_eval.proofs.AccessLists.{no_note, notes_picked}
 use Rattle.probe_eval.proofs.access_rows.with_doc.Goals as goal
 
 pub returns-in-None : goal.returns-in-None
-returns-in-None c = c.none.ensures ∙ no_note c.args.index.now.notes c.args.num (c.short.ensures.none c.in-None.is) c.notes-notes.ensures.documents
+returns-in-None c = c.none.ensures
+    ∙ no_note c.args.index.now.notes c.args.num (c.short.ensures.none c.in-None.is) c.notes-notes.ensures.documents
 
 pub returns-in-Some : goal.returns-in-Some
 returns-in-Some c =

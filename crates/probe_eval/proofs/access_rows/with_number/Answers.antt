@@ -3,7 +3,8 @@ use Rattle.probe_eval.proofs.AccessLists.{no_doc, doc_picked}
 use Rattle.probe_eval.proofs.access_rows.with_number.Goals as goal
 
 pub returns-in-None : goal.returns-in-None
-returns-in-None c = c.none.ensures ∙ no_doc c.args.index.now.docs c.args.num (c.short.ensures.none c.in-None.is) c.docs-docs.ensures.places.numbered c.docs-docs.ensures.places.room
+returns-in-None c = c.none.ensures ∙ no_doc c.args.index.now.docs c.args.num (c.short.ensures.none c.in-None.is)
+    c.docs-docs.ensures.places.numbered c.docs-docs.ensures.places.room
 
 pub returns-in-Some : goal.returns-in-Some
 returns-in-Some c =

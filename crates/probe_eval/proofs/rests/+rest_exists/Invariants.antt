@@ -9,8 +9,11 @@ use Rattle.probe_eval.proofs.rests.+rest_exists.Given as goal
 
 abbrev pub invariant-loop-row : goal.invariant-loop-row
 invariant-loop-row g l = record {
-  same : rest_of l.fn.index l.fn.path l.fn.mark l.fn.order l.fn.env ≡ list_any (λ row. rest_of l.fn.index l.fn.path l.fn.mark l.rest (bind l.reach.var row l.fn.env)) l.rows;
-  steps : l.steps + total (λ row. 1 + rest_cost l.fn.index l.fn.path l.fn.mark l.rest (bind l.reach.var row l.fn.env)) (until (decides l.fn.index l.fn.path l.fn.mark l.rest l.fn.env l.reach.var) l.rows) ≤ l.fn.steps + rest_cost l.fn.index l.fn.path l.fn.mark l.fn.order l.fn.env;
+  same : rest_of l.fn.index l.fn.path l.fn.mark l.fn.order l.fn.env
+      ≡ list_any (λ row. rest_of l.fn.index l.fn.path l.fn.mark l.rest (bind l.reach.var row l.fn.env)) l.rows;
+  steps : l.steps + total (λ row. 1 + rest_cost l.fn.index l.fn.path l.fn.mark l.rest (bind l.reach.var row l.fn.env))
+      (until (decides l.fn.index l.fn.path l.fn.mark l.rest l.fn.env l.reach.var) l.rows)
+      ≤ l.fn.steps + rest_cost l.fn.index l.fn.path l.fn.mark l.fn.order l.fn.env;
   more : l.fn.steps ≤ l.steps;
   next : (row : Row) → IsNearestIfKnown l.fn.path (bind l.reach.var row l.fn.env) l.below;
 }

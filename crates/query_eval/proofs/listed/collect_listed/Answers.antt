@@ -11,7 +11,8 @@ loop-row-preserved g c =
     let e : c.loop-row.rows ≡ row_of c.in-Some.row ∷ c.next.new.self = search rules in
     let s : c.next.new.steps ≡ c.loop-row.steps + 1 = search rules in
     let p = searched c.args.search.now in
-    let h : c.collect_marked.new.into.hits.items ≡ keeping (length c.loop-row.into.places.items) c.loop-row.into.hits.items (listed_hits c.args.search.now.seen.now c.args.w p c.args.var (row_of c.in-Some.row)) = search rules in
+    let h : c.collect_marked.new.into.hits.items ≡ keeping (length c.loop-row.into.places.items)
+        c.loop-row.into.hits.items (listed_hits c.args.search.now.seen.now c.args.w p c.args.var (row_of c.in-Some.row)) = search rules in
     let i = c.loop-row.invariant.more in
     let k = c.loop-row.invariant.steps in
     let n = ap length e in

@@ -13,11 +13,17 @@ use Rattle.query_eval.proofs.parts.collect_driven.Given as goal
 
 abbrev pub invariant-loop-row : goal.invariant-loop-row
 invariant-loop-row g l = record {
-  hits : keeping (length l.fn.into.places.items) l.fn.into.hits.items (flat_map (λ row. hits_at l.fn.search.seen.now l.fn.search.index.now l.fn.w (searched l.fn.search) l.fn.order (bind l.fn.var row [])) (walked l.fn.search.index.now l.fn.w (searched l.fn.search) l.fn.seek l.fn.var)) ≡ keeping (length l.into.places.items) l.into.hits.items (flat_map (λ row. hits_at l.fn.search.seen.now l.fn.search.index.now l.fn.w (searched l.fn.search) l.fn.order (bind l.fn.var row [])) l.rows);
+  hits : keeping (length l.fn.into.places.items) l.fn.into.hits.items
+      (flat_map (λ row. hits_at l.fn.search.seen.now l.fn.search.index.now l.fn.w (searched l.fn.search) l.fn.order (bind l.fn.var row []))
+        (walked l.fn.search.index.now l.fn.w (searched l.fn.search) l.fn.seek l.fn.var))
+      ≡ keeping (length l.into.places.items) l.into.hits.items (flat_map
+        (λ row. hits_at l.fn.search.seen.now l.fn.search.index.now l.fn.w (searched l.fn.search) l.fn.order (bind l.fn.var row [])) l.rows);
   ready : CanStoreHits l.into;
   places : length l.into.places.items ≡ length l.fn.into.places.items;
   fronts : AreDone l.fn.search l.into l.fronts;
-  steps : l.steps + total (λ row. 1 + cost_at l.fn.search.index.now l.fn.w (searched l.fn.search) l.fn.order (bind l.fn.var row [])) l.rows ≤ l.fn.steps + total (λ row. 1 + cost_at l.fn.search.index.now l.fn.w (searched l.fn.search) l.fn.order (bind l.fn.var row [])) (walked l.fn.search.index.now l.fn.w (searched l.fn.search) l.fn.seek l.fn.var);
+  steps : l.steps + total (λ row. 1 + cost_at l.fn.search.index.now l.fn.w (searched l.fn.search) l.fn.order (bind l.fn.var row [])) l.rows
+      ≤ l.fn.steps + total (λ row. 1 + cost_at l.fn.search.index.now l.fn.w (searched l.fn.search) l.fn.order (bind l.fn.var row []))
+      (walked l.fn.search.index.now l.fn.w (searched l.fn.search) l.fn.seek l.fn.var);
   more : l.fn.steps ≤ l.steps;
   next : (row : Row) → IsNearestIfKnown l.fn.search.probe.now.path (bind l.fn.var row []) l.below;
 }

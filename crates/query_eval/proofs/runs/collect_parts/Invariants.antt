@@ -8,9 +8,12 @@ use Rattle.query_eval.proofs.runs.collect_parts.Given as goal
 
 abbrev pub invariant-loop-place : goal.invariant-loop-place
 invariant-loop-place g l = record {
-  hits : keeping (length l.fn.into.places.items) l.fn.into.hits.items (query_hits l.fn.seen l.fn.index l.fn.w l.fn.plan.query) ≡ keeping (length l.into.places.items) l.into.hits.items (flat_map (part_hits l.fn.seen l.fn.index l.fn.w l.fn.plan.query.pool) (drop l.place l.fn.plan.query.parts));
+  hits : keeping (length l.fn.into.places.items) l.fn.into.hits.items (query_hits l.fn.seen l.fn.index l.fn.w l.fn.plan.query)
+      ≡ keeping (length l.into.places.items)
+      l.into.hits.items (flat_map (part_hits l.fn.seen l.fn.index l.fn.w l.fn.plan.query.pool) (drop l.place l.fn.plan.query.parts));
   ready : CanStoreHits l.into;
   places : length l.into.places.items ≡ length l.fn.into.places.items;
-  steps : l.steps + total (part_cost l.fn.index l.fn.w l.fn.plan.query.pool) (drop l.place l.fn.plan.query.parts) ≤ l.fn.steps + query_cost l.fn.index l.fn.w l.fn.plan.query;
+  steps : l.steps + total (part_cost l.fn.index l.fn.w l.fn.plan.query.pool) (drop l.place l.fn.plan.query.parts)
+      ≤ l.fn.steps + query_cost l.fn.index l.fn.w l.fn.plan.query;
   more : l.fn.steps ≤ l.steps;
 }

@@ -5,4 +5,5 @@ use Rattle.probe_eval.specs.Runs.{HasValidProbes}
 use Rattle.query_tests.proofs.run_tests.old_plan.Goals as goal
 
 pub returns : goal.returns
-returns c = IfOk-weaker c.plan.result (λ (p : Plan). p.query ≡ c.in_ok-old_query.field-0) (λ (p : Plan). HasValidProbes p.query) (λ p e. subst HasValidProbes (sym e) c.in_ok-old_query.ensures) c.plan.ensures.query
+returns c = IfOk-weaker c.plan.result (λ (p : Plan). p.query ≡ c.in_ok-old_query.field-0) (λ (p : Plan). HasValidProbes p.query)
+    (λ p e. subst HasValidProbes (sym e) c.in_ok-old_query.ensures) c.plan.ensures.query

@@ -10,7 +10,8 @@ use Rattle.tap_engine.proofs.mbox.push_docs.Given as goal
 -- the documents that were added, and those of the messages that are left, which are short
 abbrev pub invariant-loop-text : goal.invariant-loop-text
 invariant-loop-text l = record {
-  rows : after l.fn.index (Docs (docs_from (length l.fn.index.docs + 1) l.moment l.texts)) ≡ after l.index (Docs (docs_from (length l.index.docs + 1) l.moment (drop l.text-index l.texts)));
+  rows : after l.fn.index (Docs (docs_from (length l.fn.index.docs + 1) l.moment l.texts))
+      ≡ after l.index (Docs (docs_from (length l.index.docs + 1) l.moment (drop l.text-index l.texts)));
   back : record l.index { docs = take (length l.fn.index.docs) l.index.docs } ≡ l.fn.index;
   count : length l.index.docs ≡ length l.fn.index.docs + l.text-index;
   by : Each (λ other. other.arrival ≤ℤ l.moment) l.index.docs;

@@ -14,7 +14,8 @@ add_note-requires-clause-after c =
     let now : Tables = c.loop-note.index in
     let rest : List Note = into_iter_items c.next.new.self in
     let items : into_iter_items c.loop-note.note-iterator ≡ c.in-Some.note ∷ rest = search rules in
-    let left : FollowInOrder note_number note_arrival now.notes (c.in-Some.note ∷ rest) = subst (λ l. FollowInOrder note_number note_arrival now.notes l) items c.loop-note.invariant.left in
+    let left : FollowInOrder note_number note_arrival now.notes (c.in-Some.note ∷ rest) =
+        subst (λ l. FollowInOrder note_number note_arrival now.notes l) items c.loop-note.invariant.left in
     left-after note_number note_arrival now.notes c.in-Some.note rest left
 
 pub loop-note-preserved : goal.loop-note-preserved
@@ -22,10 +23,12 @@ loop-note-preserved c =
     let now : Tables = c.loop-note.index in
     let rest : List Note = into_iter_items c.next.new.self in
     let items : into_iter_items c.loop-note.note-iterator ≡ c.in-Some.note ∷ rest = search rules in
-    let left : FollowInOrder note_number note_arrival now.notes (c.in-Some.note ∷ rest) = subst (λ l. FollowInOrder note_number note_arrival now.notes l) items c.loop-note.invariant.left in
+    let left : FollowInOrder note_number note_arrival now.notes (c.in-Some.note ∷ rest) =
+        subst (λ l. FollowInOrder note_number note_arrival now.notes l) items c.loop-note.invariant.left in
     let new : c.add_note.new.self ≡ after now (OneNote c.in-Some.note) = search rules in
     record {
       len = search rules;
       all = c.loop-note.invariant.all ∙ ap (with_notes now) items ∙ notes-next now c.add_note.new.self c.in-Some.note rest new;
-      left = subst (λ (t : Tables). FollowInOrder note_number note_arrival t.notes rest) (sym new) (left-next note_number note_arrival now.notes c.in-Some.note rest left);
+      left = subst (λ (t : Tables). FollowInOrder note_number note_arrival t.notes rest) (sym new)
+          (left-next note_number note_arrival now.notes c.in-Some.note rest left);
     }

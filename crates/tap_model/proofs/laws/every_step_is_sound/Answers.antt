@@ -5,5 +5,6 @@ pub returns : goal.returns
 returns c = record {
   first = sound-start;
   next = step-sound;
-  each = λ tables session command reply tables' session' step sound other for-other. step-sound-for tables session command reply tables' session' other step sound for-other;
+  each = λ tables session command reply tables' session' step sound other for-other.
+      step-sound-for tables session command reply tables' session' other step sound for-other;
 }

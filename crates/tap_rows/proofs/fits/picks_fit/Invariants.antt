@@ -8,4 +8,5 @@ use Rattle.tap_rows.proofs.fits.picks_fit.Given as goal
 abbrev pub invariant-loop-i : goal.invariant-loop-i
 invariant-loop-i l =
     picks_stand (l.runs ++ l.run ∷ []) l.docs l.stored (length l.stored + 1) (last_row l.stored) l.picks
-    ≡ picks_stand (l.runs ++ l.run ∷ []) l.docs (l.stored ++ take l.i l.picks) (length l.stored + 1 + l.i) (option_copied l.before) (drop l.i l.picks)
+    ≡ picks_stand (l.runs ++ l.run ∷ []) l.docs (l.stored ++ take l.i l.picks) (length l.stored + 1 + l.i) (option_copied l.before)
+      (drop l.i l.picks)

@@ -6,4 +6,5 @@ use Rattle.tql_core.specs.Bindings.{bounds_of}
 use Rattle.tql_core.proofs.env.have_come.Given as goal
 
 abbrev pub invariant-loop-slot : goal.invariant-loop-slot
-invariant-loop-slot l = list_all (λ bound. int_le (arrival bound.row) l.second) (bounds_of l.slots) ≡ list_all (λ bound. int_le (arrival bound.row) l.second) (bounds_of (drop l.slot-index l.slots))
+invariant-loop-slot l = list_all (λ bound. int_le (arrival bound.row) l.second) (bounds_of l.slots)
+    ≡ list_all (λ bound. int_le (arrival bound.row) l.second) (bounds_of (drop l.slot-index l.slots))

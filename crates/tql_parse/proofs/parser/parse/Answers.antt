@@ -12,7 +12,8 @@ pub returns-clause-found : goal.returns-clause-found
 returns-clause-found c = query_found 32 c.args.tokens.now syntax c.query.result c.query.ensures
 
 pub returns-clause-proper : goal.returns-clause-proper
-returns-clause-proper c = found_proper 32 c.args.tokens.now syntax c.query.result (query_found 32 c.args.tokens.now syntax c.query.result c.query.ensures)
+returns-clause-proper c =
+    found_proper 32 c.args.tokens.now syntax c.query.result (query_found 32 c.args.tokens.now syntax c.query.result c.query.ensures)
 
 pub returns-clause-only : goal.returns-clause-only
 returns-clause-only c = λ x h. subst (λ f. ParseGives syntax c.query.result f) (query_is 32 c.args.tokens.now x h) c.query.ensures

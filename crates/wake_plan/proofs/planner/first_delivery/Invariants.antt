@@ -10,7 +10,8 @@ abbrev pub invariant-loop-place : goal.invariant-loop-place
 invariant-loop-place g l = record {
   turns : Each (IsTurn l.fn.w) l.turns.items;
   hits : flat_map (hits_left l.fn.w) l.turns.items ≡ flat_map (hits_left l.fn.w) l.fn.turns.items;
-  steps : l.steps + total (cost_left (wake_window l.fn.w.low (flat_map (hits_left l.fn.w) l.fn.turns.items))) l.turns.items ≤ l.fn.steps + total (cost_left (wake_window l.fn.w.low (flat_map (hits_left l.fn.w) l.fn.turns.items))) l.fn.turns.items;
+  steps : l.steps + total (cost_left (wake_window l.fn.w.low (flat_map (hits_left l.fn.w) l.fn.turns.items))) l.turns.items
+      ≤ l.fn.steps + total (cost_left (wake_window l.fn.w.low (flat_map (hits_left l.fn.w) l.fn.turns.items))) l.fn.turns.items;
   more : l.fn.steps ≤ l.steps;
 }
 

@@ -24,7 +24,8 @@ start-requires-clause-search g c =
     let f = part_fits q c.requires.probes part (get_in q.parts c.loop-place.place part s) in
     record {
       node = f.node;
-      room = subst (λ z. length (option_to_list (seek_var part.seek)) + length z + nested (tree_at q.pool part.probe.body.0) ≤ 16) (sym o) f.room;
+      room = subst (λ z. length (option_to_list (seek_var part.seek)) + length z + nested (tree_at q.pool part.probe.body.0) ≤ 16) (sym o)
+          f.room;
     }
 
 pub loop-place-preserved : goal.loop-place-preserved
@@ -42,15 +43,20 @@ loop-place-preserved g c =
     let e : drop c.loop-place.place q.parts ≡ part ∷ drop (c.loop-place.place + 1) q.parts = rest_at q.parts c.loop-place.place part s in
     let n : c.push.new.self.items ≡ c.loop-place.turns.items ++ c.start.result ∷ [] = search rules in
     let h : hits_left w c.start.result ≡ seek_hits entries T w p c.order_at.result.now part.seek (seek_var part.seek) = search rules in
-    let h' : hits_left w c.start.result ≡ part_hits entries T w q.pool part = h ∙ ap (λ z. seek_hits entries T w p z part.seek (seek_var part.seek)) o in
-    let k : (u : Window) → IsUpTo w u → c.start.new.steps + cost_left u c.start.result ≤ c.loop-place.steps + (1 + part_cost T u q.pool part) = λ u v. subst (λ z. c.start.new.steps + cost_left u c.start.result ≤ c.loop-place.steps + (1 + seek_cost T u p z part.seek (seek_var part.seek))) o (c.start.ensures.cost u v) in
+    let h' : hits_left w c.start.result ≡ part_hits entries T w q.pool part = h
+        ∙ ap (λ z. seek_hits entries T w p z part.seek (seek_var part.seek)) o in
+    let k : (u : Window) → IsUpTo w u → c.start.new.steps + cost_left u c.start.result
+        ≤ c.loop-place.steps + (1 + part_cost T u q.pool part) = λ u v. subst (λ z. c.start.new.steps + cost_left u c.start.result
+          ≤ c.loop-place.steps + (1 + seek_cost T u p z part.seek (seek_var part.seek))) o (c.start.ensures.cost u v) in
     let r : vec_capacity c.loop-place.turns ≤ vec_capacity c.push.new.self = search rules in
     let i = c.loop-place.invariant.more in
     let m = c.start.ensures.more in
     record {
       turns = each_pushed (IsTurn w) c.loop-place.turns.items _ c.start.result c.loop-place.invariant.turns c.start.ensures.turn n;
-      hits = pushed_hits (hits_left w) (part_hits entries T w q.pool) c.loop-place.turns.items _ c.start.result _ _ part _ c.loop-place.invariant.hits e h' n;
-      cost = λ u v. pushed_cost (cost_left u) (part_cost T u q.pool) c.loop-place.turns.items _ c.start.result _ _ part _ _ _ (c.loop-place.invariant.cost u v) e (k u v) n;
+      hits = pushed_hits (hits_left w) (part_hits entries T w q.pool) c.loop-place.turns.items _ c.start.result _ _ part _
+          c.loop-place.invariant.hits e h' n;
+      cost = λ u v. pushed_cost (cost_left u) (part_cost T u q.pool) c.loop-place.turns.items _ c.start.result _ _ part _ _ _
+          (c.loop-place.invariant.cost u v) e (k u v) n;
       room = pushed_room c.loop-place.turns.items _ c.start.result _ _ part _ _ c.loop-place.invariant.room e n r;
       more = omega (arith, i, m);
     }
@@ -58,4 +64,5 @@ loop-place-preserved g c =
 pub returns-clause-hits : goal.returns-clause-hits
 returns-clause-hits g c =
     let l : length c.args.plan.now.query.parts ≤ c.loop-place.place = search rules in
-    all_pushed (hits_left c.args.w) (part_hits c.args.seen.now c.args.index.now c.args.w c.args.plan.now.query.pool) c.loop-place.turns.items c.args.plan.now.query.parts c.loop-place.place _ c.loop-place.invariant.hits l
+    all_pushed (hits_left c.args.w) (part_hits c.args.seen.now c.args.index.now c.args.w c.args.plan.now.query.pool)
+      c.loop-place.turns.items c.args.plan.now.query.parts c.loop-place.place _ c.loop-place.invariant.hits l

@@ -9,7 +9,8 @@ pub returns-in-Ok-clause-ok : goal.returns-in-Ok-clause-ok
 returns-in-Ok-clause-ok g c clean s told extends =
     let old = state g.S.Store c.args.self.now.connection in
     let new = state g.S.Store c.keep-kept.new.conn in
-    holds_as _ new _ c.requires.ready (told_after c.args.change.now old new s clean (as_told _ old s c.requires.ready told) extends.formed extends.fits (c.in-Ok.ensures.ok clean) c.in-Ok.ensures.read (c.in-Ok.ensures.exact clean))
+    holds_as _ new _ c.requires.ready (told_after c.args.change.now old new s clean (as_told _ old s c.requires.ready told)
+        extends.formed extends.fits (c.in-Ok.ensures.ok clean) c.in-Ok.ensures.read (c.in-Ok.ensures.exact clean))
 
 pub returns-in-Ok-clause-crash : goal.returns-in-Ok-clause-crash
 returns-in-Ok-clause-crash g c clean s told extends x left =
@@ -28,4 +29,5 @@ returns-in-Err-Failed-clause-crash g c clean s told extends x left =
 pub returns-in-Err-Memory-clause-fails : goal.returns-in-Err-Memory-clause-fails
 returns-in-Err-Memory-clause-fails g c clean =
     let is : c.keep-kept.result ≡ Err Memory = search rules in
-    subst (λ r. IfErr r (FailsToKeep g.S.Store c.args.self.now.connection c.keep-kept.new.conn c.args.change.now)) is (c.keep-kept.ensures.fails clean)
+    subst (λ r. IfErr r (FailsToKeep g.S.Store c.args.self.now.connection c.keep-kept.new.conn c.args.change.now)) is
+      (c.keep-kept.ensures.fails clean)

@@ -4,19 +4,24 @@ use Rattle.row_index.proofs.TextLaws.{partly, not_yet, wholly}
 use Rattle.row_index.proofs.doc_texts.DocTexts.put.Goals as goal
 
 pub returns-in_err-add_some-clause-err : goal.returns-in_err-add_some-clause-err
-returns-in_err-add_some-clause-err c = partly _ c.args.doc.now c.args.place c.args.self.now _ (search rules) (not_yet _ _ _) (not_yet _ _ _) (not_yet _ _ _) (not_yet _ _ _) (not_yet _ _ _)
+returns-in_err-add_some-clause-err c = partly _ c.args.doc.now c.args.place c.args.self.now _ (search rules) (not_yet _ _ _) (not_yet _ _ _)
+    (not_yet _ _ _) (not_yet _ _ _) (not_yet _ _ _)
 
 pub returns-in_err-add_some-2-clause-err : goal.returns-in_err-add_some-2-clause-err
-returns-in_err-add_some-2-clause-err c = partly _ c.args.doc.now c.args.place c.args.self.now _ (wholly _ _ _ _ (search rules)) (search rules) (not_yet _ _ _) (not_yet _ _ _) (not_yet _ _ _) (not_yet _ _ _)
+returns-in_err-add_some-2-clause-err c = partly _ c.args.doc.now c.args.place c.args.self.now _ (wholly _ _ _ _ (search rules))
+    (search rules) (not_yet _ _ _) (not_yet _ _ _) (not_yet _ _ _) (not_yet _ _ _)
 
 pub returns-in_err-add_some-3-clause-err : goal.returns-in_err-add_some-3-clause-err
-returns-in_err-add_some-3-clause-err c = partly _ c.args.doc.now c.args.place c.args.self.now _ (wholly _ _ _ _ (search rules)) (wholly _ _ _ _ (search rules)) (search rules) (not_yet _ _ _) (not_yet _ _ _) (not_yet _ _ _)
+returns-in_err-add_some-3-clause-err c = partly _ c.args.doc.now c.args.place c.args.self.now _ (wholly _ _ _ _ (search rules))
+    (wholly _ _ _ _ (search rules)) (search rules) (not_yet _ _ _) (not_yet _ _ _) (not_yet _ _ _)
 
 pub returns-in_err-add_some-4-clause-err : goal.returns-in_err-add_some-4-clause-err
-returns-in_err-add_some-4-clause-err c = partly _ c.args.doc.now c.args.place c.args.self.now _ (wholly _ _ _ _ (search rules)) (wholly _ _ _ _ (search rules)) (wholly _ _ _ _ (search rules)) (search rules) (not_yet _ _ _) (not_yet _ _ _)
+returns-in_err-add_some-4-clause-err c = partly _ c.args.doc.now c.args.place c.args.self.now _ (wholly _ _ _ _ (search rules))
+    (wholly _ _ _ _ (search rules)) (wholly _ _ _ _ (search rules)) (search rules) (not_yet _ _ _) (not_yet _ _ _)
 
 pub returns-in_err-add_all-clause-err : goal.returns-in_err-add_all-clause-err
-returns-in_err-add_all-clause-err c = partly _ c.args.doc.now c.args.place c.args.self.now _ (wholly _ _ _ _ (search rules)) (wholly _ _ _ _ (search rules)) (wholly _ _ _ _ (search rules)) (wholly _ _ _ _ (search rules)) (search rules) (not_yet _ _ _)
+returns-in_err-add_all-clause-err c = partly _ c.args.doc.now c.args.place c.args.self.now _ (wholly _ _ _ _ (search rules))
+    (wholly _ _ _ _ (search rules)) (wholly _ _ _ _ (search rules)) (wholly _ _ _ _ (search rules)) (search rules) (not_yet _ _ _)
 
 pub returns-clause-err : goal.returns-clause-err
 returns-clause-err c =

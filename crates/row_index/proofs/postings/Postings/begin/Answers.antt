@@ -4,4 +4,5 @@ use Rattle.row_index.proofs.Entries.{put_first}
 use Rattle.row_index.proofs.postings.Postings.begin.Goals as goal
 
 pub returns-clause-ok : goal.returns-clause-ok
-returns-clause-ok c = put_first bytes_eq (λ k. k) c.args.key.now c.args.place c.self.inside.places.entries c.insert.new.self.entries _ _ c.push.new.self c.self.view_is c.in_ok-insert.ensures.entries (search rules) (search rules) c.requires
+returns-clause-ok c = put_first bytes_eq (λ k. k) c.args.key.now c.args.place c.self.inside.places.entries c.insert.new.self.entries _ _
+    c.push.new.self c.self.view_is c.in_ok-insert.ensures.entries (search rules) (search rules) c.requires

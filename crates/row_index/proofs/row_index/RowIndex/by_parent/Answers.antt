@@ -7,4 +7,6 @@ use Rattle.row_index.proofs.PlaceLists.{found_under}
 use Rattle.row_index.proofs.row_index.RowIndex.by_parent.Goals as goal
 
 pub returns : goal.returns
-returns c = found_under bytes_eq parents doc_number c.self.inside.docs.items _ c.args.text.now c.under.result.now c.placed.result c.self.invariant.docs_stand.numbered c.self.invariant.docs_found.texts.parent (search rules) (search rules) ∙ ap (λ (t : Tables). with_text parents c.args.text.now t.docs) c.self.view_is
+returns c = found_under bytes_eq parents doc_number c.self.inside.docs.items _ c.args.text.now c.under.result.now c.placed.result
+    c.self.invariant.docs_stand.numbered c.self.invariant.docs_found.texts.parent (search rules) (search rules)
+    ∙ ap (λ (t : Tables). with_text parents c.args.text.now t.docs) c.self.view_is

@@ -8,4 +8,5 @@ invariant_of-self c =
     let rest = c.pop.new.self.items in
     let all : c.self.inside.notes.items ≡ rest ++ c.in-Some.note ∷ [] = search rules in
     let found : c.forget.new.self ≡ unposted nat_eq c.in-Some.note.doc.0 (length rest) c.self.inside.on_doc = search rules in
-    held_note_less c.self.inside.docs.items c.self.inside.places rest c.self.inside.notes.items c.in-Some.note (length rest) c.self.inside.on_doc c.forget.new.self c.self.invariant all (search rules) found
+    held_note_less c.self.inside.docs.items c.self.inside.places rest c.self.inside.notes.items c.in-Some.note (length rest)
+      c.self.inside.on_doc c.forget.new.self c.self.invariant all (search rules) found

@@ -19,11 +19,13 @@ from-sound tables sound same e = formed tables (subst (λ t. is_well_formed t �
 pub cache_delivered-requires-clause-read : goal.cache_delivered-requires-clause-read
 cache_delivered-requires-clause-read c = record {
   conds = ap (λ (u : Tables). readings_of u.queries) c.into_parts-tables.ensures.tables ∙ c.into_parts-tables.ensures.conds;
-  arrivals = (from-sound c.into_parts-tables.result.0 c.args.sound c.into_parts-tables.ensures.tables c.into_parts-tables.ensures.formed).moments;
+  arrivals =
+      (from-sound c.into_parts-tables.result.0 c.args.sound c.into_parts-tables.ensures.tables c.into_parts-tables.ensures.formed).moments;
 }
 
 pub cache_delivered-requires-clause-numbered : goal.cache_delivered-requires-clause-numbered
-cache_delivered-requires-clause-numbered c = (from-sound c.into_parts-tables.result.0 c.args.sound c.into_parts-tables.ensures.tables c.into_parts-tables.ensures.formed).queries
+cache_delivered-requires-clause-numbered c =
+    (from-sound c.into_parts-tables.result.0 c.args.sound c.into_parts-tables.ensures.tables c.into_parts-tables.ensures.formed).queries
 
 pub cache_delivered-requires-clause-owned : goal.cache_delivered-requires-clause-owned
 cache_delivered-requires-clause-owned c =
@@ -42,13 +44,16 @@ cache_delivered-requires-clause-deliveries c =
     }
 
 pub index_rows-requires-clause-docs : goal.index_rows-requires-clause-docs
-index_rows-requires-clause-docs c = (from-sound c.into_parts-tables.result.0 c.args.sound c.into_parts-tables.ensures.tables c.into_parts-tables.ensures.formed).docs
+index_rows-requires-clause-docs c =
+    (from-sound c.into_parts-tables.result.0 c.args.sound c.into_parts-tables.ensures.tables c.into_parts-tables.ensures.formed).docs
 
 pub index_rows-requires-clause-short : goal.index_rows-requires-clause-short
-index_rows-requires-clause-short c = (from-sound c.into_parts-tables.result.0 c.args.sound c.into_parts-tables.ensures.tables c.into_parts-tables.ensures.formed).short
+index_rows-requires-clause-short c =
+    (from-sound c.into_parts-tables.result.0 c.args.sound c.into_parts-tables.ensures.tables c.into_parts-tables.ensures.formed).short
 
 pub index_rows-requires-clause-notes : goal.index_rows-requires-clause-notes
-index_rows-requires-clause-notes c = (from-sound c.into_parts-tables.result.0 c.args.sound c.into_parts-tables.ensures.tables c.into_parts-tables.ensures.formed).notes
+index_rows-requires-clause-notes c =
+    (from-sound c.into_parts-tables.result.0 c.args.sound c.into_parts-tables.ensures.tables c.into_parts-tables.ensures.formed).notes
 
 pub returns : goal.returns
 returns c =
@@ -71,13 +76,18 @@ returns c =
       session = search rules;
       rows = c.in_ok-index.ensures.index;
       room = c.in_ok-index.ensures.room;
-      queries = c.in_ok-queries.ensures ∙ ap (λ runs. map (cached_query (runs_alone runs c.as_slice-4.result.now)) t.queries) c.as_slice-3.ensures ∙ ap (λ picks. map (cached_query (runs_alone t.runs picks)) t.queries) c.as_slice-4.ensures;
+      queries = c.in_ok-queries.ensures
+          ∙ ap (λ runs. map (cached_query (runs_alone runs c.as_slice-4.result.now)) t.queries) c.as_slice-3.ensures
+          ∙ ap (λ picks. map (cached_query (runs_alone t.runs picks)) t.queries) c.as_slice-4.ensures;
       filters = search rules;
       votes = c.in_ok-votes.ensures ∙ ap tally c.as_slice-5.ensures;
       run_count = search rules;
       pick_count = search rules;
       bytes = c.in_ok-sums.ensures.bytes;
-      owners = c.in_ok-owners.ensures ∙ ap (λ queries. with_new [] (map (λ query. query.owner) queries ++ map (λ filter. filter.owner) c.as_slice-2.result.now)) c.as_slice.ensures ∙ ap (λ filters. with_new [] (map (λ query. query.owner) t.queries ++ map (λ filter. filter.owner) filters)) c.as_slice-2.ensures;
+      owners = c.in_ok-owners.ensures
+          ∙ ap (λ queries. with_new [] (map (λ query. query.owner) queries ++ map (λ filter. filter.owner) c.as_slice-2.result.now))
+          c.as_slice.ensures
+          ∙ ap (λ filters. with_new [] (map (λ query. query.owner) t.queries ++ map (λ filter. filter.owner) filters)) c.as_slice-2.ensures;
       greatest = c.in_ok-sums.ensures.greatest;
     } in
     record {

@@ -14,7 +14,9 @@ returns-in_err-source-clause-refusal c =
     let moment : no_moment c.args.self.now.session ≡ None = search rules in
     let user : no_user c.args.self.now.session ≡ None = search rules in
     let named : None ≡ name_refusal c.args.self.now (user_of c.args.self.now.session) c.args.name = search rules in
-    let by = text-refused c.args.self.now c.args.name c.args.source x moment user named c.in_err-source.ensures.refusal in search (rules, by)
+    let by = text-refused c.args.self.now c.args.name c.args.source x moment user named c.in_err-source.ensures.refusal in
+        search (rules, by)
 
 pub returns-clause-cond : goal.returns-clause-cond
-returns-clause-cond c = c.in_ok-source.ensures.cond ∙ ap condition_in (sym (stored-text c.args.source) ∙ ap condition_text (sym c.in_ok-source.ensures.stored))
+returns-clause-cond c = c.in_ok-source.ensures.cond
+    ∙ ap condition_in (sym (stored-text c.args.source) ∙ ap condition_text (sym c.in_ok-source.ensures.stored))
